@@ -5,8 +5,13 @@
 #![tactic(auto)]
 
 mod id;
+mod law;
 mod limit;
+mod lines;
 mod memory;
+mod name;
+mod number;
+mod request;
 mod word;
 
 pub use id::{JobId, LabelId, NodeId, PoolId, RequestId, RequesterId, Role, SemId, SessionId};
@@ -14,5 +19,12 @@ pub use limit::{
     INPUT_BYTES, JOB_LABELS, JOB_SEMAPHORES, JOBS, JOURNAL_ENTRIES, LABELS, POOLS, PROVIDERS,
     REQUESTERS, SEMAPHORES,
 };
+pub use lines::{line_at, split_sections};
 pub use memory::NoMemory;
+pub use name::is_name;
+pub use number::{put_number, read_number, ten_digits};
+pub use request::{read_request, request_text};
 pub use word::{EndAs, Ending, NodeState, Phase, Reason, RequestState};
+
+#[cfg(test)]
+mod tests;

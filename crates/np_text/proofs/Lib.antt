@@ -1,0 +1,6 @@
+pub mod NumberLemmas
+pub mod SpellingLemmas
+pub mod RequestLemmas
+pub mod NameLemmas
+pub mod LineLemmas
+pub mod SectionLemmas

@@ -1,0 +1,5 @@
+pub mod Number
+pub mod Name
+pub mod Request
+pub mod Lines
+pub mod Sections

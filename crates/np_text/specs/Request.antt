@@ -1,0 +1,30 @@
+-- The text of a node request.
+use Rattle.std.specs.Prelude.{ℕ, ◌==◌, if◌then◌else◌, List, [], ◌∷◌, ◌++◌, length, Option, Some, None, ◌≤◌, ◌<◌, ◌^◌}
+use Rattle.std.specs.Fmt.{decimal}
+use Rattle.np_text.specs.declared.id.RequestId.{RequestId}
+use Rattle.np_text.specs.Number.{number_of, digits_within, ten_digits_of}
+
+-- a request has a text where its priority has three digits
+pub record HasText (id : RequestId) : Type 0 where
+  pub least : 100 ≤ id.priority
+  pub most : id.priority ≤ 999
+  pub sequence : id.seq < 2 ^ 32
+
+-- the priority, a dash and the ten digits of the sequence number (Nodepool developer guide: `200-0000000000`)
+unfoldable pub request_text_of : RequestId → List ℕ
+request_text_of id = decimal id.priority ++ 45 ∷ ten_digits_of id.seq
+
+-- the sequence number that ten digits spell
+unfoldable pub sequence_of : List ℕ → Option ℕ
+sequence_of text = if length text == 10 then digits_within 4294967295 text else None
+
+-- the request of these two numbers, where both are there
+abbrev pub request_from : Option ℕ → Option ℕ → Option RequestId
+request_from (Some priority) (Some seq) = Some (record { priority = priority; seq = seq })
+request_from (Some priority) None = None
+request_from None seq = None
+
+-- the request of a text: a number of three digits, a dash, ten digits
+unfoldable pub request_of : List ℕ → Option RequestId
+request_of (a ∷ b ∷ c ∷ dash ∷ digits) = if dash == 45 then request_from (number_of 999 (a ∷ b ∷ c ∷ [])) (sequence_of digits) else None
+request_of text = None
