@@ -1,0 +1,15 @@
+use Rattle.std.proofs.Common.{◌+◌, ◌-◌, ◌≤◌, vec_len}
+use Rattle.np_io.specs.Bytes.{Takes}
+use Rattle.np_io.proofs.whole.read_pieces.Given as goal
+
+-- the bytes so far are those that were taken
+abbrev pub invariant-pieces : goal.invariant-pieces
+invariant-pieces g l = record {
+  fits : vec_len l.bytes ≤ l.limit;
+  taken : Takes (g.S.Source.left l.fn.source) (g.S.Source.left l.source) l.bytes.items;
+  later : g.S.Source.faults l.fn.source ≤ g.S.Source.faults l.source;
+}
+
+-- each turn takes a byte at least
+abbrev pub decreases-pieces : goal.decreases-pieces
+decreases-pieces g l = (l.limit + 1) - vec_len l.bytes

@@ -1,0 +1,4 @@
+pub mod Counts
+pub mod Bytes
+pub mod Memory
+pub mod Streams

@@ -1,0 +1,60 @@
+//! A real stream to read from: the trusted edge of input.
+//!
+//! No contract says which bytes a real stream gives, so it tells none. What is promised is that
+//! each failure is counted, and that the caller gets what the reader gave.
+
+ghost use Rattle.std.specs.Prelude.{◌≡◌, ◌≤◌, ◌<◌, None, length, is_ok, if◌then◌else◌, IfOk};
+ghost use Rattle.std.specs.Io.KnownBytes.{ReadConsumes};
+ghost use Rattle.np_io.specs.Counts.{counted};
+
+use crate::source::{ReadFailed, Source};
+use std::io::Read;
+
+/// A real stream to read from, such as a runtime's `stdin()`. It tells no content.
+///
+/// A read that is interrupted by a signal is a failure like any other.
+#[derive(Drop)]
+pub struct StdSource<R: Read + Drop> {
+    reader: R,
+    /// How often a read failed. It only rises, and stops at `u64::MAX`.
+    faults: u64,
+}
+
+impl<R: Read + Drop> StdSource<R> {
+    ghost use Rattle.np_io.specs.Streams.{reader_of, read_faults};
+
+    /// A source over `reader`, which takes from nowhere else.
+    pub fn new(reader: R) -> StdSource<R>
+        ensures reader { reader_of result ≡ reader }
+        ensures faults { read_faults result ≡ 0 }
+    {
+        StdSource { reader, faults: 0 }
+    }
+}
+
+impl<R: Read + Drop> Source for StdSource<R> {
+    ghost use Rattle.np_io.specs.Streams.{reader_of, read_faults};
+
+    ghost left = { λ _. None };
+
+    ghost faults = { read_faults };
+
+    /// Reads from the reader once.
+    fn read(&mut self, buf: &mut [u8]) -> Result<usize, ReadFailed>
+        requires { 0 < length buf.old }
+        ensures bound { IfOk result (λ n. n ≤ length buf.new) }
+        ensures passed { ReadConsumes (R.remaining (reader_of self.old))
+            (R.remaining (reader_of self.new)) result buf.new }
+        ensures faults { read_faults self.new
+            ≡ (if is_ok result then read_faults self.old else counted (read_faults self.old)) }
+        ensures later { read_faults self.old ≤ read_faults self.new }
+    {
+        match self.reader.read(buf) {
+            Ok(count) => Ok(count),
+            Err(_) => {
+                self.faults = self.faults.saturating_add(1);
+                Err(ReadFailed)
+            }
+        }
+    }
+}
