@@ -1,0 +1,4 @@
+pub mod Walk
+pub mod GrammarLemmas
+pub mod PartsLemmas
+pub mod PathLaws

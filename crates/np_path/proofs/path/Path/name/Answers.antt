@@ -1,0 +1,10 @@
+use Rattle.std.proofs.Common.{sym, ap, ◌∙◌, drop}
+use Rattle.np_path.proofs.PartsLemmas.{name_of-at, name_boundary}
+use Rattle.np_path.specs.Parts.{name_of}
+use Rattle.np_path.proofs.path.Path.name.Goals as goal
+
+pub split_at-requires : goal.split_at-requires
+split_at-requires c = rw c.as_str.ensures.value (name_boundary _ _ (rw c.as_str.ensures.value at c.as_str.utf8) c.self.invariant)
+
+pub returns : goal.returns
+returns c = c.split_at.ensures.back ∙ ap (drop c.self.inside.name_at) c.as_str.ensures.value ∙ sym (name_of-at _ _ c.self.invariant) ∙ ap name_of c.self.view_is

@@ -1,0 +1,22 @@
+use Rattle.std.proofs.Common.{sym, ap, ◌∙◌, Some, take, length, subst, arith, ◌<◌, ℕ, ◌-◌}
+use Rattle.np_path.proofs.PartsLemmas.{parent_of-child_of_root, parent_of-deeper, root_boundary, take_one}
+use Rattle.std.specs.String.{string_bytes}
+use Rattle.np_path.specs.Parts.{IsNameAt, parent_of}
+use Rattle.np_path.proofs.path.Path.parent.Goals as goal
+
+pub split_at-requires : goal.split_at-requires
+split_at-requires c = rw c.as_str-text.ensures.value (root_boundary _ (rw c.as_str-text.ensures.value at c.as_str-text.utf8) c.self.invariant.is)
+
+pub returns-then-self-eq1 : goal.returns-then-self-eq1
+returns-then-self-eq1 c =
+    let long : 1 < length (string_bytes c.self.inside.text) = omega (arith, ap length c.as_str-text.ensures.value) in
+    let at = subst (λ (n : ℕ). IsNameAt (string_bytes c.self.inside.text) n) c.if-self-eq1.true c.self.invariant in
+    ap Some (c.split_at.ensures.front ∙ ap (take 1) c.as_str-text.ensures.value ∙ take_one _ c.self.invariant.is)
+    ∙ sym (parent_of-child_of_root _ at long) ∙ ap parent_of c.self.view_is
+
+pub returns : goal.returns
+returns c =
+    let after = c.self.invariant.after in
+    let deep : 1 < c.self.inside.name_at = omega arith in
+    ap Some (c.split_at-2.ensures.front ∙ ap (take (c.self.inside.name_at - 1)) c.as_str-text.ensures.value)
+    ∙ sym (parent_of-deeper _ _ c.self.invariant deep) ∙ ap parent_of c.self.view_is

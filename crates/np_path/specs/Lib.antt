@@ -1,0 +1,5 @@
+pub mod Grammar
+pub mod Faults
+pub mod Parts
+pub mod Digits
+pub mod Makes

@@ -1,0 +1,21 @@
+//! Paths of the tree's nodes: texts in one grammar, with the node's parent and name at no cost.
+//!
+//! `specs/Grammar` says which texts are paths, `specs/Faults` where the first fault of another text
+//! is, `specs/Parts` what parent, name and child are. Contracts see a `Path` as the list of its bytes.
+//!
+//! A `Path` is always in the grammar, and never changes.
+#![tactic(auto)]
+
+mod digits;
+mod fault;
+mod grammar;
+mod laws;
+mod path;
+#[cfg(test)]
+mod tests;
+
+pub use fault::PathFault;
+pub use laws::{
+    children_have_their_parts, paths_are_their_parts, paths_have_no_fault, texts_are_their_halves,
+};
+pub use path::{Path, halves};
