@@ -1,0 +1,267 @@
+-- What a word says, and how it is said: each kind both ways.
+use Rattle.std.proofs.Common.{◌≡◌, ◌≢◌, ℕ, ◌^◌, ◌<◌, ◌≤◌, Bool, true, false, cond, ◌&&◌, not, ◌==◌, List, [], ◌∷◌, ◌++◌, Option, Some, None, refl, sym, ap, subst, ◌∙◌, arith, rules}
+use Rattle.std.specs.Prelude.{if◌then◌else◌, nat_le}
+use Rattle.std.specs.Fmt.{decimal}
+use Rattle.std.specs.List.{find, list_all}
+use Rattle.std.specs.Option.{option_map}
+use Rattle.std.specs.Str.{bytes_eq}
+use Rattle.std.proofs.lemmas.Bool.{eq-eqb, eqb-true}
+use Rattle.std.proofs.lemmas.Slice.Eq.{bytes_eq-Decides}
+use Rattle.np_text.specs.Number.{number_of}
+use Rattle.np_text.specs.Request.{HasText, request_of, request_text_of}
+use Rattle.np_text.specs.declared.word.EndAs.{EndAs}
+use Rattle.np_text.specs.declared.word.EndAs.TheVariants as end
+use Rattle.np_text.specs.declared.word.Ending.{Ending}
+use Rattle.np_text.specs.declared.word.Ending.TheVariants as ending
+use Rattle.np_text.specs.declared.word.NodeState.TheVariants as node
+use Rattle.np_text.specs.declared.word.Phase.TheVariants as job
+use Rattle.np_text.specs.declared.word.RequestState.TheVariants as request
+use Rattle.np_text.proofs.RequestLemmas.{request_of-spelled, request_of-text}
+use Rattle.np_text.proofs.SpellingLemmas.{number_of-decimal, number_of-spelled, some_injective, when_found, when_some}
+use Rattle.np_event.specs.declared.kind.Fields.{Fields}
+use Rattle.np_event.specs.declared.kind.Fixed.{Fixed}
+use Rattle.np_event.specs.declared.kind.Fixed.TheVariants as fixed
+use Rattle.np_event.specs.declared.kind.Kind.{Kind}
+use Rattle.np_event.specs.declared.kind.Kind.TheVariants as kind
+use Rattle.np_event.specs.declared.reply.Found.{Found}
+use Rattle.np_event.specs.declared.reply.Found.TheVariants as found
+use Rattle.np_event.specs.Kind.{HasWord, end_text, ending_text, ends, endings, field_text, fixed_text, found_text, founds, lettered, number_behind, with_field}
+use Rattle.np_event.specs.ReplyForm.{told_found}
+
+-- ## The field of a kind
+
+-- g with the field of this kind from f
+abbrev pub copy : Kind → Fields → Fields → Fields
+copy (kind.Fixed word) f g = g
+copy kind.Session f g = record g { session = f.session }
+copy kind.Request f g = record g { request = f.request }
+copy kind.Node f g = record g { node = f.node }
+copy kind.Job f g = record g { job = f.job }
+copy kind.Label f g = record g { label = f.label }
+copy kind.Pool f g = record g { pool = f.pool }
+copy kind.Requester f g = record g { requester = f.requester }
+copy kind.Semaphore f g = record g { semaphore = f.semaphore }
+copy kind.Attempt f g = record g { attempt = f.attempt }
+copy kind.Number f g = record g { number = f.number }
+copy kind.Server f g = record g { server = f.server }
+copy kind.Instances f g = record g { instances = f.instances }
+copy kind.Cores f g = record g { cores = f.cores }
+copy kind.Ram f g = record g { ram = f.ram }
+copy kind.End f g = record g { end = f.end }
+copy kind.Ending f g = record g { ending = f.ending }
+copy kind.Found f g = record g { found = f.found }
+
+-- kinds by number, fixed words all alike
+abbrev pub number : Kind → ℕ
+number (kind.Fixed word) = 0
+number kind.Session = 1
+number kind.Request = 2
+number kind.Node = 3
+number kind.Job = 4
+number kind.Label = 5
+number kind.Pool = 6
+number kind.Requester = 7
+number kind.Semaphore = 8
+number kind.Attempt = 9
+number kind.Number = 10
+number kind.Server = 11
+number kind.Instances = 12
+number kind.Cores = 13
+number kind.Ram = 14
+number kind.End = 15
+number kind.Ending = 16
+number kind.Found = 17
+
+abbrev pub same_kind : Kind → Kind → Bool
+same_kind j k = number j == number k
+
+-- another kind says what it said, and as well as before
+pub field_text-copy : (j k : Kind) (f g : Fields) → same_kind j k ≡ false → field_text j (copy k f g) ≡ field_text j g
+field_text-copy (kind.Fixed word) k f g other = refl
+field_text-copy kind.Session kind.Session f g other = absurd (cc)
+field_text-copy kind.Request kind.Request f g other = absurd (cc)
+field_text-copy kind.Node kind.Node f g other = absurd (cc)
+field_text-copy kind.Job kind.Job f g other = absurd (cc)
+field_text-copy kind.Label kind.Label f g other = absurd (cc)
+field_text-copy kind.Pool kind.Pool f g other = absurd (cc)
+field_text-copy kind.Requester kind.Requester f g other = absurd (cc)
+field_text-copy kind.Semaphore kind.Semaphore f g other = absurd (cc)
+field_text-copy kind.Attempt kind.Attempt f g other = absurd (cc)
+field_text-copy kind.Number kind.Number f g other = absurd (cc)
+field_text-copy kind.Server kind.Server f g other = absurd (cc)
+field_text-copy kind.Instances kind.Instances f g other = absurd (cc)
+field_text-copy kind.Cores kind.Cores f g other = absurd (cc)
+field_text-copy kind.Ram kind.Ram f g other = absurd (cc)
+field_text-copy kind.End kind.End f g other = absurd (cc)
+field_text-copy kind.Ending kind.Ending f g other = absurd (cc)
+field_text-copy kind.Found kind.Found f g other = absurd (cc)
+field_text-copy j k f g other = refl
+
+pub HasWord-copy : (j k : Kind) (f g : Fields) → same_kind j k ≡ false → HasWord j g → HasWord j (copy k f g)
+HasWord-copy (kind.Fixed word) k f g other has = tt
+HasWord-copy kind.Session kind.Session f g other has = absurd (cc)
+HasWord-copy kind.Request kind.Request f g other has = absurd (cc)
+HasWord-copy kind.Node kind.Node f g other has = absurd (cc)
+HasWord-copy kind.Job kind.Job f g other has = absurd (cc)
+HasWord-copy kind.Label kind.Label f g other has = absurd (cc)
+HasWord-copy kind.Pool kind.Pool f g other has = absurd (cc)
+HasWord-copy kind.Requester kind.Requester f g other has = absurd (cc)
+HasWord-copy kind.Semaphore kind.Semaphore f g other has = absurd (cc)
+HasWord-copy kind.Attempt kind.Attempt f g other has = absurd (cc)
+HasWord-copy kind.Number kind.Number f g other has = absurd (cc)
+HasWord-copy kind.Server kind.Server f g other has = absurd (cc)
+HasWord-copy kind.Instances kind.Instances f g other has = absurd (cc)
+HasWord-copy kind.Cores kind.Cores f g other has = absurd (cc)
+HasWord-copy kind.Ram kind.Ram f g other has = absurd (cc)
+HasWord-copy kind.End kind.End f g other has = absurd (cc)
+HasWord-copy kind.Ending kind.Ending f g other has = absurd (cc)
+HasWord-copy kind.Found kind.Found f g other has = absurd (cc)
+HasWord-copy j k f g other has = has
+
+-- ## Reading a word
+
+-- what is known of the fields after a word of this kind was read
+pub record Said (k : Kind) (text : List ℕ) (f g : Fields) : Type 0 where
+  pub says : field_text k g ≡ text
+  pub word : HasWord k g
+  pub rest : g ≡ copy k g f
+
+said : {A : Type 0} (k : Kind) (text : List ℕ) (f : Fields) (set : A → Fields) (o : Option A) (g : Fields)
+    → option_map set o ≡ Some g → ((x : A) → o ≡ Some x → Said k text f (set x)) → Said k text f g
+said k text f set None g answer at = absurd (cc)
+said k text f set (Some x) g answer at = subst (λ h. Said k text f h) (some_injective (set x) g answer) (at x refl)
+
+number_behind-told : (letter max n : ℕ) (text : List ℕ) → max < 2 ^ 64 → number_behind letter max text ≡ Some n → (n ≤ max) × (lettered letter n ≡ text)
+number_behind-told letter max n [] small answer = absurd (cc)
+number_behind-told letter max n (c ∷ cs) small answer =
+    let found = when_found (c == letter) (number_of max cs) n answer in
+    let spelled = number_of-spelled max n cs small found.1 in
+    let same : c ≡ letter = eqb-true c letter found.0 in
+    (spelled.0, ap (λ ds. letter ∷ ds) spelled.1 ∙ ap (λ b. b ∷ cs) (sym same))
+
+pub find-passes : {A : Type 0} (p : A → Bool) (xs : List A) (x : A) → find p xs ≡ Some x → p x ≡ true
+find-passes p [] x answer = absurd (cc)
+find-passes p (y ∷ ys) x answer = cases (find-passes p ys x) (p y) refl answer
+  where
+    cases : (find p ys ≡ Some x → p x ≡ true) → (b : Bool) → p y ≡ b → cond b (Some y) (find p ys) ≡ Some x → p x ≡ true
+    cases later true passes answer = ap p (sym (some_injective y x answer)) ∙ passes
+    cases later false fails answer = later answer
+
+pub same_bytes : (xs ys : List ℕ) → bytes_eq xs ys ≡ true → xs ≡ ys
+same_bytes xs ys same = (bytes_eq-Decides xs ys).0 same
+
+pub bytes_eq-refl : (xs : List ℕ) → bytes_eq xs xs ≡ true
+bytes_eq-refl xs = (bytes_eq-Decides xs xs).1 refl
+
+not_withdrawn : (p : Ending → Bool) → find p endings ≡ Some ending.Withdrawn → ⊥
+unfolding endings
+not_withdrawn p answer = cases (p ending.Served) (p ending.Lost) (p ending.Failed) answer
+  where
+    cases : (a b c : Bool) → cond a (Some ending.Served) (cond b (Some ending.Lost) (cond c (Some ending.Failed) None)) ≡ Some ending.Withdrawn → ⊥
+    cases true b c answer = cc
+    cases false true c answer = cc
+    cases false false true answer = cc
+    cases false false false answer = cc
+
+pub with_field-told : (k : Kind) (text : List ℕ) (f g : Fields) → with_field k text f ≡ Some g → Said k text f g
+with_field-told (kind.Fixed word) text f g answer =
+    let told = when_some (bytes_eq text (fixed_text word)) f g answer in
+    record { says = sym (same_bytes text (fixed_text word) told.0); word = tt; rest = sym told.1 }
+with_field-told kind.Session text f g answer = said kind.Session text f _ (number_behind 115 4294967295 text) g answer (λ n found.
+    let told = number_behind-told 115 4294967295 n text (omega arith) found in record { says = told.1; word = omega arith; rest = refl })
+with_field-told kind.Node text f g answer = said kind.Node text f _ (number_behind 110 4294967295 text) g answer (λ n found.
+    let told = number_behind-told 110 4294967295 n text (omega arith) found in record { says = told.1; word = omega arith; rest = refl })
+with_field-told kind.Job text f g answer = said kind.Job text f _ (number_behind 106 4294967295 text) g answer (λ n found.
+    let told = number_behind-told 106 4294967295 n text (omega arith) found in record { says = told.1; word = omega arith; rest = refl })
+with_field-told kind.Label text f g answer = said kind.Label text f _ (number_behind 108 65535 text) g answer (λ n found.
+    let told = number_behind-told 108 65535 n text (omega arith) found in record { says = told.1; word = omega arith; rest = refl })
+with_field-told kind.Pool text f g answer = said kind.Pool text f _ (number_behind 112 65535 text) g answer (λ n found.
+    let told = number_behind-told 112 65535 n text (omega arith) found in record { says = told.1; word = omega arith; rest = refl })
+with_field-told kind.Requester text f g answer = said kind.Requester text f _ (number_behind 113 65535 text) g answer (λ n found.
+    let told = number_behind-told 113 65535 n text (omega arith) found in record { says = told.1; word = omega arith; rest = refl })
+with_field-told kind.Semaphore text f g answer = said kind.Semaphore text f _ (number_behind 120 65535 text) g answer (λ n found.
+    let told = number_behind-told 120 65535 n text (omega arith) found in record { says = told.1; word = omega arith; rest = refl })
+with_field-told kind.Attempt text f g answer = said kind.Attempt text f _ (number_of 255 text) g answer (λ n found.
+    let told = number_of-spelled 255 n text (omega arith) found in record { says = told.1; word = omega arith; rest = refl })
+with_field-told kind.Number text f g answer = said kind.Number text f _ (number_of 4294967295 text) g answer (λ n found.
+    let told = number_of-spelled 4294967295 n text (omega arith) found in record { says = told.1; word = omega arith; rest = refl })
+with_field-told kind.Server text f g answer = said kind.Server text f _ (number_of 18446744073709551615 text) g answer (λ n found.
+    let told = number_of-spelled 18446744073709551615 n text (omega arith) found in record { says = told.1; word = omega arith; rest = refl })
+with_field-told kind.Instances text f g answer = said kind.Instances text f _ (number_of 18446744073709551615 text) g answer (λ n found.
+    let told = number_of-spelled 18446744073709551615 n text (omega arith) found in record { says = told.1; word = omega arith; rest = refl })
+with_field-told kind.Cores text f g answer = said kind.Cores text f _ (number_of 18446744073709551615 text) g answer (λ n found.
+    let told = number_of-spelled 18446744073709551615 n text (omega arith) found in record { says = told.1; word = omega arith; rest = refl })
+with_field-told kind.Ram text f g answer = said kind.Ram text f _ (number_of 18446744073709551615 text) g answer (λ n found.
+    let told = number_of-spelled 18446744073709551615 n text (omega arith) found in record { says = told.1; word = omega arith; rest = refl })
+with_field-told kind.Request text f g answer = said kind.Request text f _ (request_of text) g answer (λ id found.
+    let told = request_of-spelled id text found in record { says = told.1; word = told.0; rest = refl })
+with_field-told kind.End text f g answer = said kind.End text f _ (find (λ e. bytes_eq text (end_text e)) ends) g answer (λ e found.
+    record { says = sym (same_bytes text (end_text e) (find-passes (λ e. bytes_eq text (end_text e)) ends e found)); word = tt; rest = refl })
+with_field-told kind.Ending text f g answer = said kind.Ending text f _ (find (λ e. bytes_eq text (ending_text e)) endings) g answer (λ e found.
+    record {
+      says = sym (same_bytes text (ending_text e) (find-passes (λ e. bytes_eq text (ending_text e)) endings e found));
+      word = λ withdrawn. not_withdrawn (λ e. bytes_eq text (ending_text e)) (found ∙ ap Some withdrawn);
+      rest = refl;
+    })
+with_field-told kind.Found text f g answer = said kind.Found text f _ (find (λ s. bytes_eq text (found_text s)) founds) g answer (λ s found.
+    record { says = sym (same_bytes text (found_text s) (find-passes (λ s. bytes_eq text (found_text s)) founds s found)); word = tt; rest = refl })
+
+-- ## Saying a word
+
+-- the fields that a line tells
+abbrev pub told_fields : Fields → Fields
+told_fields f = record f { found = told_found f.found }
+
+number_behind-lettered : (letter max n : ℕ) → n ≤ max → max < 2 ^ 64 → number_behind letter max (lettered letter n) ≡ Some n
+number_behind-lettered letter max n most small = rw (eq-eqb letter letter refl) (number_of-decimal max n most small)
+
+find-end : (e : EndAs) → find (λ x. bytes_eq (end_text e) (end_text x)) ends ≡ Some e
+unfolding ends
+find-end end.Used = refl
+find-end end.Hold = refl
+
+find-ending : (e : Ending) → e ≢ ending.Withdrawn → find (λ x. bytes_eq (ending_text e) (ending_text x)) endings ≡ Some e
+unfolding endings
+find-ending ending.Served other = refl
+find-ending ending.Lost other = refl
+find-ending ending.Failed other = refl
+find-ending ending.Withdrawn other = absurd (other refl)
+
+find-found : (s : Found) → find (λ x. bytes_eq (found_text s) (found_text x)) founds ≡ Some (told_found s)
+unfolding founds
+find-found (found.Request request.Requested) = refl
+find-found (found.Request request.Pending) = refl
+find-found (found.Request request.Fulfilled) = refl
+find-found (found.Request request.Failed) = refl
+find-found (found.Node node.Building) = refl
+find-found (found.Node node.Ready) = refl
+find-found (found.Node node.InUse) = refl
+find-found (found.Node node.Used) = refl
+find-found (found.Node node.Hold) = refl
+find-found (found.Node node.Deleting) = refl
+find-found (found.Node node.Failed) = refl
+find-found found.InFlight = refl
+find-found (found.Job job.New) = refl
+find-found (found.Job job.Asked) = refl
+find-found (found.Job job.Using) = refl
+find-found (found.Job job.Over) = refl
+
+pub with_field-text : (k : Kind) (f g : Fields) → HasWord k f → with_field k (field_text k f) g ≡ Some (copy k (told_fields f) g)
+with_field-text (kind.Fixed word) f g has = rw (bytes_eq-refl (fixed_text word)) refl
+with_field-text kind.Session f g has = ap (option_map (λ n. record g { session = record { 0 = n } })) (number_behind-lettered 115 4294967295 f.session.0 (omega arith) (omega arith))
+with_field-text kind.Node f g has = ap (option_map (λ n. record g { node = record { 0 = n } })) (number_behind-lettered 110 4294967295 f.node.0 (omega arith) (omega arith))
+with_field-text kind.Job f g has = ap (option_map (λ n. record g { job = record { 0 = n } })) (number_behind-lettered 106 4294967295 f.job.0 (omega arith) (omega arith))
+with_field-text kind.Label f g has = ap (option_map (λ n. record g { label = record { 0 = n } })) (number_behind-lettered 108 65535 f.label.0 (omega arith) (omega arith))
+with_field-text kind.Pool f g has = ap (option_map (λ n. record g { pool = record { 0 = n } })) (number_behind-lettered 112 65535 f.pool.0 (omega arith) (omega arith))
+with_field-text kind.Requester f g has = ap (option_map (λ n. record g { requester = record { 0 = n } })) (number_behind-lettered 113 65535 f.requester.0 (omega arith) (omega arith))
+with_field-text kind.Semaphore f g has = ap (option_map (λ n. record g { semaphore = record { 0 = n } })) (number_behind-lettered 120 65535 f.semaphore.0 (omega arith) (omega arith))
+with_field-text kind.Attempt f g has = ap (option_map (λ n. record g { attempt = n })) (number_of-decimal 255 f.attempt (omega arith) (omega arith))
+with_field-text kind.Number f g has = ap (option_map (λ n. record g { number = n })) (number_of-decimal 4294967295 f.number (omega arith) (omega arith))
+with_field-text kind.Server f g has = ap (option_map (λ n. record g { server = n })) (number_of-decimal 18446744073709551615 f.server (omega arith) (omega arith))
+with_field-text kind.Instances f g has = ap (option_map (λ n. record g { instances = n })) (number_of-decimal 18446744073709551615 f.instances (omega arith) (omega arith))
+with_field-text kind.Cores f g has = ap (option_map (λ n. record g { cores = n })) (number_of-decimal 18446744073709551615 f.cores (omega arith) (omega arith))
+with_field-text kind.Ram f g has = ap (option_map (λ n. record g { ram = n })) (number_of-decimal 18446744073709551615 f.ram (omega arith) (omega arith))
+with_field-text kind.Request f g has = ap (option_map (λ id. record g { request = id })) (request_of-text f.request has)
+with_field-text kind.End f g has = ap (option_map (λ e. record g { end = e })) (find-end f.end)
+with_field-text kind.Ending f g has = ap (option_map (λ e. record g { ending = e })) (find-ending f.ending has)
+with_field-text kind.Found f g has = ap (option_map (λ s. record g { found = s })) (find-found f.found)

@@ -1,0 +1,11 @@
+//! An event with its answer.
+
+use crate::event::Event;
+use crate::reply::Reply;
+
+/// One entry of the machine's journal.
+#[derive(Clone, Copy, Debug, PartialEq, Eq)]
+pub struct Entry {
+    pub event: Event,
+    pub reply: Reply,
+}
