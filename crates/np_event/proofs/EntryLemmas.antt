@@ -1,6 +1,6 @@
 -- One line for each entry.
 use Rattle.std.proofs.Common.{◌≡◌, ℕ, Bool, true, false, cond, ◌&&◌, not, ◌==◌, List, [], ◌∷◌, ◌++◌, drop, Option, Some, None, Result, Ok, Err, refl, sym, ap, subst, ◌∙◌, arith, append_assoc}
-use Rattle.std.specs.Prelude.{codes, if◌then◌else◌, nat_le, IfOk}
+use Rattle.std.specs.Prelude.{codes, IfOk}
 use Rattle.std.specs.List.{list_all}
 use Rattle.std.specs.Result.{result_ok}
 use Rattle.std.specs.Str.{bytes_eq}
@@ -13,10 +13,9 @@ use Rattle.np_event.specs.declared.entry.Entry.{Entry}
 use Rattle.np_event.specs.declared.event.Event.{Event}
 use Rattle.np_event.specs.declared.fault.LineFault.{LineFault}
 use Rattle.np_event.specs.declared.reply.Reply.{Reply}
-use Rattle.np_event.specs.EventForm.{event_parts, event_row}
-use Rattle.np_event.specs.Line.{HasEntryLine, HasEventLine, HasReplyLine, begins_reply, entry_from, entry_in, entry_line, entry_with, event_in, event_line, reply_in, reply_line, sides_of, told, told_entry}
+use Rattle.np_event.specs.Line.{HasEntryLine, HasEventLine, begins_reply, entry_from, entry_in, entry_line, entry_with, event_in, event_line, reply_in, reply_line, sides_of, told, told_entry}
 use Rattle.np_event.specs.Words.{words_of}
-use Rattle.np_event.proofs.EventLemmas.{event_in-spelled, event_in-words, event_line-injective, inside-event_line}
+use Rattle.np_event.proofs.EventLemmas.{event_in-spelled, event_in-words, inside-event_line}
 use Rattle.np_event.proofs.ReplyLemmas.{inside-reply_line, reply_in-spelled, reply_in-words}
 use Rattle.np_event.proofs.KindLemmas.{same_bytes}
 use Rattle.np_event.proofs.SpellingLemmas.{is_inside, is_line-inside}

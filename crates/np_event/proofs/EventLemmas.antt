@@ -1,28 +1,28 @@
 -- One line for each event.
-use Rattle.std.proofs.Common.{◌≡◌, ℕ, ◌+◌, length, Bool, true, false, cond, ◌&&◌, not, List, [], ◌∷◌, ◌++◌, map, Option, Some, None, Result, Ok, Err, refl, sym, ap, subst, ◌∙◌, arith}
+use Rattle.std.proofs.Common.{◌≡◌, ℕ, ◌+◌, length, Bool, true, false, cond, ◌&&◌, List, [], ◌∷◌, map, Option, Some, None, Result, Ok, Err, refl, sym, ap, subst, ◌∙◌, ◌==◌}
 use Rattle.std.specs.Prelude.{if◌then◌else◌, nat_le}
 use Rattle.std.specs.List.{find, join_with_byte, list_all}
 use Rattle.std.specs.Str.{bytes_eq}
 use Rattle.std.proofs.lemmas.List.Splits.{join_with_byte-slice_split}
 use Rattle.np_text.specs.declared.id.Role.TheVariants as role
 use Rattle.np_text.specs.declared.word.Reason.TheVariants as reason
-use Rattle.np_text.proofs.SpellingLemmas.{both_true}
+use Rattle.np_text.proofs.SpellingLemmas.{both_true, some_injective}
 use Rattle.np_event.specs.declared.event.Event.{Event}
 use Rattle.np_event.specs.declared.event.Event.TheVariants as ev
 use Rattle.np_event.specs.declared.event.Outcome.TheVariants as outcome
 use Rattle.np_event.specs.declared.event_form.EventForm.{EventForm}
 use Rattle.np_event.specs.declared.event_form.EventForm.TheVariants as form
 use Rattle.np_event.specs.declared.fault.LineFault.{LineFault}
-use Rattle.np_event.specs.declared.fault.LineFault.TheVariants.{BadArgument, WrongCount}
+use Rattle.np_event.specs.declared.fault.LineFault.TheVariants.{BadArgument, UnknownEvent, WrongCount}
 use Rattle.np_event.specs.declared.kind.Fields.{Fields}
 use Rattle.np_event.specs.declared.kind.Kind.{Kind}
 use Rattle.np_event.specs.EventForm.{decided_at, event_forms, event_of, event_parts, event_row}
-use Rattle.np_event.specs.Kind.{field_text}
+use Rattle.np_event.specs.Kind.{field_text, with_field}
 use Rattle.np_event.specs.Line.{HasEventLine, OpensNoReaper, chosen, event_form_of, event_in, event_line, is_agreed, is_headed, undecided, with_fields, with_form}
-use Rattle.np_event.specs.Reading.{HaveWords, row_fields, row_line, stand}
+use Rattle.np_event.specs.Reading.{HaveWords, fields_from, fitting, row_fields, row_line, stand}
 use Rattle.np_event.specs.Row.{blank}
-use Rattle.np_event.specs.Words.{is_space, words_of}
-use Rattle.np_event.proofs.KindLemmas.{find-passes, same_bytes, told_fields}
+use Rattle.np_event.specs.Words.{words_of}
+use Rattle.np_event.proofs.KindLemmas.{bytes_eq-refl, find-passes, same_bytes, told_fields}
 use Rattle.np_event.proofs.ReadingLemmas.{are_apart, overlay, row_fields-texts, row_fields-told}
 use Rattle.np_event.proofs.SpellingLemmas.{inside-row_line, is_inside, is_plain, words_of-spaced}
 
@@ -150,3 +150,87 @@ pub HasEventLine-read : (F : EventForm) (kinds : List Kind) (rest : List (List �
 HasEventLine-read F kinds rest o f e same read is made =
     let told = row_fields-told (event_row F).kinds rest f (row_apart F) (ap (λ ks. row_fields ks rest) (sym same) ∙ sym read ∙ is) in
     subst HasEventLine (sym made) (has_line_of_form F f told.1)
+
+-- ## The first word that names no event
+
+find-None : {A : Type 0} (p : A → Bool) (xs : List A) → ((x : A) → p x ≡ false) → find p xs ≡ None
+find-None p [] fails = refl
+find-None p (x ∷ xs) fails = rw (fails x) (find-None p xs fails)
+
+fails-found : {A : Type 0} (p q : A → Bool) (xs : List A) (x : A) → find p xs ≡ None → find q xs ≡ Some x → p x ≡ false
+fails-found p q [] x none some = absurd (cc)
+fails-found p q (y ∷ ys) x none some = cases (fails-found p q ys x) (p y) (q y) refl refl none some
+  where
+    cases : (find p ys ≡ None → find q ys ≡ Some x → p x ≡ false) → (a b : Bool) → p y ≡ a → q y ≡ b
+        → cond a (Some y) (find p ys) ≡ None → cond b (Some y) (find q ys) ≡ Some x → p x ≡ false
+    cases later true b is_p is_q none some = absurd (cc)
+    cases later false true is_p is_q none some = ap p (sym (some_injective y x some)) ∙ is_p
+    cases later false false is_p is_q none some = later none some
+
+-- each form is among the forms
+found_form : (F : EventForm) → find (is_agreed (event_row F).head (map (λ k. field_text k blank) (event_row F).kinds)) event_forms ≡ Some F
+unfolding event_forms
+found_form form.Tick = refl
+found_form F = refl
+
+fields_known : (place : ℕ) (kinds : List Kind) (words : List (List ℕ)) (f : Fields) → fields_from place kinds words f ≡ Err UnknownEvent → ⊥
+fields_known place [] words f answer = cc
+fields_known place (k ∷ ks) [] f answer = cc
+fields_known place (k ∷ ks) (w ∷ ws) f answer = cases (fields_known (place + 1) ks ws) (with_field k w f) answer
+  where
+    cases : ((g : Fields) → fields_from (place + 1) ks ws g ≡ Err UnknownEvent → ⊥) → (o : Option Fields)
+        → fitting (λ more. fields_from (place + 1) ks ws more) place (Some o) ≡ Err UnknownEvent → ⊥
+    cases later None answer = cc
+    cases later (Some g) answer = later g answer
+
+row_known : (kinds : List Kind) (rest : List (List ℕ)) → row_fields kinds rest ≡ Err UnknownEvent → ⊥
+row_known kinds rest answer = cases (length rest == length kinds) answer
+  where
+    cases : (b : Bool) → (if b then fields_from 2 kinds rest blank else Err WrongCount) ≡ Err UnknownEvent → ⊥
+    cases true answer = fields_known 2 kinds rest blank answer
+    cases false answer = cc
+
+form_known : (F : EventForm) (o : Result Fields LineFault) → (o ≡ Err UnknownEvent → ⊥) → with_fields F o ≡ Err UnknownEvent → ⊥
+form_known F (Ok f) known answer = cc
+form_known F (Err UnknownEvent) known answer = known refl
+form_known F (Err WrongCount) known answer = cc
+form_known F (Err (BadArgument n)) known answer = cc
+
+late_known : (rest : List (List ℕ)) (H : EventForm) (place : Option ℕ) → with_form rest (undecided H rest place) ≡ Err UnknownEvent → ⊥
+late_known rest H None answer = form_known H (row_fields (event_row H).kinds rest) (row_known (event_row H).kinds rest) answer
+late_known rest H (Some place) answer = cases (nat_le place (length rest)) answer
+  where
+    cases : (b : Bool) → with_form rest (if b then Err (BadArgument (place + 1)) else Err WrongCount) ≡ Err UnknownEvent → ⊥
+    cases true answer = cc
+    cases false answer = cc
+
+unknown_chosen : (rest : List (List ℕ)) (agreed headed : Option EventForm) → with_form rest (chosen rest agreed headed) ≡ Err UnknownEvent → headed ≡ None
+unknown_chosen rest None None answer = refl
+unknown_chosen rest None (Some H) answer = absurd (late_known rest H (decided_at H) answer)
+unknown_chosen rest (Some A) headed answer = absurd (form_known A (row_fields (event_row A).kinds rest) (row_known (event_row A).kinds rest) answer)
+
+-- the first word names no event exactly where it is the first word of no form
+pub unknown-unheaded : (first : List ℕ) (rest : List (List ℕ)) → event_in (first ∷ rest) ≡ Err UnknownEvent → (F : EventForm) → (event_row F).head ≡ first → ⊥
+unfolding event_in
+unknown-unheaded first rest answer F same =
+    let none = unknown_chosen rest (find (is_agreed first rest) event_forms) (find (is_headed first) event_forms) answer in
+    let texts = map (λ k. field_text k blank) (event_row F).kinds in
+    let fails = fails-found (is_headed first) (is_agreed (event_row F).head texts) event_forms F none (found_form F) in
+    true_false (sym (ap (λ h. bytes_eq h (event_row F).head) (sym same) ∙ bytes_eq-refl (event_row F).head) ∙ fails)
+  where
+    true_false : true ≡ false → ⊥
+    true_false same = cc
+
+pub unheaded-unknown : (first : List ℕ) (rest : List (List ℕ)) → ((F : EventForm) → (event_row F).head ≡ first → ⊥) → event_in (first ∷ rest) ≡ Err UnknownEvent
+unfolding event_in
+unheaded-unknown first rest unheaded =
+    let headed = find-None (is_headed first) event_forms (λ F. other F) in
+    let agreed = find-None (is_agreed first rest) event_forms (λ F. ap (λ b. b && stand (event_row F).kinds rest) (other F)) in
+    ap (λ o. with_form rest (chosen rest o (find (is_headed first) event_forms))) agreed ∙ ap (λ o. with_form rest (chosen rest None o)) headed
+  where
+    other : (F : EventForm) → is_headed first F ≡ false
+    other F = cases (is_headed first F) refl
+      where
+        cases : (b : Bool) → is_headed first F ≡ b → b ≡ false
+        cases true is = absurd (unheaded F (sym (same_bytes first (event_row F).head is)))
+        cases false is = refl

@@ -1,14 +1,12 @@
 -- What a word says, and how it is said: each kind both ways.
-use Rattle.std.proofs.Common.{◌≡◌, ◌≢◌, ℕ, ◌^◌, ◌<◌, ◌≤◌, Bool, true, false, cond, ◌&&◌, not, ◌==◌, List, [], ◌∷◌, ◌++◌, Option, Some, None, refl, sym, ap, subst, ◌∙◌, arith, rules}
-use Rattle.std.specs.Prelude.{if◌then◌else◌, nat_le}
-use Rattle.std.specs.Fmt.{decimal}
-use Rattle.std.specs.List.{find, list_all}
+use Rattle.std.proofs.Common.{◌≡◌, ◌≢◌, ℕ, ◌^◌, ◌<◌, ◌≤◌, Bool, true, false, cond, ◌==◌, List, [], ◌∷◌, Option, Some, None, refl, sym, ap, subst, ◌∙◌, arith}
+use Rattle.std.specs.List.{find}
 use Rattle.std.specs.Option.{option_map}
 use Rattle.std.specs.Str.{bytes_eq}
 use Rattle.std.proofs.lemmas.Bool.{eq-eqb, eqb-true}
 use Rattle.std.proofs.lemmas.Slice.Eq.{bytes_eq-Decides}
 use Rattle.np_text.specs.Number.{number_of}
-use Rattle.np_text.specs.Request.{HasText, request_of, request_text_of}
+use Rattle.np_text.specs.Request.{request_of}
 use Rattle.np_text.specs.declared.word.EndAs.{EndAs}
 use Rattle.np_text.specs.declared.word.EndAs.TheVariants as end
 use Rattle.np_text.specs.declared.word.Ending.{Ending}
@@ -19,8 +17,6 @@ use Rattle.np_text.specs.declared.word.RequestState.TheVariants as request
 use Rattle.np_text.proofs.RequestLemmas.{request_of-spelled, request_of-text}
 use Rattle.np_text.proofs.SpellingLemmas.{number_of-decimal, number_of-spelled, some_injective, when_found, when_some}
 use Rattle.np_event.specs.declared.kind.Fields.{Fields}
-use Rattle.np_event.specs.declared.kind.Fixed.{Fixed}
-use Rattle.np_event.specs.declared.kind.Fixed.TheVariants as fixed
 use Rattle.np_event.specs.declared.kind.Kind.{Kind}
 use Rattle.np_event.specs.declared.kind.Kind.TheVariants as kind
 use Rattle.np_event.specs.declared.reply.Found.{Found}
@@ -265,3 +261,20 @@ with_field-text kind.Request f g has = ap (option_map (λ id. record g { request
 with_field-text kind.End f g has = ap (option_map (λ e. record g { end = e })) (find-end f.end)
 with_field-text kind.Ending f g has = ap (option_map (λ e. record g { ending = e })) (find-ending f.ending has)
 with_field-text kind.Found f g has = ap (option_map (λ s. record g { found = s })) (find-found f.found)
+
+-- ## A word fits where some value is said so
+
+pub with_field-unsaid : (k : Kind) (text : List ℕ) (f : Fields) → with_field k text f ≡ None → (g : Fields) → HasWord k g → field_text k g ≡ text → ⊥
+with_field-unsaid k text f none g has says =
+    let some : with_field k text f ≡ Some (copy k (told_fields g) f) = ap (λ bytes. with_field k bytes f) (sym says) ∙ with_field-text k g f has in
+    some_none (copy k (told_fields g) f) (sym some ∙ none)
+  where
+    some_none : (h : Fields) → Some h ≡ None → ⊥
+    some_none h same = cc
+
+pub with_field-said : (k : Kind) (text : List ℕ) (f : Fields) → ((g : Fields) → HasWord k g → field_text k g ≡ text → ⊥) → with_field k text f ≡ None
+with_field-said k text f unsaid = cases (with_field k text f) refl
+  where
+    cases : (o : Option Fields) → with_field k text f ≡ o → o ≡ None
+    cases None is = refl
+    cases (Some g) is = let told = with_field-told k text f g is in absurd (unsaid g told.word told.says)

@@ -1,19 +1,18 @@
 -- Fields and words, both ways.
-use Rattle.std.proofs.Common.{◌≡◌, ℕ, ◌+◌, ◌<◌, ◌≤◌, Bool, true, false, ◌&&◌, not, ◌==◌, List, [], ◌∷◌, ◌++◌, map, length, drop, Option, Some, None, Result, Ok, Err, refl, sym, ap, subst, ◌∙◌, arith}
+use Rattle.std.proofs.Common.{◌≡◌, ℕ, ◌+◌, Bool, true, false, ◌&&◌, not, ◌==◌, List, [], ◌∷◌, map, length, Option, Some, None, Result, Ok, Err, refl, sym, ap, subst, ◌∙◌, arith}
 use Rattle.std.specs.Prelude.{if◌then◌else◌}
 use Rattle.std.specs.List.{list_all}
 use Rattle.std.proofs.lemmas.Bool.{eq-eqb, eqb-true}
-use Rattle.std.proofs.lemmas.Bool.Decides.{nat_tests}
 use Rattle.std.proofs.lemmas.List.{length-map}
 use Rattle.np_text.proofs.SpellingLemmas.{both_true}
 use Rattle.np_event.specs.declared.fault.LineFault.{LineFault}
-use Rattle.np_event.specs.declared.fault.LineFault.TheVariants.{WrongCount, BadArgument}
+use Rattle.np_event.specs.declared.fault.LineFault.TheVariants.{WrongCount}
 use Rattle.np_event.specs.declared.kind.Fields.{Fields}
 use Rattle.np_event.specs.declared.kind.Kind.{Kind}
 use Rattle.np_event.specs.Kind.{HasWord, field_text, with_field}
 use Rattle.np_event.specs.Reading.{HaveWords, fields_from, fitting, row_fields}
 use Rattle.np_event.specs.Row.{blank}
-use Rattle.np_event.proofs.KindLemmas.{Said, HasWord-copy, copy, field_text-copy, same_kind, told_fields, with_field-text, with_field-told}
+use Rattle.np_event.proofs.KindLemmas.{HasWord-copy, copy, field_text-copy, same_kind, told_fields, with_field-text, with_field-told}
 
 -- this kind is not among these
 abbrev pub is_absent : Kind → List Kind → Bool

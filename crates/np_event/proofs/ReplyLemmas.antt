@@ -1,7 +1,7 @@
 -- One line for each reply.
-use Rattle.std.proofs.Common.{◌≡◌, ℕ, Bool, true, false, cond, ◌&&◌, not, List, [], ◌∷◌, ◌++◌, map, Option, Some, None, Result, Ok, Err, refl, sym, ap, subst, ◌∙◌, arith}
+use Rattle.std.proofs.Common.{◌≡◌, ℕ, Bool, true, false, List, [], ◌∷◌, ◌++◌, map, Option, Some, None, Result, Ok, Err, refl, sym, ap, subst, ◌∙◌}
 use Rattle.std.specs.Prelude.{codes, if◌then◌else◌}
-use Rattle.std.specs.List.{find, flat_map, list_all}
+use Rattle.std.specs.List.{find, list_all}
 use Rattle.std.specs.Option.{option_map}
 use Rattle.std.specs.Result.{result_ok}
 use Rattle.std.specs.Str.{bytes_eq}
@@ -31,7 +31,7 @@ use Rattle.np_event.specs.Words.{is_space, words_of}
 use Rattle.np_event.proofs.EventLemmas.{same_words}
 use Rattle.np_event.proofs.KindLemmas.{find-passes, same_bytes, told_fields}
 use Rattle.np_event.proofs.ReadingLemmas.{are_apart, overlay, row_fields-texts, row_fields-told}
-use Rattle.np_event.proofs.SpellingLemmas.{inside-row_line, is_inside, is_plain, list_all-append, no_spaces, words_of-spaced}
+use Rattle.np_event.proofs.SpellingLemmas.{inside-row_line, is_inside, is_plain, no_spaces, words_of-spaced}
 
 -- ## Row by row, by computation
 

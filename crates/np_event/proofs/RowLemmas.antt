@@ -1,14 +1,13 @@
 -- Lemmas on the rows of forms.
-use Rattle.std.proofs.Common.{◌≡◌, ℕ, ◌+◌, ◌<◌, ◌≤◌, List, [], ◌∷◌, ◌++◌, length, take, drop, Option, Some, None, Result, Ok, Err, refl, sym, ap, subst, ◌∙◌, arith, length-append}
-use Rattle.std.specs.Prelude.{slice_get, OnErr, ⊤}
+use Rattle.std.proofs.Common.{◌≡◌, ℕ, ◌<◌, ◌≤◌, List, ◌++◌, length, take, drop, None, Result, Ok, Err, refl, sym, ap, subst, ◌∙◌, arith, length-append}
+use Rattle.std.specs.Prelude.{slice_get, OnErr}
 use Rattle.std.specs.Io.{StartsWith}
 use Rattle.std.proofs.lemmas.List.{drop_more, take-take, take_at}
-use Rattle.np_event.specs.declared.fault.LineFault.{LineFault}
 use Rattle.np_event.specs.declared.fault.LineFault.TheVariants.{WrongCount}
 use Rattle.np_event.specs.declared.kind.Fields.{Fields}
 use Rattle.np_event.specs.declared.kind.Kind.{Kind}
 use Rattle.np_event.specs.declared.kind.Kind.TheVariants as kind
-use Rattle.np_event.specs.Reading.{field_at, fields_from, fitting}
+use Rattle.np_event.specs.Reading.{fields_from}
 
 -- where the words run out
 pub fields_from-no_word : (place : ℕ) (kinds : List Kind) (at : ℕ) (words : List (List ℕ)) (f : Fields) → at < length kinds → slice_get words 0 ≡ None

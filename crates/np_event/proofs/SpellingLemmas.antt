@@ -1,5 +1,5 @@
 -- The bytes of words: no space, no newline, no `=`.
-use Rattle.std.proofs.Common.{◌≡◌, ◌≢◌, ℕ, ◌^◌, ◌<◌, ◌≤◌, Bool, true, false, ◌&&◌, not, ◌==◌, List, [], ◌∷◌, ◌++◌, map, refl, sym, ap, ◌∙◌, arith}
+use Rattle.std.proofs.Common.{◌≡◌, ℕ, ◌^◌, ◌<◌, Bool, true, false, ◌&&◌, not, ◌==◌, List, [], ◌∷◌, ◌++◌, map, refl, ap, ◌∙◌, arith}
 use Rattle.std.specs.Prelude.{nat_le}
 use Rattle.std.specs.Char.{is_ascii_digit}
 use Rattle.std.specs.Fmt.{decimal}
@@ -7,7 +7,7 @@ use Rattle.std.specs.List.{All, flat_map, list_all}
 use Rattle.std.specs.Str.{all_ascii_digits}
 use Rattle.std.proofs.lemmas.Bool.Decides.{nat_tests}
 use Rattle.std.proofs.lemmas.Fmt.{digits_decimal}
-use Rattle.std.proofs.lemmas.List.{append-nil, append_assoc}
+use Rattle.std.proofs.lemmas.List.{append-nil}
 use Rattle.std.proofs.lemmas.List.Elements.{All-cons, All-nil}
 use Rattle.std.proofs.lemmas.List.Splits.{slice_split_at, slice_split_none}
 use Rattle.np_text.specs.Lines.{is_line}
@@ -29,7 +29,7 @@ use Rattle.np_event.specs.declared.kind.Kind.{Kind}
 use Rattle.np_event.specs.declared.kind.Kind.TheVariants as kind
 use Rattle.np_event.specs.declared.reply.Found.{Found}
 use Rattle.np_event.specs.declared.reply.Found.TheVariants as found
-use Rattle.np_event.specs.Kind.{HasWord, end_text, ending_text, field_text, fixed_text, found_text, lettered}
+use Rattle.np_event.specs.Kind.{HasWord, end_text, ending_text, field_text, fixed_text, found_text}
 use Rattle.np_event.specs.Reading.{HaveWords, row_line}
 use Rattle.np_event.specs.Row.{Row}
 use Rattle.np_event.specs.Words.{is_space, words_of}

@@ -136,6 +136,6 @@ event_parts (ev.FailDeclined s r) = (form.FailDeclined, record blank { session =
 event_parts (ev.Sweep s n x) = (form.Sweep, record blank { session = s; node = n; server = x })
 event_parts (ev.OpenSession role.Reaper) = (form.Tick, blank)
 
--- all forms; where two fit a line as far as it goes, the earlier one is taken
+-- all forms; where no form with a line's first word agrees with it, the first of them is taken
 unfoldable pub event_forms : List EventForm
 event_forms = form.Tick ∷ form.OpenLauncher ∷ form.OpenJanitor ∷ form.OpenRequester ∷ form.Crash ∷ form.Expire ∷ form.Register ∷ form.Submit ∷ form.MinReady ∷ form.LockRequest ∷ form.UnlockRequest ∷ form.Accept ∷ form.DeclineNoLabel ∷ form.DeclineNeverFits ∷ form.DeclineSpent ∷ form.TakeReady ∷ form.Create ∷ form.Start ∷ form.DoneOk ∷ form.DoneFailed ∷ form.Fulfil ∷ form.LockNode ∷ form.UnlockNode ∷ form.Acquire ∷ form.Take ∷ form.EndNode ∷ form.Finish ∷ form.Withdraw ∷ form.Release ∷ form.MarkDeleting ∷ form.Gone ∷ form.Reset ∷ form.FreeNode ∷ form.FailDeclined ∷ form.Sweep ∷ []

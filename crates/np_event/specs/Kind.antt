@@ -1,5 +1,5 @@
 -- What may stand at a place of a line, and its one spelling (own).
-use Rattle.std.specs.Prelude.{◌≡◌, ◌≢◌, ℕ, ◌^◌, ◌<◌, ◌==◌, if◌then◌else◌, List, [], ◌∷◌, codes, Option, Some, None}
+use Rattle.std.specs.Prelude.{◌≢◌, ℕ, ◌^◌, ◌<◌, ◌==◌, if◌then◌else◌, List, [], ◌∷◌, codes, Option, Some, None}
 use Rattle.std.specs.Fmt.{decimal}
 use Rattle.std.specs.List.{find}
 use Rattle.std.specs.Option.{option_map}
@@ -23,6 +23,7 @@ use Rattle.np_event.specs.declared.reply.Found.TheVariants as found
 
 -- ## Words of a few spellings
 
+-- the words that tell the forms of an event apart
 abbrev pub fixed_text : Fixed → List ℕ
 fixed_text fixed.Launcher = codes "launcher"
 fixed_text fixed.Janitor = codes "janitor"
@@ -33,10 +34,12 @@ fixed_text fixed.Spent = codes "spent"
 fixed_text fixed.Ok = codes "ok"
 fixed_text fixed.Failed = codes "failed"
 
+-- what a node is left as (Nodepool's states)
 abbrev pub end_text : EndAs → List ℕ
 end_text end.Used = codes "used"
 end_text end.Hold = codes "hold"
 
+-- how a job ended (own)
 abbrev pub ending_text : Ending → List ℕ
 ending_text ending.Served = codes "served"
 ending_text ending.Lost = codes "lost"
@@ -62,13 +65,15 @@ found_text (found.Job job.Asked) = codes "asked"
 found_text (found.Job job.Using) = codes "using"
 found_text (found.Job job.Over) = codes "over"
 
--- the values that such a word may tell: no reply says that a job was withdrawn, and `failed` tells of the request
+-- the values that such a word may tell
 unfoldable pub ends : List EndAs
 ends = end.Used ∷ end.Hold ∷ []
 
+-- no reply tells of a withdrawn job
 unfoldable pub endings : List Ending
 endings = ending.Served ∷ ending.Lost ∷ ending.Failed ∷ []
 
+-- `failed` tells of the request
 unfoldable pub founds : List Found
 founds = found.Request request.Requested ∷ found.Request request.Pending ∷ found.Request request.Fulfilled ∷ found.Request request.Failed
     ∷ found.Node node.Building ∷ found.InFlight ∷ found.Node node.Ready ∷ found.Node node.InUse ∷ found.Node node.Used ∷ found.Node node.Hold ∷ found.Node node.Deleting
@@ -76,6 +81,7 @@ founds = found.Request request.Requested ∷ found.Request request.Pending ∷ f
 
 -- ## Letters and numbers
 
+-- an id's letter and its number
 abbrev pub lettered : ℕ → ℕ → List ℕ
 lettered letter n = letter ∷ decimal n
 

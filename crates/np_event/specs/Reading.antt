@@ -1,5 +1,5 @@
 -- How words are read by the kinds of a form.
-use Rattle.std.specs.Prelude.{ℕ, ◌+◌, Bool, true, false, ◌&&◌, ◌==◌, if◌then◌else◌, List, [], ◌∷◌, ◌++◌, length, drop, slice_get, Option, Some, None, Result, Ok, Err, codes}
+use Rattle.std.specs.Prelude.{ℕ, ◌+◌, Bool, true, false, ◌&&◌, ◌==◌, if◌then◌else◌, List, [], ◌∷◌, ◌++◌, length, drop, slice_get, Option, Some, None, Result, Ok, Err}
 use Rattle.std.specs.List.{AllByRecursion, flat_map}
 use Rattle.std.specs.Str.{bytes_eq}
 use Rattle.np_event.specs.declared.fault.LineFault.{LineFault}
@@ -16,6 +16,7 @@ stands (kind.Fixed word) (Some text) = bytes_eq text (fixed_text word)
 stands (kind.Fixed word) None = false
 stands other text = true
 
+-- all fixed words stand at their places
 abbrev pub stand : List Kind → List (List ℕ) → Bool
 stand [] words = true
 stand (kind ∷ kinds) words = stands kind (slice_get words 0) && stand kinds (drop 1 words)
@@ -25,6 +26,7 @@ abbrev pub field_at : Kind → Option (List ℕ) → Fields → Option (Option F
 field_at kind None f = None
 field_at kind (Some text) f = Some (with_field kind text f)
 
+-- what is answered at a place: the count is wrong, the word does not fit, or the reading goes on
 abbrev pub fitting : (Fields → Result Fields LineFault) → ℕ → Option (Option Fields) → Result Fields LineFault
 fitting next place None = Err WrongCount
 fitting next place (Some None) = Err (BadArgument place)

@@ -1,5 +1,5 @@
 -- The forms of replies, one row for each. A refusal's row stands behind the word `refused` (own).
-use Rattle.std.specs.Prelude.{ℕ, List, [], ◌∷◌, codes}
+use Rattle.std.specs.Prelude.{List, [], ◌∷◌, codes}
 use Rattle.np_text.specs.declared.word.RequestState.TheVariants as request
 use Rattle.np_text.specs.declared.word.NodeState.TheVariants as node
 use Rattle.np_event.specs.declared.reply.Done.{Done}
@@ -8,8 +8,6 @@ use Rattle.np_event.specs.declared.reply.Found.{Found}
 use Rattle.np_event.specs.declared.reply.Found.TheVariants as found
 use Rattle.np_event.specs.declared.reply.Refusal.{Refusal}
 use Rattle.np_event.specs.declared.reply.Refusal.TheVariants as no
-use Rattle.np_event.specs.declared.reply.Reply.{Reply}
-use Rattle.np_event.specs.declared.reply.Reply.TheVariants as reply
 use Rattle.np_event.specs.declared.reply_form.DoneForm.{DoneForm}
 use Rattle.np_event.specs.declared.reply_form.DoneForm.TheVariants as form
 use Rattle.np_event.specs.declared.reply_form.RefusalForm.{RefusalForm}
@@ -20,6 +18,7 @@ use Rattle.np_event.specs.Row.{Row, row, blank}
 
 -- ## Done
 
+-- the first word, and what stands behind it
 abbrev pub done_row : DoneForm → Row
 done_row form.Plain = row (codes "ok") []
 done_row form.Session = row (codes "session") (kind.Session ∷ [])
@@ -32,6 +31,7 @@ done_row form.Keep = row (codes "keep") []
 done_row form.Remove = row (codes "remove") []
 done_row form.Ended = row (codes "ended") (kind.Ending ∷ [])
 
+-- the reply of a form with these fields
 abbrev pub done_of : DoneForm → Fields → Done
 done_of form.Plain f = done.Plain
 done_of form.Session f = done.Session f.session
@@ -44,6 +44,7 @@ done_of form.Keep f = done.Keep
 done_of form.Remove f = done.Remove
 done_of form.Ended f = done.Ended f.ending
 
+-- a reply's form and fields
 abbrev pub done_parts : Done → DoneForm × Fields
 done_parts done.Plain = (form.Plain, blank)
 done_parts (done.Session s) = (form.Session, record blank { session = s })
@@ -56,11 +57,13 @@ done_parts done.Keep = (form.Keep, blank)
 done_parts done.Remove = (form.Remove, blank)
 done_parts (done.Ended e) = (form.Ended, record blank { ending = e })
 
+-- all forms of done replies
 unfoldable pub done_forms : List DoneForm
 done_forms = form.Plain ∷ form.Session ∷ form.Request ∷ form.Node ∷ form.Started ∷ form.Held ∷ form.Queued ∷ form.Keep ∷ form.Remove ∷ form.Ended ∷ []
 
 -- ## Refused
 
+-- the first word behind `refused`, and what stands behind it
 abbrev pub refusal_row : RefusalForm → Row
 refusal_row refusal.NoSession = row (codes "no-session") []
 refusal_row refusal.Expired = row (codes "expired") []
@@ -90,6 +93,7 @@ refusal_row refusal.Enough = row (codes "enough") (kind.Number ∷ [])
 refusal_row refusal.Spent = row (codes "spent") []
 refusal_row refusal.Full = row (codes "full") []
 
+-- the refusal of a form with these fields
 abbrev pub refusal_of : RefusalForm → Fields → Refusal
 refusal_of refusal.NoSession f = no.NoSession
 refusal_of refusal.Expired f = no.Expired
@@ -119,6 +123,7 @@ refusal_of refusal.Enough f = no.Enough f.number
 refusal_of refusal.Spent f = no.Spent
 refusal_of refusal.Full f = no.Full
 
+-- a refusal's form and fields
 abbrev pub refusal_parts : Refusal → RefusalForm × Fields
 refusal_parts no.NoSession = (refusal.NoSession, blank)
 refusal_parts no.Expired = (refusal.Expired, blank)
@@ -148,6 +153,7 @@ refusal_parts (no.Enough n) = (refusal.Enough, record blank { number = n })
 refusal_parts no.Spent = (refusal.Spent, blank)
 refusal_parts no.Full = (refusal.Full, blank)
 
+-- all forms of refusals
 unfoldable pub refusal_forms : List RefusalForm
 refusal_forms = refusal.NoSession ∷ refusal.Expired ∷ refusal.Crashed ∷ refusal.WrongRole ∷ refusal.NoRequest ∷ refusal.NoNode ∷ refusal.NoJob ∷ refusal.NotOwner ∷ refusal.NotRegistered ∷ refusal.Taken ∷ refusal.Busy ∷ refusal.NotHeld ∷ refusal.WrongState ∷ refusal.Declined ∷ refusal.NotFirst ∷ refusal.FalseReason ∷ refusal.NoLabel ∷ refusal.NeverFits ∷ refusal.QuotaShort ∷ refusal.Allocated ∷ refusal.WrongAttempt ∷ refusal.NotAll ∷ refusal.SemaphoreFull ∷ refusal.NotDue ∷ refusal.Enough ∷ refusal.Spent ∷ refusal.Full ∷ []
 

@@ -7,10 +7,12 @@ use Rattle.np_event.specs.declared.kind.Fields.{Fields}
 use Rattle.np_event.specs.declared.kind.Kind.{Kind}
 use Rattle.np_event.specs.declared.reply.Found.TheVariants as found
 
+-- a row of a table of forms
 pub record Row : Type 0 where
   pub head : List ℕ
   pub kinds : List Kind
 
+-- the row of a first word and of kinds
 abbrev pub row : List ℕ → List Kind → Row
 row head kinds = record { head = head; kinds = kinds }
 

@@ -2,6 +2,7 @@
 use Rattle.std.specs.Prelude.{ℕ, Bool, ◌==◌, List, [], Option, Some, None}
 use Rattle.std.specs.List.{slice_split}
 
+-- the byte between two words
 abbrev pub is_space : ℕ → Bool
 is_space b = b == 32
 

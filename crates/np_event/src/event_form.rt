@@ -140,144 +140,150 @@ pub(crate) fn event_row(form: EventForm) -> Row
 }
 
 /// The event of a form with these fields.
-pub(crate) fn event_of(form: EventForm, f: Fields) -> Event
-    ensures { result ≡ event_of form f }
+pub(crate) fn event_of(form: EventForm, said: Fields) -> Event
+    ensures { result ≡ event_of form said }
 {
     match form {
         Form::Tick => Event::Tick,
         Form::OpenLauncher => Event::OpenSession {
-            role: Role::Launcher(f.pool),
+            role: Role::Launcher(said.pool),
         },
         Form::OpenJanitor => Event::OpenSession {
-            role: Role::Janitor(f.pool),
+            role: Role::Janitor(said.pool),
         },
         Form::OpenRequester => Event::OpenSession {
-            role: Role::Requester(f.requester),
+            role: Role::Requester(said.requester),
         },
-        Form::Crash => Event::Crash { session: f.session },
-        Form::Expire => Event::Expire { session: f.session },
-        Form::Register => Event::Register { session: f.session },
+        Form::Crash => Event::Crash {
+            session: said.session,
+        },
+        Form::Expire => Event::Expire {
+            session: said.session,
+        },
+        Form::Register => Event::Register {
+            session: said.session,
+        },
         Form::Submit => Event::Submit {
-            session: f.session,
-            job: f.job,
+            session: said.session,
+            job: said.job,
         },
         Form::MinReady => Event::MinReady {
-            session: f.session,
-            label: f.label,
+            session: said.session,
+            label: said.label,
         },
         Form::LockRequest => Event::LockRequest {
-            session: f.session,
-            request: f.request,
+            session: said.session,
+            request: said.request,
         },
         Form::UnlockRequest => Event::UnlockRequest {
-            session: f.session,
-            request: f.request,
+            session: said.session,
+            request: said.request,
         },
         Form::Accept => Event::Accept {
-            session: f.session,
-            request: f.request,
+            session: said.session,
+            request: said.request,
         },
         Form::DeclineNoLabel => Event::Decline {
-            session: f.session,
-            request: f.request,
-            reason: Reason::NoLabel(f.label),
+            session: said.session,
+            request: said.request,
+            reason: Reason::NoLabel(said.label),
         },
         Form::DeclineNeverFits => Event::Decline {
-            session: f.session,
-            request: f.request,
+            session: said.session,
+            request: said.request,
             reason: Reason::NeverFits,
         },
         Form::DeclineSpent => Event::Decline {
-            session: f.session,
-            request: f.request,
-            reason: Reason::Spent(f.node),
+            session: said.session,
+            request: said.request,
+            reason: Reason::Spent(said.node),
         },
         Form::TakeReady => Event::TakeReady {
-            session: f.session,
-            request: f.request,
-            node: f.node,
+            session: said.session,
+            request: said.request,
+            node: said.node,
         },
         Form::Create => Event::Create {
-            session: f.session,
-            request: f.request,
+            session: said.session,
+            request: said.request,
         },
         Form::Start => Event::Start {
-            session: f.session,
-            node: f.node,
+            session: said.session,
+            node: said.node,
         },
         Form::DoneOk => Event::Done {
-            session: f.session,
-            node: f.node,
-            attempt: f.attempt,
-            outcome: Outcome::Launched(f.server),
+            session: said.session,
+            node: said.node,
+            attempt: said.attempt,
+            outcome: Outcome::Launched(said.server),
         },
         Form::DoneFailed => Event::Done {
-            session: f.session,
-            node: f.node,
-            attempt: f.attempt,
+            session: said.session,
+            node: said.node,
+            attempt: said.attempt,
             outcome: Outcome::Failed,
         },
         Form::Fulfil => Event::Fulfil {
-            session: f.session,
-            request: f.request,
+            session: said.session,
+            request: said.request,
         },
         Form::LockNode => Event::LockNode {
-            session: f.session,
-            node: f.node,
+            session: said.session,
+            node: said.node,
         },
         Form::UnlockNode => Event::UnlockNode {
-            session: f.session,
-            node: f.node,
+            session: said.session,
+            node: said.node,
         },
         Form::Acquire => Event::Acquire {
-            session: f.session,
-            job: f.job,
+            session: said.session,
+            job: said.job,
         },
         Form::Take => Event::Take {
-            session: f.session,
-            job: f.job,
+            session: said.session,
+            job: said.job,
         },
         Form::EndNode => Event::EndNode {
-            session: f.session,
-            node: f.node,
-            end: f.end,
+            session: said.session,
+            node: said.node,
+            end: said.end,
         },
         Form::Finish => Event::Finish {
-            session: f.session,
-            job: f.job,
+            session: said.session,
+            job: said.job,
         },
         Form::Withdraw => Event::Withdraw {
-            session: f.session,
-            job: f.job,
+            session: said.session,
+            job: said.job,
         },
         Form::Release => Event::Release {
-            session: f.session,
-            job: f.job,
+            session: said.session,
+            job: said.job,
         },
         Form::MarkDeleting => Event::MarkDeleting {
-            session: f.session,
-            node: f.node,
+            session: said.session,
+            node: said.node,
         },
         Form::Gone => Event::Gone {
-            session: f.session,
-            node: f.node,
+            session: said.session,
+            node: said.node,
         },
         Form::Reset => Event::Reset {
-            session: f.session,
-            request: f.request,
+            session: said.session,
+            request: said.request,
         },
         Form::FreeNode => Event::FreeNode {
-            session: f.session,
-            node: f.node,
+            session: said.session,
+            node: said.node,
         },
         Form::FailDeclined => Event::FailDeclined {
-            session: f.session,
-            request: f.request,
+            session: said.session,
+            request: said.request,
         },
         Form::Sweep => Event::Sweep {
-            session: f.session,
-            node: f.node,
-            server: f.server,
+            session: said.session,
+            node: said.node,
+            server: said.server,
         },
     }
 }

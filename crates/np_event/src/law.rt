@@ -1,11 +1,17 @@
 //! Laws on the definitions. Nothing here runs: each function states a theorem.
-ghost use Rattle.std.specs.Prelude.{◌≡◌, ℕ, true, false, List, Ok, Some};
+ghost use Rattle.std.specs.Prelude.{◌≡◌, ◌≢◌, ◌↔◌, ℕ, true, false, List, ◌∷◌, Ok, Err, None, Some};
 ghost use Rattle.std.specs.Str.{bytes_eq};
 ghost use Rattle.np_text.specs.Lines.{is_line};
 ghost use Rattle.np_text.specs.Sections.{bar};
 ghost use Rattle.np_event.specs.declared.entry.Entry.{Entry};
 ghost use Rattle.np_event.specs.declared.event.Event.{Event};
+ghost use Rattle.np_event.specs.declared.event_form.EventForm.{EventForm};
+ghost use Rattle.np_event.specs.declared.fault.LineFault.TheVariants.{UnknownEvent};
+ghost use Rattle.np_event.specs.declared.kind.Fields.{Fields};
+ghost use Rattle.np_event.specs.declared.kind.Kind.{Kind};
 ghost use Rattle.np_event.specs.declared.reply.Reply.{Reply};
+ghost use Rattle.np_event.specs.EventForm.{event_row};
+ghost use Rattle.np_event.specs.Kind.{HasWord, field_text, with_field};
 ghost use Rattle.np_event.specs.Line.{HasEntryLine, HasEventLine, entry_in, entry_line, event_in, event_line, reply_line, told, told_entry};
 ghost use Rattle.np_event.specs.Words.{words_of};
 
@@ -32,4 +38,13 @@ pub fn a_line_is_one_line()
     ensures event { (e : Event) → HasEventLine e → is_line (event_line e) ≡ true }
     ensures entry { (e : Entry) → HasEntryLine e → is_line (entry_line e) ≡ true }
     ensures no_bar { (e : Entry) → HasEntryLine e → bytes_eq (entry_line e) bar ≡ false }
+{}
+
+/// The first fault, told by the lines that there are: the first word names no event exactly where
+/// no form begins with it, and a word does not fit its place exactly where no value is said so.
+pub fn faults_are_told_by_the_lines()
+    ensures unknown { (first : List ℕ) (rest : List (List ℕ)) →
+        (event_in (first ∷ rest) ≡ Err UnknownEvent) ↔ ((form : EventForm) → (event_row form).head ≢ first) }
+    ensures unfit { (kind : Kind) (text : List ℕ) (f : Fields) →
+        (with_field kind text f ≡ None) ↔ ((g : Fields) → HasWord kind g → field_text kind g ≢ text) }
 {}

@@ -117,23 +117,23 @@ pub(crate) fn done_row(form: DoneForm) -> Row
     }
 }
 
-pub(crate) fn done_of(form: DoneForm, f: Fields) -> Done
-    ensures { result ≡ done_of form f }
+pub(crate) fn done_of(form: DoneForm, said: Fields) -> Done
+    ensures { result ≡ done_of form said }
 {
     match form {
         DoneForm::Plain => Done::Plain,
-        DoneForm::Session => Done::Session(f.session),
-        DoneForm::Request => Done::Request(f.request),
-        DoneForm::Node => Done::Node(f.node),
+        DoneForm::Session => Done::Session(said.session),
+        DoneForm::Request => Done::Request(said.request),
+        DoneForm::Node => Done::Node(said.node),
         DoneForm::Started => Done::Started {
-            attempt: f.attempt,
-            start: f.number,
+            attempt: said.attempt,
+            start: said.number,
         },
         DoneForm::Held => Done::Held,
-        DoneForm::Queued => Done::Queued { ahead: f.number },
+        DoneForm::Queued => Done::Queued { ahead: said.number },
         DoneForm::Keep => Done::Keep,
         DoneForm::Remove => Done::Remove,
-        DoneForm::Ended => Done::Ended(f.ending),
+        DoneForm::Ended => Done::Ended(said.ending),
     }
 }
 
@@ -203,8 +203,8 @@ pub(crate) fn refusal_row(form: RefusalForm) -> Row
     }
 }
 
-pub(crate) fn refusal_of(form: RefusalForm, f: Fields) -> Refusal
-    ensures { result ≡ refusal_of form f }
+pub(crate) fn refusal_of(form: RefusalForm, said: Fields) -> Refusal
+    ensures { result ≡ refusal_of form said }
 {
     match form {
         RefusalForm::NoSession => Refusal::NoSession,
@@ -216,26 +216,26 @@ pub(crate) fn refusal_of(form: RefusalForm, f: Fields) -> Refusal
         RefusalForm::NoJob => Refusal::NoJob,
         RefusalForm::NotOwner => Refusal::NotOwner,
         RefusalForm::NotRegistered => Refusal::NotRegistered,
-        RefusalForm::Taken => Refusal::Taken(f.session),
-        RefusalForm::Busy => Refusal::Busy(f.session),
+        RefusalForm::Taken => Refusal::Taken(said.session),
+        RefusalForm::Busy => Refusal::Busy(said.session),
         RefusalForm::NotHeld => Refusal::NotHeld,
-        RefusalForm::WrongState => Refusal::WrongState(f.found),
+        RefusalForm::WrongState => Refusal::WrongState(said.found),
         RefusalForm::Declined => Refusal::Declined,
-        RefusalForm::NotFirst => Refusal::NotFirst(f.request),
+        RefusalForm::NotFirst => Refusal::NotFirst(said.request),
         RefusalForm::FalseReason => Refusal::FalseReason,
-        RefusalForm::NoLabel => Refusal::NoLabel(f.label),
+        RefusalForm::NoLabel => Refusal::NoLabel(said.label),
         RefusalForm::NeverFits => Refusal::NeverFits,
         RefusalForm::QuotaShort => Refusal::QuotaShort {
-            instances: f.instances,
-            cores: f.cores,
-            ram: f.ram,
+            instances: said.instances,
+            cores: said.cores,
+            ram: said.ram,
         },
-        RefusalForm::Allocated => Refusal::Allocated(f.request),
-        RefusalForm::WrongAttempt => Refusal::WrongAttempt(f.attempt),
-        RefusalForm::NotAll => Refusal::NotAll(f.number),
-        RefusalForm::SemaphoreFull => Refusal::SemaphoreFull(f.semaphore),
-        RefusalForm::NotDue => Refusal::NotDue(f.number),
-        RefusalForm::Enough => Refusal::Enough(f.number),
+        RefusalForm::Allocated => Refusal::Allocated(said.request),
+        RefusalForm::WrongAttempt => Refusal::WrongAttempt(said.attempt),
+        RefusalForm::NotAll => Refusal::NotAll(said.number),
+        RefusalForm::SemaphoreFull => Refusal::SemaphoreFull(said.semaphore),
+        RefusalForm::NotDue => Refusal::NotDue(said.number),
+        RefusalForm::Enough => Refusal::Enough(said.number),
         RefusalForm::Spent => Refusal::Spent,
         RefusalForm::Full => Refusal::Full,
     }

@@ -10,7 +10,7 @@ root = 47 ∷ []
 abbrev pub name_of : List ℕ → List ℕ
 name_of path = after_last is_slash path
 
--- the path that ends where the last slash begins: before a child of the root that is nothing, and stands for the root
+-- what stands before the last slash, or the root where that is nothing
 abbrev pub or_root : List ℕ → List ℕ
 or_root [] = root
 or_root (b ∷ bs) = b ∷ bs

@@ -51,7 +51,7 @@ impl Path {
         }
     }
 
-    /// The path as it is written. Takes no time, as `parent` and `name`.
+    /// The path as it is written. The time of `text`, `parent` and `name` doesn't grow with the path.
     pub fn text(&self) -> &str
         ensures text { result.now ≡ self.now }
         ensures path { is_path self.now ≡ true }

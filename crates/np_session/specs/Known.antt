@@ -38,7 +38,7 @@ muted known id = record known { mute = mute_with known.live known.mute id }
 abbrev pub with_spare : Known → ℕ → Known
 with_spare known n = record known { spare = n }
 
--- what always holds of sessions: a live one was begun, a mute one is live, and each number stands once
+-- what always holds of sessions: a live one was begun, a mute one is live, and each live number stands once
 pub record IsKnown (known : Known) : Type 0 where
   pub begun : (id : ℕ) → is_in known.live id ≡ true → (0 < id) × (id ≤ known.begun)
   pub live : (id : ℕ) → is_in known.mute id ≡ true → is_in known.live id ≡ true

@@ -1,7 +1,9 @@
 //! The small values that every layer shares, and their one spelling each.
 //!
 //! Ids are numbers in types of their own; `word` has the enums that records, events and replies
-//! share, `limit` the limits that several crates state. No value here holds memory.
+//! share, `limit` the limits that several crates state. No value here holds memory. `number`,
+//! `name`, `request` and `lines` read and write; each answers by a definition of `specs/`, and `law`
+//! states what these definitions say together: a value has one spelling, and a spelling one value.
 #![tactic(auto)]
 
 mod id;

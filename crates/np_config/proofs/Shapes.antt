@@ -1,0 +1,120 @@
+-- the value of a configuration has no float, and nests a few levels deep
+use Rattle.std.proofs.Common.{◌≡◌, ℕ, ◌+◌, ◌≤◌, List, [], ◌∷◌, ◌++◌, codes, map, Bool, true, false, ◌||◌, Option, Some, None, refl, sym, ap, ◌∙◌, arith}
+use Rattle.serde_json.specs.Data.{Data, string, array, object, Members, member, no_members, depth, items_depth, members_depth}
+use Rattle.serde_json.specs.View.{items_of}
+use Rattle.serde_json.specs.Written.{has_float, items_have_float, members_have_float}
+use Rattle.np_text.specs.declared.id.LabelId.{LabelId}
+use Rattle.np_text.specs.declared.id.SemId.{SemId}
+use Rattle.np_config.specs.declared.row.Label.{Label}
+use Rattle.np_config.specs.declared.row.Provider.{Provider}
+use Rattle.np_config.specs.declared.row.Pool.{Pool}
+use Rattle.np_config.specs.declared.row.Offer.{Offer}
+use Rattle.np_config.specs.declared.row.Sem.{Sem}
+use Rattle.np_config.specs.declared.row.Requester.{Requester}
+use Rattle.np_config.specs.declared.row.Job.{Job}
+use Rattle.np_config.specs.declared.row.Fault.{Fault}
+use Rattle.np_config.specs.Configuration.{Configuration}
+use Rattle.np_config.specs.Canonical.{count, given, list_data, label_data, label_name, semaphore_name, offer_data, pool_data, pools_of, provider_data, placed, semaphore_data, job_data, jobs_of, requester_data, fault_data, configuration_data}
+
+abbrev Plain : Data → Type 0
+Plain d = has_float d ≡ false
+
+list_plain : {T : Type 0} (shown : T → Data) → ((x : T) → Plain (shown x)) → (xs : List T) → items_have_float (items_of (map shown xs)) ≡ false
+list_plain shown each [] = refl
+list_plain shown each (x ∷ xs) = rw (each x) (list_plain shown each xs)
+
+placed_plain : {T : Type 0} (shown : ℕ → T → Data) → ((k : ℕ) (x : T) → Plain (shown k x)) → (k : ℕ) (xs : List T) → items_have_float (items_of (placed shown k xs)) ≡ false
+placed_plain shown each k [] = refl
+placed_plain shown each k (x ∷ xs) = rw (each k x) (placed_plain shown each (k + 1) xs)
+
+given_plain : (key : List ℕ) (o : Option ℕ) (ms : Members) → members_have_float (given key o ms) ≡ members_have_float ms
+given_plain key None ms = refl
+given_plain key (Some n) ms = refl
+
+module _ (c : Configuration) where
+  pool_plain : (p : Pool) → Plain (pool_data c p)
+  pool_plain p =
+      let cores = p.limit.cores in
+      let ram = p.limit.ram in
+      let servers = p.limit.instances in
+      let last = member (codes "name") (string p.name) no_members in
+      let third = given_plain (codes "max-servers") servers last in
+      let second = given_plain (codes "max-ram") ram (given (codes "max-servers") servers last) in
+      let first = given_plain (codes "max-cores") cores (given (codes "max-ram") ram (given (codes "max-servers") servers last)) in
+      rw (list_plain count (λ n. refl) p.fail_starts, list_plain (offer_data c) (λ o. refl) p.offers, first, second, third) refl
+
+  provider_plain : (k : ℕ) (p : Provider) → Plain (provider_data c k p)
+  provider_plain k p =
+      let pools = list_plain (pool_data c) pool_plain (pools_of c k) in
+      rw (given_plain (codes "max-concurrency") p.concurrency (member (codes "name") (string p.name) (member (codes "pools") (list_data (pool_data c) (pools_of c k)) no_members)), pools) refl
+
+  job_plain : (j : Job) → Plain (job_data c j)
+  job_plain j = rw (list_plain (λ (l : LabelId). string (label_name c l)) (λ l. refl) j.labels, list_plain (λ (s : SemId). string (semaphore_name c s)) (λ s. refl) j.semaphores) refl
+
+  requester_plain : (k : ℕ) (q : Requester) → Plain (requester_data c k q)
+  requester_plain k q = rw (list_plain (job_data c) job_plain (jobs_of c k)) refl
+
+  pub configuration-plain : has_float (configuration_data c) ≡ false
+  configuration-plain =
+      rw (
+        list_plain (fault_data c) (λ f. refl) c.faults,
+        list_plain label_data (λ l. refl) c.labels,
+        placed_plain (provider_data c) provider_plain 0 c.providers,
+        placed_plain (requester_data c) requester_plain 0 c.requesters,
+        list_plain semaphore_data (λ s. refl) c.semaphores,
+      ) refl
+
+-- ## Depths
+
+list_depth : {T : Type 0} (shown : T → Data) (n : ℕ) → ((x : T) → depth (shown x) ≤ n) → (xs : List T) → items_depth (items_of (map shown xs)) ≤ n
+list_depth shown n each [] = omega arith
+list_depth shown n each (x ∷ xs) = omega (arith, each x, list_depth shown n each xs)
+
+placed_depth : {T : Type 0} (shown : ℕ → T → Data) (n : ℕ) → ((k : ℕ) (x : T) → depth (shown k x) ≤ n) → (k : ℕ) (xs : List T) → items_depth (items_of (placed shown k xs)) ≤ n
+placed_depth shown n each k [] = omega arith
+placed_depth shown n each k (x ∷ xs) = omega (arith, each k x, placed_depth shown n each (k + 1) xs)
+
+given_depth : (key : List ℕ) (o : Option ℕ) (ms : Members) → members_depth (given key o ms) ≡ members_depth ms
+given_depth key None ms = refl
+given_depth key (Some n) ms = omega arith
+
+module _ (c : Configuration) where
+  pool_depth : (p : Pool) → depth (pool_data c p) ≤ 3
+  pool_depth p =
+      let cores = p.limit.cores in
+      let ram = p.limit.ram in
+      let servers = p.limit.instances in
+      let last = member (codes "name") (string p.name) no_members in
+      omega (
+        arith,
+        list_depth count 0 (λ n. omega arith) p.fail_starts,
+        list_depth (offer_data c) 1 (λ o. omega arith) p.offers,
+        given_depth (codes "max-servers") servers last,
+        given_depth (codes "max-ram") ram (given (codes "max-servers") servers last),
+        given_depth (codes "max-cores") cores (given (codes "max-ram") ram (given (codes "max-servers") servers last)),
+      )
+
+  provider_depth : (k : ℕ) (p : Provider) → depth (provider_data c k p) ≤ 5
+  provider_depth k p =
+      omega (
+        arith,
+        list_depth (pool_data c) 3 pool_depth (pools_of c k),
+        given_depth (codes "max-concurrency") p.concurrency (member (codes "name") (string p.name) (member (codes "pools") (list_data (pool_data c) (pools_of c k)) no_members)),
+      )
+
+  job_depth : (j : Job) → depth (job_data c j) ≤ 2
+  job_depth j = omega (arith, list_depth (λ (l : LabelId). string (label_name c l)) 0 (λ l. omega arith) j.labels, list_depth (λ (s : SemId). string (semaphore_name c s)) 0 (λ s. omega arith) j.semaphores)
+
+  requester_depth : (k : ℕ) (q : Requester) → depth (requester_data c k q) ≤ 4
+  requester_depth k q = omega (arith, list_depth (job_data c) 2 job_depth (jobs_of c k))
+
+  pub configuration-depth : depth (configuration_data c) ≤ 127
+  configuration-depth =
+      omega (
+        arith,
+        list_depth (fault_data c) 1 (λ f. omega arith) c.faults,
+        list_depth label_data 1 (λ l. omega arith) c.labels,
+        placed_depth (provider_data c) 5 provider_depth 0 c.providers,
+        placed_depth (requester_data c) 4 requester_depth 0 c.requesters,
+        list_depth semaphore_data 1 (λ s. omega arith) c.semaphores,
+      )

@@ -1,0 +1,42 @@
+use Rattle.std.proofs.Common.{◌≡◌, ◌∙◌, ap}
+use Rattle.serde_json.proofs.Views.{view-Object}
+use Rattle.serde_json.specs.Data.{object}
+use Rattle.np_config.proofs.Ascii.{labels-ascii, semaphores-ascii, providers-ascii, requesters-ascii}
+use Rattle.np_config.proofs.print.config_value.Goals as goal
+
+pub list_value-requires-2 : goal.list_value-requires-2
+list_value-requires-2 c = rw c.labels.ensures.rows (labels-ascii _ c.labels.ensures.sound)
+
+pub placed_value-requires-clause-shown : goal.placed_value-requires-clause-shown
+placed_value-requires-clause-shown c = rw c.providers.ensures.rows (providers-ascii _ c.providers.ensures.sound)
+
+pub placed_value-requires-2-clause-shown : goal.placed_value-requires-2-clause-shown
+placed_value-requires-2-clause-shown c = rw c.requesters.ensures.rows (requesters-ascii _ c.requesters.ensures.sound)
+
+pub list_value-requires-3 : goal.list_value-requires-3
+list_value-requires-3 c = rw c.semaphores.ensures.rows (semaphores-ascii _ c.semaphores.ensures.sound)
+
+pub returns : goal.returns
+returns c =
+    view-Object _
+    ∙ ap object (rw (
+      c.in_ok-put-6.ensures.ok,
+      c.in_ok-put-5.ensures.ok,
+      c.in_ok-put-4.ensures.ok,
+      c.in_ok-put-3.ensures.ok,
+      c.in_ok-put-2.ensures.ok,
+      c.in_ok-put.ensures.ok,
+      c.new-members.ensures.empty,
+      c.in_ok-faults.ensures,
+      c.in_ok-labels.ensures,
+      c.in_ok-providers.ensures,
+      c.in_ok-requesters.ensures,
+      c.in_ok-semaphores.ensures,
+      c.faults.ensures,
+      c.labels.ensures.rows,
+      c.providers.ensures.rows,
+      c.requesters.ensures.rows,
+      c.semaphores.ensures.rows,
+      c.from.ensures,
+      c.max_hold_age.ensures.age,
+    ))

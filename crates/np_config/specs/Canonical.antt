@@ -1,0 +1,154 @@
+-- the one text of a configuration: compact JSON, keys in byte order, every default written, an absent limit left absent (own)
+use Rattle.std.specs.Prelude.{ℕ, ◌+◌, ◌==◌, List, [], ◌∷◌, codes, map, filter, slice_get, Bool, Option, Some, None, if◌then◌else◌}
+use Rattle.std.specs.Option.{option_map_or}
+use Rattle.serde_json.specs.Data.{Data, number, unsigned, boolean, string, array, object, Members, no_members, member, put}
+use Rattle.serde_json.specs.View.{items_of}
+use Rattle.serde_json.specs.Written.{compact_text}
+use Rattle.np_text.specs.declared.id.LabelId.{LabelId}
+use Rattle.np_text.specs.declared.id.SemId.{SemId}
+use Rattle.np_text.specs.declared.id.PoolId.{PoolId}
+use Rattle.np_text.specs.declared.id.RequesterId.{RequesterId}
+use Rattle.np_text.specs.declared.id.Role.{Role}
+use Rattle.np_text.specs.declared.id.Role.TheVariants as role
+use Rattle.np_text.specs.declared.word.EndAs.{EndAs}
+use Rattle.np_text.specs.declared.word.EndAs.TheVariants.{Used, Hold}
+use Rattle.np_config.specs.declared.row.Label.{Label}
+use Rattle.np_config.specs.declared.row.Provider.{Provider}
+use Rattle.np_config.specs.declared.row.Pool.{Pool}
+use Rattle.np_config.specs.declared.row.Offer.{Offer}
+use Rattle.np_config.specs.declared.row.Sem.{Sem}
+use Rattle.np_config.specs.declared.row.Requester.{Requester}
+use Rattle.np_config.specs.declared.row.Job.{Job}
+use Rattle.np_config.specs.declared.row.Fault.{Fault}
+use Rattle.np_config.specs.declared.row.FaultKind.{FaultKind}
+use Rattle.np_config.specs.declared.row.FaultKind.TheVariants.{Expire, Crash, Stop}
+use Rattle.np_config.specs.Configuration.{Configuration}
+use Rattle.np_config.specs.Names.{pool_name}
+
+abbrev pub count : ℕ → Data
+count n = number (unsigned n)
+
+-- a member that may be absent
+abbrev pub given : List ℕ → Option ℕ → Members → Members
+given key None ms = ms
+given key (Some n) ms = member key (count n) ms
+
+-- the members, with the number at a key where there is one
+abbrev pub put_given : List ℕ → Option ℕ → Members → Members
+put_given key None ms = ms
+put_given key (Some n) ms = put key (count n) ms
+
+-- the rows of a list, each with its own value
+abbrev pub list_data : {T : Type 0} → (T → Data) → List T → Data
+list_data shown xs = array (items_of (map shown xs))
+
+abbrev pub label_data : Label → Data
+label_data l = object (member (codes "max-ready-age") (count l.max_ready_age) (member (codes "min-ready") (count l.min_ready) (member (codes "name") (string l.name) no_members)))
+
+-- the names that ids stand for
+abbrev pub label_name : Configuration → LabelId → List ℕ
+label_name c l = option_map_or (λ r. r.name) (slice_get c.labels l.0) []
+
+abbrev pub semaphore_name : Configuration → SemId → List ℕ
+semaphore_name c s = option_map_or (λ r. r.name) (slice_get c.semaphores s.0) []
+
+abbrev pub requester_name : Configuration → RequesterId → List ℕ
+requester_name c q = option_map_or (λ r. r.name) (slice_get c.requesters q.0) []
+
+abbrev pub full_name : Configuration → PoolId → List ℕ
+full_name c p = option_map_or (pool_name c.providers) (slice_get c.pools p.0) []
+
+abbrev pub offer_data : Configuration → Offer → Data
+offer_data c o = object (member (codes "cores") (count o.amount.cores) (member (codes "name") (string (label_name c o.label)) (member (codes "ram") (count o.amount.ram) no_members)))
+
+abbrev pub pool_data : Configuration → Pool → Data
+pool_data c p = object (
+    member (codes "fail-starts") (list_data count p.fail_starts) (
+    member (codes "labels") (list_data (offer_data c) p.offers) (
+    given (codes "max-cores") p.limit.cores (
+    given (codes "max-ram") p.limit.ram (
+    given (codes "max-servers") p.limit.instances (
+    member (codes "name") (string p.name) no_members))))))
+
+-- the pools of the provider at a place
+abbrev pub pools_of : Configuration → ℕ → List Pool
+pools_of c k = filter (λ p. p.provider == k) c.pools
+
+abbrev pub provider_data : Configuration → ℕ → Provider → Data
+provider_data c k p = object (
+    member (codes "launch-retries") (count p.retries) (
+    given (codes "max-concurrency") p.concurrency (
+    member (codes "name") (string p.name) (
+    member (codes "pools") (list_data (pool_data c) (pools_of c k)) no_members))))
+
+-- the rows from the k-th on, each with its place
+abbrev pub placed : {T : Type 0} → (ℕ → T → Data) → ℕ → List T → List Data
+placed shown k [] = []
+placed shown k (x ∷ xs) = shown k x ∷ placed shown (k + 1) xs
+
+abbrev pub semaphore_data : Sem → Data
+semaphore_data s = object (member (codes "max") (count s.max) (member (codes "name") (string s.name) no_members))
+
+-- the word of a priority
+abbrev pub priority_word : ℕ → List ℕ
+priority_word n = if n == 100 then codes "high" else (if n == 200 then codes "normal" else codes "low")
+
+abbrev pub end_word : EndAs → List ℕ
+end_word Used = codes "used"
+end_word Hold = codes "hold"
+
+abbrev pub job_data : Configuration → Job → Data
+job_data c j = object (
+    member (codes "end") (string (end_word j.end)) (
+    member (codes "labels") (list_data (λ l. string (label_name c l)) j.labels) (
+    member (codes "name") (string j.name) (
+    member (codes "priority") (string (priority_word j.priority)) (
+    member (codes "relative-priority") (count j.relative_priority) (
+    member (codes "resources-first") (boolean j.resources_first) (
+    member (codes "semaphores") (list_data (λ s. string (semaphore_name c s)) j.semaphores) no_members)))))))
+
+-- the jobs of the requester at a place
+abbrev pub jobs_of : Configuration → ℕ → List Job
+jobs_of c k = filter (λ j. j.requester.0 == k) c.jobs
+
+abbrev pub requester_data : Configuration → ℕ → Requester → Data
+requester_data c k q = object (member (codes "jobs") (list_data (job_data c) (jobs_of c k)) (member (codes "name") (string q.name) (member (codes "window") (count q.window) no_members)))
+
+abbrev pub kind_word : FaultKind → List ℕ
+kind_word Expire = codes "expire"
+kind_word Crash = codes "crash"
+kind_word Stop = codes "stop"
+
+abbrev pub role_word : Role → List ℕ
+role_word (role.Launcher p) = codes "launcher"
+role_word (role.Janitor p) = codes "janitor"
+role_word (role.Requester q) = codes "requester"
+role_word role.Reaper = []
+
+-- the name that a fault's role goes by
+abbrev pub role_name : Configuration → Role → List ℕ
+role_name c (role.Launcher p) = full_name c p
+role_name c (role.Janitor p) = full_name c p
+role_name c (role.Requester q) = requester_name c q
+role_name c role.Reaper = []
+
+abbrev pub fault_data : Configuration → Fault → Data
+fault_data c f = object (
+    member (codes "after") (count f.after) (
+    member (codes "kind") (string (kind_word f.kind)) (
+    member (codes "name") (string (role_name c f.role)) (
+    member (codes "role") (string (role_word f.role)) no_members))))
+
+-- the JSON value of a configuration
+abbrev pub configuration_data : Configuration → Data
+configuration_data c = object (
+    member (codes "faults") (list_data (fault_data c) c.faults) (
+    member (codes "labels") (list_data label_data c.labels) (
+    member (codes "max-hold-age") (count c.max_hold_age) (
+    member (codes "providers") (array (items_of (placed (provider_data c) 0 c.providers))) (
+    member (codes "requesters") (array (items_of (placed (requester_data c) 0 c.requesters))) (
+    member (codes "semaphores") (list_data semaphore_data c.semaphores) no_members))))))
+
+-- the text
+unfoldable pub canonical : Configuration → List ℕ
+canonical c = compact_text (configuration_data c)

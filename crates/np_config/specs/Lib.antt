@@ -1,0 +1,9 @@
+pub mod Configuration
+pub mod Names
+pub mod Labels
+pub mod Providers
+pub mod Requesters
+pub mod Faults
+pub mod Sound
+pub mod Walk
+pub mod Canonical

@@ -1,0 +1,283 @@
+//! The configuration as a whole.
+
+ghost use Rattle.std.specs.Prelude.{◌≡◌, Ok, slice_get};
+ghost use Rattle.std.specs.Option.{option_copied};
+
+use crate::print::config_value;
+use crate::row::{Fault, Job, Label, Pool, Provider, Requester, Sem};
+use crate::walk::config_of;
+use np_json::ConfigRead;
+use np_text::{JobId, LabelId, NoMemory, PoolId, RequesterId, SemId};
+use std::alloc::Global;
+use std::marker::Model;
+
+/// A configuration that a text can have. Ids are places in its tables.
+#[derive(Drop)]
+pub struct Config {
+    labels: Vec<Label>,
+    providers: Vec<Provider>,
+    pools: Vec<Pool>,
+    semaphores: Vec<Sem>,
+    requesters: Vec<Requester>,
+    jobs: Vec<Job>,
+    faults: Vec<Fault>,
+    max_hold_age: u32,
+}
+
+impl Model for Config {
+    ghost use Rattle.np_config.specs.Configuration.{Configuration};
+
+    ghost Value = { Configuration };
+
+    ghost use Rattle.np_config.specs.Sound.{IsSound};
+
+    ghost view = { λ c. record {
+      labels = c.labels.items;
+      providers = c.providers.items;
+      pools = c.pools.items;
+      semaphores = c.semaphores.items;
+      requesters = c.requesters.items;
+      jobs = c.jobs.items;
+      faults = c.faults.items;
+      max_hold_age = c.max_hold_age;
+    } };
+
+    ghost invariant = { λ c. IsSound (record {
+      labels = c.labels.items;
+      providers = c.providers.items;
+      pools = c.pools.items;
+      semaphores = c.semaphores.items;
+      requesters = c.requesters.items;
+      jobs = c.jobs.items;
+      faults = c.faults.items;
+      max_hold_age = c.max_hold_age;
+    }) };
+}
+
+ghost use Rattle.np_config.specs.Sound.{IsSound};
+ghost use Rattle.std.specs.Prelude.{IfOk};
+ghost use Rattle.np_json.specs.Reading.{Gives};
+ghost use Rattle.np_config.specs.Walk.{reads};
+ghost use Rattle.np_config.specs.Canonical.{canonical};
+
+impl Config {
+    /// The configuration that the bytes of a JSON text are, or the first fault of a walk through it:
+    /// depth first, the keys of an object in the order of the documentation, lists from the front.
+    /// The cost grows with the length of the text; a reference is looked up without a scan.
+    #[tactic(auto, using(crate::proofs::WalkTakes::read_soundly))]
+    pub fn from_json(alloc: Global, bytes: &[u8]) -> Result<Config, ConfigRead>
+        ensures exact { Gives (λ c. c) result (reads bytes.now) }
+        ensures sound { IfOk result IsSound }
+    {
+        config_of(alloc, bytes)
+    }
+
+    /// The configuration with these tables, of which each id is a place. It takes no memory.
+    pub fn of_parts(
+        labels: Vec<Label>,
+        providers: Vec<Provider>,
+        pools: Vec<Pool>,
+        semaphores: Vec<Sem>,
+        requesters: Vec<Requester>,
+        jobs: Vec<Job>,
+        faults: Vec<Fault>,
+        max_hold_age: u32,
+    ) -> Result<Config, NoMemory>
+        requires { IsSound (record {
+          labels = labels.items;
+          providers = providers.items;
+          pools = pools.items;
+          semaphores = semaphores.items;
+          requesters = requesters.items;
+          jobs = jobs.items;
+          faults = faults.items;
+          max_hold_age = max_hold_age;
+        }) }
+        ensures { result ≡ Ok (record {
+          labels = labels.items;
+          providers = providers.items;
+          pools = pools.items;
+          semaphores = semaphores.items;
+          requesters = requesters.items;
+          jobs = jobs.items;
+          faults = faults.items;
+          max_hold_age = max_hold_age;
+        }) }
+    {
+        Ok(Config::of_tables(
+            labels,
+            providers,
+            pools,
+            semaphores,
+            requesters,
+            jobs,
+            faults,
+            max_hold_age,
+        ))
+    }
+
+    pub(crate) fn of_tables(
+        labels: Vec<Label>,
+        providers: Vec<Provider>,
+        pools: Vec<Pool>,
+        semaphores: Vec<Sem>,
+        requesters: Vec<Requester>,
+        jobs: Vec<Job>,
+        faults: Vec<Fault>,
+        max_hold_age: u32,
+    ) -> Config
+        requires { IsSound (record {
+          labels = labels.items;
+          providers = providers.items;
+          pools = pools.items;
+          semaphores = semaphores.items;
+          requesters = requesters.items;
+          jobs = jobs.items;
+          faults = faults.items;
+          max_hold_age = max_hold_age;
+        }) }
+        ensures { result ≡ record {
+          labels = labels.items;
+          providers = providers.items;
+          pools = pools.items;
+          semaphores = semaphores.items;
+          requesters = requesters.items;
+          jobs = jobs.items;
+          faults = faults.items;
+          max_hold_age = max_hold_age;
+        } }
+    {
+        Config {
+            labels,
+            providers,
+            pools,
+            semaphores,
+            requesters,
+            jobs,
+            faults,
+            max_hold_age,
+        }
+    }
+
+    /// The one text of the configuration: compact JSON, keys in byte order, every default written.
+    /// Reading it gives the same configuration. The cost grows with the length of the text, and with
+    /// the number of jobs times that of requesters.
+    pub fn to_json(&self, alloc: Global) -> Result<Vec<u8>, NoMemory>
+        ensures text { IfOk result (λ b. b.items ≡ canonical self.now) }
+        ensures again { IfOk result (λ b. reads b.items ≡ Ok self.now) }
+    {
+        let _age = self.max_hold_age();
+        Ok(config_value(alloc, self)?.to_vec(alloc)?)
+    }
+
+    /// The label, or `None` exactly past the end of the table.
+    pub fn label(&self, id: LabelId) -> Option<&Label>
+        ensures answer { option_copied result ≡ slice_get self.now.labels id.0 }
+        ensures sound { IsSound self.now }
+    {
+        self.labels.get(id.0 as usize)
+    }
+
+    /// The provider at this place, or `None` exactly past the end of the table.
+    pub fn provider(&self, at: u16) -> Option<&Provider>
+        ensures answer { option_copied result ≡ slice_get self.now.providers at }
+        ensures sound { IsSound self.now }
+    {
+        self.providers.get(at as usize)
+    }
+
+    /// The pool, or `None` exactly past the end of the table.
+    pub fn pool(&self, id: PoolId) -> Option<&Pool>
+        ensures answer { option_copied result ≡ slice_get self.now.pools id.0 }
+        ensures sound { IsSound self.now }
+    {
+        self.pools.get(id.0 as usize)
+    }
+
+    /// The semaphore, or `None` exactly past the end of the table.
+    pub fn semaphore(&self, id: SemId) -> Option<&Sem>
+        ensures answer { option_copied result ≡ slice_get self.now.semaphores id.0 }
+        ensures sound { IsSound self.now }
+    {
+        self.semaphores.get(id.0 as usize)
+    }
+
+    /// The requester, or `None` exactly past the end of the table.
+    pub fn requester(&self, id: RequesterId) -> Option<&Requester>
+        ensures answer { option_copied result ≡ slice_get self.now.requesters id.0 }
+        ensures sound { IsSound self.now }
+    {
+        self.requesters.get(id.0 as usize)
+    }
+
+    /// The job, or `None` exactly past the end of the table.
+    pub fn job(&self, id: JobId) -> Option<&Job>
+        ensures { option_copied result ≡ slice_get self.now.jobs id.0 }
+    {
+        self.jobs.get(id.0 as usize)
+    }
+
+    /// The planned fault at this place, or `None` exactly past the end of the table.
+    pub fn fault(&self, at: u32) -> Option<&Fault>
+        ensures { option_copied result ≡ slice_get self.now.faults at }
+    {
+        self.faults.get(at as usize)
+    }
+
+    /// After how many ticks a node that is held for its user is removed; 0 is never.
+    pub fn max_hold_age(&self) -> u32
+        ensures age { result ≡ self.now.max_hold_age }
+        // Every configuration is sound.
+        ensures sound { IsSound self.now }
+    {
+        self.max_hold_age
+    }
+
+    pub(crate) fn labels(&self) -> &[Label]
+        ensures rows { result.now ≡ self.now.labels }
+        ensures sound { IsSound self.now }
+    {
+        &self.labels
+    }
+
+    pub(crate) fn providers(&self) -> &[Provider]
+        ensures rows { result.now ≡ self.now.providers }
+        ensures sound { IsSound self.now }
+    {
+        &self.providers
+    }
+
+    pub(crate) fn pools(&self) -> &[Pool]
+        ensures rows { result.now ≡ self.now.pools }
+        ensures sound { IsSound self.now }
+    {
+        &self.pools
+    }
+
+    pub(crate) fn semaphores(&self) -> &[Sem]
+        ensures rows { result.now ≡ self.now.semaphores }
+        ensures sound { IsSound self.now }
+    {
+        &self.semaphores
+    }
+
+    pub(crate) fn requesters(&self) -> &[Requester]
+        ensures rows { result.now ≡ self.now.requesters }
+        ensures sound { IsSound self.now }
+    {
+        &self.requesters
+    }
+
+    pub(crate) fn jobs(&self) -> &[Job]
+        ensures rows { result.now ≡ self.now.jobs }
+        ensures sound { IsSound self.now }
+    {
+        &self.jobs
+    }
+
+    pub(crate) fn faults(&self) -> &[Fault]
+        ensures { result.now ≡ self.now.faults }
+    {
+        &self.faults
+    }
+}

@@ -1,0 +1,107 @@
+//! Reading labels and semaphores.
+
+ghost use Rattle.std.specs.Prelude.{◌≡◌, ◌+◌, ◌<◌, IfOk, length};
+ghost use Rattle.np_config.specs.Labels.{label_at, semaphore_at};
+
+use crate::items::Name;
+use crate::row::{Label, Sem};
+use np_json::{ConfigRead, Named, Place, Rows, Table, name, object, whole};
+use serde_json::Value;
+use std::alloc::Global;
+
+/// What rows are read with that refer to nothing.
+pub(crate) struct Alone;
+
+impl Named for Label {
+    ghost name = { λ l. l.name };
+
+    fn name(&self) -> &[u8] {
+        self.name.items()
+    }
+}
+
+ghost use Rattle.serde_json.specs.View.{view};
+ghost use Rattle.np_json.specs.Reading.{Gives};
+ghost use Rattle.np_config.specs.Labels.{label_row};
+
+#[tactic(auto, using(np_json::proofs::Binds::exits), unfolding(crate::specs::Labels::label_row))]
+fn label_row(alloc: Global, at: &[u8], name: Name, value: &Value) -> Result<Label, ConfigRead>
+    ensures gives { Gives (λ l. l) result (label_row at.now name (view value.now)) }
+    ensures name { IfOk result (λ l. l.name ≡ name) }
+{
+    let min_ready = whole(alloc, at, "min-ready", 0, 1000, 0, value)?;
+    let max_ready_age = whole(alloc, at, "max-ready-age", 0, 1_000_000, 0, value)?;
+    Ok(Label {
+        name,
+        min_ready,
+        max_ready_age,
+    })
+}
+
+impl Rows<Alone> for Table<Label> {
+    ghost reads = { λ _ at earlier d. label_at at earlier d };
+
+    ghost count = { length };
+
+    #[tactic(auto, using(np_json::proofs::Binds::exits), unfolding(crate::specs::Labels::label_at))]
+    fn read(
+        &mut self,
+        alloc: Global,
+        _alone: &Alone,
+        place: Place<'_>,
+        value: &Value,
+    ) -> Result<(), ConfigRead> {
+        let at = place.pointer(alloc)?;
+        let at = at.as_slice();
+        object(alloc, at, &["name", "min-ready", "max-ready-age"], value)?;
+        let name = name(alloc, at, self, value)?;
+        let label = label_row(alloc, at, Name::new(name), value)?;
+        self.push(alloc, label)?;
+        Ok(())
+    }
+}
+
+/// The labels that rows may refer to.
+#[derive(Drop)]
+pub(crate) struct Labels {
+    pub table: Table<Label>,
+}
+
+/// The labels and semaphores that jobs may refer to.
+#[derive(Drop)]
+pub(crate) struct Known {
+    pub labels: Labels,
+    pub semaphores: Table<Sem>,
+}
+
+impl Named for Sem {
+    ghost name = { λ s. s.name };
+
+    fn name(&self) -> &[u8] {
+        self.name.items()
+    }
+}
+
+impl Rows<Alone> for Table<Sem> {
+    ghost reads = { λ _ at earlier d. semaphore_at at earlier d };
+
+    ghost count = { length };
+
+    #[tactic(auto, using(np_json::proofs::Binds::exits), unfolding(crate::specs::Labels::semaphore_at))]
+    fn read(
+        &mut self,
+        alloc: Global,
+        _alone: &Alone,
+        place: Place<'_>,
+        value: &Value,
+    ) -> Result<(), ConfigRead> {
+        let at = place.pointer(alloc)?;
+        let at = at.as_slice();
+        object(alloc, at, &["name", "max"], value)?;
+        let name = name(alloc, at, self, value)?;
+        let max = whole(alloc, at, "max", 1, 4096, 1, value)?;
+        let name = Name::new(name);
+        self.push(alloc, Sem { name, max })?;
+        Ok(())
+    }
+}

@@ -1,0 +1,9 @@
+use Rattle.np_event.proofs.EventLemmas.{unheaded-unknown, unknown-unheaded}
+use Rattle.np_event.proofs.KindLemmas.{with_field-said, with_field-unsaid}
+use Rattle.np_event.proofs.law.faults_are_told_by_the_lines.Goals as goal
+
+pub returns : goal.returns
+returns c = record {
+  unknown = λ first rest. (unknown-unheaded first rest, unheaded-unknown first rest);
+  unfit = λ kind text f. (with_field-unsaid kind text f, with_field-said kind text f);
+}

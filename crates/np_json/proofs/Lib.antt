@@ -1,0 +1,4 @@
+pub mod Lists
+pub mod Binds
+pub mod ItemLemmas
+pub mod Takes

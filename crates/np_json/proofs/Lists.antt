@@ -1,0 +1,28 @@
+-- lists that were mapped
+use Rattle.std.proofs.Common.{◌≡◌, ℕ, ◌+◌, ◌∙◌, List, [], ◌∷◌, ◌++◌, map, Bool, true, false, cond, not, ◌||◌, length, ltb, Some, None, ap, refl}
+use Rattle.std.specs.Prelude.{position}
+use Rattle.std.specs.List.{list_any, prefix_len, position_or_len}
+use Rattle.std.proofs.lemmas.List.{length-map}
+use Rattle.serde_json.proofs.Views.{items_len-items_view}
+
+pub list_any-map : {A B : Type 0} (p : B → Bool) (f : A → B) (xs : List A) → list_any p (map f xs) ≡ list_any (λ x. p (f x)) xs
+list_any-map p f [] = refl
+list_any-map p f (x ∷ xs) = ap (λ b. p (f x) || b) (list_any-map p f xs)
+
+pub ruleset list_any_mapped = (list_any-map)
+
+-- how many items a list of values has
+pub ruleset counts = (items_len-items_view)
+
+prefix_len-map : {A B : Type 0} (p : B → Bool) (f : A → B) (xs : List A) → prefix_len p (map f xs) ≡ prefix_len (λ x. p (f x)) xs
+prefix_len-map p f [] = refl
+prefix_len-map p f (x ∷ xs) = ap (λ n. cond (p (f x)) (1 + n) 0) (prefix_len-map p f xs)
+
+pub position-map : {A B : Type 0} (p : B → Bool) (f : A → B) (xs : List A) → position p (map f xs) ≡ position (λ x. p (f x)) xs
+position-map p f xs =
+    ap (λ n. cond (ltb n (length (map f xs))) (Some n) None) (prefix_len-map (λ y. not (p y)) f xs)
+    ∙ ap (λ n. cond (ltb (position_or_len (λ x. p (f x)) xs) n) (Some (position_or_len (λ x. p (f x)) xs)) None) (length-map xs f)
+
+-- a new key goes last
+pub insert_last : {K : Type 0} (eq : K → K → Bool) (ks : List K) (k : K) → list_any (eq k) ks ≡ false → cond (list_any (eq k) ks) ks (ks ++ k ∷ []) ≡ ks ++ k ∷ []
+insert_last eq ks k new = rw new refl

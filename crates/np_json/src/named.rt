@@ -1,0 +1,157 @@
+//! Rows with names of their own.
+
+ghost use Rattle.std.specs.Prelude.{◌≡◌, ◌<◌, ◌+◌, ◌^◌, List, ℕ, ◌++◌, ◌∷◌, [], false, length, position, OnOk, OnErr, IfOk, IfSome};
+ghost use Rattle.std.specs.List.{list_any};
+ghost use Rattle.std.specs.Str.{bytes_eq};
+
+use indexmap::IndexSet;
+use std::alloc::{AllocError, Global};
+use std::marker::Model;
+
+/// Something with a name.
+pub trait Named: Drop {
+    ghost name: { Self → List ℕ };
+
+    fn name(&self) -> &[u8]
+        ensures { result.now ≡ name self.now };
+}
+
+/// Rows in order, at most 65,535, found by their names, of which each stands once.
+#[derive(Drop)]
+pub struct Table<T: Named> {
+    rows: Vec<T>,
+    names: IndexSet<Vec<u8>>,
+}
+
+impl<T: Named> Model for Table<T> {
+    ghost use Rattle.std.specs.Prelude.{List, length, map, ◌≡◌, ◌<◌, ◌^◌};
+
+    ghost Value = { List T };
+
+    ghost view = { λ t. t.rows.items };
+
+    ghost invariant = { λ t. (map (λ k. k.items) t.names.keys ≡ map T.name t.rows.items)
+        × (length t.rows.items < 2 ^ 16) };
+}
+
+impl<T: Named> Table<T> {
+    /// A table of no rows.
+    pub fn new(alloc: Global) -> Table<T>
+        ensures { result ≡ [] }
+    {
+        Table {
+            rows: Vec::new(alloc),
+            names: IndexSet::new(alloc),
+        }
+    }
+
+    /// How many rows there are.
+    pub fn len(&self) -> usize
+        ensures len { result ≡ length self.now }
+        ensures small { result < 2 ^ 16 }
+    {
+        self.rows.len()
+    }
+
+    /// Whether there is no row.
+    pub fn is_empty(&self) -> bool
+        ensures { result ≡ (length self.now == 0) }
+    {
+        self.rows.is_empty()
+    }
+
+    /// The rows, in order.
+    pub fn rows(&self) -> &[T]
+        ensures { result.now ≡ self.now }
+    {
+        self.rows.as_slice()
+    }
+
+    /// The rows alone. It takes no memory.
+    pub fn into_rows(self) -> Vec<T>
+        ensures { result.items ≡ self }
+    {
+        let Table { rows, names: _ } = self;
+        rows
+    }
+
+    /// Whether a row has this name. The cost does not grow with the rows.
+    pub fn has(&self, name: &[u8]) -> bool
+        ensures { result ≡ list_any (λ row. bytes_eq name.now (T.name row)) self.now }
+    {
+        self.names.contains(name)
+    }
+
+    /// The place of the row with this name. The cost does not grow with the rows.
+    pub fn place(&self, name: &[u8]) -> Option<u16>
+        ensures place { result ≡ position (λ row. bytes_eq name.now (T.name row)) self.now }
+        ensures within { IfSome result (λ place. place < length self.now) }
+    {
+        let place = self.names.get_index_of(name)?;
+        Some(place as u16)
+    }
+
+    /// Adds a row at the end.
+    pub fn push(&mut self, alloc: Global, row: T) -> Result<(), AllocError>
+        requires new { list_any (λ other. bytes_eq (T.name row) (T.name other)) self.old ≡ false }
+        requires room { length self.old + 1 < 2 ^ 16 }
+        ensures ok { OnOk result (self.new ≡ self.old ++ row ∷ []) }
+        ensures err { OnErr result (self.new ≡ self.old) }
+    {
+        self.rows.reserve(1)?;
+        let name = Vec::from_slice(alloc, row.name())?;
+        self.names.insert(name)?;
+        self.rows.push(row)?;
+        Ok(())
+    }
+}
+
+ghost use Rattle.std.specs.Prelude.{◌==◌, codes};
+ghost use Rattle.serde_json.specs.View.{view};
+ghost use Rattle.np_json.specs.Reading.{Gives, pointer_to};
+ghost use Rattle.np_json.specs.Leaf.{new_name, name_at};
+
+use crate::fault::{ConfigKind, ConfigRead, Place, fault_in};
+use crate::leaf::{required, text_of};
+use np_text::is_name;
+use serde_json::Value;
+
+#[tactic(auto, unfolding(crate::specs::Leaf::new_name))]
+fn new_name<T: Named>(
+    alloc: Global,
+    place: Place<'_>,
+    earlier: &Table<T>,
+    text: &[u8],
+) -> Result<Vec<u8>, ConfigRead>
+    ensures gives { Gives (λ n. n.items) result
+        (new_name T.name (pointer_to place.entry) earlier.now text.now) }
+    ensures fresh { IfOk result
+        (λ n. list_any (λ row. bytes_eq n.items (T.name row)) earlier.now ≡ false) }
+{
+    if !is_name(text) {
+        return Err(fault_in(alloc, ConfigKind::BadName, place));
+    }
+    if earlier.has(text) {
+        return Err(fault_in(alloc, ConfigKind::Repeated, place));
+    }
+    Ok(Vec::from_slice(alloc, text)?)
+}
+
+/// The name of a row, which none of the earlier ones has.
+#[tactic(auto, using(crate::proofs::Binds::exits), unfolding(crate::specs::Leaf::name_at))]
+pub fn name<T: Named>(
+    alloc: Global,
+    at: &[u8],
+    earlier: &Table<T>,
+    value: &Value,
+) -> Result<Vec<u8>, ConfigRead>
+    ensures gives { Gives (λ n. n.items) result
+        (name_at T.name at.now earlier.now (view value.now)) }
+    ensures fresh { IfOk result
+        (λ n. list_any (λ row. bytes_eq n.items (T.name row)) earlier.now ≡ false) }
+{
+    let member = required(alloc, at, "name", value)?;
+    let place = Place::Member(at, "name");
+    let text = text_of(alloc, place, member)?;
+    new_name(alloc, place, earlier, text.as_bytes())
+}

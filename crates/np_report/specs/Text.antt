@@ -1,0 +1,69 @@
+-- the whole printed text of a run
+use Rattle.std.specs.Prelude.{ℕ, ◌+◌, List, [], ◌∷◌, ◌++◌, codes, decimal, Option, Some, None, slice_get}
+use Rattle.std.specs.List.{flat_map}
+use Rattle.std.specs.Option.{option_map_or}
+use Rattle.np_text.specs.declared.id.PoolId.{PoolId}
+use Rattle.np_text.specs.declared.id.NodeId.{NodeId}
+use Rattle.np_text.specs.declared.word.Phase.{Phase}
+use Rattle.np_text.specs.declared.word.Phase.TheVariants as phase
+use Rattle.np_text.specs.declared.word.Reason.{Reason}
+use Rattle.np_text.specs.declared.word.Reason.TheVariants as reason
+use Rattle.np_text.specs.Lines.{line}
+use Rattle.np_text.specs.Sections.{bar}
+use Rattle.np_config.specs.Configuration.{Configuration}
+use Rattle.np_config.specs.Canonical.{canonical}
+use Rattle.np_config.specs.declared.row.Job.{Job}
+use Rattle.np_config.specs.declared.row.Requester.{Requester}
+use Rattle.np_record.specs.declared.record.Declined.{Declined}
+use Rattle.np_rules.specs.State.{State}
+use Rattle.np_rules.specs.Fates.{Fate, fates}
+use Rattle.np_rules.specs.Fates as fate
+
+abbrev pub phase_text : Phase → List ℕ
+phase_text phase.New = codes "new"
+phase_text phase.Asked = codes "asked"
+phase_text phase.Using = codes "using"
+phase_text phase.Over = codes "over"
+
+abbrev pub reason_text : Reason → List ℕ
+reason_text (reason.NoLabel l) = codes "no-label-l" ++ decimal l.0
+reason_text reason.NeverFits = codes "never-fits"
+reason_text (reason.Spent n) = codes "spent-n" ++ decimal n.0
+
+-- a pool's decline, after a space
+abbrev pub decline_text : Declined → List ℕ
+decline_text d = codes " p" ++ decimal d.pool.0 ++ codes ":" ++ reason_text d.reason
+
+-- a node, after a space
+abbrev pub node_text : NodeId → List ℕ
+node_text n = codes " n" ++ decimal n.0
+
+-- a pool, after a space
+abbrev pub pool_text : Option PoolId → List ℕ
+pool_text None = []
+pool_text (Some p) = codes " p" ++ decimal p.0
+
+abbrev pub fate_text : Fate → List ℕ
+fate_text (fate.served p nodes) = codes "served" ++ pool_text p ++ flat_map node_text nodes
+fate_text (fate.failed declined) = codes "failed" ++ flat_map decline_text declined
+fate_text fate.lost = codes "lost"
+fate_text fate.withdrawn = codes "withdrawn"
+fate_text (fate.waiting p) = codes "waiting " ++ phase_text p
+
+-- the name of the job's requester
+abbrev pub requester_name : Configuration → Job → List ℕ
+requester_name c job = option_map_or (λ q. q.name) (slice_get c.requesters job.requester.0) []
+
+-- who the job is: its number, requester and name
+unfoldable pub job_text : Configuration → ℕ → Job → List ℕ
+job_text c n job = codes "j" ++ decimal n ++ codes " " ++ requester_name c job ++ codes "/" ++ job.name ++ codes " "
+
+-- one line for each job, in job order, from this number on
+abbrev pub fate_lines : Configuration → ℕ → List Job → List Fate → List ℕ
+fate_lines c n [] ends = []
+fate_lines c n (job ∷ jobs) [] = []
+fate_lines c n (job ∷ jobs) (end ∷ ends) = line (job_text c n job ++ fate_text end) ++ fate_lines c (n + 1) jobs ends
+
+-- the canonical configuration, a bar, the entries' lines, a bar, and the fates of all jobs
+unfoldable pub text_with : Configuration → List (List ℕ) → State → List ℕ
+text_with c entries s = line (canonical c) ++ line bar ++ flat_map line entries ++ line bar ++ fate_lines c 0 c.jobs (fates s)

@@ -1,0 +1,17 @@
+use Rattle.std.proofs.Common.{◌≡◌, ◌<◌, sym, ◌∙◌, ap, length, get_or, Some, None, Option}
+use Rattle.std.specs.Prelude.{slice_get, find}
+use Rattle.std.proofs.lemmas.Option.{slice_get-get_or}
+use Rattle.np_rules.specs.declared.locks.Locked.{Locked}
+use Rattle.np_rules.proofs.Halves.{find-first, find-none, first-within}
+use Rattle.np_rules.proofs.locks.LockTable.get.Goals as goal
+
+pub returns-in-Some : goal.returns-in-Some
+returns-in-Some g c =
+    let first = rw (← c.self.view_is) at c.in-Some.ensures.place in
+    ap Some c.index.ensures
+    ∙ sym (slice_get-get_or c.self.inside.rows.items c.in-Some.at c.index.result.now (first-within _ _ _ first))
+    ∙ sym (find-first _ _ _ first)
+    ∙ ap (find (λ row. g.I.Key.same row.id c.args.id)) c.self.view_is
+
+pub returns-in-None : goal.returns-in-None
+returns-in-None g c = sym (find-none _ _ c.in-None.ensures.place)

@@ -1,0 +1,46 @@
+-- another launcher of the other pool comes, and takes the request up
+use Rattle.std.specs.Prelude.{ℕ, List, [], ◌∷◌, codes}
+use Rattle.np_text.specs.declared.word.Reason.TheVariants as reason
+use Rattle.np_text.specs.declared.word.Phase.TheVariants as phase
+use Rattle.np_config.specs.Configuration.{Configuration}
+use Rattle.np_event.specs.declared.event.Event.TheVariants as ev
+use Rattle.np_event.specs.declared.entry.Entry.{Entry}
+use Rattle.np_event.specs.declared.reply.Done.TheVariants as done
+use Rattle.np_event.specs.declared.reply.Refusal.TheVariants as no
+use Rattle.np_rules.specs.Fates.{Fate}
+use Rattle.np_rules.specs.Fates as fate
+use Rattle.np_worked.specs.Site.{session, job, label, request, launcher, janitor, requester, offer, a_label, a_provider, a_pool, plain_site, line, refused}
+
+-- the configuration
+abbrev pub site : Configuration
+site = record plain_site {
+  labels = a_label (codes "a") ∷ a_label (codes "b") ∷ [];
+  providers = a_provider (codes "c") ∷ a_provider (codes "d") ∷ [];
+  pools = a_pool 0 (codes "m") (offer 1 ∷ []) ∷ a_pool 1 (codes "m") (offer 0 ∷ []) ∷ [];
+}
+
+-- the events with their replies
+abbrev pub journal : List Entry
+journal =
+    line (ev.OpenSession (launcher 0)) (done.Session (session 1))
+    ∷ line (ev.OpenSession (launcher 1)) (done.Session (session 2))
+    ∷ line (ev.Register (session 1)) done.Plain
+    ∷ line (ev.Register (session 2)) done.Plain
+    ∷ line (ev.OpenSession (janitor 0)) (done.Session (session 3))
+    ∷ line (ev.OpenSession (requester 0)) (done.Session (session 4))
+    ∷ line (ev.Submit (session 4) (job 0)) (done.Request (request 200 0))
+    ∷ line (ev.LockRequest (session 1) (request 200 0)) done.Held
+    ∷ refused (ev.Accept (session 1) (request 200 0)) (no.NoLabel (label 0))
+    ∷ line (ev.Decline (session 1) (request 200 0) (reason.NoLabel (label 0))) done.Plain
+    ∷ line (ev.UnlockRequest (session 1) (request 200 0)) done.Plain
+    ∷ refused (ev.FailDeclined (session 3) (request 200 0)) (no.NotAll 1)
+    ∷ line (ev.Expire (session 2)) done.Plain
+    ∷ line (ev.OpenSession (launcher 1)) (done.Session (session 5))
+    ∷ line (ev.Register (session 5)) done.Plain
+    ∷ refused (ev.FailDeclined (session 3) (request 200 0)) (no.NotAll 1)
+    ∷ line (ev.LockRequest (session 5) (request 200 0)) done.Held
+    ∷ []
+
+-- what becomes of each job
+abbrev pub ends : List Fate
+ends = fate.waiting phase.Asked ∷ []

@@ -1,0 +1,128 @@
+-- what worked journals are written in: ids, sites and lines
+use Rattle.std.specs.Prelude.{◌≡◌, ℕ, List, [], ◌∷◌, Option, Some, None, false, codes}
+use Rattle.np_amount.specs.declared.amount.Limit.{Limit}
+use Rattle.np_text.specs.declared.id.SessionId.{SessionId}
+use Rattle.np_text.specs.declared.id.PoolId.{PoolId}
+use Rattle.np_text.specs.declared.id.LabelId.{LabelId}
+use Rattle.np_text.specs.declared.id.SemId.{SemId}
+use Rattle.np_text.specs.declared.id.NodeId.{NodeId}
+use Rattle.np_text.specs.declared.id.JobId.{JobId}
+use Rattle.np_text.specs.declared.id.RequestId.{RequestId}
+use Rattle.np_text.specs.declared.id.Role.{Role}
+use Rattle.np_text.specs.declared.id.Role.TheVariants.{Launcher, Janitor, Requester}
+use Rattle.np_text.specs.declared.word.EndAs.TheVariants as end
+use Rattle.np_config.specs.Configuration.{Configuration}
+use Rattle.np_config.specs.declared.row.Label.{Label}
+use Rattle.np_config.specs.declared.row.Provider.{Provider}
+use Rattle.np_config.specs.declared.row.Offer.{Offer}
+use Rattle.np_config.specs.declared.row.Pool.{Pool}
+use Rattle.np_config.specs.declared.row.Sem.{Sem}
+use Rattle.np_config.specs.declared.row.Job.{Job}
+use Rattle.np_event.specs.declared.event.Event.{Event}
+use Rattle.np_event.specs.declared.entry.Entry.{Entry}
+use Rattle.np_event.specs.declared.reply.Done.{Done}
+use Rattle.np_event.specs.declared.reply.Refusal.{Refusal}
+use Rattle.np_event.specs.declared.reply.Reply.TheVariants as reply
+use Rattle.np_rules.specs.State.{start}
+use Rattle.np_rules.specs.History.{replayed, after}
+use Rattle.np_rules.specs.Fates.{Fate, fates}
+
+-- the machine gives the journal's replies, and the jobs come to these ends
+pub record Plays (c : Configuration) (journal : List Entry) (ends : List Fate) : Type 0 where
+  pub replies : replayed c (start c) journal ≡ journal
+  pub fates : fates (after c journal) ≡ ends
+
+-- ## ids
+
+abbrev pub session : ℕ → SessionId
+session k = record { 0 = k }
+
+abbrev pub node : ℕ → NodeId
+node k = record { 0 = k }
+
+abbrev pub job : ℕ → JobId
+job k = record { 0 = k }
+
+abbrev pub label : ℕ → LabelId
+label k = record { 0 = k }
+
+abbrev pub semaphore : ℕ → SemId
+semaphore k = record { 0 = k }
+
+abbrev pub pool : ℕ → PoolId
+pool k = record { 0 = k }
+
+abbrev pub request : ℕ → ℕ → RequestId
+request priority seq = record { priority = priority; seq = seq }
+
+abbrev pub launcher : ℕ → Role
+launcher p = Launcher (record { 0 = p })
+
+abbrev pub janitor : ℕ → Role
+janitor p = Janitor (record { 0 = p })
+
+abbrev pub requester : ℕ → Role
+requester q = Requester (record { 0 = q })
+
+-- ## sites, with the configuration's defaults
+
+abbrev pub no_limit : Limit
+no_limit = record { instances = None; cores = None; ram = None }
+
+-- so many servers at most
+abbrev pub at_most : ℕ → Limit
+at_most servers = record { instances = Some servers; cores = None; ram = None }
+
+abbrev pub offer : ℕ → Offer
+offer l = record { label = label l; amount = record { instances = 1; cores = 1; ram = 1024 } }
+
+abbrev pub a_label : List ℕ → Label
+a_label name = record { name = name; min_ready = 0; max_ready_age = 0 }
+
+abbrev pub a_provider : List ℕ → Provider
+a_provider name = record { name = name; retries = 3; concurrency = None }
+
+-- a pool of the provider that offers these labels
+abbrev pub a_pool : ℕ → List ℕ → List Offer → Pool
+a_pool provider name offers = record { provider = provider; name = name; limit = no_limit; offers = offers; fail_starts = [] }
+
+abbrev pub a_semaphore : List ℕ → Sem
+a_semaphore name = record { name = name; max = 1 }
+
+-- a job of the first requester that asks these labels
+abbrev pub a_job : List ℕ → List LabelId → Job
+a_job name labels = record {
+  requester = record { 0 = 0 };
+  name = name;
+  labels = labels;
+  priority = 200;
+  relative_priority = 0;
+  semaphores = [];
+  resources_first = false;
+  end = end.Used;
+}
+
+-- one pool that offers one label, and one requester with these jobs
+abbrev pub one_pool : List Job → Configuration
+one_pool jobs = record {
+  labels = a_label (codes "a") ∷ [];
+  providers = a_provider (codes "c") ∷ [];
+  pools = a_pool 0 (codes "m") (offer 0 ∷ []) ∷ [];
+  semaphores = [];
+  requesters = record { name = codes "z"; window = 20 } ∷ [];
+  jobs = jobs;
+  faults = [];
+  max_hold_age = 0;
+}
+
+-- and with one job that asks the label
+abbrev pub plain_site : Configuration
+plain_site = one_pool (a_job (codes "j") (label 0 ∷ []) ∷ [])
+
+-- ## lines
+
+abbrev pub line : Event → Done → Entry
+line e what = record { event = e; reply = reply.Done what }
+
+abbrev pub refused : Event → Refusal → Entry
+refused e why = record { event = e; reply = reply.Refused why }

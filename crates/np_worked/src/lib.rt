@@ -1,0 +1,177 @@
+//! Worked journals: the machine's definitions, held to what they are meant to say.
+//!
+//! Each function is a theorem with an empty body: over its site the machine gives the replies of
+//! its journal, one by one, and each job comes to its fate. The file of its name in `specs/` has the
+//! three; the checker computes them from the definitions alone.
+#![tactic(auto)]
+
+ghost use Rattle.np_worked.specs.Site.{Plays};
+ghost use Rattle.np_worked.specs.PlainPath as plain_path;
+ghost use Rattle.np_worked.specs.ServedJob as served_job;
+ghost use Rattle.np_worked.specs.MinReadyAndTaken as min_ready_and_taken;
+ghost use Rattle.np_worked.specs.NeverFits as never_fits;
+ghost use Rattle.np_worked.specs.DeclinedByAll as declined_by_all;
+ghost use Rattle.np_worked.specs.DeclinedButTakenUp as declined_but_taken_up;
+ghost use Rattle.np_worked.specs.RetriesSpent as retries_spent;
+ghost use Rattle.np_worked.specs.ExpiryDuringALaunch as expiry_during_a_launch;
+ghost use Rattle.np_worked.specs.QueueAfterAnExpiry as queue_after_an_expiry;
+ghost use Rattle.np_worked.specs.WrongAttempt as wrong_attempt;
+ghost use Rattle.np_worked.specs.SemaphoresAllOrNone as semaphores_all_or_none;
+ghost use Rattle.np_worked.specs.ShortQuota as short_quota;
+ghost use Rattle.np_worked.specs.CrashedRequester as crashed_requester;
+ghost use Rattle.np_worked.specs.WithdrawnRequest as withdrawn_request;
+ghost use Rattle.np_worked.specs.Priorities as priorities;
+ghost use Rattle.np_worked.specs.HoldAge as hold_age;
+ghost use Rattle.np_worked.specs.Refusals as refusals;
+ghost use Rattle.np_worked.specs.SpentMinReady as spent_min_ready;
+ghost use Rattle.np_worked.specs.PinnedElsewhere as pinned_elsewhere;
+ghost use Rattle.np_worked.specs.SweptServers as swept_servers;
+ghost use Rattle.np_worked.specs.SweptWhileBuilding as swept_while_building;
+ghost use Rattle.np_worked.specs.FreedNode as freed_node;
+ghost use Rattle.np_worked.specs.ResetRequest as reset_request;
+ghost use Rattle.np_worked.specs.FailDeclined as fail_declined;
+ghost use Rattle.np_worked.specs.WithdrawnEarly as withdrawn_early;
+ghost use Rattle.np_worked.specs.ReadyAge as ready_age;
+ghost use Rattle.np_worked.specs.PausedPool as paused_pool;
+ghost use Rattle.np_worked.specs.EndedByTheWrongParty as ended_by_the_wrong_party;
+
+/// From a job's request to its fulfilled node.
+pub fn plain_path()
+    ensures { Plays plain_path.site plain_path.journal plain_path.ends }
+{}
+
+/// The requester takes its node over, uses it and ends its job.
+pub fn served_job()
+    ensures { Plays served_job.site served_job.journal served_job.ends }
+{}
+
+/// A node is kept ready, and a job with three labels takes it in.
+pub fn min_ready_and_taken()
+    ensures { Plays min_ready_and_taken.site min_ready_and_taken.journal min_ready_and_taken.ends }
+{}
+
+/// A job asks more than the pool may ever hold.
+pub fn never_fits()
+    ensures { Plays never_fits.site never_fits.journal never_fits.ends }
+{}
+
+/// The one pool that is left has declined, and the request fails.
+pub fn declined_by_all()
+    ensures { Plays declined_by_all.site declined_by_all.journal declined_by_all.ends }
+{}
+
+/// Another launcher of the other pool comes, and takes the request up.
+pub fn declined_but_taken_up()
+    ensures { Plays declined_but_taken_up.site declined_but_taken_up.journal declined_but_taken_up.ends }
+{}
+
+/// Every launch of the first pool fails, and the second serves the request.
+pub fn retries_spent()
+    ensures { Plays retries_spent.site retries_spent.journal retries_spent.ends }
+{}
+
+/// A launcher expires while it launches; the janitor cleans up, and another launcher serves the
+/// request.
+pub fn expiry_during_a_launch()
+    ensures { Plays expiry_during_a_launch.site expiry_during_a_launch.journal expiry_during_a_launch.ends }
+{}
+
+/// The next in a node's queue holds it when the first expires.
+pub fn queue_after_an_expiry()
+    ensures { Plays queue_after_an_expiry.site queue_after_an_expiry.journal queue_after_an_expiry.ends }
+{}
+
+/// A late report of an earlier launch is refused.
+pub fn wrong_attempt()
+    ensures { Plays wrong_attempt.site wrong_attempt.journal wrong_attempt.ends }
+{}
+
+/// Jobs take all their semaphores or none.
+pub fn semaphores_all_or_none()
+    ensures { Plays semaphores_all_or_none.site semaphores_all_or_none.journal semaphores_all_or_none.ends }
+{}
+
+/// A job waits for room in the pool, and another for the semaphore that the first has.
+pub fn short_quota()
+    ensures { Plays short_quota.site short_quota.journal short_quota.ends }
+{}
+
+/// A requester stops while it uses its node, and its job is lost.
+pub fn crashed_requester()
+    ensures { Plays crashed_requester.site crashed_requester.journal crashed_requester.ends }
+{}
+
+/// A job is withdrawn while its node is launched, and the node serves another.
+pub fn withdrawn_request()
+    ensures { Plays withdrawn_request.site withdrawn_request.journal withdrawn_request.ends }
+{}
+
+/// Requests are taken up by priority, relative priority and sequence.
+pub fn priorities()
+    ensures { Plays priorities.site priorities.journal priorities.ends }
+{}
+
+/// A held node is removed when it is old enough.
+pub fn hold_age()
+    ensures { Plays hold_age.site hold_age.journal hold_age.ends }
+{}
+
+/// Events that come too early, or from the wrong party.
+pub fn refusals()
+    ensures { Plays refusals.site refusals.journal refusals.ends }
+{}
+
+/// A label that cannot be kept ready is not tried again.
+pub fn spent_min_ready()
+    ensures { Plays spent_min_ready.site spent_min_ready.journal spent_min_ready.ends }
+{}
+
+/// A min-ready request is served by the pool that made it alone.
+pub fn pinned_elsewhere()
+    ensures { Plays pinned_elsewhere.site pinned_elsewhere.journal pinned_elsewhere.ends }
+{}
+
+/// A server is kept while its node is building or has it.
+pub fn swept_servers()
+    ensures { Plays swept_servers.site swept_servers.journal swept_servers.ends }
+{}
+
+/// Whatever server a building node may get is kept.
+pub fn swept_while_building()
+    ensures { Plays swept_while_building.site swept_while_building.journal swept_while_building.ends }
+{}
+
+/// A ready node whose request stands is not freed; one whose request is gone is.
+pub fn freed_node()
+    ensures { Plays freed_node.site freed_node.journal freed_node.ends }
+{}
+
+/// The janitor gives back a request whose launcher has gone, and its node is free.
+pub fn reset_request()
+    ensures { Plays reset_request.site reset_request.journal reset_request.ends }
+{}
+
+/// A request that nobody may serve fails only where a pool is registered.
+pub fn fail_declined()
+    ensures { Plays fail_declined.site fail_declined.journal fail_declined.ends }
+{}
+
+/// A job is withdrawn before it asked, and cannot ask any more.
+pub fn withdrawn_early()
+    ensures { Plays withdrawn_early.site withdrawn_early.journal withdrawn_early.ends }
+{}
+
+/// An unused ready node is removed when it is old enough.
+pub fn ready_age()
+    ensures { Plays ready_age.site ready_age.journal ready_age.ends }
+{}
+
+/// A pool at its quota gives up a ready node that its request cannot use.
+pub fn paused_pool()
+    ensures { Plays paused_pool.site paused_pool.journal paused_pool.ends }
+{}
+
+/// Nodes and jobs are ended by their own requester alone.
+pub fn ended_by_the_wrong_party()
+    ensures { Plays ended_by_the_wrong_party.site ended_by_the_wrong_party.journal ended_by_the_wrong_party.ends }
+{}
