@@ -64,17 +64,17 @@ whole_required-takes at key least most d n e =
 
 pub whole_or-takes : (at key : List ℕ) (least most absent : ℕ) (d : Data) (n : ℕ) → least ≤ absent → absent ≤ most → whole_or at key least most absent d ≡ Ok n → (least ≤ n) × (n ≤ most)
 whole_or-takes at key least most absent d n low high e = by (get key d) e
-    where
-      by : (o : Option Data) → option_map_or (whole_value (below at key) least most) o (ok absent) ≡ Ok n → (least ≤ n) × (n ≤ most)
-      by None e = let same : absent ≡ n = same_ok absent n e in (omega arith, omega arith)
-      by (Some v) e = whole_value-takes (below at key) least most v n e
+  where
+    by : (o : Option Data) → option_map_or (whole_value (below at key) least most) o (ok absent) ≡ Ok n → (least ≤ n) × (n ≤ most)
+    by None e = let same : absent ≡ n = same_ok absent n e in (omega arith, omega arith)
+    by (Some v) e = whole_value-takes (below at key) least most v n e
 
 pub whole_maybe-takes : (at key : List ℕ) (least most : ℕ) (d : Data) (o : Option ℕ) → whole_maybe at key least most d ≡ Ok o → IfSome o (λ n. (least ≤ n) × (n ≤ most))
 whole_maybe-takes at key least most d o e = by (get key d) e
-    where
-      by : (v : Option Data) → option_map_or (λ w. whole_value (below at key) least most w >>= λ n. ok (Some n)) v (ok None) ≡ Ok o → IfSome o (λ n. (least ≤ n) × (n ≤ most))
-      by None e = let same : None ≡ o = same_ok None o e in subst (λ (p : Option ℕ). IfSome p (λ n. (least ≤ n) × (n ≤ most))) same tt
-      by (Some w) e =
+  where
+    by : (v : Option Data) → option_map_or (λ w. whole_value (below at key) least most w >>= λ n. ok (Some n)) v (ok None) ≡ Ok o → IfSome o (λ n. (least ≤ n) × (n ≤ most))
+    by None e = let same : None ≡ o = same_ok None o e in subst (λ (p : Option ℕ). IfSome p (λ n. (least ≤ n) × (n ≤ most))) same tt
+    by (Some w) e =
         let t = bind_ok (whole_value (below at key) least most w) (λ n. ok (Some n)) o e in
         let same : Some t.0 ≡ o = same_ok (Some t.0) o t.2 in
         subst (λ (p : Option ℕ). IfSome p (λ n. (least ≤ n) × (n ≤ most))) same (whole_value-takes (below at key) least most w t.0 t.1)
@@ -141,7 +141,7 @@ pub list_maybe-takes : {S : Type 0} (read : ReadsItem S) (P : ℕ → S → Type
     → (at key : List ℕ) (l : Length) (s t : S) (d : Data) → l.before ≤ l.most → l.least ≡ 0 → P 0 s → list_maybe read at key l s d ≡ Ok t → (n : ℕ) × (l.before + n ≤ l.most) × P n t
 unfolding list_maybe
 list_maybe-takes {S} read P step at key l s t d room none start e = by (get key d) e
-    where
-      by : (o : Option Data) → option_map_or (list_at read (below at key) l s) o (ok s) ≡ Ok t → (n : ℕ) × (l.before + n ≤ l.most) × P n t
-      by None e = (0, omega arith, subst (P 0) (same_ok s t e) start)
-      by (Some v) e = let r = list_at-takes read P step (below at key) l s t v start e in (r.0, r.1, r.3)
+  where
+    by : (o : Option Data) → option_map_or (list_at read (below at key) l s) o (ok s) ≡ Ok t → (n : ℕ) × (l.before + n ≤ l.most) × P n t
+    by None e = (0, omega arith, subst (P 0) (same_ok s t e) start)
+    by (Some v) e = let r = list_at-takes read P step (below at key) l s t v start e in (r.0, r.1, r.3)

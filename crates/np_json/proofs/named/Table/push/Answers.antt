@@ -14,8 +14,8 @@ invariant_of-self-2 g c =
     ap (λ n. list_any (λ k. bytes_eq n k.items) keys) is ∙ sym (list_any-map (bytes_eq name) (λ k. k.items) keys) ∙ ap (list_any (bytes_eq name)) c.self.invariant.0
     ∙ list_any-map (bytes_eq name) g.T.Named.name c.self.inside.rows.items ∙ ap (list_any (λ row. bytes_eq name (g.T.Named.name row))) c.self.view_is ∙ c.requires.new in
     let named : map (λ k. k.items) c.insert.new.self.keys ≡ map g.T.Named.name c.push.new.self.items =
-      rw (c.in_ok-insert.ensures.keys, c.in_ok-push.ensures.items, c.in_ok-reserve.ensures.items, fresh, map-append, map-append, c.self.invariant.0, is) in
+    rw (c.in_ok-insert.ensures.keys, c.in_ok-push.ensures.items, c.in_ok-reserve.ensures.items, fresh, map-append, map-append, c.self.invariant.0, is) in
     let longer : length c.push.new.self.items ≡ length c.self.inside.rows.items + 1 =
-      rw (c.in_ok-push.ensures.items, c.in_ok-reserve.ensures.items) (simp length-append (omega arith)) in
+    rw (c.in_ok-push.ensures.items, c.in_ok-reserve.ensures.items) (simp length-append (omega arith)) in
     let old : length c.self.inside.rows.items ≡ length c.args.self.now = ap length c.self.view_is in
     (named, omega (arith, longer, old, c.requires.room))
