@@ -1,7 +1,7 @@
 -- the acts of each role
-use Rattle.std.proofs.Common.{◌≡◌, ℕ, ◌+◌, ◌≤◌, List, [], ◌∷◌, refl, ap, sym, ◌∙◌, arith, Bool, true, false, Option, Some, None, Result, Ok, Err}
-use Rattle.std.specs.Prelude.{slice_get, is_some, is_ok, option_and_then, ◌==◌}
-use Rattle.std.specs.Option.{option_map, option_map_or}
+use Rattle.std.proofs.Common.{◌≡◌, ℕ, ◌+◌, List, refl, ap, ◌∙◌, arith, true, false, Option, Some, None, Ok, Err}
+use Rattle.std.specs.Prelude.{slice_get, is_ok, option_and_then, ◌==◌}
+use Rattle.std.specs.Option.{option_map}
 use Rattle.std.proofs.lemmas.Bool.Decides.{nat_tests}
 use Rattle.np_text.specs.declared.id.SessionId.{SessionId}
 use Rattle.np_text.specs.declared.id.Role.{Role}
@@ -10,10 +10,9 @@ use Rattle.np_config.specs.Configuration.{Configuration}
 use Rattle.np_record.specs.declared.record.RoleRecord.{RoleRecord}
 use Rattle.np_event.specs.declared.event.Event.{Event}
 use Rattle.np_event.specs.declared.event.Event.TheVariants as ev
-use Rattle.np_event.specs.declared.reply.Done.{Done}
 use Rattle.np_rules.specs.State.{State}
 use Rattle.np_rules.specs.Laws.{acts_of, same_role}
-use Rattle.np_rules.specs.Tables.{session_of, role_of, role_in, request_in, node_in, change_at, change_launcher, change_janitor, change_requester}
+use Rattle.np_rules.specs.Tables.{session_of, role_of, request_in, node_in, change_at, change_launcher, change_janitor, change_requester}
 use Rattle.np_rules.specs.Reasons.{next_label}
 use Rattle.np_rules.specs.Tests.{Answer, launcher}
 use Rattle.np_rules.specs.Request.{registers, submit_for, submitted, kept_ready, accept_by, accepted, decline_by, declined, fulfilled, given_back, failed}

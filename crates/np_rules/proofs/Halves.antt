@@ -1,7 +1,7 @@
 -- in a rising table a search by halves finds the first member that passes
-use Rattle.std.proofs.Common.{◌≡◌, ℕ, zero, suc, ◌+◌, ◌<◌, ◌≤◌, List, [], ◌∷◌, ◌++◌, length, refl, ap, sym, ◌∙◌, arith, Option, Some, None, Bool, true, false, get_or, take, drop, add-one}
+use Rattle.std.proofs.Common.{◌≡◌, ℕ, zero, suc, ◌<◌, List, [], ◌∷◌, ◌++◌, length, refl, ap, arith, None, Bool, true, false, get_or, take, drop}
 use Rattle.std.specs.Prelude.{find, slice_get, slice_set}
-use Rattle.std.specs.List.{AllByRecursion, AllWithin}
+use Rattle.std.specs.List.{AllByRecursion}
 use Rattle.std.specs.List.Sorted.{IsPartitionedBy, IsPartitionPoint}
 use Rattle.np_rules.specs.Tables.{change_first, remove_first}
 use Rattle.np_rules.specs.Rising.{Rises, NonePass, FirstAt}

@@ -16,3 +16,12 @@ pub mod Shaping
 pub mod Shapes
 pub mod ShapeRuns
 pub mod FitsRuns
+pub mod Finds
+pub mod OwnerLemmas
+pub mod Pairs
+pub mod Changing
+pub mod PositionLemmas
+pub mod Handles
+pub mod StepLemmas
+pub mod StartLemmas
+pub mod Sites

@@ -1,22 +1,19 @@
 -- the next numbers never fall
-use Rattle.std.proofs.Common.{◌≡◌, ℕ, ◌+◌, ◌≤◌, List, [], ◌∷◌, ◌++◌, length, refl, sym, arith, Option, Some, None, length-append}
+use Rattle.std.proofs.Common.{◌≡◌, [], ◌∷◌, length, refl, arith, length-append}
 use Rattle.std.specs.Prelude.{slice_get}
-use Rattle.np_text.specs.declared.id.SessionId.{SessionId}
-use Rattle.np_text.specs.declared.id.Role.{Role}
 use Rattle.np_config.specs.Configuration.{Configuration}
 use Rattle.np_event.specs.declared.event.Event.{Event}
 use Rattle.np_event.specs.declared.event.Event.TheVariants as ev
-use Rattle.np_rules.specs.declared.state.SessionFacts.{SessionFacts}
 use Rattle.np_rules.specs.State.{State}
 use Rattle.np_rules.specs.Laws.{RisesFrom}
-use Rattle.np_rules.specs.Tables.{session_of, request_in, node_in, change_at}
+use Rattle.np_rules.specs.Tables.{session_of, request_in, node_in}
 use Rattle.np_rules.specs.Reasons.{next_label}
 use Rattle.np_rules.specs.Tests.{launcher}
 use Rattle.np_rules.specs.Request.{registers, submit_for, submitted, kept_ready, accept_by, accepted, decline_by, declined, fulfilled, given_back, failed}
 use Rattle.np_rules.specs.Node.{took_ready, create_by, create_for, created, start_by, started, reported, node_ended, given_up, node_freed}
 use Rattle.np_rules.specs.Semaphore.{acquired, take_for, take_from, taken, finished, withdrawn, released}
-use Rattle.np_rules.specs.Session.{crashed, expired, muted, ended}
-use Rattle.np_rules.specs.Step.{effect, next, acting, with_act}
+use Rattle.np_rules.specs.Session.{crashed, expired}
+use Rattle.np_rules.specs.Step.{effect, next}
 use Rattle.np_rules.proofs.Steps.{after_found-keeps, after_given-keeps, next-keeps}
 use Rattle.np_rules.proofs.Changes.{length-change_at}
 

@@ -1,10 +1,10 @@
 -- what keeps a table in order
 use Rattle.std.proofs.Common.{◌≡◌, ℕ, zero, suc, ◌<◌, ◌≤◌, List, [], ◌∷◌, ◌++◌, length, refl, ap, sym, ◌∙◌, arith, subst, Option, Some, None, Bool, true, false, get_or, take, drop}
-use Rattle.std.specs.Prelude.{map, slice_set, if◌then◌else◌, IfSome}
+use Rattle.std.specs.Prelude.{map, slice_set, IfSome}
 use Rattle.std.specs.List.{AllByRecursion, insert}
 use Rattle.std.specs.List.Sorted.{IsPartitionPoint}
-use Rattle.np_rules.specs.Tables.{change_first, remove_first, insert_before}
-use Rattle.np_rules.specs.Rising.{Rises, NonePass, FirstAt, IsFirstPlace}
+use Rattle.np_rules.specs.Tables.{insert_before}
+use Rattle.np_rules.specs.Rising.{Rises, NonePass, IsFirstPlace}
 use Rattle.np_rules.proofs.Halves.{first-within}
 
 pub first_place-within : {X : Type 0} (p : X → Bool) (xs : List X) (o : Option ℕ) → IsFirstPlace p xs o → IfSome o (λ at. at < length xs)

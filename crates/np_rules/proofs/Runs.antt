@@ -1,6 +1,5 @@
 -- laws of whole runs
-use Rattle.std.proofs.Common.{◌≡◌, ℕ, ◌+◌, ◌≤◌, List, [], ◌∷◌, ◌++◌, length, refl, ap, sym, ◌∙◌, arith, subst, length-append, Result, Ok, Err}
-use Rattle.std.specs.Prelude.{is_ok}
+use Rattle.std.proofs.Common.{◌≡◌, List, [], ◌∷◌, ◌++◌, refl, ap, arith, length-append, Ok, Err}
 use Rattle.np_config.specs.Configuration.{Configuration}
 use Rattle.np_event.specs.declared.event.Event.{Event}
 use Rattle.np_event.specs.declared.entry.Entry.{Entry}
@@ -8,7 +7,7 @@ use Rattle.np_event.specs.declared.reply.Refusal.{Refusal}
 use Rattle.np_event.specs.declared.reply.Reply.TheVariants as reply
 use Rattle.np_rules.specs.State.{State, start}
 use Rattle.np_rules.specs.Tests.{Answer}
-use Rattle.np_rules.specs.Step.{judge, effect, acting, with_act, next, reply_of, react}
+use Rattle.np_rules.specs.Step.{judge, next, reply_of}
 use Rattle.np_rules.specs.History.{state_after, replayed, after, Runs}
 
 pub refusal_by : (c : Configuration) (s : State) (e : Event) (why : Refusal) (a : Answer) → judge c s e ≡ a → reply_of a ≡ reply.Refused why → next c s e ≡ s

@@ -1,6 +1,5 @@
 -- how a fact goes through an effect, and through a step
-use Rattle.std.proofs.Common.{◌≡◌, ℕ, Bool, true, false, refl, ap, sym, Option, Some, None, Result, Ok, Err}
-use Rattle.std.specs.Prelude.{is_ok}
+use Rattle.std.proofs.Common.{◌≡◌, refl, Option, Some, None, Result, Ok, Err}
 use Rattle.np_config.specs.Configuration.{Configuration}
 use Rattle.np_event.specs.declared.event.Event.{Event}
 use Rattle.np_event.specs.declared.reply.Done.{Done}

@@ -1,5 +1,5 @@
 -- why a request failed
-use Rattle.std.specs.Prelude.{◌≡◌, ◌<◌, ℕ, Bool, true, false, ◌==◌, List, [], ◌∷◌, ◌++◌, Option, Some, None, ◌⊎◌, length, ◌&&◌, Contains, count_by}
+use Rattle.std.specs.Prelude.{◌≡◌, ◌<◌, ℕ, Bool, true, false, ◌==◌, List, [], ◌∷◌, ◌++◌, Some, None, ◌⊎◌, length, ◌&&◌, Contains, count_by}
 use Rattle.std.specs.Option.{option_map_or}
 use Rattle.np_text.specs.declared.id.SessionId.{SessionId}
 use Rattle.np_text.specs.declared.id.PoolId.{PoolId}
@@ -20,7 +20,6 @@ use Rattle.np_rules.specs.declared.state.Registration.{Registration}
 use Rattle.np_rules.specs.Kinds.{is_failed}
 use Rattle.np_rules.specs.Tables.{role_of, request_in, node_in}
 use Rattle.np_rules.specs.Count.{retries_of}
-use Rattle.np_rules.specs.Order.{is_declined_by}
 use Rattle.np_rules.specs.Reasons.{is_true}
 use Rattle.np_rules.specs.Turns.{Turn, turns, SomeTurn, EachTurn, is_done, IsAccepted}
 use Rattle.np_rules.specs.State.{State}

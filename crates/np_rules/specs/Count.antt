@@ -1,6 +1,6 @@
 -- what a pool uses, and what it may use
-use Rattle.std.specs.Prelude.{ℕ, List, [], Bool, ◌==◌, not, Option, Some, None, is_some, map, filter, find, slice_get, unwrap_or, option_and_then}
-use Rattle.std.specs.Option.{option_map, option_map_or}
+use Rattle.std.specs.Prelude.{ℕ, List, [], Bool, ◌==◌, not, Option, None, is_some, map, filter, find, slice_get, option_and_then}
+use Rattle.std.specs.Option.{option_map_or}
 use Rattle.np_amount.specs.declared.amount.Amount.{Amount}
 use Rattle.np_amount.specs.declared.amount.Limit.{Limit}
 use Rattle.np_amount.specs.Amounts.{nothing, plus, fits, total}
@@ -8,8 +8,6 @@ use Rattle.np_text.specs.declared.id.PoolId.{PoolId}
 use Rattle.np_text.specs.declared.id.LabelId.{LabelId}
 use Rattle.np_config.specs.Configuration.{Configuration}
 use Rattle.np_config.specs.declared.row.Offer.{Offer}
-use Rattle.np_config.specs.declared.row.Pool.{Pool}
-use Rattle.np_config.specs.declared.row.Provider.{Provider}
 use Rattle.np_rules.specs.Entries.{NodeEntry}
 use Rattle.np_rules.specs.State.{State}
 

@@ -7,9 +7,7 @@ use Rattle.np_text.specs.declared.word.Ending.{Ending}
 use Rattle.np_text.specs.declared.word.Ending.TheVariants as ending
 use Rattle.np_text.specs.declared.word.Phase.{Phase}
 use Rattle.np_record.specs.declared.record.Declined.{Declined}
-use Rattle.np_record.specs.declared.record.Marked.{Marked}
 use Rattle.np_record.specs.declared.record.JobRecord.{JobRecord}
-use Rattle.np_record.specs.declared.record.RequestRecord.{RequestRecord}
 use Rattle.np_rules.specs.Tables.{request_in}
 use Rattle.np_rules.specs.State.{State}
 

@@ -1,9 +1,8 @@
 -- who may change a node
-use Rattle.std.specs.Prelude.{◌≡◌, ◌≢◌, ℕ, Bool, true, false, List, Option, Some, None, ◌⊎◌}
+use Rattle.std.specs.Prelude.{◌≡◌, true, List, Option, Some, None, ◌⊎◌}
 use Rattle.np_text.specs.declared.id.SessionId.{SessionId}
 use Rattle.np_text.specs.declared.id.NodeId.{NodeId}
 use Rattle.np_text.specs.declared.id.RequestId.{RequestId}
-use Rattle.np_text.specs.declared.word.Reason.{Reason}
 use Rattle.np_config.specs.Configuration.{Configuration}
 use Rattle.np_record.specs.declared.record.NodeRecord.{NodeRecord}
 use Rattle.np_event.specs.declared.event.Event.{Event}
@@ -12,7 +11,6 @@ use Rattle.np_event.specs.declared.entry.Entry.{Entry}
 use Rattle.np_rules.specs.Tables.{is_session_of, is_request, request_holder, node_in, node_holder}
 use Rattle.np_rules.specs.Step.{maker_of}
 use Rattle.np_rules.specs.Turns.{Turn, turns, EachTurn}
-use Rattle.np_rules.specs.State.{State}
 
 -- the turn's maker holds the node before it or after it
 pub record ByHolder (t : Turn) (n : NodeId) : Type 0 where

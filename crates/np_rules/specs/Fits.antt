@@ -1,5 +1,5 @@
 -- the numbers of a state leave room for one more event, and its rows for one more member
-use Rattle.std.specs.Prelude.{◌≡◌, ◌<◌, ◌≤◌, ℕ, Bool, true, false, ◌&&◌, not, Some, length, slice_get}
+use Rattle.std.specs.Prelude.{◌≡◌, ◌<◌, ◌≤◌, ℕ, true, false, ◌&&◌, not, Some, length, slice_get}
 use Rattle.std.specs.List.{AllByRecursion}
 use Rattle.np_text.specs.declared.id.SessionId.{SessionId}
 use Rattle.np_text.specs.declared.id.PoolId.{PoolId}

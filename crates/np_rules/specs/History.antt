@@ -1,7 +1,6 @@
 -- whole runs: the machine over a journal
-use Rattle.std.specs.Prelude.{◌≡◌, ◌≤◌, ℕ, List, [], ◌∷◌, length}
+use Rattle.std.specs.Prelude.{◌≡◌, ◌≤◌, List, [], ◌∷◌, length}
 use Rattle.np_config.specs.Configuration.{Configuration}
-use Rattle.np_event.specs.declared.event.Event.{Event}
 use Rattle.np_event.specs.declared.entry.Entry.{Entry}
 use Rattle.np_rules.specs.Step.{judge, next, reply_of}
 use Rattle.np_rules.specs.State.{State, start}

@@ -1,19 +1,17 @@
 -- what no crash and no expiry loses
-use Rattle.std.specs.Prelude.{◌≡◌, ℕ, ◌+◌, Bool, true, false, ◌==◌, ◌&&◌, List, [], ◌∷◌, Option, Some, None, is_some, ◌⊎◌, length, map}
+use Rattle.std.specs.Prelude.{◌≡◌, Bool, true, false, ◌==◌, ◌&&◌, List, [], ◌∷◌, Option, Some, None, is_some, ◌⊎◌, length, map}
 use Rattle.std.specs.Option.{option_map_or}
 use Rattle.np_text.specs.declared.id.NodeId.{NodeId}
 use Rattle.np_text.specs.declared.id.JobId.{JobId}
 use Rattle.np_text.specs.declared.id.RequestId.{RequestId}
 use Rattle.np_config.specs.Configuration.{Configuration}
 use Rattle.np_record.specs.declared.record.RequestRecord.{RequestRecord}
-use Rattle.np_record.specs.declared.record.NodeRecord.{NodeRecord}
 use Rattle.np_event.specs.declared.event.Event.{Event}
 use Rattle.np_event.specs.declared.event.Event.TheVariants as ev
 use Rattle.np_event.specs.declared.entry.Entry.{Entry}
 use Rattle.np_event.specs.declared.reply.Reply.{Reply}
 use Rattle.np_event.specs.declared.reply.Reply.TheVariants as reply
 use Rattle.np_event.specs.declared.reply.Done.TheVariants as done
-use Rattle.np_rules.specs.Entries.{RequestEntry, NodeEntry}
 use Rattle.np_rules.specs.Tables.{same_request, request_in, node_in}
 use Rattle.np_rules.specs.Turns.{Turn, turns, SomeTurn, EachTurn, IsAccepted}
 use Rattle.np_rules.specs.History.{after}

@@ -1,5 +1,5 @@
 -- ids in order
-use Rattle.std.proofs.Common.{◌≡◌, ℕ, arith, Bool, true, false}
+use Rattle.std.proofs.Common.{◌≡◌, arith, true, false}
 use Rattle.std.specs.Prelude.{nat_lt, ◌==◌}
 use Rattle.std.proofs.lemmas.Bool.Decides.{nat_tests}
 use Rattle.np_text.specs.declared.id.NodeId.{NodeId}

@@ -1,8 +1,6 @@
 -- words of the laws over every state
 use Rattle.std.specs.Prelude.{ℕ, ◌≤◌, Bool, true, false, ◌==◌, Option, length}
 use Rattle.std.specs.Option.{option_map}
-use Rattle.np_text.specs.declared.id.PoolId.{PoolId}
-use Rattle.np_text.specs.declared.id.RequesterId.{RequesterId}
 use Rattle.np_text.specs.declared.id.Role.{Role}
 use Rattle.np_text.specs.declared.id.Role.TheVariants.{Launcher, Janitor, Requester, Reaper}
 use Rattle.np_rules.specs.Tables.{role_in}

@@ -26,3 +26,5 @@ pub mod Keys
 pub mod Fits
 pub mod Seen
 pub mod Places
+pub mod Undo
+pub mod Ran

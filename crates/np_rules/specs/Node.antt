@@ -1,5 +1,5 @@
 -- the rows on nodes
-use Rattle.std.specs.Prelude.{ℕ, ◌+◌, List, [], ◌∷◌, ◌++◌, Bool, true, false, ◌==◌, ◌&&◌, ◌||◌, not, if◌then◌else◌, Option, Some, None, is_some, is_none, Result, Ok, Err, length, map, filter, find, slice_get, nat_lt, option_and_then}
+use Rattle.std.specs.Prelude.{ℕ, ◌+◌, List, [], ◌∷◌, ◌++◌, Bool, true, false, ◌==◌, ◌&&◌, ◌||◌, not, if◌then◌else◌, Option, Some, None, is_some, is_none, Ok, Err, map, slice_get, nat_lt}
 use Rattle.std.specs.Option.{option_map, option_map_or}
 use Rattle.std.specs.List.{list_any}
 use Rattle.np_text.specs.declared.id.SessionId.{SessionId}
@@ -8,7 +8,6 @@ use Rattle.np_text.specs.declared.id.LabelId.{LabelId}
 use Rattle.np_text.specs.declared.id.NodeId.{NodeId}
 use Rattle.np_text.specs.declared.id.RequestId.{RequestId}
 use Rattle.np_text.specs.declared.id.RequesterId.{RequesterId}
-use Rattle.np_text.specs.declared.id.Role.TheVariants.{Launcher}
 use Rattle.np_text.specs.declared.word.EndAs.{EndAs}
 use Rattle.np_text.specs.declared.word.EndAs.TheVariants as end
 use Rattle.np_text.specs.declared.word.NodeState.{NodeState}
@@ -27,11 +26,11 @@ use Rattle.np_event.specs.declared.reply.Done.TheVariants as done
 use Rattle.np_event.specs.declared.reply.Refusal.TheVariants as no
 use Rattle.np_rules.specs.Entries.{NodeEntry}
 use Rattle.np_rules.specs.declared.state.Swept.{Swept}
-use Rattle.np_rules.specs.Kinds.{is_building, is_ready, is_in_use, is_hold, is_deleting}
+use Rattle.np_rules.specs.Kinds.{is_building, is_ready, is_in_use, is_deleting}
 use Rattle.np_rules.specs.Tables.{change_first, insert_before, change_at, is_queued, ahead_of, joined, left, request_in, put_request, node_in, node_queue, node_holder, put_node, put_node_queue, remove_node, is_marked}
 use Rattle.np_rules.specs.Count.{retries_of, count_of, is_short}
 use Rattle.np_rules.specs.Reasons.{next_label, ready_age, due_tick, is_old_ready, is_old_hold, is_paused}
-use Rattle.np_rules.specs.Tests.{Answer, Check, ◌>>=◌, ◌>>◌, need, found, vacant, maker, launcher, janitor, requester, request_at, node_at, by_registrant, by_request_holder, by_node_holder, of_pool, wrong_node, in_pending_by, incomplete, quota_short, after_found, after_given}
+use Rattle.np_rules.specs.Tests.{Answer, Check, ◌>>=◌, ◌>>◌, need, vacant, maker, launcher, janitor, requester, request_at, node_at, by_registrant, by_request_holder, by_node_holder, of_pool, wrong_node, in_pending_by, incomplete, quota_short, after_found, after_given}
 use Rattle.np_rules.specs.State.{State}
 
 -- ## take-ready: the launcher gives a ready node to the request (Nodepool: ready nodes are used first)

@@ -1,5 +1,5 @@
 -- which request comes first
-use Rattle.std.specs.Prelude.{ℕ, List, Bool, true, false, ◌==◌, ◌&&◌, ◌||◌, not, if◌then◌else◌, Option, Some, None, is_none, filter, fold, nat_lt}
+use Rattle.std.specs.Prelude.{List, Bool, false, ◌==◌, ◌&&◌, not, if◌then◌else◌, Option, Some, None, is_none, filter, fold, nat_lt}
 use Rattle.std.specs.Option.{option_map}
 use Rattle.std.specs.List.{list_any}
 use Rattle.np_text.specs.declared.id.PoolId.{PoolId}

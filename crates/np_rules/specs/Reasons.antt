@@ -1,6 +1,6 @@
 -- why a pool may decline a request, and when it pauses
-use Rattle.std.specs.Prelude.{ℕ, ◌-◌, ◌+◌, List, Bool, true, false, ◌==◌, ◌&&◌, ◌||◌, not, if◌then◌else◌, Option, Some, None, is_some, is_none, length, find, slice_get, nat_lt, option_and_then}
-use Rattle.std.specs.Option.{option_map, option_map_or}
+use Rattle.std.specs.Prelude.{ℕ, ◌-◌, ◌+◌, Bool, false, ◌==◌, ◌&&◌, ◌||◌, not, if◌then◌else◌, Option, is_some, is_none, length, find, slice_get, nat_lt}
+use Rattle.std.specs.Option.{option_map_or}
 use Rattle.std.specs.List.{list_any}
 use Rattle.np_amount.specs.Amounts.{fits}
 use Rattle.np_text.specs.declared.id.PoolId.{PoolId}
@@ -8,9 +8,7 @@ use Rattle.np_text.specs.declared.id.LabelId.{LabelId}
 use Rattle.np_text.specs.declared.id.NodeId.{NodeId}
 use Rattle.np_text.specs.declared.word.Reason.{Reason}
 use Rattle.np_text.specs.declared.word.Reason.TheVariants.{NoLabel, NeverFits, Spent}
-use Rattle.np_text.specs.declared.word.NodeState.TheVariants as node
 use Rattle.np_config.specs.Configuration.{Configuration}
-use Rattle.np_config.specs.declared.row.Label.{Label}
 use Rattle.np_record.specs.declared.record.RequestRecord.{RequestRecord}
 use Rattle.np_record.specs.declared.record.NodeRecord.{NodeRecord}
 use Rattle.np_rules.specs.Entries.{RequestEntry, NodeEntry}

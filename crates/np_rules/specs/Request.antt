@@ -1,15 +1,13 @@
 -- the rows on requests
-use Rattle.std.specs.Prelude.{ℕ, ◌+◌, List, [], ◌∷◌, ◌++◌, Bool, true, false, ◌==◌, ◌&&◌, ◌||◌, not, if◌then◌else◌, Option, Some, None, is_some, is_none, Result, Ok, Err, length, map, filter, find, slice_get, count_by, nat_lt}
-use Rattle.std.specs.Option.{option_map, option_map_or}
+use Rattle.std.specs.Prelude.{ℕ, ◌+◌, List, [], ◌∷◌, ◌++◌, Bool, false, ◌==◌, ◌&&◌, ◌||◌, not, if◌then◌else◌, Option, Some, None, is_some, is_none, Ok, Err, length, slice_get, count_by, nat_lt}
+use Rattle.std.specs.Option.{option_map_or}
 use Rattle.std.specs.List.{list_any, list_all}
-use Rattle.np_amount.specs.Amounts.{fits}
 use Rattle.np_text.specs.declared.id.SessionId.{SessionId}
 use Rattle.np_text.specs.declared.id.PoolId.{PoolId}
 use Rattle.np_text.specs.declared.id.LabelId.{LabelId}
 use Rattle.np_text.specs.declared.id.JobId.{JobId}
 use Rattle.np_text.specs.declared.id.NodeId.{NodeId}
 use Rattle.np_text.specs.declared.id.RequestId.{RequestId}
-use Rattle.np_text.specs.declared.id.RequesterId.{RequesterId}
 use Rattle.np_text.specs.declared.id.Role.{Role}
 use Rattle.np_text.specs.declared.id.Role.TheVariants.{Launcher, Janitor, Requester, Reaper}
 use Rattle.np_text.specs.declared.word.Reason.{Reason}
@@ -19,13 +17,10 @@ use Rattle.np_text.specs.declared.word.RequestState.TheVariants as request_state
 use Rattle.np_text.specs.declared.word.Phase.TheVariants as phase
 use Rattle.np_config.specs.Configuration.{Configuration}
 use Rattle.np_config.specs.declared.row.Job.{Job}
-use Rattle.np_config.specs.declared.row.Label.{Label}
 use Rattle.np_record.specs.declared.record.RequestRecord.{RequestRecord}
-use Rattle.np_record.specs.declared.record.NodeRecord.{NodeRecord}
 use Rattle.np_record.specs.declared.record.JobRecord.{JobRecord}
 use Rattle.np_record.specs.declared.record.Declined.{Declined}
 use Rattle.np_event.specs.declared.reply.Done.TheVariants as done
-use Rattle.np_event.specs.declared.reply.Refusal.{Refusal}
 use Rattle.np_event.specs.declared.reply.Refusal.TheVariants as no
 use Rattle.np_rules.specs.Entries.{RequestEntry, NodeEntry}
 use Rattle.np_rules.specs.declared.state.Registration.{Registration}
@@ -34,7 +29,7 @@ use Rattle.np_rules.specs.Tables.{insert_before, registered, same_request, is_re
 use Rattle.np_rules.specs.Count.{is_offered, count_of, is_short}
 use Rattle.np_rules.specs.Order.{is_id_before, is_pool, is_pinned_away, is_declined_by, is_pending_by, first_of}
 use Rattle.np_rules.specs.Reasons.{first_unoffered, never_fits, is_true}
-use Rattle.np_rules.specs.Tests.{Answer, Check, ◌>>=◌, ◌>>◌, need, found, vacant, maker, launcher, janitor, requester, request_at, own_job, by_registrant, by_request_holder, unlocked, wrong_request, wrong_job, in_requested, in_pending, in_pending_by, not_declined, none_missing, quota_short, missing_handles, after_found, after_given}
+use Rattle.np_rules.specs.Tests.{Answer, Check, ◌>>=◌, ◌>>◌, need, found, vacant, maker, launcher, janitor, request_at, own_job, by_registrant, by_request_holder, unlocked, wrong_request, wrong_job, in_requested, in_pending, in_pending_by, not_declined, none_missing, quota_short, missing_handles, after_found, after_given}
 use Rattle.np_rules.specs.State.{State}
 
 -- the request at its place in the order of ids

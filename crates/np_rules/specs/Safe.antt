@@ -1,5 +1,5 @@
 -- what no step breaks
-use Rattle.std.specs.Prelude.{◌≡◌, ◌≤◌, ℕ, Bool, true, false, ◌==◌, List, [], ◌∷◌, Option, Some, IsTrue, length, slice_get}
+use Rattle.std.specs.Prelude.{◌≡◌, ◌≤◌, ℕ, true, false, ◌==◌, List, [], ◌∷◌, Some, IsTrue, length, slice_get}
 use Rattle.std.specs.List.{list_any}
 use Rattle.np_amount.specs.Amounts.{fits}
 use Rattle.np_text.specs.declared.id.SessionId.{SessionId}

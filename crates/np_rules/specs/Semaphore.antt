@@ -1,9 +1,8 @@
 -- the rows on semaphores and jobs
-use Rattle.std.specs.Prelude.{ℕ, ◌+◌, List, [], ◌∷◌, ◌++◌, Bool, true, false, ◌==◌, ◌&&◌, ◌||◌, not, if◌then◌else◌, Option, Some, None, Result, Ok, Err, length, map, filter, find, fold, slice_get, count_by, nat_le, option_and_then}
-use Rattle.std.specs.Option.{option_map, option_map_or}
+use Rattle.std.specs.Prelude.{ℕ, List, [], ◌∷◌, ◌++◌, Bool, false, ◌==◌, ◌&&◌, ◌||◌, not, if◌then◌else◌, Option, Some, None, Ok, Err, length, map, filter, find, fold, slice_get, count_by, nat_le, option_and_then}
+use Rattle.std.specs.Option.{option_map_or}
 use Rattle.std.specs.List.{list_any, list_all}
 use Rattle.np_text.specs.declared.id.SessionId.{SessionId}
-use Rattle.np_text.specs.declared.id.PoolId.{PoolId}
 use Rattle.np_text.specs.declared.id.NodeId.{NodeId}
 use Rattle.np_text.specs.declared.id.JobId.{JobId}
 use Rattle.np_text.specs.declared.id.SemId.{SemId}
@@ -17,15 +16,12 @@ use Rattle.np_text.specs.declared.word.NodeState.TheVariants as node_state
 use Rattle.np_text.specs.declared.word.Phase.TheVariants as phase
 use Rattle.np_config.specs.Configuration.{Configuration}
 use Rattle.np_config.specs.declared.row.Job.{Job}
-use Rattle.np_config.specs.declared.row.Sem.{Sem}
 use Rattle.np_record.specs.declared.record.RequestRecord.{RequestRecord}
-use Rattle.np_record.specs.declared.record.NodeRecord.{NodeRecord}
 use Rattle.np_record.specs.declared.record.JobRecord.{JobRecord}
 use Rattle.np_record.specs.declared.record.Marked.{Marked}
 use Rattle.np_event.specs.declared.reply.Done.TheVariants as done
 use Rattle.np_event.specs.declared.reply.Refusal.TheVariants as no
 use Rattle.np_rules.specs.Entries.{NodeEntry}
-use Rattle.np_rules.specs.declared.state.SessionFacts.{SessionFacts}
 use Rattle.np_rules.specs.Kinds.{is_fulfilled, is_failed, is_in_use, is_new, is_asked, is_using, is_over}
 use Rattle.np_rules.specs.Tables.{change_first, change_at, role_of, is_session_of, holder, request_in, remove_request, node_entry, node_holder, put_job, handles_of, is_among, has_handle}
 use Rattle.np_rules.specs.Tests.{Answer, Check, ◌>>=◌, ◌>>◌, need, found, vacant, maker, request_at, job_at, record_of, of_requester, own_job, wrong_request, wrong_job, none_missing, missing_handles, after_found}

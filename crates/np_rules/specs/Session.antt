@@ -1,5 +1,5 @@
 -- the rows on sessions and the tick
-use Rattle.std.specs.Prelude.{ℕ, ◌+◌, List, [], ◌∷◌, ◌++◌, Bool, true, false, not, if◌then◌else◌, Option, Some, None, is_some, Result, Ok, Err, length, map, filter, slice_get}
+use Rattle.std.specs.Prelude.{◌+◌, [], ◌∷◌, ◌++◌, Bool, true, false, not, if◌then◌else◌, is_some, Ok, length, map, filter, slice_get}
 use Rattle.np_text.specs.declared.id.SessionId.{SessionId}
 use Rattle.np_text.specs.declared.id.Role.{Role}
 use Rattle.np_text.specs.declared.id.Role.TheVariants.{Launcher, Janitor, Requester, Reaper}
@@ -9,7 +9,6 @@ use Rattle.np_event.specs.declared.reply.Done.TheVariants as done
 use Rattle.np_event.specs.declared.reply.Refusal.TheVariants as no
 use Rattle.np_rules.specs.Entries.{RequestEntry, NodeEntry}
 use Rattle.np_rules.specs.declared.state.SessionFacts.{SessionFacts}
-use Rattle.np_rules.specs.declared.state.Registration.{Registration}
 use Rattle.np_rules.specs.Tables.{session_of, change_session, is_session, left, change_launcher, change_janitor, change_requester}
 use Rattle.np_rules.specs.Tests.{Answer, ◌>>=◌, ◌>>◌, need, found, maker, after_found}
 use Rattle.np_rules.specs.State.{State}

@@ -1,5 +1,5 @@
 -- the index of the machine: one line per event, in judge, in effect and in its maker
-use Rattle.std.specs.Prelude.{ℕ, ◌+◌, List, Bool, if◌then◌else◌, Option, Some, None, is_ok, Result, Ok, Err, option_and_then}
+use Rattle.std.specs.Prelude.{◌+◌, if◌then◌else◌, Option, Some, None, is_ok, Ok, Err, option_and_then}
 use Rattle.std.specs.Option.{option_map_or}
 use Rattle.np_text.specs.declared.id.SessionId.{SessionId}
 use Rattle.np_text.specs.declared.id.Role.{Role}

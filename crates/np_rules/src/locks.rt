@@ -4,12 +4,13 @@
 //! a new row or a removal also moves the rows behind it.
 
 ghost use Rattle.std.specs.Prelude.{◌≡◌, ◌<◌, ◌≤◌, ◌∷◌, ◌++◌, [], Bool, true, false, All, length, OnOk, OnErr, IfSome, option_copied, find, map};
-ghost use Rattle.np_rules.specs.Tables.{change_first, remove_first, insert_before, joined, left};
+ghost use Rattle.np_rules.specs.Tables.{change_first, remove_first, insert_before, joined, left, kept_from};
 ghost use Rattle.np_rules.specs.Rising.{Rises, IsFirstPlace, NonePass};
 ghost use Rattle.std.specs.List.Sorted.{IsPartitionPoint};
 
 use crate::queue::Queue;
-use np_text::{NodeId, RequestId, SessionId};
+use np_record::NodeRecord;
+use np_text::{NodeId, NodeState, RequestId, SessionId};
 use std::alloc::{AllocError, Global};
 use std::marker::Model;
 
@@ -248,5 +249,86 @@ impl<I: Key, K: Drop> LockTable<I, K> {
         let at = split_of(self.rows.as_slice(), row.id);
         self.rows.insert(at, row)?;
         Ok(())
+    }
+}
+
+/// The allocation, unless it is to the request.
+fn kept_from(request: RequestId, found: Option<RequestId>) -> Option<RequestId>
+    ensures { result ≡ kept_from request found }
+{
+    match found {
+        None => None,
+        Some(other) => {
+            if other.priority == request.priority && other.seq == request.seq {
+                None
+            } else {
+                Some(other)
+            }
+        }
+    }
+}
+
+fn free_rows(rows: &mut Vec<Locked<NodeId, NodeRecord>>, request: RequestId)
+    ensures { rows.new.items ≡ map {A = Locked NodeId NodeRecord} {B = Locked NodeId NodeRecord} (λ row. record row { kept = record row.kept { allocated_to = kept_from request row.kept.allocated_to } }) rows.old.items }
+{
+    for row in rows.iter_mut() {
+        row.kept.allocated_to = kept_from(request, row.kept.allocated_to);
+    }
+}
+
+impl LockTable<NodeId, NodeRecord> {
+    ghost use Rattle.std.specs.Prelude.{◌==◌};
+    ghost use Rattle.np_rules.specs.Tables.{all_freed};
+    ghost use Rattle.np_rules.specs.Node.{allocated};
+    ghost use Rattle.np_rules.specs.Semaphore.{in_use, all_in_use};
+
+    /// Every node that is allocated to the request is freed.
+    pub(crate) fn free_all(&mut self, request: RequestId)
+        ensures { self.new ≡ all_freed request self.old }
+    {
+        free_rows(&mut self.rows, request);
+    }
+
+    /// The node is allocated to the request, and the session joins its queue, unless it is there.
+    pub(crate) fn allocate(
+        &mut self,
+        node: NodeId,
+        request: RequestId,
+        session: SessionId,
+    ) -> Result<(), AllocError>
+        ensures ok { OnOk result (self.new ≡ change_first (λ row. row.id.0 == node.0) (allocated request session) self.old) }
+        ensures err { OnErr result (self.new ≡ self.old) }
+    {
+        let Some(at) = self.place(node) else {
+            return Ok(());
+        };
+        let row = &mut self.rows[at];
+        row.queue.join(session)?;
+        row.kept.allocated_to = Some(request);
+        Ok(())
+    }
+
+    /// The node is in use from this tick.
+    fn take_over(&mut self, node: NodeId, tick: u32)
+        ensures { self.new ≡ change_first (λ row. row.id.0 == node.0) (in_use tick) self.old }
+    {
+        let Some(row) = self.get(node) else {
+            return;
+        };
+        let kept = NodeRecord {
+            since: tick,
+            state: NodeState::InUse,
+            ..row.kept
+        };
+        self.put(node, kept);
+    }
+
+    /// Each of the nodes is in use from this tick.
+    pub(crate) fn take_over_all(&mut self, nodes: &[NodeId], tick: u32)
+        ensures { self.new ≡ all_in_use tick nodes.now self.old }
+    {
+        for node in nodes {
+            self.take_over(*node, tick);
+        }
     }
 }

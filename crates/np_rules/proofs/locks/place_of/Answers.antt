@@ -1,5 +1,5 @@
 -- the row where the ids before the sought one end is it, or there is none
-use Rattle.std.proofs.Common.{◌≡◌, sym, ◌∙◌, arith}
+use Rattle.std.proofs.Common.{sym, ◌∙◌, arith}
 use Rattle.np_rules.proofs.Halves.{found, absent}
 use Rattle.np_rules.proofs.locks.place_of.Goals as goal
 use Rattle.np_rules.proofs.locks.place_of.Goals.{else-at-rows-via-then-at-rows+else-is_same, else-at-rows-via-else-at-rows}

@@ -1,7 +1,6 @@
-use Rattle.std.proofs.Common.{◌≡◌, ◌<◌, sym, ◌∙◌, ap, length, get_or, Some, None, Option}
-use Rattle.std.specs.Prelude.{slice_get, find}
+use Rattle.std.proofs.Common.{sym, ◌∙◌, ap, Some}
+use Rattle.std.specs.Prelude.{find}
 use Rattle.std.proofs.lemmas.Option.{slice_get-get_or}
-use Rattle.np_rules.specs.declared.locks.Locked.{Locked}
 use Rattle.np_rules.proofs.Halves.{find-first, find-none, first-within}
 use Rattle.np_rules.proofs.locks.LockTable.get.Goals as goal
 

@@ -1,9 +1,6 @@
-use Rattle.std.proofs.Common.{◌≡◌, ◌≤◌, sym, ◌∙◌, ap, length, subst, List, arith}
-use Rattle.std.specs.List.{insert}
-use Rattle.std.specs.List.Sorted.{IsPartitionPoint}
+use Rattle.std.proofs.Common.{sym, ◌∙◌, ap}
 use Rattle.np_rules.specs.declared.locks.Locked.{Locked}
 use Rattle.np_rules.specs.Tables.{insert_before}
-use Rattle.np_rules.specs.Rising.{NonePass}
 use Rattle.np_rules.proofs.RisingLemmas.{insert_before-at, Rises-insert}
 use Rattle.np_rules.proofs.locks.LockTable.insert.Goals as goal
 

@@ -1,4 +1,4 @@
-use Rattle.std.proofs.Common.{◌≡◌, sym, ◌∙◌, ap}
+use Rattle.std.proofs.Common.{sym, ◌∙◌, ap}
 use Rattle.std.specs.Prelude.{slice_set}
 use Rattle.np_rules.specs.declared.locks.Locked.{Locked}
 use Rattle.np_rules.specs.Tables.{change_first, left}

@@ -1,4 +1,4 @@
-use Rattle.std.proofs.Common.{◌≡◌, sym, ◌∙◌, ap, refl}
+use Rattle.std.proofs.Common.{refl}
 use Rattle.np_rules.specs.declared.locks.Locked.{Locked}
 use Rattle.np_rules.specs.Tables.{left}
 use Rattle.np_rules.proofs.RisingLemmas.{Rises-keys, map-keys}

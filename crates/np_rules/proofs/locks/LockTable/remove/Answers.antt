@@ -1,4 +1,4 @@
-use Rattle.std.proofs.Common.{◌≡◌, sym, ◌∙◌, ap}
+use Rattle.std.proofs.Common.{sym, ◌∙◌, ap}
 use Rattle.np_rules.specs.declared.locks.Locked.{Locked}
 use Rattle.np_rules.specs.Tables.{remove_first}
 use Rattle.np_rules.proofs.Halves.{remove_first-first, remove_first-none}

@@ -1,0 +1,7 @@
+use Rattle.std.proofs.Common.{refl}
+use Rattle.np_rules.specs.Tables.{left}
+use Rattle.np_rules.proofs.Changing.{request-queued}
+use Rattle.np_rules.proofs.tables.Tables.effect_unlock_request.Goals as goal
+
+pub returns : goal.returns
+returns c = rw (← c.self.view_is) (rw (c.leave.ensures, request-queued (left c.args.session) c.args.request c.self.inside.requests) refl)

@@ -1,0 +1,39 @@
+-- the machine with its journal
+use Rattle.std.specs.Prelude.{◌≤◌, List, ◌++◌, ◌∷◌, [], Bool, if◌then◌else◌, nat_lt, length}
+use Rattle.np_config.specs.Configuration.{Configuration}
+use Rattle.np_event.specs.declared.event.Event.{Event}
+use Rattle.np_event.specs.declared.entry.Entry.{Entry}
+use Rattle.np_event.specs.declared.reply.Reply.{Reply}
+use Rattle.np_event.specs.declared.reply.Reply.TheVariants as reply
+use Rattle.np_event.specs.declared.reply.Refusal.TheVariants as no
+use Rattle.np_rules.specs.State.{State}
+use Rattle.np_rules.specs.Step.{judge, next, reply_of}
+use Rattle.np_rules.specs.History.{Runs}
+use Rattle.np_rules.specs.Fits.{IsFitSite}
+
+-- a configuration, the journal that was recorded, and the state that it led to (own)
+pub record Ran : Type 0 where
+  pub configuration : Configuration
+  pub journal : List Entry
+  pub state : State
+
+-- the journal may take one more entry (own: 262,144 at most)
+abbrev pub has_room : Ran → Bool
+has_room m = nat_lt (length m.journal) 262144
+
+-- the machine's reply; full where the journal has no room
+abbrev pub answer_of : Ran → Event → Reply
+answer_of m e = if has_room m then reply_of (judge m.configuration m.state e) else reply.Refused no.Full
+
+-- the entry is recorded and the state goes on; a full machine stays as it is
+abbrev pub applied : Ran → Event → Ran
+applied m e = record m {
+  journal = if has_room m then m.journal ++ record { event = e; reply = reply_of (judge m.configuration m.state e) } ∷ [] else m.journal;
+  state = if has_room m then next m.configuration m.state e else m.state;
+}
+
+-- a run of the machine at a configuration whose numbers leave room
+pub record IsRun (m : Ran) : Type 0 where
+  pub site : IsFitSite m.configuration
+  pub few_jobs : length m.configuration.jobs ≤ 4096
+  pub runs : Runs m.configuration m.journal m.state
