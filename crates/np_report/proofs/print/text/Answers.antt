@@ -5,4 +5,4 @@ use Rattle.np_report.proofs.print.text.Goals as goal
 
 pub returns : goal.returns
 unfolding text_with
-returns c = rw (c.in_ok-put_waiting.ensures, c.in_ok-extend_from_slice.ensures.items, c.in_ok-out.ensures, start_fates c.args.config.now) (simp append_assoc)
+returns c = rw (c.in_ok-put_waiting.ensures, c.in_ok-extend_from_slice.ensures.items, c.in_ok-out.ensures.text, start_fates c.args.config.now) (simp append_assoc)
