@@ -1,3 +1,6 @@
-pub mod Fates
-pub mod Lines
-pub mod Waiting
+pub mod Compact
+pub mod Counting
+pub mod FateLines
+pub mod OneRun
+pub mod Playing
+pub mod Reading

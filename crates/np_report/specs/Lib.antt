@@ -1,3 +1,4 @@
-pub mod Text
-pub mod Waiting
 pub mod Script
+pub mod Text
+pub mod Played
+pub mod Summary

@@ -13,9 +13,10 @@ use Rattle.np_text.specs.Sections.{bar}
 use Rattle.np_config.specs.Configuration.{Configuration}
 use Rattle.np_config.specs.Canonical.{canonical}
 use Rattle.np_config.specs.declared.row.Job.{Job}
-use Rattle.np_config.specs.declared.row.Requester.{Requester}
 use Rattle.np_record.specs.declared.record.Declined.{Declined}
-use Rattle.np_rules.specs.State.{State}
+use Rattle.np_event.specs.declared.entry.Entry.{Entry}
+use Rattle.np_event.specs.Line.{entry_line}
+use Rattle.np_rules.specs.History.{after}
 use Rattle.np_rules.specs.Fates.{Fate, fates}
 use Rattle.np_rules.specs.Fates as fate
 
@@ -64,6 +65,10 @@ fate_lines c n [] ends = []
 fate_lines c n (job ∷ jobs) [] = []
 fate_lines c n (job ∷ jobs) (end ∷ ends) = line (job_text c n job ++ fate_text end) ++ fate_lines c (n + 1) jobs ends
 
--- the canonical configuration, a bar, the entries' lines, a bar, and the fates of all jobs
-unfoldable pub text_with : Configuration → List (List ℕ) → State → List ℕ
-text_with c entries s = line (canonical c) ++ line bar ++ flat_map line entries ++ line bar ++ fate_lines c 0 c.jobs (fates s)
+-- the entries' lines, refused ones too
+abbrev pub entry_lines : List Entry → List ℕ
+entry_lines journal = flat_map (λ entry. line (entry_line entry)) journal
+
+-- the whole Text of a run: the canonical configuration, a bar, the entries, a bar, and what became of each job
+unfoldable pub text_of : Configuration → List Entry → List ℕ
+text_of c journal = line (canonical c) ++ line bar ++ entry_lines journal ++ line bar ++ fate_lines c 0 c.jobs (fates (after c journal))

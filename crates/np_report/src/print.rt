@@ -1,11 +1,18 @@
-//! Printing the Text.
+//! Printing the Text and the summary.
 
-ghost use Rattle.std.specs.Prelude.{◌≡◌, ◌+◌, ◌≤◌, ◌++◌, [], drop, map, OnOk, IfOk};
-ghost use Rattle.np_rules.specs.State.{start};
-ghost use Rattle.np_report.specs.Text.{text_with, job_text};
-ghost use Rattle.np_report.specs.Waiting.{waiting_lines};
+ghost use Rattle.std.specs.Prelude.{◌≡◌, ◌+◌, ◌≤◌, ◌++◌, ◌∷◌, [], drop, length, OnOk, IfOk};
+ghost use Rattle.std.specs.List.{AllByRecursion};
+ghost use Rattle.np_text.specs.Lines.{line};
+ghost use Rattle.np_event.specs.Line.{HasEventLine, entry_line};
+ghost use Rattle.np_rules.specs.Fates.{fates};
+ghost use Rattle.np_rules.specs.History.{Runs};
+ghost use Rattle.np_told.specs.Told.{IsToldEntry};
+ghost use Rattle.np_report.specs.Text.{text_of, job_text, entry_lines, fate_lines};
 
+use crate::fate::put_fate;
 use np_config::{Config, Job};
+use np_event::{Entry, put_entry};
+use np_rules::Look;
 use np_text::{JobId, NoMemory, put_number};
 use std::alloc::Global;
 
@@ -25,27 +32,58 @@ fn put_job(out: &mut Vec<u8>, config: &Config, at: u32, job: &Job) -> Result<(),
     Ok(())
 }
 
-fn put_waiting(out: &mut Vec<u8>, config: &Config) -> Result<(), NoMemory>
-    ensures { OnOk result (out.new.items ≡ out.old.items ++ waiting_lines config.now 0 config.now.jobs) }
+fn put_line(out: &mut Vec<u8>, entry: Entry) -> Result<(), NoMemory>
+    requires { IsToldEntry entry }
+    ensures { OnOk result (out.new.items ≡ out.old.items ++ line (entry_line entry)) }
 {
+    put_entry(out, entry)?;
+    out.push(b'\n')?;
+    Ok(())
+}
+
+fn put_entries(out: &mut Vec<u8>, journal: &[Entry]) -> Result<(), NoMemory>
+    requires { AllByRecursion IsToldEntry journal.now }
+    ensures { OnOk result (out.new.items ≡ out.old.items ++ entry_lines journal.now) }
+{
+    for entry in journal {
+        put_line(out, *entry)?;
+    }
+    Ok(())
+}
+
+fn put_fates<L: Look>(out: &mut Vec<u8>, look: &L) -> Result<(), NoMemory>
+    ensures { OnOk result (out.new.items ≡ out.old.items ++ fate_lines (L.site look.now) 0 (L.site look.now).jobs (fates (L.state look.now))) }
+{
+    let config = look.config();
     let _age = config.max_hold_age();
     let mut at = 0;
     while let Some(job) = config.job(JobId(at)) {
+        let Some(kept) = look.job(JobId(at)) else {
+            return Ok(());
+        };
         put_job(out, config, at, job)?;
-        out.extend_from_slice(b"waiting new\n")?;
+        put_fate(out, look, &kept)?;
+        out.push(b'\n')?;
         at += 1;
     }
     Ok(())
 }
 
-/// The Text of this configuration before the first event: every job waits and is new. Its cost grows
-/// with the length of the configuration.
-#[tactic(auto, unfolding(crate::specs::Text::text_with))]
-pub fn text(alloc: Global, config: &Config) -> Result<Vec<u8>, NoMemory>
-    ensures { IfOk result (λ v. v.items ≡ text_with config.now [] (start config.now)) }
+/// The whole Text of a run: the canonical configuration, a line `%%`, a line for each entry, refused
+/// ones too, a line `%%`, and a line for what became of each job, in job order. The time grows with
+/// the length of the Text.
+#[tactic(auto, unfolding(crate::specs::Text::text_of))]
+pub fn text<L: Look>(alloc: Global, look: &L, journal: &[Entry]) -> Result<Vec<u8>, NoMemory>
+    requires runs { Runs (L.site look.now) journal.now (L.state look.now) }
+    requires lines { AllByRecursion (λ e. HasEventLine e.event) journal.now }
+    ensures { IfOk result (λ text. text.items ≡ text_of (L.site look.now) journal.now) }
 {
+    let config = look.config();
+    let _age = config.max_hold_age();
     let mut out = config.to_json(alloc)?;
-    out.extend_from_slice(b"\n%%\n%%\n")?;
-    put_waiting(&mut out, config)?;
+    out.extend_from_slice(b"\n%%\n")?;
+    put_entries(&mut out, journal)?;
+    out.extend_from_slice(b"%%\n")?;
+    put_fates(&mut out, look)?;
     Ok(out)
 }

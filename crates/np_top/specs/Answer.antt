@@ -5,9 +5,11 @@ use Rattle.np_text.specs.Lines.{line}
 use Rattle.np_json.specs.declared.fault.ConfigKind.{ConfigKind}
 use Rattle.np_json.specs.declared.fault.ConfigKind.TheVariants as kind
 use Rattle.np_json.specs.declared.fault.ConfigFault.{ConfigFault}
-use Rattle.np_config.specs.Configuration.{Configuration}
-use Rattle.np_rules.specs.State.{start}
-use Rattle.np_report.specs.Text.{text_with}
+use Rattle.np_event.specs.declared.fault.LineFault.{LineFault}
+use Rattle.np_event.specs.declared.fault.LineFault.TheVariants as fault
+use Rattle.np_report.specs.declared.script.Script.{Script}
+use Rattle.np_report.specs.Played.{played}
+use Rattle.np_report.specs.Text.{text_of}
 use Rattle.np_report.specs.Script.{Problem, script_of}
 use Rattle.np_report.specs.Script as problem
 
@@ -29,13 +31,9 @@ is_command words = is_bare (without_dashes words)
 
 -- ## what is printed
 
--- the Text of the script, or what is wrong with it
-abbrev pub printed : Result Configuration Problem → Result (List ℕ) Problem
-printed (Ok c) = Ok (text_with c [] (start c))
-printed (Err p) = Err p
-
-abbrev pub answer : List ℕ → Result (List ℕ) Problem
-answer came = printed (script_of came)
+-- the Text of the script's configuration, and of the journal of its events with the machine's replies
+abbrev pub script_text : Script → List ℕ
+script_text script = text_of script.config (played script.config script.events)
 
 -- ## the status
 
@@ -43,11 +41,12 @@ answer came = printed (script_of came)
 abbrev pub most : ℕ
 most = 67108864
 
-abbrev pub status_by : Result Configuration Problem → ℕ
-status_by (Ok c) = 0
+abbrev pub status_by : Result Script Problem → ℕ
+status_by (Ok script) = 0
 status_by (Err (problem.in_config f)) = 3
 status_by (Err problem.no_separator) = 4
-status_by (Err (problem.not_built n)) = 4
+status_by (Err (problem.at_line n f)) = 4
+status_by (Err (problem.too_many n)) = 4
 
 -- the status that belongs to an input: 5 where it is too long, else by the script
 abbrev pub status_of : List ℕ → ℕ
@@ -73,8 +72,22 @@ config_line f = line (codes "poolsim: configuration: " ++ kind_text f.kind ++ co
 abbrev pub separator_line : List ℕ
 separator_line = line (codes "poolsim: script: no separator")
 
-unfoldable pub not_built_line : ℕ → List ℕ
-not_built_line n = line (codes "poolsim: script: line " ++ decimal n ++ codes ": not-built")
+-- an event line's fault; a word's place counts from 1
+abbrev pub fault_text : LineFault → List ℕ
+fault_text fault.UnknownEvent = codes "unknown-event"
+fault_text fault.WrongCount = codes "wrong-count"
+fault_text (fault.BadArgument word) = codes "bad-argument " ++ decimal word
+
+-- what is wrong with the event line of a number
+unfoldable pub event_line : ℕ → List ℕ → List ℕ
+event_line n what = line (codes "poolsim: script: line " ++ decimal n ++ codes ": " ++ what)
+
+-- the line that tells a script's problem
+abbrev pub problem_line : Problem → List ℕ
+problem_line (problem.in_config f) = config_line f
+problem_line problem.no_separator = separator_line
+problem_line (problem.at_line n f) = event_line n (fault_text f)
+problem_line (problem.too_many n) = event_line n (codes "too-many")
 
 abbrev pub usage_line : List ℕ
 usage_line = line (codes "poolsim: usage: poolsim replay | run | audit | drill N")

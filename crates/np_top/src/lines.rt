@@ -1,10 +1,11 @@
 //! The lines on err.
 
-ghost use Rattle.std.specs.Prelude.{◌≡◌, ◌≤◌, ◌⊎◌, IfOk};
+ghost use Rattle.std.specs.Prelude.{◌≡◌, ◌≤◌, ◌⊎◌, ◌++◌, codes, IfOk, OnOk};
 ghost use Rattle.np_io.specs.Bytes.{Appends};
 ghost use Rattle.np_io.specs.Counts.{Rose};
-ghost use Rattle.np_top.specs.Answer.{kind_text, config_line, not_built_line};
+ghost use Rattle.np_top.specs.Answer.{kind_text, config_line, fault_text, event_line};
 
+use np_event::LineFault;
 use np_io::{Sink, write_all};
 use np_json::{ConfigFault, ConfigKind};
 use np_text::{NoMemory, put_number};
@@ -39,14 +40,50 @@ pub(crate) fn line_of_fault(alloc: Global, fault: &ConfigFault) -> Result<Vec<u8
     Ok(line)
 }
 
-/// The line of an event that cannot be played yet.
-#[tactic(auto, unfolding(crate::specs::Answer::not_built_line))]
-pub(crate) fn line_of_not_built(alloc: Global, number: u32) -> Result<Vec<u8>, NoMemory>
-    ensures { IfOk result (λ line. line.items ≡ not_built_line number) }
+fn put_fault(line: &mut Vec<u8>, fault: LineFault) -> Result<(), NoMemory>
+    ensures { OnOk result (line.new.items ≡ line.old.items ++ fault_text fault) }
+{
+    match fault {
+        LineFault::UnknownEvent => {
+            line.extend_from_slice(b"unknown-event")?;
+            Ok(())
+        }
+        LineFault::WrongCount => {
+            line.extend_from_slice(b"wrong-count")?;
+            Ok(())
+        }
+        LineFault::BadArgument { word } => {
+            line.extend_from_slice(b"bad-argument ")?;
+            put_number(line, u64::from(word))
+        }
+    }
+}
+
+/// The line of an event line's fault.
+#[tactic(auto, unfolding(crate::specs::Answer::event_line))]
+pub(crate) fn line_of_event(
+    alloc: Global,
+    number: u32,
+    fault: LineFault,
+) -> Result<Vec<u8>, NoMemory>
+    ensures { IfOk result (λ line. line.items ≡ event_line number (fault_text fault)) }
 {
     let mut line = Vec::from_slice(alloc, b"poolsim: script: line ")?;
     put_number(&mut line, u64::from(number))?;
-    line.extend_from_slice(b": not-built\n")?;
+    line.extend_from_slice(b": ")?;
+    put_fault(&mut line, fault)?;
+    line.push(b'\n')?;
+    Ok(line)
+}
+
+/// The line of an event line that is one too many.
+#[tactic(auto, unfolding(crate::specs::Answer::event_line))]
+pub(crate) fn line_of_too_many(alloc: Global, number: u32) -> Result<Vec<u8>, NoMemory>
+    ensures { IfOk result (λ line. line.items ≡ event_line number (codes "too-many")) }
+{
+    let mut line = Vec::from_slice(alloc, b"poolsim: script: line ")?;
+    put_number(&mut line, u64::from(number))?;
+    line.extend_from_slice(b": too-many\n")?;
     Ok(line)
 }
 

@@ -1,15 +1,16 @@
 //! The top call.
 
-ghost use Rattle.std.specs.Prelude.{◌≡◌, ◌<◌, ◌≤◌, ◌≢◌, ◌⊎◌, ℕ, List, true, false, IfSome, Ok, Err, Some, [], map, string_bytes, length, take};
+ghost use Rattle.std.specs.Prelude.{◌≡◌, ◌<◌, ◌≤◌, ◌≢◌, ◌⊎◌, ℕ, true, false, IfSome, Ok, Err, Some, [], map, string_bytes, length, take};
 ghost use Rattle.np_io.specs.Bytes.{Appends};
 ghost use Rattle.np_io.specs.Counts.{Rose};
 ghost use Rattle.np_json.specs.declared.fault.ConfigFault.{ConfigFault};
-ghost use Rattle.np_report.specs.Script.{script_of};
+ghost use Rattle.np_report.specs.declared.script.Script.{Script};
+ghost use Rattle.np_report.specs.Script.{Problem, script_of};
 ghost use Rattle.np_report.specs.Script as problem;
-ghost use Rattle.np_top.specs.Answer.{is_command, answer, status_of, most, config_line, separator_line, not_built_line, usage_line, read_line, long_line, memory_line};
-ghost use Rattle.np_top.specs.Causes.{EndsAs};
+ghost use Rattle.np_top.specs.Answer.{is_command, script_text, status_of, most, config_line, problem_line, usage_line, read_line, long_line, memory_line};
+ghost use Rattle.np_top.specs.Causes.{EndsAs, IsInScript};
 
-use crate::lines::{line_of_fault, line_of_not_built, say};
+use crate::lines::{line_of_event, line_of_fault, line_of_too_many, say};
 use crate::replay::replay;
 use crate::stop::Stop;
 use np_io::{Sink, Source, write_all};
@@ -42,9 +43,9 @@ pub fn poolsim<S: Source, K: Sink, E: Sink>(
     out: &mut K,
     err: &mut E,
 ) -> u8
-    // The Text of the script was printed, and nothing else.
-    ensures done { result ≡ 0 → IfSome (S.left source.old) (λ came. (text : List ℕ)
-        × (answer came ≡ Ok text) × Appends (K.written out.old) (K.written out.new) text) }
+    // The Text of a script was printed, and nothing else; the source's, where it tells what it had left.
+    ensures done { result ≡ 0 → (script : Script) × Appends (K.written out.old) (K.written out.new) (script_text script)
+        × IfSome (S.left source.old) (λ came. script_of came ≡ Ok script) }
     ensures done_end { result ≡ 0 → IfSome (S.left source.old) (λ _. S.left source.new ≡ Some []) }
     ensures done_quiet { result ≡ 0 → E.written err.new ≡ E.written err.old }
 
@@ -57,19 +58,18 @@ pub fn poolsim<S: Source, K: Sink, E: Sink>(
     // Each status by its cause, with its line.
     ensures usage { result ≡ 2 → (is_command (map string_bytes words.now) ≡ false)
         × (S.left source.new ≡ S.left source.old) × Appends (E.written err.old) (E.written err.new) usage_line }
-    ensures config { result ≡ 3 → IfSome (S.left source.old) (λ came. (f : ConfigFault)
-        × (script_of came ≡ Err (problem.in_config f)) × Appends (E.written err.old) (E.written err.new) (config_line f)) }
-    ensures script { result ≡ 4 → IfSome (S.left source.old) (λ came.
-        ((script_of came ≡ Err problem.no_separator) × Appends (E.written err.old) (E.written err.new) separator_line)
-        ⊎ ((n : ℕ) × (script_of came ≡ Err (problem.not_built n)) × Appends (E.written err.old) (E.written err.new) (not_built_line n))) }
+    ensures config { result ≡ 3 → (f : ConfigFault) × Appends (E.written err.old) (E.written err.new) (config_line f)
+        × IfSome (S.left source.old) (λ came. script_of came ≡ Err (problem.in_config f)) }
+    ensures script { result ≡ 4 → (p : Problem) × IsInScript p × Appends (E.written err.old) (E.written err.new) (problem_line p)
+        × IfSome (S.left source.old) (λ came. script_of came ≡ Err p) }
     ensures read { result ≡ 5 →
         (Rose (S.faults source.old) (S.faults source.new) × Appends (E.written err.old) (E.written err.new) read_line)
         ⊎ (IfSome (S.left source.old) (λ came. most < length came) × Appends (E.written err.old) (E.written err.new) long_line) }
     ensures write { result ≡ 6 → Rose (K.faults out.old) (K.faults out.new) ⊎ Rose (E.faults err.old) (E.faults err.new) }
     // After a failed write a beginning of the Text may be out, and nothing else.
     ensures part { result ≡ 6 → (K.written out.new ≡ K.written out.old)
-        ⊎ IfSome (S.left source.old) (λ came. (text : List ℕ) × (n : ℕ) × (answer came ≡ Ok text)
-        × Appends (K.written out.old) (K.written out.new) (take n text)) }
+        ⊎ ((script : Script) × (n : ℕ) × Appends (K.written out.old) (K.written out.new) (take n (script_text script))
+        × IfSome (S.left source.old) (λ came. script_of came ≡ Ok script)) }
     ensures memory { result ≡ 7 → Appends (E.written err.old) (E.written err.new) memory_line }
     ensures quiet { result ≢ 0 → result ≢ 6 → K.written out.new ≡ K.written out.old }
     ensures only { (result ≡ 0) ⊎ (result ≡ 2) ⊎ (result ≡ 3) ⊎ (result ≡ 4) ⊎ (result ≡ 5) ⊎ (result ≡ 6) ⊎ (result ≡ 7) }
@@ -91,7 +91,11 @@ pub fn poolsim<S: Source, K: Sink, E: Sink>(
             Err(_) => say(err, b"poolsim: out of memory\n", 7),
         },
         Err(Stop::NoSeparator) => say(err, b"poolsim: script: no separator\n", 4),
-        Err(Stop::NotBuilt { line }) => match line_of_not_built(alloc, line) {
+        Err(Stop::Line { line, fault }) => match line_of_event(alloc, line, fault) {
+            Ok(line) => say(err, line.as_slice(), 4),
+            Err(_) => say(err, b"poolsim: out of memory\n", 7),
+        },
+        Err(Stop::TooMany { line }) => match line_of_too_many(alloc, line) {
             Ok(line) => say(err, line.as_slice(), 4),
             Err(_) => say(err, b"poolsim: out of memory\n", 7),
         },

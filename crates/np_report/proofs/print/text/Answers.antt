@@ -1,8 +1,9 @@
-use Rattle.std.proofs.Common.{◌≡◌, ◌+◌, ◌∙◌, sym, ap, append_assoc, Some, None}
-use Rattle.np_report.proofs.Fates.{start_fates}
-use Rattle.np_report.specs.Text.{text_with}
+use Rattle.std.proofs.Common.{subst}
+use Rattle.np_config.specs.Sound.{IsSound}
+use Rattle.np_told.proofs.ToldRuns.{told-Runs}
 use Rattle.np_report.proofs.print.text.Goals as goal
 
-pub returns : goal.returns
-unfolding text_with
-returns c = rw (c.in_ok-put_waiting.ensures, c.in_ok-extend_from_slice.ensures.items, c.in_ok-out.ensures.text, start_fates c.args.config.now) (simp append_assoc)
+pub put_entries-requires : goal.put_entries-requires
+put_entries-requires g c =
+    told-Runs (g.L.Look.site c.args.look.now) c.args.journal.now (g.L.Look.state c.args.look.now)
+    (subst IsSound c.config-config.ensures c.max_hold_age-age.ensures.sound) c.requires.runs c.requires.lines

@@ -1,0 +1,51 @@
+-- the jobs' lines, one after another
+use Rattle.std.proofs.Common.{◌≡◌, ℕ, zero, suc, ◌+◌, List, [], ◌∷◌, ◌++◌, drop, map, refl, ap, ◌∙◌, append_assoc, Option, Some, None}
+use Rattle.std.specs.Prelude.{slice_get}
+use Rattle.std.specs.Option.{option_map_or}
+use Rattle.np_text.specs.Lines.{line}
+use Rattle.np_config.specs.Configuration.{Configuration}
+use Rattle.np_config.specs.declared.row.Job.{Job}
+use Rattle.np_record.specs.declared.record.JobRecord.{JobRecord}
+use Rattle.np_rules.specs.Fates.{fate_of}
+use Rattle.np_rules.specs.State.{State}
+use Rattle.np_report.specs.Text.{job_text, fate_text, fate_lines}
+
+-- the lines of these jobs with these records
+abbrev pub lines_from : Configuration → State → ℕ → List Job → List JobRecord → List ℕ
+lines_from c s n jobs records = fate_lines c n jobs (map (fate_of s) records)
+
+-- the job's line, and then those of the jobs behind it
+pub lines_from-next : (c : Configuration) (s : State) (n at : ℕ) (jobs : List Job) (records : List JobRecord) (job : Job) (kept : JobRecord) → slice_get jobs at ≡ Some job → slice_get records at ≡ Some kept →
+    lines_from c s n (drop at jobs) (drop at records) ≡ line (job_text c n job ++ fate_text (fate_of s kept)) ++ lines_from c s (n + 1) (drop (suc at) jobs) (drop (suc at) records)
+lines_from-next c s n at [] records job kept is has = absurd cc
+lines_from-next c s n at (j ∷ jobs) [] job kept is has = absurd cc
+lines_from-next c s n zero (j ∷ jobs) (k ∷ records) job kept is has =
+    ap (λ (o : Option Job). option_map_or (λ x. line (job_text c n x ++ fate_text (fate_of s k)) ++ lines_from c s (n + 1) jobs records) o []) is
+    ∙ ap (λ (o : Option JobRecord). option_map_or (λ x. line (job_text c n job ++ fate_text (fate_of s x)) ++ lines_from c s (n + 1) jobs records) o []) has
+lines_from-next c s n (suc at) (j ∷ jobs) (k ∷ records) job kept is has = lines_from-next c s n at jobs records job kept is has
+
+-- behind the last member there is none
+pub drop-past : {X : Type 0} (xs : List X) (at : ℕ) → slice_get xs at ≡ None → drop at xs ≡ []
+drop-past [] zero is = refl
+drop-past [] (suc at) is = refl
+drop-past (x ∷ xs) zero is = absurd cc
+drop-past (x ∷ xs) (suc at) is = drop-past xs at is
+
+fate_lines-none : (c : Configuration) (n : ℕ) (jobs : List Job) → fate_lines c n jobs [] ≡ []
+fate_lines-none c n [] = refl
+fate_lines-none c n (job ∷ jobs) = refl
+
+-- behind the last job there is no line
+pub lines_from-end : (c : Configuration) (s : State) (n at : ℕ) (jobs : List Job) (records : List JobRecord) → slice_get jobs at ≡ None → lines_from c s n (drop at jobs) (drop at records) ≡ []
+lines_from-end c s n at jobs records is = rw (drop-past jobs at is) refl
+
+-- behind the last record there is none
+pub lines_from-short : (c : Configuration) (s : State) (n at : ℕ) (jobs : List Job) (records : List JobRecord) → slice_get records at ≡ None → lines_from c s n (drop at jobs) (drop at records) ≡ []
+lines_from-short c s n at jobs records is = rw (drop-past records at is) (fate_lines-none c n (drop at jobs))
+
+-- one more job's line was put
+pub lines_from-put : (c : Configuration) (s : State) (n at next : ℕ) (jobs : List Job) (records : List JobRecord) (job : Job) (kept : JobRecord) (old put told new : List ℕ) → slice_get jobs at ≡ Some job → slice_get records at ≡ Some kept → next ≡ suc at →
+    put ≡ old ++ job_text c n job → told ≡ put ++ fate_text (fate_of s kept) → new ≡ told ++ 10 ∷ [] →
+    new ++ lines_from c s (n + 1) (drop next jobs) (drop next records) ≡ old ++ lines_from c s n (drop at jobs) (drop at records)
+lines_from-put c s n at next jobs records job kept old put told new is has after first then last =
+    rw (after, lines_from-next c s n at jobs records job kept is has, last, then, first) (simp append_assoc)

@@ -1,0 +1,22 @@
+-- what the machine makes of a list of events
+use Rattle.std.specs.Prelude.{List, [], ◌∷◌}
+use Rattle.np_config.specs.Configuration.{Configuration}
+use Rattle.np_event.specs.declared.entry.Entry.{Entry}
+use Rattle.np_event.specs.declared.event.Event.{Event}
+use Rattle.np_rules.specs.State.{State, start}
+use Rattle.np_rules.specs.Step.{judge, next, reply_of}
+use Rattle.np_rules.specs.History.{after}
+use Rattle.np_rules.specs.Ran.{Ran}
+
+-- the events, each with the machine's reply in the state that those before it left
+abbrev pub played_from : Configuration → State → List Event → List Entry
+played_from c s [] = []
+played_from c s (e ∷ events) = record { event = e; reply = reply_of (judge c s e) } ∷ played_from c (next c s e) events
+
+-- the journal of a script's events
+abbrev pub played : Configuration → List Event → List Entry
+played c events = played_from c (start c) events
+
+-- the machine that has played them
+abbrev pub ran : Configuration → List Event → Ran
+ran c events = record { configuration = c; journal = played c events; state = after c (played c events) }

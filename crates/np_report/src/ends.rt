@@ -1,0 +1,93 @@
+//! How many jobs came to which end.
+
+ghost use Rattle.std.specs.Prelude.{◌≡◌, ◌≤◌, ◌++◌, codes, length, count_by, if◌then◌else◌, OnOk, IfOk};
+ghost use Rattle.np_rules.specs.Fates.{fates, fate_of};
+ghost use Rattle.np_report.specs.Summary.{is_end, summary_of, count_line};
+
+use np_record::JobRecord;
+use np_rules::Look;
+use np_text::{Ending, JobId, NoMemory, put_number};
+use std::alloc::Global;
+
+/// What a job can come to.
+#[derive(Clone, Copy)]
+enum End {
+    Served,
+    Failed,
+    Lost,
+    Withdrawn,
+    /// It isn't over.
+    Waiting,
+}
+
+/// Whether the job came to this end.
+fn is_end<L: Look>(look: &L, end: End, job: &JobRecord) -> bool
+    ensures { result ≡ is_end end (fate_of (L.state look.now) job.now) }
+{
+    match end {
+        End::Served => matches!(job.ending, Some(Ending::Served)),
+        End::Failed => matches!(job.ending, Some(Ending::Failed)),
+        End::Lost => matches!(job.ending, Some(Ending::Lost)),
+        End::Withdrawn => matches!(job.ending, Some(Ending::Withdrawn)),
+        End::Waiting => job.ending.is_none(),
+    }
+}
+
+fn one_if(counted: bool) -> u32
+    ensures answer { result ≡ (if counted then 1 else 0) }
+    ensures small { result ≤ 1 }
+{
+    if counted { 1 } else { 0 }
+}
+
+fn count_jobs<L: Look>(look: &L) -> u32
+    requires { length (L.state look.now).jobs ≤ 4096 }
+    ensures { result ≡ length (L.state look.now).jobs }
+{
+    let mut at = 0;
+    while let Some(_) = look.job(JobId(at)) {
+        at += 1;
+    }
+    at
+}
+
+fn count_ends<L: Look>(look: &L, end: End) -> u32
+    requires { length (L.state look.now).jobs ≤ 4096 }
+    ensures { result ≡ count_by (is_end end) (fates (L.state look.now)) }
+{
+    let mut at = 0;
+    let mut count = 0;
+    while let Some(job) = look.job(JobId(at)) {
+        count += one_if(is_end(look, end, &job));
+        at += 1;
+    }
+    count
+}
+
+fn put_count(out: &mut Vec<u8>, word: &[u8], count: u32) -> Result<(), NoMemory>
+    ensures { OnOk result (out.new.items ≡ out.old.items ++ count_line word.now count) }
+{
+    out.extend_from_slice(word)?;
+    out.push(b' ')?;
+    put_number(out, u64::from(count))?;
+    out.push(b'\n')?;
+    Ok(())
+}
+
+/// The summary of a state: how many jobs there are, and how many were served, failed, lost and
+/// withdrawn, and are waiting, a line each. The time grows with the number of jobs.
+#[tactic(auto, unfolding(crate::specs::Summary::summary_of))]
+pub fn summary<L: Look>(alloc: Global, look: &L) -> Result<Vec<u8>, NoMemory>
+    requires jobs { length (L.state look.now).jobs ≡ length (L.site look.now).jobs }
+    ensures { IfOk result (λ text. text.items ≡ summary_of (fates (L.state look.now))) }
+{
+    let _age = look.config().max_hold_age();
+    let mut out = Vec::new(alloc);
+    put_count(&mut out, b"jobs", count_jobs(look))?;
+    put_count(&mut out, b"served", count_ends(look, End::Served))?;
+    put_count(&mut out, b"failed", count_ends(look, End::Failed))?;
+    put_count(&mut out, b"lost", count_ends(look, End::Lost))?;
+    put_count(&mut out, b"withdrawn", count_ends(look, End::Withdrawn))?;
+    put_count(&mut out, b"waiting", count_ends(look, End::Waiting))?;
+    Ok(out)
+}

@@ -1,0 +1,125 @@
+//! What became of the jobs, as it is printed.
+
+ghost use Rattle.std.specs.Prelude.{◌≡◌, ◌++◌, map, OnOk};
+ghost use Rattle.std.specs.List.{flat_map};
+ghost use Rattle.np_rules.specs.Fates.{declines_of, fate_of};
+ghost use Rattle.np_report.specs.Text.{decline_text, fate_text, node_text, phase_text, pool_text, reason_text};
+
+use np_record::{Declined, JobRecord, Marked};
+use np_rules::Look;
+use np_text::{Ending, NoMemory, Phase, PoolId, Reason, put_number};
+
+fn phase_name(phase: Phase) -> &'static [u8]
+    ensures { result.now ≡ phase_text phase }
+{
+    match phase {
+        Phase::New => b"new",
+        Phase::Asked => b"asked",
+        Phase::Using => b"using",
+        Phase::Over => b"over",
+    }
+}
+
+fn put_reason(out: &mut Vec<u8>, reason: Reason) -> Result<(), NoMemory>
+    ensures { OnOk result (out.new.items ≡ out.old.items ++ reason_text reason) }
+{
+    match reason {
+        Reason::NoLabel(label) => {
+            out.extend_from_slice(b"no-label-l")?;
+            put_number(out, u64::from(label.0))
+        }
+        Reason::NeverFits => {
+            out.extend_from_slice(b"never-fits")?;
+            Ok(())
+        }
+        Reason::Spent(node) => {
+            out.extend_from_slice(b"spent-n")?;
+            put_number(out, u64::from(node.0))
+        }
+    }
+}
+
+fn put_decline(out: &mut Vec<u8>, declined: Declined) -> Result<(), NoMemory>
+    ensures { OnOk result (out.new.items ≡ out.old.items ++ decline_text declined) }
+{
+    out.extend_from_slice(b" p")?;
+    put_number(out, u64::from(declined.pool.0))?;
+    out.push(b':')?;
+    put_reason(out, declined.reason)
+}
+
+fn put_declines(out: &mut Vec<u8>, declines: &[Declined]) -> Result<(), NoMemory>
+    ensures { OnOk result (out.new.items ≡ out.old.items ++ flat_map decline_text declines.now) }
+{
+    for declined in declines {
+        put_decline(out, *declined)?;
+    }
+    Ok(())
+}
+
+fn put_pool(out: &mut Vec<u8>, pool: Option<PoolId>) -> Result<(), NoMemory>
+    ensures { OnOk result (out.new.items ≡ out.old.items ++ pool_text pool) }
+{
+    if let Some(pool) = pool {
+        out.extend_from_slice(b" p")?;
+        put_number(out, u64::from(pool.0))?;
+    }
+    Ok(())
+}
+
+fn put_nodes(out: &mut Vec<u8>, nodes: &[Marked]) -> Result<(), NoMemory>
+    ensures { OnOk result (out.new.items ≡ out.old.items ++ flat_map node_text (map (λ m. m.node) nodes.now)) }
+{
+    for marked in nodes {
+        out.extend_from_slice(b" n")?;
+        put_number(out, u64::from(marked.node.0))?;
+    }
+    Ok(())
+}
+
+/// The declines of the job's request, where it has one that stands.
+fn put_failed<L: Look>(out: &mut Vec<u8>, look: &L, job: &JobRecord) -> Result<(), NoMemory>
+    ensures { OnOk result (out.new.items ≡ out.old.items ++ flat_map decline_text (declines_of (L.state look.now) job.now)) }
+{
+    let Some(request) = job.request else {
+        return Ok(());
+    };
+    match look.request(request) {
+        None => Ok(()),
+        Some(kept) => put_declines(out, kept.declined.items()),
+    }
+}
+
+/// A job's end, or how far it has come.
+pub(crate) fn put_fate<L: Look>(
+    out: &mut Vec<u8>,
+    look: &L,
+    job: &JobRecord,
+) -> Result<(), NoMemory>
+    ensures { OnOk result (out.new.items ≡ out.old.items ++ fate_text (fate_of (L.state look.now) job.now)) }
+{
+    match job.ending {
+        Some(Ending::Served) => {
+            out.extend_from_slice(b"served")?;
+            put_pool(out, job.pool)?;
+            put_nodes(out, job.nodes.items())
+        }
+        Some(Ending::Failed) => {
+            out.extend_from_slice(b"failed")?;
+            put_failed(out, look, job)
+        }
+        Some(Ending::Lost) => {
+            out.extend_from_slice(b"lost")?;
+            Ok(())
+        }
+        Some(Ending::Withdrawn) => {
+            out.extend_from_slice(b"withdrawn")?;
+            Ok(())
+        }
+        None => {
+            out.extend_from_slice(b"waiting ")?;
+            out.extend_from_slice(phase_name(job.phase))?;
+            Ok(())
+        }
+    }
+}

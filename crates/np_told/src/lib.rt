@@ -1,0 +1,8 @@
+//! Laws of runs that printing stands on: what a run answers can be told.
+//!
+//! `specs/Told` says which replies have a line, where their numbers are within their types.
+#![tactic(auto)]
+
+mod law;
+
+pub use law::{a_run_has_a_record_for_each_job, the_replies_of_a_run_can_be_told};
