@@ -175,3 +175,6 @@ pub fn paused_pool()
 pub fn ended_by_the_wrong_party()
     ensures { Plays ended_by_the_wrong_party.site ended_by_the_wrong_party.journal ended_by_the_wrong_party.ends }
 {}
+
+#[cfg(test)]
+mod tests;
