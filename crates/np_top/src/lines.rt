@@ -54,7 +54,8 @@ fn put_fault(line: &mut Vec<u8>, fault: LineFault) -> Result<(), NoMemory>
         }
         LineFault::BadArgument { word } => {
             line.extend_from_slice(b"bad-argument ")?;
-            put_number(line, u64::from(word))
+            put_number(line, u64::from(word))?;
+            Ok(())
         }
     }
 }
