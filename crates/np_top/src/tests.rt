@@ -1,5 +1,7 @@
 //! What no clause says: that calls succeed with ample memory; and worked inputs.
 
+mod longest;
+
 use crate::poolsim;
 use np_io::{MemSink, MemSource};
 use std::alloc::{AllocError, Global};
