@@ -2,8 +2,14 @@
 //!
 //! Each function is a theorem with an empty body: over its site the machine gives the replies of
 //! its journal, one by one, and each job comes to its fate. The file of its name in `specs/` has the
-//! three; the checker computes them from the definitions alone.
+//! three; the checker computes them from the definitions alone. `journals` has the same as they are
+//! printed, for the tests of what plays and prints them.
 #![tactic(auto)]
+
+mod journal;
+mod journals;
+#[cfg(test)]
+mod tests;
 
 ghost use Rattle.np_worked.specs.Site.{Plays};
 ghost use Rattle.np_worked.specs.PlainPath as plain_path;
@@ -34,6 +40,9 @@ ghost use Rattle.np_worked.specs.WithdrawnEarly as withdrawn_early;
 ghost use Rattle.np_worked.specs.ReadyAge as ready_age;
 ghost use Rattle.np_worked.specs.PausedPool as paused_pool;
 ghost use Rattle.np_worked.specs.EndedByTheWrongParty as ended_by_the_wrong_party;
+
+pub use journal::Journal;
+pub use journals::{JOB_JOURNALS, NODE_JOURNALS, REQUEST_JOURNALS};
 
 /// From a job's request to its fulfilled node.
 pub fn plain_path()
@@ -175,6 +184,3 @@ pub fn paused_pool()
 pub fn ended_by_the_wrong_party()
     ensures { Plays ended_by_the_wrong_party.site ended_by_the_wrong_party.journal ended_by_the_wrong_party.ends }
 {}
-
-#[cfg(test)]
-mod tests;

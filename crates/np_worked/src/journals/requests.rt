@@ -1,12 +1,14 @@
 //! Journals of requests: how they are made, taken up, served, and how they fail.
 
-use super::{FULFILLED, Fate, Journal, LAUNCHED, OPENED, PLAIN_SITE, STARTED, SUBMITTED};
-use np_record::Declined;
-use np_text::{LabelId, Phase, PoolId, Reason};
+use super::{FULFILLED, LAUNCHED, OPENED, PLAIN_CANONICAL, PLAIN_SITE, STARTED, SUBMITTED};
+use crate::journal::Journal;
 
 // Two pools, of which only the second offers the label that the job asks.
 const DECLINING_SITE: &str =
     r#"{"labels":[{"name":"a"},{"name":"b"}],"providers":[{"name":"c","pools":[{"name":"m","labels":[{"name":"b"}]}]},{"name":"d","pools":[{"name":"m","labels":[{"name":"a"}]}]}],"requesters":[{"name":"z","jobs":[{"name":"j","labels":["a"]}]}]}"#;
+
+const DECLINING_CANONICAL: &str =
+    r#"{"faults":[],"labels":[{"max-ready-age":0,"min-ready":0,"name":"a"},{"max-ready-age":0,"min-ready":0,"name":"b"}],"max-hold-age":0,"providers":[{"launch-retries":3,"name":"c","pools":[{"fail-starts":[],"labels":[{"cores":1,"name":"b","ram":1024}],"name":"m"}]},{"launch-retries":3,"name":"d","pools":[{"fail-starts":[],"labels":[{"cores":1,"name":"a","ram":1024}],"name":"m"}]}],"requesters":[{"jobs":[{"end":"used","labels":["a"],"name":"j","priority":"normal","relative-priority":0,"resources-first":false,"semaphores":[]}],"name":"z","window":20}],"semaphores":[]}"#;
 
 // The first pool has declined the request, and the launcher of the second is gone.
 const DECLINED: &[&str] = &[
@@ -29,14 +31,16 @@ const DECLINED: &[&str] = &[
 const PLAIN_PATH: Journal = Journal {
     name: "plain_path",
     site: PLAIN_SITE,
+    canonical: PLAIN_CANONICAL,
     pieces: &[OPENED, SUBMITTED, STARTED, LAUNCHED, FULFILLED],
-    fates: &[Fate::Waiting(Phase::Asked)],
+    fates: &["j0 z/j waiting asked"],
 };
 
 // A node is kept ready, and a job with three labels takes it in.
 const MIN_READY_AND_TAKEN: Journal = Journal {
     name: "min_ready_and_taken",
     site: r#"{"labels":[{"name":"a","min-ready":1},{"name":"b"}],"providers":[{"name":"c","pools":[{"name":"m","labels":[{"name":"a"},{"name":"b"}]}]}],"requesters":[{"name":"z","jobs":[{"name":"j","labels":["a","b","a"]}]}]}"#,
+    canonical: r#"{"faults":[],"labels":[{"max-ready-age":0,"min-ready":1,"name":"a"},{"max-ready-age":0,"min-ready":0,"name":"b"}],"max-hold-age":0,"providers":[{"launch-retries":3,"name":"c","pools":[{"fail-starts":[],"labels":[{"cores":1,"name":"a","ram":1024},{"cores":1,"name":"b","ram":1024}],"name":"m"}]}],"requesters":[{"jobs":[{"end":"used","labels":["a","b","a"],"name":"j","priority":"normal","relative-priority":0,"resources-first":false,"semaphores":[]}],"name":"z","window":20}],"semaphores":[]}"#,
     pieces: &[&[
         "open launcher p0 = session s1",
         "register s1 = ok",
@@ -64,13 +68,14 @@ const MIN_READY_AND_TAKEN: Journal = Journal {
         "done s1 n2 1 ok 3 = ok",
         "fulfil s1 200-0000000001 = ok",
     ]],
-    fates: &[Fate::Waiting(Phase::Asked)],
+    fates: &["j0 z/j waiting asked"],
 };
 
 // A job asks more than the pool may ever hold.
 const NEVER_FITS: Journal = Journal {
     name: "never_fits",
     site: r#"{"labels":[{"name":"a"}],"providers":[{"name":"c","pools":[{"name":"m","max-servers":2,"labels":[{"name":"a"}]}]}],"requesters":[{"name":"z","jobs":[{"name":"j","labels":["a","a","a"]}]}]}"#,
+    canonical: r#"{"faults":[],"labels":[{"max-ready-age":0,"min-ready":0,"name":"a"}],"max-hold-age":0,"providers":[{"launch-retries":3,"name":"c","pools":[{"fail-starts":[],"labels":[{"cores":1,"name":"a","ram":1024}],"max-servers":2,"name":"m"}]}],"requesters":[{"jobs":[{"end":"used","labels":["a","a","a"],"name":"j","priority":"normal","relative-priority":0,"resources-first":false,"semaphores":[]}],"name":"z","window":20}],"semaphores":[]}"#,
     pieces: &[
         OPENED,
         SUBMITTED,
@@ -80,16 +85,14 @@ const NEVER_FITS: Journal = Journal {
             "finish s2 j0 = ended failed",
         ],
     ],
-    fates: &[Fate::Failed(&[Declined {
-        pool: PoolId(0),
-        reason: Reason::NeverFits,
-    }])],
+    fates: &["j0 z/j failed p0:never-fits"],
 };
 
 // The one pool that is left has declined, and the request fails.
 const DECLINED_BY_ALL: Journal = Journal {
     name: "declined_by_all",
     site: DECLINING_SITE,
+    canonical: DECLINING_CANONICAL,
     pieces: &[
         DECLINED,
         &[
@@ -97,16 +100,14 @@ const DECLINED_BY_ALL: Journal = Journal {
             "finish s4 j0 = ended failed",
         ],
     ],
-    fates: &[Fate::Failed(&[Declined {
-        pool: PoolId(0),
-        reason: Reason::NoLabel(LabelId(0)),
-    }])],
+    fates: &["j0 z/j failed p0:no-label-l0"],
 };
 
 // Another launcher of the other pool comes, and takes the request up.
 const DECLINED_BUT_TAKEN_UP: Journal = Journal {
     name: "declined_but_taken_up",
     site: DECLINING_SITE,
+    canonical: DECLINING_CANONICAL,
     pieces: &[
         DECLINED,
         &[
@@ -116,13 +117,14 @@ const DECLINED_BUT_TAKEN_UP: Journal = Journal {
             "lock-request s5 200-0000000000 = held",
         ],
     ],
-    fates: &[Fate::Waiting(Phase::Asked)],
+    fates: &["j0 z/j waiting asked"],
 };
 
 // Every launch of the first pool fails, and the second serves the request.
 const RETRIES_SPENT: Journal = Journal {
     name: "retries_spent",
     site: r#"{"labels":[{"name":"a"}],"providers":[{"name":"c","pools":[{"name":"m","fail-starts":[1,2,3],"labels":[{"name":"a"}]}]},{"name":"d","pools":[{"name":"m","labels":[{"name":"a"}]}]}],"requesters":[{"name":"z","jobs":[{"name":"j","labels":["a"]}]}]}"#,
+    canonical: r#"{"faults":[],"labels":[{"max-ready-age":0,"min-ready":0,"name":"a"}],"max-hold-age":0,"providers":[{"launch-retries":3,"name":"c","pools":[{"fail-starts":[1,2,3],"labels":[{"cores":1,"name":"a","ram":1024}],"name":"m"}]},{"launch-retries":3,"name":"d","pools":[{"fail-starts":[],"labels":[{"cores":1,"name":"a","ram":1024}],"name":"m"}]}],"requesters":[{"jobs":[{"end":"used","labels":["a"],"name":"j","priority":"normal","relative-priority":0,"resources-first":false,"semaphores":[]}],"name":"z","window":20}],"semaphores":[]}"#,
     pieces: &[&[
         "open launcher p0 = session s1",
         "open launcher p1 = session s2",
@@ -150,13 +152,14 @@ const RETRIES_SPENT: Journal = Journal {
         "done s2 n1 1 ok 1 = ok",
         "fulfil s2 200-0000000000 = ok",
     ]],
-    fates: &[Fate::Waiting(Phase::Asked)],
+    fates: &["j0 z/j waiting asked"],
 };
 
 // Requests are taken up by priority, relative priority and sequence.
 const PRIORITIES: Journal = Journal {
     name: "priorities",
     site: r#"{"labels":[{"name":"a"}],"providers":[{"name":"c","pools":[{"name":"m","labels":[{"name":"a"}]}]}],"requesters":[{"name":"z","jobs":[{"name":"low","labels":["a"],"priority":"low"},{"name":"later","labels":["a"],"relative-priority":5},{"name":"sooner","labels":["a"],"relative-priority":1},{"name":"high","labels":["a"],"priority":"high"}]}]}"#,
+    canonical: r#"{"faults":[],"labels":[{"max-ready-age":0,"min-ready":0,"name":"a"}],"max-hold-age":0,"providers":[{"launch-retries":3,"name":"c","pools":[{"fail-starts":[],"labels":[{"cores":1,"name":"a","ram":1024}],"name":"m"}]}],"requesters":[{"jobs":[{"end":"used","labels":["a"],"name":"low","priority":"low","relative-priority":0,"resources-first":false,"semaphores":[]},{"end":"used","labels":["a"],"name":"later","priority":"normal","relative-priority":5,"resources-first":false,"semaphores":[]},{"end":"used","labels":["a"],"name":"sooner","priority":"normal","relative-priority":1,"resources-first":false,"semaphores":[]},{"end":"used","labels":["a"],"name":"high","priority":"high","relative-priority":0,"resources-first":false,"semaphores":[]}],"name":"z","window":20}],"semaphores":[]}"#,
     pieces: &[
         OPENED,
         &[
@@ -172,10 +175,10 @@ const PRIORITIES: Journal = Journal {
         ],
     ],
     fates: &[
-        Fate::Waiting(Phase::Asked),
-        Fate::Waiting(Phase::Asked),
-        Fate::Waiting(Phase::Asked),
-        Fate::Waiting(Phase::Asked),
+        "j0 z/low waiting asked",
+        "j1 z/later waiting asked",
+        "j2 z/sooner waiting asked",
+        "j3 z/high waiting asked",
     ],
 };
 
@@ -183,6 +186,7 @@ const PRIORITIES: Journal = Journal {
 const REFUSALS: Journal = Journal {
     name: "refusals",
     site: PLAIN_SITE,
+    canonical: PLAIN_CANONICAL,
     pieces: &[&[
         "register s9 = refused no-session",
         "open launcher p9 = refused wrong-role",
@@ -202,13 +206,14 @@ const REFUSALS: Journal = Journal {
         "decline s1 200-0000000000 never-fits = refused false-reason",
         "finish s2 j0 = refused wrong-state asked",
     ]],
-    fates: &[Fate::Waiting(Phase::Asked)],
+    fates: &["j0 z/j waiting asked"],
 };
 
 // A min-ready request is served by the pool that made it alone.
 const PINNED_ELSEWHERE: Journal = Journal {
     name: "pinned_elsewhere",
     site: r#"{"labels":[{"name":"a","min-ready":1},{"name":"b"}],"providers":[{"name":"c","pools":[{"name":"m","labels":[{"name":"a"}]}]},{"name":"d","pools":[{"name":"m","max-servers":0,"labels":[{"name":"a"}]}]}],"requesters":[{"name":"z"}]}"#,
+    canonical: r#"{"faults":[],"labels":[{"max-ready-age":0,"min-ready":1,"name":"a"},{"max-ready-age":0,"min-ready":0,"name":"b"}],"max-hold-age":0,"providers":[{"launch-retries":3,"name":"c","pools":[{"fail-starts":[],"labels":[{"cores":1,"name":"a","ram":1024}],"name":"m"}]},{"launch-retries":3,"name":"d","pools":[{"fail-starts":[],"labels":[{"cores":1,"name":"a","ram":1024}],"max-servers":0,"name":"m"}]}],"requesters":[{"jobs":[],"name":"z","window":20}],"semaphores":[]}"#,
     pieces: &[&[
         "open launcher p0 = session s1",
         "open launcher p1 = session s2",
@@ -241,6 +246,7 @@ const PINNED_ELSEWHERE: Journal = Journal {
 const SPENT_MIN_READY: Journal = Journal {
     name: "spent_min_ready",
     site: r#"{"labels":[{"name":"a","min-ready":1}],"providers":[{"name":"c","launch-retries":1,"pools":[{"name":"m","fail-starts":[1],"labels":[{"name":"a"}]}]}],"requesters":[{"name":"z"}]}"#,
+    canonical: r#"{"faults":[],"labels":[{"max-ready-age":0,"min-ready":1,"name":"a"}],"max-hold-age":0,"providers":[{"launch-retries":1,"name":"c","pools":[{"fail-starts":[1],"labels":[{"cores":1,"name":"a","ram":1024}],"name":"m"}]}],"requesters":[{"jobs":[],"name":"z","window":20}],"semaphores":[]}"#,
     pieces: &[&[
         "open launcher p0 = session s1",
         "register s1 = ok",
@@ -275,6 +281,7 @@ const SPENT_MIN_READY: Journal = Journal {
 const RESET_REQUEST: Journal = Journal {
     name: "reset_request",
     site: PLAIN_SITE,
+    canonical: PLAIN_CANONICAL,
     pieces: &[
         OPENED,
         SUBMITTED,
@@ -298,13 +305,14 @@ const RESET_REQUEST: Journal = Journal {
             "fulfil s4 200-0000000000 = ok",
         ],
     ],
-    fates: &[Fate::Waiting(Phase::Asked)],
+    fates: &["j0 z/j waiting asked"],
 };
 
 // A request that nobody may serve fails only where a pool is registered.
 const FAIL_DECLINED: Journal = Journal {
     name: "fail_declined",
     site: DECLINING_SITE,
+    canonical: DECLINING_CANONICAL,
     pieces: &[&[
         "open launcher p0 = session s1",
         "open launcher p1 = session s2",
@@ -327,10 +335,10 @@ const FAIL_DECLINED: Journal = Journal {
         "fail-declined s4 200-0000000000 = refused wrong-state failed",
         "withdraw s3 j0 = ok",
     ]],
-    fates: &[Fate::Withdrawn],
+    fates: &["j0 z/j withdrawn"],
 };
 
-pub(super) const JOURNALS: &[Journal] = &[
+pub const REQUEST_JOURNALS: &[Journal] = &[
     PLAIN_PATH,
     MIN_READY_AND_TAKEN,
     NEVER_FITS,

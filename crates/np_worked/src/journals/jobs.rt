@@ -1,7 +1,7 @@
 //! Journals of jobs: their semaphores, their nodes and their ends.
 
-use super::{FULFILLED, Fate, Journal, LAUNCHED, OPENED, PLAIN_SITE, STARTED, SUBMITTED, TAKEN};
-use np_text::{NodeId, Phase, PoolId};
+use super::{FULFILLED, LAUNCHED, OPENED, PLAIN_CANONICAL, PLAIN_SITE, STARTED, SUBMITTED, TAKEN};
+use crate::journal::Journal;
 
 const ACQUIRED: &[&str] = &["acquire s2 j0 = ok"];
 
@@ -9,6 +9,7 @@ const ACQUIRED: &[&str] = &["acquire s2 j0 = ok"];
 const SERVED_JOB: Journal = Journal {
     name: "served_job",
     site: PLAIN_SITE,
+    canonical: PLAIN_CANONICAL,
     pieces: &[
         OPENED,
         SUBMITTED,
@@ -22,13 +23,14 @@ const SERVED_JOB: Journal = Journal {
             "unlock-node s2 n0 = ok",
         ],
     ],
-    fates: &[Fate::Served(PoolId(0), &[NodeId(0)])],
+    fates: &["j0 z/j served p0 n0"],
 };
 
 // Jobs take all their semaphores or none.
 const SEMAPHORES_ALL_OR_NONE: Journal = Journal {
     name: "semaphores_all_or_none",
     site: r#"{"labels":[{"name":"a"}],"providers":[{"name":"c","pools":[{"name":"m","labels":[{"name":"a"}]}]}],"requesters":[{"name":"z","jobs":[{"name":"j","labels":["a"],"semaphores":["db","net"]},{"name":"k","labels":["a"],"semaphores":["net","db"]},{"name":"l","labels":["a"],"semaphores":["db"]}]}],"semaphores":[{"name":"db"},{"name":"net"}]}"#,
+    canonical: r#"{"faults":[],"labels":[{"max-ready-age":0,"min-ready":0,"name":"a"}],"max-hold-age":0,"providers":[{"launch-retries":3,"name":"c","pools":[{"fail-starts":[],"labels":[{"cores":1,"name":"a","ram":1024}],"name":"m"}]}],"requesters":[{"jobs":[{"end":"used","labels":["a"],"name":"j","priority":"normal","relative-priority":0,"resources-first":false,"semaphores":["db","net"]},{"end":"used","labels":["a"],"name":"k","priority":"normal","relative-priority":0,"resources-first":false,"semaphores":["net","db"]},{"end":"used","labels":["a"],"name":"l","priority":"normal","relative-priority":0,"resources-first":false,"semaphores":["db"]}],"name":"z","window":20}],"semaphores":[{"max":1,"name":"db"},{"max":1,"name":"net"}]}"#,
     pieces: &[&[
         "open requester q0 = session s1",
         "acquire s1 j2 = ok",
@@ -41,9 +43,9 @@ const SEMAPHORES_ALL_OR_NONE: Journal = Journal {
         "acquire s1 j1 = refused semaphore-full x1",
     ]],
     fates: &[
-        Fate::Waiting(Phase::New),
-        Fate::Waiting(Phase::New),
-        Fate::Withdrawn,
+        "j0 z/j waiting new",
+        "j1 z/k waiting new",
+        "j2 z/l withdrawn",
     ],
 };
 
@@ -51,6 +53,7 @@ const SEMAPHORES_ALL_OR_NONE: Journal = Journal {
 const SHORT_QUOTA: Journal = Journal {
     name: "short_quota",
     site: r#"{"labels":[{"name":"a"}],"providers":[{"name":"c","pools":[{"name":"m","max-servers":1,"labels":[{"name":"a"}]}]}],"requesters":[{"name":"z","jobs":[{"name":"j","labels":["a"],"semaphores":["db"]},{"name":"k","labels":["a"],"semaphores":["db"],"resources-first":true}]}],"semaphores":[{"name":"db"}]}"#,
+    canonical: r#"{"faults":[],"labels":[{"max-ready-age":0,"min-ready":0,"name":"a"}],"max-hold-age":0,"providers":[{"launch-retries":3,"name":"c","pools":[{"fail-starts":[],"labels":[{"cores":1,"name":"a","ram":1024}],"max-servers":1,"name":"m"}]}],"requesters":[{"jobs":[{"end":"used","labels":["a"],"name":"j","priority":"normal","relative-priority":0,"resources-first":false,"semaphores":["db"]},{"end":"used","labels":["a"],"name":"k","priority":"normal","relative-priority":0,"resources-first":true,"semaphores":["db"]}],"name":"z","window":20}],"semaphores":[{"max":1,"name":"db"}]}"#,
     pieces: &[
         OPENED,
         &[
@@ -73,13 +76,14 @@ const SHORT_QUOTA: Journal = Journal {
             "take s2 j1 = refused not-all 1",
         ],
     ],
-    fates: &[Fate::Waiting(Phase::Asked), Fate::Waiting(Phase::Asked)],
+    fates: &["j0 z/j waiting asked", "j1 z/k waiting asked"],
 };
 
 // A requester stops while it uses its node, and its job is lost.
 const CRASHED_REQUESTER: Journal = Journal {
     name: "crashed_requester",
     site: r#"{"labels":[{"name":"a"}],"providers":[{"name":"c","pools":[{"name":"m","labels":[{"name":"a"}]}]}],"requesters":[{"name":"z","jobs":[{"name":"j","labels":["a"],"semaphores":["db"]}]}],"semaphores":[{"name":"db"}]}"#,
+    canonical: r#"{"faults":[],"labels":[{"max-ready-age":0,"min-ready":0,"name":"a"}],"max-hold-age":0,"providers":[{"launch-retries":3,"name":"c","pools":[{"fail-starts":[],"labels":[{"cores":1,"name":"a","ram":1024}],"name":"m"}]}],"requesters":[{"jobs":[{"end":"used","labels":["a"],"name":"j","priority":"normal","relative-priority":0,"resources-first":false,"semaphores":["db"]}],"name":"z","window":20}],"semaphores":[{"max":1,"name":"db"}]}"#,
     pieces: &[
         OPENED,
         ACQUIRED,
@@ -105,13 +109,14 @@ const CRASHED_REQUESTER: Journal = Journal {
             "release s3 j0 = ok",
         ],
     ],
-    fates: &[Fate::Lost],
+    fates: &["j0 z/j lost"],
 };
 
 // A job is withdrawn while its node is launched, and the node serves another.
 const WITHDRAWN_REQUEST: Journal = Journal {
     name: "withdrawn_request",
     site: r#"{"labels":[{"name":"a"}],"providers":[{"name":"c","pools":[{"name":"m","labels":[{"name":"a"}]}]}],"requesters":[{"name":"z","jobs":[{"name":"j","labels":["a"]},{"name":"k","labels":["a"]}]}]}"#,
+    canonical: r#"{"faults":[],"labels":[{"max-ready-age":0,"min-ready":0,"name":"a"}],"max-hold-age":0,"providers":[{"launch-retries":3,"name":"c","pools":[{"fail-starts":[],"labels":[{"cores":1,"name":"a","ram":1024}],"name":"m"}]}],"requesters":[{"jobs":[{"end":"used","labels":["a"],"name":"j","priority":"normal","relative-priority":0,"resources-first":false,"semaphores":[]},{"end":"used","labels":["a"],"name":"k","priority":"normal","relative-priority":0,"resources-first":false,"semaphores":[]}],"name":"z","window":20}],"semaphores":[]}"#,
     pieces: &[
         OPENED,
         SUBMITTED,
@@ -133,13 +138,14 @@ const WITHDRAWN_REQUEST: Journal = Journal {
             "fulfil s1 200-0000000001 = ok",
         ],
     ],
-    fates: &[Fate::Withdrawn, Fate::Waiting(Phase::Asked)],
+    fates: &["j0 z/j withdrawn", "j1 z/k waiting asked"],
 };
 
 // A job is withdrawn before it asked, and cannot ask any more.
 const WITHDRAWN_EARLY: Journal = Journal {
     name: "withdrawn_early",
     site: PLAIN_SITE,
+    canonical: PLAIN_CANONICAL,
     pieces: &[&[
         "open requester q0 = session s1",
         "withdraw s1 j0 = ok",
@@ -149,13 +155,14 @@ const WITHDRAWN_EARLY: Journal = Journal {
         "take s1 j0 = refused wrong-state over",
         "release s1 j0 = ok",
     ]],
-    fates: &[Fate::Withdrawn],
+    fates: &["j0 z/j withdrawn"],
 };
 
 // Nodes and jobs are ended by their own requester alone.
 const ENDED_BY_THE_WRONG_PARTY: Journal = Journal {
     name: "ended_by_the_wrong_party",
     site: r#"{"labels":[{"name":"a"}],"providers":[{"name":"c","pools":[{"name":"m","labels":[{"name":"a"}]}]}],"requesters":[{"name":"z","jobs":[{"name":"j","labels":["a"]}]},{"name":"y"}]}"#,
+    canonical: r#"{"faults":[],"labels":[{"max-ready-age":0,"min-ready":0,"name":"a"}],"max-hold-age":0,"providers":[{"launch-retries":3,"name":"c","pools":[{"fail-starts":[],"labels":[{"cores":1,"name":"a","ram":1024}],"name":"m"}]}],"requesters":[{"jobs":[{"end":"used","labels":["a"],"name":"j","priority":"normal","relative-priority":0,"resources-first":false,"semaphores":[]}],"name":"z","window":20},{"jobs":[],"name":"y","window":20}],"semaphores":[]}"#,
     pieces: &[
         OPENED,
         SUBMITTED,
@@ -181,10 +188,10 @@ const ENDED_BY_THE_WRONG_PARTY: Journal = Journal {
             "release s2 j0 = ok",
         ],
     ],
-    fates: &[Fate::Lost],
+    fates: &["j0 z/j lost"],
 };
 
-pub(super) const JOURNALS: &[Journal] = &[
+pub const JOB_JOURNALS: &[Journal] = &[
     SERVED_JOB,
     SEMAPHORES_ALL_OR_NONE,
     SHORT_QUOTA,

@@ -1,12 +1,13 @@
 //! Journals of nodes: their launches, their locks and their removal.
 
-use super::{FULFILLED, Fate, Journal, LAUNCHED, OPENED, PLAIN_SITE, STARTED, SUBMITTED, TAKEN};
-use np_text::{NodeId, Phase, PoolId};
+use super::{FULFILLED, LAUNCHED, OPENED, PLAIN_CANONICAL, PLAIN_SITE, STARTED, SUBMITTED, TAKEN};
+use crate::journal::Journal;
 
 // A launcher expires while it launches; the janitor cleans up, and another launcher serves the request.
 const EXPIRY_DURING_A_LAUNCH: Journal = Journal {
     name: "expiry_during_a_launch",
     site: PLAIN_SITE,
+    canonical: PLAIN_CANONICAL,
     pieces: &[
         OPENED,
         SUBMITTED,
@@ -32,13 +33,14 @@ const EXPIRY_DURING_A_LAUNCH: Journal = Journal {
             "fulfil s4 200-0000000000 = ok",
         ],
     ],
-    fates: &[Fate::Waiting(Phase::Asked)],
+    fates: &["j0 z/j waiting asked"],
 };
 
 // The next in a node's queue holds it when the first expires.
 const QUEUE_AFTER_AN_EXPIRY: Journal = Journal {
     name: "queue_after_an_expiry",
     site: PLAIN_SITE,
+    canonical: PLAIN_CANONICAL,
     pieces: &[
         OPENED,
         SUBMITTED,
@@ -53,13 +55,14 @@ const QUEUE_AFTER_AN_EXPIRY: Journal = Journal {
             "lock-node s3 n0 = queued 1",
         ],
     ],
-    fates: &[Fate::Waiting(Phase::Asked)],
+    fates: &["j0 z/j waiting asked"],
 };
 
 // A late report of an earlier launch is refused.
 const WRONG_ATTEMPT: Journal = Journal {
     name: "wrong_attempt",
     site: PLAIN_SITE,
+    canonical: PLAIN_CANONICAL,
     pieces: &[
         OPENED,
         SUBMITTED,
@@ -71,13 +74,14 @@ const WRONG_ATTEMPT: Journal = Journal {
             "done s1 n0 2 ok 2 = ok",
         ],
     ],
-    fates: &[Fate::Waiting(Phase::Asked)],
+    fates: &["j0 z/j waiting asked"],
 };
 
 // A held node is removed when it is old enough.
 const HOLD_AGE: Journal = Journal {
     name: "hold_age",
     site: r#"{"labels":[{"name":"a"}],"providers":[{"name":"c","pools":[{"name":"m","labels":[{"name":"a"}]}]}],"requesters":[{"name":"z","jobs":[{"name":"j","labels":["a"]}]}],"max-hold-age":2}"#,
+    canonical: r#"{"faults":[],"labels":[{"max-ready-age":0,"min-ready":0,"name":"a"}],"max-hold-age":2,"providers":[{"launch-retries":3,"name":"c","pools":[{"fail-starts":[],"labels":[{"cores":1,"name":"a","ram":1024}],"name":"m"}]}],"requesters":[{"jobs":[{"end":"used","labels":["a"],"name":"j","priority":"normal","relative-priority":0,"resources-first":false,"semaphores":[]}],"name":"z","window":20}],"semaphores":[]}"#,
     pieces: &[
         OPENED,
         SUBMITTED,
@@ -98,13 +102,14 @@ const HOLD_AGE: Journal = Journal {
             "mark-deleting s3 n0 = ok",
         ],
     ],
-    fates: &[Fate::Served(PoolId(0), &[NodeId(0)])],
+    fates: &["j0 z/j served p0 n0"],
 };
 
 // An unused ready node is removed when it is old enough.
 const READY_AGE: Journal = Journal {
     name: "ready_age",
     site: r#"{"labels":[{"name":"a","min-ready":1,"max-ready-age":1}],"providers":[{"name":"c","pools":[{"name":"m","labels":[{"name":"a"}]}]}],"requesters":[{"name":"z","jobs":[{"name":"j","labels":["a"]}]}]}"#,
+    canonical: r#"{"faults":[],"labels":[{"max-ready-age":1,"min-ready":1,"name":"a"}],"max-hold-age":0,"providers":[{"launch-retries":3,"name":"c","pools":[{"fail-starts":[],"labels":[{"cores":1,"name":"a","ram":1024}],"name":"m"}]}],"requesters":[{"jobs":[{"end":"used","labels":["a"],"name":"j","priority":"normal","relative-priority":0,"resources-first":false,"semaphores":[]}],"name":"z","window":20}],"semaphores":[]}"#,
     pieces: &[&[
         "tick = ok",
         "open launcher p0 = session s1",
@@ -128,13 +133,14 @@ const READY_AGE: Journal = Journal {
         "gone s2 n0 = ok",
         "gone s2 n0 = refused no-node",
     ]],
-    fates: &[Fate::Waiting(Phase::New)],
+    fates: &["j0 z/j waiting new"],
 };
 
 // A pool at its quota gives up a ready node that its request cannot use.
 const PAUSED_POOL: Journal = Journal {
     name: "paused_pool",
     site: r#"{"labels":[{"name":"a","min-ready":1},{"name":"b"}],"providers":[{"name":"c","pools":[{"name":"m","max-servers":1,"labels":[{"name":"a"},{"name":"b"}]}]}],"requesters":[{"name":"z","jobs":[{"name":"j","labels":["b"]}]}]}"#,
+    canonical: r#"{"faults":[],"labels":[{"max-ready-age":0,"min-ready":1,"name":"a"},{"max-ready-age":0,"min-ready":0,"name":"b"}],"max-hold-age":0,"providers":[{"launch-retries":3,"name":"c","pools":[{"fail-starts":[],"labels":[{"cores":1,"name":"a","ram":1024},{"cores":1,"name":"b","ram":1024}],"max-servers":1,"name":"m"}]}],"requesters":[{"jobs":[{"end":"used","labels":["b"],"name":"j","priority":"normal","relative-priority":0,"resources-first":false,"semaphores":[]}],"name":"z","window":20}],"semaphores":[]}"#,
     pieces: &[&[
         "open launcher p0 = session s1",
         "register s1 = ok",
@@ -159,13 +165,14 @@ const PAUSED_POOL: Journal = Journal {
         "gone s2 n0 = ok",
         "create s1 200-0000000001 = node n1",
     ]],
-    fates: &[Fate::Waiting(Phase::Asked)],
+    fates: &["j0 z/j waiting asked"],
 };
 
 // A ready node whose request stands is not freed; one whose request is gone is.
 const FREED_NODE: Journal = Journal {
     name: "freed_node",
     site: PLAIN_SITE,
+    canonical: PLAIN_CANONICAL,
     pieces: &[
         OPENED,
         SUBMITTED,
@@ -183,13 +190,14 @@ const FREED_NODE: Journal = Journal {
             "mark-deleting s3 n0 = refused not-due 0",
         ],
     ],
-    fates: &[Fate::Withdrawn],
+    fates: &["j0 z/j withdrawn"],
 };
 
 // A server is kept while its node is building or has it.
 const SWEPT_SERVERS: Journal = Journal {
     name: "swept_servers",
     site: PLAIN_SITE,
+    canonical: PLAIN_CANONICAL,
     pieces: &[
         OPENED,
         SUBMITTED,
@@ -205,13 +213,14 @@ const SWEPT_SERVERS: Journal = Journal {
             "sweep s3 n7 1 = remove",
         ],
     ],
-    fates: &[Fate::Waiting(Phase::Asked)],
+    fates: &["j0 z/j waiting asked"],
 };
 
 // Whatever server a building node may get is kept.
 const SWEPT_WHILE_BUILDING: Journal = Journal {
     name: "swept_while_building",
     site: PLAIN_SITE,
+    canonical: PLAIN_CANONICAL,
     pieces: &[
         OPENED,
         SUBMITTED,
@@ -228,10 +237,10 @@ const SWEPT_WHILE_BUILDING: Journal = Journal {
             "gone s3 n0 = refused wrong-state in-flight",
         ],
     ],
-    fates: &[Fate::Waiting(Phase::Asked)],
+    fates: &["j0 z/j waiting asked"],
 };
 
-pub(super) const JOURNALS: &[Journal] = &[
+pub const NODE_JOURNALS: &[Journal] = &[
     EXPIRY_DURING_A_LAUNCH,
     QUEUE_AFTER_AN_EXPIRY,
     WRONG_ATTEMPT,
