@@ -1,4 +1,9 @@
 pub mod Compact
+pub mod WholeData
+pub mod WholeText
+pub mod ConfigurationParts
+pub mod ConfigurationData
+pub mod OwnText
 pub mod Counting
 pub mod FateLines
 pub mod OneRun

@@ -9,6 +9,7 @@ use Rattle.np_text.proofs.LineLemmas.{lines_of-lines}
 use Rattle.np_text.proofs.SectionLemmas.{sections_of-bar}
 use Rattle.np_config.specs.Configuration.{Configuration}
 use Rattle.np_config.specs.Canonical.{configuration_data, canonical}
+use Rattle.np_config.specs.Sound.{IsSound}
 use Rattle.np_config.specs.Walk.{reads}
 use Rattle.np_event.specs.declared.event.Event.{Event}
 use Rattle.np_event.specs.declared.entry.Entry.{Entry}
@@ -20,6 +21,7 @@ use Rattle.np_rules.specs.Fates.{fates}
 use Rattle.np_rules.specs.History.{replayed, after, Runs}
 use Rattle.np_report.specs.Text.{entry_lines, fate_lines, text_of}
 use Rattle.np_report.proofs.Compact.{is_line-compact_text}
+use Rattle.np_report.proofs.OwnText.{reads-canonical}
 
 -- ## lines and sections
 
@@ -86,15 +88,15 @@ unfolding text_of
 text_of-sections c journal = rw (entry_lines-map journal) (simp (append_assoc, append-nil))
 
 -- two runs with one Text are one
-pub text_of-injective : (c d : Configuration) (j k : List Entry) (s t : State) → reads (canonical c) ≡ Ok c → reads (canonical d) ≡ Ok d → Runs c j s → Runs d k t →
+pub text_of-injective : (c d : Configuration) (j k : List Entry) (s t : State) → IsSound c → IsSound d → Runs c j s → Runs d k t →
     AllByRecursion HasEntryLine j → AllByRecursion HasEntryLine k → text_of c j ≡ text_of d k → (c ≡ d) × (j ≡ k)
-text_of-injective c d j k s t own_c own_d runs_c runs_d lines_j lines_k same =
+text_of-injective c d j k s t sound_c sound_d runs_c runs_d lines_j lines_k same =
     let outer = sections-injective (canonical c ∷ []) (canonical d ∷ []) _ _ (rw (canonical-is_line c) refl) (rw (canonical-no_bar c) refl) (rw (canonical-is_line d) refl) (rw (canonical-no_bar d) refl)
     (sym (text_of-sections c j) ∙ same ∙ text_of-sections d k) in
     let inner = sections-injective (map entry_line j) (map entry_line k) _ _ (entries-are_lines j lines_j) (entries-no_bar j lines_j) (entries-are_lines k lines_k) (entries-no_bar k lines_k) outer.1 in
     let texts : canonical c ∷ [] ≡ canonical d ∷ [] = lines-injective (canonical c ∷ []) (canonical d ∷ []) (rw (canonical-is_line c) refl) (rw (canonical-is_line d) refl) outer.0 in
     let text : canonical c ≡ canonical d = cc in
-    let read : Ok c ≡ reads (canonical d) = sym own_c ∙ ap reads text in
+    let read : Ok c ≡ Ok d = sym (reads-canonical c sound_c) ∙ ap reads text ∙ reads-canonical d sound_d in
     let site : c ≡ d = cc in
     let lines = lines-injective (map entry_line j) (map entry_line k) (entries-are_lines j lines_j) (entries-are_lines k lines_k) inner.0 in
     let events = events-by_lines j k lines_j lines_k lines in

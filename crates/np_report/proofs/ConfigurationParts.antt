@@ -1,0 +1,102 @@
+-- the parts of a configuration's value: its strings, its members in order and its lists
+use Rattle.std.proofs.Common.{◌≡◌, ℕ, suc, ◌+◌, ◌<◌, ◌≤◌, ◌^◌, List, [], ◌∷◌, ◌++◌, codes, map, Bool, true, false, cond, Option, Some, None, IfSome, refl, arith}
+use Rattle.std.specs.Prelude.{filter, nat_lt}
+use Rattle.std.specs.Option.{option_map_or}
+use Rattle.std.specs.Str.{IsAscii}
+use Rattle.std.proofs.lemmas.Bool.Decides.{nat_tests}
+use Rattle.serde_json.specs.Data.{Data, Members, no_members, member}
+use Rattle.serde_json.specs.View.{items_of}
+use Rattle.np_text.specs.Name.{is_name_text}
+use Rattle.np_text.proofs.NameLemmas.{IsAscii-name}
+use Rattle.np_text.specs.declared.id.Role.{Role}
+use Rattle.np_text.specs.declared.id.Role.TheVariants as role
+use Rattle.np_text.specs.declared.word.EndAs.{EndAs}
+use Rattle.np_text.specs.declared.word.EndAs.TheVariants.{Used, Hold}
+use Rattle.np_config.specs.declared.row.FaultKind.{FaultKind}
+use Rattle.np_config.specs.declared.row.FaultKind.TheVariants.{Expire, Crash, Stop}
+use Rattle.np_config.specs.Sound.{EachAfter}
+use Rattle.np_config.specs.Canonical.{given, placed, end_word, kind_word, role_word}
+use Rattle.np_report.proofs.WholeData.{is_ascii, put_all, IsWhole, AreWhole, HaveWhole}
+
+-- ## strings
+
+is_ascii-from_IsAscii : (bs : List ℕ) → IsAscii bs → is_ascii bs ≡ true
+is_ascii-from_IsAscii [] is = refl
+is_ascii-from_IsAscii (b ∷ bs) is =
+    let first : b < 128 = is 0 in
+    let test : nat_lt b 128 ≡ true = grind (arith, nat_tests) in
+    rw test (is_ascii-from_IsAscii bs (λ i. is (suc i)))
+
+pub is_ascii-name : (name : List ℕ) → is_name_text name ≡ true → is_ascii name ≡ true
+is_ascii-name name named = is_ascii-from_IsAscii name (IsAscii-name name named)
+
+-- the name of a row, where there is one
+pub is_ascii-found : {T : Type 0} (name : T → List ℕ) (o : Option T) → ((x : T) → o ≡ Some x → IsAscii (name x)) → is_ascii (option_map_or name o []) ≡ true
+is_ascii-found name None some = refl
+is_ascii-found name (Some x) some = is_ascii-from_IsAscii (name x) (some x refl)
+
+pub is_ascii-priority : (a b : Bool) → is_ascii (cond a (codes "high") (cond b (codes "normal") (codes "low"))) ≡ true
+is_ascii-priority true b = refl
+is_ascii-priority false true = refl
+is_ascii-priority false false = refl
+
+pub is_ascii-end_word : (e : EndAs) → is_ascii (end_word e) ≡ true
+is_ascii-end_word Used = refl
+is_ascii-end_word Hold = refl
+
+pub is_ascii-kind_word : (k : FaultKind) → is_ascii (kind_word k) ≡ true
+is_ascii-kind_word Expire = refl
+is_ascii-kind_word Crash = refl
+is_ascii-kind_word Stop = refl
+
+pub is_ascii-role_word : (r : Role) → is_ascii (role_word r) ≡ true
+is_ascii-role_word (role.Launcher p) = refl
+is_ascii-role_word (role.Janitor p) = refl
+is_ascii-role_word (role.Requester q) = refl
+is_ascii-role_word role.Reaper = refl
+
+-- ## members that may be absent
+
+pub HaveWhole-given : (key : List ℕ) (o : Option ℕ) (ms : Members) (least most : ℕ) → is_ascii key ≡ true → most < 2 ^ 64 → IfSome o (λ n. (least ≤ n) × (n ≤ most)) → HaveWhole ms → HaveWhole (given key o ms)
+HaveWhole-given key None ms least most ascii fits is rest = rest
+HaveWhole-given key (Some n) ms least most ascii fits is rest = let within = is.1 in (ascii, omega arith, rest)
+
+abbrev pool_members : Data → Data → Data → Option ℕ → Option ℕ → Option ℕ → Members
+pool_members starts offers name cores ram servers =
+    member (codes "fail-starts") starts (member (codes "labels") offers (given (codes "max-cores") cores (given (codes "max-ram") ram (given (codes "max-servers") servers (member (codes "name") name no_members)))))
+
+pub put_all-pool_members : (starts offers name : Data) (cores ram servers : Option ℕ) → put_all no_members (pool_members starts offers name cores ram servers) ≡ pool_members starts offers name cores ram servers
+put_all-pool_members starts offers name None None None = refl
+put_all-pool_members starts offers name None None (Some z) = refl
+put_all-pool_members starts offers name None (Some y) None = refl
+put_all-pool_members starts offers name None (Some y) (Some z) = refl
+put_all-pool_members starts offers name (Some x) None None = refl
+put_all-pool_members starts offers name (Some x) None (Some z) = refl
+put_all-pool_members starts offers name (Some x) (Some y) None = refl
+put_all-pool_members starts offers name (Some x) (Some y) (Some z) = refl
+
+abbrev provider_members : Data → Data → Data → Option ℕ → Members
+provider_members retries name pools concurrency = member (codes "launch-retries") retries (given (codes "max-concurrency") concurrency (member (codes "name") name (member (codes "pools") pools no_members)))
+
+pub put_all-provider_members : (retries name pools : Data) (concurrency : Option ℕ) → put_all no_members (provider_members retries name pools concurrency) ≡ provider_members retries name pools concurrency
+put_all-provider_members retries name pools None = refl
+put_all-provider_members retries name pools (Some x) = refl
+
+-- ## lists
+
+module _ {T : Type 0} (P : List T → T → Type 0) where
+  pub AreWhole-list : (shown : T → Data) → ((e : List T) (x : T) → P e x → IsWhole (shown x)) → (e xs : List T) → EachAfter P e xs → AreWhole (items_of (map shown xs))
+  AreWhole-list shown says e [] each = tt
+  AreWhole-list shown says e (x ∷ xs) each = (says e x each.0, AreWhole-list shown says (e ++ x ∷ []) xs each.1)
+
+  pub AreWhole-placed : (shown : ℕ → T → Data) → ((e : List T) (k : ℕ) (x : T) → P e x → IsWhole (shown k x)) → (k : ℕ) (e xs : List T) → EachAfter P e xs → AreWhole (items_of (placed shown k xs))
+  AreWhole-placed shown says k e [] each = tt
+  AreWhole-placed shown says k e (x ∷ xs) each = (says e k x each.0, AreWhole-placed shown says (k + 1) (e ++ x ∷ []) xs each.1)
+
+  AreWhole-kept : (shown : T → Data) (b : Bool) (x : T) (xs : List T) → IsWhole (shown x) → AreWhole (items_of (map shown xs)) → AreWhole (items_of (map shown (cond b (x ∷ xs) xs)))
+  AreWhole-kept shown true x xs first rest = (first, rest)
+  AreWhole-kept shown false x xs first rest = rest
+
+  pub AreWhole-filter : (shown : T → Data) (p : T → Bool) → ((e : List T) (x : T) → P e x → IsWhole (shown x)) → (e xs : List T) → EachAfter P e xs → AreWhole (items_of (map shown (filter p xs)))
+  AreWhole-filter shown p says e [] each = tt
+  AreWhole-filter shown p says e (x ∷ xs) each = AreWhole-kept shown (p x) x (filter p xs) (says e x each.0) (AreWhole-filter shown p says (e ++ x ∷ []) xs each.1)
