@@ -1,9 +1,11 @@
 //! The worked journals as they are printed, each under its theorem's name.
 
+mod failures;
 mod jobs;
 mod nodes;
 mod requests;
 
+pub use failures::FAILURE_JOURNALS;
 pub use jobs::JOB_JOURNALS;
 pub use nodes::NODE_JOURNALS;
 pub use requests::REQUEST_JOURNALS;

@@ -42,7 +42,7 @@ ghost use Rattle.np_worked.specs.PausedPool as paused_pool;
 ghost use Rattle.np_worked.specs.EndedByTheWrongParty as ended_by_the_wrong_party;
 
 pub use journal::Journal;
-pub use journals::{JOB_JOURNALS, NODE_JOURNALS, REQUEST_JOURNALS};
+pub use journals::{FAILURE_JOURNALS, JOB_JOURNALS, NODE_JOURNALS, REQUEST_JOURNALS};
 
 /// From a job's request to its fulfilled node.
 pub fn plain_path()

@@ -1,7 +1,7 @@
 //! What no clause says: that the machine over vectors plays the worked journals, from the lines of
 //! their events to their entries as they are printed.
 
-use crate::{JOB_JOURNALS, Journal, NODE_JOURNALS, REQUEST_JOURNALS};
+use crate::{FAILURE_JOURNALS, JOB_JOURNALS, Journal, NODE_JOURNALS, REQUEST_JOURNALS};
 use np_config::Config;
 use np_event::{Entry, entry_has_line, put_entry, read_event};
 use np_rules::Plain;
@@ -54,8 +54,13 @@ fn play_all(rt: &(impl AllocGlobal + Abort), journals: &[Journal]) -> Result<(),
 }
 
 #[test]
-fn requests_are_served_or_fail(rt: HostRuntime) -> Result<(), Fail> {
+fn requests_are_made_and_served(rt: HostRuntime) -> Result<(), Fail> {
     play_all(&rt, REQUEST_JOURNALS)
+}
+
+#[test]
+fn requests_are_declined_and_fail(rt: HostRuntime) -> Result<(), Fail> {
+    play_all(&rt, FAILURE_JOURNALS)
 }
 
 #[test]

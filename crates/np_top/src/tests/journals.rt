@@ -1,7 +1,7 @@
 //! The worked journals, from their scripts to their whole Texts.
 
 use super::run;
-use np_worked::{JOB_JOURNALS, Journal, NODE_JOURNALS, REQUEST_JOURNALS};
+use np_worked::{FAILURE_JOURNALS, JOB_JOURNALS, Journal, NODE_JOURNALS, REQUEST_JOURNALS};
 use std::alloc::{AllocError, Global};
 use std::process::Abort;
 use std::test::Fail;
@@ -61,8 +61,13 @@ fn replay_all(rt: &(impl AllocGlobal + Abort), journals: &[Journal]) -> Result<(
 }
 
 #[test]
-fn requests_are_served_or_fail(rt: HostRuntime) -> Result<(), Fail> {
+fn requests_are_made_and_served(rt: HostRuntime) -> Result<(), Fail> {
     replay_all(&rt, REQUEST_JOURNALS)
+}
+
+#[test]
+fn requests_are_declined_and_fail(rt: HostRuntime) -> Result<(), Fail> {
+    replay_all(&rt, FAILURE_JOURNALS)
 }
 
 #[test]
