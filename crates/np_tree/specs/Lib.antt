@@ -1,0 +1,7 @@
+pub mod State
+pub mod Look
+pub mod Tests
+pub mod Judge
+pub mod Effect
+pub mod Multi
+pub mod Worked

@@ -1,0 +1,15 @@
+//! The coordination tree: nodes with bytes, versions, owners and counters, changed by sessions.
+#![tactic(auto)]
+
+mod bytes;
+mod kind;
+mod laws;
+mod node;
+mod op;
+mod refusal;
+
+pub use bytes::Bytes;
+pub use kind::{Expect, Mode, Stat};
+pub use laws::worked_rows;
+pub use op::{Op, OpDone};
+pub use refusal::{MultiFault, TreeFault, TreeRefusal};
