@@ -1,5 +1,6 @@
 pub mod State
 pub mod Look
+pub mod Order
 pub mod Tests
 pub mod Judge
 pub mod Effect
