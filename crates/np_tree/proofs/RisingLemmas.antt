@@ -7,11 +7,11 @@ use Rattle.np_tree.specs.Order.{Rises}
 
 -- ## how many items pass
 
-prefix-one : (b : Bool) (i n : ℕ) → suc i ≡ cond b (1 + n) 0 → (b ≡ true) × (i ≡ n)
+pub prefix-one : (b : Bool) (i n : ℕ) → suc i ≡ cond b (1 + n) 0 → (b ≡ true) × (i ≡ n)
 prefix-one true i n is = (refl, omega arith)
 prefix-one false i n is = absurd (omega arith)
 
-prefix-none : (b : Bool) (n : ℕ) → 0 ≡ cond b (1 + n) 0 → b ≡ false
+pub prefix-none : (b : Bool) (n : ℕ) → 0 ≡ cond b (1 + n) 0 → b ≡ false
 prefix-none true n is = absurd (omega arith)
 prefix-none false n is = refl
 
