@@ -1,3 +1,4 @@
 pub mod OrderLemmas
 pub mod RisingLemmas
 pub mod PlaceLemmas
+pub mod ChangeLemmas
