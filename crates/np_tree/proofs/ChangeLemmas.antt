@@ -1,10 +1,9 @@
 -- changes that keep each node's path
 use Rattle.std.proofs.Common.{◌≡◌, ℕ, zero, suc, ◌+◌, ◌<◌, ◌≤◌, Bool, true, false, not, cond, List, [], ◌∷◌, ◌++◌, length, take, drop, map, Option, Some, None, refl, sym, ap, ◌∙◌, subst, arith}
 use Rattle.std.specs.Prelude.{find, slice_get, filter}
-use Rattle.std.specs.List.{AllByRecursion, insert, prefix_len}
+use Rattle.std.specs.List.{AllByRecursion, insert, remove, prefix_len}
 use Rattle.std.specs.Option.{option_map}
 use Rattle.std.specs.Str.{bytes_eq}
-use Rattle.std.proofs.Math.Numerals.{add-one}
 use Rattle.np_path.specs.Grammar.{is_path}
 use Rattle.np_path.specs.Parts.{parent_of}
 use Rattle.np_shelf.specs.Lists.{changed_at}
@@ -170,10 +169,24 @@ with_node-above above f keeps n parent nodes sorted paths is found none =
     ∙ ap (λ (ms : List Node). insert ms (place_of n.path nodes) n) (change_node-at above f nodes parent sorted found)
 
 pub without_node-above : (above : List ℕ) (f : Node → Node) → KeepsPath f → (p : List ℕ) (n parent : Node) (nodes : List Node) → IsSorted nodes → node_at nodes above ≡ Some parent → node_at nodes p ≡ Some n →
-    without_node p (change_node above f nodes) ≡ take (place_of p nodes) (changed_at f (place_of above nodes) nodes) ++ drop (place_of p nodes + 1) (changed_at f (place_of above nodes) nodes)
+    without_node p (change_node above f nodes) ≡ remove (changed_at f (place_of above nodes) nodes) (place_of p nodes)
 without_node-above above f keeps p n parent nodes sorted found there =
     let same = paths_of-change_node above f keeps nodes in
     let still = node_at-paths-some p nodes (change_node above f nodes) n (sym same) there in
     without_node-at p (change_node above f nodes) still.0 (IsSorted-change_node above f keeps nodes sorted) still.1
-    ∙ ap (λ (k : ℕ). take k (change_node above f nodes) ++ drop (k + 1) (change_node above f nodes)) (place_of-change_node p above f keeps nodes)
-    ∙ ap (λ (ms : List Node). take (place_of p nodes) ms ++ drop (place_of p nodes + 1) ms) (change_node-at above f nodes parent sorted found)
+    ∙ ap (λ (k : ℕ). remove (change_node above f nodes) k) (place_of-change_node p above f keeps nodes)
+    ∙ ap (λ (ms : List Node). remove ms (place_of p nodes)) (change_node-at above f nodes parent sorted found)
+
+-- ## a change at a place
+
+pub IsSorted-changed_at : (f : Node → Node) → KeepsPath f → (k : ℕ) (nodes : List Node) → IsSorted nodes → IsSorted (changed_at f k nodes)
+IsSorted-changed_at f keeps k nodes sorted = IsSorted-paths nodes (changed_at f k nodes) (sym (paths_of-changed_at f keeps k nodes)) sorted
+
+pub AllPaths-changed_at : (f : Node → Node) → KeepsPath f → (k : ℕ) (nodes : List Node) → AllPaths nodes → AllPaths (changed_at f k nodes)
+AllPaths-changed_at f keeps k nodes paths = AllPaths-paths nodes (changed_at f k nodes) (sym (paths_of-changed_at f keeps k nodes)) paths
+
+pub place_of-changed_at : (q : List ℕ) (f : Node → Node) → KeepsPath f → (k : ℕ) (nodes : List Node) → place_of q (changed_at f k nodes) ≡ place_of q nodes
+place_of-changed_at q f keeps k nodes = place_of-paths q (changed_at f k nodes) nodes (paths_of-changed_at f keeps k nodes)
+
+pub length-children-changed_at : (q : List ℕ) (f : Node → Node) → KeepsPath f → (k : ℕ) (nodes : List Node) → length (children_of (changed_at f k nodes) q) ≡ length (children_of nodes q)
+length-children-changed_at q f keeps k nodes = length-children-paths q (changed_at f k nodes) nodes (paths_of-changed_at f keeps k nodes)

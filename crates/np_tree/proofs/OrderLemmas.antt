@@ -55,6 +55,14 @@ module _ {K : Type 0} {R : K → K → Ordering} (order : IsTotalOrder R) where
   pub lt_le-trans : (x y z : K) → is_lt (R x y) ≡ true → is_le (R y z) ≡ true → is_le (R x z) ≡ true
   lt_le-trans x y z this that = lt_le-by x y z (R y z) refl this that
 
+  le_le-by : (x y z : K) (o : Ordering) → R x y ≡ o → is_le o ≡ true → is_le (R y z) ≡ true → is_le (R x z) ≡ true
+  le_le-by x y z Less is this that = lt_le-trans x y z (ap is_lt is) that
+  le_le-by x y z Equal is this that = ap is_le (order.congr x y z is) ∙ that
+  le_le-by x y z Greater is this that = absurd cc
+
+  pub le-trans : (x y z : K) → is_le (R x y) ≡ true → is_le (R y z) ≡ true → is_le (R x z) ≡ true
+  le-trans x y z this that = le_le-by x y z (R x y) refl this that
+
 -- ## two halves
 
 -- what is before the last slash, and the name
@@ -71,6 +79,11 @@ then-Equal : (o p : Ordering) → ordering_then o p ≡ Equal → (o ≡ Equal) 
 then-Equal Less p is = absurd cc
 then-Equal Equal p is = (refl, is)
 then-Equal Greater p is = absurd cc
+
+then-le : (o p : Ordering) → is_lt (ordering_then o p) ≡ true → is_le o ≡ true
+then-le Less p is = refl
+then-le Equal p is = refl
+then-le Greater p is = absurd cc
 
 -- ## the order of paths
 
@@ -91,6 +104,16 @@ pub comes_before-neither : (p q : List ℕ) → list_any is_slash p ≡ true →
 comes_before-neither p q has_p has_q this that =
     let tied = then-Equal _ _ (lt-neither halves_cmp_total (halves_of p) (halves_of q) this that) in
     same_halves p q has_p has_q (exact_bytes _ _ tied.0) (exact_bytes _ _ tied.1)
+
+-- a path that comes before another comes before what that one comes before, and its first half isn't greater
+pub comes_before-halves : (p q : List ℕ) (h : List ℕ × List ℕ) → comes_before p q ≡ true → is_lt (halves_cmp (halves_of q) h) ≡ true → is_lt (halves_cmp (halves_of p) h) ≡ true
+comes_before-halves p q h this that = lt-trans halves_cmp_total (halves_of p) (halves_of q) h this that
+
+pub comes_before-halves_le : (p q : List ℕ) (h : List ℕ × List ℕ) → comes_before p q ≡ true → is_le (halves_cmp (halves_of q) h) ≡ true → is_le (halves_cmp (halves_of p) h) ≡ true
+comes_before-halves_le p q h this that = lt_le-trans halves_cmp_total (halves_of p) (halves_of q) h this that
+
+pub comes_before-first_le : (p q key : List ℕ) → comes_before p q ≡ true → is_le (slice_cmp nat_cmp (before_of q) key) ≡ true → is_le (slice_cmp nat_cmp (before_of p) key) ≡ true
+comes_before-first_le p q key this that = le-trans nat_list_cmp_total (before_of p) (before_of q) key (then-le _ _ this) that
 
 -- a path has a slash
 pub has_slash : (p : List ℕ) → is_path p ≡ true → list_any is_slash p ≡ true

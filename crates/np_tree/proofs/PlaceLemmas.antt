@@ -1,19 +1,21 @@
 -- a node by its path is the node at its place
 use Rattle.std.proofs.Common.{◌≡◌, ℕ, zero, suc, ◌+◌, ◌-◌, ◌<◌, ◌≤◌, Bool, true, false, not, cond, List, [], ◌∷◌, ◌++◌, length, take, drop, get_or, map, Option, Some, None, refl, sym, ap, ◌∙◌, subst, arith}
 use Rattle.std.specs.Prelude.{find, slice_get, filter}
-use Rattle.std.specs.List.{AllByRecursion, insert, prefix_len}
+use Rattle.std.specs.List.{AllByRecursion, insert, remove, list_any, prefix_len}
+use Rattle.std.specs.Ordering.{nat_cmp, is_lt, is_le, ordering_then}
+use Rattle.std.specs.Cmp.Lexicographic.{slice_cmp}
 use Rattle.std.specs.Str.{bytes_eq}
-use Rattle.std.proofs.Math.Numerals.{add-one}
 use Rattle.std.proofs.lemmas.Bool.{false_from_ne_true}
 use Rattle.std.proofs.lemmas.Option.{slice_get_within}
 use Rattle.std.proofs.lemmas.Slice.Eq.{bytes_eq-Decides}
-use Rattle.np_path.specs.Grammar.{is_path}
+use Rattle.np_path.specs.Grammar.{is_path, is_slash}
+use Rattle.np_path.specs.Parts.{name_of}
 use Rattle.np_shelf.specs.Lists.{IsSplit, changed_at}
-use Rattle.np_tree.specs.Look.{change_node, comes_before, is_at, node_at, with_node, without_node}
+use Rattle.np_tree.specs.Look.{before_of, change_node, comes_before, is_at, node_at, with_node, without_node}
 use Rattle.np_tree.specs.Order.{AllPaths, IsSorted, Rises, is_before, place_of}
 use Rattle.np_tree.specs.declared.node.Node.{Node}
-use Rattle.np_tree.proofs.OrderLemmas.{comes_before-itself, comes_before-trans, comes_before-one_way, comes_before-some_way}
-use Rattle.np_tree.proofs.RisingLemmas.{FirstAt, NonePass, FirstAt-prefix, NonePass-prefix, IsSplit-rises, Rises-filter, Rises-insert, Rises-map, all-filter, all-insert, all-weaker, find-first, find-none, none-find, prefix-one, prefix-none}
+use Rattle.np_tree.proofs.OrderLemmas.{comes_before-first_le, comes_before-halves, comes_before-halves_le, halves_cmp, halves_of, has_slash, comes_before-itself, comes_before-trans, comes_before-one_way, comes_before-some_way}
+use Rattle.np_tree.proofs.RisingLemmas.{FirstAt, NonePass, FirstAt-prefix, NonePass-prefix, IsSplit-rises, Rises-filter, Rises-insert, Rises-remove, all-filter, all-insert, all-remove, all-slice_get, all-weaker, find-first, find-none, none-find, prefix-one, prefix-none}
 
 -- ## whether two paths are one
 
@@ -93,6 +95,44 @@ placed-by p nodes n (Some m) sorted found is = at_place (is_at p m) refl where
 pub IsPlaced-node_at : (p : List ℕ) (nodes : List Node) (n : Node) → IsSorted nodes → node_at nodes p ≡ Some n → IsPlaced p nodes n
 IsPlaced-node_at p nodes n sorted found = placed-by p nodes n (slice_get nodes (place_of p nodes)) sorted found refl
 
+-- ### at any place
+
+first-there : (p : List ℕ) (nodes : List Node) (k : ℕ) (n : Node) → IsSorted nodes → slice_get nodes k ≡ Some n → is_at p n ≡ true → FirstAt (is_at p) nodes k
+first-there p [] k n sorted is here = absurd cc
+first-there p (m ∷ nodes) zero n sorted is here = let same : m ≡ n = cc in ap (is_at p) same ∙ here
+first-there p (m ∷ nodes) (suc k) n sorted is here = (
+  let order : is_before m n ≡ true = all-slice_get (λ x. is_before m x ≡ true) nodes k n sorted.0 is in
+  less-apart p m (subst (λ (q : List ℕ). comes_before m.path q ≡ true) (bytes_eq-is n.path p here) order),
+  first-there p nodes k n sorted.1 is here,
+)
+
+pub node_at-there : (p : List ℕ) (nodes : List Node) (k : ℕ) (n : Node) → IsSorted nodes → slice_get nodes k ≡ Some n → is_at p n ≡ true → node_at nodes p ≡ Some n
+node_at-there p nodes k n sorted is here = find-first (is_at p) nodes k (first-there p nodes k n sorted is here) ∙ is
+
+-- a text with no slash is no node's path
+no-slash-at : (p : List ℕ) (n : Node) → list_any is_slash p ≡ false → is_path n.path ≡ true → is_at p n ≡ false
+no-slash-at p n without is = bytes_eq-not n.path p (λ same. let has = ap (list_any is_slash) (sym same) ∙ has_slash n.path is in absurd cc)
+
+pub node_at-no_slash : (p : List ℕ) (nodes : List Node) → list_any is_slash p ≡ false → AllPaths nodes → node_at nodes p ≡ None
+node_at-no_slash p nodes without paths =
+    find-none (is_at p) nodes (all-weaker (λ n. is_path n.path ≡ true) (λ n. is_at p n ≡ false) nodes (λ n is. no-slash-at p n without is) paths)
+
+-- ### probes by two halves
+
+pub IsSplit-halves : (before name : List ℕ) (nodes : List Node) → IsSorted nodes →
+    IsSplit (λ n. is_lt (ordering_then (slice_cmp nat_cmp (before_of n.path) before) (slice_cmp nat_cmp (name_of n.path) name))) nodes
+IsSplit-halves before name nodes sorted =
+    IsSplit-rises is_before (λ n. is_lt (halves_cmp (halves_of n.path) (before, name))) (λ m n order less. comes_before-halves m.path n.path (before, name) order less) nodes sorted
+
+pub IsSplit-halves_le : (before name : List ℕ) (nodes : List Node) → IsSorted nodes →
+    IsSplit (λ n. is_le (ordering_then (slice_cmp nat_cmp (before_of n.path) before) (slice_cmp nat_cmp (name_of n.path) name))) nodes
+IsSplit-halves_le before name nodes sorted =
+    IsSplit-rises is_before (λ n. is_le (halves_cmp (halves_of n.path) (before, name))) (λ m n order less. comes_before-halves_le m.path n.path (before, name) order less) nodes sorted
+
+pub IsSplit-first_le : (key : List ℕ) (nodes : List Node) → IsSorted nodes → IsSplit (λ n. is_le (slice_cmp nat_cmp (before_of n.path) key)) nodes
+IsSplit-first_le key nodes sorted =
+    IsSplit-rises is_before (λ n. is_le (slice_cmp nat_cmp (before_of n.path) key)) (λ m n order less. comes_before-first_le m.path n.path key order less) nodes sorted
+
 -- ## a change at a path
 
 change_node-first : (p : List ℕ) (f : Node → Node) (nodes : List Node) (i : ℕ) → FirstAt (is_at p) nodes i → change_node p f nodes ≡ changed_at f i nodes
@@ -102,6 +142,9 @@ change_node-first p f (n ∷ nodes) (suc i) first = rw (first.0) (ap (λ (ms : L
 
 pub change_node-at : (p : List ℕ) (f : Node → Node) (nodes : List Node) (n : Node) → IsSorted nodes → node_at nodes p ≡ Some n → change_node p f nodes ≡ changed_at f (place_of p nodes) nodes
 change_node-at p f nodes n sorted found = change_node-first p f nodes (place_of p nodes) (IsPlaced-node_at p nodes n sorted found).first
+
+pub change_node-there : (p : List ℕ) (f : Node → Node) (nodes : List Node) (k : ℕ) (n : Node) → IsSorted nodes → slice_get nodes k ≡ Some n → is_at p n ≡ true → change_node p f nodes ≡ changed_at f k nodes
+change_node-there p f nodes k n sorted is here = change_node-first p f nodes k (first-there p nodes k n sorted is here)
 
 change_node-nowhere : (p : List ℕ) (f : Node → Node) (nodes : List Node) → NonePass (is_at p) nodes → change_node p f nodes ≡ nodes
 change_node-nowhere p f [] none = refl
@@ -125,15 +168,16 @@ without_node-nowhere p (n ∷ nodes) none = rw (none.0) (ap (λ (ms : List Node)
 pub without_node-none : (p : List ℕ) (nodes : List Node) → node_at nodes p ≡ None → without_node p nodes ≡ nodes
 without_node-none p nodes none = without_node-nowhere p nodes (none-find (is_at p) nodes none)
 
-without_node-first : (p : List ℕ) (nodes : List Node) (i : ℕ) → IsSorted nodes → FirstAt (is_at p) nodes i → without_node p nodes ≡ take i nodes ++ drop (suc i) nodes
+without_node-first : (p : List ℕ) (nodes : List Node) (i : ℕ) → IsSorted nodes → FirstAt (is_at p) nodes i → without_node p nodes ≡ remove nodes i
 without_node-first p [] i sorted first = absurd first
 without_node-first p (n ∷ nodes) zero sorted first = rw first (without_node-nowhere p nodes (later-others p n nodes first sorted.0))
 without_node-first p (n ∷ nodes) (suc i) sorted first = rw (first.0) (ap (λ (ms : List Node). n ∷ ms) (without_node-first p nodes i sorted.1 first.1))
 
-pub without_node-at : (p : List ℕ) (nodes : List Node) (n : Node) → IsSorted nodes → node_at nodes p ≡ Some n → without_node p nodes ≡ take (place_of p nodes) nodes ++ drop (place_of p nodes + 1) nodes
-without_node-at p nodes n sorted found =
-    without_node-first p nodes (place_of p nodes) sorted (IsPlaced-node_at p nodes n sorted found).first
-    ∙ ap (λ (k : ℕ). take (place_of p nodes) nodes ++ drop k nodes) (sym (add-one (place_of p nodes)))
+pub without_node-at : (p : List ℕ) (nodes : List Node) (n : Node) → IsSorted nodes → node_at nodes p ≡ Some n → without_node p nodes ≡ remove nodes (place_of p nodes)
+without_node-at p nodes n sorted found = without_node-first p nodes (place_of p nodes) sorted (IsPlaced-node_at p nodes n sorted found).first
+
+pub without_node-there : (p : List ℕ) (nodes : List Node) (k : ℕ) (n : Node) → IsSorted nodes → slice_get nodes k ≡ Some n → is_at p n ≡ true → without_node p nodes ≡ remove nodes k
+without_node-there p nodes k n sorted is here = without_node-first p nodes k sorted (first-there p nodes k n sorted is here)
 
 -- ## a node more
 
@@ -182,3 +226,12 @@ IsSorted-filter keep nodes sorted = Rises-filter is_before keep nodes sorted
 
 pub AllPaths-filter : (keep : Node → Bool) (nodes : List Node) → AllPaths nodes → AllPaths (filter keep nodes)
 AllPaths-filter keep nodes paths = all-filter (λ m. is_path m.path ≡ true) keep nodes paths
+
+pub AllPaths-insert : (n : Node) (nodes : List Node) (k : ℕ) → is_path n.path ≡ true → AllPaths nodes → AllPaths (insert nodes k n)
+AllPaths-insert n nodes k is paths = all-insert (λ m. is_path m.path ≡ true) n nodes k is paths
+
+pub IsSorted-remove : (nodes : List Node) (k : ℕ) → IsSorted nodes → IsSorted (remove nodes k)
+IsSorted-remove nodes k sorted = Rises-remove is_before nodes k sorted
+
+pub AllPaths-remove : (nodes : List Node) (k : ℕ) → AllPaths nodes → AllPaths (remove nodes k)
+AllPaths-remove nodes k paths = all-remove (λ m. is_path m.path ≡ true) nodes k paths
