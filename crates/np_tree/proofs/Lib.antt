@@ -2,3 +2,4 @@ pub mod OrderLemmas
 pub mod RisingLemmas
 pub mod PlaceLemmas
 pub mod ChangeLemmas
+pub mod ChildLemmas
