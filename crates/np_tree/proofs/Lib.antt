@@ -3,3 +3,4 @@ pub mod RisingLemmas
 pub mod PlaceLemmas
 pub mod ChangeLemmas
 pub mod ChildLemmas
+pub mod EndLemmas

@@ -156,7 +156,7 @@ change_node-none p f nodes none = change_node-nowhere p f nodes (none-find (is_a
 -- ## a node less
 
 -- the node of a path stands once
-later-others : (p : List ℕ) (n : Node) (nodes : List Node) → is_at p n ≡ true → AllByRecursion (λ m. is_before n m ≡ true) nodes → NonePass (is_at p) nodes
+pub later-others : (p : List ℕ) (n : Node) (nodes : List Node) → is_at p n ≡ true → AllByRecursion (λ m. is_before n m ≡ true) nodes → NonePass (is_at p) nodes
 later-others p n nodes here all =
     all-weaker (λ m. is_before n m ≡ true) (λ m. is_at p m ≡ false) nodes
     (λ m order. less-beyond p n m order (let same = bytes_eq-is n.path p here in ap (λ (q : List ℕ). comes_before q p) same ∙ comes_before-itself p)) all
