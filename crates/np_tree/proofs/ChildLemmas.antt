@@ -121,6 +121,11 @@ pub IsKey-path : (p : List ℕ) → is_path p ≡ true → (p ≡ root → ⊥) 
 IsKey-path [] is other = absurd cc
 IsKey-path (b ∷ bs) is other = record { above = refl; other = other }
 
+-- any text but the root's
+pub IsKey-text : (p : List ℕ) → (p ≡ [] → ⊥) → (p ≡ root → ⊥) → IsKey p p
+IsKey-text [] some other = absurd (some refl)
+IsKey-text (b ∷ bs) some other = record { above = refl; other = other }
+
 or_root-same : (xs ys : List ℕ) → (xs ≡ root → ⊥) → (ys ≡ root → ⊥) → or_root xs ≡ or_root ys → xs ≡ ys
 or_root-same [] [] no_x no_y same = refl
 or_root-same [] (y ∷ ys) no_x no_y same = absurd (no_y (sym same))
@@ -212,6 +217,22 @@ pub slice_get-children_of_past : (key p : List ℕ) (nodes : List Node) (at : �
     slice_get (children_of nodes p) at ≡ None
 slice_get-children_of_past key p nodes at is_key sorted paths past =
     slice_get_past (children_of nodes p) at (omega (arith, length-children_of key p nodes is_key sorted paths))
+
+pub children_to-within : (key : List ℕ) (nodes : List Node) → children_to key nodes ≤ length nodes
+children_to-within key nodes = prefix_len-le-length (is_upto key) nodes
+
+-- nothing stands below a text with no byte
+child-of-empty : (path : List ℕ) → is_parent [] (parent_of path) ≡ false
+child-of-empty [] = refl
+child-of-empty (b ∷ []) = refl
+child-of-empty (b ∷ c ∷ bs) = by_half (before_of (b ∷ c ∷ bs)) where
+  by_half : (half : List ℕ) → bytes_eq (or_root half) [] ≡ false
+  by_half [] = refl
+  by_half (x ∷ xs) = refl
+
+pub children_of-empty : (nodes : List Node) → children_of nodes [] ≡ []
+children_of-empty [] = refl
+children_of-empty (n ∷ nodes) = rw (child-of-empty n.path) (children_of-empty nodes)
 
 -- ## how many there are after a change
 
