@@ -29,7 +29,7 @@ list_any-map : {X : Type 0} (p : X → Bool) (f : X → X) (xs : List X) → ((x
 list_any-map p f [] same = refl
 list_any-map p f (x ∷ xs) same = rw (same x, list_any-map p f xs same) refl
 
-list_any-remove : {X : Type 0} (p : X → Bool) (xs : List X) (k : ℕ) (x : X) → slice_get xs k ≡ Some x → p x ≡ false → list_any p (remove xs k) ≡ list_any p xs
+pub list_any-remove : {X : Type 0} (p : X → Bool) (xs : List X) (k : ℕ) (x : X) → slice_get xs k ≡ Some x → p x ≡ false → list_any p (remove xs k) ≡ list_any p xs
 list_any-remove p [] k x is fails = absurd cc
 list_any-remove p (y ∷ xs) zero x is fails = let same : y ≡ x = cc in rw (ap p same ∙ fails) refl
 list_any-remove p (y ∷ xs) (suc k) x is fails = ap (λ (b : Bool). p y || b) (list_any-remove p xs k x is fails)

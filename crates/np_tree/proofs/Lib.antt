@@ -4,3 +4,4 @@ pub mod PlaceLemmas
 pub mod ChangeLemmas
 pub mod ChildLemmas
 pub mod EndLemmas
+pub mod MarkLemmas
