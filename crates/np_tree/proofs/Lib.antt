@@ -5,3 +5,4 @@ pub mod ChangeLemmas
 pub mod ChildLemmas
 pub mod EndLemmas
 pub mod MarkLemmas
+pub mod EffectLemmas
