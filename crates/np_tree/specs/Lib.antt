@@ -4,4 +4,6 @@ pub mod Tests
 pub mod Judge
 pub mod Effect
 pub mod Multi
+pub mod Calls
+pub mod Read
 pub mod Worked
