@@ -1,0 +1,9 @@
+pub mod StepLemmas
+pub mod DeskLemmas
+pub mod NameLemmas
+pub mod OrderLemmas
+pub mod RisingLemmas
+pub mod PlaceLemmas
+pub mod ChangeLemmas
+pub mod ChildLemmas
+pub mod FindLemmas
