@@ -1,4 +1,4 @@
-use Rattle.std.specs.Prelude.{ℕ, ◌≤◌, max, length, ◌++◌, ◌∷◌, []}
+use Rattle.std.specs.Prelude.{◌≤◌, max, length, ◌∷◌}
 use Rattle.std.proofs.Common.{arith, length-append}
 use Rattle.np_shelf.specs.declared.shelf.Link.{Link}
 use Rattle.np_shelf.specs.declared.shelf.Link.TheVariants.{Empty, Top}

@@ -1,4 +1,4 @@
-use Rattle.std.specs.Prelude.{◌≡◌, ℕ, ◌+◌, ◌<◌, List, [], ◌∷◌, ◌++◌, length}
+use Rattle.std.specs.Prelude.{◌≡◌, ◌+◌, List, [], ◌∷◌, ◌++◌, length}
 use Rattle.np_shelf.specs.declared.shelf.Knot.{Knot}
 use Rattle.np_shelf.specs.declared.shelf.Link.{Link}
 use Rattle.np_shelf.specs.declared.shelf.Link.TheVariants.{Empty, Top}
@@ -8,16 +8,10 @@ abbrev pub items_of : {T : Type 0} → Link T → List T
 items_of Empty = []
 items_of (Top knot) = knot.value.left ++ knot.value.item ∷ knot.value.right
 
--- each knot knows how many items it has
+-- the knot at the top knows how many items there are
 abbrev pub IsCounted : {T : Type 0} → Link T → Type 0
 IsCounted Empty = Unit {0}
 IsCounted (Top knot) = knot.value.len ≡ length knot.value.left + 1 + length knot.value.right
-
-abbrev pub knot_items : {T : Type 0} → Knot T → List T
-knot_items knot = knot.left ++ knot.item ∷ knot.right
-
-abbrev pub IsKnot : {T : Type 0} → Knot T → Type 0
-IsKnot knot = (knot.len ≡ length knot.left + 1 + length knot.right) × (knot.len < 18_446_744_073_709_551_616)
 
 -- a knot with nothing beside its item
 pub record IsLoose {T : Type 0} (knot : Knot T) : Type 0 where

@@ -1,32 +1,16 @@
 //! The list.
 
-ghost use Rattle.std.specs.Prelude.{◌≡◌, ◌<◌, ◌≤◌, [], length, insert, slice_get, Bool, IfOk};
+ghost use Rattle.std.specs.Prelude.{◌≡◌, ◌+◌, ◌<◌, ◌≤◌, [], length, insert, remove, slice_get, Some, option_map};
 ghost use Rattle.std.specs.List.{prefix_len};
-ghost use Rattle.np_shelf.specs.Lists.{IsSplit, changed_at};
-ghost use Rattle.np_shelf.specs.Items.{IsCounted, IsKnot, items_of, knot_items};
 ghost use Rattle.std.specs.Option.{option_copied};
+ghost use Rattle.np_shelf.specs.Lists.{IsSplit, changed_at};
+ghost use Rattle.np_shelf.specs.Items.{IsCounted, items_of};
 
-use std::alloc::{AllocError, Global};
+use crate::change::Change;
+use crate::piece::Piece;
+use crate::probe::Probe;
 use std::marker::Model;
 use std::mem;
-
-/// What is sought in a list.
-pub trait Probe<T> {
-    /// Whether an item stands before it.
-    ghost before: { Self → T → Bool };
-
-    fn is_before(&self, item: &T) -> bool
-        ensures { result ≡ before self.now item.now };
-}
-
-/// A change of one item.
-pub trait Change<T>: Drop {
-    /// What it makes of an item.
-    ghost after: { Self → T → T };
-
-    fn make(self, item: &mut T)
-        ensures { item.new ≡ after self item.old };
-}
 
 /// A list in a balanced tree.
 #[cycle(shelf)]
@@ -44,12 +28,12 @@ enum Link<T> {
 
 #[cycle(shelf)]
 #[derive(Drop)]
-struct Knot<T> {
-    left: Shelf<T>,
-    item: T,
-    right: Shelf<T>,
+pub(crate) struct Knot<T> {
+    pub(crate) left: Shelf<T>,
+    pub(crate) item: T,
+    pub(crate) right: Shelf<T>,
     // How many items the knot and both sides hold.
-    len: usize,
+    pub(crate) len: usize,
 }
 
 impl<T> Model for Shelf<T> {
@@ -107,6 +91,23 @@ impl<T: Drop> Shelf<T> {
         }
     }
 
+    /// How many items stand before what is sought.
+    pub fn place<P: Probe<T>>(&self, probe: &P) -> usize
+        requires split { IsSplit (P.before probe.now) self.now }
+        ensures { result ≡ prefix_len (P.before probe.now) self.now }
+    {
+        match &self.top {
+            Link::Empty => 0,
+            Link::Top(knot) => {
+                if probe.is_before(&knot.item) {
+                    knot.len - knot.right.len() + knot.right.place(probe)
+                } else {
+                    knot.left.place(probe)
+                }
+            }
+        }
+    }
+
     /// Puts an item in at a place.
     pub fn insert(&mut self, place: usize, piece: Piece<T>)
         requires within { place ≤ length self.old }
@@ -126,32 +127,50 @@ impl<T: Drop> Shelf<T> {
                     knot.right.insert(place - left - 1, piece);
                 }
                 knot.len += 1;
-                balance(knot);
             }
         }
     }
 
-    /// How many items stand before what is sought.
-    pub fn place<P: Probe<T>>(&self, probe: &P) -> usize
-        requires { IsSplit (P.before probe.now) self.now }
-        ensures { result ≡ prefix_len (P.before probe.now) self.now }
+    /// Takes the item at a place out, with its memory.
+    pub fn remove(&mut self, place: usize) -> Piece<T>
+        requires { place < length self.old }
+        ensures piece { slice_get self.old place ≡ Some result }
+        ensures rest { self.new ≡ remove self.old place }
     {
-        match &self.top {
-            Link::Empty => 0,
-            Link::Top(knot) => {
-                if probe.is_before(&knot.item) {
-                    knot.left.len() + 1 + knot.right.place(probe)
+        match self.take() {
+            Link::Empty => unreachable!(),
+            Link::Top(mut knot) => {
+                let left = knot.left.len();
+                if place < left {
+                    let piece = knot.left.remove(place);
+                    knot.len -= 1;
+                    self.top = Link::Top(knot);
+                    piece
+                } else if place > left {
+                    let piece = knot.right.remove(place - left - 1);
+                    knot.len -= 1;
+                    self.top = Link::Top(knot);
+                    piece
+                } else if knot.right.len() == 0 {
+                    self.top = knot.left.take();
+                    knot.len = 1;
+                    Piece { knot }
                 } else {
-                    knot.left.place(probe)
+                    let mut piece = knot.right.remove(0);
+                    knot.len -= 1;
+                    mem::swap(&mut knot.item, &mut piece.knot.item);
+                    self.top = Link::Top(knot);
+                    piece
                 }
             }
         }
     }
 
     /// Changes the item at a place.
-    pub fn change<C: Change<T>>(&mut self, place: usize, change: C)
+    pub fn change<C: Change<T>>(&mut self, place: usize, change: &mut C)
         requires { place < length self.old }
-        ensures { self.new ≡ changed_at (C.after change) place self.old }
+        ensures items { self.new ≡ changed_at (C.after change.old) place self.old }
+        ensures kept { option_map (C.kept change.old) (slice_get self.old place) ≡ Some change.new }
     {
         match &mut self.top {
             Link::Empty => unreachable!(),
@@ -175,71 +194,5 @@ impl<T: Drop> Shelf<T> {
         ensures rest { self.new ≡ [] }
     {
         mem::replace(&mut self.top, Link::Empty)
-    }
-}
-
-/// An item with the memory that it takes in a list.
-#[derive(Drop)]
-pub struct Piece<T> {
-    knot: Box<Knot<T>>,
-}
-
-impl<T> Model for Piece<T> {
-    ghost use Rattle.np_shelf.specs.Items.{IsLoose};
-
-    ghost Value = { T };
-
-    ghost view = { λ p. p.knot.value.item };
-
-    ghost invariant = { λ p. IsLoose p.knot.value };
-}
-
-impl<T: Drop> Piece<T> {
-    /// Takes the memory for an item.
-    pub fn new(alloc: Global, item: T) -> Result<Piece<T>, AllocError>
-        ensures { IfOk result (λ piece. piece ≡ item) }
-    {
-        let knot = Box::new(
-            alloc,
-            Knot {
-                left: Shelf::new(),
-                item,
-                right: Shelf::new(),
-                len: 1,
-            },
-        )?;
-        Ok(Piece { knot })
-    }
-}
-
-/// Moves the right side's knot up.
-fn rotate_left<T: Drop>(knot: &mut Box<Knot<T>>)
-    requires { IsKnot knot.old.value }
-    ensures items { knot_items knot.new.value ≡ knot_items knot.old.value }
-    ensures counted { IsKnot knot.new.value }
-{
-    match knot.right.take() {
-        Link::Empty => {}
-        Link::Top(mut up) => {
-            knot.right = mem::replace(&mut up.left, Shelf::new());
-            knot.len = knot.left.len() + 1 + knot.right.len();
-            mem::swap(knot, &mut up);
-            knot.len = up.len + 1 + knot.right.len();
-            knot.left = Shelf {
-                top: Link::Top(up),
-            };
-        }
-    }
-}
-
-fn balance<T: Drop>(knot: &mut Box<Knot<T>>)
-    requires { IsKnot knot.old.value }
-    ensures items { knot_items knot.new.value ≡ knot_items knot.old.value }
-    ensures counted { IsKnot knot.new.value }
-{
-    let left = knot.left.len();
-    let right = knot.right.len();
-    if right / 3 > left {
-        rotate_left(knot);
     }
 }

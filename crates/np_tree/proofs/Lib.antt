@@ -1,8 +1,12 @@
+pub mod StepLemmas
+pub mod DeskLemmas
+pub mod NameLemmas
 pub mod OrderLemmas
 pub mod RisingLemmas
 pub mod PlaceLemmas
 pub mod ChangeLemmas
 pub mod ChildLemmas
+pub mod FindLemmas
 pub mod EndLemmas
 pub mod MarkLemmas
 pub mod EffectLemmas

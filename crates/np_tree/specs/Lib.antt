@@ -5,4 +5,11 @@ pub mod Tests
 pub mod Judge
 pub mod Effect
 pub mod Multi
+pub mod Calls
+pub mod Read
+pub mod Marks
+pub mod Steps
+pub mod Edits
+pub mod Desks
+pub mod Finds
 pub mod Worked

@@ -2,11 +2,16 @@
 #![tactic(auto)]
 
 mod bytes;
+mod desk;
+mod edit;
+mod find;
 mod kind;
 mod laws;
+mod mark;
 mod node;
 mod op;
 mod refusal;
+mod step;
 
 pub use bytes::Bytes;
 pub use kind::{Expect, Mode, Stat};

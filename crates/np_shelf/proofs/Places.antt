@@ -1,0 +1,69 @@
+use Rattle.std.proofs.Common.{◌≡◌, ℕ, ◌+◌, ◌-◌, ◌<◌, ◌≤◌, zero, suc, List, [], ◌∷◌, ◌++◌, length, drop, insert, remove, slice_get, Some, refl, sym, ap, arith}
+use Rattle.std.proofs.lemmas.List.Edits.{insert-append_left, insert-append_right, remove-append_left, remove-append_right}
+use Rattle.np_shelf.specs.Lists.{changed_at}
+
+-- an item put in before the item in the middle
+pub insert-left : {T : Type 0} (left right : List T) (item new : T) (place : ℕ) → place ≤ length left → insert left place new ++ item ∷ right ≡ insert (left ++ item ∷ right) place new
+insert-left left right item new place within = sym (insert-append_left left (item ∷ right) place new within)
+
+-- an item put in after it
+pub insert-right : {T : Type 0} (left right : List T) (item new : T) (place below : ℕ) → place ≡ length left + suc below → left ++ item ∷ insert right below new ≡ insert (left ++ item ∷ right) place new
+insert-right left right item new place below past =
+    let there : place - length left ≡ suc below = omega (arith, past) in
+    let all = insert-append_right left (item ∷ right) (length left) place new refl (omega arith) in
+    sym (rw there at all)
+
+-- the item before the middle taken out
+pub remove-left : {T : Type 0} (left right : List T) (item : T) (place : ℕ) → place < length left → remove left place ++ item ∷ right ≡ remove (left ++ item ∷ right) place
+remove-left left right item place within = sym (remove-append_left left (item ∷ right) place within)
+
+pub remove-right : {T : Type 0} (left right : List T) (item : T) (place below : ℕ) → place ≡ length left + suc below → left ++ item ∷ remove right below ≡ remove (left ++ item ∷ right) place
+remove-right left right item place below past =
+    let there : place - length left ≡ suc below = omega (arith, past) in
+    let all = remove-append_right left (item ∷ right) (length left) place refl (omega arith) in
+    sym (rw there at all)
+
+-- the item in the middle taken out
+pub remove-middle : {T : Type 0} (left right : List T) (item : T) (place : ℕ) → place ≡ length left → left ++ right ≡ remove (left ++ item ∷ right) place
+remove-middle [] right item place there = rw there refl
+remove-middle (x ∷ left) right item place there = rw there (ap (λ rest. x ∷ rest) (remove-middle left right item (length left) refl))
+
+-- the items by place
+pub slice_get-left : {T : Type 0} (left right : List T) (item : T) (place : ℕ) → place < length left → slice_get (left ++ item ∷ right) place ≡ slice_get left place
+slice_get-left [] right item place within = absurd (omega arith)
+slice_get-left (x ∷ left) right item zero within = refl
+slice_get-left (x ∷ left) right item (suc place) within = slice_get-left left right item place (omega arith)
+
+pub slice_get-middle : {T : Type 0} (left right : List T) (item : T) (place : ℕ) → place ≡ length left → slice_get (left ++ item ∷ right) place ≡ Some item
+slice_get-middle [] right item place there = rw there refl
+slice_get-middle (x ∷ left) right item place there = rw there (slice_get-middle left right item (length left) refl)
+
+pub slice_get-right : {T : Type 0} (left right : List T) (item : T) (place below : ℕ) → place ≡ length left + suc below → slice_get (left ++ item ∷ right) place ≡ slice_get right below
+slice_get-right [] right item place below past = let there : place ≡ suc below = omega arith in rw there refl
+slice_get-right (x ∷ left) right item zero below past = absurd (omega arith)
+slice_get-right (x ∷ left) right item (suc place) below past = slice_get-right left right item place below (omega arith)
+
+-- an item changed
+pub changed_at-left : {T : Type 0} (f : T → T) (left right : List T) (item : T) (place : ℕ) → place < length left → changed_at f place left ++ item ∷ right ≡ changed_at f place (left ++ item ∷ right)
+changed_at-left f [] right item place within = absurd (omega arith)
+changed_at-left f (x ∷ left) right item zero within = refl
+changed_at-left f (x ∷ left) right item (suc place) within = ap (λ rest. x ∷ rest) (changed_at-left f left right item place (omega arith))
+
+pub changed_at-middle : {T : Type 0} (f : T → T) (left right : List T) (item : T) (place : ℕ) → place ≡ length left → left ++ f item ∷ right ≡ changed_at f place (left ++ item ∷ right)
+changed_at-middle f [] right item place there = rw there refl
+changed_at-middle f (x ∷ left) right item place there = rw there (ap (λ rest. x ∷ rest) (changed_at-middle f left right item (length left) refl))
+
+pub changed_at-right : {T : Type 0} (f : T → T) (left right : List T) (item : T) (place below : ℕ) → place ≡ length left + suc below → left ++ item ∷ changed_at f below right ≡ changed_at f place (left ++ item ∷ right)
+changed_at-right f [] right item place below past = let there : place ≡ suc below = omega arith in rw there refl
+changed_at-right f (x ∷ left) right item zero below past = absurd (omega arith)
+changed_at-right f (x ∷ left) right item (suc place) below past = ap (λ rest. x ∷ rest) (changed_at-right f left right item place below (omega arith))
+
+pub length-changed_at : {T : Type 0} (f : T → T) (place : ℕ) (items : List T) → length (changed_at f place items) ≡ length items
+length-changed_at f place [] = refl
+length-changed_at f zero (x ∷ items) = refl
+length-changed_at f (suc place) (x ∷ items) = ap suc (length-changed_at f place items)
+
+-- the first item on the right takes the place of the item in the middle
+pub remove-first_up : {T : Type 0} (left right : List T) (item first : T) (place : ℕ) → place ≡ length left → slice_get right 0 ≡ Some first → left ++ first ∷ drop 1 right ≡ remove (left ++ item ∷ right) place
+remove-first_up left [] item first place there stands = cc
+remove-first_up left (x ∷ right) item first place there stands = let same : first ≡ x = cc in rw same (remove-middle left (x ∷ right) item place there)
