@@ -10,3 +10,4 @@ pub mod FindLemmas
 pub mod EndLemmas
 pub mod MarkLemmas
 pub mod EffectLemmas
+pub mod KeptLemmas

@@ -12,4 +12,5 @@ pub mod Steps
 pub mod Edits
 pub mod Desks
 pub mod Finds
+pub mod Kept
 pub mod Worked
