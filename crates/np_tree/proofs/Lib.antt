@@ -11,3 +11,4 @@ pub mod EndLemmas
 pub mod MarkLemmas
 pub mod EffectLemmas
 pub mod KeptLemmas
+pub mod MultiLemmas
