@@ -12,3 +12,4 @@ pub mod MarkLemmas
 pub mod EffectLemmas
 pub mod KeptLemmas
 pub mod MultiLemmas
+pub mod EndSteps
