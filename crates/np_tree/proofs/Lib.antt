@@ -13,3 +13,4 @@ pub mod EffectLemmas
 pub mod KeptLemmas
 pub mod MultiLemmas
 pub mod EndSteps
+pub mod PlanLemmas

@@ -144,7 +144,7 @@ AllMarked-remove_mark marks k mark [] there none all = tt
 AllMarked-remove_mark marks k mark (n ∷ nodes) there none all =
     (fewer-marked marks k mark n.path n.facts.owner there none.0 all.0, AllMarked-remove_mark marks k mark nodes there none.1 all.1)
 
-NoneMarked-none : (session : ℕ) (path : List ℕ) (nodes : List Node) → NonePass (is_at path) nodes → NoneMarked session path nodes
+pub NoneMarked-none : (session : ℕ) (path : List ℕ) (nodes : List Node) → NonePass (is_at path) nodes → NoneMarked session path nodes
 NoneMarked-none session path nodes none =
     all-weaker (λ n. is_at path n ≡ false) (λ n. (is_at path n && is_owned session n) ≡ false) nodes (λ n other. and_left (is_at path n) (is_owned session n) other) none
 
@@ -166,7 +166,7 @@ NoneMarked-other session path n (m ∷ nodes) sorted found other =
     other-by session path n m nodes (is_at path m) refl sorted found other (λ later. NoneMarked-other session path n nodes sorted.1 later other)
 
 -- the node there is gone
-none-without : (path : List ℕ) (nodes : List Node) → NonePass (is_at path) (without_node path nodes)
+pub none-without : (path : List ℕ) (nodes : List Node) → NonePass (is_at path) (without_node path nodes)
 none-without path [] = tt
 none-without path (n ∷ nodes) = by_first (is_at path n) refl (none-without path nodes) where
   by_first : (b : Bool) → is_at path n ≡ b → NonePass (is_at path) (without_node path nodes) → NonePass (is_at path) (cond (not b) (n ∷ without_node path nodes) (without_node path nodes))

@@ -12,5 +12,6 @@ pub mod Steps
 pub mod Edits
 pub mod Desks
 pub mod Finds
+pub mod Names
 pub mod Kept
 pub mod Worked
