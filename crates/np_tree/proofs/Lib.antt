@@ -7,3 +7,5 @@ pub mod PlaceLemmas
 pub mod ChangeLemmas
 pub mod ChildLemmas
 pub mod FindLemmas
+pub mod NamesLemmas
+pub mod GapLemmas

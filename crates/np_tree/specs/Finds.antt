@@ -1,8 +1,9 @@
-use Rattle.std.specs.Prelude.{◌≡◌, ℕ, ◌-◌, ◌<◌, ◌≤◌, Bool, true, List, [], ◌∷◌, length, take, drop, Option, Some, None, slice_get}
+use Rattle.std.specs.Prelude.{◌≡◌, ℕ, ◌-◌, ◌<◌, ◌≤◌, Bool, true, List, [], ◌∷◌, length, take, drop, Option, Some, None, is_some, slice_get}
 use Rattle.std.specs.Ordering.{nat_cmp, is_lt, is_le, ordering_then}
 use Rattle.std.specs.Cmp.Lexicographic.{slice_cmp}
 use Rattle.np_path.specs.Parts.{name_of}
 use Rattle.np_tree.specs.Look.{before_of, children_of, is_at, node_at}
+use Rattle.np_tree.specs.Order.{place_of}
 use Rattle.np_tree.specs.declared.node.Node.{Node}
 use Rattle.np_tree.specs.declared.find.Found.{Found}
 
@@ -23,6 +24,7 @@ pub record IsPlace (nodes : List Node) (path : List ℕ) (k : ℕ) (n : Node) : 
   pub within : k < length nodes
   pub item : slice_get nodes k ≡ Some n
   pub at : is_at path n ≡ true
+  pub found : node_at nodes path ≡ Some n
 
 -- the node at a path is found with its place, or there is none
 abbrev pub Finds : List Node → List ℕ → Option Found → Type 0
@@ -34,3 +36,8 @@ pub record IsStretch (nodes : List Node) (path : List ℕ) (from to : ℕ) : Typ
   pub ordered : from ≤ to
   pub within : to ≤ length nodes
   pub children : children_of nodes path ≡ take (to - from) (drop from nodes)
+
+-- a path is free and has a place, or a node stands there
+abbrev pub FindsGap : List Node → List ℕ → Option ℕ → Type 0
+FindsGap nodes path None = is_some (node_at nodes path) ≡ true
+FindsGap nodes path (Some k) = (node_at nodes path ≡ None) × (k ≡ place_of path nodes)

@@ -12,4 +12,8 @@ pub mod Steps
 pub mod Edits
 pub mod Desks
 pub mod Finds
+pub mod Kept
+pub mod Names
+pub mod Boards
+pub mod Codes
 pub mod Worked
