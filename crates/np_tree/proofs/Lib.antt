@@ -7,10 +7,5 @@ pub mod PlaceLemmas
 pub mod ChangeLemmas
 pub mod ChildLemmas
 pub mod FindLemmas
-pub mod EndLemmas
-pub mod MarkLemmas
-pub mod EffectLemmas
-pub mod KeptLemmas
-pub mod MultiLemmas
-pub mod EndSteps
-pub mod PlanLemmas
+pub mod NamesLemmas
+pub mod GapLemmas

@@ -12,6 +12,8 @@ pub mod Steps
 pub mod Edits
 pub mod Desks
 pub mod Finds
-pub mod Names
 pub mod Kept
+pub mod Names
+pub mod Boards
+pub mod Codes
 pub mod Worked

@@ -1,7 +1,8 @@
 //! The bytes of a node.
 
-ghost use Rattle.std.specs.Prelude.{◌≡◌};
+ghost use Rattle.std.specs.Prelude.{◌≡◌, IfOk};
 
+use std::alloc::{AllocError, Global};
 use std::marker::Model;
 
 /// A list of bytes.
@@ -24,6 +25,15 @@ impl Bytes {
         ensures { result ≡ items.items }
     {
         Bytes { items }
+    }
+
+    /// A copy of bytes.
+    pub(crate) fn copy(alloc: Global, bytes: &[u8]) -> Result<Bytes, AllocError>
+        ensures { IfOk result (λ copy. copy ≡ bytes.now) }
+    {
+        Ok(Bytes {
+            items: Vec::from_slice(alloc, bytes)?,
+        })
     }
 
     /// The bytes in order.

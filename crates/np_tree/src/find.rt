@@ -1,14 +1,22 @@
 //! Nodes by their paths, and children by their places.
 
-ghost use Rattle.std.specs.Prelude.{◌≡◌, ◌++◌, []};
+ghost use Rattle.std.specs.Prelude.{◌≡◌, ◌++◌, ◌&&◌, ℕ, List, [], true, if◌then◌else◌};
 ghost use Rattle.std.specs.Cmp.Lexicographic.{slice_cmp};
 ghost use Rattle.std.specs.List.{prefix_len};
 ghost use Rattle.std.specs.Ordering.{nat_cmp};
-ghost use Rattle.np_tree.specs.Finds.{Finds, IsStretch, upto_first, upto_last, stands_before};
+ghost use Rattle.std.specs.Str.{bytes_eq};
+ghost use Rattle.np_path.specs.Grammar.{is_path};
+ghost use Rattle.np_path.specs.Parts.{name_of};
+ghost use Rattle.np_tree.specs.Judge.{made_path};
+ghost use Rattle.np_tree.specs.Look.{before_of};
+ghost use Rattle.np_tree.specs.Names.{MakesName, half_of};
+ghost use Rattle.np_tree.specs.Tests.{is_sequential};
+ghost use Rattle.np_tree.specs.Finds.{Finds, FindsGap, IsStretch, upto_first, upto_last, stands_before};
 ghost use Rattle.np_tree.specs.Order.{AllPaths, IsSorted};
 
+use crate::kind::Mode;
 use crate::node::Node;
-use np_path::halves;
+use np_path::{Path, halves, ten_digits};
 use np_shelf::{Probe, Shelf};
 use std::cmp::Ordering;
 
@@ -131,4 +139,60 @@ fn below(nodes: &Shelf<Node>, before: &[u8]) -> Stretch
         from: nodes.place(&FirstChild { before }),
         to: nodes.place(&LastChild { before }),
     }
+}
+
+/// The place of a child that isn't there yet, by one search; none where a node stands at its path.
+pub fn gap(nodes: &Shelf<Node>, parent: &Node, name: &str, mode: Mode) -> Option<usize>
+    requires sorted { IsSorted nodes.now }
+    requires paths { AllPaths nodes.now }
+    requires name { MakesName name.now mode }
+    ensures { FindsGap nodes.now (made_path parent.now name.now mode) result }
+{
+    let number = ten_digits(parent.facts.counter);
+    let digits = digits_for(mode, &number);
+    gap_at(nodes, half_of(&parent.path), name.as_bytes(), digits)
+}
+
+/// The digits that stand after a name of this mode.
+fn digits_for(mode: Mode, number: &[u8]) -> &[u8]
+    ensures { result.now ≡ (if is_sequential mode then number.now else []) }
+{
+    if mode.is_sequential() { number } else { b"" }
+}
+
+/// What is before the last slash of a node's children.
+fn half_of(path: &Path) -> &[u8]
+    ensures half { result.now ≡ half_of path.now }
+    ensures path { is_path path.now ≡ true }
+{
+    let text = path.text();
+    if text == "/" { b"" } else { text.as_bytes() }
+}
+
+/// The place of the path of two halves, by one search; none where a node stands there.
+fn gap_at(nodes: &Shelf<Node>, before: &[u8], name: &[u8], digits: &[u8]) -> Option<usize>
+    requires sorted { IsSorted nodes.now }
+    requires paths { AllPaths nodes.now }
+    ensures { (path : List ℕ) → is_path path ≡ true → before_of path ≡ before.now → name_of path ≡ name.now ++ digits.now → FindsGap nodes.now path result }
+{
+    let place = nodes.place(&ByHalves {
+        before,
+        name,
+        digits,
+    });
+    let Some(node) = nodes.at(place) else {
+        return Some(place);
+    };
+    if stands_there(node, before, name, digits) {
+        return None;
+    }
+    Some(place)
+}
+
+/// Whether a node has these two halves, the name in two parts.
+fn stands_there(node: &Node, before: &[u8], name: &[u8], digits: &[u8]) -> bool
+    ensures { result ≡ (bytes_eq (before_of node.now.path) before.now && bytes_eq (name_of node.now.path) (name.now ++ digits.now)) }
+{
+    let (first, last) = node.path.halves();
+    first == before && name_cmp(last, name, digits).is_eq()
 }

@@ -1,10 +1,12 @@
 //! The coordination tree: nodes with bytes, versions, owners and counters, changed by sessions.
 #![tactic(auto)]
 
+mod board;
 mod bytes;
 mod desk;
 mod edit;
 mod find;
+mod judge;
 mod kind;
 mod laws;
 mod mark;

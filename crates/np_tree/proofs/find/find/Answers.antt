@@ -9,7 +9,7 @@ use Rattle.np_tree.specs.Finds.{Finds}
 use Rattle.np_tree.specs.Look.{before_of, is_at, node_at}
 use Rattle.np_tree.specs.Order.{place_of}
 use Rattle.np_tree.proofs.FindLemmas.{false-not, place_of-halves, true-not}
-use Rattle.np_tree.proofs.PlaceLemmas.{IsSplit-halves, node_at-no_slash, node_at-other, node_at-past}
+use Rattle.np_tree.proofs.PlaceLemmas.{IsSplit-halves, node_at-no_slash, node_at-other, node_at-past, node_at-there}
 use Rattle.np_tree.proofs.find.find.Goals as goal
 
 pub returns-in_err-before : goal.returns-in_err-before
@@ -51,4 +51,4 @@ returns c =
     let node = c.in_ok-node.node.now in
     let there : slice_get nodes c.place-place.result ≡ Some node = sym c.in_ok-node.ensures in
     let same : is_at c.args.path.now node ≡ true = rw c.text.ensures.text at (false-not _ c.if-ne.ensures) in
-    record { within = slice_get_within nodes c.place-place.result node there; item = there; at = same }
+    record { within = slice_get_within nodes c.place-place.result node there; item = there; at = same; found = node_at-there c.args.path.now nodes c.place-place.result node c.requires.sorted there same }
