@@ -9,3 +9,10 @@ pub mod ChildLemmas
 pub mod FindLemmas
 pub mod NamesLemmas
 pub mod GapLemmas
+pub mod EndLemmas
+pub mod MarkLemmas
+pub mod EffectLemmas
+pub mod KeptLemmas
+pub mod MultiLemmas
+pub mod EndSteps
+pub mod PlanLemmas
