@@ -16,3 +16,4 @@ pub mod KeptLemmas
 pub mod MultiLemmas
 pub mod EndSteps
 pub mod PlanLemmas
+pub mod EditLemmas
