@@ -17,3 +17,4 @@ pub mod MultiLemmas
 pub mod EndSteps
 pub mod PlanLemmas
 pub mod EditLemmas
+pub mod PassedLemmas
