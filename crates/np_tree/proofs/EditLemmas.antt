@@ -12,6 +12,7 @@ use Rattle.np_tree.specs.Steps.{CanStep, stepped}
 use Rattle.np_tree.specs.Marks.{mark_before, mark_place}
 use Rattle.np_tree.specs.Order.{IsSorted, place_of}
 use Rattle.np_tree.specs.Kept.{IsKept, Plans, removed, touched_above}
+use Rattle.np_tree.specs.Plans.{TakesMark}
 use Rattle.np_tree.specs.declared.node.Node.{Node}
 use Rattle.np_tree.specs.declared.mark.Mark.{Mark}
 use Rattle.np_tree.specs.declared.step.Step.{Step}
@@ -96,33 +97,29 @@ Plans-put_mark above f keeps owner touch n at parent mark j nodes marks kept may
 
 -- ## a node gone
 
-can-take : (z : ℕ) (path : List ℕ) (touch : Option Touch) (at : ℕ) (n : Node) (nodes : List Node) → slice_get nodes at ≡ Some n → Touches nodes (touched_above z (parent_of path) nodes) touch → length nodes < 18_446_744_073_709_551_616 →
-    CanStep (Take at) (touched touch nodes)
-can-take z path touch at n nodes there touches room =
+can-take : (z : ℕ) (path : List ℕ) (touch : Option Touch) (at : ℕ) (n : Node) (nodes : List Node) → slice_get nodes at ≡ Some n → Touches nodes (touched_above z (parent_of path) nodes) touch → CanStep (Take at) (touched touch nodes)
+can-take z path touch at n nodes there touches =
     let long : length (touched touch nodes) ≡ length nodes = ap length touches.made ∙ length-paths (touched_above z (parent_of path) nodes) nodes (paths_of-touched_above z (parent_of path) nodes) in
     let within = slice_get_within nodes at n there in
-    (omega arith, omega arith)
+    omega arith
 
 made-take : (z : ℕ) (path : List ℕ) (touch : Option Touch) (at : ℕ) (n : Node) (nodes : List Node) (marks : List Mark) → IsKept nodes marks → slice_get nodes at ≡ Some n → is_at path n ≡ true → Touches nodes (touched_above z (parent_of path) nodes) touch →
     remove (touched touch nodes) at ≡ removed z path nodes
 made-take z path touch at n nodes marks kept there here touches =
     ap (λ (ns : List Node). remove ns at) touches.made ∙ sym (removed-at z path at n nodes marks kept there here)
 
-pub Plans-take : (z : ℕ) (path : List ℕ) (touch : Option Touch) (at : ℕ) (n : Node) (nodes : List Node) (marks : List Mark) → IsKept nodes marks → slice_get nodes at ≡ Some n → is_at path n ≡ true →
-    Touches nodes (touched_above z (parent_of path) nodes) touch → length nodes < 18_446_744_073_709_551_616 →
-    Plans nodes marks (removed z path nodes) (record { touch = touch; node = Take at; mark = Nothing })
-Plans-take z path touch at n nodes marks kept there here touches room = record {
-  can = record { touch = touches.can; node = can-take z path touch at n nodes there touches room; mark = tt };
+-- with at most a mark of that path
+pub Plans-take : (z : ℕ) (path : List ℕ) (touch : Option Touch) (at : ℕ) (n : Node) (step : Step Mark) (nodes : List Node) (marks : List Mark) → IsKept nodes marks → slice_get nodes at ≡ Some n → is_at path n ≡ true →
+    Touches nodes (touched_above z (parent_of path) nodes) touch → TakesMark path marks step →
+    Plans nodes marks (removed z path nodes) (record { touch = touch; node = Take at; mark = step })
+Plans-take z path touch at n Nothing nodes marks kept there here touches takes = record {
+  can = record { touch = touches.can; node = can-take z path touch at n nodes there touches; mark = tt };
   made = made-take z path touch at n nodes marks kept there here touches;
   kept = IsKept-removed z path at n nodes marks kept there here;
 }
-
--- an ephemeral node, with its mark
-pub Plans-take_mark : (z : ℕ) (path : List ℕ) (touch : Option Touch) (at j : ℕ) (n : Node) (mark : Mark) (nodes : List Node) (marks : List Mark) → IsKept nodes marks → slice_get nodes at ≡ Some n → is_at path n ≡ true →
-    Touches nodes (touched_above z (parent_of path) nodes) touch → length nodes < 18_446_744_073_709_551_616 → slice_get marks j ≡ Some mark → mark.path ≡ path → length marks < 18_446_744_073_709_551_616 →
-    Plans nodes marks (removed z path nodes) (record { touch = touch; node = Take at; mark = Take j })
-Plans-take_mark z path touch at j n mark nodes marks kept there here touches room mark_there same mark_room = record {
-  can = record { touch = touches.can; node = can-take z path touch at n nodes there touches room; mark = (slice_get_within marks j mark mark_there, mark_room) };
+Plans-take z path touch at n (Take j) nodes marks kept there here touches takes = record {
+  can = record { touch = touches.can; node = can-take z path touch at n nodes there touches; mark = slice_get_within marks j takes.0 takes.1 };
   made = made-take z path touch at n nodes marks kept there here touches;
-  kept = IsKept-removed_mark z path at j n mark nodes marks kept there here mark_there same;
+  kept = IsKept-removed_mark z path at j n takes.0 nodes marks kept there here takes.1 takes.2;
 }
+Plans-take z path touch at n (Put j mark) nodes marks kept there here touches takes = absurd takes

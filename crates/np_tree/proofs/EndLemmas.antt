@@ -9,15 +9,12 @@ use Rattle.std.proofs.lemmas.Bool.{and_right, or_parts, or_right}
 use Rattle.np_path.specs.Parts.{parent_of}
 use Rattle.np_tree.specs.Look.{change_node, is_at, is_child, is_owned, is_parent, is_session}
 use Rattle.np_tree.specs.Effect.{left_by, without_child}
+use Rattle.np_tree.specs.Ends.{ended_nodes}
 use Rattle.np_tree.specs.Order.{IsSorted, is_before}
 use Rattle.np_tree.specs.declared.node.Node.{Node}
 use Rattle.np_tree.proofs.ChangeLemmas.{KeepsPath}
 use Rattle.np_tree.proofs.PlaceLemmas.{bytes_eq-from, bytes_eq-is, bytes_eq-not, later-others}
 use Rattle.np_tree.proofs.RisingLemmas.{NonePass}
-
--- the nodes after the end of a session
-abbrev pub ended_nodes : ℕ → ℕ → List Node → List Node
-ended_nodes z session nodes = map (left_by nodes z session) (filter (λ n. not (is_owned session n)) nodes)
 
 -- the change leaves the owner
 abbrev pub KeepsOwner : (Node → Node) → Type 0
