@@ -18,3 +18,4 @@ pub mod EndSteps
 pub mod PlanLemmas
 pub mod EditLemmas
 pub mod PassedLemmas
+pub mod CallLemmas
