@@ -1,13 +1,13 @@
 -- what the calls leave, where their tests passed
-use Rattle.std.proofs.Common.{◌≡◌, ℕ, ◌+◌, ◌<◌, ◌≤◌, Bool, true, false, not, List, [], length, Option, Some, None, Result, Ok, Err, refl, sym, ap, ◌∙◌, subst, arith}
-use Rattle.std.specs.Prelude.{min, nat_lt, nat_le, ◌==◌}
+use Rattle.std.proofs.Common.{◌≡◌, ℕ, ◌+◌, ◌<◌, Bool, true, false, not, List, [], length, Some, None, Result, Ok, Err, refl, arith}
+use Rattle.std.specs.Prelude.{nat_lt, nat_le, ◌==◌}
 use Rattle.std.specs.Str.{bytes_eq}
 use Rattle.std.proofs.lemmas.Bool.{eqb-true, ltb-true, not-true}
 use Rattle.np_path.specs.Parts.{name_of, parent_of, root}
 use Rattle.np_session.specs.Known.{is_in}
 use Rattle.np_tree.specs.State.{State}
-use Rattle.np_tree.specs.Look.{change_node, children_of, node_at, with_node}
-use Rattle.np_tree.specs.Tests.{◌>>=◌, ◌>>◌, alive, expected, fits, found, is_expected, need, there, unspent}
+use Rattle.np_tree.specs.Look.{change_node, children_of, node_at}
+use Rattle.np_tree.specs.Tests.{◌>>=◌, ◌>>◌, expected, fits, found, is_expected, need, there, unspent}
 use Rattle.np_tree.specs.Judge.{judge_child, judge_create, judge_create_under, judge_delete, judge_set}
 use Rattle.np_tree.specs.Effect.{created, created_under, deleted, next_change, replaced, with_bytes}
 use Rattle.np_tree.specs.Kept.{removed}

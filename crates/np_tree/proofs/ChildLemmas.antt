@@ -1,5 +1,5 @@
 -- the children of a path are one stretch of the nodes
-use Rattle.std.proofs.Common.{◌≡◌, ℕ, zero, suc, ◌+◌, ◌-◌, ◌<◌, ◌≤◌, Bool, true, false, not, ◌&&◌, cond, List, [], ◌∷◌, ◌++◌, length, take, drop, Option, Some, None, Ordering, Less, Equal, Greater, refl, sym, ap, ◌∙◌, subst, arith}
+use Rattle.std.proofs.Common.{◌≡◌, ℕ, zero, suc, ◌+◌, ◌-◌, ◌<◌, ◌≤◌, Bool, true, false, not, ◌&&◌, cond, List, [], ◌∷◌, ◌++◌, length, take, drop, Option, Some, None, Ordering, Less, Equal, Greater, refl, sym, ap, ◌∙◌, arith}
 use Rattle.std.specs.Prelude.{slice_get, filter}
 use Rattle.std.specs.List.{AllByRecursion, insert, remove, prefix_len}
 use Rattle.std.specs.Ordering.{nat_cmp, is_le, ordering_then}
@@ -12,12 +12,12 @@ use Rattle.std.proofs.lemmas.Cmp.{nat_list_cmp_total, tied_itself}
 use Rattle.std.proofs.lemmas.Map.Lookups.{exact_bytes}
 use Rattle.np_path.specs.Grammar.{is_element, is_path}
 use Rattle.np_path.specs.Parts.{below, name_of, or_root, parent_of, root}
-use Rattle.np_path.proofs.PathLaws.{IsChild, IsChild-of, halves-whole, root-of}
+use Rattle.np_path.proofs.PathLaws.{IsChild-of, halves-whole, root-of}
 use Rattle.np_tree.specs.Look.{before_of, children_of, is_child, is_parent}
 use Rattle.np_tree.specs.Order.{AllPaths, IsSorted, Rises, is_before}
 use Rattle.np_tree.specs.declared.node.Node.{Node}
-use Rattle.np_tree.proofs.OrderLemmas.{halves_cmp, halves_of, comes_before-halves_le, comes_before-first_le, has_slash, parent-half}
-use Rattle.np_tree.proofs.PlaceLemmas.{bytes_eq-from, bytes_eq-is, bytes_eq-not}
+use Rattle.np_tree.proofs.OrderLemmas.{comes_before-halves_le, comes_before-first_le, has_slash, parent-half}
+use Rattle.np_tree.proofs.PlaceLemmas.{bytes_eq-from, bytes_eq-is}
 use Rattle.np_tree.proofs.RisingLemmas.{NonePass, all-weaker, none-later}
 
 -- ## between two probes
@@ -173,9 +173,9 @@ child-by key p n Greater is_key is at = other-half key p n (is_child p n) refl i
 child-by key p n Equal is_key is at =
     same-half-by key p n (parent_of n.path) (name_of n.path) is_key is (exact_bytes _ _ at) refl refl
     ∙ and_true (not (is_le (slice_cmp nat_cmp (name_of n.path) []))) where
-  and_true : (b : Bool) → b ≡ (b && true)
-  and_true true = refl
-  and_true false = refl
+      and_true : (b : Bool) → b ≡ (b && true)
+      and_true true = refl
+      and_true false = refl
 
 IsBetween-child : (key p : List ℕ) (n : Node) → IsKey key p → is_path n.path ≡ true → IsBetween (is_above key) (is_upto key) (is_child p) n
 IsBetween-child key p n is_key is = record { both = above-upto key n; is = child-by key p n (slice_cmp nat_cmp (before_of n.path) key) is_key is refl }

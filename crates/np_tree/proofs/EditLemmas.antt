@@ -1,14 +1,13 @@
 -- edits that make what is planned
-use Rattle.std.proofs.Common.{◌≡◌, ℕ, ◌+◌, ◌<◌, ◌≤◌, Bool, true, false, List, [], ◌∷◌, length, Option, Some, None, refl, sym, ap, ◌∙◌, subst, arith}
+use Rattle.std.proofs.Common.{◌≡◌, ℕ, ◌<◌, true, List, length, Option, Some, sym, ap, ◌∙◌, subst, arith}
 use Rattle.std.specs.Prelude.{slice_get}
 use Rattle.std.specs.List.{insert, remove}
 use Rattle.std.proofs.lemmas.List.Sums.{prefix_len-le-length}
 use Rattle.std.proofs.lemmas.Option.{slice_get_within}
 use Rattle.np_path.specs.Parts.{parent_of}
-use Rattle.np_shelf.specs.Lists.{changed_at}
 use Rattle.np_tree.specs.Look.{change_node, comes_before, is_at, with_node}
-use Rattle.np_tree.specs.Edits.{CanEdit, CanTouch, edited, swapped, touched}
-use Rattle.np_tree.specs.Steps.{CanStep, stepped}
+use Rattle.np_tree.specs.Edits.{CanTouch, swapped, touched}
+use Rattle.np_tree.specs.Steps.{CanStep}
 use Rattle.np_tree.specs.Marks.{mark_before, mark_place}
 use Rattle.np_tree.specs.Order.{IsSorted, place_of}
 use Rattle.np_tree.specs.Kept.{IsKept, Plans, removed, touched_above}
@@ -17,8 +16,6 @@ use Rattle.np_tree.specs.declared.node.Node.{Node}
 use Rattle.np_tree.specs.declared.mark.Mark.{Mark}
 use Rattle.np_tree.specs.declared.step.Step.{Step}
 use Rattle.np_tree.specs.declared.step.Step.TheVariants.{Nothing, Take, Put}
-use Rattle.np_tree.specs.declared.edit.Edit.{Edit}
-use Rattle.np_tree.specs.declared.edit.Swap.{Swap}
 use Rattle.np_tree.specs.declared.edit.Touch.{Touch}
 use Rattle.np_tree.proofs.ChangeLemmas.{KeepsPath, length-paths, paths_of-change_node}
 use Rattle.np_tree.proofs.EffectLemmas.{changed_at-same}
@@ -92,7 +89,7 @@ Plans-put_mark above f keeps owner touch n at parent mark j nodes marks kept may
   };
   made = made-put above f keeps touch n at parent nodes marks (insert marks j mark) kept may touches place;
   kept = IsKept-with_node above f keeps owner n parent nodes (insert marks j mark) may
-  (subst (λ (k : ℕ). IsKept nodes (insert marks k mark)) (sym mark_at) (IsKept-insert_mark mark nodes marks kept));
+      (subst (λ (k : ℕ). IsKept nodes (insert marks k mark)) (sym mark_at) (IsKept-insert_mark mark nodes marks kept));
 }
 
 -- ## a node gone

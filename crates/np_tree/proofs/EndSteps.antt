@@ -1,5 +1,5 @@
 -- the steps of a session's end, one for each of its marks
-use Rattle.std.proofs.Common.{◌≡◌, ℕ, zero, suc, ◌+◌, ◌<◌, Bool, true, false, List, [], ◌∷◌, length, Option, Some, None, refl, sym, ap, ◌∙◌, subst, arith}
+use Rattle.std.proofs.Common.{◌≡◌, ℕ, zero, suc, ◌<◌, true, false, List, [], ◌∷◌, length, Option, Some, None, refl, sym, ap, ◌∙◌, subst, arith}
 use Rattle.std.specs.Prelude.{slice_get, ◌==◌}
 use Rattle.std.specs.List.{remove}
 use Rattle.std.specs.Str.{bytes_eq}
@@ -19,9 +19,9 @@ use Rattle.np_tree.specs.declared.node.Node.{Node}
 use Rattle.np_tree.specs.declared.mark.Mark.{Mark}
 use Rattle.np_tree.proofs.ChangeLemmas.{paths_of-changed_at}
 use Rattle.np_tree.proofs.EffectLemmas.{one_less-at, one_less-orphan, slice_get-paths}
-use Rattle.np_tree.proofs.EndLemmas.{IsOwnedAt, ended_nodes-none, ended_nodes-step, ended_nodes-top}
+use Rattle.np_tree.proofs.EndLemmas.{ended_nodes-none, ended_nodes-step, ended_nodes-top}
 use Rattle.np_tree.proofs.KeptLemmas.{IsKept-changed_at, IsKept-remove, IsKept-remove_mark}
-use Rattle.np_tree.proofs.MarkLemmas.{NoneMarked, NoneMarked-absent, NoneMarked-other, NoneMarked-remove, no_marks, not_owned}
+use Rattle.np_tree.proofs.MarkLemmas.{NoneMarked-absent, NoneMarked-other, NoneMarked-remove, no_marks, not_owned}
 use Rattle.np_tree.proofs.PlanLemmas.{removed-ended}
 use Rattle.np_tree.proofs.PlaceLemmas.{bytes_eq-from, bytes_eq-is, node_at-there}
 
@@ -52,10 +52,10 @@ EndsMore-owned z at k j n parent mark above nodes marks kept mark_there has top 
     let still = slice_get-paths nodes (changed_at (without_child z) k nodes) at n (sym (paths_of-changed_at (without_child z) (λ _. refl) k nodes)) has.there in
     record {
       kept = kept-less at j still.node mark (changed_at (without_child z) k nodes) marks (IsKept-changed_at (without_child z) (λ _. refl) (λ _. refl) k nodes marks kept) mark_there still.there
-      (ap (λ (q : List ℕ). bytes_eq q mark.path) (sym still.path) ∙ has.here);
+          (ap (λ (q : List ℕ). bytes_eq q mark.path) (sym still.path) ∙ has.here);
       ended =
-      ap (ended_nodes z mark.session) (sym (one_less-at z above k at parent nodes kept.sorted parent_there parent_here))
-      ∙ ended_nodes-step z mark.session above at nodes n kept.sorted (record { there = has.there; owned = has.owned; parent = HasOwned-parent mark at nodes n (Some above) has top });
+          ap (ended_nodes z mark.session) (sym (one_less-at z above k at parent nodes kept.sorted parent_there parent_here))
+          ∙ ended_nodes-step z mark.session above at nodes n kept.sorted (record { there = has.there; owned = has.owned; parent = HasOwned-parent mark at nodes n (Some above) has top });
     }
 
 -- the parent is not there

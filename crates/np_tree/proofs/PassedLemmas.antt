@@ -1,10 +1,10 @@
 -- what an accepted operation says of the tree
-use Rattle.std.proofs.Common.{◌≡◌, ℕ, ◌+◌, ◌<◌, ◌≤◌, Bool, true, false, not, ◌||◌, cond, List, [], ◌∷◌, ◌++◌, length, Option, Some, None, Result, Ok, Err, refl, sym, ap, ◌∙◌, subst, arith}
-use Rattle.std.specs.Prelude.{nat_le, nat_lt, ◌==◌}
+use Rattle.std.proofs.Common.{◌≡◌, ℕ, ◌<◌, ◌≤◌, Bool, true, false, not, ◌||◌, cond, List, ◌++◌, length, Option, Some, None, Result, Ok, refl, subst}
+use Rattle.std.specs.Prelude.{nat_le, nat_lt}
 use Rattle.std.specs.Option.{is_none}
 use Rattle.std.specs.Str.{bytes_eq}
 use Rattle.std.specs.List.{list_all}
-use Rattle.std.proofs.lemmas.Bool.{eqb-true, leb-true, ltb-true}
+use Rattle.std.proofs.lemmas.Bool.{leb-true, ltb-true}
 use Rattle.np_path.specs.Digits.{ten_digits}
 use Rattle.np_path.specs.Grammar.{is_element, is_kept, is_path}
 use Rattle.np_path.specs.Parts.{below, parent_of, root}
@@ -12,12 +12,11 @@ use Rattle.np_path.proofs.PartsLemmas.{is_element-numbered, is_path-below}
 use Rattle.np_path.proofs.PathLaws.{HasParts-below, root-of}
 use Rattle.np_tree.specs.State.{State}
 use Rattle.np_tree.specs.Look.{children_of, is_at, node_at}
-use Rattle.np_tree.specs.Tests.{◌>>=◌, ◌>>◌, alive, expected, fits, found, is_sequential, need, there, unspent}
-use Rattle.np_tree.specs.Judge.{judge_child, judge_delete, judge_set, made_path}
+use Rattle.np_tree.specs.Tests.{◌>>=◌, ◌>>◌, fits, found, is_sequential, need, unspent}
+use Rattle.np_tree.specs.Judge.{judge_child, made_path}
 use Rattle.np_tree.specs.Names.{MakesName}
 use Rattle.np_tree.specs.declared.node.Node.{Node}
 use Rattle.np_tree.specs.declared.kind.Mode.{Mode}
-use Rattle.np_tree.specs.declared.kind.Expect.{Expect}
 use Rattle.np_tree.specs.declared.refusal.TreeRefusal.{TreeRefusal}
 use Rattle.np_tree.specs.declared.refusal.TreeRefusal.TheVariants as no
 use Rattle.np_tree.proofs.PlaceLemmas.{bytes_eq-is, bytes_eq-from}

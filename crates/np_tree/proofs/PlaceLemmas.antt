@@ -1,7 +1,7 @@
 -- a node by its path is the node at its place
-use Rattle.std.proofs.Common.{◌≡◌, ℕ, zero, suc, ◌+◌, ◌-◌, ◌<◌, ◌≤◌, Bool, true, false, not, cond, List, [], ◌∷◌, ◌++◌, length, take, drop, get_or, map, Option, Some, None, refl, sym, ap, ◌∙◌, subst, arith}
-use Rattle.std.specs.Prelude.{find, slice_get, filter}
-use Rattle.std.specs.List.{AllByRecursion, insert, remove, list_any, prefix_len}
+use Rattle.std.proofs.Common.{◌≡◌, ℕ, zero, suc, ◌<◌, Bool, true, false, not, List, [], ◌∷◌, length, Option, Some, None, refl, sym, ap, ◌∙◌, subst, arith}
+use Rattle.std.specs.Prelude.{slice_get, filter}
+use Rattle.std.specs.List.{AllByRecursion, insert, remove, list_any}
 use Rattle.std.specs.Ordering.{nat_cmp, is_lt, is_le, ordering_then}
 use Rattle.std.specs.Cmp.Lexicographic.{slice_cmp}
 use Rattle.std.specs.Str.{bytes_eq}
@@ -12,7 +12,7 @@ use Rattle.np_path.specs.Grammar.{is_path, is_slash}
 use Rattle.np_path.specs.Parts.{name_of}
 use Rattle.np_shelf.specs.Lists.{IsSplit, changed_at}
 use Rattle.np_tree.specs.Look.{before_of, change_node, comes_before, is_at, node_at, with_node, without_node}
-use Rattle.np_tree.specs.Order.{AllPaths, IsSorted, Rises, is_before, place_of}
+use Rattle.np_tree.specs.Order.{AllPaths, IsSorted, is_before, place_of}
 use Rattle.np_tree.specs.declared.node.Node.{Node}
 use Rattle.np_tree.proofs.OrderLemmas.{comes_before-first_le, comes_before-halves, comes_before-halves_le, halves_cmp, halves_of, has_slash, comes_before-itself, comes_before-trans, comes_before-one_way, comes_before-some_way}
 use Rattle.np_tree.proofs.RisingLemmas.{FirstAt, NonePass, FirstAt-prefix, NonePass-prefix, IsSplit-rises, Rises-filter, Rises-insert, Rises-remove, all-filter, all-insert, all-remove, all-slice_get, all-weaker, find-first, find-none, none-find, prefix-one, prefix-none}
@@ -65,8 +65,8 @@ node_at-place p nodes n is here = find-first (is_at p) nodes (place_of p nodes) 
 pub node_at-other : (p : List ℕ) (nodes : List Node) (n : Node) → IsSorted nodes → slice_get nodes (place_of p nodes) ≡ Some n → is_at p n ≡ false → node_at nodes p ≡ None
 node_at-other p nodes n sorted is other =
     find-none (is_at p) nodes (place-absent p nodes sorted (λ m there. let same : n ≡ m = some_node (sym is ∙ there) in ap (is_at p) (sym same) ∙ other)) where
-  some_node : {x y : Node} → Some x ≡ Some y → x ≡ y
-  some_node e = cc
+      some_node : {x y : Node} → Some x ≡ Some y → x ≡ y
+      some_node e = cc
 
 pub node_at-past : (p : List ℕ) (nodes : List Node) → IsSorted nodes → slice_get nodes (place_of p nodes) ≡ None → node_at nodes p ≡ None
 node_at-past p nodes sorted past = find-none (is_at p) nodes (place-absent p nodes sorted (λ m there. absurd (let e : Some m ≡ None = sym there ∙ past in cc)))
@@ -102,7 +102,7 @@ first-there p [] k n sorted is here = absurd cc
 first-there p (m ∷ nodes) zero n sorted is here = let same : m ≡ n = cc in ap (is_at p) same ∙ here
 first-there p (m ∷ nodes) (suc k) n sorted is here = (
   let order : is_before m n ≡ true = all-slice_get (λ x. is_before m x ≡ true) nodes k n sorted.0 is in
-  less-apart p m (subst (λ (q : List ℕ). comes_before m.path q ≡ true) (bytes_eq-is n.path p here) order),
+      less-apart p m (subst (λ (q : List ℕ). comes_before m.path q ≡ true) (bytes_eq-is n.path p here) order),
   first-there p nodes k n sorted.1 is here,
 )
 
