@@ -19,3 +19,7 @@ pub mod PlanLemmas
 pub mod EditLemmas
 pub mod PassedLemmas
 pub mod CallLemmas
+pub mod CreationLemmas
+pub mod RemovalLemmas
+pub mod ReadLemmas
+pub mod RootLemmas
