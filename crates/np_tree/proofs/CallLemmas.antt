@@ -1,15 +1,15 @@
 -- what the calls leave, where their tests passed
-use Rattle.std.proofs.Common.{◌≡◌, ℕ, ◌+◌, ◌<◌, Bool, true, false, not, List, [], length, Some, None, Result, Ok, Err, refl, arith}
+use Rattle.std.proofs.Common.{◌≡◌, ℕ, ◌+◌, ◌<◌, Bool, true, false, not, List, [], length, Some, None, Result, Ok, Err, refl, sym, ap, arith}
 use Rattle.std.specs.Prelude.{nat_lt, nat_le, ◌==◌}
 use Rattle.std.specs.Str.{bytes_eq}
 use Rattle.std.proofs.lemmas.Bool.{eqb-true, ltb-true, not-true}
 use Rattle.np_path.specs.Parts.{name_of, parent_of, root}
 use Rattle.np_session.specs.Known.{is_in}
 use Rattle.np_tree.specs.State.{State}
-use Rattle.np_tree.specs.Look.{change_node, children_of, node_at}
+use Rattle.np_tree.specs.Look.{change_node, children_of, node_at, with_node}
 use Rattle.np_tree.specs.Tests.{◌>>=◌, ◌>>◌, expected, fits, found, is_expected, need, there, unspent}
-use Rattle.np_tree.specs.Judge.{judge_child, judge_create, judge_create_under, judge_delete, judge_set}
-use Rattle.np_tree.specs.Effect.{created, created_under, deleted, next_change, replaced, with_bytes}
+use Rattle.np_tree.specs.Judge.{judge_child, judge_create, judge_create_under, judge_delete, judge_set, made_path}
+use Rattle.np_tree.specs.Effect.{created, created_under, deleted, new_node, next_change, replaced, with_bytes, with_child}
 use Rattle.np_tree.specs.Kept.{removed}
 use Rattle.np_tree.specs.Plans.{with_new}
 use Rattle.np_tree.specs.declared.node.Node.{Node}
@@ -19,6 +19,7 @@ use Rattle.np_tree.specs.declared.refusal.TreeRefusal.{TreeRefusal}
 use Rattle.np_tree.specs.declared.refusal.TreeRefusal.TheVariants as no
 use Rattle.np_tree.proofs.MultiLemmas.{with_nodes}
 use Rattle.np_tree.proofs.PassedLemmas.{found-ok, need-ok}
+use Rattle.np_tree.proofs.PlaceLemmas.{bytes_eq-is, is_at-found}
 
 -- ## the number of the change
 
@@ -27,13 +28,16 @@ next_change-more t below = omega arith
 
 -- ## nodes
 
+-- by the path that the parent was found at
 pub created_under-found : (t : State) (session : ℕ) (above name bytes : List ℕ) (mode : Mode) (parent : Node) → node_at t.nodes above ≡ Some parent →
-    created_under t session above name bytes mode ≡ with_nodes t (with_new (next_change t) session above name bytes mode parent t.nodes)
-created_under-found t session above name bytes mode parent found = rw found refl
+    created_under t session above name bytes mode ≡ with_nodes t (with_new (next_change t) session name bytes mode parent t.nodes)
+created_under-found t session above name bytes mode parent at =
+    let same : above ≡ parent.path = sym (bytes_eq-is parent.path above (is_at-found above parent t.nodes at)) in
+    rw at (ap (λ (p : List ℕ). with_nodes t (with_node (new_node (next_change t) session (made_path parent name mode) bytes mode) (change_node p (with_child (next_change t) mode) t.nodes))) same)
 
 pub created-found : (t : State) (session : ℕ) (path bytes above : List ℕ) (mode : Mode) (parent : Node) → parent_of path ≡ Some above → node_at t.nodes above ≡ Some parent →
-    created t session path bytes mode ≡ with_nodes t (with_new (next_change t) session above (name_of path) bytes mode parent t.nodes)
-created-found t session path bytes above mode parent has found = rw has (created_under-found t session above (name_of path) bytes mode parent found)
+    created t session path bytes mode ≡ with_nodes t (with_new (next_change t) session (name_of path) bytes mode parent t.nodes)
+created-found t session path bytes above mode parent has at = rw has (created_under-found t session above (name_of path) bytes mode parent at)
 
 pub deleted-found : (t : State) (path above : List ℕ) → parent_of path ≡ Some above → deleted t path ≡ with_nodes t (removed (next_change t) path t.nodes)
 deleted-found t path above has = rw has refl

@@ -1,5 +1,5 @@
 -- a node by its path is the node at its place
-use Rattle.std.proofs.Common.{◌≡◌, ℕ, zero, suc, ◌<◌, Bool, true, false, not, List, [], ◌∷◌, length, Option, Some, None, refl, sym, ap, ◌∙◌, subst, arith}
+use Rattle.std.proofs.Common.{◌≡◌, ℕ, zero, suc, ◌<◌, Bool, true, false, not, cond, List, [], ◌∷◌, length, Option, Some, None, refl, sym, ap, ◌∙◌, subst, arith}
 use Rattle.std.specs.Prelude.{slice_get, filter}
 use Rattle.std.specs.List.{AllByRecursion, insert, remove, list_any}
 use Rattle.std.specs.Ordering.{nat_cmp, is_lt, is_le, ordering_then}
@@ -94,6 +94,15 @@ placed-by p nodes n (Some m) sorted found is = at_place (is_at p m) refl where
 
 pub IsPlaced-node_at : (p : List ℕ) (nodes : List Node) (n : Node) → IsSorted nodes → node_at nodes p ≡ Some n → IsPlaced p nodes n
 IsPlaced-node_at p nodes n sorted found = placed-by p nodes n (slice_get nodes (place_of p nodes)) sorted found refl
+
+-- what is found stands at the path
+found-by : (q : List ℕ) (n m : Node) (nodes : List Node) (b : Bool) → is_at q m ≡ b → (node_at nodes q ≡ Some n → is_at q n ≡ true) → cond b (Some m) (node_at nodes q) ≡ Some n → is_at q n ≡ true
+found-by q n m nodes true is later there = let same : m ≡ n = cc in ap (is_at q) (sym same) ∙ is
+found-by q n m nodes false is later there = later there
+
+pub is_at-found : (q : List ℕ) (n : Node) (nodes : List Node) → node_at nodes q ≡ Some n → is_at q n ≡ true
+is_at-found q n [] there = absurd cc
+is_at-found q n (m ∷ nodes) there = found-by q n m nodes (is_at q m) refl (is_at-found q n nodes) there
 
 -- ### at any place
 

@@ -24,7 +24,7 @@ use Rattle.np_tree.proofs.ChangeLemmas.{KeepsPath, node_at-change_here, node_at-
 use Rattle.np_tree.proofs.CallLemmas.{judge_delete-passed}
 use Rattle.np_tree.proofs.EndLemmas.{KeepsOwner}
 use Rattle.np_tree.proofs.PassedLemmas.{found-ok, judge_child-passed, need-ok}
-use Rattle.np_tree.proofs.PlaceLemmas.{bytes_eq-from, bytes_eq-is, bytes_eq-not}
+use Rattle.np_tree.proofs.PlaceLemmas.{bytes_eq-from, bytes_eq-is, bytes_eq-not, is_at-found}
 
 -- the root stands, and no session owns it
 pub record HasRoot (nodes : List Node) : Type 0 where
@@ -79,15 +79,6 @@ filter-by q keep n m nodes false false is kept keeps later there = later there
 pub node_at-filter : (q : List ℕ) (keep : Node → Bool) (n : Node) (nodes : List Node) → keep n ≡ true → node_at nodes q ≡ Some n → node_at (filter keep nodes) q ≡ Some n
 node_at-filter q keep n [] keeps there = absurd cc
 node_at-filter q keep n (m ∷ nodes) keeps there = filter-by q keep n m nodes (is_at q m) (keep m) refl refl keeps (node_at-filter q keep n nodes keeps) there
-
--- what is found stands at the path
-found-by : (q : List ℕ) (n m : Node) (nodes : List Node) (b : Bool) → is_at q m ≡ b → (node_at nodes q ≡ Some n → is_at q n ≡ true) → cond b (Some m) (node_at nodes q) ≡ Some n → is_at q n ≡ true
-found-by q n m nodes true is later there = let same : m ≡ n = cc in ap (is_at q) (sym same) ∙ is
-found-by q n m nodes false is later there = later there
-
-pub is_at-found : (q : List ℕ) (n : Node) (nodes : List Node) → node_at nodes q ≡ Some n → is_at q n ≡ true
-is_at-found q n [] there = absurd cc
-is_at-found q n (m ∷ nodes) there = found-by q n m nodes (is_at q m) refl (is_at-found q n nodes) there
 
 not_at : (p : List ℕ) (n : Node) (nodes : List Node) → bytes_eq p root ≡ false → node_at nodes root ≡ Some n → is_at p n ≡ false
 not_at p n nodes other there =

@@ -1,13 +1,16 @@
 //! The edits of the tree's operations.
 
-ghost use Rattle.std.specs.Prelude.{◌≡◌, ◌+◌, ◌≤◌, ℕ, List, true, Some, IfOk, slice_get, if◌then◌else◌};
+ghost use Rattle.std.specs.Prelude.{◌≡◌, ◌+◌, ◌≤◌, true, Some, IfOk, slice_get, if◌then◌else◌};
 ghost use Rattle.np_path.specs.Parts.{parent_of};
 ghost use Rattle.np_tree.specs.Edits.{CanTouch, touched};
+ghost use Rattle.np_tree.specs.Calls.{with_counter};
+ghost use Rattle.np_tree.specs.Effect.{with_bytes};
+ghost use Rattle.np_tree.specs.Look.{change_node};
 ghost use Rattle.np_tree.specs.Judge.{made_path};
 ghost use Rattle.np_tree.specs.Kept.{IsKept, Plans, removed, touched_above};
 ghost use Rattle.np_tree.specs.Marks.{mark_place, mark_upto, new_mark};
 ghost use Rattle.np_tree.specs.Names.{MakesName};
-ghost use Rattle.np_tree.specs.Plans.{IsSpot, TakesMark, with_new};
+ghost use Rattle.np_tree.specs.Plans.{IsSpot, TakesMark, mark_step, with_new};
 ghost use Rattle.np_tree.specs.Order.{Rises};
 ghost use Rattle.np_tree.specs.Tests.{is_sequential};
 ghost use Rattle.np_tree.specs.declared.step.Step.TheVariants.{Put};
@@ -60,6 +63,25 @@ fn put_mark(
     ))
 }
 
+/// The step of the marks for a new child.
+fn mark_step(
+    alloc: Global,
+    marks: &Shelf<Mark>,
+    session: u32,
+    parent: &Node,
+    name: &str,
+    mode: Mode,
+) -> Result<Step<Mark>, NoMemory>
+    requires marks { Rises mark_upto marks.now }
+    requires name { MakesName name.now mode }
+    ensures { IfOk result (λ step. step ≡ mark_step mode session (made_path parent.now name.now mode) marks.now) }
+{
+    if !mode.is_ephemeral() {
+        return Ok(Step::Nothing);
+    }
+    put_mark(alloc, marks, session, child_path(parent, name, mode)?)
+}
+
 /// The step that takes a session's mark of a path, where there is one.
 fn take_mark(marks: &Shelf<Mark>, session: u32, path: &Path) -> Step<Mark>
     requires { Rises mark_upto marks.now }
@@ -86,11 +108,10 @@ impl Desk {
         bytes: &[u8],
         mode: Mode,
     ) -> Result<Edit, NoMemory>
-        ghost above: { List ℕ }
         requires kept { IsKept self.now.nodes self.now.marks }
         requires name { MakesName name.now mode }
-        requires spot { IsSpot self.now.nodes above name.now mode spot }
-        ensures { IfOk result (Plans self.now.nodes self.now.marks (with_new change session above name.now bytes.now mode spot.entry.parent.node.now self.now.nodes)) }
+        requires spot { IsSpot self.now.nodes spot.parent.node.now.path name.now mode spot }
+        ensures { IfOk result (Plans self.now.nodes self.now.marks (with_new change session name.now bytes.now mode spot.entry.parent.node.now self.now.nodes)) }
     {
         if self.nodes.len() == usize::MAX || self.marks.len() == usize::MAX {
             return Err(NoMemory);
@@ -98,11 +119,7 @@ impl Desk {
         let alloc = *self.undo.allocator();
         let parent = spot.parent.node;
         let path = child_path(parent, name, mode)?;
-        let mark = if mode.is_ephemeral() {
-            put_mark(alloc, &self.marks, session, child_path(parent, name, mode)?)?
-        } else {
-            Step::Nothing
-        };
+        let mark = mark_step(alloc, &self.marks, session, parent, name, mode)?;
         let node = Node {
             path,
             bytes: Bytes::copy(alloc, bytes)?,
@@ -120,6 +137,57 @@ impl Desk {
             node: Step::Put(spot.place, Piece::new(alloc, node)?),
             mark,
         })
+    }
+
+    /// The edit that replaces a node's bytes.
+    pub fn replacement(
+        &self,
+        change: u64,
+        found: Found<'_>,
+        bytes: &[u8],
+        version: u64,
+    ) -> Result<Edit, NoMemory>
+        requires kept { IsKept self.now.nodes self.now.marks }
+        requires there { slice_get self.now.nodes found.place ≡ Some found.node.now }
+        requires version { version ≡ found.node.now.facts.version + 1 }
+        ensures { IfOk result (Plans self.now.nodes self.now.marks (change_node found.entry.node.now.path (with_bytes change bytes.now) self.now.nodes)) }
+    {
+        let facts = Facts {
+            version,
+            mzxid: change,
+            ..found.node.facts
+        };
+        Ok(Edit {
+            touch: Some(Touch {
+                place: found.place,
+                swap: Swap {
+                    bytes: Some(Bytes::copy(*self.undo.allocator(), bytes)?),
+                    facts,
+                },
+            }),
+            node: Step::Nothing,
+            mark: Step::Nothing,
+        })
+    }
+
+    /// The edit that raises a node's sequence counter.
+    pub fn raise(&self, found: Found<'_>, to: u32) -> Edit
+        requires kept { IsKept self.now.nodes self.now.marks }
+        requires there { slice_get self.now.nodes found.place ≡ Some found.node.now }
+        ensures { Plans self.now.nodes self.now.marks (change_node found.entry.node.now.path (with_counter to) self.now.nodes) result }
+    {
+        let facts = Facts {
+            counter: to,
+            ..found.node.facts
+        };
+        Edit {
+            touch: Some(Touch {
+                place: found.place,
+                swap: Swap { bytes: None, facts },
+            }),
+            node: Step::Nothing,
+            mark: Step::Nothing,
+        }
     }
 
     /// The change of the node above one that goes, where there is one.

@@ -1,13 +1,14 @@
 //! The end of a session: its ephemeral nodes go, one for each of its marks.
 
-ghost use Rattle.std.specs.Prelude.{◌≡◌, MatchOption};
+ghost use Rattle.std.specs.Prelude.{◌≡◌, None, MatchOption};
 ghost use Rattle.np_tree.specs.Ends.{EndsOne, ended_nodes};
 ghost use Rattle.np_tree.specs.Kept.{IsKept};
+ghost use Rattle.np_tree.specs.declared.step.Step.TheVariants.{Nothing};
 
 use crate::desk::Desk;
 use crate::edit::Edit;
 use crate::find::find;
-use crate::mark::ByMark;
+use crate::mark::{ByMark, Mark};
 use crate::step::Step;
 
 impl Desk {
@@ -25,16 +26,13 @@ impl Desk {
             return None;
         }
         let taken = Step::Take(place);
-        match find(&self.nodes, mark.path.text()) {
-            Some(found) if found.node.facts.owner == Some(session) => {
-                Some(self.removal_with(change, found, taken))
-            }
-            _ => Some(Edit {
-                touch: None,
-                node: Step::Nothing,
-                mark: taken,
-            }),
+        let Some(found) = find(&self.nodes, mark.path.text()) else {
+            return Some(mark_alone(taken));
+        };
+        if found.node.facts.owner != Some(session) {
+            return Some(mark_alone(taken));
         }
+        Some(self.removal_with(change, found, taken))
     }
 
     /// Takes away all nodes of a session. Takes no memory.
@@ -46,5 +44,16 @@ impl Desk {
         while let Some(edit) = self.first_removal(change, session) {
             self.make(edit);
         }
+    }
+}
+
+/// The edit of the marks alone.
+fn mark_alone(mark: Step<Mark>) -> Edit
+    ensures { result ≡ record { touch = None; node = Nothing; mark = mark } }
+{
+    Edit {
+        touch: None,
+        node: Step::Nothing,
+        mark,
     }
 }
