@@ -24,3 +24,4 @@ pub mod PassedLemmas
 pub mod CallLemmas
 pub mod ReadLemmas
 pub mod RootLemmas
+pub mod StandingLemmas
