@@ -25,3 +25,4 @@ pub mod CallLemmas
 pub mod ReadLemmas
 pub mod RootLemmas
 pub mod StandingLemmas
+pub mod WholeLemmas

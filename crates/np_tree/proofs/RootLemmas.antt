@@ -112,11 +112,11 @@ HasRoot-ended z session nodes has =
 
 -- ## each accepted operation
 
-bind-ok : {A B : Type 0} (r : Result A TreeRefusal) (rest : A → Result B TreeRefusal) (x : B) → (r >>= rest) ≡ Ok x → (a : A) × (r ≡ Ok a)
+pub bind-ok : {A B : Type 0} (r : Result A TreeRefusal) (rest : A → Result B TreeRefusal) (x : B) → (r >>= rest) ≡ Ok x → (a : A) × (r ≡ Ok a)
 bind-ok (Ok a) rest x is = (a, refl)
 bind-ok (Err refusal) rest x is = absurd cc
 
-then-ok : {B : Type 0} (r : Result (Unit {0}) TreeRefusal) (rest : Result B TreeRefusal) (x : B) → (r >> rest) ≡ Ok x → r ≡ Ok tt
+pub then-ok : {B : Type 0} (r : Result (Unit {0}) TreeRefusal) (rest : Result B TreeRefusal) (x : B) → (r >> rest) ≡ Ok x → r ≡ Ok tt
 then-ok (Ok u) rest x is = refl
 then-ok (Err refusal) rest x is = absurd cc
 
