@@ -24,5 +24,7 @@ pub mod PassedLemmas
 pub mod CallLemmas
 pub mod ReadLemmas
 pub mod RootLemmas
+pub mod MultiMore
+pub mod NewTree
 pub mod StandingLemmas
 pub mod WholeLemmas
