@@ -7,7 +7,7 @@ use Rattle.np_path.specs.Parts.{name_of, parent_of, root}
 use Rattle.np_session.specs.Known.{is_in}
 use Rattle.np_tree.specs.State.{State}
 use Rattle.np_tree.specs.Look.{change_node, children_of, node_at, with_node}
-use Rattle.np_tree.specs.Tests.{◌>>=◌, ◌>>◌, expected, fits, found, is_expected, need, there, unspent}
+use Rattle.np_tree.specs.Tests.{◌>>=◌, ◌>>◌, expected, fits, is_expected, need, there, unspent}
 use Rattle.np_tree.specs.Judge.{judge_child, judge_create, judge_create_under, judge_delete, judge_set, made_path}
 use Rattle.np_tree.specs.Effect.{created, created_under, deleted, new_node, next_change, replaced, with_bytes, with_child}
 use Rattle.np_tree.specs.Kept.{removed}

@@ -28,3 +28,4 @@ pub mod MultiMore
 pub mod NewTree
 pub mod StandingLemmas
 pub mod WholeLemmas
+pub mod StartLemmas

@@ -1,6 +1,6 @@
 -- the answers of the first parts, and of all
-use Rattle.std.proofs.Common.{◌≡◌, ℕ, zero, suc, ◌+◌, ◌<◌, ◌≤◌, Bool, true, false, not, ◌&&◌, cond, List, [], ◌∷◌, ◌++◌, length, take, drop, get_or, Some, Result, Ok, Err, refl, sym, ap, ◌∙◌, arith}
-use Rattle.std.specs.Prelude.{slice_get}
+use Rattle.std.proofs.Common.{◌≡◌, ℕ, zero, suc, ◌+◌, ◌<◌, ◌≤◌, Bool, true, false, not, List, [], ◌∷◌, ◌++◌, length, take, drop, get_or, Some, Result, Ok, Err, refl, sym, ap, ◌∙◌, subst, arith}
+use Rattle.std.specs.Prelude.{IsOk, slice_get}
 use Rattle.std.specs.List.{list_all, list_any}
 use Rattle.std.proofs.lemmas.Bool.{and_parts}
 use Rattle.std.proofs.lemmas.List.{drop_more, length-take-le, take-append-drop, take_all, take_more}
@@ -89,3 +89,15 @@ after_multi-change t s parts some = rw some refl
 -- parts that are all checks leave the state that they began in
 pub after_multi-same : (t : State) (s : ℕ) (parts : List Op) → list_any (λ part. not (is_check part)) parts ≡ false → effects t s parts ≡ after_multi t s parts
 after_multi-same t s parts none = effects-checks t s parts none ∙ sym (after_multi-checks t s parts none)
+
+-- ## memory ran out at a part that was accepted
+
+ok-by : (k : ℕ) (r : Result OpDone TreeRefusal) (told : List OpDone) → IsOk r → IsOk (onto_done told (and_then k r (Ok [])))
+ok-by k (Ok a) told is = refl
+ok-by k (Err refusal) told is = absurd cc
+
+pub answers-take-ok : (t : State) (s : ℕ) (parts : List Op) (i : ℕ) (d : Op) (told : List OpDone) → i < length parts → answers_from 0 t s (take i parts) ≡ Ok told → IsOk (judge (effects t s (take i parts)) s (get_or parts i d)) →
+    IsOk (answers_from 0 t s (take (i + 1) parts))
+answers-take-ok t s parts i d told within so_far accepted =
+    let whole = ap (answers_from 0 t s) (take_more parts i d within) ∙ answers-append 0 t s (take i parts) (get_or parts i d ∷ []) told so_far in
+    subst IsOk (sym whole) (ok-by (0 + length (take i parts)) (judge (effects t s (take i parts)) s (get_or parts i d)) told accepted)

@@ -1,5 +1,5 @@
 -- a new tree keeps what always holds
-use Rattle.std.proofs.Common.{◌≤◌, ℕ, [], ◌∷◌, List, refl, arith}
+use Rattle.std.proofs.Common.{[], ◌∷◌, refl, arith}
 use Rattle.np_tree.specs.State.{root_node}
 use Rattle.np_tree.specs.Kept.{HasRoom, IsKept}
 

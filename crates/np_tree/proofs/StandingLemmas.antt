@@ -1,17 +1,14 @@
 -- each node but the root stands below a node that no session owns
-use Rattle.std.proofs.Common.{◌≡◌, ℕ, ◌+◌, Bool, true, false, not, cond, List, [], ◌∷◌, length, map, Option, Some, None, Result, Ok, Err, refl, sym, ap, ◌∙◌, subst, arith}
-use Rattle.std.specs.Prelude.{filter, ◌==◌}
+use Rattle.std.proofs.Common.{◌≡◌, ℕ, Bool, true, false, not, cond, List, [], ◌∷◌, length, Option, Some, None, refl, sym, ap, ◌∙◌, subst, arith}
+use Rattle.std.specs.Prelude.{filter}
 use Rattle.std.specs.List.{AllByRecursion}
-use Rattle.std.specs.Option.{is_none, option_map}
+use Rattle.std.specs.Option.{option_map}
 use Rattle.std.specs.Str.{bytes_eq}
-use Rattle.np_path.specs.Grammar.{is_path}
-use Rattle.np_path.specs.Parts.{name_of, parent_of, root}
-use Rattle.np_session.specs.Known.{is_in}
-use Rattle.np_tree.specs.State.{State, new_tree}
+use Rattle.np_path.specs.Parts.{parent_of}
+use Rattle.np_tree.specs.State.{new_tree}
 use Rattle.np_tree.specs.Look.{change_node, children_of, comes_before, is_at, is_child, is_owned, is_parent, is_session, node_at, with_node, without_node}
 use Rattle.np_tree.specs.Effect.{left_by}
 use Rattle.np_tree.specs.Ends.{ended_nodes}
-use Rattle.np_tree.specs.Order.{AllPaths}
 use Rattle.np_tree.specs.declared.node.Node.{Node}
 use Rattle.np_tree.proofs.ChangeLemmas.{KeepsPath, node_at-change_here, node_at-change_other}
 use Rattle.np_tree.proofs.EndLemmas.{KeepsOwner}
@@ -115,8 +112,7 @@ Stand-without_node path nodes none all =
 ended-parent : (z session : ℕ) (nodes : List Node) (o : Option (List ℕ)) → HasParent nodes o → HasParent (ended_nodes z session nodes) o
 ended-parent z session nodes None has = tt
 ended-parent z session nodes (Some above) has =
-    let kept : node_at (filter (λ n. not (is_owned session n)) nodes) above ≡ Some has.0 = node_at-filter above (λ n. not (is_owned session n)) has.0 nodes (ap (λ (o : Option ℕ). not (is_session session o)) has.2) has.1 in
-    (
+    let kept : node_at (filter (λ n. not (is_owned session n)) nodes) above ≡ Some has.0 = node_at-filter above (λ n. not (is_owned session n)) has.0 nodes (ap (λ (o : Option ℕ). not (is_session session o)) has.2) has.1 in (
       left_by nodes z session has.0,
       node_at-map above (left_by nodes z session) (λ _. refl) (filter (λ n. not (is_owned session n)) nodes) ∙ ap (option_map (left_by nodes z session)) kept,
       has.2,

@@ -1,5 +1,5 @@
 -- each accepted operation, and each session's end, leaves a whole tree
-use Rattle.std.proofs.Common.{◌≡◌, ℕ, ◌+◌, Bool, not, cond, true, false, List, [], ◌∷◌, length, Option, Some, None, Result, Ok, Err, refl, sym, ap, ◌∙◌, subst}
+use Rattle.std.proofs.Common.{◌≡◌, ℕ, ◌+◌, Bool, not, cond, true, false, List, [], ◌∷◌, length, Option, Some, None, Result, Ok, Err, refl, sym, ◌∙◌, subst}
 use Rattle.std.specs.Prelude.{filter}
 use Rattle.std.specs.List.{AllByRecursion}
 use Rattle.std.specs.Option.{is_none}
@@ -7,8 +7,8 @@ use Rattle.np_path.specs.Grammar.{is_path}
 use Rattle.np_path.specs.Parts.{name_of, parent_of}
 use Rattle.np_session.specs.Known.{is_in}
 use Rattle.np_tree.specs.State.{State, new_tree}
-use Rattle.np_tree.specs.Look.{change_node, children_of, is_at, is_owned, node_at, with_node, without_node}
-use Rattle.np_tree.specs.Tests.{◌>>=◌, ◌>>◌, found, is_sequential}
+use Rattle.np_tree.specs.Look.{change_node, children_of, is_at, is_owned, node_at}
+use Rattle.np_tree.specs.Tests.{◌>>=◌, found, is_sequential}
 use Rattle.np_tree.specs.Judge.{judge, judge_child, judge_create, judge_create_under, judge_delete, made_path}
 use Rattle.np_tree.specs.Effect.{after_found, created_under, deleted_below, effect, left_by, new_node, next_change, with_bytes, with_child, with_made, without_child}
 use Rattle.np_tree.specs.Ends.{ended_nodes}
