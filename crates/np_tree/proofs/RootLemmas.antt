@@ -11,6 +11,7 @@ use Rattle.np_tree.specs.Tests.{◌>>=◌, ◌>>◌, found}
 use Rattle.np_tree.specs.Judge.{judge, judge_child, judge_create, judge_create_under, judge_delete, made_path}
 use Rattle.np_tree.specs.Effect.{after_found, created_under, deleted_below, effect, left_by, new_node, next_change, with_bytes, with_child, with_made, without_child}
 use Rattle.np_tree.specs.Ends.{ended_nodes}
+use Rattle.np_tree.specs.Whole.{HasRoot}
 use Rattle.np_tree.specs.declared.node.Node.{Node}
 use Rattle.np_tree.specs.declared.kind.Mode.{Mode}
 use Rattle.np_tree.specs.declared.op.Op.{Op}
@@ -24,12 +25,6 @@ use Rattle.np_tree.proofs.CallLemmas.{judge_delete-passed}
 use Rattle.np_tree.proofs.EndLemmas.{KeepsOwner}
 use Rattle.np_tree.proofs.PassedLemmas.{judge_child-passed, need-ok}
 use Rattle.np_tree.proofs.PlaceLemmas.{bytes_eq-from, bytes_eq-is, bytes_eq-not, is_at-found}
-
--- the root stands, and no session owns it
-pub record HasRoot (nodes : List Node) : Type 0 where
-  pub node : Node
-  pub there : node_at nodes root ≡ Some node
-  pub free : node.facts.owner ≡ None
 
 pub HasRoot-new_tree : HasRoot new_tree.nodes
 HasRoot-new_tree = record { node = root_node; there = refl; free = refl }

@@ -9,24 +9,13 @@ use Rattle.np_tree.specs.State.{new_tree}
 use Rattle.np_tree.specs.Look.{change_node, children_of, comes_before, is_at, is_child, is_owned, is_parent, is_session, node_at, with_node, without_node}
 use Rattle.np_tree.specs.Effect.{left_by}
 use Rattle.np_tree.specs.Ends.{ended_nodes}
+use Rattle.np_tree.specs.Whole.{AllStand, HasParent, Stand}
 use Rattle.np_tree.specs.declared.node.Node.{Node}
 use Rattle.np_tree.proofs.ChangeLemmas.{KeepsPath, node_at-change_here, node_at-change_other}
 use Rattle.np_tree.proofs.EndLemmas.{KeepsOwner}
 use Rattle.np_tree.proofs.PlaceLemmas.{bytes_eq-from, bytes_eq-is, bytes_eq-not, is_at-found}
 use Rattle.np_tree.proofs.RisingLemmas.{all-changed, all-filter, all-weaker}
 use Rattle.np_tree.proofs.RootLemmas.{node_at-filter, node_at-map, node_at-with_node}
-
--- the parent stands, and no session owns it
-abbrev pub HasParent : List Node → Option (List ℕ) → Type 0
-HasParent nodes None = Unit {0}
-HasParent nodes (Some above) = (parent : Node) × (node_at nodes above ≡ Some parent) × (parent.facts.owner ≡ None)
-
-abbrev pub AllStand : List Node → List Node → Type 0
-AllStand nodes some = AllByRecursion (λ n. HasParent nodes (parent_of n.path)) some
-
--- each node of the list
-abbrev pub Stand : List Node → Type 0
-Stand nodes = AllStand nodes nodes
 
 -- a parent that is found in one list and another
 parent-also : (ns ms : List Node) (o : Option (List ℕ)) → ((above : List ℕ) (parent : Node) → o ≡ Some above → node_at ns above ≡ Some parent → parent.facts.owner ≡ None → HasParent ms (Some above)) → HasParent ns o → HasParent ms o

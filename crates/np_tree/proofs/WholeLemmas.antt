@@ -1,7 +1,7 @@
 -- each accepted operation, and each session's end, leaves a whole tree
 use Rattle.std.proofs.Common.{◌≡◌, ℕ, ◌+◌, Bool, not, cond, true, false, List, [], ◌∷◌, length, Option, Some, None, Result, Ok, Err, refl, sym, ◌∙◌, subst}
 use Rattle.std.specs.Prelude.{filter}
-use Rattle.std.specs.List.{AllByRecursion}
+use Rattle.std.specs.List.{AllByRecursion, list_any}
 use Rattle.std.specs.Option.{is_none}
 use Rattle.np_path.specs.Grammar.{is_path}
 use Rattle.np_path.specs.Parts.{name_of, parent_of}
@@ -10,9 +10,11 @@ use Rattle.np_tree.specs.State.{State, new_tree}
 use Rattle.np_tree.specs.Look.{change_node, children_of, is_at, is_owned, node_at}
 use Rattle.np_tree.specs.Tests.{◌>>=◌, found, is_sequential}
 use Rattle.np_tree.specs.Judge.{judge, judge_child, judge_create, judge_create_under, judge_delete, made_path}
-use Rattle.np_tree.specs.Effect.{after_found, created_under, deleted_below, effect, left_by, new_node, next_change, with_bytes, with_child, with_made, without_child}
+use Rattle.np_tree.specs.Effect.{after_found, counted, created_under, deleted_below, effect, left_by, new_node, next_change, with_bytes, with_child, with_made, without_child}
 use Rattle.np_tree.specs.Ends.{ended_nodes}
-use Rattle.np_tree.specs.Multi.{AtPart, and_then, answers_from, effects}
+use Rattle.np_tree.specs.Whole.{CallsKeepWhole, HasParent, IsPart, IsWhole, RaisesKeepWhole, Stand}
+use Rattle.np_tree.specs.Calls.{with_counter}
+use Rattle.np_tree.specs.Multi.{AtPart, and_then, answers_from, effects, is_check}
 use Rattle.np_tree.specs.Names.{MakesName}
 use Rattle.np_tree.specs.Order.{AllPaths, IsSorted}
 use Rattle.np_tree.specs.declared.node.Node.{Node}
@@ -29,15 +31,8 @@ use Rattle.np_tree.proofs.EndLemmas.{KeepsOwner}
 use Rattle.np_tree.proofs.NamesLemmas.{MakesName-child}
 use Rattle.np_tree.proofs.PassedLemmas.{IsChildPath-above, judge_child-passed, need-ok}
 use Rattle.np_tree.proofs.PlaceLemmas.{AllPaths-filter, AllPaths-with_node, AllPaths-without_node, IsSorted-filter, IsSorted-with_node, IsSorted-without_node, is_at-found}
-use Rattle.np_tree.proofs.RootLemmas.{HasRoot, HasRoot-change_node, HasRoot-effect, HasRoot-ended, HasRoot-new_tree, bind-ok, then-ok}
-use Rattle.np_tree.proofs.StandingLemmas.{HasParent, Stand, Stand-change_node, Stand-ended, Stand-new_tree, Stand-with_node, Stand-without_node}
-
--- the nodes stand in order, the root and each other one below a node that no session owns
-pub record IsWhole (nodes : List Node) : Type 0 where
-  pub sorted : IsSorted nodes
-  pub paths : AllPaths nodes
-  pub root : HasRoot nodes
-  pub stand : Stand nodes
+use Rattle.np_tree.proofs.RootLemmas.{HasRoot-change_node, HasRoot-effect, HasRoot-ended, HasRoot-new_tree, bind-ok, then-ok}
+use Rattle.np_tree.proofs.StandingLemmas.{Stand-change_node, Stand-ended, Stand-new_tree, Stand-with_node, Stand-without_node}
 
 pub IsWhole-new_tree : IsWhole new_tree.nodes
 IsWhole-new_tree = record { sorted = (tt, tt); paths = (refl, tt); root = HasRoot-new_tree; stand = Stand-new_tree }
@@ -50,14 +45,6 @@ found-by P q n m nodes false here later there = later there
 pub all-found : (P : Node → Type 0) (q : List ℕ) (n : Node) (nodes : List Node) → AllByRecursion P nodes → node_at nodes q ≡ Some n → P n
 all-found P q n [] all there = absurd cc
 all-found P q n (m ∷ nodes) all there = found-by P q n m nodes (is_at q m) all.0 (all-found P q n nodes all.1) there
-
--- the paths of a part are in the grammar, and a node with no name is a sequence node
-abbrev pub IsProper : Op → Type 0
-IsProper (op.Create path bytes mode) = is_path path ≡ true
-IsProper (op.CreateUnder parent bytes mode) = is_sequential mode ≡ true
-IsProper (op.Set path bytes expect) = Unit {0}
-IsProper (op.Delete path expect) = Unit {0}
-IsProper (op.Check path expect) = Unit {0}
 
 -- ## a child
 
@@ -116,15 +103,15 @@ delete-by t path (Some above) none whole =
 
 -- ## each operation
 
-Standing-effect : (t : State) (session : ℕ) (part : Op) (d : OpDone) → IsProper part → judge t session part ≡ Ok d → IsWhole t.nodes → Standing (effect t session part).nodes
+Standing-effect : (t : State) (session : ℕ) (part : Op) (d : OpDone) → IsPart part → judge t session part ≡ Ok d → IsWhole t.nodes → Standing (effect t session part).nodes
 Standing-effect t s (op.Create path bytes mode) d proper is whole =
     let made = bind-ok (judge_create t s path bytes mode) (λ (p : List ℕ). Ok (done.Created p)) d is in
     let live = need-ok (is_in t.live s) no.SessionExpired (found (parent_of path) no.NodeExists >>= (λ above. judge_child t above (name_of path) bytes mode)) made.0 made.1 in
-    create-by t s path bytes mode made.0 (parent_of path) proper refl live.1 whole
+    create-by t s path bytes mode made.0 (parent_of path) proper.path refl live.1 whole
 Standing-effect t s (op.CreateUnder parent bytes mode) d proper is whole =
     let made = bind-ok (judge_create_under t s parent bytes mode) (λ (p : List ℕ). Ok (done.Created p)) d is in
     let live = need-ok (is_in t.live s) no.SessionExpired (judge_child t parent [] bytes mode) made.0 made.1 in
-    Standing-under t s parent [] bytes mode made.0 (empty-makes mode proper) live.1 whole
+    Standing-under t s parent [] bytes mode made.0 (empty-makes mode proper.numbered) live.1 whole
 Standing-effect t s (op.Set path bytes expect) d proper is whole =
     let f : Node → Node = with_bytes (next_change t) bytes in
     record {
@@ -137,7 +124,7 @@ Standing-effect t s (op.Delete path expect) d proper is whole =
     delete-by t path (parent_of path) passed.none whole
 Standing-effect t s (op.Check path expect) d proper is whole = record { sorted = whole.sorted; paths = whole.paths; stand = whole.stand }
 
-pub IsWhole-effect : (t : State) (session : ℕ) (part : Op) (d : OpDone) → IsProper part → judge t session part ≡ Ok d → IsWhole t.nodes → IsWhole (effect t session part).nodes
+pub IsWhole-effect : (t : State) (session : ℕ) (part : Op) (d : OpDone) → IsPart part → judge t session part ≡ Ok d → IsWhole t.nodes → IsWhole (effect t session part).nodes
 IsWhole-effect t s part d proper is whole =
     let standing = Standing-effect t s part d proper is whole in
     record { sorted = standing.sorted; paths = standing.paths; root = HasRoot-effect t s part d is whole.root; stand = standing.stand }
@@ -167,8 +154,19 @@ and_then-ok at (Err refusal) others told is = absurd cc
 and_then-ok at (Ok d) (Err later) told is = absurd cc
 and_then-ok at (Ok d) (Ok later) told is = (d, refl, (later, refl))
 
-pub IsWhole-effects : (at : ℕ) (t : State) (session : ℕ) (parts : List Op) (told : List OpDone) → AllByRecursion IsProper parts → answers_from at t session parts ≡ Ok told → IsWhole t.nodes → IsWhole (effects t session parts).nodes
+pub IsWhole-effects : (at : ℕ) (t : State) (session : ℕ) (parts : List Op) (told : List OpDone) → AllByRecursion IsPart parts → answers_from at t session parts ≡ Ok told → IsWhole t.nodes → IsWhole (effects t session parts).nodes
 IsWhole-effects at t s [] told proper is whole = whole
 IsWhole-effects at t s (part ∷ parts) told proper is whole =
     let both = and_then-ok at (judge t s part) (answers_from (at + 1) (effect t s part) s parts) told is in
     IsWhole-effects (at + 1) (effect t s part) s parts both.2.0 proper.1 both.2.1 (IsWhole-effect t s part both.0 proper.0 both.1 whole)
+
+after-by : (t : State) (session : ℕ) (parts : List Op) (b : Bool) → IsWhole t.nodes → IsWhole (effects t session parts).nodes → IsWhole (cond b (counted (effects t session parts)) t).nodes
+after-by t s parts true before after = after
+after-by t s parts false before after = before
+
+pub IsWhole-after_multi : CallsKeepWhole
+IsWhole-after_multi t s parts told proper is whole =
+    after-by t s parts (list_any (λ part. not (is_check part)) parts) whole (IsWhole-effects 0 t s parts told proper is whole)
+
+pub IsWhole-raised : RaisesKeepWhole
+IsWhole-raised t path to whole = IsWhole-change_node path (with_counter to) (λ _. refl) (λ _. refl) t.nodes whole

@@ -18,4 +18,5 @@ pub mod Ends
 pub mod Names
 pub mod Boards
 pub mod Codes
+pub mod Whole
 pub mod Worked

@@ -6,6 +6,8 @@ ghost use Rattle.np_tree.specs.Look.{node_at};
 ghost use Rattle.np_tree.specs.Judge.{judge_set};
 ghost use Rattle.np_tree.specs.Multi.{after_multi, answers_from};
 ghost use Rattle.np_tree.specs.Read.{stat_at};
+ghost use Rattle.np_tree.specs.State.{new_tree};
+ghost use Rattle.np_tree.specs.Whole.{CallsKeepWhole, EndsKeepWhole, IsWhole, PartsKeepWhole, RaisesKeepWhole};
 ghost use Rattle.np_tree.specs.Worked.{begun_tree, calls, replies, left, sequence_calls, sequence_replies, third_fails, three_parts, told, tree_ended, tree_raised, two_done, two_parts, with_a};
 ghost use Rattle.np_tree.specs.declared.kind.Expect.TheVariants.{Any};
 ghost use Rattle.np_tree.specs.declared.refusal.TreeRefusal.TheVariants.{SessionExpired};
@@ -20,5 +22,16 @@ pub fn worked_rows()
     ensures refused { answers_from 0 with_a 1 three_parts ≡ third_fails }
     ensures done { answers_from 0 with_a 1 two_parts ≡ two_done }
     ensures once { (after_multi with_a 1 two_parts).changes ≡ 3 }
+{
+}
+
+/// In each tree that calls can make the root stands, and each other node below a node that no session
+/// owns: so no node is without its parent, and no ephemeral node has a child.
+pub fn calls_keep_the_tree_whole()
+    ensures begin { IsWhole new_tree.nodes }
+    ensures part { PartsKeepWhole }
+    ensures multi { CallsKeepWhole }
+    ensures end { EndsKeepWhole }
+    ensures raise { RaisesKeepWhole }
 {
 }
