@@ -9,3 +9,13 @@ pub mod ChildLemmas
 pub mod FindLemmas
 pub mod NamesLemmas
 pub mod GapLemmas
+pub mod EffectLemmas
+pub mod EndLemmas
+pub mod EndSteps
+pub mod KeptLemmas
+pub mod MarkLemmas
+pub mod MultiLemmas
+pub mod PlanLemmas
+pub mod RemovalLemmas
+pub mod CreationLemmas
+pub mod TouchLemmas

@@ -13,6 +13,8 @@ pub mod Edits
 pub mod Desks
 pub mod Finds
 pub mod Kept
+pub mod Plans
+pub mod Ends
 pub mod Names
 pub mod Boards
 pub mod Codes

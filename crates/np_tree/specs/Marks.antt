@@ -34,3 +34,6 @@ HasMark marks path (Some session) = list_any (is_mark session path) marks ≡ tr
 
 abbrev pub AllMarked : List Mark → List Node → Type 0
 AllMarked marks nodes = AllByRecursion (λ n. HasMark marks n.path n.facts.owner) nodes
+
+abbrev pub new_mark : ℕ → List ℕ → Mark
+new_mark session path = record { session = session; path = path }

@@ -8,8 +8,8 @@ stepped Nothing items = items
 stepped (Take place) items = remove items place
 stepped (Put place item) items = insert items place item
 
--- its place is there, and so is a number for the list's length
+-- its place is there, and the length has room for one more
 abbrev pub CanStep : {T : Type 0} → Step T → List T → Type 0
 CanStep Nothing items = Unit {0}
-CanStep (Take place) items = (place < length items) × (length items < 18_446_744_073_709_551_616)
+CanStep (Take place) items = place < length items
 CanStep (Put place item) items = (place ≤ length items) × (length items < 18_446_744_073_709_551_615)

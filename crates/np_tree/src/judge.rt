@@ -1,12 +1,14 @@
 //! The tests of each call, in their order, with what they found.
 
-ghost use Rattle.std.specs.Prelude.{◌≡◌, ◌+◌, length, Ok, Err, Some, MatchResult};
+ghost use Rattle.std.specs.Prelude.{◌≡◌, ◌+◌, length, Ok, Err, true, false, MatchOption, MatchResult};
 ghost use Rattle.np_tree.specs.Boards.{state_of};
-ghost use Rattle.np_tree.specs.Finds.{FindsGap, IsPlace};
+ghost use Rattle.np_tree.specs.Calls.{may_raise};
+ghost use Rattle.np_tree.specs.Finds.{IsPlace};
 ghost use Rattle.np_tree.specs.Judge.{judge_check, judge_child, judge_delete, judge_set, made_path};
 ghost use Rattle.np_tree.specs.Kept.{IsKept};
 ghost use Rattle.np_tree.specs.Look.{children_of};
 ghost use Rattle.np_tree.specs.Names.{MakesName};
+ghost use Rattle.np_tree.specs.Plans.{IsSpot};
 
 use crate::board::Board;
 use crate::find::{Found, children, find, gap};
@@ -17,6 +19,8 @@ use crate::refusal::TreeRefusal;
 const MOST_BYTES: usize = 65_536;
 /// The last number that a sequence counter gives out.
 const LAST_NUMBER: u32 = 2_147_483_647;
+/// One past it.
+const COUNTER_END: u32 = 2_147_483_648;
 
 /// Where a child goes: below its parent, and at its own place.
 #[derive(Clone, Copy)]
@@ -46,8 +50,8 @@ impl Board {
         requires kept { IsKept self.now.desk.nodes self.now.desk.marks }
         requires name { MakesName name.now mode }
         ensures { MatchResult result
-            (λ spot. IsPlace self.now.desk.nodes above.now spot.parent.place spot.parent.node.now
-                × FindsGap self.now.desk.nodes (made_path spot.parent.node.now name.now mode) (Some spot.place)
+            (λ spot. IsSpot self.now.desk.nodes spot.parent.node.now.path name.now mode spot
+                × (spot.parent.node.now.path ≡ above.now)
                 × (judge_child (state_of self.now) above.now name.now bytes.now mode ≡ Ok (made_path spot.parent.node.now name.now mode)))
             (λ refusal. judge_child (state_of self.now) above.now name.now bytes.now mode ≡ Err refusal) }
     {
@@ -144,6 +148,21 @@ impl Board {
             return Err(TreeRefusal::ChangesSpent);
         }
         Ok(found)
+    }
+
+    /// The node whose sequence counter may be raised to a number.
+    pub fn judge_raise(&self, path: &str, to: u32) -> Option<Found<'_>>
+        requires { IsKept self.now.desk.nodes self.now.desk.marks }
+        ensures { MatchOption result
+            (may_raise (state_of self.now) path.now to ≡ false)
+            (λ found. IsPlace self.now.desk.nodes path.now found.place found.node.now
+                × (may_raise (state_of self.now) path.now to ≡ true)) }
+    {
+        let found = find(&self.desk.nodes, path)?;
+        if to > COUNTER_END || found.node.facts.counter >= to {
+            return None;
+        }
+        Some(found)
     }
 
     /// The tests of a `check`, which does nothing else.

@@ -12,7 +12,9 @@ mod laws;
 mod mark;
 mod node;
 mod op;
+mod plan;
 mod refusal;
+mod release;
 mod step;
 
 pub use bytes::Bytes;

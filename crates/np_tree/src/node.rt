@@ -1,5 +1,7 @@
 //! One node.
 
+ghost use Rattle.std.specs.Prelude.{◌≡◌};
+
 use crate::bytes::Bytes;
 use np_path::Path;
 
@@ -20,4 +22,20 @@ pub struct Facts {
     pub pzxid: u64,
     pub owner: Option<u32>,
     pub counter: u32,
+}
+
+impl Facts {
+    /// Those of a new node.
+    pub fn new(change: u64, owner: Option<u32>) -> Facts
+        ensures { result ≡ record { version = 0; czxid = change; mzxid = change; pzxid = change; owner = owner; counter = 0 } }
+    {
+        Facts {
+            version: 0,
+            czxid: change,
+            mzxid: change,
+            pzxid: change,
+            owner,
+            counter: 0,
+        }
+    }
 }

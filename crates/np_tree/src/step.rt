@@ -23,7 +23,11 @@ impl<T: Drop> Step<T> {
     {
         match self {
             Step::Nothing => Step::Nothing,
-            Step::Take(place) => Step::Put(place, items.remove(place)),
+            Step::Take(place) => {
+                // The length is a `usize`, so the piece has room again.
+                let _ = items.len();
+                Step::Put(place, items.remove(place))
+            }
             Step::Put(place, piece) => {
                 items.insert(place, piece);
                 Step::Take(place)
