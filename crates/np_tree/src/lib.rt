@@ -13,12 +13,15 @@ mod mark;
 mod node;
 mod op;
 mod plan;
+mod read;
 mod refusal;
 mod release;
 mod step;
+mod tree;
 
 pub use bytes::Bytes;
 pub use kind::{Expect, Mode, Stat};
 pub use laws::worked_rows;
 pub use op::{Op, OpDone};
 pub use refusal::{MultiFault, TreeFault, TreeRefusal};
+pub use tree::Tree;
