@@ -19,3 +19,4 @@ pub mod PlanLemmas
 pub mod RemovalLemmas
 pub mod CreationLemmas
 pub mod TouchLemmas
+pub mod PartsLemmas

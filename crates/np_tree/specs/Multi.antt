@@ -1,11 +1,14 @@
-use Rattle.std.specs.Prelude.{ℕ, ◌+◌, Bool, true, false, not, List, [], ◌∷◌, Result, Ok, Err, if◌then◌else◌}
+use Rattle.std.specs.Prelude.{◌≡◌, ◌<◌, ℕ, ◌+◌, Bool, true, false, not, List, [], ◌∷◌, length, take, Result, Ok, Err, IsOk, if◌then◌else◌}
 use Rattle.std.specs.List.{list_any}
 use Rattle.np_tree.specs.State.{State}
 use Rattle.np_tree.specs.Judge.{judge}
+use Rattle.np_tree.specs.Tests.{is_sequential}
 use Rattle.np_tree.specs.Effect.{counted, effect}
 use Rattle.np_tree.specs.declared.op.Op.{Op}
 use Rattle.np_tree.specs.declared.op.Op.TheVariants as op
 use Rattle.np_tree.specs.declared.op.OpDone.{OpDone}
+use Rattle.np_tree.specs.declared.refusal.MultiFault.{MultiFault}
+use Rattle.np_tree.specs.declared.refusal.MultiFault.TheVariants.{Refused, NoMemory}
 use Rattle.np_tree.specs.declared.refusal.TreeRefusal.{TreeRefusal}
 
 -- a part that was refused, and why
@@ -39,3 +42,16 @@ is_check (op.Check path expect) = true
 -- all parts under one change number, and checks alone under none
 abbrev pub after_multi : State → ℕ → List Op → State
 after_multi t s parts = if list_any (λ part. not (is_check part)) parts then counted (effects t s parts) else t
+
+-- each part that creates under a parent makes a sequence node
+abbrev pub is_numbered : Op → Bool
+is_numbered (op.Create path bytes mode) = true
+is_numbered (op.CreateUnder parent bytes mode) = is_sequential mode
+is_numbered (op.Set path bytes expect) = true
+is_numbered (op.Delete path expect) = true
+is_numbered (op.Check path expect) = true
+
+-- why nothing was done: a part was refused, or memory ran out at a part that was accepted as those before it were
+abbrev pub Stops : State → ℕ → List Op → MultiFault → Type 0
+Stops t s parts (Refused index refusal) = answers_from 0 t s parts ≡ Err (record { index = index; refusal = refusal })
+Stops t s parts NoMemory = (k : ℕ) × (k < length parts) × IsOk (answers_from 0 t s (take (k + 1) parts))

@@ -10,6 +10,7 @@ mod judge;
 mod kind;
 mod laws;
 mod mark;
+mod multi;
 mod node;
 mod op;
 mod plan;

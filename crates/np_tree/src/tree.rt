@@ -1,13 +1,15 @@
 //! The tree.
 
-ghost use Rattle.std.specs.Prelude.{◌≡◌, ◌<◌, ◌≤◌, ◌+◌, [], true, length, IfOk, OnOk, OnErr};
+ghost use Rattle.std.specs.Prelude.{◌≡◌, ◌<◌, ◌≤◌, ◌+◌, [], true, length, IfOk, MatchResult, OnOk, OnErr};
 ghost use Rattle.std.specs.Bool.{OnTrue, OnFalse};
+ghost use Rattle.std.specs.List.{list_all};
 ghost use Rattle.std.specs.Option.{option_copied, option_map};
 ghost use Rattle.np_session.specs.Known.{is_in};
 ghost use Rattle.np_tree.specs.Boards.{Answers};
 ghost use Rattle.np_tree.specs.Calls.{BeginsSession, begun_more, may_raise, raised, with_room};
 ghost use Rattle.np_tree.specs.Effect.{counted, created, created_under, deleted, ended, replaced};
 ghost use Rattle.np_tree.specs.Judge.{judge_check, judge_create, judge_create_under, judge_delete, judge_set};
+ghost use Rattle.np_tree.specs.Multi.{Stops, after_multi, answers_from, is_numbered};
 ghost use Rattle.np_tree.specs.Read.{bytes_at, child_name, counter_at, stat_at, stat_of_child};
 ghost use Rattle.np_tree.specs.State.{new_tree};
 ghost use Rattle.np_tree.specs.Tests.{is_sequential};
@@ -17,7 +19,8 @@ use crate::bytes::Bytes;
 use crate::desk::Desk;
 use crate::kind::{Expect, Mode, Stat};
 use crate::node::{Facts, Node};
-use crate::refusal::{TreeFault, TreeRefusal};
+use crate::op::{Op, OpDone};
+use crate::refusal::{MultiFault, TreeFault, TreeRefusal};
 use np_path::Path;
 use np_session::{SessionFault, Sessions};
 use np_shelf::{Piece, Shelf};
@@ -183,6 +186,21 @@ impl Tree {
         ensures { result ≡ judge_check self.now session path.now expect }
     {
         self.board.check(session, path.text(), expect)
+    }
+
+    /// Makes all parts in order, under one change number, or none. Parts that are all checks take no
+    /// number. What a part that stops the others left is undone in the work that it was (client API:
+    /// `multi`).
+    pub fn multi(&mut self, session: u32, ops: &[Op]) -> Result<Vec<OpDone>, MultiFault>
+        requires few { length ops.now ≤ 4294967295 }
+        requires numbered { list_all is_numbered ops.now ≡ true }
+        ensures answer { MatchResult result
+            (λ done. answers_from 0 self.old session ops.now ≡ Ok done.items)
+            (Stops self.old session ops.now) }
+        ensures ok { OnOk result (self.new ≡ after_multi self.old session ops.now) }
+        ensures err { OnErr result (self.new ≡ self.old) }
+    {
+        self.board.multi(session, ops)
     }
 
     /// Raises a node's sequence counter, where it is lower and the number is at most 2,147,483,648,
