@@ -1,29 +1,21 @@
 -- the steps of a session's end, one for each of its marks
-use Rattle.std.proofs.Common.{◌≡◌, ℕ, zero, suc, ◌<◌, true, false, List, [], ◌∷◌, length, Option, Some, None, refl, sym, ap, ◌∙◌, subst, arith}
-use Rattle.std.specs.Prelude.{slice_get, ◌==◌}
+use Rattle.std.proofs.Common.{◌≡◌, ℕ, ◌+◌, ◌<◌, Bool, true, false, List, [], ◌∷◌, length, Option, Some, None, refl, sym, ap, ◌∙◌, subst}
+use Rattle.std.specs.Prelude.{slice_get}
 use Rattle.std.specs.List.{remove}
 use Rattle.std.specs.Str.{bytes_eq}
-use Rattle.std.proofs.lemmas.Option.{slice_get_within}
 use Rattle.np_path.specs.Parts.{parent_of}
 use Rattle.np_shelf.specs.Lists.{changed_at}
 use Rattle.np_tree.specs.Look.{is_at, is_owned, node_at}
 use Rattle.np_tree.specs.Effect.{without_child}
-use Rattle.np_tree.specs.Ends.{EndsOne, ended_nodes}
-use Rattle.np_tree.specs.Kept.{IsKept, Plans, removed}
-use Rattle.np_tree.specs.Marks.{mark_place}
-use Rattle.np_tree.specs.Steps.{stepped}
-use Rattle.np_tree.specs.declared.edit.Edit.{Edit}
-use Rattle.np_tree.specs.declared.step.Step.{Step}
-use Rattle.np_tree.specs.declared.step.Step.TheVariants.{Nothing, Take}
+use Rattle.np_tree.specs.Kept.{IsKept}
 use Rattle.np_tree.specs.declared.node.Node.{Node}
 use Rattle.np_tree.specs.declared.mark.Mark.{Mark}
 use Rattle.np_tree.proofs.ChangeLemmas.{paths_of-changed_at}
 use Rattle.np_tree.proofs.EffectLemmas.{one_less-at, one_less-orphan, slice_get-paths}
-use Rattle.np_tree.proofs.EndLemmas.{ended_nodes-none, ended_nodes-step, ended_nodes-top}
+use Rattle.np_tree.proofs.EndLemmas.{IsOwnedAt, ended_nodes, ended_nodes-step, ended_nodes-top}
 use Rattle.np_tree.proofs.KeptLemmas.{IsKept-changed_at, IsKept-remove, IsKept-remove_mark}
-use Rattle.np_tree.proofs.MarkLemmas.{NoneMarked-absent, NoneMarked-other, NoneMarked-remove, no_marks, not_owned}
-use Rattle.np_tree.proofs.PlanLemmas.{removed-ended}
-use Rattle.np_tree.proofs.PlaceLemmas.{bytes_eq-from, bytes_eq-is, node_at-there}
+use Rattle.np_tree.proofs.MarkLemmas.{NoneMarked, NoneMarked-absent, NoneMarked-other, NoneMarked-remove}
+use Rattle.np_tree.proofs.PlaceLemmas.{bytes_eq-is, node_at-there}
 
 -- a mark is gone, and with it the node, if the session owns it; the whole end gives the same
 pub record EndsMore (z session : ℕ) (nodes after : List Node) (left : List Mark) : Type 0 where
@@ -52,10 +44,10 @@ EndsMore-owned z at k j n parent mark above nodes marks kept mark_there has top 
     let still = slice_get-paths nodes (changed_at (without_child z) k nodes) at n (sym (paths_of-changed_at (without_child z) (λ _. refl) k nodes)) has.there in
     record {
       kept = kept-less at j still.node mark (changed_at (without_child z) k nodes) marks (IsKept-changed_at (without_child z) (λ _. refl) (λ _. refl) k nodes marks kept) mark_there still.there
-          (ap (λ (q : List ℕ). bytes_eq q mark.path) (sym still.path) ∙ has.here);
+      (ap (λ (q : List ℕ). bytes_eq q mark.path) (sym still.path) ∙ has.here);
       ended =
-          ap (ended_nodes z mark.session) (sym (one_less-at z above k at parent nodes kept.sorted parent_there parent_here))
-          ∙ ended_nodes-step z mark.session above at nodes n kept.sorted (record { there = has.there; owned = has.owned; parent = HasOwned-parent mark at nodes n (Some above) has top });
+      ap (ended_nodes z mark.session) (sym (one_less-at z above k at parent nodes kept.sorted parent_there parent_here))
+      ∙ ended_nodes-step z mark.session above at nodes n kept.sorted (record { there = has.there; owned = has.owned; parent = HasOwned-parent mark at nodes n (Some above) has top });
     }
 
 -- the parent is not there
@@ -89,49 +81,3 @@ EndsMore-other z at j n mark nodes marks kept mark_there there here other =
       kept = IsKept-remove_mark j mark nodes marks mark_there (NoneMarked-other mark.session mark.path n nodes kept.sorted (node_at-there mark.path nodes at n kept.sorted there here) other) kept;
       ended = refl;
     }
-
--- ## as edits
-
-length-remove : {X : Type 0} (xs : List X) (j : ℕ) (x : X) → slice_get xs j ≡ Some x → length (remove xs j) < length xs
-length-remove [] j x there = absurd cc
-length-remove (y ∷ xs) zero x there = omega arith
-length-remove (y ∷ xs) (suc j) x there = omega (arith, length-remove xs j x there)
-
--- the edit takes the first mark and its node
-pub EndsOne-removal : (z at j : ℕ) (n : Node) (mark : Mark) (nodes : List Node) (marks : List Mark) (e : Edit) → IsKept nodes marks → slice_get nodes at ≡ Some n → is_owned mark.session n ≡ true →
-    Plans nodes marks (removed z n.path nodes) e → e.mark ≡ Take j → slice_get marks j ≡ Some mark → EndsOne z mark.session nodes marks e
-EndsOne-removal z at j n mark nodes marks e kept there owned plan takes mark_there = record {
-  can = plan.can;
-  ended = ap (ended_nodes z mark.session) plan.made ∙ removed-ended z mark.session n.path at n nodes marks kept there (bytes_eq-from n.path n.path refl) owned;
-  kept = subst (λ (ns : List Node). IsKept ns (stepped e.mark marks)) (sym plan.made) plan.kept;
-  fewer = subst (λ (step : Step Mark). length (stepped step marks) < length marks) (sym takes) (length-remove marks j mark mark_there);
-}
-
--- the edit takes the mark alone
-stale : (z session j : ℕ) (mark : Mark) (nodes : List Node) (marks : List Mark) → slice_get marks j ≡ Some mark → IsKept nodes (remove marks j) → EndsOne z session nodes marks (record { touch = None; node = Nothing; mark = Take j })
-stale z session j mark nodes marks mark_there kept = record {
-  can = record { touch = tt; node = tt; mark = slice_get_within marks j mark mark_there };
-  ended = refl;
-  kept = kept;
-  fewer = length-remove marks j mark mark_there;
-}
-
-pub EndsOne-absent : (z session j : ℕ) (mark : Mark) (nodes : List Node) (marks : List Mark) → IsKept nodes marks → slice_get marks j ≡ Some mark → node_at nodes mark.path ≡ None →
-    EndsOne z session nodes marks (record { touch = None; node = Nothing; mark = Take j })
-EndsOne-absent z session j mark nodes marks kept mark_there none = stale z session j mark nodes marks mark_there (EndsMore-absent z j mark nodes marks kept mark_there none).kept
-
-pub EndsOne-other : (z session at j : ℕ) (n : Node) (mark : Mark) (nodes : List Node) (marks : List Mark) → IsKept nodes marks → slice_get marks j ≡ Some mark → slice_get nodes at ≡ Some n → is_at mark.path n ≡ true → is_owned mark.session n ≡ false →
-    EndsOne z session nodes marks (record { touch = None; node = Nothing; mark = Take j })
-EndsOne-other z session at j n mark nodes marks kept mark_there there here other = stale z session j mark nodes marks mark_there (EndsMore-other z at j n mark nodes marks kept mark_there there here other).kept
-
--- ## no mark is left
-
-ended-over : (z session : ℕ) (nodes : List Node) (marks : List Mark) → IsKept nodes marks → ((m : Mark) → slice_get marks (mark_place session [] marks) ≡ Some m → (m.session == session) ≡ false) → ended_nodes z session nodes ≡ nodes
-ended-over z session nodes marks kept other = ended_nodes-none z session nodes (not_owned session marks nodes (no_marks session marks kept.ranked other) kept.marked)
-
-pub ended-past : (z session : ℕ) (nodes : List Node) (marks : List Mark) → IsKept nodes marks → slice_get marks (mark_place session [] marks) ≡ None → ended_nodes z session nodes ≡ nodes
-ended-past z session nodes marks kept past = ended-over z session nodes marks kept (λ m there. absurd (let e : Some m ≡ None = sym there ∙ past in cc))
-
-pub ended-other : (z session : ℕ) (mark : Mark) (nodes : List Node) (marks : List Mark) → IsKept nodes marks → slice_get marks (mark_place session [] marks) ≡ Some mark → (mark.session == session) ≡ false → ended_nodes z session nodes ≡ nodes
-ended-other z session mark nodes marks kept there other =
-    ended-over z session nodes marks kept (λ m is. let e : Some mark ≡ Some m = sym there ∙ is in let same : mark ≡ m = cc in ap (λ (x : Mark). x.session == session) (sym same) ∙ other)
