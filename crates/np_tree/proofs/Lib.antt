@@ -20,3 +20,13 @@ pub mod RemovalLemmas
 pub mod CreationLemmas
 pub mod TouchLemmas
 pub mod PartsLemmas
+pub mod EditLemmas
+pub mod PassedLemmas
+pub mod CallLemmas
+pub mod ReadLemmas
+pub mod RootLemmas
+pub mod StandingLemmas
+pub mod WholeLemmas
+pub mod MultiMore
+pub mod NewTree
+pub mod StartLemmas
