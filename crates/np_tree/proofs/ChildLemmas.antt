@@ -133,7 +133,7 @@ or_root-same (x ∷ xs) [] no_x no_y same = absurd (no_x same)
 or_root-same (x ∷ xs) (y ∷ ys) no_x no_y same = same
 
 -- no path has `/` before its last slash
-half-not_root : (path above : List ℕ) → is_path path ≡ true → parent_of path ≡ Some above → before_of path ≡ root → ⊥
+pub half-not_root : (path above : List ℕ) → is_path path ≡ true → parent_of path ≡ Some above → before_of path ≡ root → ⊥
 half-not_root path above is has half =
     let child = IsChild-of path above is has in
     let top : above ≡ root = parent-half above path has ∙ ap or_root half in
@@ -142,7 +142,7 @@ half-not_root path above is has half =
     let both : length (47 ∷ name_of path) ≡ length (47 ∷ 47 ∷ name_of path) = ap length (short ∙ long) in
     absurd (omega arith)
 
-child-half : (key p : List ℕ) (n : Node) (o : Option (List ℕ)) → IsKey key p → is_path n.path ≡ true → parent_of n.path ≡ o → is_parent p o ≡ true → before_of n.path ≡ key
+pub child-half : (key p : List ℕ) (n : Node) (o : Option (List ℕ)) → IsKey key p → is_path n.path ≡ true → parent_of n.path ≡ o → is_parent p o ≡ true → before_of n.path ≡ key
 child-half key p n None is_key is has child = absurd cc
 child-half key p n (Some above) is_key is has child =
     let same : or_root (before_of n.path) ≡ or_root key = sym (parent-half above n.path has) ∙ bytes_eq-is above p child ∙ sym is_key.above in

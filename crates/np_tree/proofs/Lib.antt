@@ -30,3 +30,4 @@ pub mod WholeLemmas
 pub mod MultiMore
 pub mod NewTree
 pub mod StartLemmas
+pub mod ChildOrder

@@ -18,5 +18,6 @@ pub mod Ends
 pub mod Names
 pub mod Boards
 pub mod Codes
+pub mod Sorted
 pub mod Whole
 pub mod Worked

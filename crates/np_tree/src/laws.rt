@@ -6,6 +6,7 @@ ghost use Rattle.np_tree.specs.Look.{node_at};
 ghost use Rattle.np_tree.specs.Judge.{judge_set};
 ghost use Rattle.np_tree.specs.Multi.{after_multi, answers_from};
 ghost use Rattle.np_tree.specs.Read.{stat_at};
+ghost use Rattle.np_tree.specs.Sorted.{ChildrenByName, ParentsComeFirst};
 ghost use Rattle.np_tree.specs.State.{new_tree};
 ghost use Rattle.np_tree.specs.Whole.{CallsKeepWhole, EndsKeepWhole, IsWhole, PartsKeepWhole, RaisesKeepWhole};
 ghost use Rattle.np_tree.specs.Worked.{begun_tree, calls, replies, left, sequence_calls, sequence_replies, third_fails, three_parts, told, tree_ended, tree_raised, two_done, two_parts, with_a};
@@ -33,5 +34,13 @@ pub fn calls_keep_the_tree_whole()
     ensures multi { CallsKeepWhole }
     ensures end { EndsKeepWhole }
     ensures raise { RaisesKeepWhole }
+{
+}
+
+/// In the order of nodes each comes after its parent, and the children of a node stand in byte order
+/// of their names.
+pub fn nodes_stand_in_order()
+    ensures parents { ParentsComeFirst }
+    ensures children { ChildrenByName }
 {
 }

@@ -22,7 +22,7 @@ mod tree;
 
 pub use bytes::Bytes;
 pub use kind::{Expect, Mode, Stat};
-pub use laws::{calls_keep_the_tree_whole, worked_rows};
+pub use laws::{calls_keep_the_tree_whole, nodes_stand_in_order, worked_rows};
 pub use op::{Op, OpDone};
 pub use refusal::{MultiFault, TreeFault, TreeRefusal};
 pub use tree::Tree;
