@@ -1,16 +1,15 @@
 -- changes that keep each node's path
-use Rattle.std.proofs.Common.{◌≡◌, ℕ, zero, suc, ◌+◌, Bool, true, false, cond, List, [], ◌∷◌, length, map, Option, Some, None, refl, sym, ap, ◌∙◌, subst, arith}
+use Rattle.std.proofs.Common.{◌≡◌, ℕ, suc, ◌+◌, Bool, true, false, cond, List, [], ◌∷◌, length, map, Option, Some, None, refl, sym, ap, ◌∙◌, subst, arith}
 use Rattle.std.specs.Prelude.{filter}
-use Rattle.std.specs.List.{AllByRecursion, insert, remove, prefix_len}
+use Rattle.std.specs.List.{AllByRecursion, prefix_len}
 use Rattle.std.specs.Str.{bytes_eq}
 use Rattle.np_path.specs.Grammar.{is_path}
 use Rattle.np_path.specs.Parts.{parent_of}
-use Rattle.np_shelf.specs.Lists.{changed_at}
-use Rattle.np_tree.specs.Look.{change_node, children_of, comes_before, is_at, is_parent, node_at, with_node, without_node}
+use Rattle.np_tree.specs.Look.{change_node, children_of, comes_before, is_at, is_parent, node_at}
 use Rattle.np_tree.specs.Order.{AllPaths, IsSorted, place_of}
 use Rattle.np_tree.specs.declared.node.Node.{Node}
 use Rattle.np_tree.proofs.RisingLemmas.{NonePass, find-none, none-find}
-use Rattle.np_tree.proofs.PlaceLemmas.{bytes_eq-is, bytes_eq-not, change_node-at, with_node-at, without_node-at}
+use Rattle.np_tree.proofs.PlaceLemmas.{bytes_eq-is, bytes_eq-not}
 
 -- the paths of nodes
 abbrev pub paths_of : List Node → List (List ℕ)
@@ -31,12 +30,6 @@ paths_of-change-by p f keeps n nodes false is later = rw is (ap (λ (ps : List (
 pub paths_of-change_node : (p : List ℕ) (f : Node → Node) → KeepsPath f → (nodes : List Node) → paths_of (change_node p f nodes) ≡ paths_of nodes
 paths_of-change_node p f keeps [] = refl
 paths_of-change_node p f keeps (n ∷ nodes) = paths_of-change-by p f keeps n nodes (is_at p n) refl (paths_of-change_node p f keeps nodes)
-
-pub paths_of-changed_at : (f : Node → Node) → KeepsPath f → (i : ℕ) (nodes : List Node) → paths_of (changed_at f i nodes) ≡ paths_of nodes
-paths_of-changed_at f keeps zero [] = refl
-paths_of-changed_at f keeps (suc i) [] = refl
-paths_of-changed_at f keeps zero (n ∷ nodes) = ap (λ (q : List ℕ). q ∷ paths_of nodes) (keeps n)
-paths_of-changed_at f keeps (suc i) (n ∷ nodes) = ap (λ (ps : List (List ℕ)). n.path ∷ ps) (paths_of-changed_at f keeps i nodes)
 
 -- ## what the paths alone decide
 
@@ -108,13 +101,6 @@ none-paths p ns ms same none = all-paths (λ q. bytes_eq q p ≡ false) ns ms sa
 pub node_at-paths-none : (p : List ℕ) (ns ms : List Node) → paths_of ns ≡ paths_of ms → node_at ns p ≡ None → node_at ms p ≡ None
 node_at-paths-none p ns ms same none = find-none (is_at p) ms (none-paths p ns ms same (none-find (is_at p) ns none))
 
-some-by : (p : List ℕ) (ns ms : List Node) (n : Node) (o : Option Node) → paths_of ms ≡ paths_of ns → node_at ns p ≡ Some n → node_at ms p ≡ o → (m : Node) × (node_at ms p ≡ Some m)
-some-by p ns ms n None same found is = absurd (let e : None ≡ Some n = sym (node_at-paths-none p ms ns same is) ∙ found in cc)
-some-by p ns ms n (Some m) same found is = (m, is)
-
-pub node_at-paths-some : (p : List ℕ) (ns ms : List Node) (n : Node) → paths_of ns ≡ paths_of ms → node_at ns p ≡ Some n → (m : Node) × (node_at ms p ≡ Some m)
-node_at-paths-some p ns ms n same found = some-by p ns ms n (node_at ms p) (sym same) found refl
-
 -- ## a change at a path
 
 pub IsSorted-change_node : (p : List ℕ) (f : Node → Node) → KeepsPath f → (nodes : List Node) → IsSorted nodes → IsSorted (change_node p f nodes)
@@ -159,33 +145,4 @@ node_at-change_other p q f keeps other (m ∷ nodes) = change-other-by p q f kee
 
 -- ## a change above and a node more, or less
 
-pub with_node-above : (above : List ℕ) (f : Node → Node) → KeepsPath f → (n parent : Node) (nodes : List Node) → IsSorted nodes → AllPaths nodes → is_path n.path ≡ true → node_at nodes above ≡ Some parent → node_at nodes n.path ≡ None →
-    with_node n (change_node above f nodes) ≡ insert (changed_at f (place_of above nodes) nodes) (place_of n.path nodes) n
-with_node-above above f keeps n parent nodes sorted paths is found none =
-    let same = paths_of-change_node above f keeps nodes in
-    with_node-at n (change_node above f nodes) is (AllPaths-change_node above f keeps nodes paths) (node_at-paths-none n.path nodes (change_node above f nodes) (sym same) none)
-    ∙ ap (λ (k : ℕ). insert (change_node above f nodes) k n) (place_of-change_node n.path above f keeps nodes)
-    ∙ ap (λ (ms : List Node). insert ms (place_of n.path nodes) n) (change_node-at above f nodes parent sorted found)
-
-pub without_node-above : (above : List ℕ) (f : Node → Node) → KeepsPath f → (p : List ℕ) (n parent : Node) (nodes : List Node) → IsSorted nodes → node_at nodes above ≡ Some parent → node_at nodes p ≡ Some n →
-    without_node p (change_node above f nodes) ≡ remove (changed_at f (place_of above nodes) nodes) (place_of p nodes)
-without_node-above above f keeps p n parent nodes sorted found there =
-    let same = paths_of-change_node above f keeps nodes in
-    let still = node_at-paths-some p nodes (change_node above f nodes) n (sym same) there in
-    without_node-at p (change_node above f nodes) still.0 (IsSorted-change_node above f keeps nodes sorted) still.1
-    ∙ ap (λ (k : ℕ). remove (change_node above f nodes) k) (place_of-change_node p above f keeps nodes)
-    ∙ ap (λ (ms : List Node). remove ms (place_of p nodes)) (change_node-at above f nodes parent sorted found)
-
 -- ## a change at a place
-
-pub IsSorted-changed_at : (f : Node → Node) → KeepsPath f → (k : ℕ) (nodes : List Node) → IsSorted nodes → IsSorted (changed_at f k nodes)
-IsSorted-changed_at f keeps k nodes sorted = IsSorted-paths nodes (changed_at f k nodes) (sym (paths_of-changed_at f keeps k nodes)) sorted
-
-pub AllPaths-changed_at : (f : Node → Node) → KeepsPath f → (k : ℕ) (nodes : List Node) → AllPaths nodes → AllPaths (changed_at f k nodes)
-AllPaths-changed_at f keeps k nodes paths = AllPaths-paths nodes (changed_at f k nodes) (sym (paths_of-changed_at f keeps k nodes)) paths
-
-pub place_of-changed_at : (q : List ℕ) (f : Node → Node) → KeepsPath f → (k : ℕ) (nodes : List Node) → place_of q (changed_at f k nodes) ≡ place_of q nodes
-place_of-changed_at q f keeps k nodes = place_of-paths q (changed_at f k nodes) nodes (paths_of-changed_at f keeps k nodes)
-
-pub length-children-changed_at : (q : List ℕ) (f : Node → Node) → KeepsPath f → (k : ℕ) (nodes : List Node) → length (children_of (changed_at f k nodes) q) ≡ length (children_of nodes q)
-length-children-changed_at q f keeps k nodes = length-children-paths q (changed_at f k nodes) nodes (paths_of-changed_at f keeps k nodes)

@@ -1,13 +1,9 @@
 -- the children of a path are one stretch of the nodes
-use Rattle.std.proofs.Common.{◌≡◌, ℕ, zero, suc, ◌+◌, ◌-◌, ◌<◌, ◌≤◌, Bool, true, false, not, ◌&&◌, cond, List, [], ◌∷◌, ◌++◌, length, take, drop, Option, Some, None, Ordering, Less, Equal, Greater, refl, sym, ap, ◌∙◌, arith}
-use Rattle.std.specs.Prelude.{slice_get, filter}
+use Rattle.std.proofs.Common.{◌≡◌, ℕ, zero, suc, ◌+◌, ◌-◌, ◌≤◌, Bool, true, false, not, ◌&&◌, cond, List, [], ◌∷◌, ◌++◌, length, take, drop, Option, Some, None, Ordering, Less, Equal, Greater, refl, sym, ap, ◌∙◌, arith}
+use Rattle.std.specs.Prelude.{filter}
 use Rattle.std.specs.List.{AllByRecursion, insert, remove, prefix_len}
 use Rattle.std.specs.Ordering.{nat_cmp, is_le, ordering_then}
 use Rattle.std.specs.Cmp.Lexicographic.{slice_cmp}
-use Rattle.std.specs.Str.{bytes_eq}
-use Rattle.std.proofs.lemmas.List.{length-take-le, length-drop}
-use Rattle.std.proofs.lemmas.List.Sums.{prefix_len-le-length}
-use Rattle.std.proofs.lemmas.Option.{slice_get_past}
 use Rattle.std.proofs.lemmas.Cmp.{nat_list_cmp_total, tied_itself}
 use Rattle.std.proofs.lemmas.Map.Lookups.{exact_bytes}
 use Rattle.np_path.specs.Grammar.{is_element, is_path}
@@ -80,17 +76,6 @@ prefix_len-le low high (x ∷ xs) both = le-by low high x xs (low x) refl (both 
 
 -- ## what stands in a stretch
 
-pub slice_get-take : {X : Type 0} (xs : List X) (n i : ℕ) → i < n → slice_get (take n xs) i ≡ slice_get xs i
-slice_get-take xs zero i within = absurd (omega arith)
-slice_get-take [] (suc n) i within = refl
-slice_get-take (x ∷ xs) (suc n) zero within = refl
-slice_get-take (x ∷ xs) (suc n) (suc i) within = slice_get-take xs n i (omega arith)
-
-pub slice_get-drop : {X : Type 0} (xs : List X) (n i : ℕ) → slice_get (drop n xs) i ≡ slice_get xs (n + i)
-slice_get-drop xs zero i = ap (slice_get xs) (omega arith)
-slice_get-drop [] (suc n) i = refl
-slice_get-drop (x ∷ xs) (suc n) i = let step : suc n + i ≡ suc (n + i) = omega arith in rw step (slice_get-drop xs n i)
-
 -- ## the children of a path
 
 -- whether a node stands before each child, or is the root
@@ -116,15 +101,6 @@ pub record IsKey (key p : List ℕ) : Type 0 where
 
 pub IsKey-root : IsKey [] root
 IsKey-root = record { above = refl; other = λ same. absurd cc }
-
-pub IsKey-path : (p : List ℕ) → is_path p ≡ true → (p ≡ root → ⊥) → IsKey p p
-IsKey-path [] is other = absurd cc
-IsKey-path (b ∷ bs) is other = record { above = refl; other = other }
-
--- any text but the root's
-pub IsKey-text : (p : List ℕ) → (p ≡ [] → ⊥) → (p ≡ root → ⊥) → IsKey p p
-IsKey-text [] some other = absurd (some refl)
-IsKey-text (b ∷ bs) some other = record { above = refl; other = other }
 
 or_root-same : (xs ys : List ℕ) → (xs ≡ root → ⊥) → (ys ≡ root → ⊥) → or_root xs ≡ or_root ys → xs ≡ ys
 or_root-same [] [] no_x no_y same = refl
@@ -199,40 +175,6 @@ children_of-stretch key p nodes is_key sorted paths =
     nodes
     (all-weaker (λ n. is_path n.path ≡ true) (IsBetween (is_above key) (is_upto key) (is_child p)) nodes (λ n is. IsBetween-child key p n is_key is) paths)
     sorted
-
-pub length-children_of : (key p : List ℕ) (nodes : List Node) → IsKey key p → IsSorted nodes → AllPaths nodes → length (children_of nodes p) ≡ children_to key nodes - children_from key nodes
-length-children_of key p nodes is_key sorted paths =
-    let high = prefix_len-le-length (is_upto key) nodes in
-    ap length (children_of-stretch key p nodes is_key sorted paths)
-    ∙ length-take-le (children_to key nodes - children_from key nodes) (drop (children_from key nodes) nodes) (omega (arith, length-drop (children_from key nodes) nodes))
-
-pub slice_get-children_of : (key p : List ℕ) (nodes : List Node) (at : ℕ) → IsKey key p → IsSorted nodes → AllPaths nodes → at < children_to key nodes - children_from key nodes →
-    slice_get (children_of nodes p) at ≡ slice_get nodes (children_from key nodes + at)
-slice_get-children_of key p nodes at is_key sorted paths within =
-    ap (λ (ms : List Node). slice_get ms at) (children_of-stretch key p nodes is_key sorted paths)
-    ∙ slice_get-take (drop (children_from key nodes) nodes) (children_to key nodes - children_from key nodes) at within
-    ∙ slice_get-drop nodes (children_from key nodes) at
-
-pub slice_get-children_of_past : (key p : List ℕ) (nodes : List Node) (at : ℕ) → IsKey key p → IsSorted nodes → AllPaths nodes → children_to key nodes - children_from key nodes ≤ at →
-    slice_get (children_of nodes p) at ≡ None
-slice_get-children_of_past key p nodes at is_key sorted paths past =
-    slice_get_past (children_of nodes p) at (omega (arith, length-children_of key p nodes is_key sorted paths))
-
-pub children_to-within : (key : List ℕ) (nodes : List Node) → children_to key nodes ≤ length nodes
-children_to-within key nodes = prefix_len-le-length (is_upto key) nodes
-
--- nothing stands below a text with no byte
-child-of-empty : (path : List ℕ) → is_parent [] (parent_of path) ≡ false
-child-of-empty [] = refl
-child-of-empty (b ∷ []) = refl
-child-of-empty (b ∷ c ∷ bs) = by_half (before_of (b ∷ c ∷ bs)) where
-  by_half : (half : List ℕ) → bytes_eq (or_root half) [] ≡ false
-  by_half [] = refl
-  by_half (x ∷ xs) = refl
-
-pub children_of-empty : (nodes : List Node) → children_of nodes [] ≡ []
-children_of-empty [] = refl
-children_of-empty (n ∷ nodes) = rw (child-of-empty n.path) (children_of-empty nodes)
 
 -- ## how many there are after a change
 

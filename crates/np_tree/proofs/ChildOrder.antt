@@ -1,19 +1,19 @@
 -- children stand in byte order of their names
-use Rattle.std.proofs.Common.{◌≡◌, ℕ, Bool, true, false, cond, List, [], ◌∷◌, Option, Some, None, Less, refl, sym, ap, ◌∙◌}
+use Rattle.std.proofs.Common.{◌≡◌, ℕ, Bool, true, false, cond, List, [], ◌∷◌, Option, Some, None, refl, sym, ap, ◌∙◌}
 use Rattle.std.specs.Prelude.{filter}
 use Rattle.std.specs.List.{AllByRecursion}
 use Rattle.std.specs.Ordering.{nat_cmp, is_lt, ordering_then}
 use Rattle.std.specs.Cmp.Lexicographic.{slice_cmp}
 use Rattle.std.proofs.lemmas.Cmp.{nat_list_cmp_total, tied_itself}
 use Rattle.np_path.specs.Grammar.{is_path}
-use Rattle.np_path.specs.Parts.{name_of, or_root, parent_of, root}
-use Rattle.np_tree.specs.Look.{before_of, children_of, comes_before, is_child, is_parent}
-use Rattle.np_tree.specs.Order.{AllPaths, IsSorted, Rises, is_before}
+use Rattle.np_path.specs.Parts.{name_of, parent_of}
+use Rattle.np_tree.specs.Look.{before_of, children_of, is_child, is_parent}
+use Rattle.np_tree.specs.Order.{AllPaths, Rises, is_before}
 use Rattle.np_tree.specs.Sorted.{ChildrenByName, ParentsComeFirst, named_before}
 use Rattle.np_tree.specs.declared.node.Node.{Node}
 use Rattle.np_tree.proofs.ChildLemmas.{IsKey, child-half, half-not_root}
 use Rattle.np_tree.proofs.OrderLemmas.{parent-first, parent-half}
-use Rattle.np_tree.proofs.PlaceLemmas.{AllPaths-filter, bytes_eq-is}
+use Rattle.np_tree.proofs.PlaceLemmas.{bytes_eq-is}
 use Rattle.np_tree.proofs.RisingLemmas.{Rises-filter}
 
 pub parents-first : ParentsComeFirst

@@ -1,27 +1,21 @@
 -- what always holds of nodes and marks, after each change
-use Rattle.std.proofs.Common.{◌≡◌, ℕ, zero, suc, ◌+◌, ◌<◌, ◌≤◌, Bool, true, false, cond, List, [], ◌∷◌, length, Option, Some, None, refl, sym, ap, ◌∙◌, subst, arith}
+use Rattle.std.proofs.Common.{◌≡◌, ℕ, ◌+◌, ◌<◌, ◌≤◌, Bool, true, false, cond, List, length, Some, None, refl, ap, ◌∙◌, subst, arith}
 use Rattle.std.specs.Prelude.{slice_get}
 use Rattle.std.specs.List.{insert, remove}
 use Rattle.std.specs.Str.{bytes_eq}
 use Rattle.np_path.specs.Grammar.{is_path}
 use Rattle.np_path.specs.Parts.{parent_of}
-use Rattle.np_shelf.specs.Lists.{changed_at}
 use Rattle.np_tree.specs.Look.{children_of, is_child, is_parent, node_at}
-use Rattle.np_tree.specs.Order.{AllPaths, IsSorted, place_of}
-use Rattle.np_tree.specs.Marks.{AllMarked, HasMark, mark_place, mark_upto}
+use Rattle.np_tree.specs.Order.{place_of}
+use Rattle.np_tree.specs.Marks.{HasMark, mark_place}
 use Rattle.np_tree.specs.Kept.{HasRoom, IsKept}
 use Rattle.np_tree.specs.declared.node.Node.{Node}
 use Rattle.np_tree.specs.declared.mark.Mark.{Mark}
-use Rattle.np_tree.proofs.ChangeLemmas.{AllPaths-changed_at, IsSorted-changed_at, KeepsPath, length-children-changed_at, node_at-paths-none, paths_of-changed_at, place_of-changed_at}
 use Rattle.np_tree.proofs.ChildLemmas.{length-children-insert, length-children-remove}
-use Rattle.np_tree.proofs.EndLemmas.{KeepsOwner}
-use Rattle.np_tree.proofs.MarkLemmas.{AllMarked-changed_at, AllMarked-insert_mark, AllMarked-insert_node, AllMarked-remove_mark, AllMarked-remove_node, HasMark-insert, NoneMarked, Rises-insert_mark, Rises-remove_mark}
+use Rattle.np_tree.proofs.MarkLemmas.{AllMarked-insert_mark, AllMarked-insert_node, AllMarked-remove_mark, AllMarked-remove_node, NoneMarked, Rises-insert_mark, Rises-remove_mark}
 use Rattle.np_tree.proofs.PlaceLemmas.{AllPaths-insert, AllPaths-remove, IsSorted-insert, IsSorted-remove, bytes_eq-is}
 
 -- ## how many children there are
-
-pub HasRoom-changed_at : (f : Node → Node) → KeepsPath f → (k : ℕ) (nodes : List Node) → HasRoom nodes → HasRoom (changed_at f k nodes)
-HasRoom-changed_at f keeps k nodes room path = let room_here = room path in rw (length-children-changed_at path f keeps k nodes) room_here
 
 pub HasRoom-remove : (k : ℕ) (nodes : List Node) → HasRoom nodes → HasRoom (remove nodes k)
 HasRoom-remove k nodes room path = let room_here = room path in omega (arith, length-children-remove path k nodes)
@@ -43,15 +37,6 @@ HasRoom-insert n above k nodes has below room path =
     rw total most
 
 -- ## nodes
-
-pub IsKept-changed_at : (f : Node → Node) → KeepsPath f → KeepsOwner f → (k : ℕ) (nodes : List Node) (marks : List Mark) → IsKept nodes marks → IsKept (changed_at f k nodes) marks
-IsKept-changed_at f path owner k nodes marks kept = record {
-  sorted = IsSorted-changed_at f path k nodes kept.sorted;
-  paths = AllPaths-changed_at f path k nodes kept.paths;
-  room = HasRoom-changed_at f path k nodes kept.room;
-  ranked = kept.ranked;
-  marked = AllMarked-changed_at marks f path owner k nodes kept.marked;
-}
 
 pub IsKept-remove : (k : ℕ) (nodes : List Node) (marks : List Mark) → IsKept nodes marks → IsKept (remove nodes k) marks
 IsKept-remove k nodes marks kept = record {
@@ -78,21 +63,6 @@ IsKept-insert n above nodes marks may kept = record {
   ranked = kept.ranked;
   marked = AllMarked-insert_node marks n nodes (place_of n.path nodes) may.mark kept.marked;
 }
-
--- after a change of another node, at the place that was found before
-pub IsKept-made : (f : Node → Node) → KeepsPath f → KeepsOwner f → (k : ℕ) (n : Node) (above : List ℕ) (nodes : List Node) (marks : List Mark) → MayStand n above nodes marks → IsKept nodes marks →
-    IsKept (insert (changed_at f k nodes) (place_of n.path nodes) n) marks
-IsKept-made f path owner k n above nodes marks may kept =
-    let place = place_of-changed_at n.path f path k nodes in
-    let may_still : MayStand n above (changed_at f k nodes) marks = record {
-      path = may.path;
-      new = node_at-paths-none n.path nodes (changed_at f k nodes) (sym (paths_of-changed_at f path k nodes)) may.new;
-      parent = may.parent;
-      room = let room = may.room in rw (length-children-changed_at above f path k nodes) room;
-      mark = may.mark;
-    } in
-    subst (λ (at : ℕ). IsKept (insert (changed_at f k nodes) at n) marks) place
-    (IsKept-insert n above (changed_at f k nodes) marks may_still (IsKept-changed_at f path owner k nodes marks kept))
 
 -- ## marks
 

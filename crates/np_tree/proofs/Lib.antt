@@ -11,7 +11,6 @@ pub mod NamesLemmas
 pub mod GapLemmas
 pub mod EffectLemmas
 pub mod EndLemmas
-pub mod EndSteps
 pub mod KeptLemmas
 pub mod MarkLemmas
 pub mod MultiLemmas
@@ -20,14 +19,9 @@ pub mod RemovalLemmas
 pub mod CreationLemmas
 pub mod TouchLemmas
 pub mod PartsLemmas
-pub mod EditLemmas
 pub mod PassedLemmas
 pub mod CallLemmas
-pub mod ReadLemmas
 pub mod RootLemmas
 pub mod StandingLemmas
 pub mod WholeLemmas
-pub mod MultiMore
-pub mod NewTree
-pub mod StartLemmas
 pub mod ChildOrder

@@ -1,7 +1,7 @@
 -- marks in their order, and each owned node has its mark
-use Rattle.std.proofs.Common.{◌≡◌, ℕ, zero, suc, ◌+◌, ◌<◌, ◌≤◌, Bool, true, false, not, ◌&&◌, ◌||◌, cond, List, [], ◌∷◌, ◌++◌, length, Option, Some, None, Ordering, Less, Equal, Greater, refl, sym, ap, ◌∙◌, subst, arith}
+use Rattle.std.proofs.Common.{◌≡◌, ℕ, zero, suc, ◌<◌, ◌≤◌, Bool, true, false, not, ◌&&◌, ◌||◌, cond, List, [], ◌∷◌, Option, Some, None, Ordering, Less, Equal, Greater, refl, sym, ap, ◌∙◌, arith}
 use Rattle.std.specs.Prelude.{◌==◌, slice_get}
-use Rattle.std.specs.List.{AllByRecursion, insert, list_any, prefix_len, remove}
+use Rattle.std.specs.List.{AllByRecursion, insert, list_any, remove}
 use Rattle.std.specs.Ordering.{nat_cmp, is_lt, is_le, ordering_then, ordering_reverse}
 use Rattle.std.specs.Cmp.{IsTotalOrder}
 use Rattle.std.specs.Cmp.Lexicographic.{slice_cmp}
@@ -9,17 +9,16 @@ use Rattle.std.specs.Str.{bytes_eq}
 use Rattle.std.proofs.lemmas.Cmp.{nat_list_cmp_total, nat_cmp_total, on_total, then_total}
 use Rattle.std.proofs.lemmas.Bool.{and_left, and_right, and_parts, eqb-true, eq-eqb, false_from_ne_true, or_left, or_right}
 use Rattle.std.proofs.lemmas.Bool.Decides.{nat_tests}
-use Rattle.np_shelf.specs.Lists.{IsSplit, changed_at}
+use Rattle.np_shelf.specs.Lists.{IsSplit}
 use Rattle.np_tree.specs.Look.{is_at, is_owned, is_session, node_at, without_node}
-use Rattle.np_tree.specs.Order.{IsSorted, Rises, is_before}
-use Rattle.np_tree.specs.Marks.{AllMarked, HasMark, is_mark, mark_before, mark_cmp, mark_place, mark_upto}
+use Rattle.np_tree.specs.Order.{IsSorted, Rises}
+use Rattle.np_tree.specs.Marks.{AllMarked, HasMark, is_mark, mark_before, mark_place, mark_upto}
 use Rattle.np_tree.specs.declared.node.Node.{Node}
 use Rattle.np_tree.specs.declared.mark.Mark.{Mark}
-use Rattle.np_tree.proofs.ChangeLemmas.{KeepsPath}
-use Rattle.np_tree.proofs.EndLemmas.{KeepsOwner, list_any-remove, none-any}
-use Rattle.np_tree.proofs.OrderLemmas.{le-trans, lt_le-trans}
-use Rattle.np_tree.proofs.PlaceLemmas.{bytes_eq-from, bytes_eq-is, later-others, without_node-there}
-use Rattle.np_tree.proofs.RisingLemmas.{IsSplit-rises, NonePass, find-none, Rises-insert, Rises-remove, all-changed_at, all-insert, all-remove, all-weaker, none-find, prefix-one, prefix-none}
+use Rattle.np_tree.proofs.EndLemmas.{list_any-remove, none-any}
+use Rattle.np_tree.proofs.OrderLemmas.{le-trans}
+use Rattle.np_tree.proofs.PlaceLemmas.{bytes_eq-from, bytes_eq-is, later-others}
+use Rattle.np_tree.proofs.RisingLemmas.{IsSplit-rises, NonePass, Rises-insert, Rises-remove, all-insert, all-remove, all-weaker, none-find, prefix-one, prefix-none}
 
 -- ## the order of marks
 
@@ -113,11 +112,6 @@ AllMarked-insert_node marks n nodes k has all = all-insert (λ m. HasMark marks 
 pub AllMarked-remove_node : (marks : List Mark) (nodes : List Node) (k : ℕ) → AllMarked marks nodes → AllMarked marks (remove nodes k)
 AllMarked-remove_node marks nodes k all = all-remove (λ m. HasMark marks m.path m.facts.owner) nodes k all
 
-pub AllMarked-changed_at : (marks : List Mark) (f : Node → Node) → KeepsPath f → KeepsOwner f → (k : ℕ) (nodes : List Node) → AllMarked marks nodes → AllMarked marks (changed_at f k nodes)
-AllMarked-changed_at marks f path owner k nodes all =
-    all-changed_at (λ m. HasMark marks m.path m.facts.owner) f k nodes
-    (λ m has. subst (λ (o : Option ℕ). HasMark marks (f m).path o) (sym (owner m)) (subst (λ (q : List ℕ). HasMark marks q m.facts.owner) (sym (path m)) has)) all
-
 -- ### a mark less
 
 -- no node that the session owns stands at the path
@@ -172,16 +166,6 @@ none-without path (n ∷ nodes) = by_first (is_at path n) refl (none-without pat
   by_first : (b : Bool) → is_at path n ≡ b → NonePass (is_at path) (without_node path nodes) → NonePass (is_at path) (cond (not b) (n ∷ without_node path nodes) (without_node path nodes))
   by_first true is later = later
   by_first false is later = (is, later)
-
-pub NonePass-remove : (path : List ℕ) (nodes : List Node) (k : ℕ) (n : Node) → IsSorted nodes → slice_get nodes k ≡ Some n → is_at path n ≡ true → NonePass (is_at path) (remove nodes k)
-NonePass-remove path nodes k n sorted there here =
-    subst (NonePass (is_at path)) (without_node-there path nodes k n sorted there here) (none-without path nodes)
-
-pub NoneMarked-remove : (session : ℕ) (path : List ℕ) (nodes : List Node) (k : ℕ) (n : Node) → IsSorted nodes → slice_get nodes k ≡ Some n → is_at path n ≡ true → NoneMarked session path (remove nodes k)
-NoneMarked-remove session path nodes k n sorted there here = NoneMarked-none session path (remove nodes k) (NonePass-remove path nodes k n sorted there here)
-
-pub node_at-remove : (path : List ℕ) (nodes : List Node) (k : ℕ) (n : Node) → IsSorted nodes → slice_get nodes k ≡ Some n → is_at path n ≡ true → node_at (remove nodes k) path ≡ None
-node_at-remove path nodes k n sorted there here = find-none (is_at path) (remove nodes k) (NonePass-remove path nodes k n sorted there here)
 
 -- ## a session has no marks left
 

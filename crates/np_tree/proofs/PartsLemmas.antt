@@ -1,5 +1,5 @@
 -- the parts of a `multi`, one after another
-use Rattle.std.proofs.Common.{◌≡◌, ℕ, zero, suc, ◌+◌, ◌<◌, ◌≤◌, Bool, false, not, List, [], ◌∷◌, ◌++◌, length, take, drop, get_or, Result, Ok, Err, refl, sym, ap, ◌∙◌, subst, arith}
+use Rattle.std.proofs.Common.{◌≡◌, ℕ, suc, ◌+◌, ◌<◌, ◌≤◌, false, not, List, [], ◌∷◌, ◌++◌, length, take, drop, get_or, Result, Ok, Err, refl, sym, ap, ◌∙◌, arith}
 use Rattle.std.specs.List.{list_any}
 use Rattle.std.specs.Prelude.{IsOk}
 use Rattle.std.proofs.lemmas.List.{drop_more, length-take-le, take-append-drop, take_all, take_more}
@@ -15,7 +15,7 @@ use Rattle.np_tree.specs.declared.desk.Desk.{Desk}
 use Rattle.np_tree.specs.declared.op.Op.{Op}
 use Rattle.np_tree.specs.declared.op.OpDone.{OpDone}
 use Rattle.np_tree.specs.declared.refusal.TreeRefusal.{TreeRefusal}
-use Rattle.np_tree.specs.declared.refusal.MultiFault.TheVariants.{Refused, NoMemory}
+use Rattle.np_tree.specs.declared.refusal.MultiFault.TheVariants.{NoMemory}
 use Rattle.np_tree.proofs.MultiLemmas.{effects-append, effects-checks, effects-nodes, with_nodes}
 
 -- the first part and those after it were accepted
@@ -66,10 +66,6 @@ pub record SoFar (start now : Board) (s : ℕ) (parts : List Op) (i : ℕ) (done
   pub told : answers_from 0 (state_of start) s (take i parts) ≡ Ok done
   pub kept : IsKept now.desk.nodes now.desk.marks
   pub began : KeepsStart start.desk now.desk
-
-pub SoFar-none : (start : Board) (s : ℕ) (parts : List Op) (done : List OpDone) → IsKept start.desk.nodes start.desk.marks → done ≡ [] → SoFar start start s parts 0 done
-SoFar-none start s parts done kept none =
-    record { state = refl; told = ap (λ (ds : List OpDone). Ok ds) (sym none); kept = kept; began = record { nodes = refl; marks = refl; can = λ can. can } }
 
 -- a part, and the tree that it left
 pub record DoesPart (now next : Board) (s : ℕ) (parts : List Op) (i : ℕ) (part : Op) : Type 0 where

@@ -2,14 +2,13 @@
 use Rattle.std.proofs.Common.{◌≡◌, ℕ, ◌<◌, ◌≤◌, Bool, true, false, not, ◌||◌, cond, List, ◌++◌, length, Option, Some, None, Result, Ok, refl, subst}
 use Rattle.std.specs.Prelude.{nat_le, nat_lt}
 use Rattle.std.specs.Option.{is_none}
-use Rattle.std.specs.Str.{bytes_eq}
 use Rattle.std.specs.List.{list_all}
 use Rattle.std.proofs.lemmas.Bool.{leb-true, ltb-true}
 use Rattle.np_path.specs.Digits.{ten_digits}
 use Rattle.np_path.specs.Grammar.{is_element, is_kept, is_path}
-use Rattle.np_path.specs.Parts.{below, parent_of, root}
+use Rattle.np_path.specs.Parts.{below, parent_of}
 use Rattle.np_path.proofs.PartsLemmas.{is_element-numbered, is_path-below}
-use Rattle.np_path.proofs.PathLaws.{HasParts-below, root-of}
+use Rattle.np_path.proofs.PathLaws.{HasParts-below}
 use Rattle.np_tree.specs.State.{State}
 use Rattle.np_tree.specs.Look.{children_of, is_at, node_at}
 use Rattle.np_tree.specs.Tests.{◌>>=◌, ◌>>◌, fits, found, is_sequential, need, unspent}
@@ -19,7 +18,7 @@ use Rattle.np_tree.specs.declared.node.Node.{Node}
 use Rattle.np_tree.specs.declared.kind.Mode.{Mode}
 use Rattle.np_tree.specs.declared.refusal.TreeRefusal.{TreeRefusal}
 use Rattle.np_tree.specs.declared.refusal.TreeRefusal.TheVariants as no
-use Rattle.np_tree.proofs.PlaceLemmas.{bytes_eq-is, bytes_eq-from}
+use Rattle.np_tree.proofs.PlaceLemmas.{bytes_eq-is}
 
 -- ## a line that was passed
 
@@ -89,11 +88,6 @@ judge_child-passed t above name bytes mode made is =
       path = ok-same (Ok (made_path p name mode)) (Ok made) (made_path p name mode) made refl refl room.1;
     }
 
--- the counter can be raised
-pub counter-below : (sequential : Bool) (counter : ℕ) → (not sequential || nat_le counter 2_147_483_647) ≡ true → sequential ≡ true → counter ≤ 2_147_483_647
-counter-below true counter is on = leb-true counter 2_147_483_647 is
-counter-below false counter is on = absurd cc
-
 -- the path that is made is one, and the parent's child
 pub record IsChildPath (path parent : List ℕ) : Type 0 where
   pub is : is_path path ≡ true
@@ -115,10 +109,3 @@ IsChildPath-above parent above name mode here is makes =
     subst (λ (p : List ℕ). IsChildPath (made_path parent name mode) p) (bytes_eq-is parent.path above here) (IsChildPath-made parent name mode is makes)
 
 -- ## a path that isn't the root has a parent
-
-has_parent-by : (path : List ℕ) (o : Option (List ℕ)) → is_path path ≡ true → bytes_eq path root ≡ false → parent_of path ≡ o → (above : List ℕ) × (parent_of path ≡ Some above)
-has_parent-by path None is other top = absurd (let same = bytes_eq-from path root (root-of path is top) in cc)
-has_parent-by path (Some above) is other top = (above, top)
-
-pub has_parent : (path : List ℕ) → is_path path ≡ true → bytes_eq path root ≡ false → (above : List ℕ) × (parent_of path ≡ Some above)
-has_parent path is other = has_parent-by path (parent_of path) is other refl

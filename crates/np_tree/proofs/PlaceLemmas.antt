@@ -1,12 +1,11 @@
 -- a node by its path is the node at its place
-use Rattle.std.proofs.Common.{◌≡◌, ℕ, zero, suc, ◌<◌, Bool, true, false, not, cond, List, [], ◌∷◌, length, Option, Some, None, refl, sym, ap, ◌∙◌, subst, arith}
+use Rattle.std.proofs.Common.{◌≡◌, ℕ, zero, suc, Bool, true, false, not, cond, List, [], ◌∷◌, Some, None, refl, sym, ap, ◌∙◌, subst, arith}
 use Rattle.std.specs.Prelude.{slice_get, filter}
 use Rattle.std.specs.List.{AllByRecursion, insert, remove, list_any}
 use Rattle.std.specs.Ordering.{nat_cmp, is_lt, is_le, ordering_then}
 use Rattle.std.specs.Cmp.Lexicographic.{slice_cmp}
 use Rattle.std.specs.Str.{bytes_eq}
 use Rattle.std.proofs.lemmas.Bool.{false_from_ne_true}
-use Rattle.std.proofs.lemmas.Option.{slice_get_within}
 use Rattle.std.proofs.lemmas.Slice.Eq.{bytes_eq-Decides}
 use Rattle.np_path.specs.Grammar.{is_path, is_slash}
 use Rattle.np_path.specs.Parts.{name_of}
@@ -47,10 +46,6 @@ less-beyond p m n order not_less = bytes_eq-not n.path p (λ same.
     let this : comes_before m.path p ≡ true = subst (λ (q : List ℕ). comes_before m.path q ≡ true) same order in
     absurd cc)
 
--- past the first node that doesn't stand before the path none does
-pub IsSplit-place : (p : List ℕ) (nodes : List Node) → IsSorted nodes → IsSplit (λ n. comes_before n.path p) nodes
-IsSplit-place p nodes sorted = IsSplit-rises is_before (less_than p) (less-down p) nodes sorted
-
 -- ## the node at a path
 
 place-first : (p : List ℕ) (nodes : List Node) → (n : Node) → slice_get nodes (place_of p nodes) ≡ Some n → is_at p n ≡ true → FirstAt (is_at p) nodes (place_of p nodes)
@@ -70,30 +65,6 @@ node_at-other p nodes n sorted is other =
 
 pub node_at-past : (p : List ℕ) (nodes : List Node) → IsSorted nodes → slice_get nodes (place_of p nodes) ≡ None → node_at nodes p ≡ None
 node_at-past p nodes sorted past = find-none (is_at p) nodes (place-absent p nodes sorted (λ m there. absurd (let e : Some m ≡ None = sym there ∙ past in cc)))
-
--- the node is the one at its place
-pub record IsPlaced (p : List ℕ) (nodes : List Node) (n : Node) : Type 0 where
-  pub there : slice_get nodes (place_of p nodes) ≡ Some n
-  pub here : is_at p n ≡ true
-  pub first : FirstAt (is_at p) nodes (place_of p nodes)
-  pub within : place_of p nodes < length nodes
-
-placed-by : (p : List ℕ) (nodes : List Node) (n : Node) (o : Option Node) → IsSorted nodes → node_at nodes p ≡ Some n → slice_get nodes (place_of p nodes) ≡ o → IsPlaced p nodes n
-placed-by p nodes n None sorted found is = absurd (let e : None ≡ Some n = sym (node_at-past p nodes sorted is) ∙ found in cc)
-placed-by p nodes n (Some m) sorted found is = at_place (is_at p m) refl where
-  at_place : (b : Bool) → is_at p m ≡ b → IsPlaced p nodes n
-  at_place true here =
-      let same : m ≡ n = let e : Some m ≡ Some n = sym (node_at-place p nodes m is here) ∙ found in cc in
-      record {
-        there = is ∙ ap (λ (x : Node). Some x) same;
-        here = ap (is_at p) (sym same) ∙ here;
-        first = place-first p nodes m is here;
-        within = slice_get_within nodes (place_of p nodes) m is;
-      }
-  at_place false other = absurd (let e : None ≡ Some n = sym (node_at-other p nodes m sorted is other) ∙ found in cc)
-
-pub IsPlaced-node_at : (p : List ℕ) (nodes : List Node) (n : Node) → IsSorted nodes → node_at nodes p ≡ Some n → IsPlaced p nodes n
-IsPlaced-node_at p nodes n sorted found = placed-by p nodes n (slice_get nodes (place_of p nodes)) sorted found refl
 
 -- what is found stands at the path
 found-by : (q : List ℕ) (n m : Node) (nodes : List Node) (b : Bool) → is_at q m ≡ b → (node_at nodes q ≡ Some n → is_at q n ≡ true) → cond b (Some m) (node_at nodes q) ≡ Some n → is_at q n ≡ true
@@ -149,9 +120,6 @@ change_node-first p f [] i first = absurd first
 change_node-first p f (n ∷ nodes) zero first = rw first refl
 change_node-first p f (n ∷ nodes) (suc i) first = rw (first.0) (ap (λ (ms : List Node). n ∷ ms) (change_node-first p f nodes i first.1))
 
-pub change_node-at : (p : List ℕ) (f : Node → Node) (nodes : List Node) (n : Node) → IsSorted nodes → node_at nodes p ≡ Some n → change_node p f nodes ≡ changed_at f (place_of p nodes) nodes
-change_node-at p f nodes n sorted found = change_node-first p f nodes (place_of p nodes) (IsPlaced-node_at p nodes n sorted found).first
-
 pub change_node-there : (p : List ℕ) (f : Node → Node) (nodes : List Node) (k : ℕ) (n : Node) → IsSorted nodes → slice_get nodes k ≡ Some n → is_at p n ≡ true → change_node p f nodes ≡ changed_at f k nodes
 change_node-there p f nodes k n sorted is here = change_node-first p f nodes k (first-there p nodes k n sorted is here)
 
@@ -174,16 +142,10 @@ without_node-nowhere : (p : List ℕ) (nodes : List Node) → NonePass (is_at p)
 without_node-nowhere p [] none = refl
 without_node-nowhere p (n ∷ nodes) none = rw (none.0) (ap (λ (ms : List Node). n ∷ ms) (without_node-nowhere p nodes none.1))
 
-pub without_node-none : (p : List ℕ) (nodes : List Node) → node_at nodes p ≡ None → without_node p nodes ≡ nodes
-without_node-none p nodes none = without_node-nowhere p nodes (none-find (is_at p) nodes none)
-
 without_node-first : (p : List ℕ) (nodes : List Node) (i : ℕ) → IsSorted nodes → FirstAt (is_at p) nodes i → without_node p nodes ≡ remove nodes i
 without_node-first p [] i sorted first = absurd first
 without_node-first p (n ∷ nodes) zero sorted first = rw first (without_node-nowhere p nodes (later-others p n nodes first sorted.0))
 without_node-first p (n ∷ nodes) (suc i) sorted first = rw (first.0) (ap (λ (ms : List Node). n ∷ ms) (without_node-first p nodes i sorted.1 first.1))
-
-pub without_node-at : (p : List ℕ) (nodes : List Node) (n : Node) → IsSorted nodes → node_at nodes p ≡ Some n → without_node p nodes ≡ remove nodes (place_of p nodes)
-without_node-at p nodes n sorted found = without_node-first p nodes (place_of p nodes) sorted (IsPlaced-node_at p nodes n sorted found).first
 
 pub without_node-there : (p : List ℕ) (nodes : List Node) (k : ℕ) (n : Node) → IsSorted nodes → slice_get nodes k ≡ Some n → is_at p n ≡ true → without_node p nodes ≡ remove nodes k
 without_node-there p nodes k n sorted is here = without_node-first p nodes k sorted (first-there p nodes k n sorted is here)

@@ -2,7 +2,7 @@
 use Rattle.std.proofs.Common.{◌≡◌, ℕ, zero, suc, ◌+◌, ◌<◌, ◌≤◌, Bool, true, false, cond, List, [], ◌∷◌, ◌++◌, length, take, drop, get_or, map, Some, None, refl, ap, ◌∙◌, subst, arith}
 use Rattle.std.specs.Prelude.{find, slice_get, filter}
 use Rattle.std.specs.List.{AllByRecursion, insert, prefix_len}
-use Rattle.np_shelf.specs.Lists.{IsSplit, changed_at}
+use Rattle.np_shelf.specs.Lists.{IsSplit}
 use Rattle.np_tree.specs.Order.{Rises}
 
 -- ## how many items pass
@@ -26,10 +26,6 @@ pub all-slice_get : {X : Type 0} (P : X → Type 0) (xs : List X) (k : ℕ) (x :
 all-slice_get P [] k x all is = absurd cc
 all-slice_get P (y ∷ xs) zero x all is = let same : y ≡ x = cc in subst P same all.0
 all-slice_get P (y ∷ xs) (suc k) x all is = all-slice_get P xs k x all.1 is
-
-pub all-map : {X Y : Type 0} (P : Y → Type 0) (f : X → Y) (xs : List X) → AllByRecursion (λ x. P (f x)) xs → AllByRecursion P (map f xs)
-all-map P f [] all = tt
-all-map P f (x ∷ xs) all = (all.0, all-map P f xs all.1)
 
 pub all-changed : {X Y : Type 0} (P : X → Type 0) (Q : Y → Type 0) (f : X → Y) (xs : List X) → ((x : X) → P x → Q (f x)) → AllByRecursion P xs → AllByRecursion Q (map f xs)
 all-changed P Q f [] each all = tt
@@ -59,12 +55,6 @@ all-remove P [] (suc i) all = tt
 all-remove P (x ∷ xs) zero all = all.1
 all-remove P (x ∷ xs) (suc i) all = (all.0, all-remove P xs i all.1)
 
-pub all-changed_at : {X : Type 0} (P : X → Type 0) (f : X → X) (i : ℕ) (xs : List X) → ((x : X) → P x → P (f x)) → AllByRecursion P xs → AllByRecursion P (changed_at f i xs)
-all-changed_at P f zero [] each all = tt
-all-changed_at P f (suc i) [] each all = tt
-all-changed_at P f zero (x ∷ xs) each all = (each x all.0, all.1)
-all-changed_at P f (suc i) (x ∷ xs) each all = (all.0, all-changed_at P f i xs each all.1)
-
 -- ## rising lists
 
 module _ {X : Type 0} (before : X → X → Bool) where
@@ -81,20 +71,6 @@ module _ {X : Type 0} (before : X → X → Bool) where
   Rises-remove [] (suc i) rises = tt
   Rises-remove (x ∷ xs) zero rises = rises.1
   Rises-remove (x ∷ xs) (suc i) rises = (all-remove (λ y. before x y ≡ true) xs i rises.0, Rises-remove xs i rises.1)
-
--- the items are changed, and stand as before
-pub Rises-map : {X Y : Type 0} (before : X → X → Bool) (after : Y → Y → Bool) (f : X → Y) (xs : List X) → ((x y : X) → before x y ≡ true → after (f x) (f y) ≡ true) → Rises before xs → Rises after (map f xs)
-Rises-map before after f [] keeps rises = tt
-Rises-map before after f (x ∷ xs) keeps rises =
-    (all-changed (λ y. before x y ≡ true) (λ y. after (f x) y ≡ true) f xs (keeps x) rises.0, Rises-map before after f xs keeps rises.1)
-
-pub Rises-changed_at : {X : Type 0} (before : X → X → Bool) (f : X → X) (i : ℕ) (xs : List X) → ((x y : X) → before x y ≡ true → before x (f y) ≡ true) → ((x y : X) → before x y ≡ true → before (f x) y ≡ true) → Rises before xs → Rises before (changed_at f i xs)
-Rises-changed_at before f zero [] right left rises = tt
-Rises-changed_at before f (suc i) [] right left rises = tt
-Rises-changed_at before f zero (x ∷ xs) right left rises =
-    (all-weaker (λ y. before x y ≡ true) (λ y. before (f x) y ≡ true) xs (left x) rises.0, rises.1)
-Rises-changed_at before f (suc i) (x ∷ xs) right left rises =
-    (all-changed_at (λ y. before x y ≡ true) f i xs (right x) rises.0, Rises-changed_at before f i xs right left rises.1)
 
 -- ## a probe of a rising list
 
