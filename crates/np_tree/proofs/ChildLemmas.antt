@@ -173,9 +173,9 @@ child-by key p n Greater is_key is at = other-half key p n (is_child p n) refl i
 child-by key p n Equal is_key is at =
     same-half-by key p n (parent_of n.path) (name_of n.path) is_key is (exact_bytes _ _ at) refl refl
     ∙ and_true (not (is_le (slice_cmp nat_cmp (name_of n.path) []))) where
-  and_true : (b : Bool) → b ≡ (b && true)
-  and_true true = refl
-  and_true false = refl
+      and_true : (b : Bool) → b ≡ (b && true)
+      and_true true = refl
+      and_true false = refl
 
 IsBetween-child : (key p : List ℕ) (n : Node) → IsKey key p → is_path n.path ≡ true → IsBetween (is_above key) (is_upto key) (is_child p) n
 IsBetween-child key p n is_key is = record { both = above-upto key n; is = child-by key p n (slice_cmp nat_cmp (before_of n.path) key) is_key is refl }

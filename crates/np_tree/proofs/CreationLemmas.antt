@@ -77,16 +77,16 @@ Plans-creation z session name bytes mode spot nodes marks s makes =
     let small = makes.few_nodes in
     let there = makes.spot_is.place in
     let touched_is = changed_at-same (swapped s) (with_child z mode) k nodes parent makes.spot_is.parent.item makes.swap
-      ∙ sym (change_node-there parent.path (with_child z mode) nodes k parent makes.kept.sorted makes.spot_is.parent.item makes.spot_is.parent.at) in
+    ∙ sym (change_node-there parent.path (with_child z mode) nodes k parent makes.kept.sorted makes.spot_is.parent.item makes.spot_is.parent.at) in
     record {
       can = record { touch = makes.spot_is.parent.within; node = (omega arith, omega arith); mark = can-mark (is_ephemeral mode) session path marks makes.few_marks };
       made =
-      ap (λ (ns : List Node). insert ns spot.place new) touched_is
-      ∙ ap (λ (at : ℕ). insert (change_node parent.path (with_child z mode) nodes) at new) there
-      ∙ sym (made-at parent.path (with_child z mode) (λ _. refl) new nodes makes.kept.paths makes.path makes.spot_is.free);
+          ap (λ (ns : List Node). insert ns spot.place new) touched_is
+          ∙ ap (λ (at : ℕ). insert (change_node parent.path (with_child z mode) nodes) at new) there
+          ∙ sym (made-at parent.path (with_child z mode) (λ _. refl) new nodes makes.kept.paths makes.path makes.spot_is.free);
       kept = IsKept-with_node parent.path (with_child z mode) (λ _. refl) (λ _. refl) new parent.path nodes (stepped (mark_step mode session path marks) marks)
-      (stands (is_ephemeral mode) new session parent.path nodes marks refl makes.path makes.spot_is.free makes.parent makes.spot_is.room)
-      (kept-marks (is_ephemeral mode) session path nodes marks makes.kept);
+          (stands (is_ephemeral mode) new session parent.path nodes marks refl makes.path makes.spot_is.free makes.parent makes.spot_is.room)
+          (kept-marks (is_ephemeral mode) session path nodes marks makes.kept);
     }
 
 -- ## the parent's facts

@@ -44,10 +44,10 @@ EndsMore-owned z at k j n parent mark above nodes marks kept mark_there has top 
     let still = slice_get-paths nodes (changed_at (without_child z) k nodes) at n (sym (paths_of-changed_at (without_child z) (λ _. refl) k nodes)) has.there in
     record {
       kept = kept-less at j still.node mark (changed_at (without_child z) k nodes) marks (IsKept-changed_at (without_child z) (λ _. refl) (λ _. refl) k nodes marks kept) mark_there still.there
-      (ap (λ (q : List ℕ). bytes_eq q mark.path) (sym still.path) ∙ has.here);
+          (ap (λ (q : List ℕ). bytes_eq q mark.path) (sym still.path) ∙ has.here);
       ended =
-      ap (ended_nodes z mark.session) (sym (one_less-at z above k at parent nodes kept.sorted parent_there parent_here))
-      ∙ ended_nodes-step z mark.session above at nodes n kept.sorted (record { there = has.there; owned = has.owned; parent = HasOwned-parent mark at nodes n (Some above) has top });
+          ap (ended_nodes z mark.session) (sym (one_less-at z above k at parent nodes kept.sorted parent_there parent_here))
+          ∙ ended_nodes-step z mark.session above at nodes n kept.sorted (record { there = has.there; owned = has.owned; parent = HasOwned-parent mark at nodes n (Some above) has top });
     }
 
 -- the parent is not there

@@ -45,8 +45,8 @@ pub FindsGap-other : (path before name : List ℕ) (nodes : List Node) (k : ℕ)
 FindsGap-other path before name nodes k n gap sorted there differ =
     let at = place path before name nodes k gap in
     let other = bytes_eq-not n.path path (λ same.
-      let halves = both-of _ _ (bytes_eq-from (before_of n.path) before (ap before_of same ∙ gap.half)) (bytes_eq-from (name_of n.path) name (ap name_of same ∙ gap.last)) in
-      cc) in
+    let halves = both-of _ _ (bytes_eq-from (before_of n.path) before (ap before_of same ∙ gap.half)) (bytes_eq-from (name_of n.path) name (ap name_of same ∙ gap.last)) in
+    cc) in
     (node_at-other path nodes n sorted (rw at at there) other, at)
 
 some-node : (nodes : List Node) (path : List ℕ) (n : Node) → node_at nodes path ≡ Some n → is_some (node_at nodes path) ≡ true
@@ -60,5 +60,5 @@ FindsGap-none path before name nodes k n gap paths there agree =
     let halves = both-one _ _ (sym agree) in
     let is_n = all-slice_get (λ m. is_path m.path ≡ true) nodes k n paths there in
     let same = same_halves n.path path (has_slash n.path is_n) (has_slash path gap.is)
-      (bytes_eq-is (before_of n.path) before halves.0 ∙ sym gap.half) (bytes_eq-is (name_of n.path) name halves.1 ∙ sym gap.last) in
+    (bytes_eq-is (before_of n.path) before halves.0 ∙ sym gap.half) (bytes_eq-is (name_of n.path) name halves.1 ∙ sym gap.last) in
     some-node nodes path n (node_at-place path nodes n (rw at at there) (bytes_eq-from n.path path same))

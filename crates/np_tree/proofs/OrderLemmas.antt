@@ -160,5 +160,5 @@ parent-by p q (b ∷ bs) is_p is other same half =
 pub parent-first : (p q : List ℕ) → is_path q ≡ true → parent_of q ≡ Some p → comes_before p q ≡ true
 parent-first p q is above =
     parent-by p q (before_of q) (IsChild-of q p is above).is is (λ same. absurd (root-none (sym (ap parent_of same) ∙ above))) (parent-half p q above) refl where
-  root-none : {x : List ℕ} → parent_of root ≡ Some x → ⊥
-  root-none e = cc
+      root-none : {x : List ℕ} → parent_of root ≡ Some x → ⊥
+      root-none e = cc

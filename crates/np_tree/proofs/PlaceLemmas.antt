@@ -65,8 +65,8 @@ node_at-place p nodes n is here = find-first (is_at p) nodes (place_of p nodes) 
 pub node_at-other : (p : List ℕ) (nodes : List Node) (n : Node) → IsSorted nodes → slice_get nodes (place_of p nodes) ≡ Some n → is_at p n ≡ false → node_at nodes p ≡ None
 node_at-other p nodes n sorted is other =
     find-none (is_at p) nodes (place-absent p nodes sorted (λ m there. let same : n ≡ m = some_node (sym is ∙ there) in ap (is_at p) (sym same) ∙ other)) where
-  some_node : {x y : Node} → Some x ≡ Some y → x ≡ y
-  some_node e = cc
+      some_node : {x y : Node} → Some x ≡ Some y → x ≡ y
+      some_node e = cc
 
 pub node_at-past : (p : List ℕ) (nodes : List Node) → IsSorted nodes → slice_get nodes (place_of p nodes) ≡ None → node_at nodes p ≡ None
 node_at-past p nodes sorted past = find-none (is_at p) nodes (place-absent p nodes sorted (λ m there. absurd (let e : Some m ≡ None = sym there ∙ past in cc)))
@@ -102,7 +102,7 @@ first-there p [] k n sorted is here = absurd cc
 first-there p (m ∷ nodes) zero n sorted is here = let same : m ≡ n = cc in ap (is_at p) same ∙ here
 first-there p (m ∷ nodes) (suc k) n sorted is here = (
   let order : is_before m n ≡ true = all-slice_get (λ x. is_before m x ≡ true) nodes k n sorted.0 is in
-  less-apart p m (subst (λ (q : List ℕ). comes_before m.path q ≡ true) (bytes_eq-is n.path p here) order),
+      less-apart p m (subst (λ (q : List ℕ). comes_before m.path q ≡ true) (bytes_eq-is n.path p here) order),
   first-there p nodes k n sorted.1 is here,
 )
 

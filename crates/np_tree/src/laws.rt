@@ -20,5 +20,4 @@ pub fn worked_rows()
     ensures refused { answers_from 0 with_a 1 three_parts ≡ third_fails }
     ensures done { answers_from 0 with_a 1 two_parts ≡ two_done }
     ensures once { (after_multi with_a 1 two_parts).changes ≡ 3 }
-{
-}
+{}

@@ -16,7 +16,7 @@ pub returns-in_err-before : goal.returns-in_err-before
 returns-in_err-before c =
     let path = c.args.path.now in
     let none : list_any is_slash path ≡ false =
-      rw c.as_bytes.ensures.value at (false_from_ne_true (list_any is_slash c.as_bytes.result.now) (λ any. let this = c.in_err-before.ensures.none.1 any in cc)) in
+    rw c.as_bytes.ensures.value at (false_from_ne_true (list_any is_slash c.as_bytes.result.now) (λ any. let this = c.in_err-before.ensures.none.1 any in cc)) in
     rw c.from_residual.ensures (node_at-no_slash path c.args.nodes.now none c.requires.paths)
 
 pub place-place-requires : goal.place-place-requires

@@ -11,7 +11,7 @@ returns-then-is_err-clause-answer c =
 pub returns-then-is_err-clause-rest : goal.returns-then-is_err-clause-rest
 returns-then-is_err-clause-rest c =
     let does : DoesPart c.loop-index.self c.part.new.self c.args.session c.args.ops.now c.loop-index.index c.index-ops-index.result =
-      record { within = c.loop-index-test.true; is = c.index-ops-index.is; state = c.in-Ok.ensures.ok; kept = c.in-Ok.ensures.kept; began = c.in-Ok.ensures.start } in
+    record { within = c.loop-index-test.true; is = c.index-ops-index.is; state = c.in-Ok.ensures.ok; kept = c.in-Ok.ensures.kept; began = c.in-Ok.ensures.start } in
     let more = SoFar-more c.args.self.now c.loop-index.self c.part.new.self c.args.session c.args.ops.now c.loop-index.index c.index-ops-index.result c.loop-index.done.items c.in-Ok.did c.loop-index.invariant does c.in-Ok.ensures.answer in
     SoFar-rest c.args.self.now c.part.new.self c.part.new.self c.args.session c.args.ops.now (c.loop-index.index + 1) (c.loop-index.done.items ++ c.in-Ok.did ∷ []) more refl
 
@@ -34,7 +34,7 @@ returns-in-Err-NoMemory-clause-rest c =
 pub loop-index-preserved : goal.loop-index-preserved
 loop-index-preserved c =
     let does : DoesPart c.loop-index.self c.part.new.self c.args.session c.args.ops.now c.loop-index.index c.index-ops-index.result =
-      record { within = c.loop-index-test.true; is = c.index-ops-index.is; state = c.in-Ok.ensures.ok; kept = c.in-Ok.ensures.kept; began = c.in-Ok.ensures.start } in
+    record { within = c.loop-index-test.true; is = c.index-ops-index.is; state = c.in-Ok.ensures.ok; kept = c.in-Ok.ensures.kept; began = c.in-Ok.ensures.start } in
     let items : c.push.new.self.items ≡ c.loop-index.done.items ++ c.in-Ok.did ∷ [] = rw c.if-is_err.ensures.negation at c.push.ensures.items in
     rw items (SoFar-more c.args.self.now c.loop-index.self c.part.new.self c.args.session c.args.ops.now c.loop-index.index c.index-ops-index.result c.loop-index.done.items c.in-Ok.did c.loop-index.invariant does c.in-Ok.ensures.answer)
 

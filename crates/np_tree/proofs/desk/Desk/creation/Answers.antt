@@ -23,5 +23,5 @@ returns c =
     let plan = Plans-creation c.args.change c.args.session c.args.name.now c.args.bytes.now c.args.mode c.args.spot nodes marks swap makes in
     let owner : c.then_some.result ≡ (if is_ephemeral c.args.mode then Some c.args.session else None) = (rw c.is_ephemeral.ensures at c.then_some.ensures) ∙ then_some-cond (is_ephemeral c.args.mode) c.args.session in
     let node : c.in_ok-new.field-0 ≡ new_node c.args.change c.args.session made c.args.bytes.now c.args.mode =
-      c.in_ok-new.ensures ∙ new_node-parts c.args.change c.args.session made _ c.args.bytes.now _ c.args.mode c.new.result c.then_some.result (c.path.view_is ∙ c.in_ok-path.ensures) c.in_ok-copy.ensures c.new.ensures owner in
+    c.in_ok-new.ensures ∙ new_node-parts c.args.change c.args.session made _ c.args.bytes.now _ c.args.mode c.new.result c.then_some.result (c.path.view_is ∙ c.in_ok-path.ensures) c.in_ok-copy.ensures c.new.ensures owner in
     rw (node, c.in_ok-mark.ensures) plan

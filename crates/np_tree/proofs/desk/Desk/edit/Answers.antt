@@ -14,5 +14,5 @@ returns-clause-start c =
       nodes = rw (undo, nodes_before-push edits back c.make-back.new.self.nodes, c.make-back.ensures.nodes_back) refl;
       marks = rw (undo, marks_before-push edits back c.make-back.new.self.marks, c.make-back.ensures.marks_back) refl;
       can = λ can. rw undo (CanUndo-push edits back c.make-back.new.self.nodes c.make-back.new.self.marks c.make-back.ensures.can
-        (rw (c.make-back.ensures.nodes_back, c.make-back.ensures.marks_back) can));
+          (rw (c.make-back.ensures.nodes_back, c.make-back.ensures.marks_back) can));
     }
