@@ -1,12 +1,14 @@
+ghost use Rattle.std.specs.Prelude.{◌≡◌, true, IfOk};
+ghost use Rattle.np_tree.specs.Multi.{is_numbered};
+
 use crate::{
     Bytes, Expect, Mode, MultiFault, Op, OpDone, Stat, Tree, TreeFault, TreeRefusal, worked_rows,
 };
-use np_path::Path;
+use np_path::{Path, PathFault};
 use std::alloc::Global;
-use std::process::Abort;
 use std::test::Fail;
 
-// A call of session 1 with no bytes.
+// A call with no bytes.
 #[derive(Clone, Copy, Debug)]
 enum Call {
     Create(&'static str, Mode),
@@ -17,7 +19,7 @@ enum Call {
 }
 
 // What it is answered.
-#[derive(Clone, Copy, Debug)]
+#[derive(Clone, Copy)]
 enum Told {
     Made(&'static str),
     Version(u64),
@@ -25,65 +27,65 @@ enum Told {
     No(TreeRefusal),
 }
 
-fn refused(rt: &impl Abort, fault: TreeFault, told: Told, call: Call) {
-    match (fault, told) {
-        (TreeFault::Refused(refusal), Told::No(want)) => {
-            assert_eq!(rt; refusal, want, "{call:?}");
-        }
-        _ => panic!(rt; "{call:?}: {fault:?}"),
+fn tells_path(answer: Result<Path, TreeFault>, told: Told) -> bool {
+    match answer {
+        Ok(path) => matches!(told, Told::Made(want) if path.text() == want),
+        Err(fault) => tells_fault(fault, told),
     }
 }
 
-fn made(rt: &impl Abort, path: &Path, told: Told, call: Call) {
-    match told {
-        Told::Made(want) => assert_eq!(rt; path.text(), want, "{call:?}"),
-        _ => panic!(rt; "{call:?} is done"),
+fn tells_version(answer: Result<u64, TreeFault>, told: Told) -> bool {
+    match answer {
+        Ok(version) => matches!(told, Told::Version(want) if version == want),
+        Err(fault) => tells_fault(fault, told),
     }
+}
+
+fn tells_done(answer: Result<(), TreeFault>, told: Told) -> bool {
+    match answer {
+        Ok(()) => matches!(told, Told::Done),
+        Err(fault) => tells_fault(fault, told),
+    }
+}
+
+fn tells_fault(fault: TreeFault, told: Told) -> bool {
+    matches!(told, Told::No(want) if fault == TreeFault::Refused(want))
 }
 
 fn tells(
-    rt: &impl Abort,
     alloc: Global,
     tree: &mut Tree,
     session: u32,
     call: Call,
     told: Told,
-) -> Result<(), Fail> {
+) -> Result<bool, PathFault> {
     match call {
         Call::Create(path, mode) => {
-            match tree.create(session, &Path::new(alloc, path)?, b"", mode) {
-                Ok(path) => made(rt, &path, told, call),
-                Err(fault) => refused(rt, fault, told, call),
-            }
+            let path = Path::new(alloc, path)?;
+            let answer = tree.create(session, &path, b"", mode);
+            Ok(tells_path(answer, told))
         }
         Call::CreateUnder(path) => {
-            let parent = Path::new(alloc, path)?;
-            match tree.create_under(session, &parent, b"", Mode::PersistentSequential) {
-                Ok(path) => made(rt, &path, told, call),
-                Err(fault) => refused(rt, fault, told, call),
-            }
+            let path = Path::new(alloc, path)?;
+            let answer = tree.create_under(session, &path, b"", Mode::PersistentSequential);
+            Ok(tells_path(answer, told))
         }
-        Call::Set(path, expect) => match tree.set(session, &Path::new(alloc, path)?, b"", expect) {
-            Ok(version) => {
-                assert!(rt;
-                    matches!(told, Told::Version(want) if want == version),
-                    "{call:?}"
-                );
-            }
-            Err(fault) => refused(rt, fault, told, call),
-        },
+        Call::Set(path, expect) => {
+            let path = Path::new(alloc, path)?;
+            let answer = tree.set(session, &path, b"", expect);
+            Ok(tells_version(answer, told))
+        }
         Call::Delete(path, expect) => {
-            match tree.delete(session, &Path::new(alloc, path)?, expect) {
-                Ok(()) => assert!(rt; matches!(told, Told::Done), "{call:?}"),
-                Err(fault) => refused(rt, fault, told, call),
-            }
+            let path = Path::new(alloc, path)?;
+            let answer = tree.delete(session, &path, expect);
+            Ok(tells_done(answer, told))
         }
-        Call::Check(path, expect) => match tree.check(session, &Path::new(alloc, path)?, expect) {
-            Ok(()) => assert!(rt; matches!(told, Told::Done), "{call:?}"),
-            Err(refusal) => refused(rt, TreeFault::Refused(refusal), told, call),
-        },
+        Call::Check(path, expect) => {
+            let path = Path::new(alloc, path)?;
+            let answer = tree.check(session, &path, expect);
+            Ok(tells_done(answer.map_err(TreeFault::Refused), told))
+        }
     }
-    Ok(())
 }
 
 // The worked row of the tree's calls, up to the raised counter and after it.
@@ -133,37 +135,32 @@ const LATER_CALLS: [(Call, Told); 6] = [
 
 #[test]
 fn tree_calls(rt: HostRuntime) -> Result<(), Fail> {
-    let mut tree = Tree::new(rt.alloc())?;
+    let alloc = rt.alloc();
+    let mut tree = Tree::new(alloc)?;
     for want in [1, 2, 3] {
         assert_eq!(rt; tree.begin_session()?, want);
     }
     for (call, told) in CALLS {
-        tells(&rt, rt.alloc(), &mut tree, 1, call, told)?;
+        assert!(rt; tells(alloc, &mut tree, 1, call, told)?, "{call:?}");
     }
-    let queue = Path::new(rt.alloc(), "/q")?;
+    let queue = Path::new(alloc, "/q")?;
     assert!(rt; tree.raise_counter(&queue, 2_147_483_647), "raised");
     assert!(rt; !tree.raise_counter(&queue, 2_147_483_647), "not lower");
     assert!(rt; !tree.raise_counter(&queue, 2_147_483_649), "too high");
     for (call, told) in LATER_CALLS {
-        tells(&rt, rt.alloc(), &mut tree, 1, call, told)?;
+        assert!(rt; tells(alloc, &mut tree, 1, call, told)?, "{call:?}");
     }
     assert_eq!(rt; tree.counter("/q"), Some(2_147_483_648));
     assert!(rt; tree.end_session(2), "2 was live");
     assert!(rt; tree.exists("/e").is_some(), "1 is live");
     assert!(rt; tree.end_session(1), "1 was live");
-    assert!(rt;
-        tree.exists("/e").is_none() && !tree.is_live(1),
-        "1 is over"
-    );
+    assert!(rt; tree.exists("/e").is_none(), "/e went with it");
+    assert!(rt; !tree.is_live(1), "1 is over");
     assert!(rt; !tree.end_session(1), "1 ended before");
-    tells(
-        &rt,
-        rt.alloc(),
-        &mut tree,
-        1,
-        Call::Set("/a", Expect::Any),
-        Told::No(TreeRefusal::SessionExpired),
-    )
+    let call = Call::Set("/a", Expect::Any);
+    let told = Told::No(TreeRefusal::SessionExpired);
+    assert!(rt; tells(alloc, &mut tree, 1, call, told)?, "{call:?}");
+    Ok(())
 }
 
 // What each call is refused in a tree with `/a`, its child `/a/b`, the ephemeral `/e`, `/m` and `/n`,
@@ -265,30 +262,35 @@ const REFUSALS: [(u32, Call, TreeRefusal); 25] = [
     ),
 ];
 
+const NODES: [&str; 7] = [
+    "/a",
+    "/a/b",
+    "/m",
+    "/m/0000000000",
+    "/n",
+    "/n/t-0000000000",
+    "/q",
+];
+
 #[test]
 fn refusals_by_call(rt: HostRuntime) -> Result<(), Fail> {
-    let mut tree = Tree::new(rt.alloc())?;
-    for want in [1, 2] {
-        assert_eq!(rt; tree.begin_session()?, want);
-    }
+    let alloc = rt.alloc();
+    let mut tree = Tree::new(alloc)?;
+    assert_eq!(rt; tree.begin_session()?, 1);
+    assert_eq!(rt; tree.begin_session()?, 2);
     assert!(rt; tree.end_session(2), "2 was live");
-    for path in [
-        "/a",
-        "/a/b",
-        "/m",
-        "/m/0000000000",
-        "/n",
-        "/n/t-0000000000",
-        "/q",
-    ] {
-        tree.create(1, &Path::new(rt.alloc(), path)?, b"", Mode::Persistent)?;
+    for path in NODES {
+        let path = Path::new(alloc, path)?;
+        tree.create(1, &path, b"", Mode::Persistent)?;
     }
-    tree.create(1, &Path::new(rt.alloc(), "/e")?, b"", Mode::Ephemeral)?;
-    let queue = Path::new(rt.alloc(), "/q")?;
+    let ephemeral = Path::new(alloc, "/e")?;
+    tree.create(1, &ephemeral, b"", Mode::Ephemeral)?;
+    let queue = Path::new(alloc, "/q")?;
     assert!(rt; tree.raise_counter(&queue, 2_147_483_648), "raised");
     let before = tree.changes();
     for (session, call, refusal) in REFUSALS {
-        tells(&rt, rt.alloc(), &mut tree, session, call, Told::No(refusal))?;
+        let told = Told::No(refusal);
+        assert!(rt; tells(alloc, &mut tree, session, call, told)?, "{call:?}");
     }
     assert_eq!(rt; tree.changes(), before);
     Ok(())
@@ -318,55 +320,95 @@ fn large_bytes_are_refused(rt: HostRuntime) -> Result<(), Fail> {
     Ok(())
 }
 
-fn no_bytes(alloc: Global) -> Bytes {
-    Bytes::new(Vec::new(alloc))
+fn created(alloc: Global, path: &str) -> Result<Op, PathFault>
+    ensures { IfOk result (λ part. is_numbered part ≡ true) }
+{
+    Ok(Op::Create {
+        path: Path::new(alloc, path)?,
+        bytes: Bytes::new(Vec::new(alloc)),
+        mode: Mode::Persistent,
+    })
+}
+
+fn numbered(alloc: Global, parent: &str) -> Result<Op, PathFault>
+    ensures { IfOk result (λ part. is_numbered part ≡ true) }
+{
+    Ok(Op::CreateUnder {
+        parent: Path::new(alloc, parent)?,
+        bytes: Bytes::new(Vec::new(alloc)),
+        mode: Mode::EphemeralSequential,
+    })
+}
+
+fn replaced(alloc: Global, path: &str) -> Result<Op, PathFault>
+    ensures { IfOk result (λ part. is_numbered part ≡ true) }
+{
+    Ok(Op::Set {
+        path: Path::new(alloc, path)?,
+        bytes: Bytes::new(Vec::new(alloc)),
+        expect: Expect::Exactly(0),
+    })
+}
+
+fn deleted(alloc: Global, path: &str) -> Result<Op, PathFault>
+    ensures { IfOk result (λ part. is_numbered part ≡ true) }
+{
+    Ok(Op::Delete {
+        path: Path::new(alloc, path)?,
+        expect: Expect::Any,
+    })
+}
+
+fn checked(alloc: Global, path: &str, version: u64) -> Result<Op, PathFault>
+    ensures { IfOk result (λ part. is_numbered part ≡ true) }
+{
+    Ok(Op::Check {
+        path: Path::new(alloc, path)?,
+        expect: Expect::Exactly(version),
+    })
+}
+
+fn stops_at(answer: Result<Vec<OpDone>, MultiFault>, index: u32, refusal: TreeRefusal) -> bool {
+    match answer {
+        Ok(_) => false,
+        Err(fault) => fault == MultiFault::Refused { index, refusal },
+    }
+}
+
+// Whether a check and a create of the path were done.
+fn made_second(done: &[OpDone], want: &str) -> bool {
+    match done {
+        [OpDone::Checked, OpDone::Created(path)] => path.text() == want,
+        _ => false,
+    }
 }
 
 // The worked row of `multi`: a new tree with `/a` set once.
 #[test]
 fn parts_are_all_done_or_none(rt: HostRuntime) -> Result<(), Fail> {
-    let mut tree = Tree::new(rt.alloc())?;
+    let alloc = rt.alloc();
+    let mut tree = Tree::new(alloc)?;
     assert_eq!(rt; tree.begin_session()?, 1);
-    let path = Path::new(rt.alloc(), "/a")?;
+    let path = Path::new(alloc, "/a")?;
     tree.create(1, &path, b"", Mode::Persistent)?;
     tree.set(1, &path, b"x", Expect::Any)?;
 
-    let parts = [
-        Op::Check {
-            path: Path::new(rt.alloc(), "/a")?,
-            expect: Expect::Exactly(1),
-        },
-        Op::Create {
-            path: Path::new(rt.alloc(), "/c")?,
-            bytes: no_bytes(rt.alloc()),
-            mode: Mode::Persistent,
-        },
-        Op::Delete {
-            path: Path::new(rt.alloc(), "/zz")?,
-            expect: Expect::Any,
-        },
+    let three = [
+        checked(alloc, "/a", 1)?,
+        created(alloc, "/c")?,
+        deleted(alloc, "/zz")?,
     ];
-    match tree.multi(1, &parts) {
-        Err(fault) => assert_eq!(rt;
-            fault,
-            MultiFault::Refused {
-                index: 2,
-                refusal: TreeRefusal::NoNode
-            }
-        ),
-        Ok(_) => panic!(rt; "/zz isn't there"),
-    }
+    let answer = tree.multi(1, &three);
+    assert!(rt; stops_at(answer, 2, TreeRefusal::NoNode), "/zz isn't there");
     assert!(rt; tree.exists("/c").is_none(), "nothing was done");
     assert_eq!(rt; tree.changes(), 2);
 
-    let [check, create, _] = parts;
-    match tree.multi(1, &[check, create]) {
-        Err(fault) => panic!(rt; "{fault:?}"),
-        Ok(done) => match done.as_slice() {
-            [OpDone::Checked, OpDone::Created(path)] => assert_eq!(rt; path.text(), "/c"),
-            _ => panic!(rt; "a check and a create"),
-        },
-    }
+    let two = [checked(alloc, "/a", 1)?, created(alloc, "/c")?];
+    let done = tree.multi(1, &two);
+    assert!(rt;
+        done.is_ok_and(|done| made_second(&done, "/c")),
+        "both are done"
+    );
     assert_eq!(rt; tree.changes(), 3);
     Ok(())
 }
@@ -389,89 +431,86 @@ const EPHEMERAL: Stat = Stat {
     children: 0,
 };
 
-// Each kind of part, of which the last fails, and then each of them without it.
+const A_LATER: Stat = Stat {
+    czxid: 1,
+    mzxid: 3,
+    pzxid: 4,
+    version: 1,
+    owner: None,
+    children: 0,
+};
+
+// Each kind of part, with a last one that fails and then without it.
 #[test]
 fn parts_are_taken_back(rt: HostRuntime) -> Result<(), Fail> {
-    let mut tree = Tree::new(rt.alloc())?;
+    let alloc = rt.alloc();
+    let mut tree = Tree::new(alloc)?;
     assert_eq!(rt; tree.begin_session()?, 1);
-    tree.create(1, &Path::new(rt.alloc(), "/a")?, b"old", Mode::Persistent)?;
-    tree.create(1, &Path::new(rt.alloc(), "/a/e")?, b"", Mode::Ephemeral)?;
-    let parts = [
-        Op::Delete {
-            path: Path::new(rt.alloc(), "/a/e")?,
-            expect: Expect::Any,
-        },
-        Op::CreateUnder {
-            parent: Path::new(rt.alloc(), "/a")?,
-            bytes: no_bytes(rt.alloc()),
-            mode: Mode::EphemeralSequential,
-        },
-        Op::Set {
-            path: Path::new(rt.alloc(), "/a")?,
-            bytes: no_bytes(rt.alloc()),
-            expect: Expect::Exactly(0),
-        },
-        Op::Check {
-            path: Path::new(rt.alloc(), "/a")?,
-            expect: Expect::Exactly(0),
-        },
+    let parent = Path::new(alloc, "/a")?;
+    tree.create(1, &parent, b"old", Mode::Persistent)?;
+    let child = Path::new(alloc, "/a/e")?;
+    tree.create(1, &child, b"", Mode::Ephemeral)?;
+    let four = [
+        deleted(alloc, "/a/e")?,
+        numbered(alloc, "/a")?,
+        replaced(alloc, "/a")?,
+        checked(alloc, "/a", 0)?,
     ];
+    let answer = tree.multi(1, &four);
     assert!(rt;
-        matches!(
-            tree.multi(1, &parts),
-            Err(MultiFault::Refused {
-                index: 3,
-                refusal: TreeRefusal::BadVersion { kept: 1 }
-            })
-        )
+        stops_at(answer, 3, TreeRefusal::BadVersion { kept: 1 }),
+        "the last"
     );
-    assert!(rt; tree.get("/a") == Some((b"old".as_slice(), A)));
+    assert!(rt; tree.get("/a") == Some((b"old".as_slice(), A)), "/a");
     assert_eq!(rt; tree.counter("/a"), Some(0));
     assert_eq!(rt; tree.exists("/a/e"), Some(EPHEMERAL));
     assert_eq!(rt; tree.changes(), 2);
 
-    let [delete, create, set, _] = parts;
-    let done = tree.multi(1, &[delete, create, set]);
+    let three = [
+        deleted(alloc, "/a/e")?,
+        numbered(alloc, "/a")?,
+        replaced(alloc, "/a")?,
+    ];
+    let done = tree.multi(1, &three);
     assert!(rt; done.is_ok(), "all are done");
-    assert_eq!(rt; tree.changes(), 3);
     assert_eq!(rt; tree.counter("/a"), Some(1));
     assert!(rt; tree.end_session(1), "1 was live");
-    let after = Stat {
-        mzxid: 3,
-        pzxid: 4,
-        version: 1,
-        children: 0,
-        ..A
-    };
-    assert_eq!(rt; tree.exists("/a"), Some(after));
+    assert_eq!(rt; tree.exists("/a"), Some(A_LATER));
     Ok(())
 }
 
-// The children of `/a` in byte order, and of `/`, which are not those of other nodes.
+const PARENTS: [&str; 6] = ["/a", "/a-", "/a/c", "/a/B", "/a/c/d", "/a/c-"];
+
+// Paths, places, and the names of the children there.
+const CHILDREN: [(&str, u32, Option<&str>); 12] = [
+    ("/a", 0, Some("B")),
+    ("/a", 1, Some("c")),
+    ("/a", 2, Some("c-")),
+    ("/a", 3, None),
+    ("/", 0, Some("a")),
+    ("/", 1, Some("a-")),
+    ("/", 2, None),
+    ("/a/c", 0, Some("d")),
+    ("", 0, None),
+    ("//", 0, None),
+    ("/a/", 0, None),
+    ("/zz", 0, None),
+];
+
 #[test]
 fn children_stand_in_byte_order(rt: HostRuntime) -> Result<(), Fail> {
-    let mut tree = Tree::new(rt.alloc())?;
+    let alloc = rt.alloc();
+    let mut tree = Tree::new(alloc)?;
     assert_eq!(rt; tree.begin_session()?, 1);
-    for path in ["/a", "/b", "/a/c", "/a/B", "/a/c/d", "/a-", "/a/c-"] {
-        tree.create(1, &Path::new(rt.alloc(), path)?, b"", Mode::Persistent)?;
+    for path in PARENTS {
+        let path = Path::new(alloc, path)?;
+        tree.create(1, &path, b"", Mode::Persistent)?;
     }
-    for (path, names) in [
-        ("/a", ["B", "c", "c-"].as_slice()),
-        ("/", ["a", "a-", "b"].as_slice()),
-        ("/a/c", ["d"].as_slice()),
-        ("", [].as_slice()),
-        ("//", [].as_slice()),
-        ("/a/", [].as_slice()),
-        ("/zz", [].as_slice()),
-    ] {
-        let mut at = 0;
-        for name in names {
-            assert!(rt; tree.child_at(path, at) == Some(*name), "{name} of {path}");
-            assert!(rt; tree.child_stat(path, at).is_some(), "{name} of {path}");
-            at = at.saturating_add(1);
-        }
-        assert!(rt; tree.child_at(path, at).is_none(), "{path}");
-        assert!(rt; tree.child_stat(path, at).is_none(), "{path}");
+    let tree = &tree;
+    for (path, at, want) in CHILDREN {
+        assert!(rt; tree.child_at(path, at) == want, "{at} of {path}");
+        let stat = tree.child_stat(path, at);
+        assert!(rt; stat.is_some() == want.is_some(), "{at} of {path}");
     }
     Ok(())
 }
