@@ -33,13 +33,13 @@ abbrev pub new_node : ℕ → ℕ → List ℕ → List ℕ → Mode → Node
 new_node z session path bytes mode = record {
   path = path;
   bytes = bytes;
-  facts = record { version = 0; czxid = z; mzxid = z; pzxid = z; owner = if is_ephemeral mode then Some session else None; counter = 0 }
+  facts = record { version = 0; czxid = z; mzxid = z; pzxid = z; owner = if is_ephemeral mode then Some session else None; counter = 0 };
 }
 
 -- the child is there, and its parent knows
 abbrev pub with_made : State → ℕ → List ℕ → List ℕ → List ℕ → Mode → Node → State
 with_made t session above name bytes mode parent = record t {
-  nodes = with_node (new_node (next_change t) session (made_path parent name mode) bytes mode) (change_node above (with_child (next_change t) mode) t.nodes)
+  nodes = with_node (new_node (next_change t) session (made_path parent name mode) bytes mode) (change_node above (with_child (next_change t) mode) t.nodes);
 }
 
 abbrev pub created_under : State → ℕ → List ℕ → List ℕ → List ℕ → Mode → State
@@ -71,7 +71,7 @@ abbrev pub ended : State → ℕ → State
 ended t session = record t {
   nodes = map (left_by t.nodes (next_change t) session) (filter (λ n. not (is_owned session n)) t.nodes);
   live = without t.live session;
-  changes = next_change t
+  changes = next_change t;
 }
 
 -- the change took its number

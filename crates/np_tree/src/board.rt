@@ -55,7 +55,9 @@ impl Board {
         let spot = self.judge_child(above, name, bytes, mode)?;
         let path = child_path(spot.parent.node, name, mode)?;
         let change = self.next_change();
-        let edit = self.desk.creation(change, session, spot, name, bytes, mode)?;
+        let edit = self
+            .desk
+            .creation(change, session, spot, name, bytes, mode)?;
         self.desk.edit(edit)?;
         Ok(path)
     }

@@ -62,7 +62,10 @@ impl Probe<Node> for FirstChild<'_> {
 
     fn is_before(&self, item: &Node) -> bool {
         let (before, name) = item.path.halves();
-        before.cmp(self.before).then(name.cmp(b"".as_slice())).is_le()
+        before
+            .cmp(self.before)
+            .then(name.cmp(b"".as_slice()))
+            .is_le()
     }
 }
 

@@ -51,8 +51,8 @@ impl Board {
         requires name { MakesName name.now mode }
         ensures { MatchResult result
             (λ spot. IsSpot self.now.desk.nodes spot.parent.node.now.path name.now mode spot
-                × (spot.parent.node.now.path ≡ above.now)
-                × (judge_child (state_of self.now) above.now name.now bytes.now mode ≡ Ok (made_path spot.parent.node.now name.now mode)))
+            × (spot.parent.node.now.path ≡ above.now)
+            × (judge_child (state_of self.now) above.now name.now bytes.now mode ≡ Ok (made_path spot.parent.node.now name.now mode)))
             (λ refusal. judge_child (state_of self.now) above.now name.now bytes.now mode ≡ Err refusal) }
     {
         let Some(parent) = find(&self.desk.nodes, above) else {
@@ -88,8 +88,8 @@ impl Board {
         requires { IsKept self.now.desk.nodes self.now.desk.marks }
         ensures { MatchResult result
             (λ told. IsPlace self.now.desk.nodes path.now told.0.place told.0.node.now
-                × (told.1 ≡ told.0.node.now.facts.version + 1)
-                × (judge_set (state_of self.now) session path.now bytes.now expect ≡ Ok told.1))
+            × (told.1 ≡ told.0.node.now.facts.version + 1)
+            × (judge_set (state_of self.now) session path.now bytes.now expect ≡ Ok told.1))
             (λ refusal. judge_set (state_of self.now) session path.now bytes.now expect ≡ Err refusal) }
     {
         if !self.sessions.is_live(session) {
@@ -124,7 +124,7 @@ impl Board {
         requires { IsKept self.now.desk.nodes self.now.desk.marks }
         ensures { MatchResult result
             (λ found. IsPlace self.now.desk.nodes path.now found.place found.node.now
-                × (judge_delete (state_of self.now) session path.now expect ≡ Ok tt))
+            × (judge_delete (state_of self.now) session path.now expect ≡ Ok tt))
             (λ refusal. judge_delete (state_of self.now) session path.now expect ≡ Err refusal) }
     {
         if !self.sessions.is_live(session) {
@@ -156,7 +156,7 @@ impl Board {
         ensures { MatchOption result
             (may_raise (state_of self.now) path.now to ≡ false)
             (λ found. IsPlace self.now.desk.nodes path.now found.place found.node.now
-                × (may_raise (state_of self.now) path.now to ≡ true)) }
+            × (may_raise (state_of self.now) path.now to ≡ true)) }
     {
         let found = find(&self.desk.nodes, path)?;
         if to > COUNTER_END || found.node.facts.counter >= to {

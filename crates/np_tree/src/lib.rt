@@ -18,6 +18,8 @@ mod read;
 mod refusal;
 mod release;
 mod step;
+#[cfg(test)]
+mod tests;
 mod tree;
 
 pub use bytes::Bytes;

@@ -64,12 +64,7 @@ impl Board {
     }
 
     /// The parts in turn, up to one that stops them.
-    fn parts(
-        &mut self,
-        session: u32,
-        ops: &[Op],
-        done: &mut Vec<OpDone>,
-    ) -> Result<(), MultiFault>
+    fn parts(&mut self, session: u32, ops: &[Op], done: &mut Vec<OpDone>) -> Result<(), MultiFault>
         requires kept { IsKept self.old.desk.nodes self.old.desk.marks }
         requires few { length ops.now ≤ 4294967295 }
         requires numbered { list_all is_numbered ops.now ≡ true }

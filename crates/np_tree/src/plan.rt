@@ -57,10 +57,7 @@ fn put_mark(
         session,
         path: path.text().as_bytes(),
     });
-    Ok(Step::Put(
-        place,
-        Piece::new(alloc, Mark { session, path })?,
-    ))
+    Ok(Step::Put(place, Piece::new(alloc, Mark { session, path })?))
 }
 
 /// The step of the marks for a new child.
