@@ -23,8 +23,7 @@ pub fn worked_rows()
     ensures refused { answers_from 0 with_a 1 three_parts ≡ third_fails }
     ensures done { answers_from 0 with_a 1 two_parts ≡ two_done }
     ensures once { (after_multi with_a 1 two_parts).changes ≡ 3 }
-{
-}
+{}
 
 /// In each tree that calls can make the root stands, and each other node below a node that no session
 /// owns: so no node is without its parent, and no ephemeral node has a child.
@@ -34,13 +33,11 @@ pub fn calls_keep_the_tree_whole()
     ensures multi { CallsKeepWhole }
     ensures end { EndsKeepWhole }
     ensures raise { RaisesKeepWhole }
-{
-}
+{}
 
 /// In the order of nodes each comes after its parent, and the children of a node stand in byte order
 /// of their names.
 pub fn nodes_stand_in_order()
     ensures parents { ParentsComeFirst }
     ensures children { ChildrenByName }
-{
-}
+{}
