@@ -14,6 +14,7 @@ mod path;
 #[cfg(test)]
 mod tests;
 
+pub use digits::ten_digits;
 pub use fault::PathFault;
 pub use laws::{
     children_have_their_parts, paths_are_their_parts, paths_have_no_fault, texts_are_their_halves,

@@ -1,0 +1,258 @@
+//! The tree.
+
+ghost use Rattle.std.specs.Prelude.{◌≡◌, ◌<◌, ◌≤◌, ◌+◌, [], true, length, IfOk, MatchResult, OnOk, OnErr};
+ghost use Rattle.std.specs.Bool.{OnTrue, OnFalse};
+ghost use Rattle.std.specs.List.{list_all};
+ghost use Rattle.std.specs.Option.{option_copied, option_map};
+ghost use Rattle.np_session.specs.Known.{is_in};
+ghost use Rattle.np_tree.specs.Boards.{Answers};
+ghost use Rattle.np_tree.specs.Calls.{BeginsSession, begun_more, may_raise, raised, with_room};
+ghost use Rattle.np_tree.specs.Effect.{counted, created, created_under, deleted, ended, replaced};
+ghost use Rattle.np_tree.specs.Judge.{judge_check, judge_create, judge_create_under, judge_delete, judge_set};
+ghost use Rattle.np_tree.specs.Kept.{IsTree};
+ghost use Rattle.np_tree.specs.Multi.{Stops, after_multi, answers_from, is_numbered};
+ghost use Rattle.np_tree.specs.Read.{bytes_at, child_name, counter_at, stat_at, stat_of_child};
+ghost use Rattle.np_tree.specs.State.{new_tree};
+ghost use Rattle.np_tree.specs.Tests.{is_sequential};
+
+use crate::board::Board;
+use crate::bytes::Bytes;
+use crate::desk::Desk;
+use crate::kind::{Expect, Mode, Stat};
+use crate::node::{Facts, Node};
+use crate::op::{Op, OpDone};
+use crate::refusal::{MultiFault, TreeFault, TreeRefusal};
+use np_path::Path;
+use np_session::{SessionFault, Sessions};
+use np_shelf::{Piece, Shelf};
+use np_text::NoMemory;
+use std::alloc::Global;
+use std::marker::Model;
+
+/// The coordination tree. A path is found in the logarithm of the number of nodes, and no call
+/// copies a node's bytes or the tree.
+#[derive(Drop)]
+pub struct Tree {
+    board: Board,
+}
+
+impl Model for Tree {
+    ghost use Rattle.np_tree.specs.State.{State};
+
+    ghost Value = { State };
+
+    ghost use Rattle.np_tree.specs.Boards.{state_of};
+    ghost use Rattle.np_tree.specs.Kept.{IsKept};
+
+    ghost view = { λ t. state_of t.board };
+
+    ghost invariant = { λ t. IsKept t.board.desk.nodes t.board.desk.marks };
+}
+
+impl Tree {
+    /// The root alone, with change number 0.
+    pub fn new(alloc: Global) -> Result<Tree, NoMemory>
+        ensures { IfOk result (λ tree. with_room tree 0 ≡ new_tree) }
+    {
+        let root = Node {
+            path: Path::new(alloc, "/").map_err(|_| NoMemory)?,
+            bytes: Bytes::new(Vec::new(alloc)),
+            facts: Facts::new(0, None),
+        };
+        let mut nodes = Shelf::new();
+        nodes.insert(0, Piece::new(alloc, root)?);
+        let desk = Desk {
+            nodes,
+            marks: Shelf::new(),
+            undo: Vec::new(alloc),
+        };
+        Ok(Tree {
+            board: Board {
+                desk,
+                sessions: Sessions::new(alloc),
+                changes: 0,
+            },
+        })
+    }
+
+    /// Takes the memory that the next `begin_session` needs.
+    pub fn reserve_session(&mut self) -> Result<(), NoMemory>
+        ensures ok { OnOk result (0 < self.new.spare) }
+        ensures same { self.new ≡ with_room self.old self.new.spare }
+        ensures err { OnErr result (self.new ≡ self.old) }
+    {
+        self.board.sessions.reserve().map_err(|_| NoMemory)
+    }
+
+    /// Begins the next session, and answers its number.
+    pub fn begin_session(&mut self) -> Result<u32, SessionFault>
+        ensures answer { BeginsSession self.old result }
+        ensures ok { OnOk result (self.new ≡ with_room (begun_more self.old) self.new.spare) }
+        ensures spare { self.old.spare ≤ self.new.spare + 1 }
+        ensures err { OnErr result (self.new ≡ self.old) }
+    {
+        self.board.sessions.begin()
+    }
+
+    /// Ends the session and removes its ephemeral nodes in one change, and answers whether it was
+    /// live. Takes no memory.
+    pub fn end_session(&mut self, session: u32) -> bool
+        ensures answer { result ≡ is_in self.old.live session }
+        ensures yes { OnTrue result (self.new ≡ ended self.old session) }
+        ensures no { OnFalse result (self.new ≡ self.old) }
+    {
+        self.board.end(session)
+    }
+
+    /// Whether the session is live.
+    pub fn is_live(&self, session: u32) -> bool
+        ensures { result ≡ is_in self.now.live session }
+    {
+        self.board.sessions.is_live(session)
+    }
+
+    /// The number of the last change.
+    pub fn changes(&self) -> u64
+        ensures number { result ≡ self.now.changes }
+        ensures tree { IsTree self.now }
+    {
+        self.board.changes
+    }
+
+    /// Creates a node, and answers its path. In a sequential mode the parent's counter is appended
+    /// to the name, and raised (ZooKeeper's `create`).
+    pub fn create(
+        &mut self,
+        session: u32,
+        path: &Path,
+        bytes: &[u8],
+        mode: Mode,
+    ) -> Result<Path, TreeFault>
+        ensures answer { Answers result (judge_create self.old session path.now bytes.now mode) }
+        ensures ok { OnOk result (self.new ≡ counted (created self.old session path.now bytes.now mode)) }
+        ensures err { OnErr result (self.new ≡ self.old) }
+    {
+        let made = self.board.create(session, path, bytes, mode)?;
+        self.board.settle();
+        Ok(made)
+    }
+
+    /// Creates a sequence node whose name is the parent's counter alone.
+    pub fn create_under(
+        &mut self,
+        session: u32,
+        parent: &Path,
+        bytes: &[u8],
+        mode: Mode,
+    ) -> Result<Path, TreeFault>
+        requires { is_sequential mode ≡ true }
+        ensures answer { Answers result (judge_create_under self.old session parent.now bytes.now mode) }
+        ensures ok { OnOk result (self.new ≡ counted (created_under self.old session parent.now [] bytes.now mode)) }
+        ensures err { OnErr result (self.new ≡ self.old) }
+    {
+        let made = self.board.create_under(session, parent, bytes, mode)?;
+        self.board.settle();
+        Ok(made)
+    }
+
+    /// Replaces a node's bytes, and answers its new version (ZooKeeper's `setData`).
+    pub fn set(
+        &mut self,
+        session: u32,
+        path: &Path,
+        bytes: &[u8],
+        expect: Expect,
+    ) -> Result<u64, TreeFault>
+        ensures answer { Answers result (judge_set self.old session path.now bytes.now expect) }
+        ensures ok { OnOk result (self.new ≡ counted (replaced self.old path.now bytes.now)) }
+        ensures err { OnErr result (self.new ≡ self.old) }
+    {
+        let version = self.board.set(session, path, bytes, expect)?;
+        self.board.settle();
+        Ok(version)
+    }
+
+    /// Deletes a node without children.
+    pub fn delete(&mut self, session: u32, path: &Path, expect: Expect) -> Result<(), TreeFault>
+        ensures answer { Answers result (judge_delete self.old session path.now expect) }
+        ensures ok { OnOk result (self.new ≡ counted (deleted self.old path.now)) }
+        ensures err { OnErr result (self.new ≡ self.old) }
+    {
+        self.board.delete(session, path, expect)?;
+        self.board.settle();
+        Ok(())
+    }
+
+    /// Whether a node has the expected version. Takes no memory.
+    pub fn check(&self, session: u32, path: &Path, expect: Expect) -> Result<(), TreeRefusal>
+        ensures { result ≡ judge_check self.now session path.now expect }
+    {
+        self.board.check(session, path.text(), expect)
+    }
+
+    /// Makes all parts in order, under one change number, or none. Parts that are all checks take no
+    /// number. What a part that stops the others left is undone in the work that it was (client API:
+    /// `multi`).
+    pub fn multi(&mut self, session: u32, ops: &[Op]) -> Result<Vec<OpDone>, MultiFault>
+        requires few { length ops.now ≤ 4294967295 }
+        requires numbered { list_all is_numbered ops.now ≡ true }
+        ensures answer { MatchResult result
+            (λ done. answers_from 0 self.old session ops.now ≡ Ok done.items)
+            (Stops self.old session ops.now) }
+        ensures ok { OnOk result (self.new ≡ after_multi self.old session ops.now) }
+        ensures err { OnErr result (self.new ≡ self.old) }
+    {
+        self.board.multi(session, ops)
+    }
+
+    /// Raises a node's sequence counter, where it is lower and the number is at most 2,147,483,648,
+    /// and answers whether it did. Takes no memory.
+    pub fn raise_counter(&mut self, path: &Path, to: u32) -> bool
+        ensures answer { result ≡ may_raise self.old path.now to }
+        ensures yes { OnTrue result (self.new ≡ raised self.old path.now to) }
+        ensures no { OnFalse result (self.new ≡ self.old) }
+    {
+        self.board.raise_counter(path.text(), to)
+    }
+
+    /// The bytes and the stat of the node at a path. The readers take no memory, and need no path.
+    pub fn get(&self, path: &str) -> Option<(&[u8], Stat)>
+        ensures bytes { option_map (λ told. told.0.now) result ≡ bytes_at self.now path.now }
+        ensures stat { option_map (λ told. told.1) result ≡ stat_at self.now path.now }
+    {
+        let node = self.board.node(path)?;
+        Some((node.bytes.items(), self.board.stat(node)))
+    }
+
+    /// The stat of the node at a path.
+    pub fn exists(&self, path: &str) -> Option<Stat>
+        ensures { result ≡ stat_at self.now path.now }
+    {
+        let node = self.board.node(path)?;
+        Some(self.board.stat(node))
+    }
+
+    /// The next number that the node at a path gives out to a sequence node.
+    pub fn counter(&self, path: &str) -> Option<u32>
+        ensures { result ≡ counter_at self.now path.now }
+    {
+        let node = self.board.node(path)?;
+        Some(node.facts.counter)
+    }
+
+    /// The name of the child at a place, in byte order.
+    pub fn child_at(&self, path: &str, at: u32) -> Option<&str>
+        ensures { option_copied result ≡ child_name self.now path.now at }
+    {
+        let node = self.board.child(path, at)?;
+        Some(node.path.name())
+    }
+
+    /// The stat of that child.
+    pub fn child_stat(&self, path: &str, at: u32) -> Option<Stat>
+        ensures { result ≡ stat_of_child self.now path.now at }
+    {
+        let node = self.board.child(path, at)?;
+        Some(self.board.stat(node))
+    }
+}
