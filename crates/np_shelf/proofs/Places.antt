@@ -2,6 +2,9 @@ use Rattle.std.proofs.Common.{◌≡◌, ℕ, ◌+◌, ◌-◌, ◌<◌, ◌≤�
 use Rattle.std.proofs.lemmas.List.Edits.{insert-append_left, insert-append_right, remove-append_left, remove-append_right}
 use Rattle.np_shelf.specs.Lists.{changed_at}
 
+-- Edits of a list round the item in the middle, `left ++ item ∷ right`, are edits of one side.
+-- A place past the middle is given with the place on the right, `below`, that it is.
+
 -- an item put in before the item in the middle
 pub insert-left : {T : Type 0} (left right : List T) (item new : T) (place : ℕ) → place ≤ length left → insert left place new ++ item ∷ right ≡ insert (left ++ item ∷ right) place new
 insert-left left right item new place within = sym (insert-append_left left (item ∷ right) place new within)
@@ -13,10 +16,11 @@ insert-right left right item new place below past =
     let all = insert-append_right left (item ∷ right) (length left) place new refl (omega arith) in
     sym (rw there at all)
 
--- the item before the middle taken out
+-- an item before it taken out
 pub remove-left : {T : Type 0} (left right : List T) (item : T) (place : ℕ) → place < length left → remove left place ++ item ∷ right ≡ remove (left ++ item ∷ right) place
 remove-left left right item place within = sym (remove-append_left left (item ∷ right) place within)
 
+-- an item after it taken out
 pub remove-right : {T : Type 0} (left right : List T) (item : T) (place below : ℕ) → place ≡ length left + suc below → left ++ item ∷ remove right below ≡ remove (left ++ item ∷ right) place
 remove-right left right item place below past =
     let there : place - length left ≡ suc below = omega (arith, past) in
@@ -28,7 +32,7 @@ pub remove-middle : {T : Type 0} (left right : List T) (item : T) (place : ℕ) 
 remove-middle [] right item place there = rw there refl
 remove-middle (x ∷ left) right item place there = rw there (ap (λ rest. x ∷ rest) (remove-middle left right item (length left) refl))
 
--- the items by place
+-- the item at a place on the left, in the middle, on the right
 pub slice_get-left : {T : Type 0} (left right : List T) (item : T) (place : ℕ) → place < length left → slice_get (left ++ item ∷ right) place ≡ slice_get left place
 slice_get-left [] right item place within = absurd (omega arith)
 slice_get-left (x ∷ left) right item zero within = refl
@@ -43,7 +47,7 @@ slice_get-right [] right item place below past = let there : place ≡ suc below
 slice_get-right (x ∷ left) right item zero below past = absurd (omega arith)
 slice_get-right (x ∷ left) right item (suc place) below past = slice_get-right left right item place below (omega arith)
 
--- an item changed
+-- an item changed on the left, in the middle, on the right
 pub changed_at-left : {T : Type 0} (f : T → T) (left right : List T) (item : T) (place : ℕ) → place < length left → changed_at f place left ++ item ∷ right ≡ changed_at f place (left ++ item ∷ right)
 changed_at-left f [] right item place within = absurd (omega arith)
 changed_at-left f (x ∷ left) right item zero within = refl
@@ -58,6 +62,7 @@ changed_at-right f [] right item place below past = let there : place ≡ suc be
 changed_at-right f (x ∷ left) right item zero below past = absurd (omega arith)
 changed_at-right f (x ∷ left) right item (suc place) below past = ap (λ rest. x ∷ rest) (changed_at-right f left right item place below (omega arith))
 
+-- a change keeps the length
 pub length-changed_at : {T : Type 0} (f : T → T) (place : ℕ) (items : List T) → length (changed_at f place items) ≡ length items
 length-changed_at f place [] = refl
 length-changed_at f zero (x ∷ items) = refl

@@ -7,12 +7,15 @@ use Rattle.std.proofs.lemmas.List.Folds.{prefix_len-append}
 use Rattle.std.proofs.lemmas.List.Sums.{prefix_len-le-length}
 use Rattle.np_shelf.specs.Lists.{IsSplit}
 
+-- where an item of the front fails, what comes behind does not matter
 prefix_len-append_short : {T : Type 0} (p : T → Bool) (left rest : List T) → prefix_len p left < length left → prefix_len p (left ++ rest) ≡ prefix_len p left
 prefix_len-append_short p left rest short = let all = prefix_len-append p left rest in grind (arith, nat_tests)
 
+-- where the whole front passes, what comes behind is counted too
 prefix_len-append_whole : {T : Type 0} (p : T → Bool) (left rest : List T) → prefix_len p left ≡ length left → prefix_len p (left ++ rest) ≡ length left + prefix_len p rest
 prefix_len-append_whole p left rest whole = let all = prefix_len-append p left rest in grind (arith, nat_tests)
 
+-- the item in the middle stands where the left side ends
 at-middle : {T : Type 0} (left right : List T) (item : T) → get_or (left ++ item ∷ right) (length left) item ≡ item
 at-middle [] right item = refl
 at-middle (x ∷ left) right item = at-middle left right item
@@ -59,6 +62,7 @@ prefix_len-stopped p left right item fails =
     omega arith)
     (cases_lt (prefix_len p left) (length left))
 
+-- the items of the front stand where they stood
 at-left : {T : Type 0} (left rest : List T) (k : ℕ) (d : T) → k < length left → get_or (left ++ rest) k d ≡ get_or left k d
 at-left [] rest k d within = absurd (omega arith)
 at-left (x ∷ left) rest zero d within = refl

@@ -1,3 +1,3 @@
+pub mod Lists
 pub mod Items
 pub mod Falls
-pub mod Lists

@@ -5,6 +5,7 @@ ghost use Rattle.std.specs.Prelude.{◌≡◌, IfOk};
 use crate::shelf::{Knot, Shelf};
 use std::alloc::{AllocError, Global};
 use std::marker::Model;
+use std::mem;
 
 /// An item with the memory that it takes in a shelf.
 #[derive(Drop)]
@@ -24,7 +25,7 @@ impl<T> Model for Piece<T> {
 }
 
 impl<T: Drop> Piece<T> {
-    /// Takes the memory for an item.
+    /// Takes the memory for an item. Without it the item is dropped.
     pub fn new(alloc: Global, item: T) -> Result<Piece<T>, AllocError>
         ensures { IfOk result (λ piece. piece ≡ item) }
     {
@@ -47,7 +48,7 @@ impl<T: Drop> Piece<T> {
         &self.knot.item
     }
 
-    /// The item, whose memory is given back.
+    /// The item alone: its memory is given back.
     pub fn into_item(self) -> T
         ensures { result ≡ self }
     {
@@ -59,5 +60,13 @@ impl<T: Drop> Piece<T> {
             len: _,
         } = Box::into_inner(knot);
         item
+    }
+
+    /// The item and another change places.
+    pub(crate) fn exchange(&mut self, item: &mut T)
+        ensures piece { self.new ≡ item.old }
+        ensures item { item.new ≡ self.old }
+    {
+        mem::swap(&mut self.knot.item, item);
     }
 }

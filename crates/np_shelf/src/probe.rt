@@ -2,9 +2,9 @@
 
 ghost use Rattle.std.specs.Prelude.{◌≡◌, Bool};
 
-/// What is sought in a list: some items stand before it, and the others do not.
+/// What is sought in a list: of each item it tells whether the item stands before it.
 pub trait Probe<T> {
-    /// Whether an item stands before it.
+    /// Whether an item stands before what is sought.
     ghost before: { Self → T → Bool };
 
     fn is_before(&self, item: &T) -> bool

@@ -1,10 +1,12 @@
 //! The list.
 
-ghost use Rattle.std.specs.Prelude.{◌≡◌, ◌+◌, ◌<◌, ◌≤◌, [], length, insert, remove, slice_get, Some, option_map};
+ghost use Rattle.std.specs.Prelude.{◌≡◌, ◌<◌, ◌≤◌, ◌↔◌, [], IsTrue, Some, insert, length, option_map, remove, slice_get};
 ghost use Rattle.std.specs.List.{prefix_len};
 ghost use Rattle.std.specs.Option.{option_copied};
 ghost use Rattle.np_shelf.specs.Lists.{IsSplit, changed_at};
 ghost use Rattle.np_shelf.specs.Items.{IsCounted, items_of};
+
+mod balance;
 
 use crate::change::Change;
 use crate::piece::Piece;
@@ -12,7 +14,7 @@ use crate::probe::Probe;
 use std::marker::Model;
 use std::mem;
 
-/// A list in a balanced tree.
+/// A list in a tree, of which each side is again a list.
 #[cycle(shelf)]
 #[derive(Drop)]
 pub struct Shelf<T> {
@@ -32,7 +34,7 @@ pub(crate) struct Knot<T> {
     pub(crate) left: Shelf<T>,
     pub(crate) item: T,
     pub(crate) right: Shelf<T>,
-    // How many items the knot and both sides hold.
+    // How many items there are, both sides and the one between.
     pub(crate) len: usize,
 }
 
@@ -55,14 +57,14 @@ impl<T> Model for Shelf<T> {
 }
 
 impl<T: Drop> Shelf<T> {
-    /// No item.
+    /// A list with no item. It takes no memory.
     pub fn new() -> Shelf<T>
         ensures { result ≡ [] }
     {
         Shelf { top: Link::Empty }
     }
 
-    /// How many items it holds.
+    /// How many items there are. The time doesn't grow with the list.
     pub fn len(&self) -> usize
         ensures { result ≡ length self.now }
     {
@@ -72,7 +74,14 @@ impl<T: Drop> Shelf<T> {
         }
     }
 
-    /// The item at a place.
+    /// Whether there is no item.
+    pub fn is_empty(&self) -> bool
+        ensures { IsTrue result ↔ (self.now ≡ []) }
+    {
+        self.len() == 0
+    }
+
+    /// The item at a place, and none past the end. The time grows with the logarithm of the length.
     pub fn at(&self, place: usize) -> Option<&T>
         ensures { option_copied result ≡ slice_get self.now place }
     {
@@ -91,7 +100,8 @@ impl<T: Drop> Shelf<T> {
         }
     }
 
-    /// How many items stand before what is sought.
+    /// How many items stand before what is sought: the place where it stands, or would. The items
+    /// that are asked grow in number with the logarithm of the length.
     pub fn place<P: Probe<T>>(&self, probe: &P) -> usize
         requires split { IsSplit (P.before probe.now) self.now }
         ensures { result ≡ prefix_len (P.before probe.now) self.now }
@@ -108,86 +118,79 @@ impl<T: Drop> Shelf<T> {
         }
     }
 
-    /// Puts an item in at a place.
+    /// Puts an item in, so that it stands at the place. It takes no memory, and the time grows with
+    /// the logarithm of the length.
     pub fn insert(&mut self, place: usize, piece: Piece<T>)
         requires within { place ≤ length self.old }
         requires room { length self.old < 18_446_744_073_709_551_615 }
         ensures { self.new ≡ insert self.old place piece }
     {
-        match &mut self.top {
-            Link::Empty => {
-                let Piece { knot } = piece;
-                self.top = Link::Top(knot);
-            }
-            Link::Top(knot) => {
-                let left = knot.left.len();
-                if place <= left {
-                    knot.left.insert(place, piece);
-                } else {
-                    knot.right.insert(place - left - 1, piece);
-                }
-                knot.len += 1;
-            }
+        let Link::Top(knot) = &mut self.top else {
+            let Piece { knot } = piece;
+            self.top = Link::Top(knot);
+            return;
+        };
+        let left = knot.left.len();
+        if place <= left {
+            knot.left.insert(place, piece);
+        } else {
+            knot.right.insert(place - left - 1, piece);
         }
+        knot.len += 1;
+        self.balance();
     }
 
-    /// Takes the item at a place out, with its memory.
+    /// Takes the item at the place out, with the memory that it took. It takes none, and the time
+    /// grows with the logarithm of the length.
     pub fn remove(&mut self, place: usize) -> Piece<T>
         requires { place < length self.old }
         ensures piece { slice_get self.old place ≡ Some result }
         ensures rest { self.new ≡ remove self.old place }
     {
-        match self.take() {
-            Link::Empty => unreachable!(),
-            Link::Top(mut knot) => {
-                let left = knot.left.len();
-                if place < left {
-                    let piece = knot.left.remove(place);
-                    knot.len -= 1;
-                    self.top = Link::Top(knot);
-                    piece
-                } else if place > left {
-                    let piece = knot.right.remove(place - left - 1);
-                    knot.len -= 1;
-                    self.top = Link::Top(knot);
-                    piece
-                } else if knot.right.len() == 0 {
-                    self.top = knot.left.take();
-                    knot.len = 1;
-                    Piece { knot }
-                } else {
-                    let mut piece = knot.right.remove(0);
-                    knot.len -= 1;
-                    mem::swap(&mut knot.item, &mut piece.knot.item);
-                    self.top = Link::Top(knot);
-                    piece
-                }
-            }
-        }
+        let Link::Top(mut knot) = self.take() else {
+            unreachable!()
+        };
+        let left = knot.left.len();
+        let piece = if place < left {
+            knot.left.remove(place)
+        } else if place > left {
+            knot.right.remove(place - left - 1)
+        } else if knot.right.is_empty() {
+            self.top = knot.left.take();
+            knot.len = 1;
+            return Piece { knot };
+        } else {
+            let mut first = knot.right.remove(0);
+            first.exchange(&mut knot.item);
+            first
+        };
+        knot.len -= 1;
+        self.top = Link::Top(knot);
+        self.balance();
+        piece
     }
 
-    /// Changes the item at a place.
+    /// Changes the item at the place. It takes no memory, and the time grows with the logarithm of
+    /// the length.
     pub fn change<C: Change<T>>(&mut self, place: usize, change: &mut C)
         requires { place < length self.old }
         ensures items { self.new ≡ changed_at (C.after change.old) place self.old }
         ensures kept { option_map (C.kept change.old) (slice_get self.old place) ≡ Some change.new }
     {
-        match &mut self.top {
-            Link::Empty => unreachable!(),
-            Link::Top(knot) => {
-                let left = knot.left.len();
-                if place < left {
-                    knot.left.change(place, change);
-                } else if place == left {
-                    change.make(&mut knot.item);
-                } else {
-                    knot.right.change(place - left - 1, change);
-                }
-            }
+        let Link::Top(knot) = &mut self.top else {
+            unreachable!()
+        };
+        let left = knot.left.len();
+        if place < left {
+            knot.left.change(place, change);
+        } else if place == left {
+            change.make(&mut knot.item);
+        } else {
+            knot.right.change(place - left - 1, change);
         }
     }
 
-    /// The knot that holds the rest, and leaves nothing.
+    /// What holds the items, and leaves none.
     fn take(&mut self) -> Link<T>
         ensures items { items_of result ≡ self.old }
         ensures counted { IsCounted result }

@@ -5,6 +5,7 @@ use Rattle.np_tree.specs.Edits.{CanEdit, edited}
 use Rattle.np_tree.specs.Look.{change_node, children_of, without_node}
 use Rattle.np_tree.specs.Marks.{AllMarked, mark_upto}
 use Rattle.np_tree.specs.Order.{AllPaths, IsSorted, Rises}
+use Rattle.np_tree.specs.State.{State}
 use Rattle.np_tree.specs.Steps.{stepped}
 use Rattle.np_tree.specs.declared.node.Node.{Node}
 use Rattle.np_tree.specs.declared.mark.Mark.{Mark}
@@ -13,6 +14,12 @@ use Rattle.np_tree.specs.declared.edit.Edit.{Edit}
 -- each node has at most as many children as its stat can tell (own)
 abbrev pub HasRoom : List Node → Type 0
 HasRoom nodes = (path : List ℕ) → length (children_of nodes path) ≤ 4_294_967_295
+
+-- what always holds of a tree: its nodes stand in their order, each path once and in the grammar
+pub record IsTree (t : State) : Type 0 where
+  pub sorted : IsSorted t.nodes
+  pub paths : AllPaths t.nodes
+  pub room : HasRoom t.nodes
 
 -- what always holds of the nodes and the marks
 pub record IsKept (nodes : List Node) (marks : List Mark) : Type 0 where

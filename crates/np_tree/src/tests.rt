@@ -1,4 +1,5 @@
-ghost use Rattle.std.specs.Prelude.{◌≡◌, true, IfOk};
+ghost use Rattle.std.specs.Prelude.{◌≡◌, ◌≤◌, true, length, IfOk};
+ghost use Rattle.std.specs.List.{list_all};
 ghost use Rattle.np_tree.specs.Multi.{is_numbered};
 
 use crate::{
@@ -88,6 +89,41 @@ fn tells(
     }
 }
 
+// The calls as the tests need them.
+fn begins(tree: &mut Tree, want: u32) -> bool {
+    tree.begin_session() == Ok(want)
+}
+
+fn ends(tree: &mut Tree, session: u32) -> bool {
+    tree.end_session(session)
+}
+
+fn is_live(tree: &Tree, session: u32) -> bool {
+    tree.is_live(session)
+}
+
+fn raises(alloc: Global, tree: &mut Tree, path: &str, to: u32) -> Result<bool, PathFault> {
+    let path = Path::new(alloc, path)?;
+    Ok(tree.raise_counter(&path, to))
+}
+
+fn makes(alloc: Global, tree: &mut Tree, path: &str, mode: Mode) -> Result<bool, PathFault> {
+    let path = Path::new(alloc, path)?;
+    Ok(tree.create(1, &path, b"old", mode).is_ok())
+}
+
+fn stat(tree: &Tree, path: &str) -> Option<Stat> {
+    tree.exists(path)
+}
+
+fn counter(tree: &Tree, path: &str) -> Option<u32> {
+    tree.counter(path)
+}
+
+fn changes(tree: &Tree) -> u64 {
+    tree.changes()
+}
+
 // The worked row of the tree's calls, up to the raised counter and after it.
 const CALLS: [(Call, Told); 8] = [
     (Call::Create("/a", Mode::Persistent), Told::Made("/a")),
@@ -138,25 +174,25 @@ fn tree_calls(rt: HostRuntime) -> Result<(), Fail> {
     let alloc = rt.alloc();
     let mut tree = Tree::new(alloc)?;
     for want in [1, 2, 3] {
-        assert_eq!(rt; tree.begin_session()?, want);
+        assert!(rt; begins(&mut tree, want), "{want} begins");
     }
     for (call, told) in CALLS {
         assert!(rt; tells(alloc, &mut tree, 1, call, told)?, "{call:?}");
     }
-    let queue = Path::new(alloc, "/q")?;
-    assert!(rt; tree.raise_counter(&queue, 2_147_483_647), "raised");
-    assert!(rt; !tree.raise_counter(&queue, 2_147_483_647), "not lower");
-    assert!(rt; !tree.raise_counter(&queue, 2_147_483_649), "too high");
+    for (to, want) in [
+        (2_147_483_647, true),
+        (2_147_483_647, false),
+        (2_147_483_649, false),
+    ] {
+        assert!(rt; raises(alloc, &mut tree, "/q", to)? == want, "{to}");
+    }
     for (call, told) in LATER_CALLS {
         assert!(rt; tells(alloc, &mut tree, 1, call, told)?, "{call:?}");
     }
-    assert_eq!(rt; tree.counter("/q"), Some(2_147_483_648));
-    assert!(rt; tree.end_session(2), "2 was live");
-    assert!(rt; tree.exists("/e").is_some(), "1 is live");
-    assert!(rt; tree.end_session(1), "1 was live");
-    assert!(rt; tree.exists("/e").is_none(), "/e went with it");
-    assert!(rt; !tree.is_live(1), "1 is over");
-    assert!(rt; !tree.end_session(1), "1 ended before");
+    assert_eq!(rt; counter(&tree, "/q"), Some(2_147_483_648));
+    assert!(rt; ends(&mut tree, 2) && stat(&tree, "/e").is_some(), "2 ends");
+    assert!(rt; ends(&mut tree, 1) && stat(&tree, "/e").is_none(), "1 ends");
+    assert!(rt; !is_live(&tree, 1) && !ends(&mut tree, 1), "1 is over");
     let call = Call::Set("/a", Expect::Any);
     let told = Told::No(TreeRefusal::SessionExpired);
     assert!(rt; tells(alloc, &mut tree, 1, call, told)?, "{call:?}");
@@ -276,47 +312,57 @@ const NODES: [&str; 7] = [
 fn refusals_by_call(rt: HostRuntime) -> Result<(), Fail> {
     let alloc = rt.alloc();
     let mut tree = Tree::new(alloc)?;
-    assert_eq!(rt; tree.begin_session()?, 1);
-    assert_eq!(rt; tree.begin_session()?, 2);
-    assert!(rt; tree.end_session(2), "2 was live");
-    for path in NODES {
-        let path = Path::new(alloc, path)?;
-        tree.create(1, &path, b"", Mode::Persistent)?;
+    for want in [1, 2] {
+        assert!(rt; begins(&mut tree, want), "{want} begins");
     }
-    let ephemeral = Path::new(alloc, "/e")?;
-    tree.create(1, &ephemeral, b"", Mode::Ephemeral)?;
-    let queue = Path::new(alloc, "/q")?;
-    assert!(rt; tree.raise_counter(&queue, 2_147_483_648), "raised");
-    let before = tree.changes();
+    assert!(rt; ends(&mut tree, 2), "2 ends");
+    for path in NODES {
+        assert!(rt; makes(alloc, &mut tree, path, Mode::Persistent)?, "{path}");
+    }
+    assert!(rt; makes(alloc, &mut tree, "/e", Mode::Ephemeral)?, "/e");
+    assert!(rt; raises(alloc, &mut tree, "/q", 2_147_483_648)?, "/q");
     for (session, call, refusal) in REFUSALS {
         let told = Told::No(refusal);
         assert!(rt; tells(alloc, &mut tree, session, call, told)?, "{call:?}");
     }
-    assert_eq!(rt; tree.changes(), before);
+    // Eight creates, and the end of session 2.
+    assert_eq!(rt; changes(&tree), 9);
     Ok(())
+}
+
+// Whether each call with bytes answers this, for a path that isn't there before.
+fn creates_with(tree: &mut Tree, path: &Path, bytes: &[u8], told: Told) -> bool {
+    tells_path(tree.create(1, path, bytes, Mode::Persistent), told)
+}
+
+fn numbers_with(tree: &mut Tree, path: &Path, bytes: &[u8], told: Told) -> bool {
+    let answer = tree.create_under(1, path, bytes, Mode::PersistentSequential);
+    tells_path(answer, told)
+}
+
+fn sets_with(tree: &mut Tree, path: &Path, bytes: &[u8], told: Told) -> bool {
+    tells_version(tree.set(1, path, bytes, Expect::Exactly(0)), told)
 }
 
 #[test]
 fn large_bytes_are_refused(rt: HostRuntime) -> Result<(), Fail> {
     let mut tree = Tree::new(rt.alloc())?;
-    assert_eq!(rt; tree.begin_session()?, 1);
+    assert!(rt; begins(&mut tree, 1), "1 begins");
     let path = Path::new(rt.alloc(), "/a")?;
     let large = vec![in rt.alloc(); 7u8; 65_537]?;
     let (most, _) = large.split_at(65_536);
-    let refused = TreeFault::Refused(TreeRefusal::TooLarge);
+    let refused = Told::No(TreeRefusal::TooLarge);
+    assert!(rt; creates_with(&mut tree, &path, &large, refused), "create");
     assert!(rt;
-        matches!(tree.create(1, &path, &large, Mode::Persistent), Err(fault) if fault == refused)
+        creates_with(&mut tree, &path, most, Told::Made("/a")),
+        "create"
     );
-    tree.create(1, &path, most, Mode::PersistentSequential)?;
-    tree.create(1, &path, most, Mode::Persistent)?;
     assert!(rt;
-        matches!(
-        tree.create_under(1, &path, &large, Mode::PersistentSequential),
-        Err(fault) if fault == refused
-    )
+        numbers_with(&mut tree, &path, &large, refused),
+        "create_under"
     );
-    assert!(rt; tree.set(1, &path, &large, Expect::Exactly(7)) == Err(refused));
-    assert!(rt; tree.set(1, &path, most, Expect::Exactly(0)) == Ok(1));
+    assert!(rt; sets_with(&mut tree, &path, &large, refused), "set");
+    assert!(rt; sets_with(&mut tree, &path, most, Told::Version(1)), "set");
     Ok(())
 }
 
@@ -376,11 +422,21 @@ fn stops_at(answer: Result<Vec<OpDone>, MultiFault>, index: u32, refusal: TreeRe
 }
 
 // Whether a check and a create of the path were done.
-fn made_second(done: &[OpDone], want: &str) -> bool {
-    match done {
+fn made_second(answer: Result<Vec<OpDone>, MultiFault>, want: &str) -> bool {
+    let Ok(done) = answer else {
+        return false;
+    };
+    match done.as_slice() {
         [OpDone::Checked, OpDone::Created(path)] => path.text() == want,
         _ => false,
     }
+}
+
+fn runs(tree: &mut Tree, ops: &[Op]) -> Result<Vec<OpDone>, MultiFault>
+    requires few { length ops.now ≤ 4294967295 }
+    requires numbered { list_all is_numbered ops.now ≡ true }
+{
+    tree.multi(1, ops)
 }
 
 // The worked row of `multi`: a new tree with `/a` set once.
@@ -388,28 +444,24 @@ fn made_second(done: &[OpDone], want: &str) -> bool {
 fn parts_are_all_done_or_none(rt: HostRuntime) -> Result<(), Fail> {
     let alloc = rt.alloc();
     let mut tree = Tree::new(alloc)?;
-    assert_eq!(rt; tree.begin_session()?, 1);
-    let path = Path::new(alloc, "/a")?;
-    tree.create(1, &path, b"", Mode::Persistent)?;
-    tree.set(1, &path, b"x", Expect::Any)?;
+    assert!(rt; begins(&mut tree, 1), "1 begins");
+    assert!(rt; makes(alloc, &mut tree, "/a", Mode::Persistent)?, "/a");
+    let call = Call::Set("/a", Expect::Any);
+    assert!(rt; tells(alloc, &mut tree, 1, call, Told::Version(1))?, "/a");
 
     let three = [
         checked(alloc, "/a", 1)?,
         created(alloc, "/c")?,
         deleted(alloc, "/zz")?,
     ];
-    let answer = tree.multi(1, &three);
+    let answer = runs(&mut tree, &three);
     assert!(rt; stops_at(answer, 2, TreeRefusal::NoNode), "/zz isn't there");
-    assert!(rt; tree.exists("/c").is_none(), "nothing was done");
-    assert_eq!(rt; tree.changes(), 2);
+    assert!(rt; stat(&tree, "/c").is_none(), "nothing was done");
+    assert_eq!(rt; changes(&tree), 2);
 
     let two = [checked(alloc, "/a", 1)?, created(alloc, "/c")?];
-    let done = tree.multi(1, &two);
-    assert!(rt;
-        done.is_ok_and(|done| made_second(&done, "/c")),
-        "both are done"
-    );
-    assert_eq!(rt; tree.changes(), 3);
+    assert!(rt; made_second(runs(&mut tree, &two), "/c"), "both are done");
+    assert_eq!(rt; changes(&tree), 3);
     Ok(())
 }
 
@@ -440,42 +492,43 @@ const A_LATER: Stat = Stat {
     children: 0,
 };
 
+fn holds(tree: &Tree, path: &str, bytes: &[u8], stat: Stat) -> bool {
+    tree.get(path) == Some((bytes, stat))
+}
+
 // Each kind of part, with a last one that fails and then without it.
 #[test]
 fn parts_are_taken_back(rt: HostRuntime) -> Result<(), Fail> {
     let alloc = rt.alloc();
     let mut tree = Tree::new(alloc)?;
-    assert_eq!(rt; tree.begin_session()?, 1);
-    let parent = Path::new(alloc, "/a")?;
-    tree.create(1, &parent, b"old", Mode::Persistent)?;
-    let child = Path::new(alloc, "/a/e")?;
-    tree.create(1, &child, b"", Mode::Ephemeral)?;
+    assert!(rt; begins(&mut tree, 1), "1 begins");
+    assert!(rt; makes(alloc, &mut tree, "/a", Mode::Persistent)?, "/a");
+    assert!(rt; makes(alloc, &mut tree, "/a/e", Mode::Ephemeral)?, "/a/e");
     let four = [
         deleted(alloc, "/a/e")?,
         numbered(alloc, "/a")?,
         replaced(alloc, "/a")?,
         checked(alloc, "/a", 0)?,
     ];
-    let answer = tree.multi(1, &four);
+    let answer = runs(&mut tree, &four);
     assert!(rt;
         stops_at(answer, 3, TreeRefusal::BadVersion { kept: 1 }),
         "the last"
     );
-    assert!(rt; tree.get("/a") == Some((b"old".as_slice(), A)), "/a");
-    assert_eq!(rt; tree.counter("/a"), Some(0));
-    assert_eq!(rt; tree.exists("/a/e"), Some(EPHEMERAL));
-    assert_eq!(rt; tree.changes(), 2);
+    assert!(rt; holds(&tree, "/a", b"old", A), "/a");
+    assert!(rt; holds(&tree, "/a/e", b"old", EPHEMERAL), "/a/e");
+    assert_eq!(rt; counter(&tree, "/a"), Some(0));
+    assert_eq!(rt; changes(&tree), 2);
 
     let three = [
         deleted(alloc, "/a/e")?,
         numbered(alloc, "/a")?,
         replaced(alloc, "/a")?,
     ];
-    let done = tree.multi(1, &three);
-    assert!(rt; done.is_ok(), "all are done");
-    assert_eq!(rt; tree.counter("/a"), Some(1));
-    assert!(rt; tree.end_session(1), "1 was live");
-    assert_eq!(rt; tree.exists("/a"), Some(A_LATER));
+    assert!(rt; runs(&mut tree, &three).is_ok(), "all are done");
+    assert_eq!(rt; counter(&tree, "/a"), Some(1));
+    assert!(rt; ends(&mut tree, 1), "1 ends");
+    assert!(rt; holds(&tree, "/a", b"", A_LATER), "/a");
     Ok(())
 }
 
@@ -497,31 +550,42 @@ const CHILDREN: [(&str, u32, Option<&str>); 12] = [
     ("/zz", 0, None),
 ];
 
+fn names_child(tree: &Tree, path: &str, at: u32, want: Option<&str>) -> bool {
+    tree.child_at(path, at) == want
+}
+
+fn has_child(tree: &Tree, path: &str, at: u32) -> bool {
+    tree.child_stat(path, at).is_some()
+}
+
 #[test]
 fn children_stand_in_byte_order(rt: HostRuntime) -> Result<(), Fail> {
     let alloc = rt.alloc();
     let mut tree = Tree::new(alloc)?;
-    assert_eq!(rt; tree.begin_session()?, 1);
+    assert!(rt; begins(&mut tree, 1), "1 begins");
     for path in PARENTS {
-        let path = Path::new(alloc, path)?;
-        tree.create(1, &path, b"", Mode::Persistent)?;
+        assert!(rt; makes(alloc, &mut tree, path, Mode::Persistent)?, "{path}");
     }
-    let tree = &tree;
     for (path, at, want) in CHILDREN {
-        assert!(rt; tree.child_at(path, at) == want, "{at} of {path}");
-        let stat = tree.child_stat(path, at);
-        assert!(rt; stat.is_some() == want.is_some(), "{at} of {path}");
+        assert!(rt; names_child(&tree, path, at, want), "{at} of {path}");
+        assert!(rt;
+            has_child(&tree, path, at) == want.is_some(),
+            "{at} of {path}"
+        );
     }
     Ok(())
+}
+
+fn reserves(tree: &mut Tree) -> bool {
+    tree.reserve_session().is_ok()
 }
 
 #[test]
 fn a_session_begins_after_a_reserve(rt: HostRuntime) -> Result<(), Fail> {
     let mut tree = Tree::new(rt.alloc())?;
-    assert_eq!(rt; tree.reserve_session(), Ok(()));
-    assert_eq!(rt; tree.reserve_session(), Ok(()));
-    assert!(rt; tree.begin_session() == Ok(1), "the first");
-    assert!(rt; tree.is_live(1) && !tree.is_live(2), "1 alone");
+    assert!(rt; reserves(&mut tree) && reserves(&mut tree), "twice");
+    assert!(rt; begins(&mut tree, 1), "the first");
+    assert!(rt; is_live(&tree, 1) && !is_live(&tree, 2), "1 alone");
     Ok(())
 }
 

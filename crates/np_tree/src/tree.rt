@@ -9,6 +9,7 @@ ghost use Rattle.np_tree.specs.Boards.{Answers};
 ghost use Rattle.np_tree.specs.Calls.{BeginsSession, begun_more, may_raise, raised, with_room};
 ghost use Rattle.np_tree.specs.Effect.{counted, created, created_under, deleted, ended, replaced};
 ghost use Rattle.np_tree.specs.Judge.{judge_check, judge_create, judge_create_under, judge_delete, judge_set};
+ghost use Rattle.np_tree.specs.Kept.{IsTree};
 ghost use Rattle.np_tree.specs.Multi.{Stops, after_multi, answers_from, is_numbered};
 ghost use Rattle.np_tree.specs.Read.{bytes_at, child_name, counter_at, stat_at, stat_of_child};
 ghost use Rattle.np_tree.specs.State.{new_tree};
@@ -112,7 +113,8 @@ impl Tree {
 
     /// The number of the last change.
     pub fn changes(&self) -> u64
-        ensures { result ≡ self.now.changes }
+        ensures number { result ≡ self.now.changes }
+        ensures tree { IsTree self.now }
     {
         self.board.changes
     }

@@ -1,0 +1,100 @@
+//! What keeps the tree low: where one side of a knot weighs more than three times what the other
+//! does, it is raised. A side weighs one more than it has items.
+//!
+//! It is proved that no rotation changes the list, and not that the tree stays low.
+
+ghost use Rattle.std.specs.Prelude.{◌≡◌};
+
+use super::{Link, Shelf};
+use std::mem;
+
+impl<T: Drop> Shelf<T> {
+    /// Raises the side that weighs more than three times what the other does, if one does.
+    pub(super) fn balance(&mut self)
+        ensures { self.new ≡ self.old }
+    {
+        let (left, right) = self.sides();
+        if right / 3 > left {
+            self.raise_right();
+        } else if left / 3 > right {
+            self.raise_left();
+        }
+    }
+
+    /// How many items stand on each side of the top.
+    fn sides(&self) -> (usize, usize) {
+        match &self.top {
+            Link::Empty => (0, 0),
+            Link::Top(knot) => (knot.left.len(), knot.right.len()),
+        }
+    }
+
+    /// Raises the right side, by two rotations where the inner of its own sides has more than twice
+    /// as many items as the outer, and else by one.
+    fn raise_right(&mut self)
+        ensures { self.new ≡ self.old }
+    {
+        if let Link::Top(knot) = &mut self.top {
+            let (inner, outer) = knot.right.sides();
+            if inner.div_ceil(2) > outer {
+                knot.right.rotate_right();
+            }
+        }
+        self.rotate_left();
+    }
+
+    /// Raises the left side, as `raise_right` does the right side.
+    fn raise_left(&mut self)
+        ensures { self.new ≡ self.old }
+    {
+        if let Link::Top(knot) = &mut self.top {
+            let (outer, inner) = knot.left.sides();
+            if inner.div_ceil(2) > outer {
+                knot.left.rotate_left();
+            }
+        }
+        self.rotate_right();
+    }
+
+    /// The top of the right side becomes the top.
+    fn rotate_left(&mut self)
+        ensures { self.new ≡ self.old }
+    {
+        let Link::Top(mut down) = self.take() else {
+            return;
+        };
+        match down.right.take() {
+            Link::Empty => self.top = Link::Top(down),
+            Link::Top(mut up) => {
+                up.len = down.len;
+                down.right = mem::replace(&mut up.left, Shelf::new());
+                down.len = down.left.len() + 1 + down.right.len();
+                up.left = Shelf {
+                    top: Link::Top(down),
+                };
+                self.top = Link::Top(up);
+            }
+        }
+    }
+
+    /// The top of the left side becomes the top.
+    fn rotate_right(&mut self)
+        ensures { self.new ≡ self.old }
+    {
+        let Link::Top(mut down) = self.take() else {
+            return;
+        };
+        match down.left.take() {
+            Link::Empty => self.top = Link::Top(down),
+            Link::Top(mut up) => {
+                up.len = down.len;
+                down.left = mem::replace(&mut up.right, Shelf::new());
+                down.len = down.left.len() + 1 + down.right.len();
+                up.right = Shelf {
+                    top: Link::Top(down),
+                };
+                self.top = Link::Top(up);
+            }
+        }
+    }
+}
