@@ -1,17 +1,16 @@
 -- changes that keep each node's path
-use Rattle.std.proofs.Common.{◌≡◌, ℕ, zero, suc, ◌+◌, ◌<◌, ◌≤◌, Bool, true, false, not, cond, List, [], ◌∷◌, ◌++◌, length, take, drop, map, Option, Some, None, refl, sym, ap, ◌∙◌, subst, arith}
-use Rattle.std.specs.Prelude.{find, slice_get, filter}
+use Rattle.std.proofs.Common.{◌≡◌, ℕ, zero, suc, ◌+◌, Bool, true, false, cond, List, [], ◌∷◌, length, map, Option, Some, None, refl, sym, ap, ◌∙◌, subst, arith}
+use Rattle.std.specs.Prelude.{filter}
 use Rattle.std.specs.List.{AllByRecursion, insert, remove, prefix_len}
-use Rattle.std.specs.Option.{option_map}
 use Rattle.std.specs.Str.{bytes_eq}
 use Rattle.np_path.specs.Grammar.{is_path}
 use Rattle.np_path.specs.Parts.{parent_of}
 use Rattle.np_shelf.specs.Lists.{changed_at}
-use Rattle.np_tree.specs.Look.{change_node, children_of, comes_before, is_at, is_child, is_parent, node_at, with_node, without_node}
-use Rattle.np_tree.specs.Order.{AllPaths, IsSorted, Rises, is_before, place_of}
+use Rattle.np_tree.specs.Look.{change_node, children_of, comes_before, is_at, is_parent, node_at, with_node, without_node}
+use Rattle.np_tree.specs.Order.{AllPaths, IsSorted, place_of}
 use Rattle.np_tree.specs.declared.node.Node.{Node}
 use Rattle.np_tree.proofs.RisingLemmas.{NonePass, find-none, none-find}
-use Rattle.np_tree.proofs.PlaceLemmas.{IsPlaced, IsPlaced-node_at, bytes_eq-is, bytes_eq-not, change_node-at, less_than, with_node-at, without_node-at}
+use Rattle.np_tree.proofs.PlaceLemmas.{bytes_eq-is, bytes_eq-not, change_node-at, with_node-at, without_node-at}
 
 -- the paths of nodes
 abbrev pub paths_of : List Node → List (List ℕ)

@@ -1,5 +1,5 @@
 -- the children of a path are one stretch of the nodes
-use Rattle.std.proofs.Common.{◌≡◌, ℕ, zero, suc, ◌+◌, ◌-◌, ◌<◌, ◌≤◌, Bool, true, false, not, ◌&&◌, cond, List, [], ◌∷◌, ◌++◌, length, take, drop, Option, Some, None, Ordering, Less, Equal, Greater, refl, sym, ap, ◌∙◌, subst, arith}
+use Rattle.std.proofs.Common.{◌≡◌, ℕ, zero, suc, ◌+◌, ◌-◌, ◌<◌, ◌≤◌, Bool, true, false, not, ◌&&◌, cond, List, [], ◌∷◌, ◌++◌, length, take, drop, Option, Some, None, Ordering, Less, Equal, Greater, refl, sym, ap, ◌∙◌, arith}
 use Rattle.std.specs.Prelude.{slice_get, filter}
 use Rattle.std.specs.List.{AllByRecursion, insert, remove, prefix_len}
 use Rattle.std.specs.Ordering.{nat_cmp, is_le, ordering_then}
@@ -12,12 +12,12 @@ use Rattle.std.proofs.lemmas.Cmp.{nat_list_cmp_total, tied_itself}
 use Rattle.std.proofs.lemmas.Map.Lookups.{exact_bytes}
 use Rattle.np_path.specs.Grammar.{is_element, is_path}
 use Rattle.np_path.specs.Parts.{below, name_of, or_root, parent_of, root}
-use Rattle.np_path.proofs.PathLaws.{IsChild, IsChild-of, halves-whole, root-of}
+use Rattle.np_path.proofs.PathLaws.{IsChild-of, halves-whole, root-of}
 use Rattle.np_tree.specs.Look.{before_of, children_of, is_child, is_parent}
 use Rattle.np_tree.specs.Order.{AllPaths, IsSorted, Rises, is_before}
 use Rattle.np_tree.specs.declared.node.Node.{Node}
-use Rattle.np_tree.proofs.OrderLemmas.{halves_cmp, halves_of, comes_before-halves_le, comes_before-first_le, has_slash, parent-half}
-use Rattle.np_tree.proofs.PlaceLemmas.{bytes_eq-from, bytes_eq-is, bytes_eq-not}
+use Rattle.np_tree.proofs.OrderLemmas.{comes_before-halves_le, comes_before-first_le, has_slash, parent-half}
+use Rattle.np_tree.proofs.PlaceLemmas.{bytes_eq-from, bytes_eq-is}
 use Rattle.np_tree.proofs.RisingLemmas.{NonePass, all-weaker, none-later}
 
 -- ## between two probes

@@ -1,26 +1,21 @@
 -- the edit that makes a child
-use Rattle.std.proofs.Common.{◌≡◌, ℕ, ◌+◌, ◌<◌, ◌≤◌, Bool, true, false, cond, List, [], ◌∷◌, length, Option, Some, None, refl, sym, ap, ◌∙◌, subst, arith}
-use Rattle.std.specs.Prelude.{slice_get, if◌then◌else◌}
+use Rattle.std.proofs.Common.{◌≡◌, ℕ, ◌<◌, Bool, true, false, cond, List, length, Option, Some, None, refl, sym, ap, ◌∙◌, arith}
 use Rattle.std.specs.Bool.{then_some}
-use Rattle.std.specs.List.{insert, prefix_len}
+use Rattle.std.specs.List.{insert}
 use Rattle.std.proofs.lemmas.List.Sums.{prefix_len-le-length}
 use Rattle.np_path.specs.Grammar.{is_path}
 use Rattle.np_path.specs.Parts.{parent_of}
-use Rattle.np_shelf.specs.Lists.{changed_at}
 use Rattle.np_shelf.proofs.Places.{length-changed_at}
-use Rattle.np_tree.specs.Edits.{CanEdit, edited, swapped}
+use Rattle.np_tree.specs.Edits.{swapped}
 use Rattle.np_tree.specs.Effect.{new_node, with_child}
-use Rattle.np_tree.specs.Finds.{IsPlace}
 use Rattle.np_tree.specs.Judge.{made_path}
 use Rattle.np_tree.specs.Kept.{IsKept, Plans}
-use Rattle.np_tree.specs.Look.{change_node, children_of, comes_before, is_at, node_at, with_node}
+use Rattle.np_tree.specs.Look.{change_node, children_of, comes_before, node_at}
 use Rattle.np_tree.specs.Marks.{mark_before, mark_place, new_mark}
 use Rattle.np_tree.specs.Names.{MakesName}
-use Rattle.np_tree.specs.Order.{place_of}
 use Rattle.np_tree.specs.Plans.{IsSpot, mark_step, with_new}
 use Rattle.np_tree.specs.Steps.{CanStep, stepped}
 use Rattle.np_tree.specs.Tests.{is_ephemeral}
-use Rattle.np_tree.specs.declared.edit.Edit.{Edit}
 use Rattle.np_tree.specs.declared.edit.Swap.{Swap}
 use Rattle.np_tree.specs.declared.judge.Spot.{Spot}
 use Rattle.np_tree.specs.declared.kind.Mode.{Mode}
@@ -28,7 +23,7 @@ use Rattle.np_tree.specs.declared.mark.Mark.{Mark}
 use Rattle.np_tree.specs.declared.node.Node.{Node}
 use Rattle.np_tree.specs.declared.node.Facts.{Facts}
 use Rattle.np_tree.specs.declared.step.Step.{Step}
-use Rattle.np_tree.specs.declared.step.Step.TheVariants.{Nothing, Take, Put}
+use Rattle.np_tree.specs.declared.step.Step.TheVariants.{Nothing, Put}
 use Rattle.np_tree.proofs.EffectLemmas.{changed_at-same}
 use Rattle.np_tree.proofs.KeptLemmas.{IsKept-insert_mark, MayStand}
 use Rattle.np_tree.proofs.NamesLemmas.{IsMade-made_path}

@@ -1,5 +1,5 @@
 -- what taking back the last edit gives
-use Rattle.std.proofs.Common.{◌≡◌, ℕ, ◌<◌, List, [], ◌∷◌, ◌++◌, length, Option, Some, None, refl, sym, ap, ◌∙◌}
+use Rattle.std.proofs.Common.{◌≡◌, ℕ, List, [], ◌∷◌, ◌++◌, Option, Some, None, refl, ap}
 use Rattle.std.specs.Prelude.{option_map, slice_get}
 use Rattle.np_shelf.specs.Lists.{changed_at}
 use Rattle.np_tree.specs.Edits.{CanTakeBack, CanUndo, kept_of, marks_before, nodes_before, swapped, taken_back}

@@ -1,5 +1,5 @@
 -- what an accepted operation leaves, by the places of its nodes
-use Rattle.std.proofs.Common.{◌≡◌, ℕ, zero, suc, ◌+◌, ◌<◌, Bool, true, false, not, List, [], ◌∷◌, ◌++◌, length, Option, Some, None, refl, sym, ap, ◌∙◌, subst, arith}
+use Rattle.std.proofs.Common.{◌≡◌, ℕ, zero, suc, true, List, [], ◌∷◌, Some, None, refl, sym, ap, ◌∙◌}
 use Rattle.std.specs.Prelude.{slice_get}
 use Rattle.std.specs.List.{insert, remove}
 use Rattle.std.specs.Str.{bytes_eq}
@@ -7,7 +7,7 @@ use Rattle.np_path.specs.Grammar.{is_path}
 use Rattle.np_path.specs.Parts.{name_of, parent_of}
 use Rattle.np_shelf.specs.Lists.{changed_at}
 use Rattle.np_tree.specs.State.{State}
-use Rattle.np_tree.specs.Look.{change_node, is_at, node_at, with_node, without_node}
+use Rattle.np_tree.specs.Look.{is_at, node_at, with_node, without_node}
 use Rattle.np_tree.specs.Judge.{made_path}
 use Rattle.np_tree.specs.Effect.{created, created_under, deleted, new_node, next_change, replaced, with_bytes, with_child, without_child}
 use Rattle.np_tree.specs.Order.{AllPaths, IsSorted, place_of}

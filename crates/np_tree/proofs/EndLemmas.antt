@@ -1,15 +1,14 @@
 -- one step of a session's end leaves what the whole end gives
-use Rattle.std.proofs.Common.{◌≡◌, ℕ, zero, suc, ◌+◌, ◌<◌, ◌≤◌, Bool, true, false, not, ◌&&◌, ◌||◌, cond, List, [], ◌∷◌, ◌++◌, length, map, Option, Some, None, refl, sym, ap, ◌∙◌, subst, arith}
+use Rattle.std.proofs.Common.{◌≡◌, ℕ, zero, suc, Bool, true, false, not, ◌&&◌, ◌||◌, cond, List, [], ◌∷◌, map, Some, None, refl, sym, ap, ◌∙◌}
 use Rattle.std.specs.Prelude.{slice_get, filter}
-use Rattle.std.specs.List.{AllByRecursion, list_any, remove}
+use Rattle.std.specs.List.{list_any, remove}
 use Rattle.std.specs.Option.{option_map}
-use Rattle.std.specs.Str.{bytes_eq}
 use Rattle.std.proofs.lemmas.Option.{slice_get-map}
 use Rattle.std.proofs.lemmas.Bool.{and_right, or_parts, or_right}
 use Rattle.np_path.specs.Parts.{parent_of}
 use Rattle.np_tree.specs.Look.{change_node, is_at, is_child, is_owned, is_parent, is_session}
 use Rattle.np_tree.specs.Effect.{left_by, without_child}
-use Rattle.np_tree.specs.Order.{IsSorted, is_before}
+use Rattle.np_tree.specs.Order.{IsSorted}
 use Rattle.np_tree.specs.declared.node.Node.{Node}
 use Rattle.np_tree.proofs.ChangeLemmas.{KeepsPath}
 use Rattle.np_tree.proofs.PlaceLemmas.{bytes_eq-from, bytes_eq-is, bytes_eq-not, later-others}

@@ -1,14 +1,13 @@
 -- what a search finds
-use Rattle.std.proofs.Common.{◌≡◌, ℕ, ◌-◌, ◌≤◌, ◌==◌, Bool, true, false, not, List, [], ◌∷◌, ◌++◌, length, Option, Some, None, refl, sym, ap, ◌∙◌, arith}
-use Rattle.std.specs.Prelude.{filter}
-use Rattle.std.specs.List.{prefix_len, list_any}
+use Rattle.std.proofs.Common.{◌≡◌, ℕ, ◌==◌, Bool, true, false, not, List, [], ◌∷◌, ◌++◌, length, refl, ap, ◌∙◌, arith}
+use Rattle.std.specs.List.{prefix_len}
 use Rattle.std.specs.Str.{bytes_eq}
 use Rattle.std.proofs.lemmas.Bool.Decides.{nat_tests}
 use Rattle.std.proofs.lemmas.List.{append-nil}
 use Rattle.std.proofs.lemmas.List.Sums.{prefix_len-le-length}
 use Rattle.np_path.specs.Parts.{name_of, parent_of, or_root, root}
 use Rattle.np_tree.specs.Finds.{IsStretch, stands_before}
-use Rattle.np_tree.specs.Look.{before_of, children_of, is_child, is_parent}
+use Rattle.np_tree.specs.Look.{before_of, children_of, is_parent}
 use Rattle.np_tree.specs.Order.{AllPaths, IsSorted, place_of}
 use Rattle.np_tree.specs.declared.node.Node.{Node}
 use Rattle.np_tree.proofs.ChildLemmas.{IsKey, children_from, children_of-stretch, children_to, children-le, is_upto}

@@ -1,12 +1,12 @@
 -- a path that is free, by its two halves
-use Rattle.std.proofs.Common.{◌≡◌, ℕ, Bool, true, false, ◌&&◌, List, [], ◌∷◌, ◌++◌, Option, Some, None, refl, sym, ap, ◌∙◌, subst}
+use Rattle.std.proofs.Common.{◌≡◌, ℕ, Bool, true, false, ◌&&◌, List, Some, None, refl, sym, ap, ◌∙◌}
 use Rattle.std.specs.Prelude.{slice_get, is_some}
 use Rattle.std.specs.List.{prefix_len}
 use Rattle.std.specs.Str.{bytes_eq}
 use Rattle.np_path.specs.Grammar.{is_path}
 use Rattle.np_path.specs.Parts.{name_of}
 use Rattle.np_tree.specs.Finds.{FindsGap, stands_before}
-use Rattle.np_tree.specs.Look.{before_of, is_at, node_at}
+use Rattle.np_tree.specs.Look.{before_of, node_at}
 use Rattle.np_tree.specs.Order.{AllPaths, IsSorted, place_of}
 use Rattle.np_tree.specs.declared.node.Node.{Node}
 use Rattle.np_tree.proofs.OrderLemmas.{has_slash, same_halves}

@@ -1,5 +1,5 @@
 -- what always holds of nodes and marks, after each change
-use Rattle.std.proofs.Common.{◌≡◌, ℕ, zero, suc, ◌+◌, ◌<◌, ◌≤◌, Bool, true, false, cond, List, [], ◌∷◌, length, Option, Some, None, refl, sym, ap, ◌∙◌, subst, arith}
+use Rattle.std.proofs.Common.{◌≡◌, ℕ, ◌+◌, ◌<◌, ◌≤◌, Bool, true, false, cond, List, length, Some, None, refl, sym, ap, ◌∙◌, subst, arith}
 use Rattle.std.specs.Prelude.{slice_get}
 use Rattle.std.specs.List.{insert, remove}
 use Rattle.std.specs.Str.{bytes_eq}
@@ -7,15 +7,15 @@ use Rattle.np_path.specs.Grammar.{is_path}
 use Rattle.np_path.specs.Parts.{parent_of}
 use Rattle.np_shelf.specs.Lists.{changed_at}
 use Rattle.np_tree.specs.Look.{children_of, is_child, is_parent, node_at}
-use Rattle.np_tree.specs.Order.{AllPaths, IsSorted, place_of}
-use Rattle.np_tree.specs.Marks.{AllMarked, HasMark, mark_place, mark_upto}
+use Rattle.np_tree.specs.Order.{place_of}
+use Rattle.np_tree.specs.Marks.{HasMark, mark_place}
 use Rattle.np_tree.specs.Kept.{HasRoom, IsKept}
 use Rattle.np_tree.specs.declared.node.Node.{Node}
 use Rattle.np_tree.specs.declared.mark.Mark.{Mark}
 use Rattle.np_tree.proofs.ChangeLemmas.{AllPaths-changed_at, IsSorted-changed_at, KeepsPath, length-children-changed_at, node_at-paths-none, paths_of-changed_at, place_of-changed_at}
 use Rattle.np_tree.proofs.ChildLemmas.{length-children-insert, length-children-remove}
 use Rattle.np_tree.proofs.EndLemmas.{KeepsOwner}
-use Rattle.np_tree.proofs.MarkLemmas.{AllMarked-changed_at, AllMarked-insert_mark, AllMarked-insert_node, AllMarked-remove_mark, AllMarked-remove_node, HasMark-insert, NoneMarked, Rises-insert_mark, Rises-remove_mark}
+use Rattle.np_tree.proofs.MarkLemmas.{AllMarked-changed_at, AllMarked-insert_mark, AllMarked-insert_node, AllMarked-remove_mark, AllMarked-remove_node, NoneMarked, Rises-insert_mark, Rises-remove_mark}
 use Rattle.np_tree.proofs.PlaceLemmas.{AllPaths-insert, AllPaths-remove, IsSorted-insert, IsSorted-remove, bytes_eq-is}
 
 -- ## how many children there are

@@ -11,7 +11,6 @@ pub mod NamesLemmas
 pub mod GapLemmas
 pub mod EffectLemmas
 pub mod EndLemmas
-pub mod EndSteps
 pub mod KeptLemmas
 pub mod MarkLemmas
 pub mod MultiLemmas

@@ -1,7 +1,7 @@
 -- marks in their order, and each owned node has its mark
-use Rattle.std.proofs.Common.{◌≡◌, ℕ, zero, suc, ◌+◌, ◌<◌, ◌≤◌, Bool, true, false, not, ◌&&◌, ◌||◌, cond, List, [], ◌∷◌, ◌++◌, length, Option, Some, None, Ordering, Less, Equal, Greater, refl, sym, ap, ◌∙◌, subst, arith}
+use Rattle.std.proofs.Common.{◌≡◌, ℕ, zero, suc, ◌<◌, ◌≤◌, Bool, true, false, not, ◌&&◌, ◌||◌, cond, List, [], ◌∷◌, Option, Some, None, Ordering, Less, Equal, Greater, refl, sym, ap, ◌∙◌, subst, arith}
 use Rattle.std.specs.Prelude.{◌==◌, slice_get}
-use Rattle.std.specs.List.{AllByRecursion, insert, list_any, prefix_len, remove}
+use Rattle.std.specs.List.{AllByRecursion, insert, list_any, remove}
 use Rattle.std.specs.Ordering.{nat_cmp, is_lt, is_le, ordering_then, ordering_reverse}
 use Rattle.std.specs.Cmp.{IsTotalOrder}
 use Rattle.std.specs.Cmp.Lexicographic.{slice_cmp}
@@ -11,13 +11,13 @@ use Rattle.std.proofs.lemmas.Bool.{and_left, and_right, and_parts, eqb-true, eq-
 use Rattle.std.proofs.lemmas.Bool.Decides.{nat_tests}
 use Rattle.np_shelf.specs.Lists.{IsSplit, changed_at}
 use Rattle.np_tree.specs.Look.{is_at, is_owned, is_session, node_at, without_node}
-use Rattle.np_tree.specs.Order.{IsSorted, Rises, is_before}
-use Rattle.np_tree.specs.Marks.{AllMarked, HasMark, is_mark, mark_before, mark_cmp, mark_place, mark_upto}
+use Rattle.np_tree.specs.Order.{IsSorted, Rises}
+use Rattle.np_tree.specs.Marks.{AllMarked, HasMark, is_mark, mark_before, mark_place, mark_upto}
 use Rattle.np_tree.specs.declared.node.Node.{Node}
 use Rattle.np_tree.specs.declared.mark.Mark.{Mark}
 use Rattle.np_tree.proofs.ChangeLemmas.{KeepsPath}
 use Rattle.np_tree.proofs.EndLemmas.{KeepsOwner, list_any-remove, none-any}
-use Rattle.np_tree.proofs.OrderLemmas.{le-trans, lt_le-trans}
+use Rattle.np_tree.proofs.OrderLemmas.{le-trans}
 use Rattle.np_tree.proofs.PlaceLemmas.{bytes_eq-from, bytes_eq-is, later-others, without_node-there}
 use Rattle.np_tree.proofs.RisingLemmas.{IsSplit-rises, NonePass, find-none, Rises-insert, Rises-remove, all-changed_at, all-insert, all-remove, all-weaker, none-find, prefix-one, prefix-none}
 

@@ -1,12 +1,12 @@
 -- the parts of a call, one after another
-use Rattle.std.proofs.Common.{◌≡◌, ℕ, zero, suc, ◌+◌, ◌<◌, ◌≤◌, Bool, true, false, not, ◌||◌, List, [], ◌∷◌, ◌++◌, length, take, drop, get_or, Option, Some, None, Result, Ok, Err, refl, sym, ap, ◌∙◌, subst, arith}
+use Rattle.std.proofs.Common.{◌≡◌, ℕ, ◌+◌, ◌<◌, ◌≤◌, true, false, not, List, [], ◌∷◌, ◌++◌, length, take, drop, get_or, Option, Some, None, Result, Ok, Err, refl, sym, ap, ◌∙◌}
 use Rattle.std.specs.List.{list_any}
 use Rattle.std.proofs.lemmas.Bool.{not-false, or_parts}
 use Rattle.std.proofs.lemmas.List.{append_assoc, append-nil, drop_more, drop_all, take_more, take_all}
 use Rattle.np_tree.specs.State.{State}
 use Rattle.np_tree.specs.Judge.{judge}
-use Rattle.np_tree.specs.Effect.{after_found, created, created_under, deleted, deleted_below, effect, replaced, with_made}
-use Rattle.np_tree.specs.Multi.{AtPart, after_multi, and_then, answers_from, effects, is_check}
+use Rattle.np_tree.specs.Effect.{after_found, created_under, deleted_below, effect, with_made}
+use Rattle.np_tree.specs.Multi.{AtPart, and_then, answers_from, effects, is_check}
 use Rattle.np_path.specs.Parts.{name_of, parent_of}
 use Rattle.np_tree.specs.Look.{node_at}
 use Rattle.np_tree.specs.declared.node.Node.{Node}

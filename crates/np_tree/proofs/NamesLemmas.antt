@@ -1,18 +1,15 @@
 -- the two halves of the path that is made
-use Rattle.std.proofs.Common.{◌≡◌, ℕ, ◌+◌, ◌-◌, ◌<◌, Bool, true, false, cond, ◌&&◌, ◌==◌, List, [], ◌∷◌, ◌++◌, length, take, drop, Option, Some, None, refl, sym, ap, ◌∙◌, arith}
-use Rattle.std.specs.Str.{bytes_eq}
+use Rattle.std.proofs.Common.{◌≡◌, ℕ, ◌-◌, Bool, true, false, cond, ◌&&◌, ◌==◌, List, [], ◌∷◌, ◌++◌, length, take, Some, refl, ap, ◌∙◌, arith}
 use Rattle.std.specs.List.{list_all}
-use Rattle.std.specs.Prelude.{if◌then◌else◌}
 use Rattle.std.proofs.lemmas.List.{append-nil, length-append}
-use Rattle.std.proofs.lemmas.Bool.Decides.{nat_tests}
 use Rattle.np_path.specs.Digits.{ten_digits}
 use Rattle.np_path.specs.Grammar.{is_element, is_kept, is_path}
-use Rattle.np_path.specs.Parts.{below, name_of, parent_of, root, slashed}
+use Rattle.np_path.specs.Parts.{below, name_of, parent_of, slashed}
 use Rattle.np_path.proofs.PartsLemmas.{IsNameAt-below, before_last-at, is_element-numbered, is_path-below, is_slash-is}
 use Rattle.np_path.proofs.PathLaws.{HasParts-below, IsChild-of}
 use Rattle.np_path.proofs.GrammarLemmas.{both-second}
 use Rattle.np_tree.specs.Look.{before_of}
-use Rattle.np_tree.specs.Names.{MakesName, half_of, made_name}
+use Rattle.np_tree.specs.Names.{MakesName, half_of}
 use Rattle.np_tree.specs.Judge.{made_path}
 use Rattle.np_tree.specs.Tests.{is_sequential}
 use Rattle.np_tree.specs.declared.node.Node.{Node}

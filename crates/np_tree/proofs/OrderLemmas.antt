@@ -1,14 +1,14 @@
 -- the order of nodes is a strict total order on texts with a slash
-use Rattle.std.proofs.Common.{◌≡◌, ℕ, zero, suc, ◌+◌, ◌<◌, Bool, true, false, cond, List, [], ◌∷◌, ◌++◌, length, Option, Some, None, Ordering, Less, Equal, Greater, refl, sym, ap, ◌∙◌, subst, arith}
+use Rattle.std.proofs.Common.{◌≡◌, ℕ, Bool, true, false, List, [], ◌∷◌, ◌++◌, Some, Ordering, Less, Equal, Greater, refl, sym, ap, ◌∙◌, subst}
 use Rattle.std.specs.Ordering.{nat_cmp, is_lt, is_le, ordering_then, ordering_reverse}
-use Rattle.std.specs.List.{before_last, list_any}
+use Rattle.std.specs.List.{list_any}
 use Rattle.std.specs.Cmp.{IsTotalOrder}
 use Rattle.std.specs.Cmp.Lexicographic.{slice_cmp}
 use Rattle.std.proofs.lemmas.Cmp.{nat_list_cmp_total, nat_cmp_total, on_total, then_total, tied_itself}
 use Rattle.std.proofs.lemmas.Map.Lookups.{exact_bytes}
 use Rattle.np_path.specs.Grammar.{is_slash, is_path}
-use Rattle.np_path.specs.Parts.{name_of, parent_of, or_root, root, below}
-use Rattle.np_path.proofs.PathLaws.{halves-whole, IsChild, IsChild-of}
+use Rattle.np_path.specs.Parts.{name_of, parent_of, or_root, root}
+use Rattle.np_path.proofs.PathLaws.{halves-whole, IsChild-of}
 use Rattle.np_path.proofs.PartsLemmas.{begins_with_slash}
 use Rattle.np_tree.specs.Look.{before_of, comes_before}
 

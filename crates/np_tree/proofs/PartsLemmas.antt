@@ -1,5 +1,5 @@
 -- the parts of a `multi`, one after another
-use Rattle.std.proofs.Common.{◌≡◌, ℕ, zero, suc, ◌+◌, ◌<◌, ◌≤◌, Bool, false, not, List, [], ◌∷◌, ◌++◌, length, take, drop, get_or, Result, Ok, Err, refl, sym, ap, ◌∙◌, subst, arith}
+use Rattle.std.proofs.Common.{◌≡◌, ℕ, suc, ◌+◌, ◌<◌, ◌≤◌, false, not, List, [], ◌∷◌, ◌++◌, length, take, drop, get_or, Result, Ok, Err, refl, sym, ap, ◌∙◌, arith}
 use Rattle.std.specs.List.{list_any}
 use Rattle.std.specs.Prelude.{IsOk}
 use Rattle.std.proofs.lemmas.List.{drop_more, length-take-le, take-append-drop, take_all, take_more}
@@ -15,7 +15,7 @@ use Rattle.np_tree.specs.declared.desk.Desk.{Desk}
 use Rattle.np_tree.specs.declared.op.Op.{Op}
 use Rattle.np_tree.specs.declared.op.OpDone.{OpDone}
 use Rattle.np_tree.specs.declared.refusal.TreeRefusal.{TreeRefusal}
-use Rattle.np_tree.specs.declared.refusal.MultiFault.TheVariants.{Refused, NoMemory}
+use Rattle.np_tree.specs.declared.refusal.MultiFault.TheVariants.{NoMemory}
 use Rattle.np_tree.proofs.MultiLemmas.{effects-append, effects-checks, effects-nodes, with_nodes}
 
 -- the first part and those after it were accepted

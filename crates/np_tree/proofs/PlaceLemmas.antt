@@ -1,7 +1,7 @@
 -- a node by its path is the node at its place
-use Rattle.std.proofs.Common.{◌≡◌, ℕ, zero, suc, ◌+◌, ◌-◌, ◌<◌, ◌≤◌, Bool, true, false, not, cond, List, [], ◌∷◌, ◌++◌, length, take, drop, get_or, map, Option, Some, None, refl, sym, ap, ◌∙◌, subst, arith}
-use Rattle.std.specs.Prelude.{find, slice_get, filter}
-use Rattle.std.specs.List.{AllByRecursion, insert, remove, list_any, prefix_len}
+use Rattle.std.proofs.Common.{◌≡◌, ℕ, zero, suc, ◌<◌, Bool, true, false, not, List, [], ◌∷◌, length, Option, Some, None, refl, sym, ap, ◌∙◌, subst, arith}
+use Rattle.std.specs.Prelude.{slice_get, filter}
+use Rattle.std.specs.List.{AllByRecursion, insert, remove, list_any}
 use Rattle.std.specs.Ordering.{nat_cmp, is_lt, is_le, ordering_then}
 use Rattle.std.specs.Cmp.Lexicographic.{slice_cmp}
 use Rattle.std.specs.Str.{bytes_eq}
@@ -12,7 +12,7 @@ use Rattle.np_path.specs.Grammar.{is_path, is_slash}
 use Rattle.np_path.specs.Parts.{name_of}
 use Rattle.np_shelf.specs.Lists.{IsSplit, changed_at}
 use Rattle.np_tree.specs.Look.{before_of, change_node, comes_before, is_at, node_at, with_node, without_node}
-use Rattle.np_tree.specs.Order.{AllPaths, IsSorted, Rises, is_before, place_of}
+use Rattle.np_tree.specs.Order.{AllPaths, IsSorted, is_before, place_of}
 use Rattle.np_tree.specs.declared.node.Node.{Node}
 use Rattle.np_tree.proofs.OrderLemmas.{comes_before-first_le, comes_before-halves, comes_before-halves_le, halves_cmp, halves_of, has_slash, comes_before-itself, comes_before-trans, comes_before-one_way, comes_before-some_way}
 use Rattle.np_tree.proofs.RisingLemmas.{FirstAt, NonePass, FirstAt-prefix, NonePass-prefix, IsSplit-rises, Rises-filter, Rises-insert, Rises-remove, all-filter, all-insert, all-remove, all-slice_get, all-weaker, find-first, find-none, none-find, prefix-one, prefix-none}

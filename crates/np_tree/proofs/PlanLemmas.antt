@@ -1,12 +1,12 @@
 -- what planned edits make, and that everything is kept
-use Rattle.std.proofs.Common.{◌≡◌, ℕ, ◌+◌, ◌<◌, Bool, true, false, cond, List, [], ◌∷◌, length, Option, Some, None, refl, sym, ap, ◌∙◌, subst}
+use Rattle.std.proofs.Common.{◌≡◌, ℕ, ◌<◌, Bool, true, false, cond, List, [], ◌∷◌, length, Option, Some, None, refl, sym, ap, ◌∙◌, subst}
 use Rattle.std.specs.Prelude.{slice_get}
 use Rattle.std.specs.List.{insert, remove}
 use Rattle.std.specs.Str.{bytes_eq}
 use Rattle.np_path.specs.Grammar.{is_path}
 use Rattle.np_path.specs.Parts.{parent_of}
 use Rattle.np_tree.specs.State.{State}
-use Rattle.np_tree.specs.Look.{change_node, children_of, is_at, is_owned, node_at, with_node, without_node}
+use Rattle.np_tree.specs.Look.{change_node, children_of, is_at, is_owned, node_at, with_node}
 use Rattle.np_tree.specs.Effect.{deleted, next_change, without_child}
 use Rattle.np_tree.specs.Marks.{AllMarked, HasMark}
 use Rattle.np_tree.specs.Order.{AllPaths, IsSorted, place_of}
@@ -14,9 +14,9 @@ use Rattle.np_tree.specs.Kept.{HasRoom, IsKept, removed, touched_above}
 use Rattle.np_tree.specs.declared.node.Node.{Node}
 use Rattle.np_tree.specs.declared.mark.Mark.{Mark}
 use Rattle.np_tree.proofs.ChangeLemmas.{AllPaths-change_node, IsSorted-change_node, KeepsPath, length-children-paths, node_at-paths-none, paths_of, paths_of-change_node, place_of-change_node}
-use Rattle.np_tree.proofs.EffectLemmas.{AtSame, slice_get-paths}
+use Rattle.np_tree.proofs.EffectLemmas.{slice_get-paths}
 use Rattle.np_tree.proofs.EndLemmas.{KeepsOwner, ended_nodes, ended_nodes-step, ended_nodes-top}
-use Rattle.np_tree.proofs.KeptLemmas.{IsKept-insert, IsKept-insert_mark, IsKept-remove, IsKept-remove_mark, MayStand}
+use Rattle.np_tree.proofs.KeptLemmas.{IsKept-insert, IsKept-remove, IsKept-remove_mark, MayStand}
 use Rattle.np_tree.proofs.MarkLemmas.{HasMark-insert, NoneMarked-none, none-without}
 use Rattle.np_tree.proofs.RisingLemmas.{NonePass}
 use Rattle.np_tree.proofs.PlaceLemmas.{bytes_eq-is, with_node-at, without_node-there}

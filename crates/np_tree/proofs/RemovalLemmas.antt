@@ -1,21 +1,20 @@
 -- the edits that take nodes away
-use Rattle.std.proofs.Common.{◌≡◌, ℕ, ◌+◌, ◌<◌, Bool, true, false, not, eqb, ◌==◌, List, [], ◌∷◌, length, Option, Some, None, refl, sym, ap, ◌∙◌, subst, arith}
+use Rattle.std.proofs.Common.{◌≡◌, ℕ, ◌<◌, true, false, not, eqb, ◌==◌, List, [], length, Option, Some, None, refl, sym, ap, ◌∙◌, arith}
 use Rattle.std.specs.Prelude.{slice_get}
 use Rattle.std.specs.List.{remove}
 use Rattle.std.specs.Option.{option_eq}
 use Rattle.np_tree.proofs.FindLemmas.{false-not, true-not}
-use Rattle.std.specs.Str.{bytes_eq}
 use Rattle.std.proofs.lemmas.Bool.{eqb-true, false_from_ne_true}
 use Rattle.std.proofs.lemmas.List.Edits.{length-remove}
 use Rattle.std.proofs.lemmas.Option.{slice_get_within}
 use Rattle.np_path.specs.Parts.{parent_of}
 use Rattle.np_shelf.specs.Lists.{changed_at}
-use Rattle.np_tree.specs.Edits.{CanEdit, CanTouch, edited, swapped, touched}
+use Rattle.np_tree.specs.Edits.{CanTouch, swapped, touched}
 use Rattle.np_tree.specs.Effect.{without_child}
 use Rattle.np_tree.specs.Ends.{EndsOne, ended_nodes}
 use Rattle.np_tree.specs.Finds.{IsPlace}
 use Rattle.np_tree.specs.Kept.{IsKept, Plans, removed, touched_above}
-use Rattle.np_tree.specs.Look.{change_node, is_at, is_owned, is_session, node_at}
+use Rattle.np_tree.specs.Look.{is_owned, is_session, node_at}
 use Rattle.np_tree.specs.Marks.{mark_place}
 use Rattle.np_tree.specs.Order.{IsSorted}
 use Rattle.np_tree.specs.Plans.{TakesMark}
