@@ -1,4 +1,4 @@
-use Rattle.std.specs.Prelude.{◌≡◌, ℕ, Result, Ok, Err, IsOk}
+use Rattle.std.specs.Prelude.{◌≡◌, Result, Ok, Err, IsOk}
 use Rattle.np_tree.specs.State.{State}
 use Rattle.np_tree.specs.declared.board.Board.{Board}
 use Rattle.np_tree.specs.declared.refusal.TreeFault.{TreeFault}

@@ -1,10 +1,9 @@
-use Rattle.std.specs.Prelude.{◌≡◌, ◌<◌, ℕ, ◌+◌, nat_le, nat_lt, Bool, true, false, ◌&&◌, Option, Some, None, List, [], ◌∷◌, ◌++◌, Result, Ok, Err}
+use Rattle.std.specs.Prelude.{◌≡◌, ◌<◌, ℕ, ◌+◌, nat_le, nat_lt, Bool, false, ◌&&◌, Option, Some, None, List, [], ◌∷◌, ◌++◌, Result, Ok, Err}
 use Rattle.np_session.specs.declared.fault.SessionFault.{SessionFault}
 use Rattle.np_session.specs.declared.fault.SessionFault.TheVariants.{Spent, NoMemory}
 use Rattle.np_tree.specs.State.{State}
 use Rattle.np_tree.specs.Look.{change_node, node_at}
 use Rattle.np_tree.specs.declared.node.Node.{Node}
-use Rattle.np_tree.specs.declared.node.Facts.{Facts}
 
 -- whether a node's sequence counter may be raised to a number: it is lower, and the number is one that a counter can reach (own)
 abbrev pub is_below : ℕ → Option Node → Bool

@@ -1,4 +1,4 @@
-use Rattle.std.specs.Prelude.{ℕ, ◌+◌, ◌==◌, nat_lt, Bool, true, false, not, ◌&&◌, List, [], ◌∷◌, ◌++◌, map, filter, min, Option, Some, None, if◌then◌else◌}
+use Rattle.std.specs.Prelude.{ℕ, ◌+◌, not, ◌&&◌, List, [], map, filter, min, Option, Some, None, if◌then◌else◌}
 use Rattle.std.specs.List.{list_any}
 use Rattle.np_path.specs.Parts.{name_of, parent_of}
 use Rattle.np_session.specs.Known.{without}
@@ -7,7 +7,6 @@ use Rattle.np_tree.specs.Look.{change_node, is_child, is_owned, node_at, with_no
 use Rattle.np_tree.specs.Tests.{is_ephemeral, is_sequential}
 use Rattle.np_tree.specs.Judge.{made_path}
 use Rattle.np_tree.specs.declared.node.Node.{Node}
-use Rattle.np_tree.specs.declared.node.Facts.{Facts}
 use Rattle.np_tree.specs.declared.kind.Mode.{Mode}
 use Rattle.np_tree.specs.declared.op.Op.{Op}
 use Rattle.np_tree.specs.declared.op.Op.TheVariants as op

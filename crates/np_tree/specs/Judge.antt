@@ -1,5 +1,5 @@
-use Rattle.std.specs.Prelude.{ℕ, ◌+◌, ◌==◌, nat_lt, nat_le, Bool, true, false, not, ◌&&◌, ◌||◌, List, [], ◌∷◌, ◌++◌, length, Option, Some, None, Result, Ok, Err, if◌then◌else◌}
-use Rattle.std.specs.Option.{is_some, is_none}
+use Rattle.std.specs.Prelude.{ℕ, ◌+◌, ◌==◌, nat_lt, nat_le, not, ◌||◌, List, [], ◌++◌, length, Result, Ok, if◌then◌else◌}
+use Rattle.std.specs.Option.{is_none}
 use Rattle.std.specs.Str.{bytes_eq}
 use Rattle.np_path.specs.Digits.{ten_digits}
 use Rattle.np_path.specs.Parts.{below, name_of, parent_of, root}

@@ -1,12 +1,10 @@
-use Rattle.std.specs.Prelude.{ℕ, ◌==◌, Bool, true, false, not, List, [], ◌∷◌, length, filter, find, Option, Some, None, slice_get, if◌then◌else◌}
-use Rattle.std.specs.List.{list_any, before_last}
+use Rattle.std.specs.Prelude.{ℕ, ◌==◌, Bool, false, not, List, [], ◌∷◌, length, filter, find, Option, Some, None, if◌then◌else◌}
+use Rattle.std.specs.List.{before_last}
 use Rattle.np_path.specs.Grammar.{is_slash}
-use Rattle.std.specs.Option.{is_some, option_map}
 use Rattle.std.specs.Str.{bytes_eq}
 use Rattle.std.specs.Ordering.{nat_cmp, is_lt, ordering_then}
 use Rattle.std.specs.Cmp.Lexicographic.{slice_cmp}
 use Rattle.np_path.specs.Parts.{name_of, parent_of}
-use Rattle.np_tree.specs.State.{State}
 use Rattle.np_tree.specs.declared.node.Node.{Node}
 use Rattle.np_tree.specs.declared.kind.Stat.{Stat}
 

@@ -1,10 +1,9 @@
-use Rattle.std.specs.Prelude.{◌≡◌, ⊤, ℕ, Bool, true, false, ◌&&◌, ◌==◌, List, Option, Some, None}
+use Rattle.std.specs.Prelude.{◌≡◌, ⊤, ℕ, Bool, true, ◌&&◌, ◌==◌, List, Option, Some, None}
 use Rattle.std.specs.List.{AllByRecursion, list_any, prefix_len}
 use Rattle.std.specs.declared.cmp.Ordering.{Ordering}
 use Rattle.std.specs.Ordering.{nat_cmp, is_lt, is_le, ordering_then}
 use Rattle.std.specs.Cmp.Lexicographic.{slice_cmp}
 use Rattle.std.specs.Str.{bytes_eq}
-use Rattle.np_tree.specs.Order.{Rises}
 use Rattle.np_tree.specs.declared.node.Node.{Node}
 use Rattle.np_tree.specs.declared.mark.Mark.{Mark}
 

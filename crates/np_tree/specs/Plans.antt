@@ -1,4 +1,4 @@
-use Rattle.std.specs.Prelude.{◌≡◌, ⊤, ◌<◌, ◌≤◌, ℕ, true, List, [], length, Option, Some, None, slice_get, if◌then◌else◌}
+use Rattle.std.specs.Prelude.{◌≡◌, ⊤, ◌<◌, ◌≤◌, ℕ, true, List, length, Some, None, slice_get, if◌then◌else◌}
 use Rattle.np_tree.specs.Effect.{new_node, with_child}
 use Rattle.np_tree.specs.Finds.{IsPlace}
 use Rattle.np_tree.specs.Judge.{made_path}

@@ -1,4 +1,4 @@
-use Rattle.std.specs.Prelude.{ℕ, ◌<◌, ◌≤◌, List, length, insert, remove}
+use Rattle.std.specs.Prelude.{◌<◌, ◌≤◌, List, length, insert, remove}
 use Rattle.np_tree.specs.declared.step.Step.{Step}
 use Rattle.np_tree.specs.declared.step.Step.TheVariants.{Nothing, Take, Put}
 

@@ -1,9 +1,7 @@
-use Rattle.std.specs.Prelude.{ℕ, ◌+◌, ◌==◌, nat_lt, nat_le, Bool, true, false, not, ◌&&◌, ◌||◌, List, [], ◌∷◌, length, Option, Some, None, Result, Ok, Err, if◌then◌else◌}
-use Rattle.std.specs.Option.{is_some, is_none}
-use Rattle.np_path.specs.Parts.{parent_of}
+use Rattle.std.specs.Prelude.{ℕ, ◌==◌, nat_lt, nat_le, Bool, true, false, List, length, Option, Some, None, Result, Ok, Err}
 use Rattle.np_session.specs.Known.{is_in}
 use Rattle.np_tree.specs.State.{State}
-use Rattle.np_tree.specs.Look.{children_of, node_at}
+use Rattle.np_tree.specs.Look.{node_at}
 use Rattle.np_tree.specs.declared.node.Node.{Node}
 use Rattle.np_tree.specs.declared.kind.Mode.{Mode}
 use Rattle.np_tree.specs.declared.kind.Mode.TheVariants.{Persistent, Ephemeral, PersistentSequential, EphemeralSequential}

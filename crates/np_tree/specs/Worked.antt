@@ -1,10 +1,10 @@
-use Rattle.std.specs.Prelude.{ℕ, List, [], ◌∷◌, codes, Option, Some, None, Result, Ok, Err, if◌then◌else◌}
+use Rattle.std.specs.Prelude.{ℕ, List, [], ◌∷◌, codes, Result, Ok, Err, if◌then◌else◌}
 use Rattle.std.specs.Result.{is_ok}
 use Rattle.np_tree.specs.State.{State, new_tree}
 use Rattle.np_tree.specs.Calls.{raised}
 use Rattle.np_tree.specs.Effect.{counted, effect, ended}
 use Rattle.np_tree.specs.Judge.{judge}
-use Rattle.np_tree.specs.Multi.{AtPart, answers_from}
+use Rattle.np_tree.specs.Multi.{AtPart}
 use Rattle.np_tree.specs.declared.op.Op.{Op}
 use Rattle.np_tree.specs.declared.op.Op.TheVariants as op
 use Rattle.np_tree.specs.declared.op.OpDone.{OpDone}

@@ -1,4 +1,12 @@
 //! The coordination tree: nodes with bytes, versions, owners and counters, changed by sessions.
+//!
+//! Contracts see a `Tree` as the `State` of `specs/State`. Read `specs/Look`, then `specs/Judge` and
+//! `specs/Effect` for one call: its tests in their order, and what it leaves; then `specs/Multi`,
+//! `specs/Calls` and `specs/Read`. `specs/Worked` has closed rows. How the code does it is in
+//! `docs/TREE.md`.
+//!
+//! Between two calls the nodes stand in their order, each path once and in the grammar. A call that is
+//! refused, or finds no memory, leaves everything as it was.
 #![tactic(auto)]
 
 mod board;

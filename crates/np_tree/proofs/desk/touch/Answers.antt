@@ -1,4 +1,3 @@
-use Rattle.std.proofs.Common.{arith}
 use Rattle.np_shelf.proofs.Places.{length-changed_at}
 use Rattle.np_tree.specs.Edits.{swapped}
 use Rattle.np_tree.proofs.DeskLemmas.{touched-back}

@@ -1,8 +1,6 @@
-use Rattle.std.proofs.Common.{◌≡◌, ℕ, List, true, false, [], ◌∷◌, sym, ◌∙◌}
-use Rattle.std.specs.Str.{bytes_eq}
+use Rattle.std.proofs.Common.{◌≡◌, [], sym}
 use Rattle.np_path.specs.Parts.{root}
-use Rattle.np_tree.specs.Finds.{IsStretch}
-use Rattle.np_tree.proofs.ChildLemmas.{IsKey, IsKey-root, children_from, children_to}
+use Rattle.np_tree.proofs.ChildLemmas.{IsKey-root}
 use Rattle.np_tree.proofs.FindLemmas.{IsKey-itself, IsStretch-empty, IsStretch-key, empty-is, empty-not}
 use Rattle.np_tree.proofs.PlaceLemmas.{bytes_eq-from, bytes_eq-is}
 use Rattle.np_tree.proofs.find.children.Goals as goal

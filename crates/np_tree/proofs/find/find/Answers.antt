@@ -1,12 +1,11 @@
-use Rattle.std.proofs.Common.{◌≡◌, ℕ, ◌++◌, [], List, Bool, true, false, Some, None, refl, sym, ap, ◌∙◌}
+use Rattle.std.proofs.Common.{◌≡◌, ◌++◌, [], true, false, Some, None, sym, ap, ◌∙◌}
 use Rattle.std.specs.List.{list_any}
 use Rattle.std.specs.Prelude.{slice_get}
 use Rattle.std.proofs.lemmas.Bool.{false_from_ne_true}
 use Rattle.std.proofs.lemmas.Option.{slice_get_within}
 use Rattle.np_path.specs.Grammar.{is_slash}
 use Rattle.np_path.specs.Parts.{name_of}
-use Rattle.np_tree.specs.Finds.{Finds}
-use Rattle.np_tree.specs.Look.{before_of, is_at, node_at}
+use Rattle.np_tree.specs.Look.{before_of, is_at}
 use Rattle.np_tree.specs.Order.{place_of}
 use Rattle.np_tree.proofs.FindLemmas.{false-not, place_of-halves, true-not}
 use Rattle.np_tree.proofs.PlaceLemmas.{IsSplit-halves, node_at-no_slash, node_at-other, node_at-past, node_at-there}

@@ -1,4 +1,4 @@
-use Rattle.std.proofs.Common.{◌≡◌, ◌++◌, sym, ap, ◌∙◌}
+use Rattle.std.proofs.Common.{sym, ◌∙◌}
 use Rattle.np_tree.specs.Judge.{made_path}
 use Rattle.np_tree.proofs.NamesLemmas.{IsMade-made_path}
 use Rattle.np_tree.proofs.find.gap.Goals as goal

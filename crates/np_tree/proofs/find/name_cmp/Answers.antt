@@ -1,6 +1,4 @@
-use Rattle.std.proofs.Common.{◌≡◌, length, sym, ap, ◌∙◌}
-use Rattle.std.specs.Ordering.{nat_cmp, ordering_then}
-use Rattle.std.specs.Cmp.Lexicographic.{slice_cmp}
+use Rattle.std.proofs.Common.{sym, ◌∙◌}
 use Rattle.np_tree.proofs.NameLemmas.{slice_cmp-shorter, slice_cmp-append}
 use Rattle.np_tree.proofs.find.name_cmp.Goals as goal
 

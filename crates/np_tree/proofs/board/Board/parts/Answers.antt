@@ -1,6 +1,5 @@
-use Rattle.std.proofs.Common.{◌≡◌, ◌+◌, ◌++◌, ◌∷◌, [], List, refl, sym, ap, ◌∙◌, arith}
-use Rattle.np_tree.specs.declared.op.OpDone.{OpDone}
-use Rattle.np_tree.proofs.PartsLemmas.{DoesPart, SoFar, SoFar-all, SoFar-more, SoFar-refused, SoFar-rest, SoFar-stopped}
+use Rattle.std.proofs.Common.{◌≡◌, ◌+◌, ◌++◌, ◌∷◌, [], refl}
+use Rattle.np_tree.proofs.PartsLemmas.{DoesPart, SoFar-all, SoFar-more, SoFar-refused, SoFar-rest, SoFar-stopped}
 use Rattle.np_tree.proofs.board.Board.parts.Goals as goal
 
 pub returns-then-is_err-clause-answer : goal.returns-then-is_err-clause-answer

@@ -1,10 +1,9 @@
-use Rattle.std.proofs.Common.{◌≡◌, ◌<◌, ℕ, Option, Some, None, length, refl, sym, ap, ◌∙◌, arith}
+use Rattle.std.proofs.Common.{◌≡◌, ◌<◌, Some, None, length, ap, ◌∙◌, arith}
 use Rattle.std.specs.Prelude.{if◌then◌else◌}
 use Rattle.np_tree.specs.Edits.{swapped}
 use Rattle.np_tree.specs.Effect.{new_node, with_child}
 use Rattle.np_tree.specs.Judge.{made_path}
 use Rattle.np_tree.specs.Tests.{is_ephemeral}
-use Rattle.np_tree.specs.declared.node.Node.{Node}
 use Rattle.np_tree.specs.declared.edit.Swap.{Swap}
 use Rattle.np_tree.proofs.CreationLemmas.{Makes-spot, Plans-creation, new_node-parts, then_some-cond}
 use Rattle.np_tree.proofs.desk.Desk.creation.Goals as goal

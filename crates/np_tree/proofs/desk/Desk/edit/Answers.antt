@@ -1,6 +1,4 @@
-use Rattle.std.proofs.Common.{◌≡◌, ◌++◌, ◌∷◌, [], refl, sym, ap, ◌∙◌}
-use Rattle.np_tree.specs.Desks.{KeepsStart}
-use Rattle.np_tree.specs.Edits.{CanUndo, nodes_before, marks_before}
+use Rattle.std.proofs.Common.{◌≡◌, ◌++◌, ◌∷◌, [], refl, ap, ◌∙◌}
 use Rattle.np_tree.proofs.DeskLemmas.{CanUndo-push, marks_before-push, nodes_before-push}
 use Rattle.np_tree.proofs.desk.Desk.edit.Goals as goal
 

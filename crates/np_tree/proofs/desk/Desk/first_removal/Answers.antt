@@ -1,8 +1,6 @@
-use Rattle.std.proofs.Common.{◌≡◌, ◌==◌, ℕ, true, false, [], Some, None, refl, sym, ap, ◌∙◌}
+use Rattle.std.proofs.Common.{◌≡◌, [], Some, None, sym, ◌∙◌}
 use Rattle.std.specs.Prelude.{slice_get}
-use Rattle.np_tree.specs.Look.{is_owned}
 use Rattle.np_tree.specs.Marks.{mark_place}
-use Rattle.np_tree.specs.declared.mark.Mark.{Mark}
 use Rattle.np_tree.proofs.MarkLemmas.{IsSplit-mark}
 use Rattle.np_tree.proofs.RemovalLemmas.{EndsOne-absent, EndsOne-other, EndsOne-removal, ended-all, owner-is, owner-not, session-not}
 use Rattle.np_tree.proofs.desk.Desk.first_removal.Goals as goal

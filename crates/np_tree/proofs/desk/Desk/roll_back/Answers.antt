@@ -1,5 +1,4 @@
-use Rattle.std.proofs.Common.{◌≡◌, sym, ap, ◌∙◌}
-use Rattle.np_tree.specs.Edits.{CanUndo, marks_before, nodes_before}
+use Rattle.std.proofs.Common.{◌≡◌, ap}
 use Rattle.np_tree.proofs.DeskLemmas.{CanUndo-last, CanUndo-others, marks_before-push, nodes_before-push}
 use Rattle.np_tree.proofs.desk.Desk.roll_back.Goals as goal
 

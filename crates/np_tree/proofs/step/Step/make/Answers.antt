@@ -1,4 +1,3 @@
-use Rattle.std.proofs.Common.{◌∙◌, ap, insert, remove}
 use Rattle.np_tree.proofs.StepLemmas.{insert-remove, remove-insert}
 use Rattle.np_tree.proofs.step.Step.make.Goals as goal
 
