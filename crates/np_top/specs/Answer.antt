@@ -1,5 +1,5 @@
 -- what the program answers
-use Rattle.std.specs.Prelude.{ℕ, List, [], ◌∷◌, ◌++◌, codes, decimal, Bool, true, false, if◌then◌else◌, nat_lt, Result, Ok, Err, length}
+use Rattle.std.specs.Prelude.{ℕ, List, [], ◌∷◌, ◌++◌, codes, decimal, Bool, false, if◌then◌else◌, nat_lt, Result, Ok, Err, length}
 use Rattle.std.specs.Str.{bytes_eq}
 use Rattle.np_text.specs.Lines.{line}
 use Rattle.np_json.specs.declared.fault.ConfigKind.{ConfigKind}

@@ -1,4 +1,4 @@
-use Rattle.std.proofs.Common.{◌≡◌, ◌≤◌, ◌∙◌, sym, map, length, string_bytes, arith}
+use Rattle.std.proofs.Common.{sym, map, string_bytes}
 use Rattle.std.proofs.lemmas.List.{length-map}
 use Rattle.np_top.proofs.Words.{too_many_words}
 use Rattle.np_top.proofs.top.is_command.Goals as goal
