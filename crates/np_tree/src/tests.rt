@@ -1,4 +1,4 @@
-ghost use Rattle.std.specs.Prelude.{◌≡◌, ◌≤◌, true, length, IfOk};
+ghost use Rattle.std.specs.Prelude.{◌≡◌, true, IfOk, OnOk};
 ghost use Rattle.std.specs.List.{list_all};
 ghost use Rattle.np_tree.specs.Multi.{is_numbered};
 
@@ -6,7 +6,7 @@ use crate::{
     Bytes, Expect, Mode, MultiFault, Op, OpDone, Stat, Tree, TreeFault, TreeRefusal, worked_rows,
 };
 use np_path::{Path, PathFault};
-use std::alloc::Global;
+use std::alloc::{AllocError, Global};
 use std::test::Fail;
 
 // A call with no bytes.
@@ -53,39 +53,36 @@ fn tells_fault(fault: TreeFault, told: Told) -> bool {
     matches!(told, Told::No(want) if fault == TreeFault::Refused(want))
 }
 
-fn tells(
-    alloc: Global,
-    tree: &mut Tree,
-    session: u32,
-    call: Call,
-    told: Told,
-) -> Result<bool, PathFault> {
+fn tells_at(tree: &mut Tree, session: u32, path: &Path, call: Call, told: Told) -> bool {
     match call {
-        Call::Create(path, mode) => {
-            let path = Path::new(alloc, path)?;
-            let answer = tree.create(session, &path, b"", mode);
-            Ok(tells_path(answer, told))
+        Call::Create(_, mode) => tells_path(tree.create(session, path, b"", mode), told),
+        Call::CreateUnder(_) => {
+            let answer = tree.create_under(session, path, b"", Mode::PersistentSequential);
+            tells_path(answer, told)
         }
-        Call::CreateUnder(path) => {
-            let path = Path::new(alloc, path)?;
-            let answer = tree.create_under(session, &path, b"", Mode::PersistentSequential);
-            Ok(tells_path(answer, told))
+        Call::Set(_, expect) => tells_version(tree.set(session, path, b"", expect), told),
+        Call::Delete(_, expect) => tells_done(tree.delete(session, path, expect), told),
+        Call::Check(_, expect) => {
+            let answer = tree.check(session, path, expect);
+            tells_done(answer.map_err(TreeFault::Refused), told)
         }
-        Call::Set(path, expect) => {
-            let path = Path::new(alloc, path)?;
-            let answer = tree.set(session, &path, b"", expect);
-            Ok(tells_version(answer, told))
-        }
-        Call::Delete(path, expect) => {
-            let path = Path::new(alloc, path)?;
-            let answer = tree.delete(session, &path, expect);
-            Ok(tells_done(answer, told))
-        }
-        Call::Check(path, expect) => {
-            let path = Path::new(alloc, path)?;
-            let answer = tree.check(session, &path, expect);
-            Ok(tells_done(answer.map_err(TreeFault::Refused), told))
-        }
+    }
+}
+
+fn path_of(call: Call) -> &'static str {
+    match call {
+        Call::Create(path, _)
+        | Call::CreateUnder(path)
+        | Call::Set(path, _)
+        | Call::Delete(path, _)
+        | Call::Check(path, _) => path,
+    }
+}
+
+fn tells(alloc: Global, tree: &mut Tree, session: u32, call: Call, told: Told) -> bool {
+    match Path::new(alloc, path_of(call)) {
+        Ok(path) => tells_at(tree, session, &path, call, told),
+        Err(_) => false,
     }
 }
 
@@ -102,14 +99,18 @@ fn is_live(tree: &Tree, session: u32) -> bool {
     tree.is_live(session)
 }
 
-fn raises(alloc: Global, tree: &mut Tree, path: &str, to: u32) -> Result<bool, PathFault> {
-    let path = Path::new(alloc, path)?;
-    Ok(tree.raise_counter(&path, to))
+fn raises(alloc: Global, tree: &mut Tree, path: &str, to: u32) -> bool {
+    match Path::new(alloc, path) {
+        Ok(path) => tree.raise_counter(&path, to),
+        Err(_) => false,
+    }
 }
 
-fn makes(alloc: Global, tree: &mut Tree, path: &str, mode: Mode) -> Result<bool, PathFault> {
-    let path = Path::new(alloc, path)?;
-    Ok(tree.create(1, &path, b"old", mode).is_ok())
+fn makes(alloc: Global, tree: &mut Tree, path: &str, mode: Mode) -> bool {
+    match Path::new(alloc, path) {
+        Ok(path) => tree.create(1, &path, b"old", mode).is_ok(),
+        Err(_) => false,
+    }
 }
 
 fn stat(tree: &Tree, path: &str) -> Option<Stat> {
@@ -177,17 +178,17 @@ fn tree_calls(rt: HostRuntime) -> Result<(), Fail> {
         assert!(rt; begins(&mut tree, want), "{want} begins");
     }
     for (call, told) in CALLS {
-        assert!(rt; tells(alloc, &mut tree, 1, call, told)?, "{call:?}");
+        assert!(rt; tells(alloc, &mut tree, 1, call, told), "{call:?}");
     }
     for (to, want) in [
         (2_147_483_647, true),
         (2_147_483_647, false),
         (2_147_483_649, false),
     ] {
-        assert!(rt; raises(alloc, &mut tree, "/q", to)? == want, "{to}");
+        assert!(rt; raises(alloc, &mut tree, "/q", to) == want, "{to}");
     }
     for (call, told) in LATER_CALLS {
-        assert!(rt; tells(alloc, &mut tree, 1, call, told)?, "{call:?}");
+        assert!(rt; tells(alloc, &mut tree, 1, call, told), "{call:?}");
     }
     assert_eq!(rt; counter(&tree, "/q"), Some(2_147_483_648));
     assert!(rt; ends(&mut tree, 2) && stat(&tree, "/e").is_some(), "2 ends");
@@ -195,7 +196,7 @@ fn tree_calls(rt: HostRuntime) -> Result<(), Fail> {
     assert!(rt; !is_live(&tree, 1) && !ends(&mut tree, 1), "1 is over");
     let call = Call::Set("/a", Expect::Any);
     let told = Told::No(TreeRefusal::SessionExpired);
-    assert!(rt; tells(alloc, &mut tree, 1, call, told)?, "{call:?}");
+    assert!(rt; tells(alloc, &mut tree, 1, call, told), "{call:?}");
     Ok(())
 }
 
@@ -317,13 +318,13 @@ fn refusals_by_call(rt: HostRuntime) -> Result<(), Fail> {
     }
     assert!(rt; ends(&mut tree, 2), "2 ends");
     for path in NODES {
-        assert!(rt; makes(alloc, &mut tree, path, Mode::Persistent)?, "{path}");
+        assert!(rt; makes(alloc, &mut tree, path, Mode::Persistent), "{path}");
     }
-    assert!(rt; makes(alloc, &mut tree, "/e", Mode::Ephemeral)?, "/e");
-    assert!(rt; raises(alloc, &mut tree, "/q", 2_147_483_648)?, "/q");
+    assert!(rt; makes(alloc, &mut tree, "/e", Mode::Ephemeral), "/e");
+    assert!(rt; raises(alloc, &mut tree, "/q", 2_147_483_648), "/q");
     for (session, call, refusal) in REFUSALS {
         let told = Told::No(refusal);
-        assert!(rt; tells(alloc, &mut tree, session, call, told)?, "{call:?}");
+        assert!(rt; tells(alloc, &mut tree, session, call, told), "{call:?}");
     }
     // Eight creates, and the end of session 2.
     assert_eq!(rt; changes(&tree), 9);
@@ -432,11 +433,52 @@ fn made_second(answer: Result<Vec<OpDone>, MultiFault>, want: &str) -> bool {
     }
 }
 
-fn runs(tree: &mut Tree, ops: &[Op]) -> Result<Vec<OpDone>, MultiFault>
-    requires few { length ops.now ≤ 4294967295 }
-    requires numbered { list_all is_numbered ops.now ≡ true }
+// One more part.
+fn add(ops: &mut Vec<Op>, part: Op) -> Result<(), AllocError>
+    requires ops { list_all is_numbered ops.old.items ≡ true }
+    requires part { is_numbered part ≡ true }
+    ensures { OnOk result (list_all is_numbered ops.new.items ≡ true) }
 {
+    ops.push(part)?;
+    Ok(())
+}
+
+fn runs(tree: &mut Tree, ops: &Vec<Op>) -> Result<Vec<OpDone>, MultiFault>
+    requires { list_all is_numbered ops.now.items ≡ true }
+{
+    if ops.len() > 7 {
+        return Err(MultiFault::NoMemory);
+    }
     tree.multi(1, ops)
+}
+
+// The parts of the worked row, of which the third fails.
+fn three_parts(alloc: Global) -> Result<Vec<Op>, Fail>
+    ensures { IfOk result (λ ops. list_all is_numbered ops.items ≡ true) }
+{
+    let mut ops = two_parts(alloc)?;
+    add(&mut ops, deleted(alloc, "/zz")?)?;
+    Ok(ops)
+}
+
+fn two_parts(alloc: Global) -> Result<Vec<Op>, Fail>
+    ensures { IfOk result (λ ops. list_all is_numbered ops.items ≡ true) }
+{
+    let mut ops = Vec::new(alloc);
+    add(&mut ops, checked(alloc, "/a", 1)?)?;
+    add(&mut ops, created(alloc, "/c")?)?;
+    Ok(ops)
+}
+
+// A part of each kind that changes the tree.
+fn changing_parts(alloc: Global) -> Result<Vec<Op>, Fail>
+    ensures { IfOk result (λ ops. list_all is_numbered ops.items ≡ true) }
+{
+    let mut ops = Vec::new(alloc);
+    add(&mut ops, deleted(alloc, "/a/e")?)?;
+    add(&mut ops, numbered(alloc, "/a")?)?;
+    add(&mut ops, replaced(alloc, "/a")?)?;
+    Ok(ops)
 }
 
 // The worked row of `multi`: a new tree with `/a` set once.
@@ -445,22 +487,18 @@ fn parts_are_all_done_or_none(rt: HostRuntime) -> Result<(), Fail> {
     let alloc = rt.alloc();
     let mut tree = Tree::new(alloc)?;
     assert!(rt; begins(&mut tree, 1), "1 begins");
-    assert!(rt; makes(alloc, &mut tree, "/a", Mode::Persistent)?, "/a");
+    assert!(rt; makes(alloc, &mut tree, "/a", Mode::Persistent), "/a");
     let call = Call::Set("/a", Expect::Any);
-    assert!(rt; tells(alloc, &mut tree, 1, call, Told::Version(1))?, "/a");
+    assert!(rt; tells(alloc, &mut tree, 1, call, Told::Version(1)), "/a");
 
-    let three = [
-        checked(alloc, "/a", 1)?,
-        created(alloc, "/c")?,
-        deleted(alloc, "/zz")?,
-    ];
-    let answer = runs(&mut tree, &three);
+    let ops = three_parts(alloc)?;
+    let answer = runs(&mut tree, &ops);
     assert!(rt; stops_at(answer, 2, TreeRefusal::NoNode), "/zz isn't there");
     assert!(rt; stat(&tree, "/c").is_none(), "nothing was done");
     assert_eq!(rt; changes(&tree), 2);
 
-    let two = [checked(alloc, "/a", 1)?, created(alloc, "/c")?];
-    assert!(rt; made_second(runs(&mut tree, &two), "/c"), "both are done");
+    let ops = two_parts(alloc)?;
+    assert!(rt; made_second(runs(&mut tree, &ops), "/c"), "both are done");
     assert_eq!(rt; changes(&tree), 3);
     Ok(())
 }
@@ -502,15 +540,11 @@ fn parts_are_taken_back(rt: HostRuntime) -> Result<(), Fail> {
     let alloc = rt.alloc();
     let mut tree = Tree::new(alloc)?;
     assert!(rt; begins(&mut tree, 1), "1 begins");
-    assert!(rt; makes(alloc, &mut tree, "/a", Mode::Persistent)?, "/a");
-    assert!(rt; makes(alloc, &mut tree, "/a/e", Mode::Ephemeral)?, "/a/e");
-    let four = [
-        deleted(alloc, "/a/e")?,
-        numbered(alloc, "/a")?,
-        replaced(alloc, "/a")?,
-        checked(alloc, "/a", 0)?,
-    ];
-    let answer = runs(&mut tree, &four);
+    assert!(rt; makes(alloc, &mut tree, "/a", Mode::Persistent), "/a");
+    assert!(rt; makes(alloc, &mut tree, "/a/e", Mode::Ephemeral), "/a/e");
+    let mut ops = changing_parts(alloc)?;
+    add(&mut ops, checked(alloc, "/a", 0)?)?;
+    let answer = runs(&mut tree, &ops);
     assert!(rt;
         stops_at(answer, 3, TreeRefusal::BadVersion { kept: 1 }),
         "the last"
@@ -520,12 +554,8 @@ fn parts_are_taken_back(rt: HostRuntime) -> Result<(), Fail> {
     assert_eq!(rt; counter(&tree, "/a"), Some(0));
     assert_eq!(rt; changes(&tree), 2);
 
-    let three = [
-        deleted(alloc, "/a/e")?,
-        numbered(alloc, "/a")?,
-        replaced(alloc, "/a")?,
-    ];
-    assert!(rt; runs(&mut tree, &three).is_ok(), "all are done");
+    let ops = changing_parts(alloc)?;
+    assert!(rt; runs(&mut tree, &ops).is_ok(), "all are done");
     assert_eq!(rt; counter(&tree, "/a"), Some(1));
     assert!(rt; ends(&mut tree, 1), "1 ends");
     assert!(rt; holds(&tree, "/a", b"", A_LATER), "/a");
@@ -564,7 +594,7 @@ fn children_stand_in_byte_order(rt: HostRuntime) -> Result<(), Fail> {
     let mut tree = Tree::new(alloc)?;
     assert!(rt; begins(&mut tree, 1), "1 begins");
     for path in PARENTS {
-        assert!(rt; makes(alloc, &mut tree, path, Mode::Persistent)?, "{path}");
+        assert!(rt; makes(alloc, &mut tree, path, Mode::Persistent), "{path}");
     }
     for (path, at, want) in CHILDREN {
         assert!(rt; names_child(&tree, path, at, want), "{at} of {path}");
