@@ -7,7 +7,7 @@ use Rattle.np_text.specs.declared.id.RequestId.{RequestId}
 use Rattle.np_text.specs.declared.id.NodeId.{NodeId}
 use Rattle.np_rules.specs.declared.locks.Locked.{Locked}
 use Rattle.np_rules.specs.Entries.{RequestEntry, NodeEntry}
-use Rattle.np_rules.specs.Tables.{change_first, change_at, insert_before, same_request, request_queue, put_request_queue, node_queue, put_node_queue}
+use Rattle.np_rules.specs.Tables.{change_first, remove_first, change_at, insert_before, same_request, request_queue, put_request_queue, node_queue, put_node_queue}
 use Rattle.np_rules.specs.Rising.{NonePass}
 
 same_cases : {X : Type 0} (f g : X → X) (x : X) (xs ys zs : List X) (later : Option X) (b : Bool) → ((e : X) → cond b (Some x) later ≡ Some e → f e ≡ g e) → (((e : X) → later ≡ Some e → f e ≡ g e) → ys ≡ zs) → cond b (f x ∷ xs) (x ∷ ys) ≡ cond b (g x ∷ xs) (x ∷ zs)
@@ -44,6 +44,14 @@ absent_cases f x xs ys later false none there = ap (λ t. x ∷ t) (there none)
 pub change_first-absent : {X : Type 0} (p : X → Bool) (f : X → X) (xs : List X) → find p xs ≡ None → change_first p f xs ≡ xs
 change_first-absent p f [] none = refl
 change_first-absent p f (x ∷ xs) none = absent_cases f x xs (change_first p f xs) (find p xs) (p x) none (λ later. change_first-absent p f xs later)
+
+removed_cases : {X : Type 0} (x : X) (xs ys : List X) (later : Option X) (b : Bool) → cond b (Some x) later ≡ None → (later ≡ None → ys ≡ xs) → cond b xs (x ∷ ys) ≡ x ∷ xs
+removed_cases x xs ys later true none there = absurd cc
+removed_cases x xs ys later false none there = ap (λ t. x ∷ t) (there none)
+
+pub remove_first-absent : {X : Type 0} (p : X → Bool) (xs : List X) → find p xs ≡ None → remove_first p xs ≡ xs
+remove_first-absent p [] none = refl
+remove_first-absent p (x ∷ xs) none = removed_cases x xs (remove_first p xs) (find p xs) (p x) none (λ later. remove_first-absent p xs later)
 
 -- ## queues
 

@@ -75,6 +75,7 @@ shape-fits c s m site bound is = record {
   retries = site.retries;
   ready_ages = site.ready_ages;
   hold_age = site.hold_age;
+  offers = site.offers;
   job_rows = site.job_rows;
 }
 

@@ -6,6 +6,8 @@ pub mod Acts
 pub mod Halves
 pub mod RisingLemmas
 pub mod CountLemmas
+pub mod Offered
+pub mod TallyLemmas
 pub mod PlaceLemmas
 pub mod Each
 pub mod Passed

@@ -1,8 +1,10 @@
 -- a configuration that a text can have bounds all numbers of a run
-use Rattle.std.proofs.Common.{◌≡◌, ◌<◌, ◌≤◌, ℕ, zero, suc, List, [], ◌∷◌, ◌++◌, length, Bool, true, false, if◌then◌else◌, Option, Some, None, refl, subst, arith}
+use Rattle.std.proofs.Common.{◌≡◌, ◌<◌, ◌≤◌, ℕ, zero, suc, List, [], ◌∷◌, ◌++◌, length, Bool, true, false, not, ◌||◌, if◌then◌else◌, Option, Some, None, refl, sym, ◌∙◌, subst, arith}
 use Rattle.std.specs.Prelude.{◌==◌, slice_get, find, IfSome, All, option_and_then}
+use Rattle.std.specs.List.{list_any}
 use Rattle.std.specs.Option.{option_map_or}
 use Rattle.std.proofs.lemmas.List.Elements.{All-head, All-tail}
+use Rattle.std.proofs.lemmas.List.Folds.{list_any-append}
 use Rattle.np_text.specs.declared.id.PoolId.{PoolId}
 use Rattle.np_amount.specs.Amounts.{nothing}
 use Rattle.np_config.specs.declared.row.Label.{Label}
@@ -13,7 +15,7 @@ use Rattle.np_config.specs.declared.row.Job.{Job}
 use Rattle.np_config.specs.Configuration.{Configuration}
 use Rattle.np_config.specs.Sound.{EachAfter, StandsByOwner, IsSound, IsLabel, IsProvider, IsOffer, IsPool, IsJob}
 use Rattle.np_rules.specs.Count.{retries_of}
-use Rattle.np_rules.specs.Fits.{AmountFits, JobRowFits, IsFitSite}
+use Rattle.np_rules.specs.Fits.{AmountFits, AllApart, OffersFit, JobRowFits, IsFitSite}
 
 -- ## rows by place
 
@@ -42,6 +44,43 @@ found_by Q x rest false here later = later
 row_found : {T : Type 0} (Q : T → Type 0) (P : List T → T → Type 0) → ((e : List T) (x : T) → P e x → Q x) → (test : T → Bool) (earlier xs : List T) → EachAfter P earlier xs → IfSome (find test xs) Q
 row_found Q P says test earlier [] each = tt
 row_found Q P says test earlier (x ∷ xs) each = found_by Q x (find test xs) (test x) (says earlier x each.0) (row_found Q P says test (earlier ++ x ∷ []) xs each.1)
+
+-- ## the offers of a pool
+
+either_fails : (a b : Bool) → (a || b) ≡ false → (a ≡ false) × (b ≡ false)
+either_fails true b fails = absurd (cc)
+either_fails false b fails = (refl, fails)
+
+fails_first : (a : Bool) → not a ≡ true → a ≡ false
+fails_first true passes = absurd (cc)
+fails_first false passes = refl
+
+-- a label that neither an earlier offer nor this one has
+one_more : (k : ℕ) (e : List Offer) (o : Offer) → list_any (λ x. k == x.label.0) (e ++ o ∷ []) ≡ false → (list_any (λ x. k == x.label.0) e ≡ false) × ((k == o.label.0) ≡ false)
+one_more k e o none =
+    let both = either_fails (list_any (λ x. k == x.label.0) e) (list_any (λ x. k == x.label.0) (o ∷ [])) (sym (list_any-append (λ x. k == x.label.0) e (o ∷ [])) ∙ none) in
+    (both.0, (either_fails (k == o.label.0) false both.1).0)
+
+-- where an earlier offer has the label, none of the others has it
+later_offers : (labels l : ℕ) (e offers : List Offer) → ((k : ℕ) → list_any (λ x. k == x.label.0) e ≡ false → (k == l) ≡ false) → EachAfter (IsOffer labels) e offers → list_any (λ x. x.label.0 == l) offers ≡ false
+later_offers labels l e [] there each = refl
+later_offers labels l e (o ∷ offers) there each =
+    let first : (o.label.0 == l) ≡ false = there o.label.0 (fails_first _ each.0.new) in
+    let rest : list_any (λ x. x.label.0 == l) offers ≡ false = later_offers labels l (e ++ o ∷ []) offers (λ k none. there k (one_more k e o none).0) each.1 in
+    rw (first, rest) refl
+
+-- an offer's label is that of no later one, since each later one has a new label
+all_apart : (labels : ℕ) (e offers : List Offer) → EachAfter (IsOffer labels) e offers → AllApart offers
+all_apart labels e [] each = tt
+all_apart labels e (o ∷ offers) each =
+    (later_offers labels o.label.0 (e ++ o ∷ []) offers (λ k none. (one_more k e o none).1) each.1, all_apart labels (e ++ o ∷ []) offers each.1)
+
+pool_offers : (labels : ℕ) (e : List Pool) (p : Pool) → StandsByOwner (λ (x : Pool). x.provider) (IsPool labels) e p → OffersFit p.offers
+pool_offers labels e p stands = record { few = stands.own.few_offers; apart = all_apart labels [] p.offers stands.own.offers }
+
+offers_in : (o : Option Pool) → IfSome o (λ x. OffersFit x.offers) → OffersFit (option_map_or (λ x. x.offers) o [])
+offers_in None fit = record { few = omega arith; apart = tt }
+offers_in (Some pool) fit = fit
 
 -- ## the bounds
 
@@ -96,6 +135,8 @@ sound_fits c sound = record {
   some_retry = one_retry c sound;
   ready_ages = λ l. age_in (slice_get c.labels l.0) (row_at (λ (x : Label). x.max_ready_age ≤ 1000000) IsLabel (λ e x is. is.max_ready_age) [] c.labels sound.labels l.0);
   hold_age = sound.max_hold_age;
+  offers = λ p. offers_in (slice_get c.pools p.0)
+      (row_at (λ (x : Pool). OffersFit x.offers) (StandsByOwner (λ (x : Pool). x.provider) (IsPool (length c.labels))) (pool_offers (length c.labels)) [] c.pools sound.supply.each_pool p.0);
   job_rows = λ j job is. subst (λ (o : Option Job). IfSome o JobRowFits) is (row_at JobRowFits (StandsByOwner (λ (x : Job). x.requester.0) (IsJob (length c.labels) (length c.semaphores))) (job_row (length c.labels) (length c.semaphores)) [] c.jobs sound.demand.each_job j.0);
   pools = sound.supply.few_pools;
 }

@@ -1,5 +1,5 @@
 -- what a pool uses, and what it may use
-use Rattle.std.specs.Prelude.{ℕ, List, [], Bool, ◌==◌, not, Option, None, is_some, map, filter, find, slice_get, option_and_then}
+use Rattle.std.specs.Prelude.{ℕ, List, [], Bool, ◌==◌, ◌&&◌, not, Option, None, is_some, length, map, filter, find, slice_get, option_and_then}
 use Rattle.std.specs.Option.{option_map_or}
 use Rattle.np_amount.specs.declared.amount.Amount.{Amount}
 use Rattle.np_amount.specs.declared.amount.Limit.{Limit}
@@ -44,6 +44,14 @@ amount_of_all c p labels = total (map (amount_of c p) labels)
 -- the nodes of the pool, in whatever state
 abbrev pub nodes_of : PoolId → State → List NodeEntry
 nodes_of p s = filter (λ e. e.kept.pool.0 == p.0) s.nodes
+
+-- the node is of the pool and the label
+abbrev pub is_kind : PoolId → LabelId → NodeEntry → Bool
+is_kind p l e = (e.kept.pool.0 == p.0) && (e.kept.label.0 == l.0)
+
+-- how many nodes of the pool and the label there are
+abbrev pub number_of : PoolId → LabelId → List NodeEntry → ℕ
+number_of p l nodes = length (filter (is_kind p l) nodes)
 
 -- what the pool uses: the amounts of all its node records (own: each counts until it is removed)
 abbrev pub count_of : Configuration → State → PoolId → Amount

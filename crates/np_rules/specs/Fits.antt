@@ -1,6 +1,6 @@
 -- the numbers of a state leave room for one more event, and its rows for one more member
-use Rattle.std.specs.Prelude.{◌≡◌, ◌<◌, ◌≤◌, ℕ, true, false, ◌&&◌, not, Some, length, slice_get}
-use Rattle.std.specs.List.{AllByRecursion}
+use Rattle.std.specs.Prelude.{◌≡◌, ◌<◌, ◌≤◌, ◌==◌, ℕ, List, [], ◌∷◌, true, false, ◌&&◌, not, Some, length, slice_get}
+use Rattle.std.specs.List.{AllByRecursion, list_any}
 use Rattle.np_text.specs.declared.id.SessionId.{SessionId}
 use Rattle.np_text.specs.declared.id.PoolId.{PoolId}
 use Rattle.np_text.specs.declared.id.LabelId.{LabelId}
@@ -9,13 +9,14 @@ use Rattle.np_text.specs.declared.id.RequesterId.{RequesterId}
 use Rattle.np_text.specs.declared.id.Role.TheVariants.{Launcher, Janitor, Requester}
 use Rattle.np_amount.specs.declared.amount.Amount.{Amount}
 use Rattle.np_config.specs.Configuration.{Configuration}
+use Rattle.np_config.specs.declared.row.Offer.{Offer}
 use Rattle.np_config.specs.declared.row.Job.{Job}
 use Rattle.np_record.specs.declared.record.RoleRecord.{RoleRecord}
 use Rattle.np_record.specs.declared.record.JobRecord.{JobRecord}
 use Rattle.np_rules.specs.Entries.{RequestEntry, NodeEntry}
 use Rattle.np_rules.specs.Kinds.{is_building}
 use Rattle.np_rules.specs.Order.{is_declined_by}
-use Rattle.np_rules.specs.Count.{amount_of, retries_of}
+use Rattle.np_rules.specs.Count.{offers_of, amount_of, retries_of}
 use Rattle.np_rules.specs.Reasons.{ready_age}
 use Rattle.np_rules.specs.Tables.{role_of}
 use Rattle.np_rules.specs.State.{State}
@@ -54,6 +55,16 @@ pub record AmountFits (a : Amount) : Type 0 where
   pub cores : a.cores ≤ 1000000
   pub ram : a.ram ≤ 1000000
 
+-- no offer has the label of an earlier one
+abbrev pub AllApart : List Offer → Type 0
+AllApart [] = Unit {0}
+AllApart (o ∷ offers) = (list_any (λ other. other.label.0 == o.label.0) offers ≡ false) × AllApart offers
+
+-- a pool's offers, as the configuration bounds them: not too many, and each of a label of its own
+pub record OffersFit (offers : List Offer) : Type 0 where
+  pub few : length offers ≤ 256
+  pub apart : AllApart offers
+
 -- a job's row, as the configuration bounds it
 pub record JobRowFits (job : Job) : Type 0 where
   pub labels : length job.labels ≤ 32
@@ -84,6 +95,7 @@ pub record Fits (c : Configuration) (s : State) : Type 0 where
   pub retries : (p : PoolId) → retries_of c p ≤ 16
   pub ready_ages : (l : LabelId) → ready_age c l ≤ 1000000
   pub hold_age : c.max_hold_age ≤ 1000000
+  pub offers : (p : PoolId) → OffersFit (offers_of c p)
   pub job_rows : (j : JobId) (job : Job) → slice_get c.jobs j.0 ≡ Some job → JobRowFits job
 
 -- what a configuration has to be so that each state that a run leads to fits
@@ -94,5 +106,6 @@ pub record IsFitSite (c : Configuration) : Type 0 where
   pub some_retry : (p : PoolId) → p.0 < length c.pools → 0 < retries_of c p
   pub ready_ages : (l : LabelId) → ready_age c l ≤ 1000000
   pub hold_age : c.max_hold_age ≤ 1000000
+  pub offers : (p : PoolId) → OffersFit (offers_of c p)
   pub job_rows : (j : JobId) (job : Job) → slice_get c.jobs j.0 ≡ Some job → JobRowFits job
   pub pools : length c.pools ≤ 64

@@ -3,6 +3,7 @@ pub mod State
 pub mod Kinds
 pub mod Tables
 pub mod Count
+pub mod Tally
 pub mod Order
 pub mod Reasons
 pub mod Tests

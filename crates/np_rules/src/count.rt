@@ -4,9 +4,9 @@ ghost use Rattle.std.specs.Prelude.{◌≡◌, ◌==◌, ◌+◌, ◌*◌, ◌<�
 ghost use Rattle.np_text.specs.declared.id.LabelId.{LabelId};
 ghost use Rattle.np_amount.specs.Amounts.{total, IsAtMost, times};
 ghost use Rattle.np_rules.specs.Count.{offers_of, limit_of, retries_of, offer_of, is_offered, amount_of, amount_of_all, count_of, is_short};
-ghost use Rattle.np_rules.specs.Fits.{AmountFits, Fits};
+ghost use Rattle.np_rules.specs.Fits.{AmountFits, OffersFit, Fits};
 
-use crate::state::NodeEntry;
+use crate::nodes::NodeTable;
 use crate::tables::Tables;
 use np_amount::{Amount, Limit};
 use np_config::{Config, Offer};
@@ -93,21 +93,33 @@ pub(crate) fn amount_of_labels(config: &Config, pool: PoolId, labels: &[LabelId]
     sum
 }
 
-/// What the pool uses, over all nodes. Its cost grows with the number of nodes, and for those of the
-/// pool with the number of its offers.
-pub(crate) fn count(config: &Config, pool: PoolId, nodes: &[NodeEntry]) -> Amount
-    requires few { length nodes.now < 2 ^ 32 }
+/// As much for each of so many.
+fn times(number: usize, amount: Amount) -> Amount
+    requires few { number ≤ 262144 }
+    requires small { AmountFits amount }
+    ensures { result ≡ times number amount }
+{
+    let number = number as u64;
+    Amount {
+        instances: number * amount.instances,
+        cores: number * amount.cores,
+        ram: number * amount.ram,
+    }
+}
+
+/// What the pool uses. Its cost grows with the number of the pool's offers.
+pub(crate) fn count(config: &Config, pool: PoolId, nodes: &NodeTable) -> Amount
+    requires few { length nodes.now ≤ 262144 }
     requires small { (l : LabelId) → AmountFits (amount_of config.now pool l) }
+    requires offers { OffersFit (offers_of config.now pool) }
     ensures count { result ≡ total (map (λ e. amount_of config.now pool e.kept.label) (filter (λ e. e.kept.pool.0 == pool.0) nodes.now)) }
     ensures instances { result.instances ≤ length nodes.now * 1000000 }
     ensures cores { result.cores ≤ length nodes.now * 1000000 }
     ensures ram { result.ram ≤ length nodes.now * 1000000 }
 {
     let mut sum = NOTHING;
-    for entry in nodes {
-        if entry.kept.pool.0 == pool.0 {
-            sum = sum.plus(amount(config, pool, entry.kept.label));
-        }
+    for offer in offers(config, pool) {
+        sum = sum.plus(times(nodes.number_of(pool, offer.label), offer.amount));
     }
     sum
 }
@@ -121,7 +133,7 @@ impl Tables {
         ensures cores { result.cores < 2 ^ 63 }
         ensures ram { result.ram < 2 ^ 63 }
     {
-        count(config, pool, self.nodes.rows())
+        count(config, pool, &self.nodes)
     }
 
     /// Whether one more node of the label would pass a limit of the pool.
@@ -129,7 +141,24 @@ impl Tables {
         requires { Fits config.now self.now }
         ensures { result ≡ is_short config.now self.now pool label }
     {
-        let used = self.count_of(config, pool);
+        self.lacks_room(config, pool, label, self.count_of(config, pool))
+    }
+
+    /// Whether the pool that uses so much has no room for one more node of the label.
+    pub(crate) fn lacks_room(
+        &self,
+        config: &Config,
+        pool: PoolId,
+        label: LabelId,
+        used: Amount,
+    ) -> bool
+        requires fits { Fits config.now self.now }
+        requires used { used ≡ count_of config.now self.now pool }
+        requires instances { used.instances < 2 ^ 63 }
+        requires cores { used.cores < 2 ^ 63 }
+        requires ram { used.ram < 2 ^ 63 }
+        ensures { result ≡ is_short config.now self.now pool label }
+    {
         let with_one = used.plus(amount(config, pool, label));
         !with_one.fits(&limit(config, pool))
     }

@@ -15,6 +15,7 @@ mod judge;
 mod law;
 mod locks;
 mod look;
+mod nodes;
 mod order;
 mod plain;
 mod queue;
@@ -24,8 +25,6 @@ mod start;
 mod state;
 mod swept;
 mod tables;
-#[cfg(test)]
-mod tests;
 
 pub use law::{
     a_journal_leads_to_one_state, a_prefix_runs_too, a_refusal_changes_nothing,

@@ -3,7 +3,7 @@
 ghost use Rattle.std.specs.Prelude.{◌≡◌, ◌==◌, ◌<◌, ◌+◌, ◌≤◌, ◌^◌, length};
 ghost use Rattle.std.specs.List.{list_any};
 ghost use Rattle.np_text.specs.declared.id.LabelId.{LabelId};
-ghost use Rattle.np_rules.specs.Count.{amount_of};
+ghost use Rattle.np_rules.specs.Count.{amount_of, count_of};
 ghost use Rattle.np_rules.specs.Fits.{AmountFits, Fits};
 ghost use Rattle.np_rules.specs.Reasons.{next_label, never_fits, first_unoffered, is_spent, is_true, ready_age, is_past, due_tick, is_old_ready, is_old_hold, is_spare, is_stuck_at, is_stuck, is_paused};
 
@@ -12,6 +12,7 @@ use crate::order::is_pending_by;
 use crate::queue::holder_of;
 use crate::state::{NodeEntry, RequestEntry};
 use crate::tables::Tables;
+use np_amount::Amount;
 use np_config::Config;
 use np_record::{NodeRecord, RequestRecord};
 use np_text::{LabelId, NodeId, NodeState, PoolId, Reason};
@@ -151,8 +152,12 @@ impl Tables {
         self.nodes.rows().iter().any(|e| is_spare(pool, label, e))
     }
 
-    fn is_stuck(&self, config: &Config, pool: PoolId, entry: &RequestEntry) -> bool
-        requires { Fits config.now self.now }
+    fn is_stuck(&self, config: &Config, pool: PoolId, used: Amount, entry: &RequestEntry) -> bool
+        requires fits { Fits config.now self.now }
+        requires used { used ≡ count_of config.now self.now pool }
+        requires instances { used.instances < 2 ^ 63 }
+        requires cores { used.cores < 2 ^ 63 }
+        requires ram { used.ram < 2 ^ 63 }
         ensures { result ≡ is_stuck config.now self.now pool entry.now }
     {
         if !is_pending_by(pool, &entry.kept) {
@@ -161,19 +166,20 @@ impl Tables {
         let Some(label) = next_label(&entry.kept) else {
             return false;
         };
-        self.is_short(config, pool, label)
+        self.lacks_room(config, pool, label, used)
             && (entry.kept.pinned.is_some() || !self.has_spare(pool, label))
     }
 
-    /// Whether a request that is pending by the pool waits for room. Over all requests, and over all
-    /// nodes for each that is pending by the pool.
+    /// Whether a request that is pending by the pool waits for room. Once over all nodes and all
+    /// requests, and where the pool lacks room over all nodes for each that is pending by the pool.
     pub(crate) fn is_paused(&self, config: &Config, pool: PoolId) -> bool
         requires { Fits config.now self.now }
         ensures { result ≡ is_paused config.now self.now pool }
     {
+        let used = self.count_of(config, pool);
         self.requests
             .rows()
             .iter()
-            .any(|e| self.is_stuck(config, pool, e))
+            .any(|e| self.is_stuck(config, pool, used, e))
     }
 }

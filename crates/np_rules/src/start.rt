@@ -5,6 +5,7 @@ ghost use Rattle.np_text.specs.declared.id.JobId.{JobId};
 ghost use Rattle.np_rules.specs.State.{start, new_job, no_deeds};
 
 use crate::locks::LockTable;
+use crate::nodes::NodeTable;
 use crate::queue::Queue;
 use crate::swept::SweptTable;
 use crate::tables::Tables;
@@ -115,13 +116,14 @@ impl Tables {
         let launchers = idle_roles(alloc, pools)?;
         let janitors = idle_roles(alloc, pools)?;
         let requesters = idle_roles(alloc, count_requesters(config))?;
+        let nodes = NodeTable::new(alloc, pools)?;
         Ok(Tables {
             alloc,
             tick: 0,
             sessions: Vec::new(alloc),
             registrations: Vec::new(alloc),
             requests: LockTable::new(alloc),
-            nodes: LockTable::new(alloc),
+            nodes,
             handles,
             jobs,
             launchers,

@@ -7,6 +7,7 @@ ghost use Rattle.np_rules.specs.Node.{is_swept};
 ghost use Rattle.np_rules.specs.Tests.{maker, launcher, janitor, requester, wrong_request, wrong_node};
 
 use crate::locks::LockTable;
+use crate::nodes::NodeTable;
 use crate::queue::{Queue, holder_of};
 use crate::state::{NodeEntry, Registration, RequestEntry, SessionFacts};
 use crate::swept::SweptTable;
@@ -24,7 +25,7 @@ pub struct Tables {
     pub(crate) sessions: Vec<SessionFacts>,
     pub(crate) registrations: Vec<Registration>,
     pub(crate) requests: LockTable<RequestId, RequestRecord>,
-    pub(crate) nodes: LockTable<NodeId, NodeRecord>,
+    pub(crate) nodes: NodeTable,
     pub(crate) handles: Vec<Queue<JobId>>,
     pub(crate) jobs: Vec<JobRecord>,
     pub(crate) launchers: Vec<RoleRecord>,

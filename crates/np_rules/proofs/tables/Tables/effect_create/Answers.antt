@@ -10,7 +10,7 @@ pub with_node-kept-requires : goal.with_node-kept-requires
 with_node-kept-requires c = next-room _ _ c.args.request c.in-Some.entry.now c.in-Some-next_label.label c.requires (sym c.in-Some.ensures) (sym c.in-Some-next_label.ensures)
 
 pub insert-requires : goal.insert-requires
-insert-requires c = rw (← c.self.view_is) at (fresh_node c.requires)
+insert-requires c = record { few = rw (← c.self.view_is) at c.requires.nodes; fresh = rw (← c.self.view_is) at (fresh_node c.requires) }
 
 pub returns-clause-ok : goal.returns-clause-ok
 returns-clause-ok c =
