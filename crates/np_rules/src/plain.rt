@@ -147,7 +147,10 @@ impl Plain {
         self.journal.as_slice()
     }
 
-    /// What the event is answered: `Full` where the journal has no room. It takes no memory.
+    /// What the event is answered: `Full` where the journal has no room. It takes no memory. A node or
+    /// a request is found by halves, and a create asks the offers of its pool; `lock-request` asks all
+    /// requests, `end-node` all jobs, and `min-ready` and `mark-deleting` of a ready node all requests
+    /// and nodes.
     pub fn judge(&self, event: Event) -> Reply
         ensures { result ≡ answer_of self.now event }
     {
@@ -158,7 +161,8 @@ impl Plain {
     }
 
     /// The event happens: its reply is recorded with it, and the state is the one after it. Where the
-    /// reply is `Full`, and where memory is wanted, nothing changes.
+    /// reply is `Full`, and where memory is wanted, nothing changes. It costs what `judge` does; an
+    /// expiry also asks every queue, and what frees a request's nodes asks all nodes.
     pub fn apply(&mut self, event: Event) -> Result<Reply, AllocError>
         ensures reply { IfOk result (λ r. r ≡ answer_of self.old event) }
         ensures ok { OnOk result (self.new ≡ applied self.old event) }

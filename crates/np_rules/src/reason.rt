@@ -170,8 +170,8 @@ impl Tables {
             && (entry.kept.pinned.is_some() || !self.has_spare(pool, label))
     }
 
-    /// Whether a request that is pending by the pool waits for room. Once over all nodes and all
-    /// requests, and where the pool lacks room over all nodes for each that is pending by the pool.
+    /// Whether a request that is pending by the pool waits for room. Over all requests, and where the
+    /// pool lacks room over all nodes for each that is pending by the pool.
     pub(crate) fn is_paused(&self, config: &Config, pool: PoolId) -> bool
         requires { Fits config.now self.now }
         ensures { result ≡ is_paused config.now self.now pool }
