@@ -3,9 +3,9 @@ pub mod State
 pub mod Kinds
 pub mod Tables
 pub mod Count
-pub mod Tally
 pub mod Order
 pub mod Reasons
+pub mod Tally
 pub mod Tests
 pub mod Request
 pub mod Node

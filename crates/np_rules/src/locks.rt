@@ -170,6 +170,13 @@ impl<I: Key, K: Drop> LockTable<I, K> {
         self.rows.as_slice()
     }
 
+    /// How many rows there are.
+    pub(crate) fn count(&self) -> usize
+        ensures { result ≡ length self.now }
+    {
+        self.rows.len()
+    }
+
     fn place(&self, id: I) -> Option<usize>
         ensures place { IsFirstPlace (λ row. I.same row.id id) self.now result }
         ensures within { IfSome result (λ at. at < length self.now) }

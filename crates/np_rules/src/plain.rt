@@ -148,9 +148,9 @@ impl Plain {
     }
 
     /// What the event is answered: `Full` where the journal has no room. It takes no memory. A node or
-    /// a request is found by halves, and a create asks the offers of its pool; `lock-request` asks all
-    /// requests, `end-node` all jobs, and `min-ready` and `mark-deleting` of a ready node all requests
-    /// and nodes.
+    /// a request is found by halves, and a create asks the offers of its pool; `lock-request` and
+    /// `mark-deleting` of a ready node ask all requests, `end-node` all jobs, and `min-ready` all
+    /// requests and nodes.
     pub fn judge(&self, event: Event) -> Reply
         ensures { result ≡ answer_of self.now event }
     {

@@ -92,7 +92,8 @@ pub(crate) fn ready_age(config: &Config, label: LabelId) -> u32
     }
 }
 
-fn is_spare(pool: PoolId, label: LabelId, entry: &NodeEntry) -> bool
+/// Whether the node is a spare one of the pool and the label: ready, free and unlocked.
+pub(crate) fn is_spare(pool: PoolId, label: LabelId, entry: &NodeEntry) -> bool
     ensures { result ≡ is_spare pool label entry.now }
 {
     entry.kept.state == NodeState::Ready
@@ -146,12 +147,6 @@ impl Tables {
         is_past(config.max_hold_age(), node.since, self.tick)
     }
 
-    fn has_spare(&self, pool: PoolId, label: LabelId) -> bool
-        ensures { result ≡ list_any (is_spare pool label) self.now.nodes }
-    {
-        self.nodes.rows().iter().any(|e| is_spare(pool, label, e))
-    }
-
     fn is_stuck(&self, config: &Config, pool: PoolId, used: Amount, entry: &RequestEntry) -> bool
         requires fits { Fits config.now self.now }
         requires used { used ≡ count_of config.now self.now pool }
@@ -167,11 +162,10 @@ impl Tables {
             return false;
         };
         self.lacks_room(config, pool, label, used)
-            && (entry.kept.pinned.is_some() || !self.has_spare(pool, label))
+            && (entry.kept.pinned.is_some() || !self.nodes.has_spare(pool, label))
     }
 
-    /// Whether a request that is pending by the pool waits for room. Over all requests, and where the
-    /// pool lacks room over all nodes for each that is pending by the pool.
+    /// Whether a request that is pending by the pool waits for room. Over all requests.
     pub(crate) fn is_paused(&self, config: &Config, pool: PoolId) -> bool
         requires { Fits config.now self.now }
         ensures { result ≡ is_paused config.now self.now pool }

@@ -11,8 +11,8 @@ pub overflow_add-number : goal.overflow_add-number
 overflow_add-number c =
     let within : c.in-Some.at < length c.args.numbers.now.items = omega (arith, c.len.ensures) in
     let there : slice_get c.args.numbers.now.items c.in-Some.at ≡ Some c.index_mut-number.result.now = slice_get-get_or c.args.numbers.now.items c.in-Some.at c.index_mut-number.result.now within ∙ ap (λ (n : ℕ). Some n) (sym c.index_mut-number.ensures.value) in
-    let small : IfSome {T = ℕ} (slice_get c.args.numbers.now.items c.in-Some.at) (λ n. n < 2 ^ 63) = rw c.in-Some.is at c.requires in
-    let below : c.index_mut-number.result.now < 2 ^ 63 = rw there at small in
+    let small : IfSome {T = ℕ} (slice_get c.args.numbers.now.items c.in-Some.at) (λ n. n + 1 < 2 ^ 64) = rw c.in-Some.is at c.requires in
+    let below : c.index_mut-number.result.now + 1 < 2 ^ 64 = rw there at small in
     omega arith
 
 pub returns : goal.returns
