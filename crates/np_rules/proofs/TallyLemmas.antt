@@ -8,14 +8,12 @@ use Rattle.std.proofs.lemmas.List.Sums.{length-filter, count_by-le-length}
 use Rattle.std.proofs.lemmas.List.Filters.{length-filter_more}
 use Rattle.np_text.specs.declared.id.PoolId.{PoolId}
 use Rattle.np_text.specs.declared.id.LabelId.{LabelId}
-use Rattle.np_text.specs.declared.id.NodeId.{NodeId}
 use Rattle.np_text.specs.declared.id.SessionId.{SessionId}
 use Rattle.np_rules.specs.Entries.{NodeEntry}
 use Rattle.np_rules.specs.Kinds.{is_ready}
 use Rattle.np_rules.specs.Tables.{change_first, remove_first, insert_before, holder, is_session, is_queued, left}
 use Rattle.np_rules.specs.Count.{is_kind, number_of}
 use Rattle.np_rules.specs.Reasons.{is_spare}
-use Rattle.np_rules.specs.Semaphore.{in_use, all_in_use}
 use Rattle.np_rules.specs.Tally.{tally_place, number_at, number_changed, AreNumbers, spares_of, is_free, spare_place, IsTally, IsSameKind}
 use Rattle.np_rules.proofs.Changes.{slice_get-change_at, slice_get-change_at_other}
 
@@ -304,15 +302,6 @@ same_all t f nodes same = found_all (λ e. IsSameKind e (f e)) (find t nodes) sa
 -- every node changed
 pub numbers-mapped : (f : NodeEntry → NodeEntry) (nodes : List NodeEntry) (numbers : List ℕ) → ((e : NodeEntry) → IsSameKind e (f e)) → AreNumbers (λ p l. number_of p l nodes) numbers → AreNumbers (λ p l. number_of p l (map f nodes)) numbers
 numbers-mapped f nodes numbers same are = AreNumbers-same (λ p l. number_of p l nodes) (λ p l. number_of p l (map f nodes)) numbers (λ p l. passing-mapped (is_kind p l) f nodes (λ e. same_kind p l e (f e) (same e))) are
-
-taken : (tick : ℕ) (ids : List NodeId) (nodes : List NodeEntry) (p : PoolId) (l : LabelId) → number_of p l (all_in_use tick ids nodes) ≡ number_of p l nodes
-taken tick [] nodes p l = refl
-taken tick (n ∷ ids) nodes p l =
-    taken tick ids (change_first (λ e. e.id.0 == n.0) (in_use tick) nodes) p l
-    ∙ passing-kept (is_kind p l) (λ (e : NodeEntry). e.id.0 == n.0) (in_use tick) nodes (found_all (λ (e : NodeEntry). is_kind p l (in_use tick e) ≡ is_kind p l e) (find (λ e. e.id.0 == n.0) nodes) (λ e. refl))
-
-pub numbers-taken : (tick : ℕ) (ids : List NodeId) (nodes : List NodeEntry) (numbers : List ℕ) → AreNumbers (λ p l. number_of p l nodes) numbers → AreNumbers (λ p l. number_of p l (all_in_use tick ids nodes)) numbers
-numbers-taken tick ids nodes numbers are = AreNumbers-same (λ p l. number_of p l nodes) (λ p l. number_of p l (all_in_use tick ids nodes)) numbers (taken tick ids nodes) are
 
 pub IsTally-inserted : (t : NodeEntry → Bool) (new : NodeEntry) (nodes : List NodeEntry) (numbers spares : List ℕ) → IsTally nodes numbers spares →
     IsTally (insert_before t new nodes) (number_changed (λ n. n + 1) (tally_place new.kept.pool new.kept.label) numbers) (number_changed (λ n. n + 1) (spare_place (Some new)) spares)

@@ -10,7 +10,7 @@ ghost use Rattle.std.specs.List.Sorted.{IsPartitionPoint};
 
 use crate::queue::Queue;
 use np_record::NodeRecord;
-use np_text::{NodeId, NodeState, RequestId, SessionId};
+use np_text::{NodeId, RequestId, SessionId};
 use std::alloc::{AllocError, Global};
 use std::marker::Model;
 
@@ -287,7 +287,6 @@ impl LockTable<NodeId, NodeRecord> {
     ghost use Rattle.std.specs.Prelude.{◌==◌};
     ghost use Rattle.np_rules.specs.Tables.{all_freed};
     ghost use Rattle.np_rules.specs.Node.{allocated};
-    ghost use Rattle.np_rules.specs.Semaphore.{in_use, all_in_use};
 
     /// Every node that is allocated to the request is freed.
     pub(crate) fn free_all(&mut self, request: RequestId)
@@ -313,29 +312,5 @@ impl LockTable<NodeId, NodeRecord> {
         row.queue.join(session)?;
         row.kept.allocated_to = Some(request);
         Ok(())
-    }
-
-    /// The node is in use from this tick.
-    fn take_over(&mut self, node: NodeId, tick: u32)
-        ensures { self.new ≡ change_first (λ row. row.id.0 == node.0) (in_use tick) self.old }
-    {
-        let Some(row) = self.get(node) else {
-            return;
-        };
-        let kept = NodeRecord {
-            since: tick,
-            state: NodeState::InUse,
-            ..row.kept
-        };
-        self.put(node, kept);
-    }
-
-    /// Each of the nodes is in use from this tick.
-    pub(crate) fn take_over_all(&mut self, nodes: &[NodeId], tick: u32)
-        ensures { self.new ≡ all_in_use tick nodes.now self.old }
-    {
-        for node in nodes {
-            self.take_over(*node, tick);
-        }
     }
 }

@@ -3,7 +3,7 @@
 //!
 //! What a pool uses is asked at each node that it makes, and its spare nodes for each request that
 //! waits, so the numbers are kept and not counted anew. A change of one node changes two of them at
-//! most; where a session leaves all queues, or a request's nodes change together, all nodes are
+//! most; where a session leaves its queues, or a request's nodes are freed together, all nodes are
 //! walked, and the spare ones counted on the way.
 
 ghost use Rattle.std.specs.Prelude.{◌≡◌, ◌==◌, ◌≤◌, ◌<◌, ◌-◌, ◌^◌, ◌*◌, ◌+◌, [], Some, length, find, map, nat_lt, replicate, option_copied, OnOk, OnErr, IfOk, IfSome};
@@ -12,7 +12,7 @@ ghost use Rattle.np_rules.specs.Count.{number_of};
 ghost use Rattle.np_rules.specs.Entries.{NodeEntry};
 ghost use Rattle.np_rules.specs.Node.{allocated};
 ghost use Rattle.np_rules.specs.Rising.{NonePass};
-ghost use Rattle.np_rules.specs.Semaphore.{all_in_use};
+ghost use Rattle.np_rules.specs.Semaphore.{in_use, all_in_use};
 ghost use Rattle.np_rules.specs.Tables.{change_first, remove_first, insert_before, is_queued, joined, left, all_freed};
 ghost use Rattle.np_rules.specs.Tally.{tally_place, number_at, number_changed, spares_of, spare_place, AreNumbers, IsSameKind};
 ghost use Rattle.np_rules.specs.Reasons.{is_spare};
@@ -319,12 +319,27 @@ impl NodeTable {
         Ok(())
     }
 
+    /// The node is in use from this tick.
+    fn take_over(&mut self, node: NodeId, tick: u32)
+        ensures { self.new ≡ change_first (λ row. row.id.0 == node.0) (in_use tick) self.old }
+    {
+        let Some(row) = self.get(node) else {
+            return;
+        };
+        let kept = NodeRecord {
+            since: tick,
+            state: NodeState::InUse,
+            ..row.kept
+        };
+        self.put(node, kept);
+    }
+
     /// Each of the nodes is in use from this tick.
     pub(crate) fn take_over_all(&mut self, nodes: &[NodeId], tick: u32)
         ensures { self.new ≡ all_in_use tick nodes.now self.old }
     {
-        self.table.take_over_all(nodes, tick);
-        let _most = self.table.count();
-        recount(&mut self.spares, self.table.rows());
+        for node in nodes {
+            self.take_over(*node, tick);
+        }
     }
 }

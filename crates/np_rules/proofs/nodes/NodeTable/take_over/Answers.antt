@@ -3,7 +3,7 @@ use Rattle.std.specs.Prelude.{◌==◌}
 use Rattle.np_rules.specs.Entries.{NodeEntry}
 use Rattle.np_rules.specs.Semaphore.{in_use}
 use Rattle.np_rules.proofs.Changing.{change_first-same, change_first-absent}
-use Rattle.np_rules.proofs.locks.LockTable+NodeId+NodeRecord.take_over.Goals as goal
+use Rattle.np_rules.proofs.nodes.NodeTable.take_over.Goals as goal
 
 pub returns-in_default : goal.returns-in_default
 returns-in_default c = sym (change_first-absent _ _ c.args.self.now (sym c.in_default.ensures))
