@@ -19,8 +19,8 @@ ghost use Rattle.np_rules.specs.Reasons.{is_spare};
 ghost use Rattle.std.specs.List.{list_any};
 
 use crate::locks::LockTable;
-use crate::queue::{holder_of, is_in};
-use crate::reason::is_spare;
+use crate::queue::is_in;
+use crate::reason::{is_free, is_spare};
 use crate::state::NodeEntry;
 use np_record::NodeRecord;
 use np_text::{LABELS, LabelId, NodeId, NodeState, PoolId, RequestId, SessionId};
@@ -109,10 +109,7 @@ fn spare_place(row: Option<&NodeEntry>) -> Option<usize>
     ensures { result ≡ spare_place (option_copied row.entry) }
 {
     let row = row?;
-    if row.kept.state == NodeState::Ready
-        && row.kept.allocated_to.is_none()
-        && holder_of(row.queue.items()).is_none()
-    {
+    if is_free(row) {
         tally_place(row.kept.pool, row.kept.label)
     } else {
         None

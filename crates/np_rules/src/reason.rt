@@ -5,6 +5,7 @@ ghost use Rattle.std.specs.List.{list_any};
 ghost use Rattle.np_text.specs.declared.id.LabelId.{LabelId};
 ghost use Rattle.np_rules.specs.Count.{amount_of, count_of};
 ghost use Rattle.np_rules.specs.Fits.{AmountFits, Fits};
+ghost use Rattle.np_rules.specs.Tally.{is_free};
 ghost use Rattle.np_rules.specs.Reasons.{next_label, never_fits, first_unoffered, is_spent, is_true, ready_age, is_past, due_tick, is_old_ready, is_old_hold, is_spare, is_stuck_at, is_stuck, is_paused};
 
 use crate::count::{amount_of_labels, has_offer, limit};
@@ -92,15 +93,20 @@ pub(crate) fn ready_age(config: &Config, label: LabelId) -> u32
     }
 }
 
-/// Whether the node is a spare one of the pool and the label: ready, free and unlocked.
-pub(crate) fn is_spare(pool: PoolId, label: LabelId, entry: &NodeEntry) -> bool
-    ensures { result ≡ is_spare pool label entry.now }
+/// Whether the node is ready, free and unlocked.
+pub(crate) fn is_free(entry: &NodeEntry) -> bool
+    ensures { result ≡ is_free entry.now }
 {
     entry.kept.state == NodeState::Ready
         && entry.kept.allocated_to.is_none()
         && holder_of(entry.queue.items()).is_none()
-        && entry.kept.pool.0 == pool.0
-        && entry.kept.label.0 == label.0
+}
+
+/// Whether the node is a spare one of the pool and the label.
+pub(crate) fn is_spare(pool: PoolId, label: LabelId, entry: &NodeEntry) -> bool
+    ensures { result ≡ is_spare pool label entry.now }
+{
+    is_free(entry) && entry.kept.pool.0 == pool.0 && entry.kept.label.0 == label.0
 }
 
 impl Tables {
