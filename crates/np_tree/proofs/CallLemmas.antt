@@ -5,14 +5,14 @@ use Rattle.std.specs.Str.{bytes_eq}
 use Rattle.std.proofs.lemmas.Bool.{eqb-true, ltb-true, not-true}
 use Rattle.np_path.specs.Parts.{root}
 use Rattle.np_session.specs.Known.{is_in}
-use Rattle.np_tree.specs.State.{State}
-use Rattle.np_tree.specs.Look.{children_of, node_at}
-use Rattle.np_tree.specs.Tests.{◌>>=◌, ◌>>◌, expected, is_expected, need, there, unspent}
-use Rattle.np_tree.specs.Judge.{judge_delete}
-use Rattle.np_tree.specs.declared.node.Node.{Node}
-use Rattle.np_tree.specs.declared.kind.Expect.{Expect}
-use Rattle.np_tree.specs.declared.refusal.TreeRefusal.{TreeRefusal}
-use Rattle.np_tree.specs.declared.refusal.TreeRefusal.TheVariants as no
+use Rattle.np_desk.specs.State.{State}
+use Rattle.np_desk.specs.Look.{children_of, node_at}
+use Rattle.np_desk.specs.Tests.{◌>>=◌, ◌>>◌, expected, is_expected, need, there, unspent}
+use Rattle.np_desk.specs.Judge.{judge_delete}
+use Rattle.np_desk.specs.declared.node.Node.{Node}
+use Rattle.np_desk.specs.declared.kind.Expect.{Expect}
+use Rattle.np_desk.specs.declared.refusal.TreeRefusal.{TreeRefusal}
+use Rattle.np_desk.specs.declared.refusal.TreeRefusal.TheVariants as no
 use Rattle.np_tree.proofs.PassedLemmas.{found-ok, need-ok}
 
 -- ## the number of the change

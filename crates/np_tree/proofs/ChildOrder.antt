@@ -7,14 +7,14 @@ use Rattle.std.specs.Cmp.Lexicographic.{slice_cmp}
 use Rattle.std.proofs.lemmas.Cmp.{nat_list_cmp_total, tied_itself}
 use Rattle.np_path.specs.Grammar.{is_path}
 use Rattle.np_path.specs.Parts.{name_of, parent_of}
-use Rattle.np_tree.specs.Look.{before_of, children_of, is_child, is_parent}
-use Rattle.np_tree.specs.Order.{AllPaths, Rises, is_before}
+use Rattle.np_desk.specs.Look.{before_of, children_of, is_child, is_parent}
+use Rattle.np_desk.specs.Order.{AllPaths, Rises, is_before}
+use Rattle.np_desk.specs.declared.node.Node.{Node}
+use Rattle.np_desk.proofs.ChildLemmas.{IsKey, child-half, half-not_root}
+use Rattle.np_desk.proofs.OrderLemmas.{parent-first, parent-half}
+use Rattle.np_desk.proofs.PlaceLemmas.{bytes_eq-is}
+use Rattle.np_desk.proofs.RisingLemmas.{Rises-filter}
 use Rattle.np_tree.specs.Sorted.{ChildrenByName, ParentsComeFirst, named_before}
-use Rattle.np_tree.specs.declared.node.Node.{Node}
-use Rattle.np_tree.proofs.ChildLemmas.{IsKey, child-half, half-not_root}
-use Rattle.np_tree.proofs.OrderLemmas.{parent-first, parent-half}
-use Rattle.np_tree.proofs.PlaceLemmas.{bytes_eq-is}
-use Rattle.np_tree.proofs.RisingLemmas.{Rises-filter}
 
 pub parents-first : ParentsComeFirst
 parents-first path above is top = parent-first above path is top

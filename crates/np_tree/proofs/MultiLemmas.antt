@@ -2,15 +2,15 @@
 use Rattle.std.proofs.Common.{◌≡◌, ℕ, true, false, not, List, [], ◌∷◌, ◌++◌, Option, Some, None, refl, ap, ◌∙◌}
 use Rattle.std.specs.List.{list_any}
 use Rattle.std.proofs.lemmas.Bool.{not-false, or_parts}
-use Rattle.np_tree.specs.State.{State}
-use Rattle.np_tree.specs.Effect.{after_found, created_under, deleted_below, effect, with_made}
-use Rattle.np_tree.specs.Multi.{effects, is_check}
+use Rattle.np_desk.specs.State.{State}
+use Rattle.np_desk.specs.Effect.{after_found, created_under, deleted_below, effect, with_made}
+use Rattle.np_desk.specs.Multi.{effects, is_check}
 use Rattle.np_path.specs.Parts.{name_of, parent_of}
-use Rattle.np_tree.specs.Look.{node_at}
-use Rattle.np_tree.specs.declared.node.Node.{Node}
-use Rattle.np_tree.specs.declared.kind.Mode.{Mode}
-use Rattle.np_tree.specs.declared.op.Op.{Op}
-use Rattle.np_tree.specs.declared.op.Op.TheVariants as op
+use Rattle.np_desk.specs.Look.{node_at}
+use Rattle.np_desk.specs.declared.node.Node.{Node}
+use Rattle.np_desk.specs.declared.kind.Mode.{Mode}
+use Rattle.np_desk.specs.declared.op.Op.{Op}
+use Rattle.np_desk.specs.declared.op.Op.TheVariants as op
 
 -- ## an operation changes nodes alone
 

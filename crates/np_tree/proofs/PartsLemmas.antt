@@ -3,19 +3,19 @@ use Rattle.std.proofs.Common.{◌≡◌, ℕ, suc, ◌+◌, ◌<◌, ◌≤◌, 
 use Rattle.std.specs.List.{list_any}
 use Rattle.std.specs.Prelude.{IsOk}
 use Rattle.std.proofs.lemmas.List.{drop_more, length-take-le, take-append-drop, take_all, take_more}
-use Rattle.np_tree.specs.State.{State}
+use Rattle.np_desk.specs.State.{State}
+use Rattle.np_desk.specs.Desks.{KeepsStart}
+use Rattle.np_desk.specs.Judge.{judge}
+use Rattle.np_desk.specs.Kept.{IsKept}
+use Rattle.np_desk.specs.Effect.{effect}
+use Rattle.np_desk.specs.Multi.{AtPart, Stops, after_multi, and_then, answers_from, effects, is_check}
+use Rattle.np_desk.specs.declared.desk.Desk.{Desk}
+use Rattle.np_desk.specs.declared.op.Op.{Op}
+use Rattle.np_desk.specs.declared.op.OpDone.{OpDone}
+use Rattle.np_desk.specs.declared.refusal.TreeRefusal.{TreeRefusal}
+use Rattle.np_desk.specs.declared.refusal.MultiFault.TheVariants.{NoMemory}
 use Rattle.np_tree.specs.Boards.{state_of}
-use Rattle.np_tree.specs.Desks.{KeepsStart}
-use Rattle.np_tree.specs.Judge.{judge}
-use Rattle.np_tree.specs.Kept.{IsKept}
-use Rattle.np_tree.specs.Effect.{effect}
-use Rattle.np_tree.specs.Multi.{AtPart, Stops, after_multi, and_then, answers_from, effects, is_check}
 use Rattle.np_tree.specs.declared.board.Board.{Board}
-use Rattle.np_tree.specs.declared.desk.Desk.{Desk}
-use Rattle.np_tree.specs.declared.op.Op.{Op}
-use Rattle.np_tree.specs.declared.op.OpDone.{OpDone}
-use Rattle.np_tree.specs.declared.refusal.TreeRefusal.{TreeRefusal}
-use Rattle.np_tree.specs.declared.refusal.MultiFault.TheVariants.{NoMemory}
 use Rattle.np_tree.proofs.MultiLemmas.{effects-append, effects-checks, effects-nodes, with_nodes}
 
 -- the first part and those after it were accepted

@@ -9,16 +9,16 @@ use Rattle.np_path.specs.Grammar.{is_element, is_kept, is_path}
 use Rattle.np_path.specs.Parts.{below, parent_of}
 use Rattle.np_path.proofs.PartsLemmas.{is_element-numbered, is_path-below}
 use Rattle.np_path.proofs.PathLaws.{HasParts-below}
-use Rattle.np_tree.specs.State.{State}
-use Rattle.np_tree.specs.Look.{children_of, is_at, node_at}
-use Rattle.np_tree.specs.Tests.{◌>>=◌, ◌>>◌, fits, found, is_sequential, need, unspent}
-use Rattle.np_tree.specs.Judge.{judge_child, made_path}
-use Rattle.np_tree.specs.Names.{MakesName}
-use Rattle.np_tree.specs.declared.node.Node.{Node}
-use Rattle.np_tree.specs.declared.kind.Mode.{Mode}
-use Rattle.np_tree.specs.declared.refusal.TreeRefusal.{TreeRefusal}
-use Rattle.np_tree.specs.declared.refusal.TreeRefusal.TheVariants as no
-use Rattle.np_tree.proofs.PlaceLemmas.{bytes_eq-is}
+use Rattle.np_desk.specs.State.{State}
+use Rattle.np_desk.specs.Look.{children_of, is_at, node_at}
+use Rattle.np_desk.specs.Tests.{◌>>=◌, ◌>>◌, fits, found, is_sequential, need, unspent}
+use Rattle.np_desk.specs.Judge.{judge_child, made_path}
+use Rattle.np_desk.specs.Names.{MakesName}
+use Rattle.np_desk.specs.declared.node.Node.{Node}
+use Rattle.np_desk.specs.declared.kind.Mode.{Mode}
+use Rattle.np_desk.specs.declared.refusal.TreeRefusal.{TreeRefusal}
+use Rattle.np_desk.specs.declared.refusal.TreeRefusal.TheVariants as no
+use Rattle.np_desk.proofs.PlaceLemmas.{bytes_eq-is}
 
 -- ## a line that was passed
 

@@ -5,26 +5,26 @@ use Rattle.std.specs.Option.{is_none, option_map}
 use Rattle.std.specs.Str.{bytes_eq}
 use Rattle.np_path.specs.Parts.{name_of, parent_of, root}
 use Rattle.np_session.specs.Known.{is_in}
-use Rattle.np_tree.specs.State.{State, root_node, new_tree}
-use Rattle.np_tree.specs.Look.{change_node, comes_before, is_at, is_owned, is_session, node_at, with_node, without_node}
-use Rattle.np_tree.specs.Tests.{◌>>=◌, ◌>>◌, found}
-use Rattle.np_tree.specs.Judge.{judge, judge_child, judge_create, judge_create_under, judge_delete, made_path}
-use Rattle.np_tree.specs.Effect.{after_found, created_under, deleted_below, effect, left_by, new_node, next_change, with_bytes, with_child, with_made, without_child}
-use Rattle.np_tree.specs.Ends.{ended_nodes}
+use Rattle.np_desk.specs.State.{State, root_node, new_tree}
+use Rattle.np_desk.specs.Look.{change_node, comes_before, is_at, is_owned, is_session, node_at, with_node, without_node}
+use Rattle.np_desk.specs.Tests.{◌>>=◌, ◌>>◌, found}
+use Rattle.np_desk.specs.Judge.{judge, judge_child, judge_create, judge_create_under, judge_delete, made_path}
+use Rattle.np_desk.specs.Effect.{after_found, created_under, deleted_below, effect, left_by, new_node, next_change, with_bytes, with_child, with_made, without_child}
+use Rattle.np_desk.specs.Ends.{ended_nodes}
+use Rattle.np_desk.specs.declared.node.Node.{Node}
+use Rattle.np_desk.specs.declared.kind.Mode.{Mode}
+use Rattle.np_desk.specs.declared.op.Op.{Op}
+use Rattle.np_desk.specs.declared.op.Op.TheVariants as op
+use Rattle.np_desk.specs.declared.op.OpDone.{OpDone}
+use Rattle.np_desk.specs.declared.op.OpDone.TheVariants as done
+use Rattle.np_desk.specs.declared.refusal.TreeRefusal.{TreeRefusal}
+use Rattle.np_desk.specs.declared.refusal.TreeRefusal.TheVariants as no
+use Rattle.np_desk.proofs.ChangeLemmas.{KeepsPath, node_at-change_here, node_at-change_other}
+use Rattle.np_desk.proofs.EndLemmas.{KeepsOwner}
+use Rattle.np_desk.proofs.PlaceLemmas.{bytes_eq-from, bytes_eq-is, bytes_eq-not, is_at-found}
 use Rattle.np_tree.specs.Whole.{HasRoot}
-use Rattle.np_tree.specs.declared.node.Node.{Node}
-use Rattle.np_tree.specs.declared.kind.Mode.{Mode}
-use Rattle.np_tree.specs.declared.op.Op.{Op}
-use Rattle.np_tree.specs.declared.op.Op.TheVariants as op
-use Rattle.np_tree.specs.declared.op.OpDone.{OpDone}
-use Rattle.np_tree.specs.declared.op.OpDone.TheVariants as done
-use Rattle.np_tree.specs.declared.refusal.TreeRefusal.{TreeRefusal}
-use Rattle.np_tree.specs.declared.refusal.TreeRefusal.TheVariants as no
-use Rattle.np_tree.proofs.ChangeLemmas.{KeepsPath, node_at-change_here, node_at-change_other}
 use Rattle.np_tree.proofs.CallLemmas.{judge_delete-passed}
-use Rattle.np_tree.proofs.EndLemmas.{KeepsOwner}
 use Rattle.np_tree.proofs.PassedLemmas.{judge_child-passed, need-ok}
-use Rattle.np_tree.proofs.PlaceLemmas.{bytes_eq-from, bytes_eq-is, bytes_eq-not, is_at-found}
 
 pub HasRoot-new_tree : HasRoot new_tree.nodes
 HasRoot-new_tree = record { node = root_node; there = refl; free = refl }

@@ -5,16 +5,16 @@ use Rattle.std.specs.List.{AllByRecursion}
 use Rattle.std.specs.Option.{option_map}
 use Rattle.std.specs.Str.{bytes_eq}
 use Rattle.np_path.specs.Parts.{parent_of}
-use Rattle.np_tree.specs.State.{new_tree}
-use Rattle.np_tree.specs.Look.{change_node, children_of, comes_before, is_at, is_child, is_owned, is_parent, is_session, node_at, with_node, without_node}
-use Rattle.np_tree.specs.Effect.{left_by}
-use Rattle.np_tree.specs.Ends.{ended_nodes}
+use Rattle.np_desk.specs.State.{new_tree}
+use Rattle.np_desk.specs.Look.{change_node, children_of, comes_before, is_at, is_child, is_owned, is_parent, is_session, node_at, with_node, without_node}
+use Rattle.np_desk.specs.Effect.{left_by}
+use Rattle.np_desk.specs.Ends.{ended_nodes}
+use Rattle.np_desk.specs.declared.node.Node.{Node}
+use Rattle.np_desk.proofs.ChangeLemmas.{KeepsPath, node_at-change_here, node_at-change_other}
+use Rattle.np_desk.proofs.EndLemmas.{KeepsOwner}
+use Rattle.np_desk.proofs.PlaceLemmas.{bytes_eq-from, bytes_eq-is, bytes_eq-not, is_at-found}
+use Rattle.np_desk.proofs.RisingLemmas.{all-changed, all-filter, all-weaker}
 use Rattle.np_tree.specs.Whole.{AllStand, HasParent, Stand}
-use Rattle.np_tree.specs.declared.node.Node.{Node}
-use Rattle.np_tree.proofs.ChangeLemmas.{KeepsPath, node_at-change_here, node_at-change_other}
-use Rattle.np_tree.proofs.EndLemmas.{KeepsOwner}
-use Rattle.np_tree.proofs.PlaceLemmas.{bytes_eq-from, bytes_eq-is, bytes_eq-not, is_at-found}
-use Rattle.np_tree.proofs.RisingLemmas.{all-changed, all-filter, all-weaker}
 use Rattle.np_tree.proofs.RootLemmas.{node_at-filter, node_at-map, node_at-with_node}
 
 -- a parent that is found in one list and another

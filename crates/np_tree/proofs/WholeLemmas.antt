@@ -6,31 +6,31 @@ use Rattle.std.specs.Option.{is_none}
 use Rattle.np_path.specs.Grammar.{is_path}
 use Rattle.np_path.specs.Parts.{name_of, parent_of}
 use Rattle.np_session.specs.Known.{is_in}
-use Rattle.np_tree.specs.State.{State, new_tree}
-use Rattle.np_tree.specs.Look.{change_node, children_of, is_at, is_owned, node_at}
-use Rattle.np_tree.specs.Tests.{◌>>=◌, found, is_sequential}
-use Rattle.np_tree.specs.Judge.{judge, judge_child, judge_create, judge_create_under, judge_delete, made_path}
-use Rattle.np_tree.specs.Effect.{after_found, counted, created_under, deleted_below, effect, left_by, new_node, next_change, with_bytes, with_child, with_made, without_child}
-use Rattle.np_tree.specs.Ends.{ended_nodes}
+use Rattle.np_desk.specs.State.{State, new_tree}
+use Rattle.np_desk.specs.Look.{change_node, children_of, is_at, is_owned, node_at}
+use Rattle.np_desk.specs.Tests.{◌>>=◌, found, is_sequential}
+use Rattle.np_desk.specs.Judge.{judge, judge_child, judge_create, judge_create_under, judge_delete, made_path}
+use Rattle.np_desk.specs.Effect.{after_found, counted, created_under, deleted_below, effect, left_by, new_node, next_change, with_bytes, with_child, with_made, without_child}
+use Rattle.np_desk.specs.Ends.{ended_nodes}
+use Rattle.np_desk.specs.Calls.{with_counter}
+use Rattle.np_desk.specs.Multi.{AtPart, and_then, answers_from, effects, is_check}
+use Rattle.np_desk.specs.Names.{MakesName}
+use Rattle.np_desk.specs.Order.{AllPaths, IsSorted}
+use Rattle.np_desk.specs.declared.node.Node.{Node}
+use Rattle.np_desk.specs.declared.kind.Mode.{Mode}
+use Rattle.np_desk.specs.declared.op.Op.{Op}
+use Rattle.np_desk.specs.declared.op.Op.TheVariants as op
+use Rattle.np_desk.specs.declared.op.OpDone.{OpDone}
+use Rattle.np_desk.specs.declared.op.OpDone.TheVariants as done
+use Rattle.np_desk.specs.declared.refusal.TreeRefusal.{TreeRefusal}
+use Rattle.np_desk.specs.declared.refusal.TreeRefusal.TheVariants as no
+use Rattle.np_desk.proofs.ChangeLemmas.{AllPaths-change_node, AllPaths-map, IsSorted-change_node, IsSorted-map, KeepsPath, length-children-paths, node_at-change_here, node_at-paths-none, paths_of-change_node}
+use Rattle.np_desk.proofs.EndLemmas.{KeepsOwner}
+use Rattle.np_desk.proofs.NamesLemmas.{MakesName-child}
+use Rattle.np_desk.proofs.PlaceLemmas.{AllPaths-filter, AllPaths-with_node, AllPaths-without_node, IsSorted-filter, IsSorted-with_node, IsSorted-without_node, is_at-found}
 use Rattle.np_tree.specs.Whole.{CallsKeepWhole, HasParent, IsPart, IsWhole, RaisesKeepWhole, Stand}
-use Rattle.np_tree.specs.Calls.{with_counter}
-use Rattle.np_tree.specs.Multi.{AtPart, and_then, answers_from, effects, is_check}
-use Rattle.np_tree.specs.Names.{MakesName}
-use Rattle.np_tree.specs.Order.{AllPaths, IsSorted}
-use Rattle.np_tree.specs.declared.node.Node.{Node}
-use Rattle.np_tree.specs.declared.kind.Mode.{Mode}
-use Rattle.np_tree.specs.declared.op.Op.{Op}
-use Rattle.np_tree.specs.declared.op.Op.TheVariants as op
-use Rattle.np_tree.specs.declared.op.OpDone.{OpDone}
-use Rattle.np_tree.specs.declared.op.OpDone.TheVariants as done
-use Rattle.np_tree.specs.declared.refusal.TreeRefusal.{TreeRefusal}
-use Rattle.np_tree.specs.declared.refusal.TreeRefusal.TheVariants as no
 use Rattle.np_tree.proofs.CallLemmas.{judge_delete-passed}
-use Rattle.np_tree.proofs.ChangeLemmas.{AllPaths-change_node, AllPaths-map, IsSorted-change_node, IsSorted-map, KeepsPath, length-children-paths, node_at-change_here, node_at-paths-none, paths_of-change_node}
-use Rattle.np_tree.proofs.EndLemmas.{KeepsOwner}
-use Rattle.np_tree.proofs.NamesLemmas.{MakesName-child}
 use Rattle.np_tree.proofs.PassedLemmas.{IsChildPath-above, judge_child-passed, need-ok}
-use Rattle.np_tree.proofs.PlaceLemmas.{AllPaths-filter, AllPaths-with_node, AllPaths-without_node, IsSorted-filter, IsSorted-with_node, IsSorted-without_node, is_at-found}
 use Rattle.np_tree.proofs.RootLemmas.{HasRoot-change_node, HasRoot-effect, HasRoot-ended, HasRoot-new_tree, bind-ok, then-ok}
 use Rattle.np_tree.proofs.StandingLemmas.{Stand-change_node, Stand-ended, Stand-new_tree, Stand-with_node, Stand-without_node}
 

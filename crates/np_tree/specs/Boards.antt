@@ -1,9 +1,9 @@
 use Rattle.std.specs.Prelude.{◌≡◌, Result, Ok, Err, IsOk}
-use Rattle.np_tree.specs.State.{State}
+use Rattle.np_desk.specs.State.{State}
+use Rattle.np_desk.specs.declared.refusal.TreeFault.{TreeFault}
+use Rattle.np_desk.specs.declared.refusal.TreeFault.TheVariants.{Refused, NoMemory}
+use Rattle.np_desk.specs.declared.refusal.TreeRefusal.{TreeRefusal}
 use Rattle.np_tree.specs.declared.board.Board.{Board}
-use Rattle.np_tree.specs.declared.refusal.TreeFault.{TreeFault}
-use Rattle.np_tree.specs.declared.refusal.TreeFault.TheVariants.{Refused, NoMemory}
-use Rattle.np_tree.specs.declared.refusal.TreeRefusal.{TreeRefusal}
 
 -- the tree that the fields hold
 abbrev pub state_of : Board → State

@@ -1,10 +1,10 @@
 use Rattle.std.specs.Prelude.{ℕ, List, Option, slice_get}
 use Rattle.std.specs.Option.{option_map}
 use Rattle.np_path.specs.Parts.{name_of}
-use Rattle.np_tree.specs.State.{State}
-use Rattle.np_tree.specs.Look.{children_of, node_at, stat_of}
-use Rattle.np_tree.specs.declared.node.Node.{Node}
-use Rattle.np_tree.specs.declared.kind.Stat.{Stat}
+use Rattle.np_desk.specs.State.{State}
+use Rattle.np_desk.specs.Look.{children_of, node_at, stat_of}
+use Rattle.np_desk.specs.declared.node.Node.{Node}
+use Rattle.np_desk.specs.declared.kind.Stat.{Stat}
 
 -- the bytes of the node at a path
 abbrev pub bytes_at : State → List ℕ → Option (List ℕ)

@@ -4,9 +4,9 @@ use Rattle.std.specs.Ordering.{nat_cmp, is_lt}
 use Rattle.std.specs.Cmp.Lexicographic.{slice_cmp}
 use Rattle.np_path.specs.Grammar.{is_path}
 use Rattle.np_path.specs.Parts.{name_of, parent_of}
-use Rattle.np_tree.specs.Look.{children_of, comes_before}
-use Rattle.np_tree.specs.Order.{AllPaths, IsSorted, Rises}
-use Rattle.np_tree.specs.declared.node.Node.{Node}
+use Rattle.np_desk.specs.Look.{children_of, comes_before}
+use Rattle.np_desk.specs.Order.{AllPaths, IsSorted, Rises}
+use Rattle.np_desk.specs.declared.node.Node.{Node}
 
 -- each path comes after its parent's
 abbrev pub ParentsComeFirst : Type 0

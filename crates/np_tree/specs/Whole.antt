@@ -3,17 +3,17 @@ use Rattle.std.specs.Prelude.{◌≡◌, ⊤, ℕ, true, List, Option, Some, Non
 use Rattle.std.specs.List.{AllByRecursion}
 use Rattle.np_path.specs.Grammar.{is_path}
 use Rattle.np_path.specs.Parts.{parent_of, root}
-use Rattle.np_tree.specs.State.{State}
-use Rattle.np_tree.specs.Look.{node_at}
-use Rattle.np_tree.specs.Judge.{judge}
-use Rattle.np_tree.specs.Effect.{effect, ended}
-use Rattle.np_tree.specs.Calls.{raised}
-use Rattle.np_tree.specs.Multi.{after_multi, answers_from, is_numbered}
-use Rattle.np_tree.specs.Order.{AllPaths, IsSorted}
-use Rattle.np_tree.specs.declared.node.Node.{Node}
-use Rattle.np_tree.specs.declared.op.Op.{Op}
-use Rattle.np_tree.specs.declared.op.Op.TheVariants as op
-use Rattle.np_tree.specs.declared.op.OpDone.{OpDone}
+use Rattle.np_desk.specs.State.{State}
+use Rattle.np_desk.specs.Look.{node_at}
+use Rattle.np_desk.specs.Judge.{judge}
+use Rattle.np_desk.specs.Effect.{effect, ended}
+use Rattle.np_desk.specs.Calls.{raised}
+use Rattle.np_desk.specs.Multi.{after_multi, answers_from, is_numbered}
+use Rattle.np_desk.specs.Order.{AllPaths, IsSorted}
+use Rattle.np_desk.specs.declared.node.Node.{Node}
+use Rattle.np_desk.specs.declared.op.Op.{Op}
+use Rattle.np_desk.specs.declared.op.Op.TheVariants as op
+use Rattle.np_desk.specs.declared.op.OpDone.{OpDone}
 
 -- at a parent's path stands a node that no session owns (ZooKeeper Programmer's Guide: ephemeral nodes have no children)
 abbrev pub HasParent : List Node → Option (List ℕ) → Type 0

@@ -1,18 +1,18 @@
 use Rattle.std.specs.Prelude.{ℕ, List, [], ◌∷◌, codes, Result, Ok, Err, if◌then◌else◌}
 use Rattle.std.specs.Result.{is_ok}
-use Rattle.np_tree.specs.State.{State, new_tree}
-use Rattle.np_tree.specs.Calls.{raised}
-use Rattle.np_tree.specs.Effect.{counted, effect, ended}
-use Rattle.np_tree.specs.Judge.{judge}
-use Rattle.np_tree.specs.Multi.{AtPart}
-use Rattle.np_tree.specs.declared.op.Op.{Op}
-use Rattle.np_tree.specs.declared.op.Op.TheVariants as op
-use Rattle.np_tree.specs.declared.op.OpDone.{OpDone}
-use Rattle.np_tree.specs.declared.op.OpDone.TheVariants as done
-use Rattle.np_tree.specs.declared.kind.Mode.TheVariants.{Persistent, Ephemeral, PersistentSequential}
-use Rattle.np_tree.specs.declared.kind.Expect.TheVariants.{Any, Exactly}
-use Rattle.np_tree.specs.declared.refusal.TreeRefusal.{TreeRefusal}
-use Rattle.np_tree.specs.declared.refusal.TreeRefusal.TheVariants as no
+use Rattle.np_desk.specs.State.{State, new_tree}
+use Rattle.np_desk.specs.Calls.{raised}
+use Rattle.np_desk.specs.Effect.{counted, effect, ended}
+use Rattle.np_desk.specs.Judge.{judge}
+use Rattle.np_desk.specs.Multi.{AtPart}
+use Rattle.np_desk.specs.declared.op.Op.{Op}
+use Rattle.np_desk.specs.declared.op.Op.TheVariants as op
+use Rattle.np_desk.specs.declared.op.OpDone.{OpDone}
+use Rattle.np_desk.specs.declared.op.OpDone.TheVariants as done
+use Rattle.np_desk.specs.declared.kind.Mode.TheVariants.{Persistent, Ephemeral, PersistentSequential}
+use Rattle.np_desk.specs.declared.kind.Expect.TheVariants.{Any, Exactly}
+use Rattle.np_desk.specs.declared.refusal.TreeRefusal.{TreeRefusal}
+use Rattle.np_desk.specs.declared.refusal.TreeRefusal.TheVariants as no
 
 -- a call that is accepted takes a change number
 abbrev pub after_call : State → ℕ → Op → State

@@ -3,19 +3,16 @@
 ghost use Rattle.std.specs.Prelude.{◌≡◌, [], true, OnOk, OnErr};
 ghost use Rattle.std.specs.Bool.{OnTrue, OnFalse};
 ghost use Rattle.np_session.specs.Known.{is_in};
+ghost use Rattle.np_desk.specs.Calls.{may_raise, raised};
+ghost use Rattle.np_desk.specs.Desks.{KeepsStart};
+ghost use Rattle.np_desk.specs.Effect.{counted, created, created_under, deleted, ended, next_change, replaced};
+ghost use Rattle.np_desk.specs.Judge.{judge_child, judge_create, judge_create_under, judge_delete, judge_set};
+ghost use Rattle.np_desk.specs.Kept.{IsKept};
+ghost use Rattle.np_desk.specs.Names.{MakesName};
+ghost use Rattle.np_desk.specs.Tests.{is_sequential};
 ghost use Rattle.np_tree.specs.Boards.{Answers, state_of};
-ghost use Rattle.np_tree.specs.Calls.{may_raise, raised};
-ghost use Rattle.np_tree.specs.Desks.{KeepsStart};
-ghost use Rattle.np_tree.specs.Effect.{counted, created, created_under, deleted, ended, next_change, replaced};
-ghost use Rattle.np_tree.specs.Judge.{judge_child, judge_create, judge_create_under, judge_delete, judge_set};
-ghost use Rattle.np_tree.specs.Kept.{IsKept};
-ghost use Rattle.np_tree.specs.Names.{MakesName};
-ghost use Rattle.np_tree.specs.Tests.{is_sequential};
 
-use crate::desk::Desk;
-use crate::kind::{Expect, Mode};
-use crate::plan::child_path;
-use crate::refusal::{TreeFault, TreeRefusal};
+use np_desk::{Desk, Expect, Mode, TreeFault, TreeRefusal, child_path};
 use np_path::Path;
 use np_session::Sessions;
 

@@ -1,19 +1,18 @@
 //! The tests of each call, in their order, with what they found.
 
 ghost use Rattle.std.specs.Prelude.{◌≡◌, ◌+◌, length, Ok, Err, true, false, MatchOption, MatchResult};
+ghost use Rattle.np_desk.specs.Calls.{may_raise};
+ghost use Rattle.np_desk.specs.Finds.{IsPlace};
+ghost use Rattle.np_desk.specs.Judge.{judge_check, judge_child, judge_delete, judge_set, made_path};
+ghost use Rattle.np_desk.specs.Kept.{IsKept};
+ghost use Rattle.np_desk.specs.Look.{children_of};
+ghost use Rattle.np_desk.specs.Names.{MakesName};
+ghost use Rattle.np_desk.specs.Plans.{IsSpot};
 ghost use Rattle.np_tree.specs.Boards.{state_of};
-ghost use Rattle.np_tree.specs.Calls.{may_raise};
-ghost use Rattle.np_tree.specs.Finds.{IsPlace};
-ghost use Rattle.np_tree.specs.Judge.{judge_check, judge_child, judge_delete, judge_set, made_path};
-ghost use Rattle.np_tree.specs.Kept.{IsKept};
-ghost use Rattle.np_tree.specs.Look.{children_of};
-ghost use Rattle.np_tree.specs.Names.{MakesName};
-ghost use Rattle.np_tree.specs.Plans.{IsSpot};
 
 use crate::board::Board;
-use crate::find::{Found, children, find, gap};
-use crate::kind::{Expect, Mode};
-use crate::refusal::TreeRefusal;
+use np_desk::find::{Found, Spot, children, find, gap};
+use np_desk::{Expect, Mode, TreeRefusal};
 
 /// The most bytes of a node.
 const MOST_BYTES: usize = 65_536;
@@ -21,13 +20,6 @@ const MOST_BYTES: usize = 65_536;
 const LAST_NUMBER: u32 = 2_147_483_647;
 /// One past it.
 const COUNTER_END: u32 = 2_147_483_648;
-
-/// Where a child goes: below its parent, and at its own place.
-#[derive(Clone, Copy)]
-pub struct Spot<'a> {
-    pub parent: Found<'a>,
-    pub place: usize,
-}
 
 impl Board {
     /// How many children the node at a path has.

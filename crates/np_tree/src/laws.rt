@@ -1,17 +1,18 @@
-//! Worked rows. The function does nothing: its contract is a table of closed answers.
+//! Laws of the definitions. The functions do nothing: their contracts are a table of closed answers,
+//! what calls keep of the tree, and what the order of nodes means.
 
 ghost use Rattle.std.specs.Prelude.{◌≡◌, codes, [], ◌∷◌, Some, None, Ok, Err, false};
-ghost use Rattle.np_tree.specs.Calls.{may_raise};
-ghost use Rattle.np_tree.specs.Look.{node_at};
-ghost use Rattle.np_tree.specs.Judge.{judge_set};
-ghost use Rattle.np_tree.specs.Multi.{after_multi, answers_from};
+ghost use Rattle.np_desk.specs.Calls.{may_raise};
+ghost use Rattle.np_desk.specs.Look.{node_at};
+ghost use Rattle.np_desk.specs.Judge.{judge_set};
+ghost use Rattle.np_desk.specs.Multi.{after_multi, answers_from};
+ghost use Rattle.np_desk.specs.State.{new_tree};
+ghost use Rattle.np_desk.specs.declared.kind.Expect.TheVariants.{Any};
+ghost use Rattle.np_desk.specs.declared.refusal.TreeRefusal.TheVariants.{SessionExpired};
 ghost use Rattle.np_tree.specs.Read.{stat_at};
 ghost use Rattle.np_tree.specs.Sorted.{ChildrenByName, ParentsComeFirst};
-ghost use Rattle.np_tree.specs.State.{new_tree};
 ghost use Rattle.np_tree.specs.Whole.{CallsKeepWhole, EndsKeepWhole, IsWhole, PartsKeepWhole, RaisesKeepWhole};
 ghost use Rattle.np_tree.specs.Worked.{begun_tree, calls, replies, left, sequence_calls, sequence_replies, third_fails, three_parts, told, tree_ended, tree_raised, two_done, two_parts, with_a};
-ghost use Rattle.np_tree.specs.declared.kind.Expect.TheVariants.{Any};
-ghost use Rattle.np_tree.specs.declared.refusal.TreeRefusal.TheVariants.{SessionExpired};
 
 /// The definitions give the worked rows.
 pub fn worked_rows()

@@ -2,16 +2,15 @@
 
 ghost use Rattle.std.specs.Prelude.{◌≡◌, ◌≤◌, [], true, not, length, MatchResult, OnOk, OnErr};
 ghost use Rattle.std.specs.List.{list_all, list_any};
+ghost use Rattle.np_desk.specs.Desks.{KeepsStart};
+ghost use Rattle.np_desk.specs.Effect.{effect};
+ghost use Rattle.np_desk.specs.Judge.{judge};
+ghost use Rattle.np_desk.specs.Kept.{IsKept};
+ghost use Rattle.np_desk.specs.Multi.{Stops, after_multi, answers_from, effects, is_check, is_numbered};
 ghost use Rattle.np_tree.specs.Boards.{Answers, state_of};
-ghost use Rattle.np_tree.specs.Desks.{KeepsStart};
-ghost use Rattle.np_tree.specs.Effect.{effect};
-ghost use Rattle.np_tree.specs.Judge.{judge};
-ghost use Rattle.np_tree.specs.Kept.{IsKept};
-ghost use Rattle.np_tree.specs.Multi.{Stops, after_multi, answers_from, effects, is_check, is_numbered};
 
 use crate::board::Board;
-use crate::op::{Op, OpDone};
-use crate::refusal::{MultiFault, TreeFault};
+use np_desk::{MultiFault, Op, OpDone, TreeFault};
 
 /// Whether some part is no check.
 fn has_change(ops: &[Op]) -> bool

@@ -2,13 +2,12 @@
 
 ghost use Rattle.std.specs.Prelude.{◌≡◌, slice_get};
 ghost use Rattle.std.specs.Option.{option_copied};
-ghost use Rattle.np_tree.specs.Kept.{IsKept};
-ghost use Rattle.np_tree.specs.Look.{children_of, node_at, stat_of};
+ghost use Rattle.np_desk.specs.Kept.{IsKept};
+ghost use Rattle.np_desk.specs.Look.{children_of, node_at, stat_of};
 
 use crate::board::Board;
-use crate::find::{children, find};
-use crate::kind::Stat;
-use crate::node::Node;
+use np_desk::find::{children, find};
+use np_desk::{Node, Stat};
 
 impl Board {
     /// The node at a path.

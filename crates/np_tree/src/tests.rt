@@ -1,6 +1,6 @@
 ghost use Rattle.std.specs.Prelude.{◌≡◌, true, IfOk, OnOk};
 ghost use Rattle.std.specs.List.{list_all};
-ghost use Rattle.np_tree.specs.Multi.{is_numbered};
+ghost use Rattle.np_desk.specs.Multi.{is_numbered};
 
 use crate::{
     Bytes, Expect, Mode, MultiFault, Op, OpDone, Stat, Tree, TreeFault, TreeRefusal, worked_rows,

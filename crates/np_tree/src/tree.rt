@@ -5,23 +5,20 @@ ghost use Rattle.std.specs.Bool.{OnTrue, OnFalse};
 ghost use Rattle.std.specs.List.{list_all};
 ghost use Rattle.std.specs.Option.{option_copied, option_map};
 ghost use Rattle.np_session.specs.Known.{is_in};
+ghost use Rattle.np_desk.specs.Calls.{BeginsSession, begun_more, may_raise, raised, with_room};
+ghost use Rattle.np_desk.specs.Effect.{counted, created, created_under, deleted, ended, replaced};
+ghost use Rattle.np_desk.specs.Judge.{judge_check, judge_create, judge_create_under, judge_delete, judge_set};
+ghost use Rattle.np_desk.specs.Kept.{IsTree};
+ghost use Rattle.np_desk.specs.Multi.{Stops, after_multi, answers_from, is_numbered};
+ghost use Rattle.np_desk.specs.State.{new_tree};
+ghost use Rattle.np_desk.specs.Tests.{is_sequential};
 ghost use Rattle.np_tree.specs.Boards.{Answers};
-ghost use Rattle.np_tree.specs.Calls.{BeginsSession, begun_more, may_raise, raised, with_room};
-ghost use Rattle.np_tree.specs.Effect.{counted, created, created_under, deleted, ended, replaced};
-ghost use Rattle.np_tree.specs.Judge.{judge_check, judge_create, judge_create_under, judge_delete, judge_set};
-ghost use Rattle.np_tree.specs.Kept.{IsTree};
-ghost use Rattle.np_tree.specs.Multi.{Stops, after_multi, answers_from, is_numbered};
 ghost use Rattle.np_tree.specs.Read.{bytes_at, child_name, counter_at, stat_at, stat_of_child};
-ghost use Rattle.np_tree.specs.State.{new_tree};
-ghost use Rattle.np_tree.specs.Tests.{is_sequential};
 
 use crate::board::Board;
-use crate::bytes::Bytes;
-use crate::desk::Desk;
-use crate::kind::{Expect, Mode, Stat};
-use crate::node::{Facts, Node};
-use crate::op::{Op, OpDone};
-use crate::refusal::{MultiFault, TreeFault, TreeRefusal};
+use np_desk::{
+    Bytes, Desk, Expect, Facts, Mode, MultiFault, Node, Op, OpDone, Stat, TreeFault, TreeRefusal,
+};
 use np_path::Path;
 use np_session::{SessionFault, Sessions};
 use np_shelf::{Piece, Shelf};
@@ -37,12 +34,12 @@ pub struct Tree {
 }
 
 impl Model for Tree {
-    ghost use Rattle.np_tree.specs.State.{State};
+    ghost use Rattle.np_desk.specs.State.{State};
 
     ghost Value = { State };
 
+    ghost use Rattle.np_desk.specs.Kept.{IsKept};
     ghost use Rattle.np_tree.specs.Boards.{state_of};
-    ghost use Rattle.np_tree.specs.Kept.{IsKept};
 
     ghost view = { λ t. state_of t.board };
 

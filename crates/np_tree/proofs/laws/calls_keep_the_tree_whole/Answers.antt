@@ -1,4 +1,4 @@
-use Rattle.np_tree.specs.Effect.{next_change}
+use Rattle.np_desk.specs.Effect.{next_change}
 use Rattle.np_tree.proofs.WholeLemmas.{IsWhole-after_multi, IsWhole-effect, IsWhole-ended, IsWhole-new_tree, IsWhole-raised}
 use Rattle.np_tree.proofs.laws.calls_keep_the_tree_whole.Goals as goal
 

@@ -1,5 +1,5 @@
 use Rattle.std.proofs.Common.{sym}
-use Rattle.np_tree.proofs.NamesLemmas.{MakesName-child}
+use Rattle.np_desk.proofs.NamesLemmas.{MakesName-child}
 use Rattle.np_tree.proofs.board.Board.create.Goals as goal
 
 pub make-requires-clause-name : goal.make-requires-clause-name

@@ -1,0 +1,21 @@
+use Rattle.std.specs.Prelude.{◌≡◌, ℕ, ◌++◌, true, List, [], if◌then◌else◌}
+use Rattle.std.specs.Str.{bytes_eq}
+use Rattle.np_path.specs.Parts.{root}
+use Rattle.std.specs.List.{list_all}
+use Rattle.np_path.specs.Digits.{ten_digits}
+use Rattle.np_path.specs.Grammar.{is_element, is_kept}
+use Rattle.np_desk.specs.Tests.{is_sequential}
+use Rattle.np_desk.specs.declared.node.Node.{Node}
+use Rattle.np_desk.specs.declared.kind.Mode.{Mode}
+
+-- the name of the child that is made
+abbrev pub made_name : Node → List ℕ → Mode → List ℕ
+made_name parent name mode = if is_sequential mode then name ++ ten_digits parent.facts.counter else name
+
+-- it is an element, or may stand before the digits that make it one
+abbrev pub MakesName : List ℕ → Mode → Type 0
+MakesName name mode = (if is_sequential mode then list_all is_kept name else is_element name) ≡ true
+
+-- what is before the last slash of a node's children
+abbrev pub half_of : List ℕ → List ℕ
+half_of path = if bytes_eq path root then [] else path

@@ -1,0 +1,15 @@
+use Rattle.std.specs.Prelude.{◌<◌, ◌≤◌, List, length, insert, remove}
+use Rattle.np_desk.specs.declared.step.Step.{Step}
+use Rattle.np_desk.specs.declared.step.Step.TheVariants.{Nothing, Take, Put}
+
+-- what a step makes of a list
+abbrev pub stepped : {T : Type 0} → Step T → List T → List T
+stepped Nothing items = items
+stepped (Take place) items = remove items place
+stepped (Put place item) items = insert items place item
+
+-- its place is there, and the length has room for one more
+abbrev pub CanStep : {T : Type 0} → Step T → List T → Type 0
+CanStep Nothing items = Unit {0}
+CanStep (Take place) items = place < length items
+CanStep (Put place item) items = (place ≤ length items) × (length items < 18_446_744_073_709_551_615)
