@@ -13,6 +13,7 @@ use Rattle.std.proofs.lemmas.List.{length-replicate, drop_at}
 use Rattle.std.proofs.lemmas.Str.Parse.{IsNumeralModel, numerals_by_value, tells_all_ascii_digits, digits_value_short}
 use Rattle.std.proofs.lemmas.Fmt.{decimal_digit, first_decimal, length-decimal-le, decimal_nonempty, digits_decimal, digits_value-decimal, decimal-digits_value}
 use Rattle.np_text.specs.Number.{begins_as_number, digits_within, number_of, padded, ten_digits_of, without_zeros}
+use Rattle.np_text.specs.declared.limit.TheConstants.{SEQUENCE}
 use Rattle.np_text.specs.Request.{sequence_of}
 use Rattle.np_text.proofs.NumberLemmas.{padded_digit, digit_value_digit}
 
@@ -48,11 +49,11 @@ digits_within-digits max n text digits value most =
     let within : nat_le n max ≡ true = grind (arith, nat_tests) in
     rw (digits, value, within) refl
 
-all_ascii_digits-zeros : (k : ℕ) (ds : List ℕ) → all_ascii_digits (replicate k 48 ++ ds) ≡ all_ascii_digits ds
+pub all_ascii_digits-zeros : (k : ℕ) (ds : List ℕ) → all_ascii_digits (replicate k 48 ++ ds) ≡ all_ascii_digits ds
 all_ascii_digits-zeros zero ds = refl
 all_ascii_digits-zeros (suc k) ds = all_ascii_digits-zeros k ds
 
-digits_value-zeros : (k : ℕ) (ds : List ℕ) → digits_value 10 (replicate k 48 ++ ds) ≡ digits_value 10 ds
+pub digits_value-zeros : (k : ℕ) (ds : List ℕ) → digits_value 10 (replicate k 48 ++ ds) ≡ digits_value 10 ds
 digits_value-zeros zero ds = refl
 digits_value-zeros (suc k) ds = digits_value-zeros k ds
 
@@ -148,13 +149,13 @@ pub sequence_of-ten_digits_of : (n : ℕ) → n < 2 ^ 32 → sequence_of (ten_di
 unfolding sequence_of ten_digits_of
 sequence_of-ten_digits_of n small =
     let ten : (length (padded 10 n) == 10) ≡ true = eq-eqb (length (padded 10 n)) 10 (length-padded 10 n (omega arith) (omega arith) (omega arith)) in
-    rw ten (digits_within-padded 10 4294967295 n (omega arith) (omega arith))
+    rw ten (digits_within-padded 10 SEQUENCE n (omega arith) (omega arith))
 
 pub sequence_of-spelled : (n : ℕ) (text : List ℕ) → sequence_of text ≡ Some n → (n < 2 ^ 32) × (ten_digits_of n ≡ text)
 unfolding sequence_of ten_digits_of
 sequence_of-spelled n text answer =
-    let found = when_found (length text == 10) (digits_within 4294967295 text) n answer in
-    let told = digits_within-told 4294967295 n text found.1 in
+    let found = when_found (length text == 10) (digits_within SEQUENCE text) n answer in
+    let told = digits_within-told SEQUENCE n text found.1 in
     let long : length text ≡ 10 = eqb-true (length text) 10 found.0 in
     (omega arith, ap (padded 10) (sym told.2) ∙ padded-digits_value 9 text long told.0 (omega arith))
 

@@ -3,3 +3,4 @@ pub mod Name
 pub mod Request
 pub mod Lines
 pub mod Sections
+pub mod Word

@@ -1,7 +1,10 @@
--- The text of a node request.
+-- The text of a node request, and the order of requests.
 use Rattle.std.specs.Prelude.{ℕ, ◌==◌, if◌then◌else◌, List, [], ◌∷◌, ◌++◌, length, Option, Some, None, ◌≤◌, ◌<◌, ◌^◌}
 use Rattle.std.specs.Fmt.{decimal}
+use Rattle.std.specs.Ordering.{nat_cmp, ordering_then}
+use Rattle.std.specs.declared.cmp.Ordering.{Ordering}
 use Rattle.np_text.specs.declared.id.RequestId.{RequestId}
+use Rattle.np_text.specs.declared.limit.TheConstants.{SEQUENCE}
 use Rattle.np_text.specs.Number.{number_of, digits_within, ten_digits_of}
 
 -- a request has a text where its priority has three digits
@@ -14,9 +17,13 @@ pub record HasText (id : RequestId) : Type 0 where
 unfoldable pub request_text_of : RequestId → List ℕ
 request_text_of id = decimal id.priority ++ 45 ∷ ten_digits_of id.seq
 
+-- by priority, and then by sequence number (Nodepool developer guide)
+abbrev pub request_cmp : RequestId → RequestId → Ordering
+request_cmp a b = ordering_then (nat_cmp a.priority b.priority) (nat_cmp a.seq b.seq)
+
 -- the sequence number that ten digits spell
 unfoldable pub sequence_of : List ℕ → Option ℕ
-sequence_of text = if length text == 10 then digits_within 4294967295 text else None
+sequence_of text = if length text == 10 then digits_within SEQUENCE text else None
 
 -- the request of these two numbers, where both are there
 abbrev pub request_from : Option ℕ → Option ℕ → Option RequestId

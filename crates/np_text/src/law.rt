@@ -2,13 +2,17 @@
 ghost use Rattle.std.specs.Prelude.{◌≡◌, ℕ, ◌+◌, ◌-◌, ◌^◌, ◌<◌, ◌≤◌, true, false, List, [], ◌∷◌, ◌++◌, length, take, drop, None, Some};
 ghost use Rattle.std.specs.Fmt.{decimal};
 ghost use Rattle.std.specs.List.{flat_map, list_all};
-ghost use Rattle.std.specs.Str.{IsAscii, bytes_eq};
-ghost use Rattle.np_text.specs.declared.id.RequestId.{RequestId};
+ghost use Rattle.std.specs.Cmp.Lexicographic.{slice_cmp};
+ghost use Rattle.std.specs.Ordering.{nat_cmp};
+ghost use Rattle.std.specs.Str.{IsAscii, all_ascii_digits, bytes_eq};
 ghost use Rattle.np_text.specs.Lines.{is_line, line, line_in, lines_of};
 ghost use Rattle.np_text.specs.Name.{is_name_text};
 ghost use Rattle.np_text.specs.Number.{number_of, ten_digits_of};
-ghost use Rattle.np_text.specs.Request.{HasText, request_of, request_text_of, sequence_of};
+ghost use Rattle.np_text.specs.Request.{HasText, request_cmp, request_of, request_text_of, sequence_of};
 ghost use Rattle.np_text.specs.Sections.{bar, has_bar, sections_of};
+ghost use Rattle.np_text.specs.Word.{AreWords, end_as_of, end_as_word, ending_of, ending_word, node_state_of, node_state_word, phase_of, phase_word, request_state_of, request_state_word, role_kind_of, role_kind_word};
+
+use crate::id::RequestId;
 
 /// A number has one spelling: its decimal form reads as it, and nothing else does.
 pub fn a_number_has_one_spelling()
@@ -22,6 +26,15 @@ pub fn ten_digits_are_one_spelling()
     ensures reads_back { (n : ℕ) → n < 2 ^ 32 → sequence_of (ten_digits_of n) ≡ Some n }
     ensures spelled { (n : ℕ) (text : List ℕ) → sequence_of text ≡ Some n → (n < 2 ^ 32) × (ten_digits_of n ≡ text) }
     ensures apart { (m n : ℕ) → m < 2 ^ 32 → n < 2 ^ 32 → ten_digits_of m ≡ ten_digits_of n → m ≡ n }
+    ensures digits { (n : ℕ) → all_ascii_digits (ten_digits_of n) ≡ true }
+    ensures ten { (n : ℕ) → n < 2 ^ 32 → length (ten_digits_of n) ≡ 10 }
+{}
+
+/// Texts of ten digits stand in byte order as their numbers do. So sequence nodes that are sorted
+/// by name are sorted by number.
+pub fn ten_digits_stand_in_order()
+    ensures { (m n : ℕ) → m < 2 ^ 32 → n < 2 ^ 32 →
+        slice_cmp nat_cmp (ten_digits_of m) (ten_digits_of n) ≡ nat_cmp m n }
 {}
 
 /// A request has one spelling where its priority has three digits, and only such requests have one.
@@ -29,6 +42,24 @@ pub fn a_request_has_one_spelling()
     ensures reads_back { (id : RequestId) → HasText id → request_of (request_text_of id) ≡ Some id }
     ensures spelled { (id : RequestId) (text : List ℕ) → request_of text ≡ Some id → HasText id × (request_text_of id ≡ text) }
     ensures apart { (a b : RequestId) → HasText a → HasText b → request_text_of a ≡ request_text_of b → a ≡ b }
+{}
+
+/// Texts of requests stand in byte order as the requests do: by priority, then by sequence number.
+/// That is also the order of [`RequestId`](crate::RequestId) itself.
+pub fn request_texts_stand_in_order()
+    ensures texts { (a b : RequestId) → HasText a → HasText b →
+        slice_cmp nat_cmp (request_text_of a) (request_text_of b) ≡ request_cmp a b }
+    ensures own { (a b : RequestId) → ⟦<RequestId as Ord>⟧.cmp a b ≡ request_cmp a b }
+{}
+
+/// Each value has one word, and a word is read as a value exactly where it is the value's.
+pub fn a_value_has_one_word()
+    ensures request_states { AreWords request_state_word request_state_of }
+    ensures node_states { AreWords node_state_word node_state_of }
+    ensures end_as { AreWords end_as_word end_as_of }
+    ensures phases { AreWords phase_word phase_of }
+    ensures endings { AreWords ending_word ending_of }
+    ensures role_kinds { AreWords role_kind_word role_kind_of }
 {}
 
 /// A name's bytes are ASCII, so a name is UTF-8.

@@ -3,22 +3,23 @@ ghost use Rattle.std.specs.Prelude.{◌≡◌, ◌≤◌, IfSome};
 ghost use Rattle.np_text.specs.Request.{request_of, request_text_of, sequence_of};
 
 use crate::id::RequestId;
+use crate::limit::SEQUENCE;
 use crate::number::{fill_digits, read_digits, read_number};
 
 #[tactic(auto, unfolding(crate::specs::Request::sequence_of))]
 fn read_sequence(text: &[u8]) -> Option<u64>
     ensures answer { result ≡ sequence_of text.now }
-    ensures most { IfSome result (λ n. n ≤ 4294967295) }
+    ensures most { IfSome result (λ n. n ≤ SEQUENCE) }
 {
     if text.len() == 10 {
-        read_digits(text, 4_294_967_295)
+        read_digits(text, SEQUENCE)
     } else {
         None
     }
 }
 
 /// Reads a request's text: three digits from 100 to 999, a dash and ten digits of a number of at
-/// most 4294967295. `None` for all else.
+/// most [`SEQUENCE`]. `None` for all else.
 #[tactic(auto, unfolding(crate::specs::Request::request_of))]
 pub fn read_request(text: &[u8]) -> Option<RequestId>
     ensures { result ≡ request_of text.now }

@@ -137,6 +137,49 @@ fn sections_part_at_the_first_bar(rt: HostRuntime) {
     }
 }
 
+// The words of Nodepool's states of requests and nodes, and this project's own.
+#[test]
+fn values_have_their_words(rt: HostRuntime) {
+    const NODES: [(&str, NodeState); 3] = [
+        ("in-use", NodeState::InUse),
+        ("hold", NodeState::Hold),
+        ("failed", NodeState::Failed),
+    ];
+    for (word, state) in NODES {
+        assert_eq!(rt;
+            NodeState::from_word(word.as_bytes()),
+            Some(state),
+            "{word}"
+        );
+        assert_eq!(rt; state.word(), word);
+    }
+    assert_eq!(rt;
+        RequestState::from_word(b"fulfilled"),
+        Some(RequestState::Fulfilled)
+    );
+    assert_eq!(rt; Phase::from_word(b"over"), Some(Phase::Over));
+    assert_eq!(rt; Ending::from_word(b"withdrawn"), Some(Ending::Withdrawn));
+    assert_eq!(rt; EndAs::from_word(b"hold"), Some(EndAs::Hold));
+    assert_eq!(rt; RoleKind::from_word(b"janitor"), Some(RoleKind::Janitor));
+    assert_eq!(rt; RoleKind::from_word(b"reaper"), None);
+    assert_eq!(rt; NodeState::from_word(b"Ready"), None);
+}
+
+#[test]
+fn reasons_are_appended(rt: HostRuntime) -> Result<(), Fail> {
+    let reasons: [(Reason, &[u8]); 3] = [
+        (Reason::NoLabel(LabelId(255)), b":no-label-l255"),
+        (Reason::NeverFits, b":never-fits"),
+        (Reason::Spent(NodeId(u32::MAX)), b":spent-n4294967295"),
+    ];
+    for (reason, want) in reasons {
+        let mut out = Vec::from_slice(rt.alloc(), b":")?;
+        assert_eq!(rt; put_reason(&mut out, reason), Ok(()), "{reason:?}");
+        assert_eq!(rt; out.as_slice(), want, "{reason:?}");
+    }
+    Ok(())
+}
+
 #[test]
 fn want_of_memory_is_told(rt: HostRuntime) {
     assert_eq!(rt; NoMemory::from(AllocError), NoMemory);
