@@ -1,12 +1,15 @@
 -- sums of amounts over a list, part by part
-use Rattle.std.proofs.Common.{◌≡◌, ℕ, ◌<◌, ◌≤◌, List, [], ◌∷◌, ◌++◌, Bool, true, false, length, get_or, set, refl, sym, ap, ◌∙◌, arith, Option, Some, None}
+use Rattle.std.proofs.Common.{◌≡◌, ℕ, zero, suc, ◌+◌, ◌<◌, ◌≤◌, take, map, filter, replicate, add-one, List, [], ◌∷◌, ◌++◌, Bool, true, false, length, get_or, set, refl, sym, ap, subst, ◌∙◌, arith, Option, Some, None}
 use Rattle.std.specs.Prelude.{All, sum_by, remove, insert, ◌&&◌}
 use Rattle.std.proofs.lemmas.Bool.Decides.{nat_tests}
+use Rattle.std.proofs.Math.Nat.{suc-mul}
+use Rattle.std.proofs.lemmas.Nat.{mul-le}
+use Rattle.std.proofs.lemmas.List.{take_more, map-append}
 use Rattle.std.proofs.lemmas.List.Sums.{sum_by-cons, sum_by-remove, sum_by-insert, sum_by-set, sum_by-le}
 use Rattle.std.proofs.lemmas.List.Elements.{All-weaker}
 use Rattle.np_amount.specs.declared.amount.Amount.{Amount}
 use Rattle.np_amount.specs.declared.amount.Limit.{Limit}
-use Rattle.np_amount.specs.Amounts.{nothing, plus, minus, times, is_within, fits, total, IsAtMost}
+use Rattle.np_amount.specs.Amounts.{no_limit, nothing, plus, minus, times, is_within, fits, total, IsAtMost}
 
 abbrev amount_of : ℕ → ℕ → ℕ → Amount
 amount_of i c r = record { instances = i; cores = c; ram = r }
@@ -86,6 +89,13 @@ total-remove xs i d within =
     (omega (arith, total-cores xs, total-cores (remove xs i), sum_by-remove (λ (a : Amount). a.cores) xs i d within))
     (omega (arith, total-ram xs, total-ram (remove xs i), sum_by-remove (λ (a : Amount). a.ram) xs i d within))
 
+-- one member more of a list of what its members take
+pub total_more : {X : Type 0} (f : X → Amount) (xs : List X) (i : ℕ) (d : X) → i < length xs → total (map f (take (i + 1) xs)) ≡ plus (total (map f (take i xs))) (f (get_or xs i d))
+total_more f xs i d within =
+    ap (λ ys. total (map f ys)) (take_more xs i d within)
+    ∙ ap total (map-append f (take i xs) (get_or xs i d ∷ []))
+    ∙ total_push (map f (take i xs)) (f (get_or xs i d))
+
 pub total-insert : (xs : List Amount) (i : ℕ) (y : Amount) → total (insert xs i y) ≡ plus (total xs) y
 total-insert xs i y =
     same_amount _ _
@@ -106,3 +116,42 @@ total-at_most xs most each = record {
   cores = omega (arith, total-cores xs, sum_by-le (λ (a : Amount). a.cores) most.cores xs (All-weaker (λ (a : Amount). IsAtMost a most) (λ (a : Amount). a.cores ≤ most.cores) (λ a h. h.cores) xs each));
   ram = omega (arith, total-ram xs, sum_by-le (λ (a : Amount). a.ram) most.ram xs (All-weaker (λ (a : Amount). IsAtMost a most) (λ (a : Amount). a.ram ≤ most.ram) (λ a h. h.ram) xs each));
 }
+
+-- members that take nothing
+pub total-nothing : {X : Type 0} (xs : List X) → total (map (λ x. nothing) xs) ≡ nothing
+total-nothing [] = refl
+total-nothing (x ∷ xs) = nothing-plus _ ∙ total-nothing xs
+
+-- ## So much for each of n
+
+pub times-suc : (n : ℕ) (a : Amount) → times (suc n) a ≡ plus a (times n a)
+times-suc n a = same_amount _ _ (omega (arith, suc-mul n a.instances)) (omega (arith, suc-mul n a.cores)) (omega (arith, suc-mul n a.ram))
+
+pub times_more : (n : ℕ) (a : Amount) → times (n + 1) a ≡ plus a (times n a)
+times_more n a = ap (λ m. times m a) (add-one n) ∙ times-suc n a
+
+pub times-total : (n : ℕ) (a : Amount) → times n a ≡ total (replicate n a)
+times-total zero a = same_amount _ _ (omega arith) (omega arith) (omega arith)
+times-total (suc n) a = times-suc n a ∙ ap (plus a) (times-total n a)
+
+pub IsAtMost-times : (m n : ℕ) (a b : Amount) → m ≤ n → IsAtMost a b → IsAtMost (times m a) (times n b)
+IsAtMost-times m n a b few most = record {
+  instances = mul-le m a.instances n b.instances few most.instances;
+  cores = mul-le m a.cores n b.cores few most.cores;
+  ram = mul-le m a.ram n b.ram few most.ram;
+}
+
+-- the members that pass a test take no more than as much for each member
+pub total-filter_at_most : {X : Type 0} (f : X → Amount) (most : Amount) → ((x : X) → IsAtMost (f x) most) → (test : X → Bool) (xs : List X)
+    → IsAtMost (total (map f (filter test xs))) (times (length xs) most)
+total-filter_at_most f most each test [] = record { instances = omega arith; cores = omega arith; ram = omega arith }
+total-filter_at_most f most each test (x ∷ xs) =
+    subst (IsAtMost (total (map f (filter test (x ∷ xs))))) (sym (times-suc (length xs) most)) (cases (test x) refl (total-filter_at_most f most each test xs))
+  where
+    cases : (b : Bool) → test x ≡ b → IsAtMost (total (map f (filter test xs))) (times (length xs) most)
+        → IsAtMost (total (map f (filter test (x ∷ xs)))) (plus most (times (length xs) most))
+    cases true passes rest = rw passes (IsAtMost-plus (f x) most (total (map f (filter test xs))) (times (length xs) most) (each x) rest)
+    cases false fails rest = rw fails (IsAtMost-trans _ _ _ rest (rw (plus-comm most (times (length xs) most)) (IsAtMost-part (times (length xs) most) most)))
+
+pub fits-no_limit : (a : Amount) → fits a no_limit ≡ true
+fits-no_limit a = refl

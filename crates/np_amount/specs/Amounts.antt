@@ -7,6 +7,10 @@ use Rattle.np_amount.specs.declared.amount.Limit.{Limit}
 abbrev pub nothing : Amount
 nothing = record { instances = 0; cores = 0; ram = 0 }
 
+-- no limit at all (Nodepool: a pool without max-servers, max-cores and max-ram)
+abbrev pub no_limit : Limit
+no_limit = record { instances = None; cores = None; ram = None }
+
 -- both together, part by part (own)
 abbrev pub plus : Amount → Amount → Amount
 plus a b = record { instances = a.instances + b.instances; cores = a.cores + b.cores; ram = a.ram + b.ram }
@@ -15,7 +19,7 @@ plus a b = record { instances = a.instances + b.instances; cores = a.cores + b.c
 abbrev pub minus : Amount → Amount → Amount
 minus a b = record { instances = a.instances - b.instances; cores = a.cores - b.cores; ram = a.ram - b.ram }
 
--- as much for each of so many (own)
+-- as much for each of n (own)
 abbrev pub times : ℕ → Amount → Amount
 times n a = record { instances = n * a.instances; cores = n * a.cores; ram = n * a.ram }
 

@@ -1,7 +1,7 @@
 //! Amounts and limits.
 
-ghost use Rattle.std.specs.Prelude.{◌≡◌, ◌+◌, ◌<◌, ◌≤◌, ◌^◌};
-ghost use Rattle.np_amount.specs.Amounts.{plus, minus, fits};
+ghost use Rattle.std.specs.Prelude.{◌≡◌, ◌+◌, ◌*◌, ◌<◌, ◌≤◌, ◌^◌};
+ghost use Rattle.np_amount.specs.Amounts.{plus, minus, times, fits, is_within};
 
 /// What some nodes take of a pool: instances, cores, and ram in MiB.
 #[derive(Clone, Copy, Debug, PartialEq, Eq)]
@@ -20,7 +20,23 @@ pub struct Limit {
     pub ram: Option<u64>,
 }
 
+impl Limit {
+    /// No limit at all: each amount fits.
+    pub const NO_LIMIT: Limit = Limit {
+        instances: None,
+        cores: None,
+        ram: None,
+    };
+}
+
 impl Amount {
+    /// What no node takes.
+    pub const NOTHING: Amount = Amount {
+        instances: 0,
+        cores: 0,
+        ram: 0,
+    };
+
     /// Both together.
     pub fn plus(self, other: Amount) -> Amount
         requires instances { self.instances + other.instances < 2 ^ 64 }
@@ -49,6 +65,20 @@ impl Amount {
         }
     }
 
+    /// What `n` nodes take that take this amount each.
+    pub fn times(self, n: u64) -> Amount
+        requires instances { n * self.instances < 2 ^ 64 }
+        requires cores { n * self.cores < 2 ^ 64 }
+        requires ram { n * self.ram < 2 ^ 64 }
+        ensures { result ≡ times n self }
+    {
+        Amount {
+            instances: n * self.instances,
+            cores: n * self.cores,
+            ram: n * self.ram,
+        }
+    }
+
     /// Whether each part is at most its limit, where that is there.
     pub fn fits(&self, limit: &Limit) -> bool
         ensures { result ≡ fits self.now limit.now }
@@ -58,8 +88,6 @@ impl Amount {
             && is_within(limit.ram, self.ram)
     }
 }
-
-ghost use Rattle.np_amount.specs.Amounts.{is_within};
 
 fn is_within(limit: Option<u64>, used: u64) -> bool
     ensures { result ≡ is_within limit used }

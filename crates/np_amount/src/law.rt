@@ -1,9 +1,9 @@
 //! What always holds of sums of amounts, for the crates above to cite. The functions do nothing.
 
-ghost use Rattle.std.specs.Prelude.{◌≡◌, ◌<◌, ℕ, true, List, ◌++◌, [], ◌∷◌, All, length, map, remove, insert, slice_set, slice_index_or, sum_by};
-ghost use Rattle.np_amount.specs.declared.amount.Amount.{Amount};
-ghost use Rattle.np_amount.specs.declared.amount.Limit.{Limit};
-ghost use Rattle.np_amount.specs.Amounts.{nothing, plus, minus, times, fits, total, IsAtMost};
+ghost use Rattle.std.specs.Prelude.{◌≡◌, ◌+◌, ◌<◌, ◌≤◌, ℕ, true, List, ◌++◌, [], ◌∷◌, All, length, replicate, map, remove, insert, slice_set, slice_index_or, sum_by};
+ghost use Rattle.np_amount.specs.Amounts.{no_limit, nothing, plus, minus, times, fits, total, IsAtMost};
+
+use crate::amount::{Amount, Limit};
 
 /// `plus` adds in any order and grouping, and `minus` takes away what was added.
 pub fn amounts_add_up()
@@ -12,10 +12,21 @@ pub fn amounts_add_up()
     ensures zero { (a : Amount) → plus nothing a ≡ a }
     ensures undone { (a b : Amount) → minus (plus a b) b ≡ a }
     ensures redone { (a b : Amount) → IsAtMost b a → plus (minus a b) b ≡ a }
+    ensures constant { Amount.NOTHING ≡ nothing }
 {}
 
-/// A smaller amount fits wherever a larger one does.
+/// `times` is the sum of as many: one more adds one more, and more of a larger amount is more.
+pub fn times_are_sums()
+    ensures sum { (n : ℕ) (a : Amount) → times n a ≡ total (replicate n a) }
+    ensures more { (n : ℕ) (a : Amount) → times (n + 1) a ≡ plus a (times n a) }
+    ensures most { (m n : ℕ) (a b : Amount) → m ≤ n → IsAtMost a b →
+        IsAtMost (times m a) (times n b) }
+{}
+
+/// A smaller amount fits wherever a larger one does, and each amount fits where nothing is limited.
 pub fn smaller_amounts_fit()
+    ensures unlimited { (a : Amount) → fits a no_limit ≡ true }
+    ensures constant { Limit.NO_LIMIT ≡ no_limit }
     ensures fits { (a b : Amount) (limit : Limit) → IsAtMost a b → fits b limit ≡ true →
         fits a limit ≡ true }
     ensures refl { (a : Amount) → IsAtMost a a }

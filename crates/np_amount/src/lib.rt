@@ -11,4 +11,6 @@ mod law;
 mod tests;
 
 pub use amount::{Amount, Limit};
-pub use law::{amounts_add_up, smaller_amounts_fit, totals_are_sums, totals_follow_their_list};
+pub use law::{
+    amounts_add_up, smaller_amounts_fit, times_are_sums, totals_are_sums, totals_follow_their_list,
+};

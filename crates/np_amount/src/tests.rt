@@ -1,5 +1,6 @@
 use crate::{
-    Amount, Limit, amounts_add_up, smaller_amounts_fit, totals_are_sums, totals_follow_their_list,
+    Amount, Limit, amounts_add_up, smaller_amounts_fit, times_are_sums, totals_are_sums,
+    totals_follow_their_list,
 };
 
 #[test]
@@ -21,6 +22,7 @@ fn amounts_are_added_and_taken_away_part_by_part(rt: HostRuntime) {
     };
     assert_eq!(rt; two.plus(one), sum);
     assert_eq!(rt; sum.minus(one), two);
+    assert_eq!(rt; sum.plus(Amount::NOTHING), sum);
 }
 
 // An amount of 2 instances, 8 cores and 2048 MiB against limits.
@@ -48,10 +50,29 @@ fn an_amount_fits_up_to_each_limit(rt: HostRuntime) {
     }
 }
 
+// A pool's largest offer, 1,000,000 MiB, for each of 262,144 nodes.
+#[test]
+fn an_amount_is_taken_for_each_node(rt: HostRuntime) {
+    let one = Amount {
+        instances: 1,
+        cores: 1_000,
+        ram: 1_000_000,
+    };
+    let all = Amount {
+        instances: 262_144,
+        cores: 262_144_000,
+        ram: 262_144_000_000,
+    };
+    assert_eq!(rt; one.times(262_144), all);
+    assert_eq!(rt; one.times(0), Amount::NOTHING);
+    assert!(rt; all.fits(&Limit::NO_LIMIT));
+}
+
 #[test]
 fn laws_are_functions_that_do_nothing() {
     amounts_add_up();
     smaller_amounts_fit();
+    times_are_sums();
     totals_are_sums();
     totals_follow_their_list();
 }
