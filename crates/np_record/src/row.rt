@@ -38,7 +38,12 @@ impl<T: Item, const N: usize> Model for Row<T, N> {
     ghost inverse = { λ items. record { items = padded T.blank N items; len = length items } };
 }
 
+// A copy is the same row, and takes no memory.
 impl<T: Item, const N: usize> Clone for Row<T, N> {
+    ghost is_clone = { λ row copy. copy ≡ row };
+
+    ghost is_infallible = { λ row. Unit {0} };
+
     fn clone(&self) -> Result<Row<T, N>, AllocError> {
         Ok(*self)
     }

@@ -1,22 +1,48 @@
-//! Rows on their happy path, up to their room.
+//! Rows of the records, filled up to their rooms.
 
-use crate::record::{LabelRow, NodeRow};
-use np_text::{LabelId, NodeId};
+use crate::record::{DeclineRow, Declined, LabelRow, MarkRow, Marked, NodeRow};
+use np_text::{JOB_LABELS, LabelId, NodeId, POOLS, PoolId, Reason};
 
 #[test]
-fn a_row_takes_what_it_has_room_for(rt: HostRuntime) {
-    let mut row = LabelRow::new();
-    assert!(rt; row.is_empty(), "new");
-    for k in 0..32u16 {
-        assert!(rt; row.push(LabelId(k)), "label {k}");
+fn rows_take_as_many_as_they_have_room_for(rt: HostRuntime) {
+    let mut labels = LabelRow::new();
+    let mut nodes = NodeRow::new();
+    let mut marks = MarkRow::new();
+    assert!(rt; labels.is_empty());
+    for k in 0..JOB_LABELS as u32 {
+        let node = NodeId(u32::MAX - k);
+        assert!(rt; labels.push(LabelId(k as u16)), "label {k}");
+        assert!(rt; nodes.push(node), "node {k}");
+        assert!(rt;
+            marks.push(Marked {
+                node,
+                ended: k % 2 == 0
+            }),
+            "mark {k}"
+        );
+        assert_eq!(rt; labels.at(k), Some(LabelId(k as u16)));
+        assert_eq!(rt; nodes.at(k), Some(node));
     }
-    assert!(rt; !row.push(LabelId(99)), "no room");
-    assert_eq!(rt; row.len(), 32);
-    for k in 0..32u16 {
-        assert_eq!(rt; row.at(u32::from(k)), Some(LabelId(k)), "at {k}");
+    let node = NodeId(0);
+    assert!(rt;
+        !labels.push(LabelId(0)) && !nodes.push(node) && !marks.push(Marked { node, ended: false })
+    );
+    assert_eq!(rt; labels.len(), 32);
+    assert_eq!(rt; labels.at(32), None);
+    assert_eq!(rt; nodes.items().len(), JOB_LABELS);
+}
+
+#[test]
+fn each_pool_may_decline(rt: HostRuntime) {
+    let mut declines = DeclineRow::new();
+    for k in 0..POOLS as u16 {
+        let declined = Declined {
+            pool: PoolId(k),
+            reason: Reason::Spent(NodeId(u32::MAX)),
+        };
+        assert!(rt; declines.push(declined), "pool {k}");
     }
-    assert_eq!(rt; row.at(32), None);
-    assert_eq!(rt; row.items().len(), 32);
+    assert_eq!(rt; declines.len(), 64);
 }
 
 #[test]
@@ -27,4 +53,8 @@ fn a_copy_is_its_own_row(rt: HostRuntime) {
     other.push(NodeId(8));
     assert_eq!(rt; row.items(), [NodeId(7)].as_slice());
     assert_eq!(rt; other.items(), [NodeId(7), NodeId(8)].as_slice());
+    match other.clone() {
+        Ok(again) => assert_eq!(rt; again.items(), other.items()),
+        Err(_) => assert!(rt; false, "a copy takes no memory"),
+    }
 }
