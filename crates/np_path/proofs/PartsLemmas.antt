@@ -9,9 +9,13 @@ use Rattle.std.proofs.lemmas.List.Splits.{slice_split-cons_yes, slice_split-cons
 use Rattle.std.proofs.lemmas.List.Sums.{suffix_len_is}
 use Rattle.std.proofs.lemmas.Str.{IsCharBoundary-after_ascii, IsCharBoundary-before_ascii}
 use Rattle.std.specs.Str.{IsUtf8, IsCharBoundary}
+use Rattle.std.specs.Char.{is_ascii_digit}
+use Rattle.std.specs.Str.{all_ascii_digits}
 use Rattle.std.specs.List.{list_any, suffix_len, before_last, list_all, onto_first}
 use Rattle.np_path.specs.Grammar.{elements, is_dots, is_element, is_kept, is_path, is_slash}
-use Rattle.np_path.specs.Digits.{places, ten_digits}
+use Rattle.np_text.specs.Number.{ten_digits_of}
+use Rattle.np_text.proofs.OrderLemmas.{all_ascii_digits-ten, ten-le-length}
+use Rattle.np_text.proofs.SpellingLemmas.{both_true}
 use Rattle.np_path.specs.Parts.{IsNameAt, below, name_of, or_root, parent_of, root, slashed}
 use Rattle.np_path.proofs.GrammarLemmas.{both-first, both-second}
 use Rattle.np_path.proofs.Walk.{IsKeptTo, elements-one, kept_no_slash, onto_any}
@@ -198,23 +202,30 @@ is_dots-long (b ∷ []) long = absurd (omega arith)
 is_dots-long (b ∷ c ∷ []) long = absurd (omega arith)
 is_dots-long (b ∷ c ∷ d ∷ bs) long = refl
 
-is_kept-digit : (n : ℕ) → is_kept (48 + n % 10) ≡ true
-is_kept-digit n = grind (arith, nat_tests)
+are_kept-digits : (ds : List ℕ) → all_ascii_digits ds ≡ true → list_all is_kept ds ≡ true
+are_kept-digits [] digits = refl
+are_kept-digits (d ∷ ds) digits =
+    let parts = both_true (is_ascii_digit d) (all_ascii_digits ds) digits in
+    both _ _ (grind (arith, nat_tests)) (are_kept-digits ds parts.1)
 
-are_kept-digits : (n : ℕ) (places : List ℕ) → list_all is_kept (map (λ place. 48 + n / place % 10) places) ≡ true
-are_kept-digits n [] = refl
-are_kept-digits n (place ∷ places) = both _ _ (is_kept-digit (n / place)) (are_kept-digits n places)
-
-pub is_element-numbered : (prefix : List ℕ) (n : ℕ) → list_all is_kept prefix ≡ true → is_element (prefix ++ ten_digits n) ≡ true
-unfolding ten_digits
+pub is_element-numbered : (prefix : List ℕ) (n : ℕ) → list_all is_kept prefix ≡ true → is_element (prefix ++ ten_digits_of n) ≡ true
 is_element-numbered prefix n kept =
     both _ _
-    (ap not (is_dots-long (prefix ++ ten_digits n) (simp length-append (omega arith))))
-    (list_all-append is_kept prefix (ten_digits n) ∙ both _ _ kept (are_kept-digits n places))
+    (ap not (is_dots-long (prefix ++ ten_digits_of n) (simp length-append (omega (arith, ten-le-length n)))))
+    (list_all-append is_kept prefix (ten_digits_of n) ∙ both _ _ kept (are_kept-digits (ten_digits_of n) (all_ascii_digits-ten n)))
 
 -- and no name where one may not
-pub is_element-numbered_not : (prefix : List ℕ) (n : ℕ) → list_all is_kept prefix ≡ false → is_element (prefix ++ ten_digits n) ≡ false
-is_element-numbered_not prefix n bad = let split = list_all-append is_kept prefix (ten_digits n) in grind (arith, nat_tests, split)
+pub is_element-numbered_not : (prefix : List ℕ) (n : ℕ) → list_all is_kept prefix ≡ false → is_element (prefix ++ ten_digits_of n) ≡ false
+is_element-numbered_not prefix n bad = let split = list_all-append is_kept prefix (ten_digits_of n) in grind (arith, nat_tests, split)
+
+digits_are_ascii : (ds : List ℕ) (k : ℕ) → all_ascii_digits ds ≡ true → get_or ds k 0 < 128
+digits_are_ascii [] k digits = omega arith
+digits_are_ascii (d ∷ ds) zero digits = let parts = both_true (is_ascii_digit d) (all_ascii_digits ds) digits in grind (arith, nat_tests)
+digits_are_ascii (d ∷ ds) (suc k) digits = digits_are_ascii ds k (both_true (is_ascii_digit d) (all_ascii_digits ds) digits).1
+
+-- each of the ten digits is one byte of text
+pub ten_are_ascii : (ds : List ℕ) (n k : ℕ) → ds ≡ ten_digits_of n → get_or ds k 0 < 128
+ten_are_ascii ds n k are = rw are (digits_are_ascii (ten_digits_of n) k (all_ascii_digits-ten n))
 
 pub ruleset numbered_names = (is_element-numbered)
 

@@ -1,5 +1,4 @@
 pub mod Grammar
 pub mod Faults
 pub mod Parts
-pub mod Digits
 pub mod Makes

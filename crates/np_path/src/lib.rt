@@ -6,7 +6,6 @@
 //! A `Path` is always in the grammar, and never changes.
 #![tactic(auto)]
 
-mod digits;
 mod fault;
 mod grammar;
 mod laws;
@@ -14,7 +13,6 @@ mod path;
 #[cfg(test)]
 mod tests;
 
-pub use digits::ten_digits;
 pub use fault::PathFault;
 pub use laws::{
     children_have_their_parts, paths_are_their_parts, paths_have_no_fault, texts_are_their_halves,

@@ -4,15 +4,15 @@ ghost use Rattle.std.specs.Prelude.{◌≡◌, ◌↔◌, ◌++◌, true, IfOk, 
 ghost use Rattle.std.specs.List.{before_last, list_all, list_any};
 ghost use Rattle.std.specs.String.{string_bytes};
 ghost use Rattle.std.specs.Option.{option_copied};
-ghost use Rattle.np_path.specs.Digits.{ten_digits};
+ghost use Rattle.np_text.specs.Number.{ten_digits_of};
 ghost use Rattle.np_path.specs.Faults.{name_fault, path_fault};
 ghost use Rattle.np_path.specs.Grammar.{is_element, is_kept, is_path, is_slash};
 ghost use Rattle.np_path.specs.Makes.{Makes};
 ghost use Rattle.np_path.specs.Parts.{below, name_of, parent_of, slashed};
 
-use crate::digits::ten_digits;
 use crate::fault::PathFault;
 use crate::grammar::{are_kept, is_element, name_place};
+use np_text::ten_digits;
 use std::alloc::{AllocError, Global};
 use std::marker::Model;
 
@@ -110,7 +110,8 @@ impl Path {
     /// The path of the child whose name is the prefix and the ten digits of `n`, as the name of a
     /// sequence node is made.
     pub fn sequence_child(&self, prefix: &str, n: u32) -> Result<Path, PathFault>
-        ensures { Makes (name_fault (prefix.now ++ ten_digits n)) (below self.now (prefix.now ++ ten_digits n)) result }
+        ensures { let name = prefix.now ++ ten_digits_of n in
+            Makes (name_fault name) (below self.now name) result }
     {
         if !are_kept(prefix.as_bytes()) {
             return Err(PathFault::Bad { place: 0 });
@@ -122,11 +123,11 @@ impl Path {
     }
 
     /// That path, where each byte of the prefix may stand in an element.
-    #[tactic(auto, using(crate::proofs::PartsLemmas::numbered_names), unfolding(crate::specs::Digits::ten_digits))]
+    #[tactic(auto, using(crate::proofs::PartsLemmas::numbered_names))]
     fn numbered(&self, prefix: &str, n: u32) -> Result<Path, AllocError>
         requires { list_all is_kept prefix.now ≡ true }
-        ensures path { IfOk result (λ path. path ≡ below self.now (prefix.now ++ ten_digits n)) }
-        ensures name { is_element (prefix.now ++ ten_digits n) ≡ true }
+        ensures path { IfOk result (λ path. path ≡ below self.now (prefix.now ++ ten_digits_of n)) }
+        ensures name { is_element (prefix.now ++ ten_digits_of n) ≡ true }
     {
         let mut text = self.slashed(prefix.len().saturating_add(10))?;
         let name_at = text.len();
