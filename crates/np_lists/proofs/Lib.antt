@@ -1,0 +1,13 @@
+pub mod Each
+pub mod ChangeLemmas
+pub mod Differ
+pub mod Halves
+pub mod RisingLemmas
+pub mod PositionLemmas
+pub mod EachAfterLemmas
+pub mod SplitLemmas
+pub mod EditLemmas
+pub mod FilterLemmas
+pub mod FoundLemmas
+pub mod RefusalLemmas
+pub mod KeptLemmas

@@ -1,0 +1,4 @@
+pub mod Change
+pub mod Rising
+pub mod Refusals
+pub mod EachAfter
