@@ -7,7 +7,7 @@ use Rattle.std.specs.Prelude.{filter}
 use Rattle.std.specs.List.Sorted.{IsStrictlyIncreasing}
 use Rattle.np_session.specs.declared.sessions.Life.{Life}
 use Rattle.np_session.specs.declared.sessions.Life.TheVariants.{Live, Mute, Over}
-use Rattle.np_session.specs.Known.{IsKnown, Known, begun_next, ended, is_in, muted, mute_with, with_spare, without}
+use Rattle.np_session.specs.Known.{IsKnown, Known, after_begin, after_end, is_in, after_mute, mute_with, with_spare, without}
 use Rattle.np_session.specs.Numbers.{is_live, is_mute, known_of, life_of, numbers}
 
 -- a number below the first is not among them
@@ -188,7 +188,7 @@ numbers-push p n (x ∷ xs) y =
 step_back : (id : ℕ) → 0 < id → 1 + (id - 1) ≡ id
 step_back id some = omega arith
 
-pub known_of-over : (lives : List Life) (spare id : ℕ) → is_live (life_of lives id) ≡ true → known_of (set lives (id - 1) Over) spare ≡ ended (known_of lives spare) id
+pub known_of-over : (lives : List Life) (spare id : ℕ) → is_live (life_of lives id) ≡ true → known_of (set lives (id - 1) Over) spare ≡ after_end (known_of lives spare) id
 known_of-over lives spare id live =
     let there = HasPlace-passes is_live refl lives id live in
     let number = step_back id there.some in
@@ -196,7 +196,7 @@ known_of-over lives spare id live =
     let mute-is = numbers-over is_mute refl lives (id - 1) there.within ∙ ap (without (numbers is_mute 1 lives)) number in
     rw (length-set lives (id - 1) Over, live-is, mute-is) refl
 
-pub known_of-mute : (lives : List Life) (spare id : ℕ) → is_live (life_of lives id) ≡ true → known_of (set lives (id - 1) Mute) spare ≡ muted (known_of lives spare) id
+pub known_of-mute : (lives : List Life) (spare id : ℕ) → is_live (life_of lives id) ≡ true → known_of (set lives (id - 1) Mute) spare ≡ after_mute (known_of lives spare) id
 known_of-mute lives spare id live =
     let there = HasPlace-passes is_live refl lives id live in
     let number = step_back id there.some in
@@ -204,7 +204,7 @@ known_of-mute lives spare id live =
     let mute-is = mute_with-mute lives (id - 1) there.within there.passes ∙ ap (mute_with (numbers is_live 1 lives) (numbers is_mute 1 lives)) number in
     rw (length-set lives (id - 1) Mute, live-is, mute-is) refl
 
-pub known_of-push : (lives : List Life) (before after : ℕ) → known_of (lives ++ Live ∷ []) after ≡ with_spare (begun_next (known_of lives before)) after
+pub known_of-push : (lives : List Life) (before after : ℕ) → known_of (lives ++ Live ∷ []) after ≡ with_spare (after_begin (known_of lives before)) after
 known_of-push lives before after =
     let next : 1 + length lives ≡ length lives + 1 = omega arith in
     let live-is = numbers-push is_live 1 lives Live ∙ ap (λ k. numbers is_live 1 lives ++ k ∷ []) next in

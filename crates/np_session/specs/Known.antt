@@ -1,3 +1,4 @@
+-- what is known of sessions, and what each call makes of it
 use Rattle.std.specs.Prelude.{◌≡◌, ℕ, ◌+◌, ◌<◌, ◌≤◌, Bool, true, not, ◌||◌, ◌==◌, List, [], ◌∷◌, ◌++◌, filter}
 use Rattle.std.specs.List.{list_any}
 use Rattle.std.specs.List.Sorted.{IsStrictlyIncreasing}
@@ -23,16 +24,16 @@ abbrev pub mute_with : List ℕ → List ℕ → ℕ → List ℕ
 mute_with live mute id = filter (λ s. is_in mute s || (s == id)) live
 
 -- the next session has begun: its number is one more than the last, and it is live
-abbrev pub begun_next : Known → Known
-begun_next known = record known { begun = known.begun + 1; live = known.live ++ (known.begun + 1) ∷ [] }
+abbrev pub after_begin : Known → Known
+after_begin known = record known { begun = known.begun + 1; live = known.live ++ (known.begun + 1) ∷ [] }
 
 -- a session is over: it is neither live nor mute
-abbrev pub ended : Known → ℕ → Known
-ended known id = record known { live = without known.live id; mute = without known.mute id }
+abbrev pub after_end : Known → ℕ → Known
+after_end known id = record known { live = without known.live id; mute = without known.mute id }
 
 -- a live session is mute from now on
-abbrev pub muted : Known → ℕ → Known
-muted known id = record known { mute = mute_with known.live known.mute id }
+abbrev pub after_mute : Known → ℕ → Known
+after_mute known id = record known { mute = mute_with known.live known.mute id }
 
 -- the same but for what can begin without memory
 abbrev pub with_spare : Known → ℕ → Known

@@ -1,3 +1,4 @@
+-- the table of sessions as lists of numbers, for the code alone
 use Rattle.std.specs.Prelude.{ℕ, ◌+◌, ◌-◌, ◌==◌, Bool, true, false, List, [], ◌∷◌, length, slice_index_or, if◌then◌else◌}
 use Rattle.np_session.specs.Known.{Known}
 use Rattle.np_session.specs.declared.sessions.Life.{Life}

@@ -3,7 +3,7 @@
 ghost use Rattle.std.specs.Prelude.{◌≡◌, ◌<◌, ◌≤◌, ◌+◌, ◌&&◌, not, [], length, IfErr, OnOk, OnErr};
 ghost use Rattle.std.specs.Bool.{OnTrue, OnFalse};
 ghost use Rattle.np_session.specs.Begins.{Begins};
-ghost use Rattle.np_session.specs.Known.{IsKnown, begun_next, ended, is_in, muted, with_spare};
+ghost use Rattle.np_session.specs.Known.{IsKnown, after_begin, after_end, is_in, after_mute, with_spare};
 ghost use Rattle.np_session.specs.Numbers.{is_live, is_mute, life_of};
 
 use crate::fault::SessionFault;
@@ -85,8 +85,8 @@ impl Sessions {
 
     /// Begins the next session, and answers its number.
     pub fn begin(&mut self) -> Result<u32, SessionFault>
-        ensures answer { Begins self.old result }
-        ensures ok { OnOk result (self.new ≡ with_spare (begun_next self.old) self.new.spare) }
+        ensures answer { Begins self.old.begun self.old.spare result }
+        ensures ok { OnOk result (self.new ≡ with_spare (after_begin self.old) self.new.spare) }
         ensures spare { self.old.spare ≤ self.new.spare + 1 }
         ensures err { OnErr result (self.new ≡ self.old) }
     {
@@ -102,7 +102,7 @@ impl Sessions {
     /// Ends the session, and answers whether it was live.
     pub fn end(&mut self, id: u32) -> bool
         ensures answer { result ≡ is_in self.old.live id }
-        ensures yes { OnTrue result (self.new ≡ ended self.old id) }
+        ensures yes { OnTrue result (self.new ≡ after_end self.old id) }
         ensures no { OnFalse result (self.new ≡ self.old) }
     {
         if !life_of(&self.lives, id).is_live() {
@@ -116,7 +116,7 @@ impl Sessions {
     /// Makes the live session mute, and answers whether it was live and not mute.
     pub fn mute(&mut self, id: u32) -> bool
         ensures answer { result ≡ (is_in self.old.live id && not (is_in self.old.mute id)) }
-        ensures yes { OnTrue result (self.new ≡ muted self.old id) }
+        ensures yes { OnTrue result (self.new ≡ after_mute self.old id) }
         ensures no { OnFalse result (self.new ≡ self.old) }
     {
         let life = life_of(&self.lives, id);

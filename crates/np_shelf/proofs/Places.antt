@@ -1,6 +1,7 @@
+-- edits of a list round the item in the middle are edits of one side
 use Rattle.std.proofs.Common.{◌≡◌, ℕ, ◌+◌, ◌-◌, ◌<◌, ◌≤◌, zero, suc, List, [], ◌∷◌, ◌++◌, length, drop, insert, remove, slice_get, Some, refl, sym, ap, arith}
 use Rattle.std.proofs.lemmas.List.Edits.{insert-append_left, insert-append_right, remove-append_left, remove-append_right}
-use Rattle.np_shelf.specs.Lists.{changed_at}
+use Rattle.np_lists.specs.Change.{change_at}
 
 -- Edits of a list round the item in the middle, `left ++ item ∷ right`, are edits of one side.
 -- A place past the middle is given with the place on the right, `below`, that it is.
@@ -48,25 +49,19 @@ slice_get-right (x ∷ left) right item zero below past = absurd (omega arith)
 slice_get-right (x ∷ left) right item (suc place) below past = slice_get-right left right item place below (omega arith)
 
 -- an item changed on the left, in the middle, on the right
-pub changed_at-left : {T : Type 0} (f : T → T) (left right : List T) (item : T) (place : ℕ) → place < length left → changed_at f place left ++ item ∷ right ≡ changed_at f place (left ++ item ∷ right)
-changed_at-left f [] right item place within = absurd (omega arith)
-changed_at-left f (x ∷ left) right item zero within = refl
-changed_at-left f (x ∷ left) right item (suc place) within = ap (λ rest. x ∷ rest) (changed_at-left f left right item place (omega arith))
+pub change_at-left : {T : Type 0} (f : T → T) (left right : List T) (item : T) (place : ℕ) → place < length left → change_at place f left ++ item ∷ right ≡ change_at place f (left ++ item ∷ right)
+change_at-left f [] right item place within = absurd (omega arith)
+change_at-left f (x ∷ left) right item zero within = refl
+change_at-left f (x ∷ left) right item (suc place) within = ap (λ rest. x ∷ rest) (change_at-left f left right item place (omega arith))
 
-pub changed_at-middle : {T : Type 0} (f : T → T) (left right : List T) (item : T) (place : ℕ) → place ≡ length left → left ++ f item ∷ right ≡ changed_at f place (left ++ item ∷ right)
-changed_at-middle f [] right item place there = rw there refl
-changed_at-middle f (x ∷ left) right item place there = rw there (ap (λ rest. x ∷ rest) (changed_at-middle f left right item (length left) refl))
+pub change_at-middle : {T : Type 0} (f : T → T) (left right : List T) (item : T) (place : ℕ) → place ≡ length left → left ++ f item ∷ right ≡ change_at place f (left ++ item ∷ right)
+change_at-middle f [] right item place there = rw there refl
+change_at-middle f (x ∷ left) right item place there = rw there (ap (λ rest. x ∷ rest) (change_at-middle f left right item (length left) refl))
 
-pub changed_at-right : {T : Type 0} (f : T → T) (left right : List T) (item : T) (place below : ℕ) → place ≡ length left + suc below → left ++ item ∷ changed_at f below right ≡ changed_at f place (left ++ item ∷ right)
-changed_at-right f [] right item place below past = let there : place ≡ suc below = omega arith in rw there refl
-changed_at-right f (x ∷ left) right item zero below past = absurd (omega arith)
-changed_at-right f (x ∷ left) right item (suc place) below past = ap (λ rest. x ∷ rest) (changed_at-right f left right item place below (omega arith))
-
--- a change keeps the length
-pub length-changed_at : {T : Type 0} (f : T → T) (place : ℕ) (items : List T) → length (changed_at f place items) ≡ length items
-length-changed_at f place [] = refl
-length-changed_at f zero (x ∷ items) = refl
-length-changed_at f (suc place) (x ∷ items) = ap suc (length-changed_at f place items)
+pub change_at-right : {T : Type 0} (f : T → T) (left right : List T) (item : T) (place below : ℕ) → place ≡ length left + suc below → left ++ item ∷ change_at below f right ≡ change_at place f (left ++ item ∷ right)
+change_at-right f [] right item place below past = let there : place ≡ suc below = omega arith in rw there refl
+change_at-right f (x ∷ left) right item zero below past = absurd (omega arith)
+change_at-right f (x ∷ left) right item (suc place) below past = ap (λ rest. x ∷ rest) (change_at-right f left right item place below (omega arith))
 
 -- the first item on the right takes the place of the item in the middle
 pub remove-first_up : {T : Type 0} (left right : List T) (item first : T) (place : ℕ) → place ≡ length left → slice_get right 0 ≡ Some first → left ++ first ∷ drop 1 right ≡ remove (left ++ item ∷ right) place

@@ -1,3 +1,4 @@
+-- a list split by a probe is split on each side of the item in the middle
 use Rattle.std.proofs.Common.{◌≡◌, ℕ, ◌+◌, ◌<◌, zero, suc, List, [], ◌∷◌, ◌++◌, length, get_or, Bool, true, false, refl, sym, ap, ◌∙◌, ⊎_elim, arith, length-append}
 use Rattle.std.specs.List.{prefix_len}
 use Rattle.std.proofs.lemmas.Bool.{cases_lt}
@@ -5,7 +6,7 @@ use Rattle.std.proofs.lemmas.Bool.Decides.{nat_tests}
 use Rattle.std.proofs.lemmas.List.{get_or-append-add}
 use Rattle.std.proofs.lemmas.List.Folds.{prefix_len-append}
 use Rattle.std.proofs.lemmas.List.Sums.{prefix_len-le-length}
-use Rattle.np_shelf.specs.Lists.{IsSplit}
+use Rattle.np_lists.specs.Rising.{IsSplit}
 
 -- where an item of the front fails, what comes behind does not matter
 prefix_len-append_short : {T : Type 0} (p : T → Bool) (left rest : List T) → prefix_len p left < length left → prefix_len p (left ++ rest) ≡ prefix_len p left

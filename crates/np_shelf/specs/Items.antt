@@ -1,4 +1,5 @@
-use Rattle.std.specs.Prelude.{◌≡◌, ◌+◌, List, [], ◌∷◌, ◌++◌, length}
+-- what the boxes of a shelf hold
+use Rattle.std.specs.Prelude.{◌≡◌, ℕ, ◌+◌, List, [], ◌∷◌, ◌++◌, length}
 use Rattle.np_shelf.specs.declared.shelf.Knot.{Knot}
 use Rattle.np_shelf.specs.declared.shelf.Link.{Link}
 use Rattle.np_shelf.specs.declared.shelf.Link.TheVariants.{Empty, Top}
@@ -7,6 +8,11 @@ use Rattle.np_shelf.specs.declared.shelf.Link.TheVariants.{Empty, Top}
 abbrev pub items_of : {T : Type 0} → Link T → List T
 items_of Empty = []
 items_of (Top knot) = knot.value.left ++ knot.value.item ∷ knot.value.right
+
+-- how many items stand on each side of the knot at the top
+abbrev pub side_lengths : {T : Type 0} → Link T → ℕ × ℕ
+side_lengths Empty = (0, 0)
+side_lengths (Top knot) = (length knot.value.left, length knot.value.right)
 
 -- the knot at the top knows how many items there are
 abbrev pub IsCounted : {T : Type 0} → Link T → Type 0

@@ -3,7 +3,8 @@
 ghost use Rattle.std.specs.Prelude.{◌≡◌, ◌<◌, ◌≤◌, ◌↔◌, [], IsTrue, Some, insert, length, option_map, remove, slice_get};
 ghost use Rattle.std.specs.List.{prefix_len};
 ghost use Rattle.std.specs.Option.{option_copied};
-ghost use Rattle.np_shelf.specs.Lists.{IsSplit, changed_at};
+ghost use Rattle.np_lists.specs.Change.{change_at};
+ghost use Rattle.np_lists.specs.Rising.{IsSplit};
 ghost use Rattle.np_shelf.specs.Items.{IsCounted, items_of};
 
 mod balance;
@@ -174,7 +175,7 @@ impl<T: Drop> Shelf<T> {
     /// the length.
     pub fn change<C: Change<T>>(&mut self, place: usize, change: &mut C)
         requires { place < length self.old }
-        ensures items { self.new ≡ changed_at (C.after change.old) place self.old }
+        ensures items { self.new ≡ change_at place (C.after change.old) self.old }
         ensures kept { option_map (C.kept change.old) (slice_get self.old place) ≡ Some change.new }
     {
         let Link::Top(knot) = &mut self.top else {

@@ -155,3 +155,17 @@ fn a_thousand_at_both_ends(rt: HostRuntime) -> Result<(), Fail> {
     assert!(rt; shelf.is_empty());
     Ok(())
 }
+
+// A list that is never balanced would be 200,000 boxes deep.
+#[test]
+fn many_items_at_one_end(rt: HostRuntime) -> Result<(), Fail> {
+    let mut shelf = Shelf::new();
+    for item in 0..200_000_u32 {
+        assert_eq!(rt; shelf.len(), item as usize);
+        shelf.insert(shelf.len(), Piece::new(rt.alloc(), item)?);
+    }
+    for below in [0, 1, 77_777, 199_999, 200_000] {
+        assert_eq!(rt; shelf.at(below as usize).copied().unwrap_or(200_000), below);
+    }
+    Ok(())
+}

@@ -1,31 +1,38 @@
 //! What keeps the tree low: where one side of a knot weighs more than three times what the other
 //! does, it is raised. A side weighs one more than it has items.
 //!
-//! It is proved that no rotation changes the list, and not that the tree stays low.
+//! It is proved that no rotation changes the list, and not that the tree stays low: with these weights
+//! a path down has at most 2.41 times as many knots as the logarithm of the length (Hirai and Yamamoto,
+//! Balancing weight-balanced trees), and a test puts 200,000 items in at one end.
 
 ghost use Rattle.std.specs.Prelude.{◌≡◌};
+ghost use Rattle.np_shelf.specs.Items.{side_lengths};
 
 use super::{Link, Shelf};
 use std::mem;
+
+impl<T: Drop> Link<T> {
+    /// How many items stand on each side of the top.
+    fn sides(&self) -> (usize, usize)
+        ensures { result ≡ side_lengths self.now }
+    {
+        match self {
+            Link::Empty => (0, 0),
+            Link::Top(knot) => (knot.left.len(), knot.right.len()),
+        }
+    }
+}
 
 impl<T: Drop> Shelf<T> {
     /// Raises the side that weighs more than three times what the other does, if one does.
     pub(super) fn balance(&mut self)
         ensures { self.new ≡ self.old }
     {
-        let (left, right) = self.sides();
+        let (left, right) = self.top.sides();
         if right / 3 > left {
             self.raise_right();
         } else if left / 3 > right {
             self.raise_left();
-        }
-    }
-
-    /// How many items stand on each side of the top.
-    fn sides(&self) -> (usize, usize) {
-        match &self.top {
-            Link::Empty => (0, 0),
-            Link::Top(knot) => (knot.left.len(), knot.right.len()),
         }
     }
 
@@ -35,7 +42,7 @@ impl<T: Drop> Shelf<T> {
         ensures { self.new ≡ self.old }
     {
         if let Link::Top(knot) = &mut self.top {
-            let (inner, outer) = knot.right.sides();
+            let (inner, outer) = knot.right.top.sides();
             if inner.div_ceil(2) > outer {
                 knot.right.rotate_right();
             }
@@ -48,7 +55,7 @@ impl<T: Drop> Shelf<T> {
         ensures { self.new ≡ self.old }
     {
         if let Link::Top(knot) = &mut self.top {
-            let (outer, inner) = knot.left.sides();
+            let (outer, inner) = knot.left.top.sides();
             if inner.div_ceil(2) > outer {
                 knot.left.rotate_left();
             }

@@ -1,6 +1,6 @@
 use Rattle.std.proofs.Common.{◌-◌, vec_capacity, [], ◌∷◌, ◌++◌, length, ap, ◌∙◌, arith}
 use Rattle.std.proofs.lemmas.List.{length_push}
-use Rattle.np_session.specs.Known.{begun_next, with_spare}
+use Rattle.np_session.specs.Known.{after_begin, with_spare}
 use Rattle.np_session.specs.Numbers.{is_live, known_of}
 use Rattle.np_session.specs.declared.sessions.Life.TheVariants.{Live}
 use Rattle.np_session.proofs.NumbersLemmas.{known_of-push, length-numbers, length-push_live}
@@ -23,4 +23,4 @@ returns-clause-ok c =
     let spare = vec_capacity c.push.new.self - length c.push.new.self.items in
     ap (λ lives. known_of lives spare) items
     ∙ known_of-push c.self.inside.lives.items (vec_capacity c.self.inside.lives - length c.self.inside.lives.items) spare
-    ∙ ap (λ known. with_spare (begun_next known) spare) c.self.view_is
+    ∙ ap (λ known. with_spare (after_begin known) spare) c.self.view_is

@@ -1,6 +1,6 @@
 use Rattle.std.proofs.Common.{◌≡◌, ◌-◌, true, vec_capacity, set, sym, ap, ◌∙◌, refl, arith}
 use Rattle.std.proofs.lemmas.List.{length-set}
-use Rattle.np_session.specs.Known.{ended}
+use Rattle.np_session.specs.Known.{after_end}
 use Rattle.np_session.specs.Numbers.{is_live, known_of, life_of}
 use Rattle.np_session.specs.declared.sessions.Life.TheVariants.{Over}
 use Rattle.np_session.proofs.NumbersLemmas.{HasPlace-passes, is_in-live, known_of-over, length-over}
@@ -30,4 +30,4 @@ pub returns-clause-yes : goal.returns-clause-yes
 returns-clause-yes c =
     let live : is_live (life_of c.self.inside.lives.items c.args.id) ≡ true = ap is_live (sym (c.life_of.ensures ∙ ap (λ table. life_of table c.args.id) c.deref.ensures.value)) ∙ sym c.if-not-is_live.ensures in
     ap (λ n. known_of (set c.self.inside.lives.items (c.args.id - 1) Over) (vec_capacity c.self.inside.lives - n)) (length-set c.self.inside.lives.items (c.args.id - 1) Over)
-    ∙ known_of-over c.self.inside.lives.items _ c.args.id live ∙ ap (λ known. ended known c.args.id) c.self.view_is
+    ∙ known_of-over c.self.inside.lives.items _ c.args.id live ∙ ap (λ known. after_end known c.args.id) c.self.view_is

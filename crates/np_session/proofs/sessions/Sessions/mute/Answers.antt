@@ -1,6 +1,6 @@
 use Rattle.std.proofs.Common.{◌≡◌, ◌-◌, true, vec_capacity, length, set, sym, ap, ◌∙◌, refl, arith}
 use Rattle.std.proofs.lemmas.List.{length-set}
-use Rattle.np_session.specs.Known.{muted}
+use Rattle.np_session.specs.Known.{after_mute}
 use Rattle.np_session.specs.Numbers.{is_live, known_of, life_of}
 use Rattle.np_session.specs.declared.sessions.Life.TheVariants.{Mute}
 use Rattle.np_session.proofs.NumbersLemmas.{HasPlace-passes, is_in-live, is_in-mute, known_of-mute, may_mute, mute_already, not_live, numbers-mute}
@@ -34,4 +34,4 @@ returns-clause-yes c =
     let live : is_live (life_of c.self.inside.lives.items c.args.id) ≡ true = ap is_live (sym (c.life_of-life.ensures ∙ ap (λ table. life_of table c.args.id) c.deref.ensures.value)) ∙ sym c.if-not-is_live.ensures in
     ap (λ n. known_of (set c.self.inside.lives.items (c.args.id - 1) Mute) (vec_capacity c.self.inside.lives - n)) (length-set c.self.inside.lives.items (c.args.id - 1) Mute)
     ∙ known_of-mute c.self.inside.lives.items _ c.args.id live
-    ∙ ap (λ known. muted known c.args.id) c.self.view_is
+    ∙ ap (λ known. after_mute known c.args.id) c.self.view_is

@@ -1,5 +1,6 @@
 use Rattle.std.proofs.Common.{◌≡◌, ◌-◌, length, refl, arith}
-use Rattle.np_shelf.proofs.Places.{changed_at-left, changed_at-middle, changed_at-right, length-changed_at, slice_get-left, slice_get-middle, slice_get-right}
+use Rattle.np_lists.proofs.ChangeLemmas.{length-change_at}
+use Rattle.np_shelf.proofs.Places.{change_at-left, change_at-middle, change_at-right, slice_get-left, slice_get-middle, slice_get-right}
 use Rattle.np_shelf.proofs.shelf.Shelf.+change.Goals as goal
 use Rattle.np_shelf.proofs.shelf.Shelf.+change.Goals.{then-place-left, else-place-left+then-place-left-2, else-place-left+else-place-left-2}
 
@@ -9,9 +10,9 @@ invariant_of-self g t c =
     let counted = rw c.in-Top.is at c.self.invariant in
     let f = g.C.Change.after c.args.change.now in
     elim c.if-place-left.branch [
-      | then-place-left w ↦ rw (w.self-inside-is, w.deref_mut.ensures.value, w.change.ensures.items, w.deref_mut.ensures.value, length-changed_at f c.args.place knot.left) counted
+      | then-place-left w ↦ rw (w.self-inside-is, w.deref_mut.ensures.value, w.change.ensures.items, w.deref_mut.ensures.value, length-change_at c.args.place f knot.left) counted
       | else-place-left+then-place-left-2 w ↦ rw (w.self-inside-is, w.deref_mut-then-place-left-2.ensures.value) counted
-      | else-place-left+else-place-left-2 w ↦ rw (w.self-inside-is, w.deref_mut-else-place-left-2.ensures.value, w.change-else-place-left-2.ensures.items, w.deref_mut-else-place-left-2.ensures.value, length-changed_at f (c.args.place - c.len-left.result - 1) knot.right) counted
+      | else-place-left+else-place-left-2 w ↦ rw (w.self-inside-is, w.deref_mut-else-place-left-2.ensures.value, w.change-else-place-left-2.ensures.items, w.deref_mut-else-place-left-2.ensures.value, length-change_at (c.args.place - c.len-left.result - 1) f knot.right) counted
     ]
 
 pub returns-clause-items : goal.returns-clause-items
@@ -21,9 +22,9 @@ returns-clause-items g t c =
     let many : c.len-left.result ≡ length knot.left = cc in
     let f = g.C.Change.after c.args.change.now in
     elim c.if-place-left.branch [
-      | then-place-left w ↦ let changed = changed_at-left f knot.left knot.right knot.item c.args.place (omega arith) in rw (w.self-inside-is, w.deref_mut.ensures.value, w.change.ensures.items, w.deref_mut.ensures.value, ← was) changed
-      | else-place-left+then-place-left-2 w ↦ let changed = changed_at-middle f knot.left knot.right knot.item c.args.place (omega arith) in rw (w.self-inside-is, w.make.ensures.item, w.deref_mut-then-place-left-2.ensures.value, ← was) changed
-      | else-place-left+else-place-left-2 w ↦ let changed = changed_at-right f knot.left knot.right knot.item c.args.place (c.args.place - c.len-left.result - 1) (omega arith) in rw (w.self-inside-is, w.deref_mut-else-place-left-2.ensures.value, w.change-else-place-left-2.ensures.items, w.deref_mut-else-place-left-2.ensures.value, ← was) changed
+      | then-place-left w ↦ let changed = change_at-left f knot.left knot.right knot.item c.args.place (omega arith) in rw (w.self-inside-is, w.deref_mut.ensures.value, w.change.ensures.items, w.deref_mut.ensures.value, ← was) changed
+      | else-place-left+then-place-left-2 w ↦ let changed = change_at-middle f knot.left knot.right knot.item c.args.place (omega arith) in rw (w.self-inside-is, w.make.ensures.item, w.deref_mut-then-place-left-2.ensures.value, ← was) changed
+      | else-place-left+else-place-left-2 w ↦ let changed = change_at-right f knot.left knot.right knot.item c.args.place (c.args.place - c.len-left.result - 1) (omega arith) in rw (w.self-inside-is, w.deref_mut-else-place-left-2.ensures.value, w.change-else-place-left-2.ensures.items, w.deref_mut-else-place-left-2.ensures.value, ← was) changed
     ]
 
 pub returns-clause-kept : goal.returns-clause-kept
