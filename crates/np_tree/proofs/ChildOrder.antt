@@ -7,13 +7,14 @@ use Rattle.std.specs.Cmp.Lexicographic.{slice_cmp}
 use Rattle.std.proofs.lemmas.Cmp.{nat_list_cmp_total, tied_itself}
 use Rattle.np_path.specs.Grammar.{is_path}
 use Rattle.np_path.specs.Parts.{name_of, parent_of}
-use Rattle.np_desk.specs.Look.{before_of, children_of, is_child, is_parent}
-use Rattle.np_desk.specs.Order.{AllPaths, Rises, is_before}
-use Rattle.np_desk.specs.declared.node.Node.{Node}
-use Rattle.np_desk.proofs.ChildLemmas.{IsKey, child-half, half-not_root}
-use Rattle.np_desk.proofs.OrderLemmas.{parent-first, parent-half}
-use Rattle.np_desk.proofs.PlaceLemmas.{bytes_eq-is}
-use Rattle.np_desk.proofs.RisingLemmas.{Rises-filter}
+use Rattle.np_nodes.specs.Nodes.{before_of, children_of, is_child, is_parent}
+use Rattle.np_lists.specs.Rising.{Rises}
+use Rattle.np_lists.proofs.RisingLemmas.{Rises-filter}
+use Rattle.np_nodes.specs.Order.{AllPaths, node_before}
+use Rattle.np_nodes.specs.declared.node.Node.{Node}
+use Rattle.np_nodes.proofs.ChildLemmas.{IsKey, child-half, half-not_root}
+use Rattle.np_nodes.proofs.OrderLemmas.{parent-first, parent-half}
+use Rattle.np_nodes.proofs.PlaceLemmas.{bytes_eq-is}
 use Rattle.np_tree.specs.Sorted.{ChildrenByName, ParentsComeFirst, named_before}
 
 pub parents-first : ParentsComeFirst
@@ -30,7 +31,7 @@ siblings-half : (p : List ℕ) (m n : Node) → is_path m.path ≡ true → is_p
 siblings-half p m n is_m is_n child_m child_n = child-half (before_of n.path) p m (parent_of m.path) (key-by p n (parent_of n.path) is_n refl child_n) is_m refl child_m
 
 -- so their names decide
-by-name : (m n : Node) → before_of m.path ≡ before_of n.path → is_before m n ≡ true → named_before m n ≡ true
+by-name : (m n : Node) → before_of m.path ≡ before_of n.path → node_before m n ≡ true → named_before m n ≡ true
 by-name m n half order =
     let tied = ap (λ (b : List ℕ). slice_cmp nat_cmp b (before_of n.path)) half ∙ tied_itself nat_list_cmp_total (before_of n.path) in
     sym (ap (λ (o : _). is_lt (ordering_then o (slice_cmp nat_cmp (name_of m.path) (name_of n.path)))) tied) ∙ order
@@ -48,15 +49,15 @@ ones : (p : List ℕ) (nodes : List Node) → AllPaths nodes → AllByRecursion 
 ones p [] paths = tt
 ones p (n ∷ nodes) paths = ones-by p n (filter (is_child p) nodes) (is_child p n) refl paths.0 (ones p nodes paths.1)
 
-all-by-name : (p : List ℕ) (m : Node) (nodes : List Node) → IsOne p m → AllByRecursion (IsOne p) nodes → AllByRecursion (λ n. is_before m n ≡ true) nodes → AllByRecursion (λ n. named_before m n ≡ true) nodes
+all-by-name : (p : List ℕ) (m : Node) (nodes : List Node) → IsOne p m → AllByRecursion (IsOne p) nodes → AllByRecursion (λ n. node_before m n ≡ true) nodes → AllByRecursion (λ n. named_before m n ≡ true) nodes
 all-by-name p m [] one all order = tt
 all-by-name p m (n ∷ nodes) one all order =
     (by-name m n (siblings-half p m n one.is all.0.is one.child all.0.child) order.0, all-by-name p m nodes one all.1 order.1)
 
-rises-by-name : (p : List ℕ) (nodes : List Node) → AllByRecursion (IsOne p) nodes → Rises is_before nodes → Rises named_before nodes
+rises-by-name : (p : List ℕ) (nodes : List Node) → AllByRecursion (IsOne p) nodes → Rises node_before nodes → Rises named_before nodes
 rises-by-name p [] all rises = tt
 rises-by-name p (n ∷ nodes) all rises = (all-by-name p n nodes all.0 all.1 rises.0, rises-by-name p nodes all.1 rises.1)
 
 pub children-by-name : ChildrenByName
 children-by-name nodes path sorted paths =
-    rises-by-name path (children_of nodes path) (ones path nodes paths) (Rises-filter is_before (is_child path) nodes sorted)
+    rises-by-name path (children_of nodes path) (ones path nodes paths) (Rises-filter node_before (is_child path) nodes sorted)

@@ -1,8 +1,11 @@
 pub mod MultiLemmas
 pub mod PartsLemmas
 pub mod PassedLemmas
-pub mod CallLemmas
+pub mod DeleteLemmas
 pub mod RootLemmas
 pub mod StandingLemmas
 pub mod WholeLemmas
+pub mod RoomLemmas
+pub mod TreeLemmas
+pub mod HoldsLemmas
 pub mod ChildOrder

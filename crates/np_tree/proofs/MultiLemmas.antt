@@ -2,68 +2,66 @@
 use Rattle.std.proofs.Common.{◌≡◌, ℕ, true, false, not, List, [], ◌∷◌, ◌++◌, Option, Some, None, refl, ap, ◌∙◌}
 use Rattle.std.specs.List.{list_any}
 use Rattle.std.proofs.lemmas.Bool.{not-false, or_parts}
-use Rattle.np_desk.specs.State.{State}
-use Rattle.np_desk.specs.Effect.{after_found, created_under, deleted_below, effect, with_made}
-use Rattle.np_desk.specs.Multi.{effects, is_check}
+use Rattle.np_nodes.specs.TreeState.{TreeState}
+use Rattle.np_nodes.specs.After.{after_create_under, after_part, next_change, where_found, with_new_child}
+use Rattle.np_nodes.specs.Multi.{after_parts, is_check}
 use Rattle.np_path.specs.Parts.{name_of, parent_of}
-use Rattle.np_desk.specs.Look.{node_at}
-use Rattle.np_desk.specs.declared.node.Node.{Node}
-use Rattle.np_desk.specs.declared.kind.Mode.{Mode}
-use Rattle.np_desk.specs.declared.op.Op.{Op}
-use Rattle.np_desk.specs.declared.op.Op.TheVariants as op
+use Rattle.np_nodes.specs.Nodes.{at_path}
+use Rattle.np_nodes.specs.declared.node.Node.{Node}
+use Rattle.np_nodes.specs.declared.kind.Mode.{Mode}
+use Rattle.np_nodes.specs.declared.op.Op.{Op}
+use Rattle.np_nodes.specs.declared.op.Op.TheVariants as op
 
--- ## an operation changes nodes alone
+-- ## a part changes nodes alone
 
 -- the state with other nodes
-abbrev pub with_nodes : State → List Node → State
+abbrev pub with_nodes : TreeState → List Node → TreeState
 with_nodes t nodes = record t { nodes = nodes }
 
 -- all but the nodes is the same
-pub record SameBut (t u : State) : Type 0 where
+pub record SameBut (t u : TreeState) : Type 0 where
   pub is : u ≡ with_nodes t u.nodes
 
-found-nodes : {A : Type 0} (o : Option A) (t : State) (f : A → State) → ((a : A) → SameBut t (f a)) → SameBut t (after_found o t f)
+found-nodes : {A : Type 0} (o : Option A) (t : TreeState) (f : A → TreeState) → ((a : A) → SameBut t (f a)) → SameBut t (where_found o t f)
 found-nodes None t f each = record { is = refl }
 found-nodes (Some a) t f each = each a
 
-created_under-nodes : (t : State) (session : ℕ) (above name bytes : List ℕ) (mode : Mode) → SameBut t (created_under t session above name bytes mode)
-created_under-nodes t session above name bytes mode =
-    found-nodes (node_at t.nodes above) t (with_made t session above name bytes mode) (λ parent. record { is = refl })
+after_create_under-nodes : (t : TreeState) (session : ℕ) (above name bytes : List ℕ) (mode : Mode) → SameBut t (after_create_under t session above name bytes mode)
+after_create_under-nodes t session above name bytes mode =
+    found-nodes (at_path t.nodes above) t (λ parent. record t { nodes = with_new_child (next_change t) session above name bytes mode parent t.nodes }) (λ parent. record { is = refl })
 
-pub effect-nodes : (t : State) (session : ℕ) (part : Op) → SameBut t (effect t session part)
-effect-nodes t s (op.Create path bytes mode) = found-nodes (parent_of path) t (λ above. created_under t s above (name_of path) bytes mode) (λ above. created_under-nodes t s above (name_of path) bytes mode)
-effect-nodes t s (op.CreateUnder parent bytes mode) = created_under-nodes t s parent [] bytes mode
-effect-nodes t s (op.Set path bytes expect) = record { is = refl }
-effect-nodes t s (op.Delete path expect) = found-nodes (parent_of path) t (deleted_below t path) (λ above. record { is = refl })
-effect-nodes t s (op.Check path expect) = record { is = refl }
+pub after_part-nodes : (t : TreeState) (session : ℕ) (part : Op) → SameBut t (after_part t session part)
+after_part-nodes t s (op.Create path bytes mode) = found-nodes (parent_of path) t (λ above. after_create_under t s above (name_of path) bytes mode) (λ above. after_create_under-nodes t s above (name_of path) bytes mode)
+after_part-nodes t s (op.CreateUnder parent bytes mode) = after_create_under-nodes t s parent [] bytes mode
+after_part-nodes t s (op.Set path bytes expect) = record { is = refl }
+after_part-nodes t s (op.Delete path expect) = record { is = refl }
+after_part-nodes t s (op.Check path expect) = record { is = refl }
 
-pub SameBut-then : (t u v : State) → SameBut t u → SameBut u v → SameBut t v
-SameBut-then t u v first second = record { is = second.is ∙ ap (λ (w : State). with_nodes w v.nodes) first.is }
+pub SameBut-then : (t u v : TreeState) → SameBut t u → SameBut u v → SameBut t v
+SameBut-then t u v first second = record { is = second.is ∙ ap (λ (w : TreeState). with_nodes w v.nodes) first.is }
 
-pub effects-nodes : (t : State) (session : ℕ) (parts : List Op) → SameBut t (effects t session parts)
-effects-nodes t s [] = record { is = refl }
-effects-nodes t s (part ∷ parts) = SameBut-then t (effect t s part) (effects (effect t s part) s parts) (effect-nodes t s part) (effects-nodes (effect t s part) s parts)
+pub after_parts-nodes : (t : TreeState) (session : ℕ) (parts : List Op) → SameBut t (after_parts t session parts)
+after_parts-nodes t s [] = record { is = refl }
+after_parts-nodes t s (part ∷ parts) = SameBut-then t (after_part t s part) (after_parts (after_part t s part) s parts) (after_part-nodes t s part) (after_parts-nodes (after_part t s part) s parts)
 
 -- ## one part more
 
-pub effects-append : (t : State) (session : ℕ) (parts more : List Op) → effects t session (parts ++ more) ≡ effects (effects t session parts) session more
-effects-append t s [] more = refl
-effects-append t s (part ∷ parts) more = effects-append (effect t s part) s parts more
-
--- ## the answers so far, and those to come
+pub after_parts-append : (t : TreeState) (session : ℕ) (parts more : List Op) → after_parts t session (parts ++ more) ≡ after_parts (after_parts t session parts) session more
+after_parts-append t s [] more = refl
+after_parts-append t s (part ∷ parts) more = after_parts-append (after_part t s part) s parts more
 
 -- ## checks alone
 
-check-nothing : (t : State) (session : ℕ) (part : Op) → is_check part ≡ true → effect t session part ≡ t
+check-nothing : (t : TreeState) (session : ℕ) (part : Op) → is_check part ≡ true → after_part t session part ≡ t
 check-nothing t s (op.Create path bytes mode) is = absurd cc
 check-nothing t s (op.CreateUnder parent bytes mode) is = absurd cc
 check-nothing t s (op.Set path bytes expect) is = absurd cc
 check-nothing t s (op.Delete path expect) is = absurd cc
 check-nothing t s (op.Check path expect) is = refl
 
-pub effects-checks : (t : State) (session : ℕ) (parts : List Op) → list_any (λ part. not (is_check part)) parts ≡ false → effects t session parts ≡ t
-effects-checks t s [] none = refl
-effects-checks t s (part ∷ parts) none =
+pub after_parts-checks : (t : TreeState) (session : ℕ) (parts : List Op) → list_any (λ part. not (is_check part)) parts ≡ false → after_parts t session parts ≡ t
+after_parts-checks t s [] none = refl
+after_parts-checks t s (part ∷ parts) none =
     let both = or_parts (not (is_check part)) (list_any (λ p. not (is_check p)) parts) none in
     let same = check-nothing t s part (not-false (is_check part) both.0) in
-    ap (λ (u : State). effects u s parts) same ∙ effects-checks t s parts both.1
+    ap (λ (u : TreeState). after_parts u s parts) same ∙ after_parts-checks t s parts both.1

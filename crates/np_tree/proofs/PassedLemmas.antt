@@ -2,78 +2,65 @@
 use Rattle.std.proofs.Common.{◌≡◌, ℕ, ◌<◌, ◌≤◌, Bool, true, false, not, ◌||◌, cond, List, ◌++◌, length, Option, Some, None, Result, Ok, refl, subst}
 use Rattle.std.specs.Prelude.{nat_le, nat_lt}
 use Rattle.std.specs.Option.{is_none}
-use Rattle.std.specs.List.{list_all}
 use Rattle.std.proofs.lemmas.Bool.{leb-true, ltb-true}
-use Rattle.np_path.specs.Digits.{ten_digits}
-use Rattle.np_path.specs.Grammar.{is_element, is_kept, is_path}
-use Rattle.np_path.specs.Parts.{below, parent_of}
-use Rattle.np_path.proofs.PartsLemmas.{is_element-numbered, is_path-below}
-use Rattle.np_path.proofs.PathLaws.{HasParts-below}
-use Rattle.np_desk.specs.State.{State}
-use Rattle.np_desk.specs.Look.{children_of, is_at, node_at}
-use Rattle.np_desk.specs.Tests.{◌>>=◌, ◌>>◌, fits, found, is_sequential, need, unspent}
-use Rattle.np_desk.specs.Judge.{judge_child, made_path}
-use Rattle.np_desk.specs.Names.{MakesName}
-use Rattle.np_desk.specs.declared.node.Node.{Node}
-use Rattle.np_desk.specs.declared.kind.Mode.{Mode}
-use Rattle.np_desk.specs.declared.refusal.TreeRefusal.{TreeRefusal}
-use Rattle.np_desk.specs.declared.refusal.TreeRefusal.TheVariants as no
-use Rattle.np_desk.proofs.PlaceLemmas.{bytes_eq-is}
-
--- ## a line that was passed
-
-pub need-ok : {B : Type 0} (b : Bool) (refusal : TreeRefusal) (rest : Result B TreeRefusal) (x : B) → (need b refusal >> rest) ≡ Ok x → (b ≡ true) × (rest ≡ Ok x)
-need-ok true refusal rest x is = (refl, is)
-need-ok false refusal rest x is = absurd cc
-
-pub found-ok : {A B : Type 0} (o : Option A) (refusal : TreeRefusal) (rest : A → Result B TreeRefusal) (x : B) → (found o refusal >>= rest) ≡ Ok x → (a : A) × (o ≡ Some a) × (rest a ≡ Ok x)
-found-ok None refusal rest x is = absurd cc
-found-ok (Some a) refusal rest x is = (a, refl, is)
+use Rattle.np_lists.specs.Refusals.{◌>>=◌, ◌>>◌, need}
+use Rattle.np_lists.proofs.RefusalLemmas.{found-ok, need-ok}
+use Rattle.np_path.specs.Grammar.{is_path}
+use Rattle.np_path.specs.Parts.{parent_of}
+use Rattle.np_nodes.specs.TreeState.{TreeState}
+use Rattle.np_nodes.specs.Nodes.{children_of, is_at, at_path}
+use Rattle.np_nodes.specs.Tests.{fits, is_sequential, unspent}
+use Rattle.np_nodes.specs.Answer.{child_answer, made_path}
+use Rattle.np_nodes.specs.Names.{MakesName}
+use Rattle.np_nodes.specs.declared.node.Node.{Node}
+use Rattle.np_nodes.specs.declared.kind.Mode.{Mode}
+use Rattle.np_nodes.specs.declared.refusal.TreeRefusal.{TreeRefusal}
+use Rattle.np_nodes.specs.declared.refusal.TreeRefusal.TheVariants as no
+use Rattle.np_nodes.proofs.MadePathLemmas.{IsMade-made_path}
+use Rattle.np_nodes.proofs.PlaceLemmas.{bytes_eq-is}
 
 ok-same : {A : Type 0} (r s : Result A TreeRefusal) (x y : A) → r ≡ Ok x → s ≡ Ok y → r ≡ s → x ≡ y
 ok-same r s x y first second same = cc
 
--- ## a child
-
 -- what holds where a child may be made
-pub record MayMake (t : State) (above name bytes : List ℕ) (mode : Mode) (made : List ℕ) : Type 0 where
+pub record MayMake (t : TreeState) (above name bytes : List ℕ) (mode : Mode) (made : List ℕ) : Type 0 where
   pub parent : Node
-  pub found : node_at t.nodes above ≡ Some parent
+  pub found : at_path t.nodes above ≡ Some parent
   pub free : is_none parent.facts.owner ≡ true
   pub fits : length bytes ≤ 65536
   pub counter : (not (is_sequential mode) || nat_le parent.facts.counter 2_147_483_647) ≡ true
-  pub new : is_none (node_at t.nodes (made_path parent name mode)) ≡ true
+  pub new : is_none (at_path t.nodes (made_path parent name mode)) ≡ true
   pub change : t.changes < 18_446_744_073_709_551_615
   pub room : length (children_of t.nodes above) < 4_294_967_295
   pub path : made_path parent name mode ≡ made
 
 -- the lines of the test, from the last one up
-abbrev last_line : State → List ℕ → List ℕ → Mode → Node → Result (List ℕ) TreeRefusal
+abbrev last_line : TreeState → List ℕ → List ℕ → Mode → Node → Result (List ℕ) TreeRefusal
 last_line t above name mode parent = need (nat_lt (length (children_of t.nodes above)) 4_294_967_295) no.ChangesSpent >> Ok (made_path parent name mode)
 
-abbrev change_line : State → List ℕ → List ℕ → Mode → Node → Result (List ℕ) TreeRefusal
+abbrev change_line : TreeState → List ℕ → List ℕ → Mode → Node → Result (List ℕ) TreeRefusal
 change_line t above name mode parent = unspent t >> last_line t above name mode parent
 
-abbrev new_line : State → List ℕ → List ℕ → Mode → Node → Result (List ℕ) TreeRefusal
-new_line t above name mode parent = need (is_none (node_at t.nodes (made_path parent name mode))) no.NodeExists >> change_line t above name mode parent
+abbrev new_line : TreeState → List ℕ → List ℕ → Mode → Node → Result (List ℕ) TreeRefusal
+new_line t above name mode parent = need (is_none (at_path t.nodes (made_path parent name mode))) no.NodeExists >> change_line t above name mode parent
 
-abbrev counter_line : State → List ℕ → List ℕ → Mode → Node → Result (List ℕ) TreeRefusal
+abbrev counter_line : TreeState → List ℕ → List ℕ → Mode → Node → Result (List ℕ) TreeRefusal
 counter_line t above name mode parent = need (not (is_sequential mode) || nat_le parent.facts.counter 2_147_483_647) no.SequenceSpent >> new_line t above name mode parent
 
-abbrev fits_line : State → List ℕ → List ℕ → List ℕ → Mode → Node → Result (List ℕ) TreeRefusal
+abbrev fits_line : TreeState → List ℕ → List ℕ → List ℕ → Mode → Node → Result (List ℕ) TreeRefusal
 fits_line t above name bytes mode parent = fits bytes >> counter_line t above name mode parent
 
-abbrev free_line : State → List ℕ → List ℕ → List ℕ → Mode → Node → Result (List ℕ) TreeRefusal
+abbrev free_line : TreeState → List ℕ → List ℕ → List ℕ → Mode → Node → Result (List ℕ) TreeRefusal
 free_line t above name bytes mode parent = need (is_none parent.facts.owner) no.NoChildrenForEphemerals >> fits_line t above name bytes mode parent
 
-pub judge_child-passed : (t : State) (above name bytes : List ℕ) (mode : Mode) (made : List ℕ) → judge_child t above name bytes mode ≡ Ok made → MayMake t above name bytes mode made
-judge_child-passed t above name bytes mode made is =
-    let parent = found-ok (node_at t.nodes above) no.NoNode (free_line t above name bytes mode) made is in
+pub child_answer-passed : (t : TreeState) (above name bytes : List ℕ) (mode : Mode) (made : List ℕ) → child_answer t above name bytes mode ≡ Ok made → MayMake t above name bytes mode made
+child_answer-passed t above name bytes mode made is =
+    let parent = found-ok (at_path t.nodes above) no.NoNode (free_line t above name bytes mode) made is in
     let p : Node = parent.0 in
     let free = need-ok (is_none p.facts.owner) no.NoChildrenForEphemerals (fits_line t above name bytes mode p) made parent.2 in
     let fit = need-ok (nat_le (length bytes) 65536) no.TooLarge (counter_line t above name mode p) made free.1 in
     let counter = need-ok (not (is_sequential mode) || nat_le p.facts.counter 2_147_483_647) no.SequenceSpent (new_line t above name mode p) made fit.1 in
-    let new = need-ok (is_none (node_at t.nodes (made_path p name mode))) no.NodeExists (change_line t above name mode p) made counter.1 in
+    let new = need-ok (is_none (at_path t.nodes (made_path p name mode))) no.NodeExists (change_line t above name mode p) made counter.1 in
     let change = need-ok (nat_lt t.changes 18_446_744_073_709_551_615) no.ChangesSpent (last_line t above name mode p) made new.1 in
     let room = need-ok (nat_lt (length (children_of t.nodes above)) 4_294_967_295) no.ChangesSpent (Ok (made_path p name mode)) made change.1 in
     record {
@@ -93,19 +80,10 @@ pub record IsChildPath (path parent : List ℕ) : Type 0 where
   pub is : is_path path ≡ true
   pub above : parent_of path ≡ Some parent
 
-IsChildPath-below : (parent name : List ℕ) → is_path parent ≡ true → is_element name ≡ true → IsChildPath (below parent name) parent
-IsChildPath-below parent name is named = record { is = is_path-below parent name is named; above = (HasParts-below parent name is named).above }
-
-child-path-by : (b : Bool) (parent name : List ℕ) (n : ℕ) → is_path parent ≡ true → cond b (list_all is_kept name) (is_element name) ≡ true → IsChildPath (below parent (cond b (name ++ ten_digits n) name)) parent
-child-path-by true parent name n is makes = IsChildPath-below parent (name ++ ten_digits n) is (is_element-numbered name n makes)
-child-path-by false parent name n is makes = IsChildPath-below parent name is makes
-
-pub IsChildPath-made : (parent : Node) (name : List ℕ) (mode : Mode) → is_path parent.path ≡ true → MakesName name mode → IsChildPath (made_path parent name mode) parent.path
-IsChildPath-made parent name mode is makes = child-path-by (is_sequential mode) parent.path name parent.facts.counter is makes
+IsChildPath-made : (parent : Node) (name : List ℕ) (mode : Mode) → is_path parent.path ≡ true → MakesName name mode → IsChildPath (made_path parent name mode) parent.path
+IsChildPath-made parent name mode is makes = let made = IsMade-made_path parent name mode is makes in record { is = made.is; above = made.above }
 
 -- by the path that the parent was found at
 pub IsChildPath-above : (parent : Node) (above name : List ℕ) (mode : Mode) → is_at above parent ≡ true → is_path parent.path ≡ true → MakesName name mode → IsChildPath (made_path parent name mode) above
 IsChildPath-above parent above name mode here is makes =
     subst (λ (p : List ℕ). IsChildPath (made_path parent name mode) p) (bytes_eq-is parent.path above here) (IsChildPath-made parent name mode is makes)
-
--- ## a path that isn't the root has a parent

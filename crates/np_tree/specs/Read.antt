@@ -1,29 +1,30 @@
+-- what the readers tell
 use Rattle.std.specs.Prelude.{ℕ, List, Option, slice_get}
 use Rattle.std.specs.Option.{option_map}
 use Rattle.np_path.specs.Parts.{name_of}
-use Rattle.np_desk.specs.State.{State}
-use Rattle.np_desk.specs.Look.{children_of, node_at, stat_of}
-use Rattle.np_desk.specs.declared.node.Node.{Node}
-use Rattle.np_desk.specs.declared.kind.Stat.{Stat}
+use Rattle.np_nodes.specs.TreeState.{TreeState}
+use Rattle.np_nodes.specs.Nodes.{children_of, at_path, stat_of}
+use Rattle.np_nodes.specs.declared.node.Node.{Node}
+use Rattle.np_nodes.specs.declared.kind.Stat.{Stat}
 
 -- the bytes of the node at a path
-abbrev pub bytes_at : State → List ℕ → Option (List ℕ)
-bytes_at t path = option_map (λ n. n.bytes) (node_at t.nodes path)
+abbrev pub bytes_at : TreeState → List ℕ → Option (List ℕ)
+bytes_at t path = option_map (λ n. n.bytes) (at_path t.nodes path)
 
 -- the stat of the node at a path (client API: `exists`)
-abbrev pub stat_at : State → List ℕ → Option Stat
-stat_at t path = option_map (stat_of t.nodes) (node_at t.nodes path)
+abbrev pub stat_at : TreeState → List ℕ → Option Stat
+stat_at t path = option_map (stat_of t.nodes) (at_path t.nodes path)
 
 -- the sequence counter of the node at a path
-abbrev pub counter_at : State → List ℕ → Option ℕ
-counter_at t path = option_map (λ n. n.facts.counter) (node_at t.nodes path)
+abbrev pub counter_at : TreeState → List ℕ → Option ℕ
+counter_at t path = option_map (λ n. n.facts.counter) (at_path t.nodes path)
 
 -- the child at a place among the children in byte order (client API: `getChildren`)
-abbrev pub child_of : State → List ℕ → ℕ → Option Node
+abbrev pub child_of : TreeState → List ℕ → ℕ → Option Node
 child_of t path at = slice_get (children_of t.nodes path) at
 
-abbrev pub child_name : State → List ℕ → ℕ → Option (List ℕ)
+abbrev pub child_name : TreeState → List ℕ → ℕ → Option (List ℕ)
 child_name t path at = option_map (λ n. name_of n.path) (child_of t path at)
 
-abbrev pub stat_of_child : State → List ℕ → ℕ → Option Stat
+abbrev pub stat_of_child : TreeState → List ℕ → ℕ → Option Stat
 stat_of_child t path at = option_map (stat_of t.nodes) (child_of t path at)

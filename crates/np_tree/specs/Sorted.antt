@@ -4,13 +4,14 @@ use Rattle.std.specs.Ordering.{nat_cmp, is_lt}
 use Rattle.std.specs.Cmp.Lexicographic.{slice_cmp}
 use Rattle.np_path.specs.Grammar.{is_path}
 use Rattle.np_path.specs.Parts.{name_of, parent_of}
-use Rattle.np_desk.specs.Look.{children_of, comes_before}
-use Rattle.np_desk.specs.Order.{AllPaths, IsSorted, Rises}
-use Rattle.np_desk.specs.declared.node.Node.{Node}
+use Rattle.np_nodes.specs.Nodes.{children_of, path_before}
+use Rattle.np_lists.specs.Rising.{Rises}
+use Rattle.np_nodes.specs.Order.{AllPaths, IsSorted}
+use Rattle.np_nodes.specs.declared.node.Node.{Node}
 
 -- each path comes after its parent's
 abbrev pub ParentsComeFirst : Type 0
-ParentsComeFirst = (path above : List ℕ) → is_path path ≡ true → parent_of path ≡ Some above → comes_before above path ≡ true
+ParentsComeFirst = (path above : List ℕ) → is_path path ≡ true → parent_of path ≡ Some above → path_before above path ≡ true
 
 -- whether a node's name is before another's in byte order
 abbrev pub named_before : Node → Node → Bool

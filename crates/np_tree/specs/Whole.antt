@@ -1,24 +1,27 @@
 -- a tree with nothing out of place
-use Rattle.std.specs.Prelude.{◌≡◌, ⊤, ℕ, true, List, Option, Some, None, Ok}
+use Rattle.std.specs.Prelude.{◌≡◌, ◌≤◌, ⊤, ℕ, true, List, [], Option, Some, None, Ok}
 use Rattle.std.specs.List.{AllByRecursion}
 use Rattle.np_path.specs.Grammar.{is_path}
 use Rattle.np_path.specs.Parts.{parent_of, root}
-use Rattle.np_desk.specs.State.{State}
-use Rattle.np_desk.specs.Look.{node_at}
-use Rattle.np_desk.specs.Judge.{judge}
-use Rattle.np_desk.specs.Effect.{effect, ended}
-use Rattle.np_desk.specs.Calls.{raised}
-use Rattle.np_desk.specs.Multi.{after_multi, answers_from, is_numbered}
-use Rattle.np_desk.specs.Order.{AllPaths, IsSorted}
-use Rattle.np_desk.specs.declared.node.Node.{Node}
-use Rattle.np_desk.specs.declared.op.Op.{Op}
-use Rattle.np_desk.specs.declared.op.Op.TheVariants as op
-use Rattle.np_desk.specs.declared.op.OpDone.{OpDone}
+use Rattle.np_session.specs.Known.{is_in}
+use Rattle.np_nodes.specs.TreeState.{TreeState, new_tree}
+use Rattle.np_nodes.specs.Nodes.{at_path, children_of}
+use Rattle.np_nodes.specs.Answer.{part_answer}
+use Rattle.np_nodes.specs.After.{after_part, after_end, next_change}
+use Rattle.np_nodes.specs.Calls.{after_begin, after_raise}
+use Rattle.np_nodes.specs.Kept.{HasRoom}
+use Rattle.np_nodes.specs.Multi.{after_multi, answers_from, is_numbered, path_of}
+use Rattle.np_nodes.specs.Order.{AllPaths, IsSorted}
+use Rattle.np_nodes.specs.declared.node.Node.{Node}
+use Rattle.np_nodes.specs.declared.op.Op.{Op}
+use Rattle.np_nodes.specs.declared.op.OpDone.{OpDone}
+
+-- ## the nodes
 
 -- at a parent's path stands a node that no session owns (ZooKeeper Programmer's Guide: ephemeral nodes have no children)
 abbrev pub HasParent : List Node → Option (List ℕ) → Type 0
 HasParent nodes None = ⊤
-HasParent nodes (Some above) = (parent : Node) × (node_at nodes above ≡ Some parent) × (parent.facts.owner ≡ None)
+HasParent nodes (Some above) = (parent : Node) × (at_path nodes above ≡ Some parent) × (parent.facts.owner ≡ None)
 
 -- some nodes have their parents among the nodes
 abbrev pub AllStand : List Node → List Node → Type 0
@@ -30,7 +33,7 @@ Stand nodes = AllStand nodes nodes
 -- the root stands, and no session owns it
 pub record HasRoot (nodes : List Node) : Type 0 where
   pub node : Node
-  pub there : node_at nodes root ≡ Some node
+  pub there : at_path nodes root ≡ Some node
   pub free : node.facts.owner ≡ None
 
 -- the nodes stand in order, the root and each other one below a node that no session owns
@@ -40,31 +43,76 @@ pub record IsWhole (nodes : List Node) : Type 0 where
   pub root : HasRoot nodes
   pub stand : Stand nodes
 
--- the path that a part names
-abbrev pub path_of : Op → List ℕ
-path_of (op.Create path bytes mode) = path
-path_of (op.CreateUnder parent bytes mode) = parent
-path_of (op.Set path bytes expect) = path
-path_of (op.Delete path expect) = path
-path_of (op.Check path expect) = path
+-- ## the tree
+
+-- a node goes with a live session, or with none (ZooKeeper Programmer's Guide: ephemeral nodes are gone with their session)
+abbrev pub OwnerLives : List ℕ → Option ℕ → Type 0
+OwnerLives live None = ⊤
+OwnerLives live (Some session) = is_in live session ≡ true
+
+-- none of a node's change numbers is above a number (ZooKeeper Programmer's Guide, Stat)
+pub record IsDated (number : ℕ) (n : Node) : Type 0 where
+  pub czxid : n.facts.czxid ≤ number
+  pub mzxid : n.facts.mzxid ≤ number
+  pub pzxid : n.facts.pzxid ≤ number
+
+-- a tree in which no change number is above a number
+pub record IsTreeUpTo (number : ℕ) (t : TreeState) : Type 0 where
+  -- the order, the grammar, the root and the parents
+  pub whole : IsWhole t.nodes
+  -- no node has more children than its stat can tell
+  pub room : HasRoom t.nodes
+  -- each owner is a live session
+  pub owners : AllByRecursion (λ n. OwnerLives t.live n.facts.owner) t.nodes
+  -- each node is from a change up to that number, which is no later than the last that there can be
+  pub dated : AllByRecursion (IsDated number) t.nodes
+  pub last : number ≤ 18_446_744_073_709_551_615
+
+-- what always holds of a tree between two calls
+abbrev pub IsTree : TreeState → Type 0
+IsTree t = IsTreeUpTo t.changes t
+
+-- ## what keeps it
 
 -- a part as it can be asked for: its path is in the grammar, and one without a name is numbered
 pub record IsPart (part : Op) : Type 0 where
   pub path : is_path (path_of part) ≡ true
   pub numbered : is_numbered part ≡ true
 
--- a part that is accepted leaves a whole tree
+-- a part that is accepted leaves whole nodes
 abbrev pub PartsKeepWhole : Type 0
-PartsKeepWhole = (t : State) (session : ℕ) (part : Op) (told : OpDone) → IsPart part → judge t session part ≡ Ok told → IsWhole t.nodes → IsWhole (effect t session part).nodes
+PartsKeepWhole = (t : TreeState) (session : ℕ) (part : Op) (done : OpDone) → IsPart part → part_answer t session part ≡ Ok done → IsWhole t.nodes → IsWhole (after_part t session part).nodes
 
 -- so does a call of several that is accepted
 abbrev pub CallsKeepWhole : Type 0
-CallsKeepWhole = (t : State) (session : ℕ) (parts : List Op) (told : List OpDone) → AllByRecursion IsPart parts → answers_from 0 t session parts ≡ Ok told → IsWhole t.nodes → IsWhole (after_multi t session parts).nodes
+CallsKeepWhole = (t : TreeState) (session : ℕ) (parts : List Op) (done : List OpDone) → AllByRecursion IsPart parts → answers_from 0 t session parts ≡ Ok done → IsWhole t.nodes → IsWhole (after_multi t session parts).nodes
 
 -- so does the end of a session
 abbrev pub EndsKeepWhole : Type 0
-EndsKeepWhole = (t : State) (session : ℕ) → IsWhole t.nodes → IsWhole (ended t session).nodes
+EndsKeepWhole = (t : TreeState) (session : ℕ) → IsWhole t.nodes → IsWhole (after_end t session).nodes
 
 -- and so does a counter that is raised
 abbrev pub RaisesKeepWhole : Type 0
-RaisesKeepWhole = (t : State) (path : List ℕ) (to : ℕ) → IsWhole t.nodes → IsWhole (raised t path to).nodes
+RaisesKeepWhole = (t : TreeState) (path : List ℕ) (to : ℕ) → IsWhole t.nodes → IsWhole (after_raise t path to).nodes
+
+-- a part that is accepted leaves a tree, up to the number that the change will take
+abbrev pub PartsKeepTree : Type 0
+PartsKeepTree = (t : TreeState) (session : ℕ) (part : Op) (done : OpDone) → IsPart part → part_answer t session part ≡ Ok done → IsTreeUpTo (next_change t) t → IsTreeUpTo (next_change t) (after_part t session part)
+
+-- a call of several leaves a tree
+abbrev pub CallsKeepTree : Type 0
+CallsKeepTree = (t : TreeState) (session : ℕ) (parts : List Op) (done : List OpDone) → AllByRecursion IsPart parts → answers_from 0 t session parts ≡ Ok done → IsTree t → IsTree (after_multi t session parts)
+
+-- so do the begin and the end of a session, and a counter that is raised
+abbrev pub BeginsKeepTree : Type 0
+BeginsKeepTree = (t : TreeState) → IsTree t → IsTree (after_begin t)
+
+abbrev pub EndsKeepTree : Type 0
+EndsKeepTree = (t : TreeState) (session : ℕ) → IsTree t → IsTree (after_end t session)
+
+abbrev pub RaisesKeepTree : Type 0
+RaisesKeepTree = (t : TreeState) (path : List ℕ) (to : ℕ) → IsTree t → IsTree (after_raise t path to)
+
+-- an ephemeral node has no children
+abbrev pub EphemeralsHaveNoChildren : Type 0
+EphemeralsHaveNoChildren = (t : TreeState) (path : List ℕ) (n : Node) (session : ℕ) → IsTree t → at_path t.nodes path ≡ Some n → n.facts.owner ≡ Some session → children_of t.nodes path ≡ []

@@ -1,42 +1,43 @@
+-- worked calls on closed trees, and their answers
 use Rattle.std.specs.Prelude.{ℕ, List, [], ◌∷◌, codes, Result, Ok, Err, if◌then◌else◌}
 use Rattle.std.specs.Result.{is_ok}
-use Rattle.np_desk.specs.State.{State, new_tree}
-use Rattle.np_desk.specs.Calls.{raised}
-use Rattle.np_desk.specs.Effect.{counted, effect, ended}
-use Rattle.np_desk.specs.Judge.{judge}
-use Rattle.np_desk.specs.Multi.{AtPart}
-use Rattle.np_desk.specs.declared.op.Op.{Op}
-use Rattle.np_desk.specs.declared.op.Op.TheVariants as op
-use Rattle.np_desk.specs.declared.op.OpDone.{OpDone}
-use Rattle.np_desk.specs.declared.op.OpDone.TheVariants as done
-use Rattle.np_desk.specs.declared.kind.Mode.TheVariants.{Persistent, Ephemeral, PersistentSequential}
-use Rattle.np_desk.specs.declared.kind.Expect.TheVariants.{Any, Exactly}
-use Rattle.np_desk.specs.declared.refusal.TreeRefusal.{TreeRefusal}
-use Rattle.np_desk.specs.declared.refusal.TreeRefusal.TheVariants as no
+use Rattle.np_nodes.specs.TreeState.{TreeState, new_tree}
+use Rattle.np_nodes.specs.Calls.{after_raise}
+use Rattle.np_nodes.specs.After.{with_next_number, after_part, after_end}
+use Rattle.np_nodes.specs.Answer.{part_answer}
+use Rattle.np_nodes.specs.Multi.{AtPart}
+use Rattle.np_nodes.specs.declared.op.Op.{Op}
+use Rattle.np_nodes.specs.declared.op.Op.TheVariants as op
+use Rattle.np_nodes.specs.declared.op.OpDone.{OpDone}
+use Rattle.np_nodes.specs.declared.op.OpDone.TheVariants as done
+use Rattle.np_nodes.specs.declared.kind.Mode.TheVariants.{Persistent, Ephemeral, PersistentSequential}
+use Rattle.np_nodes.specs.declared.kind.Expect.TheVariants.{Any, Exactly}
+use Rattle.np_nodes.specs.declared.refusal.TreeRefusal.{TreeRefusal}
+use Rattle.np_nodes.specs.declared.refusal.TreeRefusal.TheVariants as no
 
 -- a call that is accepted takes a change number
-abbrev pub after_call : State → ℕ → Op → State
-after_call t s part = if is_ok (judge t s part) then counted (effect t s part) else t
+abbrev pub after_call : TreeState → ℕ → Op → TreeState
+after_call t s part = if is_ok (part_answer t s part) then with_next_number (after_part t s part) else t
 
 -- what single calls of one session are answered in turn
-abbrev pub told : State → ℕ → List Op → List (Result OpDone TreeRefusal)
-told t s [] = []
-told t s (part ∷ parts) = judge t s part ∷ told (after_call t s part) s parts
+abbrev pub replies_to : TreeState → ℕ → List Op → List (Result OpDone TreeRefusal)
+replies_to t s [] = []
+replies_to t s (part ∷ parts) = part_answer t s part ∷ replies_to (after_call t s part) s parts
 
 -- the tree that they leave
-abbrev pub left : State → ℕ → List Op → State
-left t s [] = t
-left t s (part ∷ parts) = left (after_call t s part) s parts
+abbrev pub tree_after : TreeState → ℕ → List Op → TreeState
+tree_after t s [] = t
+tree_after t s (part ∷ parts) = tree_after (after_call t s part) s parts
 
 -- a new tree in which session 1 began
-abbrev pub begun_tree : State
+abbrev pub begun_tree : TreeState
 begun_tree = record new_tree { live = 1 ∷ []; begun = 1 }
 
 abbrev pub create : List ℕ → Op
 create path = op.Create path [] Persistent
 
-abbrev pub made : List ℕ → Result OpDone TreeRefusal
-made path = Ok (done.Created path)
+abbrev pub creates : List ℕ → Result OpDone TreeRefusal
+creates path = Ok (done.Created path)
 
 -- tests and versions of single nodes (row of tree calls, own)
 abbrev pub calls : List Op
@@ -50,9 +51,9 @@ calls =
 
 abbrev pub replies : List (Result OpDone TreeRefusal)
 replies =
-    made (codes "/a") ∷ Ok (done.Set 1) ∷ Err (no.BadVersion 1) ∷ made (codes "/a/b") ∷ Err (no.NotEmpty 1) ∷ made (codes "/e")
+    creates (codes "/a") ∷ Ok (done.Set 1) ∷ Err (no.BadVersion 1) ∷ creates (codes "/a/b") ∷ Err (no.NotEmpty 1) ∷ creates (codes "/e")
     ∷ Err no.NoChildrenForEphemerals
-    ∷ made (codes "/q")
+    ∷ creates (codes "/q")
     ∷ []
 
 -- the same session's later calls, after the counter of `/q` was raised
@@ -65,19 +66,19 @@ sequence_calls =
 
 abbrev pub sequence_replies : List (Result OpDone TreeRefusal)
 sequence_replies =
-    made (codes "/q/t-2147483647") ∷ Err no.SequenceSpent ∷ Err no.SequenceSpent ∷ Err no.NodeExists ∷ Err no.RootKept ∷ []
+    creates (codes "/q/t-2147483647") ∷ Err no.SequenceSpent ∷ Err no.SequenceSpent ∷ Err no.NodeExists ∷ Err no.RootKept ∷ []
 
 -- the tree after the first calls, and after the counter was raised
-abbrev pub tree_raised : State
-tree_raised = raised (left begun_tree 1 calls) (codes "/q") 2147483647
+abbrev pub tree_raised : TreeState
+tree_raised = after_raise (tree_after begun_tree 1 calls) (codes "/q") 2147483647
 
 -- the session's end, and a call after it
-abbrev pub tree_ended : State
-tree_ended = ended (left tree_raised 1 sequence_calls) 1
+abbrev pub tree_ended : TreeState
+tree_ended = after_end (tree_after tree_raised 1 sequence_calls) 1
 
 -- a tree with `/a` set once, and a `multi` in it with and without a part that fails
-abbrev pub with_a : State
-with_a = left begun_tree 1 (create (codes "/a") ∷ op.Set (codes "/a") [] Any ∷ [])
+abbrev pub with_a : TreeState
+with_a = tree_after begun_tree 1 (create (codes "/a") ∷ op.Set (codes "/a") [] Any ∷ [])
 
 abbrev pub two_parts : List Op
 two_parts = op.Check (codes "/a") (Exactly 1) ∷ create (codes "/c") ∷ []

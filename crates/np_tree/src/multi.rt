@@ -1,16 +1,17 @@
 //! Several operations in one change, or none.
 
 ghost use Rattle.std.specs.Prelude.{◌≡◌, ◌≤◌, [], true, not, length, MatchResult, OnOk, OnErr};
-ghost use Rattle.std.specs.List.{list_all, list_any};
-ghost use Rattle.np_desk.specs.Desks.{KeepsStart};
-ghost use Rattle.np_desk.specs.Effect.{effect};
-ghost use Rattle.np_desk.specs.Judge.{judge};
-ghost use Rattle.np_desk.specs.Kept.{IsKept};
-ghost use Rattle.np_desk.specs.Multi.{Stops, after_multi, answers_from, effects, is_check, is_numbered};
-ghost use Rattle.np_tree.specs.Boards.{Answers, state_of};
+ghost use Rattle.std.specs.List.{AllByRecursion, list_all, list_any};
+ghost use Rattle.np_nodes.specs.Undo.{KeepsStart};
+ghost use Rattle.np_nodes.specs.After.{after_part};
+ghost use Rattle.np_nodes.specs.Answer.{part_answer};
+ghost use Rattle.np_nodes.specs.Kept.{IsKept};
+ghost use Rattle.np_nodes.specs.Multi.{Stops, after_multi, answers_from, after_parts, is_check, is_numbered};
+ghost use Rattle.np_tree.specs.Inners.{Answers, Holds, state_of};
+ghost use Rattle.np_tree.specs.Whole.{IsPart};
 
-use crate::board::Board;
-use np_desk::{MultiFault, Op, OpDone, TreeFault};
+use crate::inner::Inner;
+use np_nodes::{MultiFault, Op, OpDone, TreeFault};
 
 /// Whether some part is no check.
 fn has_change(ops: &[Op]) -> bool
@@ -19,20 +20,24 @@ fn has_change(ops: &[Op]) -> bool
     ops.iter().any(|op| !op.is_check())
 }
 
-impl Board {
+impl Inner {
     /// One part, before the change takes its number.
     fn part(&mut self, session: u32, op: &Op) -> Result<OpDone, TreeFault>
-        requires kept { IsKept self.old.desk.nodes self.old.desk.marks }
+        requires kept { IsKept self.old.lists.nodes self.old.lists.marks }
         requires numbered { is_numbered op.now ≡ true }
-        ensures answer { Answers result (judge (state_of self.old) session op.now) }
-        ensures ok { OnOk result (state_of self.new ≡ effect (state_of self.old) session op.now) }
+        ensures answer { Answers result (part_answer (state_of self.old) session op.now) }
+        ensures ok { OnOk result
+            (state_of self.new ≡ after_part (state_of self.old) session op.now) }
         ensures err { OnErr result (state_of self.new ≡ state_of self.old) }
-        ensures kept { IsKept self.new.desk.nodes self.new.desk.marks }
-        ensures start { KeepsStart self.old.desk self.new.desk }
+        ensures kept { IsKept self.new.lists.nodes self.new.lists.marks }
+        ensures start { KeepsStart self.old.lists self.new.lists }
+        ensures proper { OnOk result (IsPart op.now) }
     {
+        // A path is in the grammar.
+        let _ = op.path().text();
         match op {
             Op::Create { path, bytes, mode } => {
-                let made = self.create(session, path, bytes.items(), *mode)?;
+                let made = self.create_part(session, path, bytes.items(), *mode)?;
                 Ok(OpDone::Created(made))
             }
             Op::CreateUnder {
@@ -40,7 +45,7 @@ impl Board {
                 bytes,
                 mode,
             } => {
-                let made = self.create_under(session, parent, bytes.items(), *mode)?;
+                let made = self.create_under_part(session, parent, bytes.items(), *mode)?;
                 Ok(OpDone::Created(made))
             }
             Op::Set {
@@ -48,11 +53,11 @@ impl Board {
                 bytes,
                 expect,
             } => {
-                let version = self.set(session, path, bytes.items(), *expect)?;
+                let version = self.set_part(session, path, bytes.items(), *expect)?;
                 Ok(OpDone::Set(version))
             }
             Op::Delete { path, expect } => {
-                self.delete(session, path, *expect)?;
+                self.delete_part(session, path, *expect)?;
                 Ok(OpDone::Deleted)
             }
             Op::Check { path, expect } => {
@@ -64,17 +69,20 @@ impl Board {
 
     /// The parts in turn, up to one that stops them.
     fn parts(&mut self, session: u32, ops: &[Op], done: &mut Vec<OpDone>) -> Result<(), MultiFault>
-        requires kept { IsKept self.old.desk.nodes self.old.desk.marks }
+        requires kept { IsKept self.old.lists.nodes self.old.lists.marks }
         requires few { length ops.now ≤ 4294967295 }
         requires numbered { list_all is_numbered ops.now ≡ true }
         requires none { done.old.items ≡ [] }
         ensures answer { MatchResult result
             (λ _. answers_from 0 (state_of self.old) session ops.now ≡ Ok done.new.items)
             (Stops (state_of self.old) session ops.now) }
-        ensures ok { OnOk result (state_of self.new ≡ effects (state_of self.old) session ops.now) }
-        ensures rest { state_of self.new ≡ record (state_of self.old) { nodes = self.new.desk.nodes } }
-        ensures kept { IsKept self.new.desk.nodes self.new.desk.marks }
-        ensures start { KeepsStart self.old.desk self.new.desk }
+        ensures ok { OnOk result
+            (state_of self.new ≡ after_parts (state_of self.old) session ops.now) }
+        ensures rest { state_of self.new
+            ≡ record (state_of self.old) { nodes = self.new.lists.nodes } }
+        ensures kept { IsKept self.new.lists.nodes self.new.lists.marks }
+        ensures start { KeepsStart self.old.lists self.new.lists }
+        ensures proper { OnOk result (AllByRecursion IsPart ops.now) }
     {
         for (index, op) in ops.iter().enumerate() {
             match self.part(session, op) {
@@ -95,23 +103,24 @@ impl Board {
 
     /// `multi`: all parts under one change number, or none.
     pub fn multi(&mut self, session: u32, ops: &[Op]) -> Result<Vec<OpDone>, MultiFault>
-        requires kept { IsKept self.old.desk.nodes self.old.desk.marks }
+        requires holds { Holds self.old }
         requires few { length ops.now ≤ 4294967295 }
         requires numbered { list_all is_numbered ops.now ≡ true }
         ensures answer { MatchResult result
             (λ done. answers_from 0 (state_of self.old) session ops.now ≡ Ok done.items)
             (Stops (state_of self.old) session ops.now) }
-        ensures ok { OnOk result (state_of self.new ≡ after_multi (state_of self.old) session ops.now) }
+        ensures ok { OnOk result
+            (state_of self.new ≡ after_multi (state_of self.old) session ops.now) }
         ensures err { OnErr result (state_of self.new ≡ state_of self.old) }
-        ensures kept { IsKept self.new.desk.nodes self.new.desk.marks }
+        ensures holds { Holds self.new }
     {
-        self.desk.undo.clear();
-        let mut done = Vec::new(*self.desk.undo.allocator());
+        let mut done = Vec::new(self.alloc);
         if let Err(fault) = self.parts(session, ops, &mut done) {
-            self.desk.roll_back();
+            self.lists.roll_back();
             return Err(fault);
         }
         if !has_change(ops) {
+            self.lists.forget_undo();
             return Ok(done);
         }
         self.settle();

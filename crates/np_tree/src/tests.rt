@@ -1,9 +1,13 @@
+//! What no clause says: that calls succeed with ample memory, also at full size, and ZooKeeper's codes.
+
 ghost use Rattle.std.specs.Prelude.{◌≡◌, true, IfOk, OnOk};
 ghost use Rattle.std.specs.List.{list_all};
-ghost use Rattle.np_desk.specs.Multi.{is_numbered};
+ghost use Rattle.np_nodes.specs.Multi.{is_numbered};
 
 use crate::{
-    Bytes, Expect, Mode, MultiFault, Op, OpDone, Stat, Tree, TreeFault, TreeRefusal, worked_rows,
+    Bytes, Expect, Mode, MultiFault, Op, OpDone, Stat, Tree, TreeFault, TreeRefusal,
+    calls_keep_the_nodes_whole, calls_keep_the_tree, ephemerals_have_no_children,
+    nodes_stand_in_order, worked_rows,
 };
 use np_path::{Path, PathFault};
 use std::alloc::{AllocError, Global};
@@ -17,20 +21,37 @@ enum Call {
     Set(&'static str, Expect),
     Delete(&'static str, Expect),
     Check(&'static str, Expect),
+    Raise(&'static str, u32),
 }
 
 // What it is answered.
 #[derive(Clone, Copy)]
 enum Told {
-    Made(&'static str),
+    Path(&'static str),
     Version(u64),
     Done,
+    Not,
     No(TreeRefusal),
+}
+
+fn path_of(call: Call) -> &'static str {
+    match call {
+        Call::Create(path, _)
+        | Call::CreateUnder(path)
+        | Call::Set(path, _)
+        | Call::Delete(path, _)
+        | Call::Check(path, _)
+        | Call::Raise(path, _) => path,
+    }
+}
+
+fn tells_fault(fault: TreeFault, told: Told) -> bool {
+    matches!(told, Told::No(want) if fault == TreeFault::Refused(want))
 }
 
 fn tells_path(answer: Result<Path, TreeFault>, told: Told) -> bool {
     match answer {
-        Ok(path) => matches!(told, Told::Made(want) if path.text() == want),
+        Ok(path) => matches!(told, Told::Path(want) if path.text() == want),
         Err(fault) => tells_fault(fault, told),
     }
 }
@@ -49,10 +70,6 @@ fn tells_done(answer: Result<(), TreeFault>, told: Told) -> bool {
     }
 }
 
-fn tells_fault(fault: TreeFault, told: Told) -> bool {
-    matches!(told, Told::No(want) if fault == TreeFault::Refused(want))
-}
-
 fn tells_at(tree: &mut Tree, session: u32, path: &Path, call: Call, told: Told) -> bool {
     match call {
         Call::Create(_, mode) => tells_path(tree.create(session, path, b"", mode), told),
@@ -66,16 +83,10 @@ fn tells_at(tree: &mut Tree, session: u32, path: &Path, call: Call, told: Told) 
             let answer = tree.check(session, path, expect);
             tells_done(answer.map_err(TreeFault::Refused), told)
         }
-    }
-}
-
-fn path_of(call: Call) -> &'static str {
-    match call {
-        Call::Create(path, _)
-        | Call::CreateUnder(path)
-        | Call::Set(path, _)
-        | Call::Delete(path, _)
-        | Call::Check(path, _) => path,
+        Call::Raise(_, to) => {
+            let raised = tree.raise_counter(path, to);
+            matches!(told, Told::Done) == raised && matches!(told, Told::Not) != raised
+        }
     }
 }
 
@@ -88,29 +99,11 @@ fn tells(alloc: Global, tree: &mut Tree, session: u32, call: Call, told: Told) -
 
 // The calls as the tests need them.
 fn begins(tree: &mut Tree, want: u32) -> bool {
-    tree.begin_session() == Ok(want)
+    tree.reserve_session().is_ok() && tree.begin_session() == Ok(want)
 }
 
 fn ends(tree: &mut Tree, session: u32) -> bool {
     tree.end_session(session)
-}
-
-fn is_live(tree: &Tree, session: u32) -> bool {
-    tree.is_live(session)
-}
-
-fn raises(alloc: Global, tree: &mut Tree, path: &str, to: u32) -> bool {
-    match Path::new(alloc, path) {
-        Ok(path) => tree.raise_counter(&path, to),
-        Err(_) => false,
-    }
-}
-
-fn makes(alloc: Global, tree: &mut Tree, path: &str, mode: Mode) -> bool {
-    match Path::new(alloc, path) {
-        Ok(path) => tree.create(1, &path, b"old", mode).is_ok(),
-        Err(_) => false,
-    }
 }
 
 fn stat(tree: &Tree, path: &str) -> Option<Stat> {
@@ -125,312 +118,200 @@ fn changes(tree: &Tree) -> u64 {
     tree.changes()
 }
 
-// The worked row of the tree's calls, up to the raised counter and after it.
-const CALLS: [(Call, Told); 8] = [
-    (Call::Create("/a", Mode::Persistent), Told::Made("/a")),
-    (Call::Set("/a", Expect::Any), Told::Version(1)),
+fn holds(tree: &Tree, path: &str, bytes: &[u8], stat: Stat) -> bool {
+    tree.get(path) == Some((bytes, stat))
+}
+
+const ANY: Expect = Expect::Any;
+
+const SEVEN: Expect = Expect::Exactly(7);
+
+const PLAIN: Mode = Mode::Persistent;
+
+const NUMBERED: Mode = Mode::PersistentSequential;
+
+// Calls in turn, by session: 1 is live and 2 is over.
+const ROWS: [(u32, Call, Told); 45] = [
+    (1, Call::Create("/a", PLAIN), Told::Path("/a")),
+    (1, Call::Set("/a", ANY), Told::Version(1)),
     (
+        1,
         Call::Set("/a", Expect::Exactly(0)),
         Told::No(TreeRefusal::BadVersion { kept: 1 }),
     ),
-    (Call::Create("/a/b", Mode::Persistent), Told::Made("/a/b")),
+    (1, Call::Check("/a", Expect::Exactly(1)), Told::Done),
+    (1, Call::Create("/a/b", PLAIN), Told::Path("/a/b")),
     (
-        Call::Delete("/a", Expect::Any),
+        1,
+        Call::Delete("/a", ANY),
         Told::No(TreeRefusal::NotEmpty { children: 1 }),
     ),
-    (Call::Create("/e", Mode::Ephemeral), Told::Made("/e")),
+    (1, Call::Create("/e", Mode::Ephemeral), Told::Path("/e")),
     (
-        Call::Create("/e/x", Mode::Persistent),
+        1,
+        Call::Create("/e/x", PLAIN),
         Told::No(TreeRefusal::NoChildrenForEphemerals),
     ),
-    (Call::Create("/q", Mode::Persistent), Told::Made("/q")),
-];
-
-const LATER_CALLS: [(Call, Told); 6] = [
     (
-        Call::Create("/q/t-", Mode::PersistentSequential),
-        Told::Made("/q/t-2147483647"),
+        1,
+        Call::CreateUnder("/e"),
+        Told::No(TreeRefusal::NoChildrenForEphemerals),
+    ),
+    (1, Call::Create("/q", PLAIN), Told::Path("/q")),
+    (1, Call::Raise("/q", 2_147_483_647), Told::Done),
+    (1, Call::Raise("/q", 2_147_483_647), Told::Not),
+    (1, Call::Raise("/q", 2_147_483_649), Told::Not),
+    (1, Call::Raise("/zz", 1), Told::Not),
+    (
+        1,
+        Call::Create("/q/t-", NUMBERED),
+        Told::Path("/q/t-2147483647"),
     ),
     (
-        Call::Create("/q/t-", Mode::PersistentSequential),
+        1,
+        Call::Create("/q/t-", NUMBERED),
         Told::No(TreeRefusal::SequenceSpent),
     ),
     (
+        1,
+        Call::Create("/q/t-", Mode::EphemeralSequential),
+        Told::No(TreeRefusal::SequenceSpent),
+    ),
+    (
+        1,
         Call::CreateUnder("/q"),
         Told::No(TreeRefusal::SequenceSpent),
     ),
     (
-        Call::Create("/", Mode::Persistent),
+        1,
+        Call::Create("/", PLAIN),
         Told::No(TreeRefusal::NodeExists),
     ),
     (
-        Call::Delete("/", Expect::Any),
-        Told::No(TreeRefusal::RootKept),
+        1,
+        Call::Create("/a/b", Mode::Ephemeral),
+        Told::No(TreeRefusal::NodeExists),
     ),
-    (Call::Create("/k", Mode::Persistent), Told::Made("/k")),
+    (1, Call::Create("/m", PLAIN), Told::Path("/m")),
+    (
+        1,
+        Call::Create("/m/0000000000", PLAIN),
+        Told::Path("/m/0000000000"),
+    ),
+    (
+        1,
+        Call::CreateUnder("/m"),
+        Told::No(TreeRefusal::NodeExists),
+    ),
+    (
+        1,
+        Call::Create("/m/t-0000000000", PLAIN),
+        Told::Path("/m/t-0000000000"),
+    ),
+    (
+        1,
+        Call::Create("/m/t-", NUMBERED),
+        Told::No(TreeRefusal::NodeExists),
+    ),
+    (1, Call::Raise("/m", 1), Told::Done),
+    (1, Call::CreateUnder("/m"), Told::Path("/m/0000000001")),
+    (
+        1,
+        Call::Create("/zz/a", PLAIN),
+        Told::No(TreeRefusal::NoNode),
+    ),
+    (1, Call::CreateUnder("/zz"), Told::No(TreeRefusal::NoNode)),
+    (1, Call::Set("/zz", ANY), Told::No(TreeRefusal::NoNode)),
+    (1, Call::Delete("/zz", ANY), Told::No(TreeRefusal::NoNode)),
+    (1, Call::Check("/zz", ANY), Told::No(TreeRefusal::NoNode)),
+    (
+        1,
+        Call::Set("/a", SEVEN),
+        Told::No(TreeRefusal::BadVersion { kept: 1 }),
+    ),
+    (
+        1,
+        Call::Delete("/a", SEVEN),
+        Told::No(TreeRefusal::BadVersion { kept: 1 }),
+    ),
+    (
+        1,
+        Call::Check("/a", SEVEN),
+        Told::No(TreeRefusal::BadVersion { kept: 1 }),
+    ),
+    (1, Call::Delete("/", ANY), Told::No(TreeRefusal::RootKept)),
+    (1, Call::Delete("/", SEVEN), Told::No(TreeRefusal::RootKept)),
+    (1, Call::Delete("/a/b", ANY), Told::Done),
+    (1, Call::Delete("/a", Expect::Exactly(1)), Told::Done),
+    (
+        2,
+        Call::Create("/", PLAIN),
+        Told::No(TreeRefusal::SessionExpired),
+    ),
+    (
+        2,
+        Call::CreateUnder("/q"),
+        Told::No(TreeRefusal::SessionExpired),
+    ),
+    (
+        2,
+        Call::Set("/zz", ANY),
+        Told::No(TreeRefusal::SessionExpired),
+    ),
+    (
+        2,
+        Call::Delete("/", ANY),
+        Told::No(TreeRefusal::SessionExpired),
+    ),
+    (
+        2,
+        Call::Check("/zz", ANY),
+        Told::No(TreeRefusal::SessionExpired),
+    ),
+    (1, Call::Create("/k", PLAIN), Told::Path("/k")),
 ];
 
 #[test]
-fn tree_calls(rt: HostRuntime) -> Result<(), Fail> {
+fn calls_in_turn(rt: HostRuntime) -> Result<(), Fail> {
     let alloc = rt.alloc();
     let mut tree = Tree::new(alloc)?;
     for want in [1, 2, 3] {
         assert!(rt; begins(&mut tree, want), "{want} begins");
     }
-    for (call, told) in CALLS {
-        assert!(rt; tells(alloc, &mut tree, 1, call, told), "{call:?}");
-    }
-    for (to, want) in [
-        (2_147_483_647, true),
-        (2_147_483_647, false),
-        (2_147_483_649, false),
-    ] {
-        assert!(rt; raises(alloc, &mut tree, "/q", to) == want, "{to}");
-    }
-    for (call, told) in LATER_CALLS {
-        assert!(rt; tells(alloc, &mut tree, 1, call, told), "{call:?}");
-    }
-    assert_eq!(rt; counter(&tree, "/q"), Some(2_147_483_648));
-    assert!(rt; ends(&mut tree, 2) && stat(&tree, "/e").is_some(), "2 ends");
-    assert!(rt; ends(&mut tree, 1) && stat(&tree, "/e").is_none(), "1 ends");
-    assert!(rt; !is_live(&tree, 1) && !ends(&mut tree, 1), "1 is over");
-    let call = Call::Set("/a", Expect::Any);
-    let told = Told::No(TreeRefusal::SessionExpired);
-    assert!(rt; tells(alloc, &mut tree, 1, call, told), "{call:?}");
-    Ok(())
-}
-
-// What each call is refused in a tree with `/a`, its child `/a/b`, the ephemeral `/e`, `/m` and `/n`,
-// whose counters are 0 and whose children have that number, and `/q`, whose counter is spent.
-// Session 2 is over.
-const REFUSALS: [(u32, Call, TreeRefusal); 25] = [
-    (
-        2,
-        Call::Create("/", Mode::Persistent),
-        TreeRefusal::SessionExpired,
-    ),
-    (2, Call::CreateUnder("/q"), TreeRefusal::SessionExpired),
-    (
-        2,
-        Call::Set("/zz", Expect::Any),
-        TreeRefusal::SessionExpired,
-    ),
-    (
-        2,
-        Call::Delete("/", Expect::Any),
-        TreeRefusal::SessionExpired,
-    ),
-    (
-        2,
-        Call::Check("/zz", Expect::Any),
-        TreeRefusal::SessionExpired,
-    ),
-    (
-        1,
-        Call::Create("/zz/a", Mode::Persistent),
-        TreeRefusal::NoNode,
-    ),
-    (1, Call::CreateUnder("/zz"), TreeRefusal::NoNode),
-    (1, Call::Set("/zz", Expect::Any), TreeRefusal::NoNode),
-    (1, Call::Delete("/zz", Expect::Any), TreeRefusal::NoNode),
-    (1, Call::Check("/zz", Expect::Any), TreeRefusal::NoNode),
-    (
-        1,
-        Call::Create("/e/x", Mode::Persistent),
-        TreeRefusal::NoChildrenForEphemerals,
-    ),
-    (
-        1,
-        Call::CreateUnder("/e"),
-        TreeRefusal::NoChildrenForEphemerals,
-    ),
-    (
-        1,
-        Call::Create("/", Mode::Persistent),
-        TreeRefusal::NodeExists,
-    ),
-    (
-        1,
-        Call::Create("/a/b", Mode::Ephemeral),
-        TreeRefusal::NodeExists,
-    ),
-    (
-        1,
-        Call::Create("/n/t-", Mode::PersistentSequential),
-        TreeRefusal::NodeExists,
-    ),
-    (1, Call::CreateUnder("/m"), TreeRefusal::NodeExists),
-    (
-        1,
-        Call::Set("/a", Expect::Exactly(7)),
-        TreeRefusal::BadVersion { kept: 0 },
-    ),
-    (
-        1,
-        Call::Delete("/a", Expect::Exactly(7)),
-        TreeRefusal::BadVersion { kept: 0 },
-    ),
-    (
-        1,
-        Call::Check("/a", Expect::Exactly(7)),
-        TreeRefusal::BadVersion { kept: 0 },
-    ),
-    (
-        1,
-        Call::Delete("/a", Expect::Any),
-        TreeRefusal::NotEmpty { children: 1 },
-    ),
-    (
-        1,
-        Call::Delete("/n", Expect::Exactly(0)),
-        TreeRefusal::NotEmpty { children: 1 },
-    ),
-    (
-        1,
-        Call::Create("/q/t-", Mode::EphemeralSequential),
-        TreeRefusal::SequenceSpent,
-    ),
-    (1, Call::CreateUnder("/q"), TreeRefusal::SequenceSpent),
-    (1, Call::Delete("/", Expect::Any), TreeRefusal::RootKept),
-    (
-        1,
-        Call::Delete("/", Expect::Exactly(7)),
-        TreeRefusal::RootKept,
-    ),
-];
-
-const NODES: [&str; 7] = [
-    "/a",
-    "/a/b",
-    "/m",
-    "/m/0000000000",
-    "/n",
-    "/n/t-0000000000",
-    "/q",
-];
-
-#[test]
-fn refusals_by_call(rt: HostRuntime) -> Result<(), Fail> {
-    let alloc = rt.alloc();
-    let mut tree = Tree::new(alloc)?;
-    for want in [1, 2] {
-        assert!(rt; begins(&mut tree, want), "{want} begins");
-    }
     assert!(rt; ends(&mut tree, 2), "2 ends");
-    for path in NODES {
-        assert!(rt; makes(alloc, &mut tree, path, Mode::Persistent), "{path}");
-    }
-    assert!(rt; makes(alloc, &mut tree, "/e", Mode::Ephemeral), "/e");
-    assert!(rt; raises(alloc, &mut tree, "/q", 2_147_483_648), "/q");
-    for (session, call, refusal) in REFUSALS {
-        let told = Told::No(refusal);
+    for (session, call, told) in ROWS {
         assert!(rt; tells(alloc, &mut tree, session, call, told), "{call:?}");
     }
-    // Eight creates, and the end of session 2.
-    assert_eq!(rt; changes(&tree), 9);
+    assert_eq!(rt; counter(&tree, "/q"), Some(2_147_483_648));
+    // Ten creates, a set, two deletes, and the end of session 2.
+    assert_eq!(rt; changes(&tree), 14);
+    assert!(rt; ends(&mut tree, 3) && stat(&tree, "/e").is_some(), "3 ends");
+    assert!(rt; ends(&mut tree, 1) && stat(&tree, "/e").is_none(), "1 ends");
+    assert!(rt; !ends(&mut tree, 1), "1 is over");
     Ok(())
 }
 
-// Whether each call with bytes answers this, for a path that isn't there before.
-fn creates_with(tree: &mut Tree, path: &Path, bytes: &[u8], told: Told) -> bool {
-    tells_path(tree.create(1, path, bytes, Mode::Persistent), told)
-}
-
-fn numbers_with(tree: &mut Tree, path: &Path, bytes: &[u8], told: Told) -> bool {
-    let answer = tree.create_under(1, path, bytes, Mode::PersistentSequential);
-    tells_path(answer, told)
-}
-
-fn sets_with(tree: &mut Tree, path: &Path, bytes: &[u8], told: Told) -> bool {
-    tells_version(tree.set(1, path, bytes, Expect::Exactly(0)), told)
-}
-
-#[test]
-fn large_bytes_are_refused(rt: HostRuntime) -> Result<(), Fail> {
-    let mut tree = Tree::new(rt.alloc())?;
-    assert!(rt; begins(&mut tree, 1), "1 begins");
-    let path = Path::new(rt.alloc(), "/a")?;
-    let large = vec![in rt.alloc(); 7u8; 65_537]?;
-    let (most, _) = large.split_at(65_536);
-    let refused = Told::No(TreeRefusal::TooLarge);
-    assert!(rt; creates_with(&mut tree, &path, &large, refused), "create");
-    assert!(rt;
-        creates_with(&mut tree, &path, most, Told::Made("/a")),
-        "create"
-    );
-    assert!(rt;
-        numbers_with(&mut tree, &path, &large, refused),
-        "create_under"
-    );
-    assert!(rt; sets_with(&mut tree, &path, &large, refused), "set");
-    assert!(rt; sets_with(&mut tree, &path, most, Told::Version(1)), "set");
-    Ok(())
-}
-
-fn created(alloc: Global, path: &str) -> Result<Op, PathFault>
+// A part of a call, with no bytes.
+fn part_of(alloc: Global, call: Call) -> Result<Op, PathFault>
     ensures { IfOk result (λ part. is_numbered part ≡ true) }
 {
-    Ok(Op::Create {
-        path: Path::new(alloc, path)?,
-        bytes: Bytes::new(Vec::new(alloc)),
-        mode: Mode::Persistent,
+    let path = Path::new(alloc, path_of(call))?;
+    let bytes = Bytes::new(Vec::new(alloc));
+    Ok(match call {
+        Call::Create(_, mode) => Op::Create { path, bytes, mode },
+        Call::CreateUnder(_) | Call::Raise(_, _) => Op::CreateUnder {
+            parent: path,
+            bytes,
+            mode: Mode::EphemeralSequential,
+        },
+        Call::Set(_, expect) => Op::Set {
+            path,
+            bytes,
+            expect,
+        },
+        Call::Delete(_, expect) => Op::Delete { path, expect },
+        Call::Check(_, expect) => Op::Check { path, expect },
     })
-}
-
-fn numbered(alloc: Global, parent: &str) -> Result<Op, PathFault>
-    ensures { IfOk result (λ part. is_numbered part ≡ true) }
-{
-    Ok(Op::CreateUnder {
-        parent: Path::new(alloc, parent)?,
-        bytes: Bytes::new(Vec::new(alloc)),
-        mode: Mode::EphemeralSequential,
-    })
-}
-
-fn replaced(alloc: Global, path: &str) -> Result<Op, PathFault>
-    ensures { IfOk result (λ part. is_numbered part ≡ true) }
-{
-    Ok(Op::Set {
-        path: Path::new(alloc, path)?,
-        bytes: Bytes::new(Vec::new(alloc)),
-        expect: Expect::Exactly(0),
-    })
-}
-
-fn deleted(alloc: Global, path: &str) -> Result<Op, PathFault>
-    ensures { IfOk result (λ part. is_numbered part ≡ true) }
-{
-    Ok(Op::Delete {
-        path: Path::new(alloc, path)?,
-        expect: Expect::Any,
-    })
-}
-
-fn checked(alloc: Global, path: &str, version: u64) -> Result<Op, PathFault>
-    ensures { IfOk result (λ part. is_numbered part ≡ true) }
-{
-    Ok(Op::Check {
-        path: Path::new(alloc, path)?,
-        expect: Expect::Exactly(version),
-    })
-}
-
-fn stops_at(answer: Result<Vec<OpDone>, MultiFault>, index: u32, refusal: TreeRefusal) -> bool {
-    match answer {
-        Ok(_) => false,
-        Err(fault) => fault == MultiFault::Refused { index, refusal },
-    }
-}
-
-// Whether a check and a create of the path were done.
-fn made_second(answer: Result<Vec<OpDone>, MultiFault>, want: &str) -> bool {
-    let Ok(done) = answer else {
-        return false;
-    };
-    match done.as_slice() {
-        [OpDone::Checked, OpDone::Created(path)] => path.text() == want,
-        _ => false,
-    }
 }
 
 // One more part.
@@ -443,65 +324,52 @@ fn add(ops: &mut Vec<Op>, part: Op) -> Result<(), AllocError>
     Ok(())
 }
 
-fn runs(tree: &mut Tree, ops: &Vec<Op>) -> Result<Vec<OpDone>, MultiFault>
+fn parts_of(alloc: Global, calls: &[Call]) -> Result<Vec<Op>, Fail>
+    ensures { IfOk result (λ ops. list_all is_numbered ops.items ≡ true) }
+{
+    let mut ops = Vec::new(alloc);
+    for call in calls {
+        add(&mut ops, part_of(alloc, *call)?)?;
+    }
+    Ok(ops)
+}
+
+// What the call of several is answered, and none where there are too many for one.
+fn runs(tree: &mut Tree, ops: &Vec<Op>) -> Option<Result<Vec<OpDone>, MultiFault>>
     requires { list_all is_numbered ops.now.items ≡ true }
 {
-    if ops.len() > 7 {
-        return Err(MultiFault::NoMemory);
+    if ops.len() > 4_294_967_295 {
+        return None;
     }
-    tree.multi(1, ops)
+    Some(tree.multi(1, ops))
 }
 
-// The parts of the worked row, of which the third fails.
-fn three_parts(alloc: Global) -> Result<Vec<Op>, Fail>
-    ensures { IfOk result (λ ops. list_all is_numbered ops.items ≡ true) }
+fn stops(tree: &mut Tree, ops: &Vec<Op>, index: u32, refusal: TreeRefusal) -> bool
+    requires { list_all is_numbered ops.now.items ≡ true }
 {
-    let mut ops = two_parts(alloc)?;
-    add(&mut ops, deleted(alloc, "/zz")?)?;
-    Ok(ops)
+    match runs(tree, ops) {
+        Some(Err(fault)) => fault == MultiFault::Refused { index, refusal },
+        Some(Ok(_)) | None => false,
+    }
 }
 
-fn two_parts(alloc: Global) -> Result<Vec<Op>, Fail>
-    ensures { IfOk result (λ ops. list_all is_numbered ops.items ≡ true) }
+fn does(tree: &mut Tree, ops: &Vec<Op>) -> bool
+    requires { list_all is_numbered ops.now.items ≡ true }
 {
-    let mut ops = Vec::new(alloc);
-    add(&mut ops, checked(alloc, "/a", 1)?)?;
-    add(&mut ops, created(alloc, "/c")?)?;
-    Ok(ops)
+    match runs(tree, ops) {
+        Some(Ok(done)) => done.len() == ops.len(),
+        Some(Err(_)) | None => false,
+    }
 }
 
-// A part of each kind that changes the tree.
-fn changing_parts(alloc: Global) -> Result<Vec<Op>, Fail>
-    ensures { IfOk result (λ ops. list_all is_numbered ops.items ≡ true) }
-{
-    let mut ops = Vec::new(alloc);
-    add(&mut ops, deleted(alloc, "/a/e")?)?;
-    add(&mut ops, numbered(alloc, "/a")?)?;
-    add(&mut ops, replaced(alloc, "/a")?)?;
-    Ok(ops)
-}
-
-// The worked row of `multi`: a new tree with `/a` set once.
-#[test]
-fn parts_are_all_done_or_none(rt: HostRuntime) -> Result<(), Fail> {
-    let alloc = rt.alloc();
-    let mut tree = Tree::new(alloc)?;
-    assert!(rt; begins(&mut tree, 1), "1 begins");
-    assert!(rt; makes(alloc, &mut tree, "/a", Mode::Persistent), "/a");
-    let call = Call::Set("/a", Expect::Any);
-    assert!(rt; tells(alloc, &mut tree, 1, call, Told::Version(1)), "/a");
-
-    let ops = three_parts(alloc)?;
-    let answer = runs(&mut tree, &ops);
-    assert!(rt; stops_at(answer, 2, TreeRefusal::NoNode), "/zz isn't there");
-    assert!(rt; stat(&tree, "/c").is_none(), "nothing was done");
-    assert_eq!(rt; changes(&tree), 2);
-
-    let ops = two_parts(alloc)?;
-    assert!(rt; made_second(runs(&mut tree, &ops), "/c"), "both are done");
-    assert_eq!(rt; changes(&tree), 3);
-    Ok(())
-}
+// A part of each kind; the fifth fails at first.
+const PARTS: [Call; 5] = [
+    Call::Delete("/a/e", ANY),
+    Call::CreateUnder("/a"),
+    Call::Set("/a", Expect::Exactly(0)),
+    Call::Create("/c", PLAIN),
+    Call::Check("/c", SEVEN),
+];
 
 const A: Stat = Stat {
     czxid: 1,
@@ -530,33 +398,37 @@ const A_LATER: Stat = Stat {
     children: 0,
 };
 
-fn holds(tree: &Tree, path: &str, bytes: &[u8], stat: Stat) -> bool {
-    tree.get(path) == Some((bytes, stat))
-}
-
-// Each kind of part, with a last one that fails and then without it.
 #[test]
-fn parts_are_taken_back(rt: HostRuntime) -> Result<(), Fail> {
+fn parts_are_all_done_or_none(rt: HostRuntime) -> Result<(), Fail> {
     let alloc = rt.alloc();
     let mut tree = Tree::new(alloc)?;
     assert!(rt; begins(&mut tree, 1), "1 begins");
-    assert!(rt; makes(alloc, &mut tree, "/a", Mode::Persistent), "/a");
-    assert!(rt; makes(alloc, &mut tree, "/a/e", Mode::Ephemeral), "/a/e");
-    let mut ops = changing_parts(alloc)?;
-    add(&mut ops, checked(alloc, "/a", 0)?)?;
-    let answer = runs(&mut tree, &ops);
+    for (path, mode) in [("/a", PLAIN), ("/a/e", Mode::Ephemeral)] {
+        let call = Call::Create(path, mode);
+        assert!(rt;
+            tells(alloc, &mut tree, 1, call, Told::Path(path)),
+            "{path}"
+        );
+    }
+    let ops = parts_of(alloc, &PARTS)?;
     assert!(rt;
-        stops_at(answer, 3, TreeRefusal::BadVersion { kept: 1 }),
+        stops(&mut tree, &ops, 4, TreeRefusal::BadVersion { kept: 0 }),
         "the last"
     );
-    assert!(rt; holds(&tree, "/a", b"old", A), "/a");
-    assert!(rt; holds(&tree, "/a/e", b"old", EPHEMERAL), "/a/e");
+    assert!(rt; holds(&tree, "/a", b"", A), "/a");
+    assert!(rt; holds(&tree, "/a/e", b"", EPHEMERAL), "/a/e");
+    assert!(rt; stat(&tree, "/c").is_none(), "/c");
     assert_eq!(rt; counter(&tree, "/a"), Some(0));
     assert_eq!(rt; changes(&tree), 2);
 
-    let ops = changing_parts(alloc)?;
-    assert!(rt; runs(&mut tree, &ops).is_ok(), "all are done");
+    let (front, _) = PARTS.split_at(4);
+    let ops = parts_of(alloc, front)?;
+    assert!(rt; does(&mut tree, &ops), "all are done");
     assert_eq!(rt; counter(&tree, "/a"), Some(1));
+    assert_eq!(rt; changes(&tree), 3);
+    let ops = parts_of(alloc, &[Call::Check("/c", ANY)])?;
+    assert!(rt; does(&mut tree, &ops), "checks alone");
+    assert_eq!(rt; changes(&tree), 3);
     assert!(rt; ends(&mut tree, 1), "1 ends");
     assert!(rt; holds(&tree, "/a", b"", A_LATER), "/a");
     Ok(())
@@ -580,12 +452,8 @@ const CHILDREN: [(&str, u32, Option<&str>); 12] = [
     ("/zz", 0, None),
 ];
 
-fn names_child(tree: &Tree, path: &str, at: u32, want: Option<&str>) -> bool {
-    tree.child_at(path, at) == want
-}
-
-fn has_child(tree: &Tree, path: &str, at: u32) -> bool {
-    tree.child_stat(path, at).is_some()
+fn has_child(tree: &Tree, path: &str, at: u32, want: Option<&str>) -> bool {
+    tree.child_at(path, at) == want && tree.child_stat(path, at).is_some() == want.is_some()
 }
 
 #[test]
@@ -594,28 +462,72 @@ fn children_stand_in_byte_order(rt: HostRuntime) -> Result<(), Fail> {
     let mut tree = Tree::new(alloc)?;
     assert!(rt; begins(&mut tree, 1), "1 begins");
     for path in PARENTS {
-        assert!(rt; makes(alloc, &mut tree, path, Mode::Persistent), "{path}");
+        let call = Call::Create(path, PLAIN);
+        assert!(rt;
+            tells(alloc, &mut tree, 1, call, Told::Path(path)),
+            "{path}"
+        );
     }
     for (path, at, want) in CHILDREN {
-        assert!(rt; names_child(&tree, path, at, want), "{at} of {path}");
-        assert!(rt;
-            has_child(&tree, path, at) == want.is_some(),
-            "{at} of {path}"
-        );
+        assert!(rt; has_child(&tree, path, at, want), "{at} of {path}");
     }
     Ok(())
 }
 
-fn reserves(tree: &mut Tree) -> bool {
-    tree.reserve_session().is_ok()
+// A prefix of 54 bytes, so that its sequence nodes have names of 64.
+const LONG: &str = "/q/aaaaaaaaaabbbbbbbbbbccccccccccddddddddddeeeeeeeeeeffff";
+
+fn creates_many(tree: &mut Tree, path: &Path, bytes: &[u8], count: u32) -> bool {
+    for _ in 0..count {
+        if tree
+            .create(1, path, bytes, Mode::EphemeralSequential)
+            .is_err()
+        {
+            return false;
+        }
+    }
+    true
+}
+
+fn sets(tree: &mut Tree, path: &Path, bytes: &[u8], told: Told) -> bool {
+    tells_version(tree.set(1, path, bytes, Expect::Exactly(0)), told)
+}
+
+fn children(tree: &Tree, path: &str) -> u32 {
+    match tree.exists(path) {
+        Some(stat) => stat.children,
+        None => 0,
+    }
 }
 
 #[test]
-fn a_session_begins_after_a_reserve(rt: HostRuntime) -> Result<(), Fail> {
-    let mut tree = Tree::new(rt.alloc())?;
-    assert!(rt; reserves(&mut tree) && reserves(&mut tree), "twice");
-    assert!(rt; begins(&mut tree, 1), "the first");
-    assert!(rt; is_live(&tree, 1) && !is_live(&tree, 2), "1 alone");
+fn a_tree_at_full_size(rt: HostRuntime) -> Result<(), Fail> {
+    let alloc = rt.alloc();
+    let mut tree = Tree::new(alloc)?;
+    assert!(rt; begins(&mut tree, 1), "1 begins");
+    let call = Call::Create("/q", PLAIN);
+    assert!(rt; tells(alloc, &mut tree, 1, call, Told::Path("/q")), "/q");
+    let path = Path::new(alloc, LONG)?;
+    assert!(rt; creates_many(&mut tree, &path, b"7", 300), "300 nodes");
+    let calls = [Call::Create(LONG, Mode::EphemeralSequential); 40];
+    let ops = parts_of(alloc, &calls)?;
+    assert!(rt; does(&mut tree, &ops), "40 parts");
+    assert_eq!(rt; children(&tree, "/q"), 340);
+    assert!(rt; tree.child_stat("/q", 339).is_some(), "the last child");
+
+    let large = vec![in alloc; 7u8; 65_537]?;
+    let (most, _) = large.split_at(65_536);
+    let refused = Told::No(TreeRefusal::TooLarge);
+    let top = Path::new(alloc, "/q")?;
+    assert!(rt; sets(&mut tree, &top, &large, refused), "65,537 bytes");
+    assert!(rt;
+        sets(&mut tree, &top, most, Told::Version(1)),
+        "65,536 bytes"
+    );
+    assert!(rt; !creates_many(&mut tree, &path, &large, 1), "65,537 bytes");
+    assert!(rt; creates_many(&mut tree, &path, most, 1), "65,536 bytes");
+    assert!(rt; ends(&mut tree, 1), "1 ends");
+    assert_eq!(rt; children(&tree, "/q"), 0);
     Ok(())
 }
 
@@ -643,4 +555,8 @@ fn refusals_have_codes(rt: HostRuntime) {
 #[test]
 fn laws_are_called() {
     worked_rows();
+    calls_keep_the_nodes_whole();
+    calls_keep_the_tree();
+    ephemerals_have_no_children();
+    nodes_stand_in_order();
 }

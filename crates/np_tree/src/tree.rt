@@ -1,27 +1,25 @@
 //! The tree.
 
-ghost use Rattle.std.specs.Prelude.{◌≡◌, ◌<◌, ◌≤◌, ◌+◌, [], true, length, IfOk, MatchResult, OnOk, OnErr};
+ghost use Rattle.std.specs.Prelude.{◌≡◌, ◌<◌, ◌≤◌, ◌+◌, ℕ, [], true, length, IfOk, MatchResult, OnOk, OnErr};
 ghost use Rattle.std.specs.Bool.{OnTrue, OnFalse};
 ghost use Rattle.std.specs.List.{list_all};
 ghost use Rattle.std.specs.Option.{option_copied, option_map};
+ghost use Rattle.np_session.specs.Begins.{Begins};
 ghost use Rattle.np_session.specs.Known.{is_in};
-ghost use Rattle.np_desk.specs.Calls.{BeginsSession, begun_more, may_raise, raised, with_room};
-ghost use Rattle.np_desk.specs.Effect.{counted, created, created_under, deleted, ended, replaced};
-ghost use Rattle.np_desk.specs.Judge.{judge_check, judge_create, judge_create_under, judge_delete, judge_set};
-ghost use Rattle.np_desk.specs.Kept.{IsTree};
-ghost use Rattle.np_desk.specs.Multi.{Stops, after_multi, answers_from, is_numbered};
-ghost use Rattle.np_desk.specs.State.{new_tree};
-ghost use Rattle.np_desk.specs.Tests.{is_sequential};
-ghost use Rattle.np_tree.specs.Boards.{Answers};
+ghost use Rattle.np_nodes.specs.After.{after_create, after_create_under, after_delete, after_end, after_set, with_next_number};
+ghost use Rattle.np_nodes.specs.Answer.{check_answer, create_answer, create_under_answer, delete_answer, set_answer};
+ghost use Rattle.np_nodes.specs.Calls.{after_begin, after_raise, may_raise, with_spare};
+ghost use Rattle.np_nodes.specs.Multi.{Stops, after_multi, answers_from, is_numbered};
+ghost use Rattle.np_nodes.specs.Tests.{is_sequential};
+ghost use Rattle.np_nodes.specs.TreeState.{new_tree};
+ghost use Rattle.np_tree.specs.Inners.{Answers};
 ghost use Rattle.np_tree.specs.Read.{bytes_at, child_name, counter_at, stat_at, stat_of_child};
+ghost use Rattle.np_tree.specs.Whole.{IsTree};
 
-use crate::board::Board;
-use np_desk::{
-    Bytes, Desk, Expect, Facts, Mode, MultiFault, Node, Op, OpDone, Stat, TreeFault, TreeRefusal,
-};
+use crate::inner::Inner;
+use np_nodes::{Expect, Mode, MultiFault, Op, OpDone, Stat, TreeFault, TreeRefusal};
 use np_path::Path;
-use np_session::{SessionFault, Sessions};
-use np_shelf::{Piece, Shelf};
+use np_session::SessionFault;
 use np_text::NoMemory;
 use std::alloc::Global;
 use std::marker::Model;
@@ -30,90 +28,77 @@ use std::marker::Model;
 /// copies a node's bytes or the tree.
 #[derive(Drop)]
 pub struct Tree {
-    board: Board,
+    inner: Inner,
 }
 
 impl Model for Tree {
-    ghost use Rattle.np_desk.specs.State.{State};
+    ghost use Rattle.np_nodes.specs.TreeState.{TreeState};
 
-    ghost Value = { State };
+    ghost Value = { TreeState };
 
-    ghost use Rattle.np_desk.specs.Kept.{IsKept};
-    ghost use Rattle.np_tree.specs.Boards.{state_of};
+    ghost use Rattle.np_tree.specs.Inners.{Holds, state_of};
 
-    ghost view = { λ t. state_of t.board };
+    ghost view = { λ t. state_of t.inner };
 
-    ghost invariant = { λ t. IsKept t.board.desk.nodes t.board.desk.marks };
+    ghost invariant = { λ t. Holds t.inner };
 }
 
 impl Tree {
     /// The root alone, with change number 0.
     pub fn new(alloc: Global) -> Result<Tree, NoMemory>
-        ensures { IfOk result (λ tree. with_room tree 0 ≡ new_tree) }
+        ensures { IfOk result (λ tree. with_spare tree 0 ≡ new_tree) }
     {
-        let root = Node {
-            path: Path::new(alloc, "/").map_err(|_| NoMemory)?,
-            bytes: Bytes::new(Vec::new(alloc)),
-            facts: Facts::new(0, None),
-        };
-        let mut nodes = Shelf::new();
-        nodes.insert(0, Piece::new(alloc, root)?);
-        let desk = Desk {
-            nodes,
-            marks: Shelf::new(),
-            undo: Vec::new(alloc),
-        };
         Ok(Tree {
-            board: Board {
-                desk,
-                sessions: Sessions::new(alloc),
-                changes: 0,
-            },
+            inner: Inner::new(alloc)?,
         })
     }
 
     /// Takes the memory that the next `begin_session` needs.
     pub fn reserve_session(&mut self) -> Result<(), NoMemory>
         ensures ok { OnOk result (0 < self.new.spare) }
-        ensures same { self.new ≡ with_room self.old self.new.spare }
+        ensures same { self.new ≡ with_spare self.old self.new.spare }
         ensures err { OnErr result (self.new ≡ self.old) }
     {
-        self.board.sessions.reserve().map_err(|_| NoMemory)
+        self.inner.reserve_session()
     }
 
     /// Begins the next session, and answers its number.
     pub fn begin_session(&mut self) -> Result<u32, SessionFault>
-        ensures answer { BeginsSession self.old result }
-        ensures ok { OnOk result (self.new ≡ with_room (begun_more self.old) self.new.spare) }
+        ensures answer { Begins self.old.begun self.old.spare result }
+        ensures ok { OnOk result (self.new ≡ with_spare (after_begin self.old) self.new.spare) }
         ensures spare { self.old.spare ≤ self.new.spare + 1 }
         ensures err { OnErr result (self.new ≡ self.old) }
     {
-        self.board.sessions.begin()
+        self.inner.begin_session()
     }
 
     /// Ends the session and removes its ephemeral nodes in one change, and answers whether it was
     /// live. Takes no memory.
     pub fn end_session(&mut self, session: u32) -> bool
         ensures answer { result ≡ is_in self.old.live session }
-        ensures yes { OnTrue result (self.new ≡ ended self.old session) }
+        ensures yes { OnTrue result (self.new ≡ after_end self.old session) }
         ensures no { OnFalse result (self.new ≡ self.old) }
     {
-        self.board.end(session)
+        self.inner.end_session(session)
     }
 
     /// Whether the session is live.
     pub fn is_live(&self, session: u32) -> bool
         ensures { result ≡ is_in self.now.live session }
     {
-        self.board.sessions.is_live(session)
+        self.inner.sessions.is_live(session)
     }
 
-    /// The number of the last change.
+    /// The number of the last change. Its contract tells, beside that, what always holds of a tree.
     pub fn changes(&self) -> u64
         ensures number { result ≡ self.now.changes }
         ensures tree { IsTree self.now }
+        ensures begun { (id : ℕ) → is_in self.now.live id
+            ≡ true → (0 < id) × (id ≤ self.now.begun) }
     {
-        self.board.changes
+        // The sessions tell that each live one was begun.
+        let _ = self.inner.sessions.count();
+        self.inner.changes
     }
 
     /// Creates a node, and answers its path. In a sequential mode the parent's counter is appended
@@ -125,13 +110,12 @@ impl Tree {
         bytes: &[u8],
         mode: Mode,
     ) -> Result<Path, TreeFault>
-        ensures answer { Answers result (judge_create self.old session path.now bytes.now mode) }
-        ensures ok { OnOk result (self.new ≡ counted (created self.old session path.now bytes.now mode)) }
+        ensures answer { Answers result (create_answer self.old session path.now bytes.now mode) }
+        ensures ok { OnOk result
+            (self.new ≡ with_next_number (after_create self.old session path.now bytes.now mode)) }
         ensures err { OnErr result (self.new ≡ self.old) }
     {
-        let made = self.board.create(session, path, bytes, mode)?;
-        self.board.settle();
-        Ok(made)
+        self.inner.create(session, path, bytes, mode)
     }
 
     /// Creates a sequence node whose name is the parent's counter alone.
@@ -143,13 +127,14 @@ impl Tree {
         mode: Mode,
     ) -> Result<Path, TreeFault>
         requires { is_sequential mode ≡ true }
-        ensures answer { Answers result (judge_create_under self.old session parent.now bytes.now mode) }
-        ensures ok { OnOk result (self.new ≡ counted (created_under self.old session parent.now [] bytes.now mode)) }
+        ensures answer { Answers result
+            (create_under_answer self.old session parent.now bytes.now mode) }
+        ensures ok { OnOk result
+            (self.new
+            ≡ with_next_number (after_create_under self.old session parent.now [] bytes.now mode)) }
         ensures err { OnErr result (self.new ≡ self.old) }
     {
-        let made = self.board.create_under(session, parent, bytes, mode)?;
-        self.board.settle();
-        Ok(made)
+        self.inner.create_under(session, parent, bytes, mode)
     }
 
     /// Replaces a node's bytes, and answers its new version (ZooKeeper's `setData`).
@@ -160,31 +145,28 @@ impl Tree {
         bytes: &[u8],
         expect: Expect,
     ) -> Result<u64, TreeFault>
-        ensures answer { Answers result (judge_set self.old session path.now bytes.now expect) }
-        ensures ok { OnOk result (self.new ≡ counted (replaced self.old path.now bytes.now)) }
+        ensures answer { Answers result (set_answer self.old session path.now bytes.now expect) }
+        ensures ok { OnOk result
+            (self.new ≡ with_next_number (after_set self.old path.now bytes.now)) }
         ensures err { OnErr result (self.new ≡ self.old) }
     {
-        let version = self.board.set(session, path, bytes, expect)?;
-        self.board.settle();
-        Ok(version)
+        self.inner.set(session, path, bytes, expect)
     }
 
     /// Deletes a node without children.
     pub fn delete(&mut self, session: u32, path: &Path, expect: Expect) -> Result<(), TreeFault>
-        ensures answer { Answers result (judge_delete self.old session path.now expect) }
-        ensures ok { OnOk result (self.new ≡ counted (deleted self.old path.now)) }
+        ensures answer { Answers result (delete_answer self.old session path.now expect) }
+        ensures ok { OnOk result (self.new ≡ with_next_number (after_delete self.old path.now)) }
         ensures err { OnErr result (self.new ≡ self.old) }
     {
-        self.board.delete(session, path, expect)?;
-        self.board.settle();
-        Ok(())
+        self.inner.delete(session, path, expect)
     }
 
     /// Whether a node has the expected version. Takes no memory.
     pub fn check(&self, session: u32, path: &Path, expect: Expect) -> Result<(), TreeRefusal>
-        ensures { result ≡ judge_check self.now session path.now expect }
+        ensures { result ≡ check_answer self.now session path.now expect }
     {
-        self.board.check(session, path.text(), expect)
+        self.inner.check(session, path.text(), expect)
     }
 
     /// Makes all parts in order, under one change number, or none. Parts that are all checks take no
@@ -199,17 +181,17 @@ impl Tree {
         ensures ok { OnOk result (self.new ≡ after_multi self.old session ops.now) }
         ensures err { OnErr result (self.new ≡ self.old) }
     {
-        self.board.multi(session, ops)
+        self.inner.multi(session, ops)
     }
 
     /// Raises a node's sequence counter, where it is lower and the number is at most 2,147,483,648,
     /// and answers whether it did. Takes no memory.
     pub fn raise_counter(&mut self, path: &Path, to: u32) -> bool
         ensures answer { result ≡ may_raise self.old path.now to }
-        ensures yes { OnTrue result (self.new ≡ raised self.old path.now to) }
+        ensures yes { OnTrue result (self.new ≡ after_raise self.old path.now to) }
         ensures no { OnFalse result (self.new ≡ self.old) }
     {
-        self.board.raise_counter(path.text(), to)
+        self.inner.raise_counter(path, to)
     }
 
     /// The bytes and the stat of the node at a path. The readers take no memory, and need no path.
@@ -217,39 +199,40 @@ impl Tree {
         ensures bytes { option_map (λ told. told.0.now) result ≡ bytes_at self.now path.now }
         ensures stat { option_map (λ told. told.1) result ≡ stat_at self.now path.now }
     {
-        let node = self.board.node(path)?;
-        Some((node.bytes.items(), self.board.stat(node)))
+        let found = self.inner.lists.find(path)?;
+        let node = found.node();
+        Some((node.bytes(), self.inner.stat(node)))
     }
 
     /// The stat of the node at a path.
     pub fn exists(&self, path: &str) -> Option<Stat>
         ensures { result ≡ stat_at self.now path.now }
     {
-        let node = self.board.node(path)?;
-        Some(self.board.stat(node))
+        let found = self.inner.lists.find(path)?;
+        Some(self.inner.stat(found.node()))
     }
 
     /// The next number that the node at a path gives out to a sequence node.
     pub fn counter(&self, path: &str) -> Option<u32>
         ensures { result ≡ counter_at self.now path.now }
     {
-        let node = self.board.node(path)?;
-        Some(node.facts.counter)
+        let found = self.inner.lists.find(path)?;
+        Some(found.node().counter())
     }
 
     /// The name of the child at a place, in byte order.
     pub fn child_at(&self, path: &str, at: u32) -> Option<&str>
         ensures { option_copied result ≡ child_name self.now path.now at }
     {
-        let node = self.board.child(path, at)?;
-        Some(node.path.name())
+        let node = self.inner.lists.child(path, at)?;
+        Some(node.path().name())
     }
 
     /// The stat of that child.
     pub fn child_stat(&self, path: &str, at: u32) -> Option<Stat>
         ensures { result ≡ stat_of_child self.now path.now at }
     {
-        let node = self.board.child(path, at)?;
-        Some(self.board.stat(node))
+        let node = self.inner.lists.child(path, at)?;
+        Some(self.inner.stat(node))
     }
 }

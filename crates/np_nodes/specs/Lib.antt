@@ -1,0 +1,17 @@
+pub mod TreeState
+pub mod Nodes
+pub mod Order
+pub mod Tests
+pub mod Answer
+pub mod After
+pub mod Multi
+pub mod Calls
+pub mod Codes
+pub mod Marks
+pub mod Steps
+pub mod Edits
+pub mod Undo
+pub mod Finds
+pub mod Names
+pub mod Plans
+pub mod Kept

@@ -1,7 +1,0 @@
-use Rattle.std.proofs.Common.{sym}
-use Rattle.np_desk.proofs.NamesLemmas.{MakesName-child}
-use Rattle.np_tree.proofs.board.Board.create.Goals as goal
-
-pub make-requires-clause-name : goal.make-requires-clause-name
-make-requires-clause-name c =
-    rw c.name.ensures (MakesName-child c.args.path.now c.in-Some.above.now c.args.mode c.text.ensures.path (sym c.in-Some.ensures))

@@ -1,0 +1,8 @@
+use Rattle.std.proofs.Common.{refl, ap}
+use Rattle.np_session.specs.Known.{Known}
+use Rattle.np_tree.proofs.HoldsLemmas.{Holds-new}
+use Rattle.np_tree.proofs.inner.Inner.new.Goals as goal
+
+pub returns-clause-holds : goal.returns-clause-holds
+returns-clause-holds c =
+    Holds-new (record { alloc = c.args.alloc; lists = c.in_ok-new.field-0; sessions = c.new-2.result; changes = 0 }) refl c.in_ok-new.ensures.nodes (ap (λ (k : Known). k.live) c.new-2.ensures) c.in_ok-new.ensures.kept c.in_ok-new.ensures.undo
