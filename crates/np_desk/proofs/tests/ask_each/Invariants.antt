@@ -1,0 +1,9 @@
+use Rattle.std.proofs.Common.{◌≡◌, ◌≤◌}
+use Rattle.np_desk.proofs.tests.ask_each.Given as goal
+
+abbrev pub invariant-loop-at : goal.invariant-loop-at
+invariant-loop-at g l = record {
+  few : l.counted ≤ l.at;
+  ready : g.T.Turns.ready l.turns;
+  place : g.T.Turns.place l.turns ≡ g.T.Turns.place l.initial.turns;
+}

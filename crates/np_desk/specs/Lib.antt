@@ -1,0 +1,8 @@
+pub mod History
+pub mod Part
+pub mod Pass
+pub mod Turned
+pub mod Share
+pub mod Rule
+pub mod Step
+pub mod Counter

@@ -1,0 +1,132 @@
+-- What each kind of step on the table tells its seat, and how views are cut and joined.
+use Rattle.std.specs.Prelude.{◌≡◌, ◌≢◌, ℕ, ◌<◌, List, [], ◌∷◌, ◌++◌, length, drop, Bool, true, Some, None, IfSome}
+use Rattle.std.specs.Prelude as std
+use Rattle.atomic_table.specs.Table.{Me, Step}
+use Rattle.atomic_table.specs.Seated.{TableId}
+use Rattle.np_desk.specs.History.{StartsWith, places, added, merged, AreRising}
+use Rattle.np_desk.specs.Part.{first_half, second_half, joined, IsWhole}
+use Rattle.np_desk.specs.Pass.{PassView, DeskView}
+use Rattle.np_desk.specs.declared.view.Origin.{Origin}
+use Rattle.np_desk.specs.declared.view.SeatView.{SeatView}
+use Rattle.np_desk.specs.declared.view.Stage.{Stage}
+use Rattle.np_desk.specs.declared.view.Stage.TheVariants.{Idle, Waits, Has}
+
+-- a desk's table has two words and one slot
+abbrev pub IsDesk : TableId → Type 0
+IsDesk z = (z.words ≡ 2) × (z.slots ≡ 1)
+
+module _ {F E : Type 0} where
+  abbrev pub seat_view : std.Option (Origin F E) → List E → List ℕ → List (List Bool) → List E
+      → Stage → SeatView F E
+  seat_view o seen mine part told stage = record {
+    origin = o;
+    seen = seen;
+    mine = mine;
+    part = part;
+    told = told;
+    stage = stage;
+  }
+
+  abbrev pub pass_view : TableId → SeatView F E → PassView F E
+  pass_view z v = record {
+    table = z;
+    origin = v.origin;
+    seen = v.seen;
+    mine = v.mine;
+    part = v.part;
+  }
+
+  abbrev pub desk_view : TableId → Origin F E → DeskView F E
+  desk_view z o = record { table = z; origin = o }
+
+  -- the first pass
+  abbrev pub first_view : Origin F E → SeatView F E
+  first_view o = seat_view (Some o) o.history [] ([] ∷ []) [] Idle
+
+  -- what is left of a pass that was joined to another
+  abbrev pub spent : SeatView F E
+  spent = seat_view None [] [] [] [] Idle
+
+  abbrev pub at_stage : SeatView F E → Stage → SeatView F E
+  at_stage v stage = seat_view v.origin v.seen v.mine v.part v.told stage
+
+  -- the view after a turn that left this history, of which all but the turn's entries had been seen
+  abbrev pub after_turn : SeatView F E → List E → SeatView F E
+  after_turn v log = seat_view v.origin log
+      (v.mine ++ places (length v.seen) (drop (length v.seen) log)) v.part v.told Idle
+
+  abbrev pub left_half : SeatView F E → SeatView F E
+  left_half v = seat_view v.origin v.seen v.mine (first_half v.part) v.told v.stage
+
+  abbrev pub right_half : SeatView F E → SeatView F E
+  right_half v = seat_view v.origin v.seen [] (second_half v.part) [] Idle
+
+  abbrev pub both_views : SeatView F E → SeatView F E → SeatView F E
+  both_views v w = seat_view v.origin v.seen
+      (merged v.mine w.mine) (joined v.part w.part) w.seen v.stage
+
+  -- the seat is of this desk, has a part, and is at this stage
+  abbrev pub IsAt : Origin F E → Stage → SeatView F E → Type 0
+  IsAt o stage v = (v.origin ≡ Some o) × (v.stage ≡ stage) × (0 < length v.part)
+
+  -- the seat has seen more, and its ticket is served
+  abbrev pub IsServed : ℕ → SeatView F E → SeatView F E → Type 0
+  IsServed t v w =
+      (w ≡ seat_view v.origin w.seen v.mine v.part v.told (Has t)) × StartsWith w.seen v.seen
+
+  -- what a pass knows of its places
+  abbrev pub KnowsMine : SeatView F E → Type 0
+  KnowsMine v = AreRising 0 v.mine (length v.seen)
+      × (IsWhole v.part → IfSome v.origin (λ o. v.mine ≡ added o.history v.seen))
+
+module _ {F E : Type 0} (legal : F → List E → Bool) where
+  abbrev pub KnowsLegal : SeatView F E → Type 0
+  KnowsLegal v = IfSome v.origin (λ o. legal o.fixed v.seen ≡ true)
+
+  -- what always holds of the seat of a pass, and of the slots that it has
+  pub record IsPass {M : Type 0} (me : Me M (SeatView F E)) : Type 0 where
+    pub idle : me.0.stage ≡ Idle
+    pub nothing : me.1 ≡ []
+    pub some_part : 0 < length me.0.part
+    pub mine : KnowsMine me.0
+    pub lawful : KnowsLegal me.0
+    pub begins : IfSome me.0.origin (λ o. StartsWith me.0.seen o.history)
+
+module _ {M F E : Type 0} where
+  -- the seat drew the number that was found as its ticket, where that is the one expected
+  abbrev pub drew : Step M → Me M (SeatView F E) → ℕ → Me M (SeatView F E) → Type 0
+  drew st m r n = (r ≡ st.first → n ≡ (at_stage m.0 (Waits r), m.1)) × (r ≢ st.first → n ≡ m)
+
+module _ {M F E : Type 0} (history : M → List E) (fixed : M → F) (legal : F → List E → Bool) where
+  abbrev pub IsLawful : F → M → Type 0
+  IsLawful f x = (fixed x ≡ f) × (legal f (history x) ≡ true)
+
+  -- the seat has the object alone, which is lawful, and its history is so
+  abbrev pub HasObject : F → Me M (SeatView F E) → (List E → Type 0) → Type 0
+  HasObject f m so = (x : M) × (m.1 ≡ (0, x) ∷ []) × IsLawful f x × so (history x)
+
+  -- the seat took the object, and has seen its history
+  abbrev pub Took : Me M (SeatView F E) → ℕ → Me M (SeatView F E) → Type 0
+  Took m t n = (x : M)
+      × (n ≡ (seat_view m.0.origin (history x) m.0.mine m.0.part m.0.told (Has t), (0, x) ∷ m.1))
+      × StartsWith (history x) m.0.seen
+      × IfSome m.0.origin (λ o. IsLawful o.fixed x)
+
+  -- where the ticket is served, the object was taken
+  abbrev pub looked : Step M → Me M (SeatView F E) → ℕ → Me M (SeatView F E) → Type 0
+  looked st m r n = (t : ℕ) → m.0.stage ≡ Waits t → (r ≢ t → n ≡ m) × (r ≡ t → Took m t n)
+
+module _ {M F E : Type 0} (history : M → List E) where
+  -- the object was put back, and the next ticket called
+  abbrev pub posted : Step M → Me M (SeatView F E) → ℕ → Me M (SeatView F E) → Type 0
+  posted st m r n = (x : M) → m.1 ≡ (0, x) ∷ []
+      → (n ≡ (after_turn m.0 (history x), [])) × KnowsMine (after_turn m.0 (history x))
+
+module _ {M F E : Type 0} (legal : F → List E → Bool) where
+  -- the seat has seen all of the history, which is legal, and begins with what it had seen and was
+  -- told of
+  abbrev pub learned : Step M → Me M (SeatView F E) → ℕ → Me M (SeatView F E) → Type 0
+  learned st m r n = (log : List E)
+      × (n ≡ (seat_view m.0.origin log m.0.mine m.0.part [] m.0.stage, m.1))
+      × StartsWith log m.0.seen × StartsWith log m.0.told
+      × KnowsLegal legal n.0 × KnowsMine n.0

@@ -1,0 +1,29 @@
+//! The desk at which threads take turns: a ticketed lock round an object that keeps a history.
+//!
+//! What the threads share is one legal history. Each of them has a `Pass`, which knows how much of
+//! it has been seen and which places in it are its own. Read `object` and `specs/Turned` for what a
+//! turn is, `specs/Pass` and `specs/Part` for what a pass is, docs/DESK.md for the rule in words.
+//!
+//! The rule of the table below the desk is in `specs/Rule`, each step of a turn in `step`. No call
+//! but a turn waits, and no call but `set_up` and the object's own turn takes memory.
+#![tactic(auto)]
+
+mod alone;
+mod desk;
+mod object;
+mod on_desk;
+mod pass;
+mod rule;
+mod step;
+#[cfg(test)]
+mod tests;
+mod turns;
+mod view;
+
+pub use alone::Alone;
+pub use desk::{Desk, SetUpFailed};
+pub use object::SeqObject;
+pub use on_desk::OnDesk;
+pub use pass::Pass;
+pub use turns::Turns;
+pub use view::Origin;
