@@ -16,7 +16,7 @@ use Rattle.np_event.specs.declared.fault.LineFault.{LineFault}
 use Rattle.np_event.specs.declared.fault.LineFault.TheVariants.{BadArgument, UnknownEvent, WrongCount}
 use Rattle.np_event.specs.declared.kind.Fields.{Fields}
 use Rattle.np_event.specs.declared.kind.Kind.{Kind}
-use Rattle.np_event.specs.EventForm.{decided_at, event_forms, event_of, event_parts, event_row}
+use Rattle.np_event.specs.EventForm.{event_forms, event_of, event_parts, event_row}
 use Rattle.np_event.specs.Kind.{field_text, with_field}
 use Rattle.np_event.specs.Line.{HasEventLine, OpensNoReaper, chosen, event_form_of, event_in, event_line, is_agreed, is_headed, undecided, with_fields, with_form}
 use Rattle.np_event.specs.Reading.{HaveWords, fields_from, fitting, row_fields, row_line, stand}
@@ -83,7 +83,7 @@ form_headed first rest F answer = by_agreed (find (is_agreed first rest) event_f
         let same : A ≡ F = cc in
         subst (λ X. is_headed first X ≡ true) same (both_true (is_headed first A) (stand (event_row A).kinds rest) (find-passes (is_agreed first rest) event_forms A is_a)).0
     by_agreed None (Some H) is_a is_h answer =
-        subst (λ X. is_headed first X ≡ true) (by_late H (decided_at H) answer) (find-passes (is_headed first) event_forms H is_h)
+        subst (λ X. is_headed first X ≡ true) (by_late H (event_row H).decided_at answer) (find-passes (is_headed first) event_forms H is_h)
     by_agreed None None is_a is_h answer = absurd (cc)
 
 -- lines of the same words are the same
@@ -153,7 +153,7 @@ HasEventLine-read F kinds rest o f e same read is made =
 
 -- ## The first word that names no event
 
-find-None : {A : Type 0} (p : A → Bool) (xs : List A) → ((x : A) → p x ≡ false) → find p xs ≡ None
+pub find-None : {A : Type 0} (p : A → Bool) (xs : List A) → ((x : A) → p x ≡ false) → find p xs ≡ None
 find-None p [] fails = refl
 find-None p (x ∷ xs) fails = rw (fails x) (find-None p xs fails)
 
@@ -206,7 +206,7 @@ late_known rest H (Some place) answer = cases (nat_le place (length rest)) answe
 
 unknown_chosen : (rest : List (List ℕ)) (agreed headed : Option EventForm) → with_form rest (chosen rest agreed headed) ≡ Err UnknownEvent → headed ≡ None
 unknown_chosen rest None None answer = refl
-unknown_chosen rest None (Some H) answer = absurd (late_known rest H (decided_at H) answer)
+unknown_chosen rest None (Some H) answer = absurd (late_known rest H (event_row H).decided_at answer)
 unknown_chosen rest (Some A) headed answer = absurd (form_known A (row_fields (event_row A).kinds rest) (row_known (event_row A).kinds rest) answer)
 
 -- the first word names no event exactly where it is the first word of no form

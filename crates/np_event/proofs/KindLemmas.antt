@@ -1,27 +1,29 @@
 -- What a word says, and how it is said: each kind both ways.
 use Rattle.std.proofs.Common.{◌≡◌, ◌≢◌, ℕ, ◌^◌, ◌<◌, ◌≤◌, Bool, true, false, cond, ◌==◌, List, [], ◌∷◌, Option, Some, None, refl, sym, ap, subst, ◌∙◌, arith}
 use Rattle.std.specs.List.{find}
-use Rattle.std.specs.Option.{option_map}
+use Rattle.std.specs.Option.{option_map, option_or}
 use Rattle.std.specs.Str.{bytes_eq}
 use Rattle.std.proofs.lemmas.Bool.{eq-eqb, eqb-true}
 use Rattle.std.proofs.lemmas.Slice.Eq.{bytes_eq-Decides}
 use Rattle.np_text.specs.Number.{number_of}
 use Rattle.np_text.specs.Request.{request_of}
-use Rattle.np_text.specs.declared.word.EndAs.{EndAs}
-use Rattle.np_text.specs.declared.word.EndAs.TheVariants as end
+use Rattle.std.specs.Prelude.{codes}
 use Rattle.np_text.specs.declared.word.Ending.{Ending}
 use Rattle.np_text.specs.declared.word.Ending.TheVariants as ending
 use Rattle.np_text.specs.declared.word.NodeState.TheVariants as node
 use Rattle.np_text.specs.declared.word.Phase.TheVariants as job
 use Rattle.np_text.specs.declared.word.RequestState.TheVariants as request
+use Rattle.np_text.specs.Word.{end_as_of, ending_of, node_state_of, phase_of, request_state_of}
+use Rattle.np_text.proofs.WordLemmas.{end_as_words, ending_words, node_state_words, phase_words, request_state_words}
 use Rattle.np_text.proofs.RequestLemmas.{request_of-spelled, request_of-text}
 use Rattle.np_text.proofs.SpellingLemmas.{number_of-decimal, number_of-spelled, some_injective, when_found, when_some}
+use Rattle.np_event.specs.declared.kind.TheConstants.{ATTEMPT, NUMBER, PLACE, WIDE}
 use Rattle.np_event.specs.declared.kind.Fields.{Fields}
 use Rattle.np_event.specs.declared.kind.Kind.{Kind}
 use Rattle.np_event.specs.declared.kind.Kind.TheVariants as kind
 use Rattle.np_event.specs.declared.reply.Found.{Found}
 use Rattle.np_event.specs.declared.reply.Found.TheVariants as found
-use Rattle.np_event.specs.Kind.{HasWord, end_text, ending_text, ends, endings, field_text, fixed_text, found_text, founds, lettered, number_behind, with_field}
+use Rattle.np_event.specs.Kind.{HasWord, field_text, fixed_text, found_of, found_text, in_flight_of, lettered, number_behind, told_ending, with_field}
 use Rattle.np_event.specs.ReplyForm.{told_found}
 
 -- ## The field of a kind
@@ -149,58 +151,82 @@ same_bytes xs ys same = (bytes_eq-Decides xs ys).0 same
 pub bytes_eq-refl : (xs : List ℕ) → bytes_eq xs xs ≡ true
 bytes_eq-refl xs = (bytes_eq-Decides xs xs).1 refl
 
-not_withdrawn : (p : Ending → Bool) → find p endings ≡ Some ending.Withdrawn → ⊥
-unfolding endings
-not_withdrawn p answer = cases (p ending.Served) (p ending.Lost) (p ending.Failed) answer
-  where
-    cases : (a b c : Bool) → cond a (Some ending.Served) (cond b (Some ending.Lost) (cond c (Some ending.Failed) None)) ≡ Some ending.Withdrawn → ⊥
-    cases true b c answer = cc
-    cases false true c answer = cc
-    cases false false true answer = cc
-    cases false false false answer = cc
+-- an ending that is told is no withdrawn job's
+told_ending-told : (o : Option Ending) (e : Ending) → told_ending o ≡ Some e → (o ≡ Some e) × (e ≢ ending.Withdrawn)
+told_ending-told None e answer = absurd (cc)
+told_ending-told (Some ending.Served) e answer = (answer, λ withdrawn. cc)
+told_ending-told (Some ending.Lost) e answer = (answer, λ withdrawn. cc)
+told_ending-told (Some ending.Failed) e answer = (answer, λ withdrawn. cc)
+told_ending-told (Some ending.Withdrawn) e answer = absurd (cc)
+
+told_ending-other : (e : Ending) → e ≢ ending.Withdrawn → told_ending (Some e) ≡ Some e
+told_ending-other ending.Served other = refl
+told_ending-other ending.Lost other = refl
+told_ending-other ending.Failed other = refl
+told_ending-other ending.Withdrawn other = absurd (other refl)
+
+-- what the first of two tells, and what a value of another type tells
+or-told : {A : Type 0} (o p : Option A) (x : A) (P : Type 0) → (o ≡ Some x → P) → (p ≡ Some x → P) → option_or o p ≡ Some x → P
+or-told None p x P first second is = second is
+or-told (Some y) p x P first second is = first is
+
+map-told : {A B : Type 0} (set : A → B) (o : Option A) (y : B) (P : Type 0) → ((x : A) → o ≡ Some x → set x ≡ y → P) → option_map set o ≡ Some y → P
+map-told set None y P told is = absurd (cc)
+map-told set (Some x) y P told is = told x refl (some_injective (set x) y is)
+
+-- the state that a word is read as has this word
+found_of-told : (text : List ℕ) (s : Found) → found_of text ≡ Some s → found_text s ≡ text
+unfolding found_of
+found_of-told text s =
+    let P : Type 0 = found_text s ≡ text in
+    let requests = option_map found.Request (request_state_of text) in
+    let nodes = option_map found.Node (node_state_of text) in
+    or-told (option_or (option_or requests (in_flight_of text)) nodes) (option_map found.Job (phase_of text)) s P
+    (or-told (option_or requests (in_flight_of text)) nodes s P
+    (or-told requests (in_flight_of text) s P
+    (map-told found.Request (request_state_of text) s P (λ r is same. ap found_text (sym same) ∙ request_state_words.spelled r text is))
+    (λ is. let told = when_some (bytes_eq text (codes "in-flight")) found.InFlight s is in ap found_text (sym told.1) ∙ sym (same_bytes text (codes "in-flight") told.0)))
+    (map-told found.Node (node_state_of text) s P (λ n is same. ap found_text (sym same) ∙ node_state_words.spelled n text is)))
+    (map-told found.Job (phase_of text) s P (λ p is same. ap found_text (sym same) ∙ phase_words.spelled p text is))
 
 pub with_field-told : (k : Kind) (text : List ℕ) (f g : Fields) → with_field k text f ≡ Some g → Said k text f g
 with_field-told (kind.Fixed word) text f g answer =
     let told = when_some (bytes_eq text (fixed_text word)) f g answer in
     record { says = sym (same_bytes text (fixed_text word) told.0); word = tt; rest = sym told.1 }
-with_field-told kind.Session text f g answer = said kind.Session text f _ (number_behind 115 4294967295 text) g answer (λ n found.
-    let told = number_behind-told 115 4294967295 n text (omega arith) found in record { says = told.1; word = omega arith; rest = refl })
-with_field-told kind.Node text f g answer = said kind.Node text f _ (number_behind 110 4294967295 text) g answer (λ n found.
-    let told = number_behind-told 110 4294967295 n text (omega arith) found in record { says = told.1; word = omega arith; rest = refl })
-with_field-told kind.Job text f g answer = said kind.Job text f _ (number_behind 106 4294967295 text) g answer (λ n found.
-    let told = number_behind-told 106 4294967295 n text (omega arith) found in record { says = told.1; word = omega arith; rest = refl })
-with_field-told kind.Label text f g answer = said kind.Label text f _ (number_behind 108 65535 text) g answer (λ n found.
-    let told = number_behind-told 108 65535 n text (omega arith) found in record { says = told.1; word = omega arith; rest = refl })
-with_field-told kind.Pool text f g answer = said kind.Pool text f _ (number_behind 112 65535 text) g answer (λ n found.
-    let told = number_behind-told 112 65535 n text (omega arith) found in record { says = told.1; word = omega arith; rest = refl })
-with_field-told kind.Requester text f g answer = said kind.Requester text f _ (number_behind 113 65535 text) g answer (λ n found.
-    let told = number_behind-told 113 65535 n text (omega arith) found in record { says = told.1; word = omega arith; rest = refl })
-with_field-told kind.Semaphore text f g answer = said kind.Semaphore text f _ (number_behind 120 65535 text) g answer (λ n found.
-    let told = number_behind-told 120 65535 n text (omega arith) found in record { says = told.1; word = omega arith; rest = refl })
-with_field-told kind.Attempt text f g answer = said kind.Attempt text f _ (number_of 255 text) g answer (λ n found.
-    let told = number_of-spelled 255 n text (omega arith) found in record { says = told.1; word = omega arith; rest = refl })
-with_field-told kind.Number text f g answer = said kind.Number text f _ (number_of 4294967295 text) g answer (λ n found.
-    let told = number_of-spelled 4294967295 n text (omega arith) found in record { says = told.1; word = omega arith; rest = refl })
-with_field-told kind.Server text f g answer = said kind.Server text f _ (number_of 18446744073709551615 text) g answer (λ n found.
-    let told = number_of-spelled 18446744073709551615 n text (omega arith) found in record { says = told.1; word = omega arith; rest = refl })
-with_field-told kind.Instances text f g answer = said kind.Instances text f _ (number_of 18446744073709551615 text) g answer (λ n found.
-    let told = number_of-spelled 18446744073709551615 n text (omega arith) found in record { says = told.1; word = omega arith; rest = refl })
-with_field-told kind.Cores text f g answer = said kind.Cores text f _ (number_of 18446744073709551615 text) g answer (λ n found.
-    let told = number_of-spelled 18446744073709551615 n text (omega arith) found in record { says = told.1; word = omega arith; rest = refl })
-with_field-told kind.Ram text f g answer = said kind.Ram text f _ (number_of 18446744073709551615 text) g answer (λ n found.
-    let told = number_of-spelled 18446744073709551615 n text (omega arith) found in record { says = told.1; word = omega arith; rest = refl })
+with_field-told kind.Session text f g answer = said kind.Session text f _ (number_behind 115 NUMBER text) g answer (λ n found.
+    let told = number_behind-told 115 NUMBER n text (omega arith) found in record { says = told.1; word = omega arith; rest = refl })
+with_field-told kind.Node text f g answer = said kind.Node text f _ (number_behind 110 NUMBER text) g answer (λ n found.
+    let told = number_behind-told 110 NUMBER n text (omega arith) found in record { says = told.1; word = omega arith; rest = refl })
+with_field-told kind.Job text f g answer = said kind.Job text f _ (number_behind 106 NUMBER text) g answer (λ n found.
+    let told = number_behind-told 106 NUMBER n text (omega arith) found in record { says = told.1; word = omega arith; rest = refl })
+with_field-told kind.Label text f g answer = said kind.Label text f _ (number_behind 108 PLACE text) g answer (λ n found.
+    let told = number_behind-told 108 PLACE n text (omega arith) found in record { says = told.1; word = omega arith; rest = refl })
+with_field-told kind.Pool text f g answer = said kind.Pool text f _ (number_behind 112 PLACE text) g answer (λ n found.
+    let told = number_behind-told 112 PLACE n text (omega arith) found in record { says = told.1; word = omega arith; rest = refl })
+with_field-told kind.Requester text f g answer = said kind.Requester text f _ (number_behind 113 PLACE text) g answer (λ n found.
+    let told = number_behind-told 113 PLACE n text (omega arith) found in record { says = told.1; word = omega arith; rest = refl })
+with_field-told kind.Semaphore text f g answer = said kind.Semaphore text f _ (number_behind 120 PLACE text) g answer (λ n found.
+    let told = number_behind-told 120 PLACE n text (omega arith) found in record { says = told.1; word = omega arith; rest = refl })
+with_field-told kind.Attempt text f g answer = said kind.Attempt text f _ (number_of ATTEMPT text) g answer (λ n found.
+    let told = number_of-spelled ATTEMPT n text (omega arith) found in record { says = told.1; word = omega arith; rest = refl })
+with_field-told kind.Number text f g answer = said kind.Number text f _ (number_of NUMBER text) g answer (λ n found.
+    let told = number_of-spelled NUMBER n text (omega arith) found in record { says = told.1; word = omega arith; rest = refl })
+with_field-told kind.Server text f g answer = said kind.Server text f _ (number_of WIDE text) g answer (λ n found.
+    let told = number_of-spelled WIDE n text (omega arith) found in record { says = told.1; word = omega arith; rest = refl })
+with_field-told kind.Instances text f g answer = said kind.Instances text f _ (number_of WIDE text) g answer (λ n found.
+    let told = number_of-spelled WIDE n text (omega arith) found in record { says = told.1; word = omega arith; rest = refl })
+with_field-told kind.Cores text f g answer = said kind.Cores text f _ (number_of WIDE text) g answer (λ n found.
+    let told = number_of-spelled WIDE n text (omega arith) found in record { says = told.1; word = omega arith; rest = refl })
+with_field-told kind.Ram text f g answer = said kind.Ram text f _ (number_of WIDE text) g answer (λ n found.
+    let told = number_of-spelled WIDE n text (omega arith) found in record { says = told.1; word = omega arith; rest = refl })
 with_field-told kind.Request text f g answer = said kind.Request text f _ (request_of text) g answer (λ id found.
     let told = request_of-spelled id text found in record { says = told.1; word = told.0; rest = refl })
-with_field-told kind.End text f g answer = said kind.End text f _ (find (λ e. bytes_eq text (end_text e)) ends) g answer (λ e found.
-    record { says = sym (same_bytes text (end_text e) (find-passes (λ e. bytes_eq text (end_text e)) ends e found)); word = tt; rest = refl })
-with_field-told kind.Ending text f g answer = said kind.Ending text f _ (find (λ e. bytes_eq text (ending_text e)) endings) g answer (λ e found.
-    record {
-      says = sym (same_bytes text (ending_text e) (find-passes (λ e. bytes_eq text (ending_text e)) endings e found));
-      word = λ withdrawn. not_withdrawn (λ e. bytes_eq text (ending_text e)) (found ∙ ap Some withdrawn);
-      rest = refl;
-    })
-with_field-told kind.Found text f g answer = said kind.Found text f _ (find (λ s. bytes_eq text (found_text s)) founds) g answer (λ s found.
-    record { says = sym (same_bytes text (found_text s) (find-passes (λ s. bytes_eq text (found_text s)) founds s found)); word = tt; rest = refl })
+with_field-told kind.End text f g answer = said kind.End text f _ (end_as_of text) g answer (λ e found.
+    record { says = end_as_words.spelled e text found; word = tt; rest = refl })
+with_field-told kind.Ending text f g answer = said kind.Ending text f _ (told_ending (ending_of text)) g answer (λ e found.
+    let told = told_ending-told (ending_of text) e found in record { says = ending_words.spelled e text told.0; word = told.1; rest = refl })
+with_field-told kind.Found text f g answer = said kind.Found text f _ (found_of text) g answer (λ s found.
+    record { says = found_of-told text s found; word = tt; rest = refl })
 
 -- ## Saying a word
 
@@ -211,56 +237,44 @@ told_fields f = record f { found = told_found f.found }
 number_behind-lettered : (letter max n : ℕ) → n ≤ max → max < 2 ^ 64 → number_behind letter max (lettered letter n) ≡ Some n
 number_behind-lettered letter max n most small = rw (eq-eqb letter letter refl) (number_of-decimal max n most small)
 
-find-end : (e : EndAs) → find (λ x. bytes_eq (end_text e) (end_text x)) ends ≡ Some e
-unfolding ends
-find-end end.Used = refl
-find-end end.Hold = refl
-
-find-ending : (e : Ending) → e ≢ ending.Withdrawn → find (λ x. bytes_eq (ending_text e) (ending_text x)) endings ≡ Some e
-unfolding endings
-find-ending ending.Served other = refl
-find-ending ending.Lost other = refl
-find-ending ending.Failed other = refl
-find-ending ending.Withdrawn other = absurd (other refl)
-
-find-found : (s : Found) → find (λ x. bytes_eq (found_text s) (found_text x)) founds ≡ Some (told_found s)
-unfolding founds
-find-found (found.Request request.Requested) = refl
-find-found (found.Request request.Pending) = refl
-find-found (found.Request request.Fulfilled) = refl
-find-found (found.Request request.Failed) = refl
-find-found (found.Node node.Building) = refl
-find-found (found.Node node.Ready) = refl
-find-found (found.Node node.InUse) = refl
-find-found (found.Node node.Used) = refl
-find-found (found.Node node.Hold) = refl
-find-found (found.Node node.Deleting) = refl
-find-found (found.Node node.Failed) = refl
-find-found found.InFlight = refl
-find-found (found.Job job.New) = refl
-find-found (found.Job job.Asked) = refl
-find-found (found.Job job.Using) = refl
-find-found (found.Job job.Over) = refl
+found_of-text : (s : Found) → found_of (found_text s) ≡ Some (told_found s)
+unfolding found_of
+found_of-text (found.Request request.Requested) = refl
+found_of-text (found.Request request.Pending) = refl
+found_of-text (found.Request request.Fulfilled) = refl
+found_of-text (found.Request request.Failed) = refl
+found_of-text (found.Node node.Building) = refl
+found_of-text (found.Node node.Ready) = refl
+found_of-text (found.Node node.InUse) = refl
+found_of-text (found.Node node.Used) = refl
+found_of-text (found.Node node.Hold) = refl
+found_of-text (found.Node node.Deleting) = refl
+found_of-text (found.Node node.Failed) = refl
+found_of-text found.InFlight = refl
+found_of-text (found.Job job.New) = refl
+found_of-text (found.Job job.Asked) = refl
+found_of-text (found.Job job.Using) = refl
+found_of-text (found.Job job.Over) = refl
 
 pub with_field-text : (k : Kind) (f g : Fields) → HasWord k f → with_field k (field_text k f) g ≡ Some (copy k (told_fields f) g)
 with_field-text (kind.Fixed word) f g has = rw (bytes_eq-refl (fixed_text word)) refl
-with_field-text kind.Session f g has = ap (option_map (λ n. record g { session = record { 0 = n } })) (number_behind-lettered 115 4294967295 f.session.0 (omega arith) (omega arith))
-with_field-text kind.Node f g has = ap (option_map (λ n. record g { node = record { 0 = n } })) (number_behind-lettered 110 4294967295 f.node.0 (omega arith) (omega arith))
-with_field-text kind.Job f g has = ap (option_map (λ n. record g { job = record { 0 = n } })) (number_behind-lettered 106 4294967295 f.job.0 (omega arith) (omega arith))
-with_field-text kind.Label f g has = ap (option_map (λ n. record g { label = record { 0 = n } })) (number_behind-lettered 108 65535 f.label.0 (omega arith) (omega arith))
-with_field-text kind.Pool f g has = ap (option_map (λ n. record g { pool = record { 0 = n } })) (number_behind-lettered 112 65535 f.pool.0 (omega arith) (omega arith))
-with_field-text kind.Requester f g has = ap (option_map (λ n. record g { requester = record { 0 = n } })) (number_behind-lettered 113 65535 f.requester.0 (omega arith) (omega arith))
-with_field-text kind.Semaphore f g has = ap (option_map (λ n. record g { semaphore = record { 0 = n } })) (number_behind-lettered 120 65535 f.semaphore.0 (omega arith) (omega arith))
-with_field-text kind.Attempt f g has = ap (option_map (λ n. record g { attempt = n })) (number_of-decimal 255 f.attempt (omega arith) (omega arith))
-with_field-text kind.Number f g has = ap (option_map (λ n. record g { number = n })) (number_of-decimal 4294967295 f.number (omega arith) (omega arith))
-with_field-text kind.Server f g has = ap (option_map (λ n. record g { server = n })) (number_of-decimal 18446744073709551615 f.server (omega arith) (omega arith))
-with_field-text kind.Instances f g has = ap (option_map (λ n. record g { instances = n })) (number_of-decimal 18446744073709551615 f.instances (omega arith) (omega arith))
-with_field-text kind.Cores f g has = ap (option_map (λ n. record g { cores = n })) (number_of-decimal 18446744073709551615 f.cores (omega arith) (omega arith))
-with_field-text kind.Ram f g has = ap (option_map (λ n. record g { ram = n })) (number_of-decimal 18446744073709551615 f.ram (omega arith) (omega arith))
+with_field-text kind.Session f g has = ap (option_map (λ n. record g { session = record { 0 = n } })) (number_behind-lettered 115 NUMBER f.session.0 (omega arith) (omega arith))
+with_field-text kind.Node f g has = ap (option_map (λ n. record g { node = record { 0 = n } })) (number_behind-lettered 110 NUMBER f.node.0 (omega arith) (omega arith))
+with_field-text kind.Job f g has = ap (option_map (λ n. record g { job = record { 0 = n } })) (number_behind-lettered 106 NUMBER f.job.0 (omega arith) (omega arith))
+with_field-text kind.Label f g has = ap (option_map (λ n. record g { label = record { 0 = n } })) (number_behind-lettered 108 PLACE f.label.0 (omega arith) (omega arith))
+with_field-text kind.Pool f g has = ap (option_map (λ n. record g { pool = record { 0 = n } })) (number_behind-lettered 112 PLACE f.pool.0 (omega arith) (omega arith))
+with_field-text kind.Requester f g has = ap (option_map (λ n. record g { requester = record { 0 = n } })) (number_behind-lettered 113 PLACE f.requester.0 (omega arith) (omega arith))
+with_field-text kind.Semaphore f g has = ap (option_map (λ n. record g { semaphore = record { 0 = n } })) (number_behind-lettered 120 PLACE f.semaphore.0 (omega arith) (omega arith))
+with_field-text kind.Attempt f g has = ap (option_map (λ n. record g { attempt = n })) (number_of-decimal ATTEMPT f.attempt (omega arith) (omega arith))
+with_field-text kind.Number f g has = ap (option_map (λ n. record g { number = n })) (number_of-decimal NUMBER f.number (omega arith) (omega arith))
+with_field-text kind.Server f g has = ap (option_map (λ n. record g { server = n })) (number_of-decimal WIDE f.server (omega arith) (omega arith))
+with_field-text kind.Instances f g has = ap (option_map (λ n. record g { instances = n })) (number_of-decimal WIDE f.instances (omega arith) (omega arith))
+with_field-text kind.Cores f g has = ap (option_map (λ n. record g { cores = n })) (number_of-decimal WIDE f.cores (omega arith) (omega arith))
+with_field-text kind.Ram f g has = ap (option_map (λ n. record g { ram = n })) (number_of-decimal WIDE f.ram (omega arith) (omega arith))
 with_field-text kind.Request f g has = ap (option_map (λ id. record g { request = id })) (request_of-text f.request has)
-with_field-text kind.End f g has = ap (option_map (λ e. record g { end = e })) (find-end f.end)
-with_field-text kind.Ending f g has = ap (option_map (λ e. record g { ending = e })) (find-ending f.ending has)
-with_field-text kind.Found f g has = ap (option_map (λ s. record g { found = s })) (find-found f.found)
+with_field-text kind.End f g has = ap (option_map (λ e. record g { end = e })) (end_as_words.reads_back f.end)
+with_field-text kind.Ending f g has = ap (λ o. option_map (λ e. record g { ending = e }) (told_ending o)) (ending_words.reads_back f.ending) ∙ ap (option_map (λ e. record g { ending = e })) (told_ending-other f.ending has)
+with_field-text kind.Found f g has = ap (option_map (λ s. record g { found = s })) (found_of-text f.found)
 
 -- ## A word fits where some value is said so
 

@@ -7,3 +7,4 @@ pub mod EventLemmas
 pub mod ReplyLemmas
 pub mod EntryLemmas
 pub mod SideLemmas
+pub mod FaultLemmas

@@ -18,14 +18,10 @@ use Rattle.np_event.specs.declared.reply.Refusal.{Refusal}
 use Rattle.np_event.specs.declared.reply.Refusal.TheVariants as no
 use Rattle.np_event.specs.declared.reply.Reply.{Reply}
 use Rattle.np_event.specs.declared.reply.Reply.TheVariants as reply
-use Rattle.np_event.specs.declared.reply_form.DoneForm.{DoneForm}
-use Rattle.np_event.specs.declared.reply_form.DoneForm.TheVariants as form
-use Rattle.np_event.specs.declared.reply_form.RefusalForm.{RefusalForm}
-use Rattle.np_event.specs.declared.reply_form.RefusalForm.TheVariants as refusal
 use Rattle.np_event.specs.Kind.{field_text}
 use Rattle.np_event.specs.Line.{HasReplyLine, done_line, done_with, is_headed_done, is_headed_refusal, refusal_in, refusal_line, refusal_with, reply_in, reply_line, told}
 use Rattle.np_event.specs.Reading.{HaveWords, row_fields, row_line}
-use Rattle.np_event.specs.ReplyForm.{done_forms, done_of, done_parts, done_row, refusal_forms, refusal_of, refusal_parts, refusal_row, told_found}
+use Rattle.np_event.specs.ReplyForm.{done_forms, done_of, done_fields, done_row, refusal_forms, refusal_of, refusal_fields, refusal_row, told_found}
 use Rattle.np_event.specs.Row.{blank}
 use Rattle.np_event.specs.Words.{is_space, words_of}
 use Rattle.np_event.proofs.EventLemmas.{same_words}
@@ -35,71 +31,68 @@ use Rattle.np_event.proofs.SpellingLemmas.{inside-row_line, is_inside, is_plain,
 
 -- ## Row by row, by computation
 
-done_apart : (F : DoneForm) → are_apart (done_row F).kinds ≡ true
-done_apart form.Plain = refl
+done_apart : (F : Done) → are_apart (done_row F).kinds ≡ true
+done_apart done.Plain = refl
 done_apart F = refl
 
-done_plain : (F : DoneForm) → list_all is_plain (done_row F).head ≡ true
-done_plain form.Plain = refl
+done_plain : (F : Done) → list_all is_plain (done_row F).head ≡ true
+done_plain done.Plain = refl
 done_plain F = refl
 
 -- no done row begins as a refusal
-done_not_refused : (F : DoneForm) → bytes_eq (done_row F).head (codes "refused") ≡ false
-done_not_refused form.Plain = refl
+done_not_refused : (F : Done) → bytes_eq (done_row F).head (codes "refused") ≡ false
+done_not_refused done.Plain = refl
 done_not_refused F = refl
 
-line_of_done : (F : DoneForm) (f : Fields) → done_line (done_of F f) ≡ row_line (done_row F) f
-line_of_done form.Plain f = refl
+line_of_done : (F : Done) (f : Fields) → done_line (done_of F f) ≡ row_line (done_row F) f
+line_of_done done.Plain f = refl
 line_of_done F f = refl
 
-has_line_of_done : (F : DoneForm) (f : Fields) → HaveWords (done_row F).kinds f → HasReplyLine (reply.Done (done_of F f))
-has_line_of_done form.Plain f has = has
+has_line_of_done : (F : Done) (f : Fields) → HaveWords (done_row F).kinds f → HasReplyLine (reply.Done (done_of F f))
+has_line_of_done done.Plain f has = has
 has_line_of_done F f has = has
 
-done_again : (d : Done) → done_of (done_parts d).0 (overlay (done_row (done_parts d).0).kinds (told_fields (done_parts d).1) blank) ≡ d
+done_again : (d : Done) → done_of d (overlay (done_row d).kinds (told_fields (done_fields d)) blank) ≡ d
 done_again done.Plain = refl
 done_again d = refl
 
-done_form_again : (F : DoneForm) → find (is_headed_done (done_row F).head) done_forms ≡ Some F
+-- the first word of a reply finds its form
+done_form_again : (F : Done) (rest : List (List ℕ)) → done_with rest (find (is_headed_done (done_row F).head) done_forms) ≡ done_with rest (Some F)
 unfolding done_forms
-done_form_again form.Plain = refl
-done_form_again F = refl
+done_form_again done.Plain rest = refl
+done_form_again F rest = refl
 
-refusal_apart : (F : RefusalForm) → are_apart (refusal_row F).kinds ≡ true
-refusal_apart refusal.NoSession = refl
+refusal_apart : (F : Refusal) → are_apart (refusal_row F).kinds ≡ true
+refusal_apart no.NoSession = refl
 refusal_apart F = refl
 
-refusal_plain : (F : RefusalForm) → list_all is_plain (refusal_row F).head ≡ true
-refusal_plain refusal.NoSession = refl
+refusal_plain : (F : Refusal) → list_all is_plain (refusal_row F).head ≡ true
+refusal_plain no.NoSession = refl
 refusal_plain F = refl
 
-line_of_refusal : (F : RefusalForm) (f : Fields) → refusal_line (refusal_of F f) ≡ row_line (refusal_row F) f
-line_of_refusal refusal.NoSession f = refl
+line_of_refusal : (F : Refusal) (f : Fields) → refusal_line (refusal_of F f) ≡ row_line (refusal_row F) f
+line_of_refusal no.NoSession f = refl
 line_of_refusal F f = refl
 
-has_line_of_refusal : (F : RefusalForm) (f : Fields) → HaveWords (refusal_row F).kinds f → HasReplyLine (reply.Refused (refusal_of F f))
-has_line_of_refusal refusal.NoSession f has = has
+has_line_of_refusal : (F : Refusal) (f : Fields) → HaveWords (refusal_row F).kinds f → HasReplyLine (reply.Refused (refusal_of F f))
+has_line_of_refusal no.NoSession f has = has
 has_line_of_refusal F f has = has
 
-refusal_again : (r : Refusal) → reply.Refused (refusal_of (refusal_parts r).0 (overlay (refusal_row (refusal_parts r).0).kinds (told_fields (refusal_parts r).1) blank)) ≡ told (reply.Refused r)
+refusal_again : (r : Refusal) → reply.Refused (refusal_of r (overlay (refusal_row r).kinds (told_fields (refusal_fields r)) blank)) ≡ told (reply.Refused r)
 refusal_again no.NoSession = refl
 refusal_again r = refl
 
-refusal_form_again : (F : RefusalForm) → find (is_headed_refusal (refusal_row F).head) refusal_forms ≡ Some F
+refusal_form_again : (F : Refusal) (rest : List (List ℕ)) → refusal_with rest (find (is_headed_refusal (refusal_row F).head) refusal_forms) ≡ refusal_with rest (Some F)
 unfolding refusal_forms
-refusal_form_again refusal.NoSession = refl
-refusal_form_again F = refl
-
-told_found-told_found : (s : Found) → told_found (told_found s) ≡ told_found s
-told_found-told_found (found.Node node.Failed) = refl
-told_found-told_found s = refl
+refusal_form_again no.NoSession rest = refl
+refusal_form_again F rest = refl
 
 -- ## Words
 
-words_of-done : (F : DoneForm) (f : Fields) → HaveWords (done_row F).kinds f → words_of (row_line (done_row F) f) ≡ (done_row F).head ∷ map (λ k. field_text k f) (done_row F).kinds
+words_of-done : (F : Done) (f : Fields) → HaveWords (done_row F).kinds f → words_of (row_line (done_row F) f) ≡ (done_row F).head ∷ map (λ k. field_text k f) (done_row F).kinds
 words_of-done F f has = words_of-spaced (done_row F).head (done_row F).kinds f (done_plain F) has
 
-words_of-refused : (F : RefusalForm) (f : Fields) → HaveWords (refusal_row F).kinds f
+words_of-refused : (F : Refusal) (f : Fields) → HaveWords (refusal_row F).kinds f
     → words_of (codes "refused " ++ row_line (refusal_row F) f) ≡ codes "refused" ∷ (refusal_row F).head ∷ map (λ k. field_text k f) (refusal_row F).kinds
 words_of-refused F f has =
     slice_split_at is_space (codes "refused") 32 (row_line (refusal_row F) f) (no_spaces (codes "refused") refl) refl
@@ -110,21 +103,19 @@ words_of-refused F f has =
 pub reply_in-words : (r : Reply) → HasReplyLine r → reply_in (words_of (reply_line r)) ≡ Some (told r)
 unfolding reply_in
 reply_in-words (reply.Done d) has =
-    let F = (done_parts d).0 in
-    let f = (done_parts d).1 in
-    let texts = map (λ k. field_text k f) (done_row F).kinds in
-    ap reply_in (words_of-done F f has)
-    ∙ ap (λ b. if b then refusal_in texts else done_with texts (find (is_headed_done (done_row F).head) done_forms)) (done_not_refused F)
-    ∙ ap (done_with texts) (done_form_again F)
-    ∙ ap (λ o. option_map (λ g. reply.Done (done_of F g)) (result_ok o)) (row_fields-texts (done_row F).kinds f has)
+    let f = done_fields d in
+    let texts = map (λ k. field_text k f) (done_row d).kinds in
+    ap reply_in (words_of-done d f has)
+    ∙ ap (λ b. if b then refusal_in texts else done_with texts (find (is_headed_done (done_row d).head) done_forms)) (done_not_refused d)
+    ∙ done_form_again d texts
+    ∙ ap (λ o. option_map (λ g. reply.Done (done_of d g)) (result_ok o)) (row_fields-texts (done_row d).kinds f has)
     ∙ ap (λ x. Some (reply.Done x)) (done_again d)
 reply_in-words (reply.Refused r) has =
-    let F = (refusal_parts r).0 in
-    let f = (refusal_parts r).1 in
-    let texts = map (λ k. field_text k f) (refusal_row F).kinds in
-    ap reply_in (words_of-refused F f has)
-    ∙ ap (refusal_with texts) (refusal_form_again F)
-    ∙ ap (λ o. option_map (λ g. reply.Refused (refusal_of F g)) (result_ok o)) (row_fields-texts (refusal_row F).kinds f has)
+    let f = refusal_fields r in
+    let texts = map (λ k. field_text k f) (refusal_row r).kinds in
+    ap reply_in (words_of-refused r f has)
+    ∙ refusal_form_again r texts
+    ∙ ap (λ o. option_map (λ g. reply.Refused (refusal_of r g)) (result_ok o)) (row_fields-texts (refusal_row r).kinds f has)
     ∙ ap Some (refusal_again r)
 
 -- ## From a line to its reply
@@ -138,7 +129,7 @@ pub record Tells (words : List (List ℕ)) (r : Reply) : Type 0 where
   pub has : HasReplyLine r
   pub says : words_of (reply_line r) ≡ words
 
-done_told : (first : List ℕ) (rest : List (List ℕ)) (o : Option DoneForm) (r : Reply) → find (is_headed_done first) done_forms ≡ o → done_with rest o ≡ Some r → Tells (first ∷ rest) r
+done_told : (first : List ℕ) (rest : List (List ℕ)) (o : Option Done) (r : Reply) → find (is_headed_done first) done_forms ≡ o → done_with rest o ≡ Some r → Tells (first ∷ rest) r
 done_told first rest None r is answer = absurd (cc)
 done_told first rest (Some F) r is answer =
     let read = fields_told (λ g. reply.Done (done_of F g)) (row_fields (done_row F).kinds rest) r answer in
@@ -151,7 +142,7 @@ done_told first rest (Some F) r is answer =
           ∙ ap (λ h. h ∷ map (λ k. field_text k f) (done_row F).kinds) (sym head) ∙ ap (λ texts. first ∷ texts) fields.0;
     })
 
-refusal_told : (first : List ℕ) (rest : List (List ℕ)) (o : Option RefusalForm) (r : Reply) → find (is_headed_refusal first) refusal_forms ≡ o → refusal_with rest o ≡ Some r
+refusal_told : (first : List ℕ) (rest : List (List ℕ)) (o : Option Refusal) (r : Reply) → find (is_headed_refusal first) refusal_forms ≡ o → refusal_with rest o ≡ Some r
     → Tells (codes "refused" ∷ first ∷ rest) r
 refusal_told first rest None r is answer = absurd (cc)
 refusal_told first rest (Some F) r is answer =
@@ -183,9 +174,8 @@ pub reply_in-spelled : (line : List ℕ) (r : Reply) → reply_in (words_of line
 reply_in-spelled line r answer = let tells = reply_in-told (words_of line) r answer in (tells.has, same_words (reply_line r) line tells.says)
 
 pub inside-reply_line : (r : Reply) → HasReplyLine r → list_all is_inside (reply_line r) ≡ true
-inside-reply_line (reply.Done d) has = inside-row_line (done_row (done_parts d).0) (done_parts d).1 (done_plain (done_parts d).0) has
-inside-reply_line (reply.Refused r) has =
-    inside-row_line (refusal_row (refusal_parts r).0) (refusal_parts r).1 (refusal_plain (refusal_parts r).0) has
+inside-reply_line (reply.Done d) has = inside-row_line (done_row d) (done_fields d) (done_plain d) has
+inside-reply_line (reply.Refused r) has = inside-row_line (refusal_row r) (refusal_fields r) (refusal_plain r) has
 
 -- what a line tells has the same line
 pub reply_line-told : (r : Reply) → reply_line (told r) ≡ reply_line r

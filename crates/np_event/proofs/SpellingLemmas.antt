@@ -11,7 +11,7 @@ use Rattle.std.proofs.lemmas.List.{append-nil}
 use Rattle.std.proofs.lemmas.List.Elements.{All-cons, All-nil}
 use Rattle.std.proofs.lemmas.List.Splits.{slice_split_at, slice_split_none}
 use Rattle.np_text.specs.Lines.{is_line}
-use Rattle.np_text.specs.Number.{padded, ten_digits_of}
+use Rattle.np_text.specs.Number.{ten_digits_of}
 use Rattle.np_text.specs.Request.{HasText, request_text_of}
 use Rattle.np_text.specs.declared.id.RequestId.{RequestId}
 use Rattle.np_text.specs.declared.word.EndAs.{EndAs}
@@ -21,7 +21,11 @@ use Rattle.np_text.specs.declared.word.Ending.TheVariants as ending
 use Rattle.np_text.specs.declared.word.NodeState.TheVariants as node
 use Rattle.np_text.specs.declared.word.Phase.TheVariants as job
 use Rattle.np_text.specs.declared.word.RequestState.TheVariants as request
-use Rattle.np_text.proofs.SpellingLemmas.{both_true, digits_within-padded, digits_within-told, model}
+use Rattle.np_text.specs.declared.word.ReasonKind.TheVariants as reason
+use Rattle.np_text.specs.declared.word.RoleKind.TheVariants as role
+use Rattle.np_text.specs.Word.{end_as_word, ending_word}
+use Rattle.np_text.proofs.OrderLemmas.{all_ascii_digits-ten}
+use Rattle.np_text.proofs.SpellingLemmas.{both_true, model}
 use Rattle.np_event.specs.declared.kind.Fields.{Fields}
 use Rattle.np_event.specs.declared.kind.Fixed.{Fixed}
 use Rattle.np_event.specs.declared.kind.Fixed.TheVariants as fixed
@@ -29,7 +33,7 @@ use Rattle.np_event.specs.declared.kind.Kind.{Kind}
 use Rattle.np_event.specs.declared.kind.Kind.TheVariants as kind
 use Rattle.np_event.specs.declared.reply.Found.{Found}
 use Rattle.np_event.specs.declared.reply.Found.TheVariants as found
-use Rattle.np_event.specs.Kind.{HasWord, end_text, ending_text, field_text, fixed_text, found_text}
+use Rattle.np_event.specs.Kind.{HasWord, field_text, fixed_text, found_text}
 use Rattle.np_event.specs.Reading.{HaveWords, row_line}
 use Rattle.np_event.specs.Row.{Row}
 use Rattle.np_event.specs.Words.{is_space, words_of}
@@ -56,27 +60,29 @@ plain-digits (c ∷ cs) digits =
 plain-decimal : (n : ℕ) → n < 2 ^ 64 → list_all is_plain (decimal n) ≡ true
 plain-decimal n small = plain-digits (decimal n) (digits_decimal model n small)
 
-plain-ten : (n : ℕ) → n < 2 ^ 32 → list_all is_plain (ten_digits_of n) ≡ true
-unfolding ten_digits_of
-plain-ten n small =
-    plain-digits (padded 10 n) (digits_within-told 4294967295 n (padded 10 n) (digits_within-padded 10 4294967295 n (omega arith) (omega arith))).0
+plain-ten : (n : ℕ) → list_all is_plain (ten_digits_of n) ≡ true
+plain-ten n = plain-digits (ten_digits_of n) (all_ascii_digits-ten n)
 
 plain-request : (id : RequestId) → HasText id → list_all is_plain (request_text_of id) ≡ true
 unfolding request_text_of
 plain-request id has =
     let most = has.most in
-    let back : list_all is_plain (45 ∷ ten_digits_of id.seq) ≡ true = plain-ten id.seq has.sequence in
+    let back : list_all is_plain (45 ∷ ten_digits_of id.seq) ≡ true = plain-ten id.seq in
     list_all-append is_plain (decimal id.priority) (45 ∷ ten_digits_of id.seq) (plain-decimal id.priority (omega arith)) back
 
 plain-fixed : (word : Fixed) → list_all is_plain (fixed_text word) ≡ true
-plain-fixed fixed.Launcher = refl
-plain-fixed word = refl
+plain-fixed (fixed.Role role.Launcher) = refl
+plain-fixed (fixed.Role kind) = refl
+plain-fixed (fixed.Reason reason.NoLabel) = refl
+plain-fixed (fixed.Reason kind) = refl
+plain-fixed fixed.Ok = refl
+plain-fixed fixed.Failed = refl
 
-plain-end : (e : EndAs) → list_all is_plain (end_text e) ≡ true
+plain-end : (e : EndAs) → list_all is_plain (end_as_word e) ≡ true
 plain-end end.Used = refl
 plain-end e = refl
 
-plain-ending : (e : Ending) → list_all is_plain (ending_text e) ≡ true
+plain-ending : (e : Ending) → list_all is_plain (ending_word e) ≡ true
 plain-ending ending.Served = refl
 plain-ending e = refl
 

@@ -1,23 +1,26 @@
 -- The forms of event lines, one row for each (own).
-use Rattle.std.specs.Prelude.{ℕ, List, [], ◌∷◌, codes, Option, Some, None}
+use Rattle.std.specs.Prelude.{List, [], ◌∷◌, codes}
 use Rattle.np_text.specs.declared.word.Reason.TheVariants as reason
+use Rattle.np_text.specs.declared.word.ReasonKind.TheVariants as reason_kind
+use Rattle.np_text.specs.declared.word.RoleKind.TheVariants as role_kind
 use Rattle.np_text.specs.declared.id.Role.TheVariants as role
 use Rattle.np_event.specs.declared.event.Event.{Event}
 use Rattle.np_event.specs.declared.event.Event.TheVariants as ev
 use Rattle.np_event.specs.declared.event.Outcome.TheVariants as outcome
 use Rattle.np_event.specs.declared.event_form.EventForm.{EventForm}
 use Rattle.np_event.specs.declared.event_form.EventForm.TheVariants as form
+use Rattle.np_event.specs.declared.event_form.TheConstants.{EVENT_FORMS}
 use Rattle.np_event.specs.declared.kind.Fields.{Fields}
 use Rattle.np_event.specs.declared.kind.Fixed.TheVariants as fixed
 use Rattle.np_event.specs.declared.kind.Kind.TheVariants as kind
-use Rattle.np_event.specs.Row.{Row, row, blank}
+use Rattle.np_event.specs.Row.{Row, row, decided, blank}
 
 -- the first word, and what stands behind it
 abbrev pub event_row : EventForm → Row
 event_row form.Tick = row (codes "tick") []
-event_row form.OpenLauncher = row (codes "open") (kind.Fixed fixed.Launcher ∷ kind.Pool ∷ [])
-event_row form.OpenJanitor = row (codes "open") (kind.Fixed fixed.Janitor ∷ kind.Pool ∷ [])
-event_row form.OpenRequester = row (codes "open") (kind.Fixed fixed.Requester ∷ kind.Requester ∷ [])
+event_row form.OpenLauncher = row (codes "open") (kind.Fixed (fixed.Role role_kind.Launcher) ∷ kind.Pool ∷ [])
+event_row form.OpenJanitor = row (codes "open") (kind.Fixed (fixed.Role role_kind.Janitor) ∷ kind.Pool ∷ [])
+event_row form.OpenRequester = row (codes "open") (kind.Fixed (fixed.Role role_kind.Requester) ∷ kind.Requester ∷ [])
 event_row form.Crash = row (codes "crash") (kind.Session ∷ [])
 event_row form.Expire = row (codes "expire") (kind.Session ∷ [])
 event_row form.Register = row (codes "register") (kind.Session ∷ [])
@@ -26,14 +29,14 @@ event_row form.MinReady = row (codes "min-ready") (kind.Session ∷ kind.Label �
 event_row form.LockRequest = row (codes "lock-request") (kind.Session ∷ kind.Request ∷ [])
 event_row form.UnlockRequest = row (codes "unlock-request") (kind.Session ∷ kind.Request ∷ [])
 event_row form.Accept = row (codes "accept") (kind.Session ∷ kind.Request ∷ [])
-event_row form.DeclineNoLabel = row (codes "decline") (kind.Session ∷ kind.Request ∷ kind.Fixed fixed.NoLabel ∷ kind.Label ∷ [])
-event_row form.DeclineNeverFits = row (codes "decline") (kind.Session ∷ kind.Request ∷ kind.Fixed fixed.NeverFits ∷ [])
-event_row form.DeclineSpent = row (codes "decline") (kind.Session ∷ kind.Request ∷ kind.Fixed fixed.Spent ∷ kind.Node ∷ [])
+event_row form.DeclineNoLabel = decided 3 (codes "decline") (kind.Session ∷ kind.Request ∷ kind.Fixed (fixed.Reason reason_kind.NoLabel) ∷ kind.Label ∷ [])
+event_row form.DeclineNeverFits = decided 3 (codes "decline") (kind.Session ∷ kind.Request ∷ kind.Fixed (fixed.Reason reason_kind.NeverFits) ∷ [])
+event_row form.DeclineSpent = decided 3 (codes "decline") (kind.Session ∷ kind.Request ∷ kind.Fixed (fixed.Reason reason_kind.Spent) ∷ kind.Node ∷ [])
 event_row form.TakeReady = row (codes "take-ready") (kind.Session ∷ kind.Request ∷ kind.Node ∷ [])
 event_row form.Create = row (codes "create") (kind.Session ∷ kind.Request ∷ [])
 event_row form.Start = row (codes "start") (kind.Session ∷ kind.Node ∷ [])
-event_row form.DoneOk = row (codes "done") (kind.Session ∷ kind.Node ∷ kind.Attempt ∷ kind.Fixed fixed.Ok ∷ kind.Server ∷ [])
-event_row form.DoneFailed = row (codes "done") (kind.Session ∷ kind.Node ∷ kind.Attempt ∷ kind.Fixed fixed.Failed ∷ [])
+event_row form.DoneOk = decided 4 (codes "done") (kind.Session ∷ kind.Node ∷ kind.Attempt ∷ kind.Fixed fixed.Ok ∷ kind.Server ∷ [])
+event_row form.DoneFailed = decided 4 (codes "done") (kind.Session ∷ kind.Node ∷ kind.Attempt ∷ kind.Fixed fixed.Failed ∷ [])
 event_row form.Fulfil = row (codes "fulfil") (kind.Session ∷ kind.Request ∷ [])
 event_row form.LockNode = row (codes "lock-node") (kind.Session ∷ kind.Node ∷ [])
 event_row form.UnlockNode = row (codes "unlock-node") (kind.Session ∷ kind.Node ∷ [])
@@ -49,15 +52,6 @@ event_row form.Reset = row (codes "reset") (kind.Session ∷ kind.Request ∷ []
 event_row form.FreeNode = row (codes "free-node") (kind.Session ∷ kind.Node ∷ [])
 event_row form.FailDeclined = row (codes "fail-declined") (kind.Session ∷ kind.Request ∷ [])
 event_row form.Sweep = row (codes "sweep") (kind.Session ∷ kind.Node ∷ kind.Server ∷ [])
-
--- which of the words behind the first chooses among forms of different counts
-abbrev pub decided_at : EventForm → Option ℕ
-decided_at form.DeclineNoLabel = Some 3
-decided_at form.DeclineNeverFits = Some 3
-decided_at form.DeclineSpent = Some 3
-decided_at form.DoneOk = Some 4
-decided_at form.DoneFailed = Some 4
-decided_at form = None
 
 -- the event of a form with these fields
 abbrev pub event_of : EventForm → Fields → Event
@@ -138,4 +132,4 @@ event_parts (ev.OpenSession role.Reaper) = (form.Tick, blank)
 
 -- all forms; where no form with a line's first word agrees with it, the first of them is taken
 unfoldable pub event_forms : List EventForm
-event_forms = form.Tick ∷ form.OpenLauncher ∷ form.OpenJanitor ∷ form.OpenRequester ∷ form.Crash ∷ form.Expire ∷ form.Register ∷ form.Submit ∷ form.MinReady ∷ form.LockRequest ∷ form.UnlockRequest ∷ form.Accept ∷ form.DeclineNoLabel ∷ form.DeclineNeverFits ∷ form.DeclineSpent ∷ form.TakeReady ∷ form.Create ∷ form.Start ∷ form.DoneOk ∷ form.DoneFailed ∷ form.Fulfil ∷ form.LockNode ∷ form.UnlockNode ∷ form.Acquire ∷ form.Take ∷ form.EndNode ∷ form.Finish ∷ form.Withdraw ∷ form.Release ∷ form.MarkDeleting ∷ form.Gone ∷ form.Reset ∷ form.FreeNode ∷ form.FailDeclined ∷ form.Sweep ∷ []
+event_forms = EVENT_FORMS

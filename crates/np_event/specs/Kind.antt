@@ -1,18 +1,14 @@
 -- What may stand at a place of a line, and its one spelling (own).
 use Rattle.std.specs.Prelude.{◌≢◌, ℕ, ◌^◌, ◌<◌, ◌==◌, if◌then◌else◌, List, [], ◌∷◌, codes, Option, Some, None}
 use Rattle.std.specs.Fmt.{decimal}
-use Rattle.std.specs.List.{find}
-use Rattle.std.specs.Option.{option_map}
+use Rattle.std.specs.Option.{option_map, option_or}
 use Rattle.std.specs.Str.{bytes_eq}
 use Rattle.np_text.specs.Number.{number_of}
 use Rattle.np_text.specs.Request.{HasText, request_of, request_text_of}
-use Rattle.np_text.specs.declared.word.EndAs.{EndAs}
-use Rattle.np_text.specs.declared.word.EndAs.TheVariants as end
 use Rattle.np_text.specs.declared.word.Ending.{Ending}
 use Rattle.np_text.specs.declared.word.Ending.TheVariants as ending
-use Rattle.np_text.specs.declared.word.NodeState.TheVariants as node
-use Rattle.np_text.specs.declared.word.Phase.TheVariants as job
-use Rattle.np_text.specs.declared.word.RequestState.TheVariants as request
+use Rattle.np_text.specs.Word.{end_as_of, end_as_word, ending_of, ending_word, node_state_of, node_state_word, phase_of, phase_word, reason_kind_word, request_state_of, request_state_word, role_kind_word}
+use Rattle.np_event.specs.declared.kind.TheConstants.{ATTEMPT, NUMBER, PLACE, WIDE}
 use Rattle.np_event.specs.declared.kind.Fields.{Fields}
 use Rattle.np_event.specs.declared.kind.Fixed.{Fixed}
 use Rattle.np_event.specs.declared.kind.Fixed.TheVariants as fixed
@@ -25,59 +21,29 @@ use Rattle.np_event.specs.declared.reply.Found.TheVariants as found
 
 -- the words that tell the forms of an event apart
 abbrev pub fixed_text : Fixed → List ℕ
-fixed_text fixed.Launcher = codes "launcher"
-fixed_text fixed.Janitor = codes "janitor"
-fixed_text fixed.Requester = codes "requester"
-fixed_text fixed.NoLabel = codes "no-label"
-fixed_text fixed.NeverFits = codes "never-fits"
-fixed_text fixed.Spent = codes "spent"
+fixed_text (fixed.Role kind) = role_kind_word kind
+fixed_text (fixed.Reason kind) = reason_kind_word kind
 fixed_text fixed.Ok = codes "ok"
 fixed_text fixed.Failed = codes "failed"
 
--- what a node is left as (Nodepool's states)
-abbrev pub end_text : EndAs → List ℕ
-end_text end.Used = codes "used"
-end_text end.Hold = codes "hold"
-
--- how a job ended (own)
-abbrev pub ending_text : Ending → List ℕ
-ending_text ending.Served = codes "served"
-ending_text ending.Lost = codes "lost"
-ending_text ending.Failed = codes "failed"
-ending_text ending.Withdrawn = codes "withdrawn"
-
--- the state that a refusal found (Nodepool's words for requests and nodes)
+-- the state that a refusal found: a request's, a node's or a job's; a building node with a launch running is in flight
 abbrev pub found_text : Found → List ℕ
-found_text (found.Request request.Requested) = codes "requested"
-found_text (found.Request request.Pending) = codes "pending"
-found_text (found.Request request.Fulfilled) = codes "fulfilled"
-found_text (found.Request request.Failed) = codes "failed"
-found_text (found.Node node.Building) = codes "building"
+found_text (found.Request state) = request_state_word state
 found_text found.InFlight = codes "in-flight"
-found_text (found.Node node.Ready) = codes "ready"
-found_text (found.Node node.InUse) = codes "in-use"
-found_text (found.Node node.Used) = codes "used"
-found_text (found.Node node.Hold) = codes "hold"
-found_text (found.Node node.Deleting) = codes "deleting"
-found_text (found.Node node.Failed) = codes "failed"
-found_text (found.Job job.New) = codes "new"
-found_text (found.Job job.Asked) = codes "asked"
-found_text (found.Job job.Using) = codes "using"
-found_text (found.Job job.Over) = codes "over"
+found_text (found.Node state) = node_state_word state
+found_text (found.Job phase) = phase_word phase
 
--- the values that such a word may tell
-unfoldable pub ends : List EndAs
-ends = end.Used ∷ end.Hold ∷ []
+abbrev pub in_flight_of : List ℕ → Option Found
+in_flight_of text = if bytes_eq text (codes "in-flight") then Some found.InFlight else None
 
--- no reply tells of a withdrawn job
-unfoldable pub endings : List Ending
-endings = ending.Served ∷ ending.Lost ∷ ending.Failed ∷ []
+-- the state of a word; `failed` is read as the request's
+unfoldable pub found_of : List ℕ → Option Found
+found_of text = option_or (option_or (option_or (option_map found.Request (request_state_of text)) (in_flight_of text)) (option_map found.Node (node_state_of text))) (option_map found.Job (phase_of text))
 
--- `failed` tells of the request
-unfoldable pub founds : List Found
-founds = found.Request request.Requested ∷ found.Request request.Pending ∷ found.Request request.Fulfilled ∷ found.Request request.Failed
-    ∷ found.Node node.Building ∷ found.InFlight ∷ found.Node node.Ready ∷ found.Node node.InUse ∷ found.Node node.Used ∷ found.Node node.Hold ∷ found.Node node.Deleting
-    ∷ found.Job job.New ∷ found.Job job.Asked ∷ found.Job job.Using ∷ found.Job job.Over ∷ []
+-- an ending that a reply may tell: of no withdrawn job
+abbrev pub told_ending : Option Ending → Option Ending
+told_ending (Some ending.Withdrawn) = None
+told_ending ending = ending
 
 -- ## Letters and numbers
 
@@ -109,8 +75,8 @@ field_text kind.Server f = decimal f.server
 field_text kind.Instances f = decimal f.instances
 field_text kind.Cores f = decimal f.cores
 field_text kind.Ram f = decimal f.ram
-field_text kind.End f = end_text f.end
-field_text kind.Ending f = ending_text f.ending
+field_text kind.End f = end_as_word f.end
+field_text kind.Ending f = ending_word f.ending
 field_text kind.Found f = found_text f.found
 
 -- a line can say it: numbers within their types, requests of three digits, no withdrawn job
@@ -137,20 +103,20 @@ HasWord kind.Found f = Unit {0}
 -- the fields with what this word says, where it fits its place
 abbrev pub with_field : Kind → List ℕ → Fields → Option Fields
 with_field (kind.Fixed word) text f = if bytes_eq text (fixed_text word) then Some f else None
-with_field kind.Session text f = option_map (λ n. record f { session = record { 0 = n } }) (number_behind 115 4294967295 text)
+with_field kind.Session text f = option_map (λ n. record f { session = record { 0 = n } }) (number_behind 115 NUMBER text)
 with_field kind.Request text f = option_map (λ id. record f { request = id }) (request_of text)
-with_field kind.Node text f = option_map (λ n. record f { node = record { 0 = n } }) (number_behind 110 4294967295 text)
-with_field kind.Job text f = option_map (λ n. record f { job = record { 0 = n } }) (number_behind 106 4294967295 text)
-with_field kind.Label text f = option_map (λ n. record f { label = record { 0 = n } }) (number_behind 108 65535 text)
-with_field kind.Pool text f = option_map (λ n. record f { pool = record { 0 = n } }) (number_behind 112 65535 text)
-with_field kind.Requester text f = option_map (λ n. record f { requester = record { 0 = n } }) (number_behind 113 65535 text)
-with_field kind.Semaphore text f = option_map (λ n. record f { semaphore = record { 0 = n } }) (number_behind 120 65535 text)
-with_field kind.Attempt text f = option_map (λ n. record f { attempt = n }) (number_of 255 text)
-with_field kind.Number text f = option_map (λ n. record f { number = n }) (number_of 4294967295 text)
-with_field kind.Server text f = option_map (λ n. record f { server = n }) (number_of 18446744073709551615 text)
-with_field kind.Instances text f = option_map (λ n. record f { instances = n }) (number_of 18446744073709551615 text)
-with_field kind.Cores text f = option_map (λ n. record f { cores = n }) (number_of 18446744073709551615 text)
-with_field kind.Ram text f = option_map (λ n. record f { ram = n }) (number_of 18446744073709551615 text)
-with_field kind.End text f = option_map (λ e. record f { end = e }) (find (λ e. bytes_eq text (end_text e)) ends)
-with_field kind.Ending text f = option_map (λ e. record f { ending = e }) (find (λ e. bytes_eq text (ending_text e)) endings)
-with_field kind.Found text f = option_map (λ s. record f { found = s }) (find (λ s. bytes_eq text (found_text s)) founds)
+with_field kind.Node text f = option_map (λ n. record f { node = record { 0 = n } }) (number_behind 110 NUMBER text)
+with_field kind.Job text f = option_map (λ n. record f { job = record { 0 = n } }) (number_behind 106 NUMBER text)
+with_field kind.Label text f = option_map (λ n. record f { label = record { 0 = n } }) (number_behind 108 PLACE text)
+with_field kind.Pool text f = option_map (λ n. record f { pool = record { 0 = n } }) (number_behind 112 PLACE text)
+with_field kind.Requester text f = option_map (λ n. record f { requester = record { 0 = n } }) (number_behind 113 PLACE text)
+with_field kind.Semaphore text f = option_map (λ n. record f { semaphore = record { 0 = n } }) (number_behind 120 PLACE text)
+with_field kind.Attempt text f = option_map (λ n. record f { attempt = n }) (number_of ATTEMPT text)
+with_field kind.Number text f = option_map (λ n. record f { number = n }) (number_of NUMBER text)
+with_field kind.Server text f = option_map (λ n. record f { server = n }) (number_of WIDE text)
+with_field kind.Instances text f = option_map (λ n. record f { instances = n }) (number_of WIDE text)
+with_field kind.Cores text f = option_map (λ n. record f { cores = n }) (number_of WIDE text)
+with_field kind.Ram text f = option_map (λ n. record f { ram = n }) (number_of WIDE text)
+with_field kind.End text f = option_map (λ e. record f { end = e }) (end_as_of text)
+with_field kind.Ending text f = option_map (λ e. record f { ending = e }) (told_ending (ending_of text))
+with_field kind.Found text f = option_map (λ s. record f { found = s }) (found_of text)

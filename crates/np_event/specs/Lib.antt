@@ -5,3 +5,4 @@ pub mod Reading
 pub mod EventForm
 pub mod ReplyForm
 pub mod Line
+pub mod Faults

@@ -18,11 +18,9 @@ use Rattle.np_event.specs.declared.reply.Refusal.{Refusal}
 use Rattle.np_event.specs.declared.reply.Refusal.TheVariants as no
 use Rattle.np_event.specs.declared.reply.Reply.{Reply}
 use Rattle.np_event.specs.declared.reply.Reply.TheVariants as reply
-use Rattle.np_event.specs.declared.reply_form.DoneForm.{DoneForm}
-use Rattle.np_event.specs.declared.reply_form.RefusalForm.{RefusalForm}
-use Rattle.np_event.specs.EventForm.{decided_at, event_forms, event_of, event_parts, event_row}
+use Rattle.np_event.specs.EventForm.{event_forms, event_of, event_parts, event_row}
 use Rattle.np_event.specs.Reading.{HaveWords, row_fields, row_line, stand}
-use Rattle.np_event.specs.ReplyForm.{done_forms, done_of, done_parts, done_row, refusal_forms, refusal_of, refusal_parts, refusal_row, told_found}
+use Rattle.np_event.specs.ReplyForm.{done_forms, done_of, done_fields, done_row, refusal_forms, refusal_of, refusal_fields, refusal_row, told_found}
 use Rattle.np_event.specs.Words.{words_of}
 
 -- ## Events
@@ -57,7 +55,7 @@ undecided form rest (Some place) = if nat_le place (length rest) then Err (BadAr
 -- the first form that agrees; else the first that begins so, if it may be taken; else no event has this name
 abbrev pub chosen : List (List ℕ) → Option EventForm → Option EventForm → Result EventForm LineFault
 chosen rest (Some agreed) headed = Ok agreed
-chosen rest None (Some headed) = undecided headed rest (decided_at headed)
+chosen rest None (Some headed) = undecided headed rest (event_row headed).decided_at
 chosen rest None None = Err UnknownEvent
 
 -- the form that the words choose
@@ -83,11 +81,11 @@ event_in (first ∷ rest) = with_form rest (event_form_of first rest)
 
 -- what the line of an accepted event says
 abbrev pub done_line : Done → List ℕ
-done_line d = row_line (done_row (done_parts d).0) (done_parts d).1
+done_line d = row_line (done_row d) (done_fields d)
 
 -- what stands behind the word `refused`
 abbrev pub refusal_line : Refusal → List ℕ
-refusal_line r = row_line (refusal_row (refusal_parts r).0) (refusal_parts r).1
+refusal_line r = row_line (refusal_row r) (refusal_fields r)
 
 -- a reply's one line (own)
 abbrev pub reply_line : Reply → List ℕ
@@ -96,24 +94,24 @@ reply_line (reply.Refused r) = codes "refused " ++ refusal_line r
 
 -- a reply has a line: its requests have three digits, and it tells of no withdrawn job
 abbrev pub HasReplyLine : Reply → Type 0
-HasReplyLine (reply.Done d) = HaveWords (done_row (done_parts d).0).kinds (done_parts d).1
-HasReplyLine (reply.Refused r) = HaveWords (refusal_row (refusal_parts r).0).kinds (refusal_parts r).1
+HasReplyLine (reply.Done d) = HaveWords (done_row d).kinds (done_fields d)
+HasReplyLine (reply.Refused r) = HaveWords (refusal_row r).kinds (refusal_fields r)
 
 -- the reply begins with the form's first word
-abbrev pub is_headed_done : List ℕ → DoneForm → Bool
+abbrev pub is_headed_done : List ℕ → Done → Bool
 is_headed_done first form = bytes_eq first (done_row form).head
 
 -- the refusal begins with the form's first word
-abbrev pub is_headed_refusal : List ℕ → RefusalForm → Bool
+abbrev pub is_headed_refusal : List ℕ → Refusal → Bool
 is_headed_refusal first form = bytes_eq first (refusal_row form).head
 
 -- the reply of a done form and the words behind its first
-abbrev pub done_with : List (List ℕ) → Option DoneForm → Option Reply
+abbrev pub done_with : List (List ℕ) → Option Done → Option Reply
 done_with rest None = None
 done_with rest (Some form) = option_map (λ f. reply.Done (done_of form f)) (result_ok (row_fields (done_row form).kinds rest))
 
 -- the reply of a refusal's form and the words behind its first
-abbrev pub refusal_with : List (List ℕ) → Option RefusalForm → Option Reply
+abbrev pub refusal_with : List (List ℕ) → Option Refusal → Option Reply
 refusal_with rest None = None
 refusal_with rest (Some form) = option_map (λ f. reply.Refused (refusal_of form f)) (result_ok (row_fields (refusal_row form).kinds rest))
 

@@ -1,5 +1,5 @@
 -- A form of a line: its first word, and what stands behind it.
-use Rattle.std.specs.Prelude.{ℕ, List}
+use Rattle.std.specs.Prelude.{ℕ, List, Option, Some, None}
 use Rattle.np_text.specs.declared.word.EndAs.TheVariants as end
 use Rattle.np_text.specs.declared.word.Ending.TheVariants as ending
 use Rattle.np_text.specs.declared.word.RequestState.TheVariants as request
@@ -11,10 +11,16 @@ use Rattle.np_event.specs.declared.reply.Found.TheVariants as found
 pub record Row : Type 0 where
   pub head : List ℕ
   pub kinds : List Kind
+  -- which of the words behind the first chooses among the forms of this first word, where these have different counts of words
+  pub decided_at : Option ℕ
 
--- the row of a first word and of kinds
+-- the row of a first word and of kinds, which no later word chooses
 abbrev pub row : List ℕ → List Kind → Row
-row head kinds = record { head = head; kinds = kinds }
+row head kinds = record { head = head; kinds = kinds; decided_at = None }
+
+-- the row of a first word and of kinds, which the word at this place chooses
+abbrev pub decided : ℕ → List ℕ → List Kind → Row
+decided place head kinds = record { head = head; kinds = kinds; decided_at = Some place }
 
 -- the fields before any word is read
 abbrev pub blank : Fields

@@ -1,12 +1,14 @@
 //! The forms of event lines, one row for each. A new event is one more row in each table here, and
-//! one in each of `specs/EventForm`.
-ghost use Rattle.std.specs.Prelude.{◌≡◌, ◌≤◌, length};
+//! one in each table of `specs/EventForm`.
+ghost use Rattle.std.specs.Prelude.{◌≡◌, ◌≤◌, IfSome, length};
 ghost use Rattle.np_event.specs.EventForm.{event_of, event_parts, event_row};
 ghost use Rattle.np_event.specs.Row.{blank};
 
 use crate::event::{Event, Outcome};
 use crate::kind::Kind::*;
-use crate::kind::{BLANK, Fields, Fixed};
+use crate::kind::{
+    BLANK, FAILED, Fields, JANITOR, LAUNCHER, NEVER_FITS, NO_LABEL, OK, REQUESTER, SPENT,
+};
 use crate::row::Row;
 use np_text::{JobId, NodeId, Reason, RequestId, Role, SessionId};
 
@@ -95,13 +97,15 @@ pub(crate) const EVENT_FORMS: [EventForm; 35] = [
 pub(crate) fn event_row(form: EventForm) -> Row
     ensures head { result.head.now ≡ (event_row form).head }
     ensures kinds { result.kinds.now ≡ (event_row form).kinds }
+    ensures decided { result.decided_at ≡ (event_row form).decided_at }
     ensures few { length result.kinds.now ≤ 16 }
+    ensures near { IfSome result.decided_at (λ place. place ≤ 4) }
 {
     match form {
         Form::Tick => Row::of(b"tick", &[]),
-        Form::OpenLauncher => Row::of(b"open", &[Fixed(Fixed::Launcher), Pool]),
-        Form::OpenJanitor => Row::of(b"open", &[Fixed(Fixed::Janitor), Pool]),
-        Form::OpenRequester => Row::of(b"open", &[Fixed(Fixed::Requester), Requester]),
+        Form::OpenLauncher => Row::of(b"open", &[LAUNCHER, Pool]),
+        Form::OpenJanitor => Row::of(b"open", &[JANITOR, Pool]),
+        Form::OpenRequester => Row::of(b"open", &[REQUESTER, Requester]),
         Form::Crash => Row::of(b"crash", &[Session]),
         Form::Expire => Row::of(b"expire", &[Session]),
         Form::Register => Row::of(b"register", &[Session]),
@@ -110,17 +114,14 @@ pub(crate) fn event_row(form: EventForm) -> Row
         Form::LockRequest => Row::of(b"lock-request", &[Session, Request]),
         Form::UnlockRequest => Row::of(b"unlock-request", &[Session, Request]),
         Form::Accept => Row::of(b"accept", &[Session, Request]),
-        Form::DeclineNoLabel => Row::of(
-            b"decline",
-            &[Session, Request, Fixed(Fixed::NoLabel), Label],
-        ),
-        Form::DeclineNeverFits => Row::of(b"decline", &[Session, Request, Fixed(Fixed::NeverFits)]),
-        Form::DeclineSpent => Row::of(b"decline", &[Session, Request, Fixed(Fixed::Spent), Node]),
+        Form::DeclineNoLabel => Row::decided(3, b"decline", &[Session, Request, NO_LABEL, Label]),
+        Form::DeclineNeverFits => Row::decided(3, b"decline", &[Session, Request, NEVER_FITS]),
+        Form::DeclineSpent => Row::decided(3, b"decline", &[Session, Request, SPENT, Node]),
         Form::TakeReady => Row::of(b"take-ready", &[Session, Request, Node]),
         Form::Create => Row::of(b"create", &[Session, Request]),
         Form::Start => Row::of(b"start", &[Session, Node]),
-        Form::DoneOk => Row::of(b"done", &[Session, Node, Attempt, Fixed(Fixed::Ok), Server]),
-        Form::DoneFailed => Row::of(b"done", &[Session, Node, Attempt, Fixed(Fixed::Failed)]),
+        Form::DoneOk => Row::decided(4, b"done", &[Session, Node, Attempt, OK, Server]),
+        Form::DoneFailed => Row::decided(4, b"done", &[Session, Node, Attempt, FAILED]),
         Form::Fulfil => Row::of(b"fulfil", &[Session, Request]),
         Form::LockNode => Row::of(b"lock-node", &[Session, Node]),
         Form::UnlockNode => Row::of(b"unlock-node", &[Session, Node]),

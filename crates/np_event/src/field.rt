@@ -1,131 +1,87 @@
 //! What stands at a place of a line, read and written.
 ghost use Rattle.std.specs.Prelude.{◌≡◌, ℕ, ◌≤◌, ◌↔◌, ◌++◌, IsTrue, IfSome, OnOk, OnErr};
 ghost use Rattle.std.specs.Io.{StartsWith};
-ghost use Rattle.std.specs.List.{find};
-ghost use Rattle.std.specs.Option.{option_copied};
-ghost use Rattle.std.specs.Str.{bytes_eq};
-ghost use Rattle.np_event.specs.Kind.{HasWord, end_text, ending_text, ends, endings, field_text, fixed_text, found_text, founds, lettered, number_behind, with_field};
+ghost use Rattle.std.specs.Option.{option_map};
+ghost use Rattle.np_text.specs.Word.{ending_of, node_state_of, phase_of, request_state_of};
+ghost use Rattle.np_event.specs.declared.reply.Found.TheVariants.{Request, Node, Job};
+ghost use Rattle.np_event.specs.Kind.{HasWord, field_text, fixed_text, found_of, found_text, in_flight_of, lettered, number_behind, told_ending, with_field};
 
-use crate::kind::{Fields, Fixed, Kind};
+use crate::kind::{ATTEMPT, Fields, Fixed, Kind, NUMBER, PLACE, WIDE};
 use crate::reply::Found;
 use np_text::{
     EndAs, Ending, JobId, LabelId, NoMemory, NodeId, NodeState, Phase, PoolId, RequestState,
     RequesterId, SemId, SessionId, put_number, read_number, read_request, request_text,
 };
 
-const ENDS: [EndAs; 2] = [EndAs::Used, EndAs::Hold];
-
-const ENDINGS: [Ending; 3] = [Ending::Served, Ending::Lost, Ending::Failed];
-
-const FOUNDS: [Found; 15] = [
-    Found::Request(RequestState::Requested),
-    Found::Request(RequestState::Pending),
-    Found::Request(RequestState::Fulfilled),
-    Found::Request(RequestState::Failed),
-    Found::Node(NodeState::Building),
-    Found::InFlight,
-    Found::Node(NodeState::Ready),
-    Found::Node(NodeState::InUse),
-    Found::Node(NodeState::Used),
-    Found::Node(NodeState::Hold),
-    Found::Node(NodeState::Deleting),
-    Found::Job(Phase::New),
-    Found::Job(Phase::Asked),
-    Found::Job(Phase::Using),
-    Found::Job(Phase::Over),
-];
-
-pub(crate) fn fixed_text(word: Fixed) -> &'static [u8]
+pub(crate) fn fixed_text(word: Fixed) -> &'static str
     ensures { result.now ≡ fixed_text word }
 {
     match word {
-        Fixed::Launcher => b"launcher",
-        Fixed::Janitor => b"janitor",
-        Fixed::Requester => b"requester",
-        Fixed::NoLabel => b"no-label",
-        Fixed::NeverFits => b"never-fits",
-        Fixed::Spent => b"spent",
-        Fixed::Ok => b"ok",
-        Fixed::Failed => b"failed",
+        Fixed::Role(kind) => kind.word(),
+        Fixed::Reason(kind) => kind.word(),
+        Fixed::Ok => "ok",
+        Fixed::Failed => "failed",
     }
 }
 
-fn end_text(end: EndAs) -> &'static [u8]
-    ensures { result.now ≡ end_text end }
-{
-    match end {
-        EndAs::Used => b"used",
-        EndAs::Hold => b"hold",
-    }
-}
-
-fn ending_text(ending: Ending) -> &'static [u8]
-    ensures { result.now ≡ ending_text ending }
-{
-    match ending {
-        Ending::Served => b"served",
-        Ending::Lost => b"lost",
-        Ending::Failed => b"failed",
-        Ending::Withdrawn => b"withdrawn",
-    }
-}
-
-fn found_text(found: Found) -> &'static [u8]
+fn found_text(found: Found) -> &'static str
     ensures { result.now ≡ found_text found }
 {
     match found {
-        Found::Request(RequestState::Requested) => b"requested",
-        Found::Request(RequestState::Pending) => b"pending",
-        Found::Request(RequestState::Fulfilled) => b"fulfilled",
-        Found::Request(RequestState::Failed) => b"failed",
-        Found::Node(NodeState::Building) => b"building",
-        Found::InFlight => b"in-flight",
-        Found::Node(NodeState::Ready) => b"ready",
-        Found::Node(NodeState::InUse) => b"in-use",
-        Found::Node(NodeState::Used) => b"used",
-        Found::Node(NodeState::Hold) => b"hold",
-        Found::Node(NodeState::Deleting) => b"deleting",
-        Found::Node(NodeState::Failed) => b"failed",
-        Found::Job(Phase::New) => b"new",
-        Found::Job(Phase::Asked) => b"asked",
-        Found::Job(Phase::Using) => b"using",
-        Found::Job(Phase::Over) => b"over",
+        Found::Request(state) => state.word(),
+        Found::Node(state) => state.word(),
+        Found::InFlight => "in-flight",
+        Found::Job(phase) => phase.word(),
     }
 }
 
-#[tactic(auto, unfolding(crate::specs::Kind::ends))]
-fn read_end(text: &[u8]) -> Option<EndAs>
-    ensures { result ≡ find (λ end. bytes_eq text.now (end_text end)) ends }
-{
-    ENDS.into_iter().find(|end| text == end_text(*end))
-}
-
-#[tactic(auto, unfolding(crate::specs::Kind::endings))]
+/// No reply tells of a withdrawn job.
 fn read_ending(text: &[u8]) -> Option<Ending>
-    ensures { result ≡ find (λ ending. bytes_eq text.now (ending_text ending)) endings }
+    ensures { result ≡ told_ending (ending_of text.now) }
 {
-    ENDINGS
-        .into_iter()
-        .find(|ending| text == ending_text(*ending))
+    match Ending::from_word(text) {
+        Some(Ending::Withdrawn) => None,
+        ending => ending,
+    }
 }
 
-#[tactic(auto, unfolding(crate::specs::Kind::founds))]
-fn founds() -> &'static [Found]
-    ensures { result.now ≡ founds }
+fn read_request_found(text: &[u8]) -> Option<Found>
+    ensures { result ≡ option_map Request (request_state_of text.now) }
 {
-    &FOUNDS
+    Some(Found::Request(RequestState::from_word(text)?))
 }
 
-fn found_among<'a>(founds: &'a [Found], text: &[u8]) -> Option<&'a Found>
-    ensures { option_copied result ≡ find (λ found. bytes_eq text.now (found_text found)) founds.now }
+fn read_in_flight(text: &[u8]) -> Option<Found>
+    ensures { result ≡ in_flight_of text.now }
 {
-    founds.iter().find(|found| text == found_text(**found))
+    if text == b"in-flight".as_slice() {
+        Some(Found::InFlight)
+    } else {
+        None
+    }
 }
 
+fn read_node_found(text: &[u8]) -> Option<Found>
+    ensures { result ≡ option_map Node (node_state_of text.now) }
+{
+    Some(Found::Node(NodeState::from_word(text)?))
+}
+
+fn read_job_found(text: &[u8]) -> Option<Found>
+    ensures { result ≡ option_map Job (phase_of text.now) }
+{
+    Some(Found::Job(Phase::from_word(text)?))
+}
+
+/// A request's state comes before one of a node: they share the word `failed`.
+#[tactic(auto, unfolding(crate::specs::Kind::found_of))]
 fn read_found(text: &[u8]) -> Option<Found>
-    ensures { result ≡ find (λ found. bytes_eq text.now (found_text found)) founds }
+    ensures { result ≡ found_of text.now }
 {
-    found_among(founds(), text).copied()
+    read_request_found(text)
+        .or(read_in_flight(text))
+        .or(read_node_found(text))
+        .or(read_job_found(text))
 }
 
 fn read_behind(letter: u8, text: &[u8], max: u64) -> Option<u64>
@@ -139,16 +95,16 @@ fn read_behind(letter: u8, text: &[u8], max: u64) -> Option<u64>
 }
 
 fn read_u32(letter: u8, text: &[u8]) -> Option<u32>
-    ensures { result ≡ number_behind letter 4294967295 text.now }
+    ensures { result ≡ number_behind letter NUMBER text.now }
 {
-    let n = read_behind(letter, text, u64::from(u32::MAX))?;
+    let n = read_behind(letter, text, NUMBER)?;
     Some(n as u32)
 }
 
 fn read_u16(letter: u8, text: &[u8]) -> Option<u16>
-    ensures { result ≡ number_behind letter 65535 text.now }
+    ensures { result ≡ number_behind letter PLACE text.now }
 {
-    let n = read_behind(letter, text, u64::from(u16::MAX))?;
+    let n = read_behind(letter, text, PLACE)?;
     Some(n as u16)
 }
 
@@ -175,7 +131,7 @@ pub(crate) fn with_field(kind: Kind, text: &[u8], fields: Fields) -> Option<Fiel
     let mut more = fields;
     match kind {
         Kind::Fixed(word) => {
-            if text != fixed_text(word) {
+            if text != fixed_text(word).as_bytes() {
                 return None;
             }
         }
@@ -187,13 +143,13 @@ pub(crate) fn with_field(kind: Kind, text: &[u8], fields: Fields) -> Option<Fiel
         Kind::Pool => more.pool = PoolId(read_u16(b'p', text)?),
         Kind::Requester => more.requester = RequesterId(read_u16(b'q', text)?),
         Kind::Semaphore => more.semaphore = SemId(read_u16(b'x', text)?),
-        Kind::Attempt => more.attempt = read_number(text, 255)? as u8,
-        Kind::Number => more.number = read_number(text, 4_294_967_295)? as u32,
-        Kind::Server => more.server = read_number(text, u64::MAX)?,
-        Kind::Instances => more.instances = read_number(text, u64::MAX)?,
-        Kind::Cores => more.cores = read_number(text, u64::MAX)?,
-        Kind::Ram => more.ram = read_number(text, u64::MAX)?,
-        Kind::End => more.end = read_end(text)?,
+        Kind::Attempt => more.attempt = read_number(text, ATTEMPT)? as u8,
+        Kind::Number => more.number = read_number(text, NUMBER)? as u32,
+        Kind::Server => more.server = read_number(text, WIDE)?,
+        Kind::Instances => more.instances = read_number(text, WIDE)?,
+        Kind::Cores => more.cores = read_number(text, WIDE)?,
+        Kind::Ram => more.ram = read_number(text, WIDE)?,
+        Kind::End => more.end = EndAs::from_word(text)?,
         Kind::Ending => more.ending = read_ending(text)?,
         Kind::Found => more.found = read_found(text)?,
     }
@@ -207,7 +163,7 @@ pub(crate) fn put_field(out: &mut Vec<u8>, kind: Kind, fields: &Fields) -> Resul
     ensures err { OnErr result (StartsWith out.new.items out.old.items) }
 {
     match kind {
-        Kind::Fixed(word) => put(out, fixed_text(word)),
+        Kind::Fixed(word) => put(out, fixed_text(word).as_bytes()),
         Kind::Session => put_behind(out, b's', u64::from(fields.session.0)),
         Kind::Request => put(out, &request_text(fields.request)),
         Kind::Node => put_behind(out, b'n', u64::from(fields.node.0)),
@@ -222,9 +178,9 @@ pub(crate) fn put_field(out: &mut Vec<u8>, kind: Kind, fields: &Fields) -> Resul
         Kind::Instances => put_number(out, fields.instances),
         Kind::Cores => put_number(out, fields.cores),
         Kind::Ram => put_number(out, fields.ram),
-        Kind::End => put(out, end_text(fields.end)),
-        Kind::Ending => put(out, ending_text(fields.ending)),
-        Kind::Found => put(out, found_text(fields.found)),
+        Kind::End => put(out, fields.end.word().as_bytes()),
+        Kind::Ending => put(out, fields.ending.word().as_bytes()),
+        Kind::Found => put(out, found_text(fields.found).as_bytes()),
     }
 }
 

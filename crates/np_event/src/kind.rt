@@ -2,19 +2,15 @@
 
 use crate::reply::Found;
 use np_text::{
-    EndAs, Ending, JobId, LabelId, NodeId, PoolId, RequestId, RequestState, RequesterId, SemId,
-    SessionId,
+    EndAs, Ending, JobId, LabelId, NodeId, PoolId, ReasonKind, RequestId, RequestState,
+    RequesterId, RoleKind, SemId, SessionId,
 };
 
 /// A word behind the first that has one spelling, and tells the forms of an event apart.
 #[derive(Clone, Copy)]
 pub(crate) enum Fixed {
-    Launcher,
-    Janitor,
-    Requester,
-    NoLabel,
-    NeverFits,
-    Spent,
+    Role(RoleKind),
+    Reason(ReasonKind),
     Ok,
     Failed,
 }
@@ -56,6 +52,31 @@ pub(crate) enum Kind {
     Found,
 }
 
+pub(crate) const LAUNCHER: Kind = Kind::Fixed(Fixed::Role(RoleKind::Launcher));
+
+pub(crate) const JANITOR: Kind = Kind::Fixed(Fixed::Role(RoleKind::Janitor));
+
+pub(crate) const REQUESTER: Kind = Kind::Fixed(Fixed::Role(RoleKind::Requester));
+
+pub(crate) const NO_LABEL: Kind = Kind::Fixed(Fixed::Reason(ReasonKind::NoLabel));
+
+pub(crate) const NEVER_FITS: Kind = Kind::Fixed(Fixed::Reason(ReasonKind::NeverFits));
+
+pub(crate) const SPENT: Kind = Kind::Fixed(Fixed::Reason(ReasonKind::Spent));
+
+pub(crate) const OK: Kind = Kind::Fixed(Fixed::Ok);
+
+pub(crate) const FAILED: Kind = Kind::Fixed(Fixed::Failed);
+
+/// The largest number of an id, a start, a tick or a count in a line: those of 32 bits.
+pub(crate) const NUMBER: u64 = 4_294_967_295;
+/// The largest place in a table of the configuration that a line can name: those of 16 bits.
+pub(crate) const PLACE: u64 = 65_535;
+/// The largest number of an attempt to launch a node in a line: those of 8 bits.
+pub(crate) const ATTEMPT: u64 = 255;
+/// The largest number of a server, or part of an amount, in a line: those of 64 bits.
+pub(crate) const WIDE: u64 = 18_446_744_073_709_551_615;
+
 /// What the words of a line say, by their kinds. What a line lacks stays as in [`BLANK`].
 #[derive(Clone, Copy)]
 pub(crate) struct Fields {
@@ -78,13 +99,17 @@ pub(crate) struct Fields {
     pub found: Found,
 }
 
+pub(crate) const BLANK_REQUEST: RequestId = RequestId {
+    priority: 0,
+    seq: 0,
+};
+
+pub(crate) const BLANK_FOUND: Found = Found::Request(RequestState::Requested);
+
 /// The fields before any word is read.
 pub(crate) const BLANK: Fields = Fields {
     session: SessionId(0),
-    request: RequestId {
-        priority: 0,
-        seq: 0,
-    },
+    request: BLANK_REQUEST,
     node: NodeId(0),
     job: JobId(0),
     label: LabelId(0),
@@ -99,5 +124,5 @@ pub(crate) const BLANK: Fields = Fields {
     ram: 0,
     end: EndAs::Used,
     ending: Ending::Served,
-    found: Found::Request(RequestState::Requested),
+    found: BLANK_FOUND,
 };

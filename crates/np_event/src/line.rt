@@ -4,9 +4,13 @@ ghost use Rattle.std.specs.Io.{StartsWith};
 ghost use Rattle.std.specs.List.{find, flat_map};
 ghost use Rattle.std.specs.Option.{option_copied, option_map};
 ghost use Rattle.std.specs.Str.{bytes_eq};
-ghost use Rattle.np_event.specs.EventForm.{decided_at, event_forms};
+ghost use Rattle.np_event.specs.EventForm.{event_forms, event_row};
 ghost use Rattle.np_event.specs.Kind.{field_text};
-ghost use Rattle.np_event.specs.Line.{HasEntryLine, HasEventLine, HasReplyLine, OpensNoReaper, begins_reply, done_with, entry_in, entry_line, event_form_of, event_in, event_line, is_agreed, is_headed, is_headed_done, is_headed_refusal, refusal_in, reply_in, reply_line, sides_of, undecided};
+ghost use Rattle.np_event.specs.Line.{HasEntryLine, HasEventLine, HasReplyLine, OpensNoReaper};
+ghost use Rattle.np_event.specs.Line.{entry_line, event_line, reply_line};
+ghost use Rattle.np_event.specs.Line.{event_form_of, event_in, is_agreed, is_headed, undecided};
+ghost use Rattle.np_event.specs.Line.{begins_reply, done_with, entry_in, is_headed_done};
+ghost use Rattle.np_event.specs.Line.{is_headed_refusal, refusal_in, reply_in, sides_of};
 ghost use Rattle.np_event.specs.Reading.{HaveWords, row_fields, stand};
 ghost use Rattle.np_event.specs.ReplyForm.{done_forms, done_row, refusal_forms, refusal_row};
 ghost use Rattle.np_event.specs.Words.{left_of, words_of};
@@ -16,10 +20,10 @@ use crate::event::Event;
 use crate::event_form::{EVENT_FORMS, EventForm, event_of, event_parts, event_row};
 use crate::fault::LineFault;
 use crate::kind::{Fields, Kind};
-use crate::reply::Reply;
+use crate::reply::{Done, Refusal, Reply};
 use crate::reply_form::{
-    DONE_FORMS, DoneForm, REFUSAL_FORMS, RefusalForm, done_of, done_parts, done_row, refusal_of,
-    refusal_parts, refusal_row,
+    DONE_FORMS, REFUSAL_FORMS, done_fields, done_of, done_row, refusal_fields, refusal_of,
+    refusal_row,
 };
 use crate::row::{Row, have_words, put_kinds, read_fields, stand};
 use crate::words::{count_words, split_word};
@@ -36,14 +40,14 @@ fn event_forms() -> &'static [EventForm]
 }
 
 #[tactic(auto, unfolding(crate::specs::ReplyForm::done_forms))]
-fn done_forms() -> &'static [DoneForm]
+fn done_forms() -> &'static [Done]
     ensures { result.now ≡ done_forms }
 {
     &DONE_FORMS
 }
 
 #[tactic(auto, unfolding(crate::specs::ReplyForm::refusal_forms))]
-fn refusal_forms() -> &'static [RefusalForm]
+fn refusal_forms() -> &'static [Refusal]
     ensures { result.now ≡ refusal_forms }
 {
     &REFUSAL_FORMS
@@ -73,24 +77,10 @@ fn agreed<'a>(forms: &'a [EventForm], first: &[u8], rest: Option<&[u8]>) -> Opti
     forms.iter().find(|form| is_agreed(first, rest, **form))
 }
 
-/// Which of the words behind the first chooses among forms of different counts.
-fn decided_at(form: EventForm) -> Option<u32>
-    ensures place { result ≡ decided_at form }
-    ensures near { IfSome result (λ place. place ≤ 4) }
-{
-    match form {
-        EventForm::DeclineNoLabel | EventForm::DeclineNeverFits | EventForm::DeclineSpent => {
-            Some(3)
-        }
-        EventForm::DoneOk | EventForm::DoneFailed => Some(4),
-        _ => None,
-    }
-}
-
 fn undecided(form: EventForm, rest: Option<&[u8]>) -> Result<EventForm, LineFault>
-    ensures { result ≡ undecided form (left_of (option_copied rest.entry)) (decided_at form) }
+    ensures { result ≡ undecided form (left_of (option_copied rest.entry)) (event_row form).decided_at }
 {
-    let Some(place) = decided_at(form) else {
+    let Some(place) = event_row(form).decided_at else {
         return Ok(form);
     };
     if place as usize <= count_words(rest) {
@@ -139,25 +129,25 @@ pub fn read_event(line: &[u8]) -> Result<Event, LineFault>
     Ok(event_of(form, fields))
 }
 
-fn headed_done<'a>(forms: &'a [DoneForm], first: &[u8]) -> Option<&'a DoneForm>
+fn headed_done<'a>(forms: &'a [Done], first: &[u8]) -> Option<&'a Done>
     ensures { option_copied result ≡ find (is_headed_done first.now) forms.now }
 {
     forms.iter().find(|form| first == done_row(**form).head)
 }
 
-fn headed_refusal<'a>(forms: &'a [RefusalForm], first: &[u8]) -> Option<&'a RefusalForm>
+fn headed_refusal<'a>(forms: &'a [Refusal], first: &[u8]) -> Option<&'a Refusal>
     ensures { option_copied result ≡ find (is_headed_refusal first.now) forms.now }
 {
     forms.iter().find(|form| first == refusal_row(**form).head)
 }
 
-fn done_form_of(first: &[u8]) -> Option<DoneForm>
+fn done_form_of(first: &[u8]) -> Option<Done>
     ensures { result ≡ find (is_headed_done first.now) done_forms }
 {
     headed_done(done_forms(), first).copied()
 }
 
-fn refusal_form_of(first: &[u8]) -> Option<RefusalForm>
+fn refusal_form_of(first: &[u8]) -> Option<Refusal>
     ensures { result ≡ find (is_headed_refusal first.now) refusal_forms }
 {
     headed_refusal(refusal_forms(), first).copied()
@@ -255,14 +245,10 @@ fn put_reply_parts(out: &mut Vec<u8>, reply: Reply) -> Result<(), NoMemory>
     ensures err { OnErr result (StartsWith out.new.items out.old.items) }
 {
     match reply {
-        Reply::Done(done) => {
-            let (form, fields) = done_parts(done);
-            put_row(out, done_row(form), &fields)
-        }
+        Reply::Done(done) => { put_row(out, done_row(done), &done_fields(done)) }
         Reply::Refused(refusal) => {
-            let (form, fields) = refusal_parts(refusal);
             out.extend_from_slice(b"refused ")?;
-            put_row(out, refusal_row(form), &fields)
+            put_row(out, refusal_row(refusal), &refusal_fields(refusal))
         }
     }
 }
@@ -299,13 +285,9 @@ fn reply_has_line(reply: Reply) -> bool
     ensures { IsTrue result ↔ HasReplyLine reply }
 {
     match reply {
-        Reply::Done(done) => {
-            let (form, fields) = done_parts(done);
-            have_words(done_row(form).kinds, fields)
-        }
+        Reply::Done(done) => { have_words(done_row(done).kinds, done_fields(done)) }
         Reply::Refused(refusal) => {
-            let (form, fields) = refusal_parts(refusal);
-            have_words(refusal_row(form).kinds, fields)
+            have_words(refusal_row(refusal).kinds, refusal_fields(refusal))
         }
     }
 }

@@ -19,13 +19,32 @@ use np_text::NoMemory;
 pub(crate) struct Row {
     pub head: &'static [u8],
     pub kinds: &'static [Kind],
+    /// Which of the words behind the first chooses among the forms of this first word, where these
+    /// have different counts of words.
+    pub decided_at: Option<u32>,
 }
 
 impl Row {
+    /// A row that no word behind the first chooses.
     pub(crate) fn of(head: &'static [u8], kinds: &'static [Kind]) -> Row
-        ensures { result ≡ record { head = head.entry; kinds = kinds.entry } }
+        ensures { result ≡ record { head = head.entry; kinds = kinds.entry; decided_at = None } }
     {
-        Row { head, kinds }
+        Row {
+            head,
+            kinds,
+            decided_at: None,
+        }
+    }
+
+    /// A row that the word at this place chooses.
+    pub(crate) fn decided(place: u32, head: &'static [u8], kinds: &'static [Kind]) -> Row
+        ensures { result ≡ record { head = head.entry; kinds = kinds.entry; decided_at = Some place } }
+    {
+        Row {
+            head,
+            kinds,
+            decided_at: Some(place),
+        }
     }
 }
 
@@ -34,7 +53,7 @@ fn stands(kind: Kind, text: Option<&[u8]>) -> bool
     ensures { result ≡ stands kind (option_copied text.entry) }
 {
     match (kind, text) {
-        (Kind::Fixed(word), Some(text)) => text == fixed_text(word),
+        (Kind::Fixed(word), Some(text)) => text == fixed_text(word).as_bytes(),
         (Kind::Fixed(_), None) => false,
         _ => true,
     }
