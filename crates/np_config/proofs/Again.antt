@@ -2,6 +2,8 @@
 use Rattle.std.proofs.Common.{◌≡◌, ℕ, ◌+◌, ◌-◌, ◌<◌, ◌≤◌, ◌⊎◌, inl, inr, zero, suc, Bool, true, false, cond, not, List, [], ◌∷◌, ◌++◌, codes, map, length, length-append, take, get_or, nat_le, nat_lt, Option, Some, None, Result, Ok, Err, IfSome, decimal, refl, sym, ap, ◌∙◌, subst, append_assoc, append-nil, arith}
 use Rattle.std.specs.Prelude.{All, filter, slice_get, position, ◌==◌, ◌&&◌}
 use Rattle.std.specs.List.{list_any, position_or_len}
+use Rattle.std.specs.Option.{option_map, option_map_or}
+use Rattle.np_amount.specs.declared.amount.Limit.{Limit}
 use Rattle.std.proofs.lemmas.Bool.{or_parts}
 use Rattle.std.specs.Str.{bytes_eq}
 use Rattle.std.proofs.lemmas.Bool.Decides.{nat_tests}
@@ -14,18 +16,22 @@ use Rattle.np_text.specs.declared.id.SemId.{SemId}
 use Rattle.np_text.specs.Name.{is_name_text}
 use Rattle.np_json.specs.declared.fault.ConfigFault.{ConfigFault}
 use Rattle.np_json.specs.declared.leaf.Length.{Length}
-use Rattle.np_json.specs.Reading.{◌>>=◌, ◌>>◌, below}
+use Rattle.np_lists.specs.Refusals.{◌>>=◌, ◌>>◌}
+use Rattle.np_json.specs.Reading.{below}
 use Rattle.np_json.specs.Leaf.{whole_value, whole_or, name_at, new_name, required}
 use Rattle.np_json.specs.Rows.{ReadsItem, items_from, list_at, list_required, list_maybe}
 use Rattle.np_json.proofs.Takes.{ok}
-use Rattle.np_config.specs.declared.row.Label.{Label}
-use Rattle.np_config.specs.declared.row.Sem.{Sem}
-use Rattle.np_config.specs.declared.row.Offer.{Offer}
-use Rattle.np_config.specs.Configuration.{Configuration}
+use Rattle.np_text.specs.declared.limit.TheConstants.{MIN_READY, AGE, HANDLES, START_NUMBER, NODE_CORES, NODE_RAM, POOL_SERVERS, POOL_CORES, POOL_RAM}
+use Rattle.np_site.specs.declared.row.Label.{Label}
+use Rattle.np_site.specs.declared.row.Sem.{Sem}
+use Rattle.np_site.specs.declared.row.Offer.{Offer}
+use Rattle.np_site.specs.Configuration.{Configuration}
 use Rattle.np_config.specs.Names.{label_named, semaphore_named}
 use Rattle.np_config.specs.Labels.{label_row, label_at, semaphore_at}
-use Rattle.np_config.specs.Providers.{label_for, label_value, offer_label, offer_amount, offer_at, is_unoffered, is_above, start_at, offers_at, starts_at, at_most}
-use Rattle.np_config.specs.Sound.{EachAfter, HasNewName, IsLabel, IsSem, IsOffer, IsStart}
+use Rattle.np_config.specs.Providers.{limit_at, label_for, label_value, offer_label, offer_amount, offer_at, start_at, offers_at, starts_at}
+use Rattle.np_site.specs.Sound.{is_unoffered, is_above}
+use Rattle.np_lists.specs.EachAfter.{EachAfter}
+use Rattle.np_site.specs.Sound.{HasNewName, IsLabel, IsSem, IsOffer, IsStart, IsLimit}
 use Rattle.np_config.specs.Canonical.{count, list_data, label_data, label_name, semaphore_name, semaphore_data, offer_data}
 
 pub low_test : (n : ℕ) → nat_le 0 n ≡ true
@@ -52,18 +58,52 @@ module _ {T : Type 0} (read : ReadsItem (List T)) (shown : T → Data) (P : List
       let some = most_test l.least (length xs) least in
       rw (items_len-of shown xs, few, some, items_again at 0 [] xs each) refl
 
+-- ## Numbers
+
+-- a number of a range is read as it
+pub whole_again : (at : List ℕ) (least most n : ℕ) → least ≤ n → n ≤ most → whole_value at least most (count n) ≡ Ok n
+whole_again at least most n low high = rw (most_test least n low, most_test n most high) refl
+
+pub up_to_again : (at : List ℕ) (most n : ℕ) → n ≤ most → whole_value at 0 most (count n) ≡ Ok n
+up_to_again at most n high = whole_again at 0 most n (omega arith) high
+
+-- a number that may be absent
+pub maybe_again : (at : List ℕ) (least most : ℕ) (o : Option ℕ) → IfSome o (λ n. (least ≤ n) × (n ≤ most)) → option_map_or (λ v. whole_value at least most v >>= λ n. ok (Some n)) (option_map count o) (ok None) ≡ Ok o
+maybe_again at least most None within = refl
+maybe_again at least most (Some n) within = rw (whole_again at least most n within.0 within.1) refl
+
+from_most : (most : ℕ) (o : Option ℕ) → IfSome o (λ n. n ≤ most) → IfSome o (λ n. (0 ≤ n) × (n ≤ most))
+from_most most None within = tt
+from_most most (Some n) within = (omega arith, within)
+
+-- limits, as they are found under their keys
+pub limit_again : (at : List ℕ) (d : Data) (l : Limit) → IsLimit l → get (codes "max-servers") d ≡ option_map count l.instances → get (codes "max-cores") d ≡ option_map count l.cores → get (codes "max-ram") d ≡ option_map count l.ram
+    → limit_at at d ≡ Ok l
+unfolding limit_at
+limit_again at d l is servers cores ram =
+    rw (
+      servers,
+      maybe_again (below at (codes "max-servers")) 0 POOL_SERVERS l.instances (from_most POOL_SERVERS l.instances is.servers),
+      cores,
+      maybe_again (below at (codes "max-cores")) 0 POOL_CORES l.cores (from_most POOL_CORES l.cores is.cores),
+      ram,
+      maybe_again (below at (codes "max-ram")) 0 POOL_RAM l.ram (from_most POOL_RAM l.ram is.ram),
+    ) refl
+
+-- ## Rows
+
 pub label_again : (at : List ℕ) (e : List Label) (l : Label) → IsLabel e l → label_at at e (label_data l) ≡ Ok (e ++ l ∷ [])
 unfolding label_at label_row name_at new_name
 label_again at e l is =
-    rw (is.name.named, is.name.new, low_test l.min_ready, most_test l.min_ready 1000 is.min_ready, low_test l.max_ready_age, most_test l.max_ready_age 1000000 is.max_ready_age) refl
+    rw (is.name.named, is.name.new, up_to_again (below at (codes "min-ready")) MIN_READY l.min_ready is.min_ready, up_to_again (below at (codes "max-ready-age")) AGE l.max_ready_age is.max_ready_age) refl
 
 pub semaphore_again : (at : List ℕ) (e : List Sem) (s : Sem) → IsSem e s → semaphore_at at e (semaphore_data s) ≡ Ok (e ++ s ∷ [])
 unfolding semaphore_at name_at new_name
-semaphore_again at e s is = rw (is.name.named, is.name.new, most_test 1 s.max is.some, most_test s.max 4096 is.max) refl
+semaphore_again at e s is = rw (is.name.named, is.name.new, whole_again (below at (codes "max")) 1 HANDLES s.max is.some is.max) refl
 
 pub start_again : (at : List ℕ) (e : List ℕ) (n : ℕ) → IsStart e n → start_at at e (count n) ≡ Ok (e ++ n ∷ [])
 unfolding start_at
-start_again at e n is = rw (most_test 1 n is.least, most_test n 262144 is.most, is.above) refl
+start_again at e n is = rw (whole_again at 1 START_NUMBER n is.least is.most, is.above) refl
 
 -- ## References
 
@@ -111,5 +151,5 @@ semaphore_reference c s each within =
 pub offer_again : (c : Configuration) → EachAfter IsLabel [] c.labels → (at : List ℕ) (e : List Offer) (o : Offer) → IsOffer (length c.labels) e o → offer_at c.labels at e (offer_data c o) ≡ Ok (e ++ o ∷ [])
 unfolding offer_at offer_label offer_amount label_value label_for
 offer_again c each at e o is =
-    rw (label_reference c o.label each is.label, is.new, low_test o.amount.cores, most_test o.amount.cores 1000 is.cores, low_test o.amount.ram, most_test o.amount.ram 1000000 is.ram)
+    rw (label_reference c o.label each is.label, is.new, up_to_again (below at (codes "cores")) NODE_CORES o.amount.cores is.cores, up_to_again (below at (codes "ram")) NODE_RAM o.amount.ram is.ram)
     (ap (λ n. ok (e ++ record { label = o.label; amount = record { instances = n; cores = o.amount.cores; ram = o.amount.ram } } ∷ [])) (sym is.instances))

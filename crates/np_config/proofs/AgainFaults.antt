@@ -10,21 +10,25 @@ use Rattle.np_text.specs.declared.id.RequesterId.{RequesterId}
 use Rattle.np_text.specs.declared.id.Role.{Role}
 use Rattle.np_text.specs.declared.id.Role.TheVariants as role
 use Rattle.np_json.specs.declared.fault.ConfigFault.{ConfigFault}
-use Rattle.np_json.specs.Reading.{◌>>=◌, ◌>>◌}
+use Rattle.np_lists.specs.Refusals.{◌>>=◌, ◌>>◌}
 use Rattle.np_json.specs.Leaf.{whole_required}
-use Rattle.np_config.specs.declared.row.Requester.{Requester}
-use Rattle.np_config.specs.declared.row.Pool.{Pool}
-use Rattle.np_config.specs.declared.row.Fault.{Fault}
-use Rattle.np_config.specs.declared.row.FaultKind.{FaultKind}
-use Rattle.np_config.specs.declared.row.FaultKind.TheVariants.{Expire, Crash, Stop}
-use Rattle.np_config.specs.Configuration.{Configuration}
+use Rattle.np_site.specs.Word.{fault_kind_word, fault_kind_of}
+use Rattle.np_site.specs.declared.row.Requester.{Requester}
+use Rattle.np_site.specs.declared.row.Pool.{Pool}
+use Rattle.np_site.specs.declared.row.Fault.{Fault}
+use Rattle.np_site.specs.declared.row.FaultKind.{FaultKind}
+use Rattle.np_site.specs.declared.row.FaultKind.TheVariants.{Expire, Crash, Stop}
+use Rattle.np_site.specs.Configuration.{Configuration}
 use Rattle.np_config.specs.Names.{pool_name, pool_names, pool_named, requester_named, IsUnused}
 use Rattle.np_config.specs.Requesters.{word_value}
-use Rattle.np_config.specs.Faults.{role_named, fault_kind_of, required_word, role_at, fault_at}
-use Rattle.np_config.specs.Sound.{EachAfter, IsRequester, IsRole, IsFault, AreProviders}
-use Rattle.np_config.specs.Canonical.{full_name, requester_name, kind_word, fault_data}
+use Rattle.np_config.specs.Faults.{role_named, required_word, role_at, fault_at}
+use Rattle.np_lists.specs.EachAfter.{EachAfter}
+use Rattle.np_site.specs.Sound.{IsRequester, IsRole, IsFault, AreProviders}
+use Rattle.np_config.specs.Canonical.{full_name, requester_name, fault_data}
 use Rattle.np_config.proofs.FullNames.{pool_names-unused}
-use Rattle.np_config.proofs.Again.{low_test, most_test, bytes_eq-refl, first_place, stands_there, found_again}
+use Rattle.np_json.specs.Reading.{below}
+use Rattle.np_text.specs.declared.limit.TheConstants.{FAULT_ACTS}
+use Rattle.np_config.proofs.Again.{up_to_again, bytes_eq-refl, first_place, stands_there, found_again}
 
 slice_get-map : {A B : Type 0} (f : A → B) (xs : List A) (i : ℕ) → slice_get (map f xs) i ≡ option_map f (slice_get xs i)
 slice_get-map f [] i = refl
@@ -52,18 +56,18 @@ requester_reference c q each within =
     let there = found_again (λ (r : Requester). r.name) IsRequester (λ e x is. is.name) c.requesters q.0 within each in
     rw there.1 there.2
 
-kind_again : (k : FaultKind) → fault_kind_of (kind_word k) ≡ Some k
+kind_again : (k : FaultKind) → fault_kind_of (fault_kind_word k) ≡ Some k
 kind_again Expire = refl
 kind_again Crash = refl
 kind_again Stop = refl
 
 module _ (c : Configuration) (labels : ℕ) (are : AreProviders labels c.providers c.pools) (each : EachAfter IsRequester [] c.requesters) where
-  pub fault_again : (at : List ℕ) (e : List Fault) (f : Fault) → IsFault (length c.pools) (length c.requesters) e f → fault_at (pool_names c.providers c.pools) c.requesters at e (fault_data c f) ≡ Ok (e ++ f ∷ [])
+  pub fault_again : (at : List ℕ) (e : List Fault) (f : Fault) → IsFault (length c.pools) (length c.requesters) f → fault_at (pool_names c.providers c.pools) c.requesters at e (fault_data c f) ≡ Ok (e ++ f ∷ [])
   unfolding fault_at role_at required_word word_value whole_required
   fault_again at e f is = by f.role is.role
     where
       by : (r : Role) → IsRole (length c.pools) (length c.requesters) r → fault_at (pool_names c.providers c.pools) c.requesters at e (fault_data c (record { role = r; kind = f.kind; after = f.after })) ≡ Ok (e ++ record { role = r; kind = f.kind; after = f.after } ∷ [])
-      by (role.Launcher p) there = rw (pool_reference c labels p are there, kind_again f.kind, low_test f.after, most_test f.after 262144 is.after) refl
-      by (role.Janitor p) there = rw (pool_reference c labels p are there, kind_again f.kind, low_test f.after, most_test f.after 262144 is.after) refl
-      by (role.Requester q) there = rw (requester_reference c q each there, kind_again f.kind, low_test f.after, most_test f.after 262144 is.after) refl
+      by (role.Launcher p) there = rw (pool_reference c labels p are there, kind_again f.kind, up_to_again (below at (codes "after")) FAULT_ACTS f.after is.after) refl
+      by (role.Janitor p) there = rw (pool_reference c labels p are there, kind_again f.kind, up_to_again (below at (codes "after")) FAULT_ACTS f.after is.after) refl
+      by (role.Requester q) there = rw (requester_reference c q each there, kind_again f.kind, up_to_again (below at (codes "after")) FAULT_ACTS f.after is.after) refl
       by role.Reaper there = absurd there

@@ -11,25 +11,32 @@ use Rattle.np_text.specs.declared.word.EndAs.{EndAs}
 use Rattle.np_text.specs.declared.word.EndAs.TheVariants.{Used, Hold}
 use Rattle.np_json.specs.declared.fault.ConfigFault.{ConfigFault}
 use Rattle.np_json.specs.declared.leaf.Length.{Length}
-use Rattle.np_json.specs.Reading.{◌>>=◌, ◌>>◌, below as under}
+use Rattle.np_lists.specs.Refusals.{◌>>=◌, ◌>>◌}
+use Rattle.np_json.specs.Reading.{below as under}
 use Rattle.np_json.specs.Leaf.{name_at, new_name}
 use Rattle.np_json.specs.Rows.{items_from, list_at, list_required, list_maybe}
 use Rattle.np_json.proofs.Takes.{ok}
-use Rattle.np_config.specs.declared.row.Label.{Label}
-use Rattle.np_config.specs.declared.row.Sem.{Sem}
-use Rattle.np_config.specs.declared.row.Requester.{Requester}
-use Rattle.np_config.specs.declared.row.Job.{Job}
+use Rattle.np_text.specs.declared.limit.TheConstants.{JOBS, JOB_LABELS, JOB_SEMAPHORES, WINDOW, RELATIVE_PRIORITY}
+use Rattle.np_json.specs.Leaf.{at_most, one_to, behind}
+use Rattle.np_text.specs.Word.{end_as_word, end_as_of}
+use Rattle.np_site.specs.declared.row.Label.{Label}
+use Rattle.np_site.specs.declared.row.Sem.{Sem}
+use Rattle.np_site.specs.declared.row.Requester.{Requester}
+use Rattle.np_site.specs.declared.row.Job.{Job}
 use Rattle.np_config.specs.declared.requesters.JobsOf.{JobsOf}
 use Rattle.np_config.specs.declared.requesters.Requesters.{Requesters}
-use Rattle.np_config.specs.Configuration.{Configuration}
-use Rattle.np_config.specs.Providers.{label_value, label_for, at_most}
-use Rattle.np_config.specs.Requesters.{wanted_at, taken_at, semaphore_for, priority_of, end_of, word_value, wants_at, takes_at, demand_at, job_row, job_at, jobs_at, requester_row, requester_at}
-use Rattle.np_config.specs.Sound.{EachAfter, IsLabel, IsSem, IsWanted, IsTaken, IsPriority, IsJob, IsRequester, AreRequesters}
-use Rattle.np_config.specs.Canonical.{count, list_data, label_name, semaphore_name, priority_word, end_word, job_data, jobs_of, requester_data, placed}
-use Rattle.np_config.proofs.Owners.{below, below-more, rows_of}
-use Rattle.np_config.proofs.Again.{low_test, most_test, list_again, label_reference, semaphore_reference}
+use Rattle.np_site.specs.Configuration.{Configuration}
+use Rattle.np_config.specs.Providers.{label_value, label_for}
+use Rattle.np_config.specs.Requesters.{wanted_at, taken_at, semaphore_for, priority_of, word_value, wants_at, takes_at, demand_at, job_row, job_at, jobs_at, requester_row, requester_at}
+use Rattle.np_lists.specs.EachAfter.{EachAfter}
+use Rattle.np_site.specs.Sound.{IsLabel, IsSem, IsWanted, IsTaken, IsPriority, IsJob, IsRequester, AreRequesters}
+use Rattle.np_config.specs.Canonical.{count, list_data, label_name, semaphore_name, priority_word, job_data, jobs_of, requester_data, placed}
+use Rattle.np_site.proofs.Owners.{below, below-more, rows_of}
+use Rattle.np_config.proofs.Again.{whole_again, up_to_again, list_again, label_reference, semaphore_reference}
 use Rattle.np_config.proofs.AgainPools.{all_after, EachFits, state_list_again}
-use Rattle.np_config.proofs.AgainProviders.{filter_short, filter_owned}
+use Rattle.np_lists.proofs.Each.{length-filter_at_most}
+use Rattle.np_lists.proofs.KeptLemmas.{All-filter_number}
+use Rattle.np_lists.proofs.EachAfterLemmas.{EachAfter-from_all}
 
 abbrev demand_of : List Requester → List Job → Requesters
 demand_of qs jobs = record { requesters = qs; jobs = jobs }
@@ -39,12 +46,12 @@ priority_again n (inl e) = subst (λ (m : ℕ). priority_of (priority_word m) �
 priority_again n (inr (inl e)) = subst (λ (m : ℕ). priority_of (priority_word m) ≡ Some m) (sym e) refl
 priority_again n (inr (inr e)) = subst (λ (m : ℕ). priority_of (priority_word m) ≡ Some m) (sym e) refl
 
-end_again : (e : EndAs) → end_of (end_word e) ≡ Some e
+end_again : (e : EndAs) → end_as_of (end_as_word e) ≡ Some e
 end_again Used = refl
 end_again Hold = refl
 
 module _ (c : Configuration) (each_label : EachAfter IsLabel [] c.labels) (each_sem : EachAfter IsSem [] c.semaphores) where
-  wanted_again : (at : List ℕ) (e : List LabelId) (l : LabelId) → IsWanted (length c.labels) e l → wanted_at c.labels at e (string (label_name c l)) ≡ Ok (e ++ l ∷ [])
+  wanted_again : (at : List ℕ) (e : List LabelId) (l : LabelId) → IsWanted (length c.labels) l → wanted_at c.labels at e (string (label_name c l)) ≡ Ok (e ++ l ∷ [])
   unfolding wanted_at label_value label_for
   wanted_again at e l is = rw (label_reference c l each_label is) refl
 
@@ -64,10 +71,10 @@ module _ (c : Configuration) (each_label : EachAfter IsLabel [] c.labels) (each_
   job_again : (at : List ℕ) (s : JobsOf) (j : Job) → Fits s j → job_at c.labels c.semaphores at s (job_data c j) ≡ Ok (joined s j)
   unfolding job_at demand_at job_row wants_at takes_at list_required list_maybe word_value name_at new_name
   job_again at s j is =
-      let l : Length = record { before = 0; least = 1; most = 32 } in
-      let wants = list_again (wanted_at c.labels) (λ (w : LabelId). string (label_name c w)) (IsWanted (length c.labels)) wanted_again (under at (codes "labels")) l j.labels is.1.wanted (omega (arith, is.1.few_labels)) is.1.some_label in
-      let takes = list_again (taken_at c.semaphores) (λ (w : SemId). string (semaphore_name c w)) (IsTaken (length c.semaphores)) taken_again (under at (codes "semaphores")) (at_most 8) j.semaphores is.1.taken (omega (arith, is.1.few_taken)) (omega arith) in
-      rw (is.1.name.named, is.1.name.new, wants, priority_again j.priority is.1.priority, low_test j.relative_priority, most_test j.relative_priority 1000000 is.1.relative, takes, end_again j.end)
+      let each = EachAfter-from_all (IsWanted (length c.labels)) [] j.labels is.1.wanted in
+      let wants = list_again (wanted_at c.labels) (λ (w : LabelId). string (label_name c w)) (λ e w. IsWanted (length c.labels) w) wanted_again (under at (codes "labels")) (one_to JOB_LABELS) j.labels each (omega (arith, is.1.few_labels)) is.1.some_label in
+      let takes = list_again (taken_at c.semaphores) (λ (w : SemId). string (semaphore_name c w)) (IsTaken (length c.semaphores)) taken_again (under at (codes "semaphores")) (at_most JOB_SEMAPHORES) j.semaphores is.1.taken (omega (arith, is.1.few_taken)) (omega arith) in
+      rw (is.1.name.named, is.1.name.new, wants, priority_again j.priority is.1.priority, up_to_again (under at (codes "relative-priority")) RELATIVE_PRIORITY j.relative_priority is.1.relative, takes, end_again j.end)
       (ap (λ (q : RequesterId). ok (joined s (with_requester q j))) (sym is.0))
 
   abbrev own_of : RequesterId → List Job → JobsOf
@@ -86,17 +93,17 @@ module _ (c : Configuration) (each_label : EachAfter IsLabel [] c.labels) (each_
   jobs_after q e [] = ap (own_of q) (sym (append-nil e))
   jobs_after q e (j ∷ js) = jobs_after q (e ++ j ∷ []) js ∙ ap (own_of q) (append_assoc e (j ∷ []) js)
 
-  jobs_read : (at : List ℕ) (earlier : ℕ) (q : RequesterId) (js : List Job) → All (λ j. j.requester.0 ≡ q.0) js → EachAfter (IsJob (length c.labels) (length c.semaphores)) [] js → earlier + length js ≤ 4096
-      → list_at (job_at c.labels c.semaphores) at (record { before = earlier; least = 0; most = 4096 }) (own_of q []) (list_data (job_data c) js) ≡ Ok (own_of q js)
+  jobs_read : (at : List ℕ) (earlier : ℕ) (q : RequesterId) (js : List Job) → All (λ j. j.requester.0 ≡ q.0) js → EachAfter (IsJob (length c.labels) (length c.semaphores)) [] js → earlier + length js ≤ JOBS
+      → list_at (job_at c.labels c.semaphores) at (behind earlier (at_most JOBS)) (own_of q []) (list_data (job_data c) js) ≡ Ok (own_of q js)
   jobs_read at earlier q js owned each few =
-      let l : Length = record { before = earlier; least = 0; most = 4096 } in
+      let l : Length = behind earlier (at_most JOBS) in
       state_list_again (job_at c.labels c.semaphores) (job_data c) Fits joined job_again at l (own_of q []) js (jobs_fit q [] js owned each) few (omega arith) ∙ ap ok (jobs_after q [] js)
 
   requester_again : (at : List ℕ) (s : Requesters) (k : ℕ) (q : Requester) (own : List Job) → own ≡ jobs_of c k → IsRequester s.requesters q
-      → list_at (job_at c.labels c.semaphores) (under at (codes "jobs")) (record { before = length s.jobs; least = 0; most = 4096 }) (own_of (record { 0 = length s.requesters }) []) (list_data (job_data c) (jobs_of c k)) ≡ Ok (own_of (record { 0 = length s.requesters }) own)
+      → list_at (job_at c.labels c.semaphores) (under at (codes "jobs")) (behind (length s.jobs) (at_most JOBS)) (own_of (record { 0 = length s.requesters }) []) (list_data (job_data c) (jobs_of c k)) ≡ Ok (own_of (record { 0 = length s.requesters }) own)
       → requester_at c.labels c.semaphores at s (requester_data c k q) ≡ Ok (record { requesters = s.requesters ++ q ∷ []; jobs = s.jobs ++ own })
   unfolding requester_at requester_row jobs_at list_maybe name_at new_name
-  requester_again at s k q own same is read = rw (is.name.named, is.name.new, most_test 1 q.window is.some, most_test q.window 4096 is.window, read) refl
+  requester_again at s k q own same is read = rw (is.name.named, is.name.new, whole_again (under at (codes "window")) 1 WINDOW q.window is.some is.window, read) refl
 
   module _ (are : AreRequesters (length c.labels) (length c.semaphores) c.requesters c.jobs) where
     abbrev owner : Job → ℕ
@@ -117,12 +124,12 @@ module _ (c : Configuration) (each_label : EachAfter IsLabel [] c.labels) (each_
     requesters_again at n e (x ∷ xs) k place all each =
         let own = jobs_of c k in
         let more : before (k + 1) ≡ before k ++ own = below-more owner P k [] c.jobs are.each_job in
-        let short : length (before (k + 1)) ≤ length c.jobs = filter_short (λ j. nat_lt (owner j) (k + 1)) c.jobs in
+        let short : length (before (k + 1)) ≤ length c.jobs = length-filter_at_most (λ j. nat_lt (owner j) (k + 1)) c.jobs in
         let count' : length (before (k + 1)) ≡ length (before k) + length own = ap length more ∙ length-append (before k) own in
         let few = are.few_jobs in
-        let room : length (before k) + length own ≤ 4096 = omega arith in
+        let room : length (before k) + length own ≤ JOBS = omega arith in
         let here : RequesterId = record { 0 = length e } in
-        let mine_owned : All (λ j. j.requester.0 ≡ here.0) own = subst (λ (m : ℕ). All (λ j. j.requester.0 ≡ m) own) place (filter_owned owner k c.jobs) in
+        let mine_owned : All (λ j. j.requester.0 ≡ here.0) own = subst (λ (m : ℕ). All (λ j. j.requester.0 ≡ m) own) place (All-filter_number owner k c.jobs) in
         let mine = jobs_read (under (under at (decimal n)) (codes "jobs")) (length (before k)) here own mine_owned (rows_of owner P k [] c.jobs are.each_job) room in
         let s : Requesters = record { requesters = e; jobs = before k } in
         let read = requester_again (under at (decimal n)) s k x own refl each.0 mine in

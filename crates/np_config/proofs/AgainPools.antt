@@ -12,21 +12,26 @@ use Rattle.np_amount.specs.declared.amount.Limit.{Limit}
 use Rattle.np_text.specs.Name.{is_name_text}
 use Rattle.np_json.specs.declared.fault.ConfigFault.{ConfigFault}
 use Rattle.np_json.specs.declared.leaf.Length.{Length}
-use Rattle.np_json.specs.Reading.{◌>>=◌, ◌>>◌, below}
-use Rattle.np_json.specs.Leaf.{name_at, new_name}
+use Rattle.np_lists.specs.Refusals.{◌>>=◌, ◌>>◌}
+use Rattle.np_json.specs.Reading.{below}
+use Rattle.np_json.specs.Leaf.{at_most, name_at, new_name}
+use Rattle.np_text.specs.declared.limit.TheConstants.{LABELS, FAIL_STARTS}
 use Rattle.np_json.specs.Rows.{ReadsItem, items_from, list_at, list_required, list_maybe}
 use Rattle.np_json.proofs.Takes.{ok}
-use Rattle.np_config.specs.declared.row.Label.{Label}
-use Rattle.np_config.specs.declared.row.Provider.{Provider}
-use Rattle.np_config.specs.declared.row.Pool.{Pool}
-use Rattle.np_config.specs.declared.row.Offer.{Offer}
+use Rattle.np_site.specs.declared.row.Label.{Label}
+use Rattle.np_site.specs.declared.row.Provider.{Provider}
+use Rattle.np_site.specs.declared.row.Pool.{Pool}
+use Rattle.np_site.specs.declared.row.Offer.{Offer}
 use Rattle.np_config.specs.declared.providers.PoolsOf.{PoolsOf}
 use Rattle.np_config.specs.declared.providers.Providers.{Providers}
-use Rattle.np_config.specs.Configuration.{Configuration}
-use Rattle.np_config.specs.Providers.{offer_at, start_at, offers_at, starts_at, limit_at, pool_row, pool_at, provider_row, pools_at, provider_at, at_most}
-use Rattle.np_config.specs.Sound.{EachAfter, HasNewName, IsLabel, IsOffer, IsStart, IsPool, IsProvider}
-use Rattle.np_config.specs.Canonical.{count, given, list_data, offer_data, pool_data, pools_of, provider_data}
-use Rattle.np_config.proofs.Again.{low_test, most_test, items_len-of, items_again, list_again, offer_again, start_again}
+use Rattle.np_site.specs.Configuration.{Configuration}
+use Rattle.np_config.specs.Keys.{pool_keys}
+use Rattle.np_config.specs.Providers.{offer_at, start_at, offers_at, starts_at, pool_row, pool_at}
+use Rattle.np_lists.specs.EachAfter.{EachAfter}
+use Rattle.np_site.specs.Sound.{HasNewName, IsLabel, IsOffer, IsStart, IsPool, IsProvider}
+use Rattle.np_config.specs.Canonical.{count, list_data, offer_data, pool_data}
+use Rattle.np_config.proofs.Members.{keys-limit, get-limit_other, get-servers, get-cores, get-ram}
+use Rattle.np_config.proofs.Again.{most_test, items_len-of, list_again, limit_again, offer_again, start_again}
 
 -- a list that holds so many rows, each of which is read into a state
 module _ {S T : Type 0} (read : ReadsItem S) (shown : T → Data) (Fit : S → T → Type 0) (after : S → T → S)
@@ -51,44 +56,19 @@ module _ {S T : Type 0} (read : ReadsItem S) (shown : T → Data) (Fit : S → T
       let some = most_test l.least (length xs) least in
       rw (items_len-of shown xs, few, some, states_again at 0 s xs each) refl
 
-abbrev pool_value : Configuration → List ℕ → List ℕ → List Offer → Option ℕ → Option ℕ → Option ℕ → Data
-pool_value c name starts offers servers cores ram = object (
-    member (codes "fail-starts") (list_data count starts) (
-    member (codes "labels") (list_data (offer_data c) offers) (
-    given (codes "max-cores") cores (
-    given (codes "max-ram") ram (
-    given (codes "max-servers") servers (
-    member (codes "name") (string name) no_members))))))
-
-abbrev pool_of : ℕ → List ℕ → List ℕ → List Offer → Option ℕ → Option ℕ → Option ℕ → Pool
-pool_of k name starts offers servers cores ram = record { provider = k; name = name; limit = record { instances = servers; cores = cores; ram = ram }; offers = offers; fail_starts = starts }
-
-abbrev Within : ℕ → Option ℕ → Type 0
-Within most o = IfSome o (λ n. (0 ≤ n) × (n ≤ most))
-
 abbrev pub joined : PoolsOf → Pool → PoolsOf
 joined s p = record s { pools = s.pools ++ p ∷ [] }
 
-module _ (c : Configuration) (at : List ℕ) (s : PoolsOf) (name starts : List ℕ) (offers : List Offer)
-    (named : is_name_text name ≡ true) (new : list_any (λ row. bytes_eq name row.name) s.pools ≡ false)
-    (starts_read : list_at start_at (below at (codes "fail-starts")) (at_most 4096) [] (list_data count starts) ≡ Ok starts)
-    (offers_read : list_at (offer_at c.labels) (below at (codes "labels")) (at_most 256) [] (list_data (offer_data c) offers) ≡ Ok offers) where
-  pool_cases : (servers cores ram : Option ℕ) → Within 1000000 servers → Within 1000000000 cores → Within 1000000000 ram
-      → pool_at c.labels at s (pool_value c name starts offers servers cores ram) ≡ Ok (joined s (pool_of s.provider name starts offers servers cores ram))
-  unfolding pool_at pool_row limit_at offers_at starts_at list_required list_maybe name_at new_name
-  pool_cases None None None f g h = rw (named, new, offers_read, starts_read) refl
-  pool_cases None None (Some z) f g h = rw (named, new, low_test z, most_test z 1000000000 h.1, offers_read, starts_read) refl
-  pool_cases None (Some y) None f g h = rw (named, new, low_test y, most_test y 1000000000 g.1, offers_read, starts_read) refl
-  pool_cases None (Some y) (Some z) f g h = rw (named, new, low_test y, most_test y 1000000000 g.1, low_test z, most_test z 1000000000 h.1, offers_read, starts_read) refl
-  pool_cases (Some x) None None f g h = rw (named, new, low_test x, most_test x 1000000 f.1, offers_read, starts_read) refl
-  pool_cases (Some x) None (Some z) f g h = rw (named, new, low_test x, most_test x 1000000 f.1, low_test z, most_test z 1000000000 h.1, offers_read, starts_read) refl
-  pool_cases (Some x) (Some y) None f g h = rw (named, new, low_test x, most_test x 1000000 f.1, low_test y, most_test y 1000000000 g.1, offers_read, starts_read) refl
-  pool_cases (Some x) (Some y) (Some z) f g h =
-      rw (named, new, low_test x, most_test x 1000000 f.1, low_test y, most_test y 1000000000 g.1, low_test z, most_test z 1000000000 h.1, offers_read, starts_read) refl
+abbrev of_provider : ℕ → Pool → Pool
+of_provider k p = record p { provider = k }
 
 pub pool_again : (c : Configuration) → EachAfter IsLabel [] c.labels → (at : List ℕ) (s : PoolsOf) (p : Pool) → (p.provider ≡ s.provider) × IsPool (length c.labels) s.pools p → pool_at c.labels at s (pool_data c p) ≡ Ok (joined s p)
+unfolding pool_at pool_row offers_at starts_at list_required list_maybe name_at new_name
 pool_again c each at s p is =
-    let starts = list_again start_at count IsStart start_again (below at (codes "fail-starts")) (at_most 4096) p.fail_starts is.1.starts (omega (arith, is.1.few_starts)) (omega arith) in
-    let offers = list_again (offer_at c.labels) (offer_data c) (IsOffer (length c.labels)) (offer_again c each) (below at (codes "labels")) (at_most 256) p.offers is.1.offers (omega (arith, is.1.few_offers)) (omega arith) in
-    let read = pool_cases c at s p.name p.fail_starts p.offers is.1.name.named is.1.name.new starts offers p.limit.instances p.limit.cores p.limit.ram is.1.servers is.1.cores is.1.ram in
-    read ∙ ap (λ k. ok (joined s (pool_of k p.name p.fail_starts p.offers p.limit.instances p.limit.cores p.limit.ram))) (sym is.0)
+    let last = member (codes "name") (string p.name) no_members in
+    let keys = keys-limit p.limit pool_keys last refl refl refl in
+    let name = get-limit_other p.limit (codes "name") last refl refl refl in
+    let limit = limit_again at (pool_data c p) p.limit is.1.limit (get-servers p.limit last refl) (get-cores p.limit last refl) (get-ram p.limit last refl) in
+    let offers = list_again (offer_at c.labels) (offer_data c) (IsOffer (length c.labels)) (offer_again c each) (below at (codes "labels")) (at_most LABELS) p.offers is.1.offers (omega (arith, is.1.few_offers)) (omega arith) in
+    let starts = list_again start_at count IsStart start_again (below at (codes "fail-starts")) (at_most FAIL_STARTS) p.fail_starts is.1.starts (omega (arith, is.1.few_starts)) (omega arith) in
+    rw (keys, name, is.1.name.named, is.1.name.new, limit, offers, starts) (ap (λ k. ok (joined s (of_provider k p))) (sym is.0))

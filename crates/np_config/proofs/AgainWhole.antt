@@ -8,27 +8,31 @@ use Rattle.serde_json.specs.Read.{read}
 use Rattle.serde_json.specs.View.{items_of}
 use Rattle.np_json.specs.declared.fault.ConfigFault.{ConfigFault}
 use Rattle.np_json.specs.declared.leaf.Length.{Length}
-use Rattle.np_json.specs.Reading.{◌>>=◌, ◌>>◌, below as under}
+use Rattle.np_lists.specs.Refusals.{◌>>=◌, ◌>>◌}
+use Rattle.np_json.specs.Reading.{below as under}
 use Rattle.np_json.specs.Rows.{ReadsItem, items_from, list_at, list_required, list_maybe}
 use Rattle.np_json.proofs.Takes.{ok}
-use Rattle.np_config.specs.declared.row.Provider.{Provider}
-use Rattle.np_config.specs.declared.row.Pool.{Pool}
-use Rattle.np_config.specs.declared.row.Requester.{Requester}
-use Rattle.np_config.specs.declared.row.Job.{Job}
+use Rattle.np_text.specs.declared.limit.TheConstants.{LABELS, PROVIDERS, SEMAPHORES, REQUESTERS, FAULTS, AGE}
+use Rattle.np_json.specs.Leaf.{at_most, one_to}
+use Rattle.np_site.specs.declared.row.Provider.{Provider}
+use Rattle.np_site.specs.declared.row.Pool.{Pool}
+use Rattle.np_site.specs.declared.row.Requester.{Requester}
+use Rattle.np_site.specs.declared.row.Job.{Job}
 use Rattle.np_config.specs.declared.providers.Providers.{Providers}
 use Rattle.np_config.specs.declared.requesters.Requesters.{Requesters}
-use Rattle.np_config.specs.Configuration.{Configuration}
+use Rattle.np_site.specs.Configuration.{Configuration}
 use Rattle.np_config.specs.Names.{pool_names}
 use Rattle.np_config.specs.Labels.{label_at, semaphore_at}
-use Rattle.np_config.specs.Providers.{at_most, provider_at}
+use Rattle.np_config.specs.Providers.{provider_at}
 use Rattle.np_config.specs.Requesters.{requester_at}
 use Rattle.np_config.specs.Faults.{fault_at}
 use Rattle.np_config.specs.Walk.{configuration_at, reads}
-use Rattle.np_config.specs.Sound.{IsLabel, IsSem, IsPool, IsJob, IsFault, IsSound}
+use Rattle.np_site.specs.Sound.{IsLabel, IsSem, IsPool, IsJob, IsFault, IsSound}
 use Rattle.np_config.specs.Canonical.{count, list_data, label_data, provider_data, semaphore_data, requester_data, fault_data, placed, configuration_data}
-use Rattle.np_config.proofs.Owners.{below, below-none, below-all}
+use Rattle.np_site.proofs.Owners.{below, below-none, below-all}
 use Rattle.np_config.proofs.Parsed.{parsed-some}
-use Rattle.np_config.proofs.Again.{low_test, most_test, list_again, label_again, semaphore_again}
+use Rattle.np_lists.proofs.EachAfterLemmas.{EachAfter-from_all}
+use Rattle.np_config.proofs.Again.{most_test, up_to_again, list_again, label_again, semaphore_again}
 use Rattle.np_config.proofs.AgainProviders.{providers_again}
 use Rattle.np_config.proofs.AgainJobs.{requesters_again}
 use Rattle.np_config.proofs.AgainFaults.{fault_again}
@@ -56,7 +60,7 @@ supply ps pools = record { providers = ps; pools = pools }
 abbrev demand : List Requester → List Job → Requesters
 demand qs jobs = record { requesters = qs; jobs = jobs }
 
-providers_read : (c : Configuration) → IsSound c → list_at (provider_at c.labels) (under [] (codes "providers")) (record { before = 0; least = 1; most = 64 }) (supply [] []) (array (items_of (placed (provider_data c) 0 c.providers))) ≡ Ok (supply c.providers c.pools)
+providers_read : (c : Configuration) → IsSound c → list_at (provider_at c.labels) (under [] (codes "providers")) (one_to PROVIDERS) (supply [] []) (array (items_of (placed (provider_data c) 0 c.providers))) ≡ Ok (supply c.providers c.pools)
 providers_read c sound =
     let at = under [] (codes "providers") in
     let owner : Pool → ℕ = λ p. p.provider in
@@ -70,10 +74,9 @@ providers_read c sound =
     let many : length ds ≡ length c.providers = length-placed (provider_data c) 0 c.providers in
     let few = sound.few_providers in
     let some = sound.some_provider in
-    let l : Length = record { before = 0; least = 1; most = 64 } in
-    list_at-items (provider_at c.labels) at l (supply [] []) (supply c.providers c.pools) ds (start ∙ ap (λ (ps : List Pool). ok (supply c.providers ps)) end) (omega arith) (omega arith)
+    list_at-items (provider_at c.labels) at (one_to PROVIDERS) (supply [] []) (supply c.providers c.pools) ds (start ∙ ap (λ (ps : List Pool). ok (supply c.providers ps)) end) (omega arith) (omega arith)
 
-requesters_read : (c : Configuration) → IsSound c → list_at (requester_at c.labels c.semaphores) (under [] (codes "requesters")) (at_most 16) (demand [] []) (array (items_of (placed (requester_data c) 0 c.requesters))) ≡ Ok (demand c.requesters c.jobs)
+requesters_read : (c : Configuration) → IsSound c → list_at (requester_at c.labels c.semaphores) (under [] (codes "requesters")) (at_most REQUESTERS) (demand [] []) (array (items_of (placed (requester_data c) 0 c.requesters))) ≡ Ok (demand c.requesters c.jobs)
 requesters_read c sound =
     let at = under [] (codes "requesters") in
     let owner : Job → ℕ = λ j. j.requester.0 in
@@ -86,16 +89,17 @@ requesters_read c sound =
     let end : below owner P (0 + length c.requesters) c.jobs ≡ c.jobs = ap (λ (k : ℕ). below owner P k c.jobs) none ∙ below-all owner P (length c.requesters) c.jobs sound.demand.owned in
     let many : length ds ≡ length c.requesters = length-placed (requester_data c) 0 c.requesters in
     let few = sound.few_requesters in
-    list_at-items (requester_at c.labels c.semaphores) at (at_most 16) (demand [] []) (demand c.requesters c.jobs) ds (start ∙ ap (λ (js : List Job). ok (demand c.requesters js)) end) (omega arith) (omega arith)
+    list_at-items (requester_at c.labels c.semaphores) at (at_most REQUESTERS) (demand [] []) (demand c.requesters c.jobs) ds (start ∙ ap (λ (js : List Job). ok (demand c.requesters js)) end) (omega arith) (omega arith)
 
 configuration_again : (c : Configuration) → IsSound c → configuration_at (configuration_data c) ≡ Ok c
 unfolding configuration_at list_required list_maybe
 configuration_again c sound =
-    let labels = list_again label_at label_data IsLabel label_again (under [] (codes "labels")) (at_most 256) c.labels sound.labels (omega (arith, sound.few_labels)) (omega arith) in
-    let semaphores = list_again semaphore_at semaphore_data IsSem semaphore_again (under [] (codes "semaphores")) (at_most 64) c.semaphores sound.semaphores (omega (arith, sound.few_semaphores)) (omega arith) in
-    let faults = list_again (fault_at (pool_names c.providers c.pools) c.requesters) (fault_data c) (IsFault (length c.pools) (length c.requesters))
-    (fault_again c (length c.labels) sound.supply sound.demand.each_requester) (under [] (codes "faults")) (at_most 1024) c.faults sound.faults (omega (arith, sound.few_faults)) (omega arith) in
-    rw (labels, low_test c.max_hold_age, most_test c.max_hold_age 1000000 sound.max_hold_age, providers_read c sound, semaphores, requesters_read c sound, faults) refl
+    let labels = list_again label_at label_data IsLabel label_again (under [] (codes "labels")) (at_most LABELS) c.labels sound.labels (omega (arith, sound.few_labels)) (omega arith) in
+    let semaphores = list_again semaphore_at semaphore_data IsSem semaphore_again (under [] (codes "semaphores")) (at_most SEMAPHORES) c.semaphores sound.semaphores (omega (arith, sound.few_semaphores)) (omega arith) in
+    let each = EachAfter-from_all (IsFault (length c.pools) (length c.requesters)) [] c.faults sound.faults in
+    let faults = list_again (fault_at (pool_names c.providers c.pools) c.requesters) (fault_data c) (λ e f. IsFault (length c.pools) (length c.requesters) f)
+    (fault_again c (length c.labels) sound.supply sound.demand.each_requester) (under [] (codes "faults")) (at_most FAULTS) c.faults each (omega (arith, sound.few_faults)) (omega arith) in
+    rw (labels, up_to_again (under [] (codes "max-hold-age")) AGE c.max_hold_age sound.max_hold_age, providers_read c sound, semaphores, requesters_read c sound, faults) refl
 
 -- the text is read as the configuration
 pub reads-again : (c : Configuration) (b : List ℕ) → IsSound c → IsUtf8 b → read b ≡ Some (configuration_data c) → reads b ≡ Ok c

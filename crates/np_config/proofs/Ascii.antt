@@ -7,19 +7,20 @@ use Rattle.std.proofs.lemmas.Str.{IsUtf8-from_ascii}
 use Rattle.std.proofs.lemmas.Str.Ascii.{IsAscii-nil, IsAscii-cons}
 use Rattle.np_text.specs.Name.{is_name_text}
 use Rattle.np_text.proofs.NameLemmas.{IsAscii-name}
-use Rattle.np_config.specs.declared.row.Label.{Label}
-use Rattle.np_config.specs.declared.row.Sem.{Sem}
-use Rattle.np_config.specs.declared.row.Requester.{Requester}
-use Rattle.np_config.specs.declared.row.Provider.{Provider}
-use Rattle.np_config.specs.declared.row.Pool.{Pool}
-use Rattle.np_config.specs.declared.row.Job.{Job}
+use Rattle.np_site.specs.declared.row.Label.{Label}
+use Rattle.np_site.specs.declared.row.Sem.{Sem}
+use Rattle.np_site.specs.declared.row.Requester.{Requester}
+use Rattle.np_site.specs.declared.row.Provider.{Provider}
+use Rattle.np_site.specs.declared.row.Pool.{Pool}
+use Rattle.np_site.specs.declared.row.Job.{Job}
 use Rattle.np_text.specs.declared.id.LabelId.{LabelId}
 use Rattle.np_text.specs.declared.id.SemId.{SemId}
 use Rattle.np_text.specs.declared.id.RequesterId.{RequesterId}
-use Rattle.np_config.specs.Configuration.{Configuration}
+use Rattle.np_site.specs.Configuration.{Configuration}
 use Rattle.np_config.specs.Names.{pool_name}
-use Rattle.np_config.specs.Sound.{EachAfter, StandsByOwner, HasNewName, IsSound, IsLabel, IsSem, IsRequester, IsProvider, IsPool, IsJob}
-use Rattle.np_config.proofs.Turns.{All-from_each}
+use Rattle.np_lists.specs.EachAfter.{EachAfter}
+use Rattle.np_site.specs.Sound.{StandsByOwner, HasNewName, IsSound, IsLabel, IsSem, IsRequester, IsProvider, IsPool, IsJob}
+use Rattle.np_lists.proofs.EachAfterLemmas.{All-from_each}
 
 -- the row at a place has what each row has
 at_place : {T : Type 0} (P : List T → T → Type 0) (Q : T → Type 0) → ((e : List T) (x : T) → P e x → Q x) → (e xs : List T) (i : ℕ) (x : T) → EachAfter P e xs → slice_get xs i ≡ Some x → Q x

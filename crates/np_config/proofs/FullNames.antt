@@ -11,10 +11,11 @@ use Rattle.std.proofs.lemmas.List.{map-append}
 use Rattle.np_text.specs.Name.{is_name_byte, is_name_text}
 use Rattle.np_text.proofs.SpellingLemmas.{both_true}
 use Rattle.std.specs.Prelude.{nat_le}
-use Rattle.np_config.specs.declared.row.Provider.{Provider}
-use Rattle.np_config.specs.declared.row.Pool.{Pool}
+use Rattle.np_site.specs.declared.row.Provider.{Provider}
+use Rattle.np_site.specs.declared.row.Pool.{Pool}
 use Rattle.np_config.specs.Names.{pool_name, pool_names, IsUnused}
-use Rattle.np_config.specs.Sound.{EachAfter, StandsByOwner, IsProvider, IsPool, AreProviders}
+use Rattle.np_lists.specs.EachAfter.{EachAfter}
+use Rattle.np_site.specs.Sound.{StandsByOwner, IsProvider, IsPool, AreProviders}
 
 -- a text without `/`
 has_no_slash : List ℕ → Bool

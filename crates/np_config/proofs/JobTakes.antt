@@ -14,37 +14,45 @@ use Rattle.np_text.specs.declared.word.EndAs.TheVariants.{Used}
 use Rattle.np_json.specs.declared.fault.ConfigKind.TheVariants.{Repeated, UnknownName}
 use Rattle.np_json.specs.declared.fault.ConfigFault.{ConfigFault}
 use Rattle.np_json.specs.declared.leaf.Length.{Length}
-use Rattle.np_json.specs.Reading.{◌>>=◌, ◌>>◌, refuse, need, found, below}
+use Rattle.np_lists.specs.Refusals.{◌>>=◌, ◌>>◌, need, found}
+use Rattle.np_json.specs.Reading.{fault, below}
 use Rattle.np_json.specs.Leaf.{object_at, text_value, name_at, whole_or, flag_or}
-use Rattle.np_json.proofs.Takes.{bind_ok, then_ok, need_ok, found_ok, ok, same_ok, whole_or-takes, name_at-takes, list_required-takes, list_maybe-takes}
-use Rattle.np_config.specs.declared.row.Label.{Label}
-use Rattle.np_config.specs.declared.row.Sem.{Sem}
-use Rattle.np_config.specs.declared.row.Requester.{Requester}
-use Rattle.np_config.specs.declared.row.Job.{Job}
+use Rattle.np_lists.proofs.RefusalLemmas.{bind-ok, rest-ok, need-ok, found-ok, found-some}
+use Rattle.np_json.proofs.Takes.{ok, same_ok, whole_or-takes, name_at-takes, list_required-takes, list_maybe-takes}
+use Rattle.np_text.specs.declared.limit.TheConstants.{JOBS, JOB_LABELS, JOB_SEMAPHORES, WINDOW, RELATIVE_PRIORITY}
+use Rattle.np_json.specs.Leaf.{at_most, one_to, behind}
+use Rattle.np_config.specs.Keys.{requester_keys, job_keys}
+use Rattle.np_text.specs.Word.{end_as_of}
+use Rattle.np_site.specs.declared.row.Label.{Label}
+use Rattle.np_site.specs.declared.row.Sem.{Sem}
+use Rattle.np_site.specs.declared.row.Requester.{Requester}
+use Rattle.np_site.specs.declared.row.Job.{Job}
 use Rattle.np_config.specs.declared.requesters.Demand.{Demand}
 use Rattle.np_config.specs.declared.requesters.JobsOf.{JobsOf}
 use Rattle.np_config.specs.declared.requesters.Requesters.{Requesters}
 use Rattle.np_config.specs.Names.{semaphore_named}
-use Rattle.np_config.specs.Providers.{label_value, at_most}
-use Rattle.np_config.specs.Requesters.{wanted_at, is_untaken, semaphore_for, taken_at, priority_of, end_of, meaning_of, word_value, word_or, wants_at, takes_at, demand_at, job_row, job_at, jobs_at, requester_row, requester_at}
-use Rattle.np_config.specs.Sound.{EachAfter, StandsByOwner, IsWanted, IsTaken, IsPriority, IsJob, IsRequester, AreRequesters}
-use Rattle.np_config.proofs.Turns.{EachAfter-push, EachAfter-append}
-use Rattle.np_config.proofs.Owners.{after_earlier}
-use Rattle.np_config.proofs.RowTakes.{Rows, Rows-push, new_name, found_within, label_value-takes}
+use Rattle.np_config.specs.Providers.{label_value}
+use Rattle.np_config.specs.Requesters.{wanted_at, semaphore_for, taken_at, priority_of, meaning_of, word_value, word_or, wants_at, takes_at, demand_at, job_row, job_at, jobs_at, requester_row, requester_at}
+use Rattle.np_site.specs.Sound.{is_untaken}
+use Rattle.np_lists.specs.EachAfter.{EachAfter}
+use Rattle.np_site.specs.Sound.{StandsByOwner, IsWanted, IsTaken, IsPriority, IsJob, IsRequester, AreRequesters}
+use Rattle.np_lists.proofs.EachAfterLemmas.{EachAfter-push, EachAfter-append}
+use Rattle.np_site.proofs.Owners.{after_earlier}
+use Rattle.np_config.proofs.RowTakes.{Rows, Rows-push, RowsAlone, RowsAlone-push, RowsAlone-none, new_name, found_within, label_value-takes}
 
 -- ## Labels and semaphores of a job
 
-wanted_at-takes : (labels : List Label) (at : List ℕ) (n : ℕ) (s t : List LabelId) (d : Data) → Rows (IsWanted (length labels)) n s → wanted_at labels at s d ≡ Ok t → Rows (IsWanted (length labels)) (n + 1) t
+wanted_at-takes : (labels : List Label) (at : List ℕ) (n : ℕ) (s t : List LabelId) (d : Data) → RowsAlone (IsWanted (length labels)) n s → wanted_at labels at s d ≡ Ok t → RowsAlone (IsWanted (length labels)) (n + 1) t
 unfolding wanted_at
 wanted_at-takes labels at n s t d rows e =
-    let l = bind_ok (label_value labels at d) (λ l. ok (s ++ l ∷ [])) t e in
-    Rows-push (IsWanted (length labels)) n s t l.0 (same_ok (s ++ l.0 ∷ []) t l.2) rows (label_value-takes labels at d l.0 l.1)
+    let l = bind-ok (label_value labels at d) (λ l. ok (s ++ l ∷ [])) t e in
+    RowsAlone-push (IsWanted (length labels)) n s t l.0 (same_ok (s ++ l.0 ∷ []) t l.2) rows (label_value-takes labels at d l.0 l.1)
 
-wants_at-takes : (labels : List Label) (at : List ℕ) (d : Data) (t : List LabelId) → wants_at labels at d ≡ Ok t → EachAfter (IsWanted (length labels)) [] t × (1 ≤ length t) × (length t ≤ 32)
+wants_at-takes : (labels : List Label) (at : List ℕ) (d : Data) (t : List LabelId) → wants_at labels at d ≡ Ok t → All (IsWanted (length labels)) t × (1 ≤ length t) × (length t ≤ JOB_LABELS)
 unfolding wants_at
 wants_at-takes labels at d t e =
-    let l : Length = record { before = 0; least = 1; most = 32 } in
-    let r = list_required-takes (wanted_at labels) (Rows (IsWanted (length labels))) (wanted_at-takes labels) at (codes "labels") l [] t d (tt, refl) e in
+    let l : Length = one_to JOB_LABELS in
+    let r = list_required-takes (wanted_at labels) (RowsAlone (IsWanted (length labels))) (wanted_at-takes labels) at (codes "labels") l [] t d (RowsAlone-none (IsWanted (length labels))) e in
     let count : length t ≡ r.0 = r.3.1 in
     (r.3.0, omega (arith, r.2), omega (arith, r.1))
 
@@ -54,23 +62,23 @@ sem_id n = record { 0 = n }
 semaphore_for-takes : (semaphores : List Sem) (at text : List ℕ) (x : SemId) → semaphore_for semaphores at text ≡ Ok x → x.0 < length semaphores
 unfolding semaphore_for
 semaphore_for-takes semaphores at text x e =
-    let f = found_ok (semaphore_named semaphores text) (λ n. ok (sem_id n)) (record { kind = UnknownName; pointer = at }) x e in
+    let f = found-ok (semaphore_named semaphores text) (fault UnknownName at) (λ n. ok (sem_id n)) x e in
     subst (λ (y : SemId). y.0 < length semaphores) (same_ok (sem_id f.0) x f.2) (found_within (λ (r : Sem). bytes_eq text r.name) semaphores f.0 f.1)
 
 taken_at-takes : (semaphores : List Sem) (at : List ℕ) (n : ℕ) (s t : List SemId) (d : Data) → Rows (IsTaken (length semaphores)) n s → taken_at semaphores at s d ≡ Ok t → Rows (IsTaken (length semaphores)) (n + 1) t
 unfolding taken_at
 taken_at-takes semaphores at n s t d rows e =
-    let put : SemId → Result (List SemId) ConfigFault = λ x. need (is_untaken s x) Repeated at >> ok (s ++ x ∷ []) in
-    let w = bind_ok (text_value at d) (λ text. semaphore_for semaphores at text >>= put) t e in
-    let x = bind_ok (semaphore_for semaphores at w.0) put t w.2 in
-    let u = need_ok (is_untaken s x.0) Repeated at (ok (s ++ x.0 ∷ [])) t x.2 in
+    let put : SemId → Result (List SemId) ConfigFault = λ x. need (is_untaken s x) (fault Repeated at) >> ok (s ++ x ∷ []) in
+    let w = bind-ok (text_value at d) (λ text. semaphore_for semaphores at text >>= put) t e in
+    let x = bind-ok (semaphore_for semaphores at w.0) put t w.2 in
+    let u = need-ok (is_untaken s x.0) (fault Repeated at) (ok (s ++ x.0 ∷ [])) t x.2 in
     let is : IsTaken (length semaphores) s x.0 = record { semaphore = semaphore_for-takes semaphores at w.0 x.0 x.1; new = u.0 } in
     Rows-push (IsTaken (length semaphores)) n s t x.0 (same_ok (s ++ x.0 ∷ []) t u.1) rows is
 
-takes_at-takes : (semaphores : List Sem) (at : List ℕ) (d : Data) (t : List SemId) → takes_at semaphores at d ≡ Ok t → EachAfter (IsTaken (length semaphores)) [] t × (length t ≤ 8)
+takes_at-takes : (semaphores : List Sem) (at : List ℕ) (d : Data) (t : List SemId) → takes_at semaphores at d ≡ Ok t → EachAfter (IsTaken (length semaphores)) [] t × (length t ≤ JOB_SEMAPHORES)
 unfolding takes_at
 takes_at-takes semaphores at d t e =
-    let r = list_maybe-takes (taken_at semaphores) (Rows (IsTaken (length semaphores))) (taken_at-takes semaphores) at (codes "semaphores") (at_most 8) [] t d (omega arith) refl (tt, refl) e in
+    let r = list_maybe-takes (taken_at semaphores) (Rows (IsTaken (length semaphores))) (taken_at-takes semaphores) at (codes "semaphores") (at_most JOB_SEMAPHORES) [] t d (omega arith) refl (tt, refl) e in
     let count : length t ≡ r.0 = r.2.1 in
     (r.2.0, omega (arith, r.1))
 
@@ -98,16 +106,15 @@ priority-takes at d n e = by (get (codes "priority") d) e
     by : (o : Option Data) → option_map_or (word_value priority_of here) o (ok 200) ≡ Ok n → IsPriority n
     by None h = inr (inl (sym (same_ok 200 n h)))
     by (Some v) h =
-        let w = bind_ok (text_value here v) (meaning_of priority_of here) n h in
-        let f = found_ok (priority_of w.0) (λ x. ok x) (record { kind = UnknownName; pointer = here }) n w.2 in
-        subst IsPriority (same_ok f.0 n f.2) (priority_of-takes w.0 f.0 f.1)
+        let w = bind-ok (text_value here v) (meaning_of priority_of here) n h in
+        priority_of-takes w.0 n (found-some (priority_of w.0) (fault UnknownName here) n w.2)
 
 record IsDemand (labels : ℕ) (x : Demand) : Type 0 where
-  wanted : EachAfter (IsWanted labels) [] x.labels
+  wanted : All (IsWanted labels) x.labels
   some_label : 1 ≤ length x.labels
-  few_labels : length x.labels ≤ 32
+  few_labels : length x.labels ≤ JOB_LABELS
   priority : IsPriority x.priority
-  relative : x.relative_priority ≤ 1000000
+  relative : x.relative_priority ≤ RELATIVE_PRIORITY
 
 abbrev made_demand : List LabelId → ℕ → ℕ → Demand
 made_demand w p r = record { labels = w; priority = p; relative_priority = r }
@@ -116,12 +123,12 @@ demand_at-takes : (labels : List Label) (at : List ℕ) (d : Data) (x : Demand) 
 unfolding demand_at
 demand_at-takes labels at d x e =
     let priorities = word_or priority_of at (codes "priority") 200 d in
-    let relatives = whole_or at (codes "relative-priority") 0 1000000 0 d in
-    let w = bind_ok (wants_at labels at d) (λ w. priorities >>= λ p. relatives >>= λ r. ok (made_demand w p r)) x e in
-    let p = bind_ok priorities (λ p. relatives >>= λ r. ok (made_demand w.0 p r)) x w.2 in
-    let r = bind_ok relatives (λ r. ok (made_demand w.0 p.0 r)) x p.2 in
+    let relatives = whole_or at (codes "relative-priority") 0 RELATIVE_PRIORITY 0 d in
+    let w = bind-ok (wants_at labels at d) (λ w. priorities >>= λ p. relatives >>= λ r. ok (made_demand w p r)) x e in
+    let p = bind-ok priorities (λ p. relatives >>= λ r. ok (made_demand w.0 p r)) x w.2 in
+    let r = bind-ok relatives (λ r. ok (made_demand w.0 p.0 r)) x p.2 in
     let wanted = wants_at-takes labels at d w.0 w.1 in
-    let relative = whole_or-takes at (codes "relative-priority") 0 1000000 0 d r.0 (omega arith) (omega arith) r.1 in
+    let relative = whole_or-takes at (codes "relative-priority") 0 RELATIVE_PRIORITY 0 d r.0 (omega arith) (omega arith) r.1 in
     subst (IsDemand (length labels)) (same_ok (made_demand w.0 p.0 r.0) x r.2)
     (record { wanted = wanted.0; some_label = wanted.1; few_labels = wanted.2; priority = priority-takes at d p.0 p.1; relative = relative.1 })
 
@@ -133,7 +140,7 @@ record IsMade (semaphores : ℕ) (requester : RequesterId) (name : List ℕ) (x 
   same_priority : j.priority ≡ x.priority
   same_relative : j.relative_priority ≡ x.relative_priority
   taken : EachAfter (IsTaken semaphores) [] j.semaphores
-  few_taken : length j.semaphores ≤ 8
+  few_taken : length j.semaphores ≤ JOB_SEMAPHORES
 
 abbrev made_job : RequesterId → List ℕ → Demand → List SemId → Bool → EndAs → Job
 made_job requester name x taken first end = record { requester = requester; name = name; labels = x.labels; priority = x.priority; relative_priority = x.relative_priority; semaphores = taken; resources_first = first; end = end }
@@ -142,11 +149,11 @@ job_row-takes : (semaphores : List Sem) (at : List ℕ) (requester : RequesterId
 unfolding job_row
 job_row-takes semaphores at requester name x d j e =
     let flags = flag_or at (codes "resources-first") false d in
-    let ends = word_or end_of at (codes "end") Used d in
+    let ends = word_or end_as_of at (codes "end") Used d in
     let made = made_job requester name x in
-    let t = bind_ok (takes_at semaphores at d) (λ t. flags >>= λ f. ends >>= λ u. ok (made t f u)) j e in
-    let f = bind_ok flags (λ f. ends >>= λ u. ok (made t.0 f u)) j t.2 in
-    let u = bind_ok ends (λ u. ok (made t.0 f.0 u)) j f.2 in
+    let t = bind-ok (takes_at semaphores at d) (λ t. flags >>= λ f. ends >>= λ u. ok (made t f u)) j e in
+    let f = bind-ok flags (λ f. ends >>= λ u. ok (made t.0 f u)) j t.2 in
+    let u = bind-ok ends (λ u. ok (made t.0 f.0 u)) j f.2 in
     let taken = takes_at-takes semaphores at d t.0 t.1 in
     subst (IsMade (length semaphores) requester name x) (same_ok (made t.0 f.0 u.0) j u.2)
     (record { same_requester = refl; same_name = refl; same_labels = refl; same_priority = refl; same_relative = refl; taken = taken.0; few_taken = taken.1 })
@@ -164,21 +171,21 @@ job_at-takes labels semaphores k at n s t d are e =
     let put : Job → Result JobsOf ConfigFault = λ j. ok (record s { jobs = s.jobs ++ j ∷ [] }) in
     let row : List ℕ → Demand → Result JobsOf ConfigFault = λ name x. job_row semaphores at s.requester name x d >>= put in
     let rest : List ℕ → Result JobsOf ConfigFault = λ name. demand_at labels at d >>= row name in
-    let keys = codes "name" ∷ codes "labels" ∷ codes "priority" ∷ codes "relative-priority" ∷ codes "semaphores" ∷ codes "resources-first" ∷ codes "end" ∷ [] in
-    let o = then_ok (object_at at keys d) (named >>= rest) t e in
-    let a = bind_ok named rest t o in
-    let x = bind_ok (demand_at labels at d) (row a.0) t a.2 in
-    let j = bind_ok (job_row semaphores at s.requester a.0 x.0 d) put t x.2 in
+    let keys = job_keys in
+    let o = rest-ok (object_at at keys d) (named >>= rest) t e in
+    let a = bind-ok named rest t o in
+    let x = bind-ok (demand_at labels at d) (row a.0) t a.2 in
+    let j = bind-ok (job_row semaphores at s.requester a.0 x.0 d) put t x.2 in
     let demand = demand_at-takes labels at d x.0 x.1 in
     let made = job_row-takes semaphores at s.requester a.0 x.0 d j.0 j.1 in
     let labels_same = sym made.same_labels in
     let is : IsJob (length labels) (length semaphores) s.jobs j.0 = record {
       name = new_name (λ (r : Job). r.name) s.jobs j.0 a.0 made.same_name (name_at-takes (λ (r : Job). r.name) at s.jobs d a.0 a.1);
-      wanted = subst (EachAfter (IsWanted (length labels)) []) labels_same demand.wanted;
+      wanted = subst (All (IsWanted (length labels))) labels_same demand.wanted;
       some_label = subst (λ (ls : List LabelId). 1 ≤ length ls) labels_same demand.some_label;
-      few_labels = subst (λ (ls : List LabelId). length ls ≤ 32) labels_same demand.few_labels;
+      few_labels = subst (λ (ls : List LabelId). length ls ≤ JOB_LABELS) labels_same demand.few_labels;
       priority = subst IsPriority (sym made.same_priority) demand.priority;
-      relative = subst (λ (m : ℕ). m ≤ 1000000) (sym made.same_relative) demand.relative;
+      relative = subst (λ (m : ℕ). m ≤ RELATIVE_PRIORITY) (sym made.same_relative) demand.relative;
       taken = made.taken;
       few_taken = made.few_taken;
     } in
@@ -192,13 +199,13 @@ job_at-takes labels semaphores k at n s t d are e =
 record AreOwn (labels semaphores earlier : ℕ) (k : RequesterId) (js : List Job) : Type 0 where
   each : EachAfter (IsJob labels semaphores) [] js
   owned : All (λ j. j.requester.0 ≡ k.0) js
-  few : earlier + length js ≤ 4096
+  few : earlier + length js ≤ JOBS
 
-jobs_at-takes : (labels : List Label) (semaphores : List Sem) (at : List ℕ) (earlier : ℕ) (k : RequesterId) (d : Data) (own : JobsOf) → earlier ≤ 4096 → jobs_at labels semaphores at earlier k d ≡ Ok own
+jobs_at-takes : (labels : List Label) (semaphores : List Sem) (at : List ℕ) (earlier : ℕ) (k : RequesterId) (d : Data) (own : JobsOf) → earlier ≤ JOBS → jobs_at labels semaphores at earlier k d ≡ Ok own
     → AreOwn (length labels) (length semaphores) earlier k own.jobs
 unfolding jobs_at
 jobs_at-takes labels semaphores at earlier k d own room e =
-    let l : Length = record { before = earlier; least = 0; most = 4096 } in
+    let l : Length = behind earlier (at_most JOBS) in
     let none : JobsOf = record { requester = k; jobs = [] } in
     let start : AreJobs (length labels) (length semaphores) k 0 none = record { same_requester = refl; rows = (tt, refl); owned = All-nil (λ (j : Job). j.requester.0 ≡ k.0) } in
     let r = list_maybe-takes (job_at labels semaphores) (AreJobs (length labels) (length semaphores) k) (job_at-takes labels semaphores k) at (codes "jobs") l none own d room refl start e in
@@ -208,12 +215,12 @@ jobs_at-takes labels semaphores at earlier k d own room e =
 abbrev made_requester : List ℕ → ℕ → Requester
 made_requester name w = record { name = name; window = w }
 
-requester_row-takes : (at name : List ℕ) (d : Data) (q : Requester) → requester_row at name d ≡ Ok q → (q.name ≡ name) × (1 ≤ q.window) × (q.window ≤ 4096)
+requester_row-takes : (at name : List ℕ) (d : Data) (q : Requester) → requester_row at name d ≡ Ok q → (q.name ≡ name) × (1 ≤ q.window) × (q.window ≤ WINDOW)
 unfolding requester_row
 requester_row-takes at name d q e =
-    let w = bind_ok (whole_or at (codes "window") 1 4096 20 d) (λ w. ok (made_requester name w)) q e in
-    let window = whole_or-takes at (codes "window") 1 4096 20 d w.0 (omega arith) (omega arith) w.1 in
-    subst (λ (x : Requester). (x.name ≡ name) × (1 ≤ x.window) × (x.window ≤ 4096)) (same_ok (made_requester name w.0) q w.2) (refl, window.0, window.1)
+    let w = bind-ok (whole_or at (codes "window") 1 WINDOW 20 d) (λ w. ok (made_requester name w)) q e in
+    let window = whole_or-takes at (codes "window") 1 WINDOW 20 d w.0 (omega arith) (omega arith) w.1 in
+    subst (λ (x : Requester). (x.name ≡ name) × (1 ≤ x.window) × (x.window ≤ WINDOW)) (same_ok (made_requester name w.0) q w.2) (refl, window.0, window.1)
 
 -- so many requesters, with their jobs
 abbrev pub Demands : ℕ → ℕ → ℕ → Requesters → Type 0
@@ -244,10 +251,10 @@ requester_at-takes labels semaphores at n s t d are e =
     let jobs = jobs_at labels semaphores at (length s.jobs) k d in
     let put : Requester → JobsOf → Result Requesters ConfigFault = λ q own. ok (record { requesters = s.requesters ++ q ∷ []; jobs = s.jobs ++ own.jobs }) in
     let rest : List ℕ → Result Requesters ConfigFault = λ name. requester_row at name d >>= λ q. jobs >>= put q in
-    let o = then_ok (object_at at (codes "name" ∷ codes "window" ∷ codes "jobs" ∷ []) d) (named >>= rest) t e in
-    let a = bind_ok named rest t o in
-    let q = bind_ok (requester_row at a.0 d) (λ q. jobs >>= put q) t a.2 in
-    let own = bind_ok jobs (put q.0) t q.2 in
+    let o = rest-ok (object_at at requester_keys d) (named >>= rest) t e in
+    let a = bind-ok named rest t o in
+    let q = bind-ok (requester_row at a.0 d) (λ q. jobs >>= put q) t a.2 in
+    let own = bind-ok jobs (put q.0) t q.2 in
     let row = requester_row-takes at a.0 d q.0 q.1 in
     let is : IsRequester s.requesters q.0 = record {
       name = new_name (λ (r : Requester). r.name) s.requesters q.0 a.0 row.0 (name_at-takes (λ (r : Requester). r.name) at s.requesters d a.0 a.1);

@@ -1,11 +1,8 @@
-pub mod Turns
-pub mod Owners
 pub mod RowTakes
 pub mod PoolTakes
 pub mod JobTakes
 pub mod FullNames
 pub mod WalkTakes
-pub mod WalkExits
 pub mod Parsed
 pub mod Ascii
 pub mod Values
@@ -17,3 +14,6 @@ pub mod AgainProviders
 pub mod AgainJobs
 pub mod AgainFaults
 pub mod AgainWhole
+pub mod DefaultLemmas
+pub mod OnLiterals
+pub mod WalkExits

@@ -1,22 +1,238 @@
--- members that are put in byte order
-use Rattle.std.proofs.Common.{◌≡◌, ℕ, List, [], codes, Option, Some, None, refl}
-use Rattle.serde_json.specs.Data.{Data, Members, no_members, member, put}
-use Rattle.np_config.specs.Canonical.{given, put_given}
+-- members of an object, put in or absent, one at a time
+use Rattle.std.proofs.Common.{◌≡◌, ℕ, List, [], ◌∷◌, codes, Bool, true, false, ◌&&◌, Option, Some, None, Ordering, Less, Equal, Greater, refl, ap, sym, ◌∙◌}
+use Rattle.std.specs.List.{list_any}
+use Rattle.std.specs.Option.{option_map}
+use Rattle.std.specs.Ordering.{is_eq, is_gt, nat_cmp, match_ordering}
+use Rattle.std.specs.Cmp.Lexicographic.{slice_cmp}
+use Rattle.std.specs.Str.{bytes_eq}
+use Rattle.serde_json.specs.Data.{Data, object, Members, no_members, member, put}
+use Rattle.serde_json.specs.Find.{get_member}
+use Rattle.np_amount.specs.declared.amount.Limit.{Limit}
+use Rattle.np_json.specs.Leaf.{only_keys}
+use Rattle.np_config.specs.Canonical.{count, given, given_count, given_limit}
+use Rattle.np_config.specs.Put.{put_given, put_count, put_limit}
 
-pub pool_members : (starts offers name : Data) (cores ram servers : Option ℕ)
-    → put (codes "name") name (put_given (codes "max-servers") servers (put_given (codes "max-ram") ram (put_given (codes "max-cores") cores (put (codes "labels") offers (put (codes "fail-starts") starts no_members)))))
-    ≡ member (codes "fail-starts") starts (member (codes "labels") offers (given (codes "max-cores") cores (given (codes "max-ram") ram (given (codes "max-servers") servers (member (codes "name") name no_members)))))
-pool_members starts offers name None None None = refl
-pool_members starts offers name None None (Some z) = refl
-pool_members starts offers name None (Some y) None = refl
-pool_members starts offers name None (Some y) (Some z) = refl
-pool_members starts offers name (Some x) None None = refl
-pool_members starts offers name (Some x) None (Some z) = refl
-pool_members starts offers name (Some x) (Some y) None = refl
-pool_members starts offers name (Some x) (Some y) (Some z) = refl
+-- ## What is found
+
+abbrev other : List ℕ → List ℕ → Type 0
+other k l = is_eq (slice_cmp nat_cmp k l) ≡ false
+
+passed : (r : Ordering) (a b : Option Data) → is_eq r ≡ false → match_ordering r a b a ≡ a
+passed Less a b e = refl
+passed Equal a b e = absurd (cc)
+passed Greater a b e = refl
+
+reached : (r : Ordering) (a b : Option Data) → is_eq r ≡ true → match_ordering r a b a ≡ b
+reached Less a b e = absurd (cc)
+reached Equal a b e = refl
+reached Greater a b e = absurd (cc)
+
+module _ (k l : List ℕ) where
+  -- a member under another key is passed over
+  pub get-other : (o : Option Data) (ms : Members) → other k l → get_member k (given l o ms) ≡ get_member k ms
+  get-other None ms apart = refl
+  get-other (Some d) ms apart = passed (slice_cmp nat_cmp k l) (get_member k ms) (Some d) apart
+
+-- the member that may be absent, where no other has its key
+pub get-given : (k : List ℕ) (o : Option Data) (ms : Members) → is_eq (slice_cmp nat_cmp k k) ≡ true → get_member k ms ≡ None → get_member k (given k o ms) ≡ o
+get-given k None ms same none = none
+get-given k (Some d) ms same none = reached (slice_cmp nat_cmp k k) (get_member k ms) (Some d) same
+
+-- it adds no key beside its own
+pub keys-given : (keys : List (List ℕ)) (k : List ℕ) (o : Option Data) (ms : Members) → list_any (bytes_eq k) keys ≡ true → only_keys keys (given k o ms) ≡ only_keys keys ms
+keys-given keys k None ms known = refl
+keys-given keys k (Some d) ms known = rw known refl
+
+-- ## Members put in
+
+module _ (k : List ℕ) (d : Data) where
+  pub get-put : (ms : Members) → is_eq (slice_cmp nat_cmp k k) ≡ true → get_member k (put k d ms) ≡ Some d
+  get-put no_members same = reached (slice_cmp nat_cmp k k) None (Some d) same
+  get-put (member l e ms) same = by (slice_cmp nat_cmp k l) refl (get-put ms same)
+    where
+      by : (r : Ordering) → slice_cmp nat_cmp k l ≡ r → get_member k (put k d ms) ≡ Some d
+          → get_member k (match_ordering r (member k d (member l e ms)) (member l d ms) (member l e (put k d ms))) ≡ Some d
+      by Less is rest = reached (slice_cmp nat_cmp k k) (get_member k (member l e ms)) (Some d) same
+      by Equal is rest = reached (slice_cmp nat_cmp k l) (get_member k ms) (Some d) (ap is_eq is)
+      by Greater is rest = passed (slice_cmp nat_cmp k l) (get_member k (put k d ms)) (Some e) (ap is_eq is) ∙ rest
+
+  -- another key finds what it found, where the key was absent
+  pub get-put_other : (j : List ℕ) (ms : Members) → other j k → get_member k ms ≡ None → get_member j (put k d ms) ≡ get_member j ms
+  get-put_other j no_members apart absent = passed (slice_cmp nat_cmp j k) None (Some d) apart
+  get-put_other j (member l e ms) apart absent = by (slice_cmp nat_cmp k l) absent (get-put_other j ms apart)
+    where
+      by : (r : Ordering) → match_ordering r (get_member k ms) (Some e) (get_member k ms) ≡ None → (get_member k ms ≡ None → get_member j (put k d ms) ≡ get_member j ms)
+          → get_member j (match_ordering r (member k d (member l e ms)) (member l d ms) (member l e (put k d ms))) ≡ get_member j (member l e ms)
+      by Less absent rest = passed (slice_cmp nat_cmp j k) (get_member j (member l e ms)) (Some d) apart
+      by Equal absent rest = absurd (cc)
+      by Greater absent rest = ap (λ o. match_ordering (slice_cmp nat_cmp j l) o (Some e) o) (rest absent)
+
+  pub keys-put : (keys : List (List ℕ)) (ms : Members) → list_any (bytes_eq k) keys ≡ true → only_keys keys (put k d ms) ≡ only_keys keys ms
+  keys-put keys no_members known = rw known refl
+  keys-put keys (member l e ms) known = by (slice_cmp nat_cmp k l) (keys-put keys ms known)
+    where
+      by : (r : Ordering) → only_keys keys (put k d ms) ≡ only_keys keys ms
+          → only_keys keys (match_ordering r (member k d (member l e ms)) (member l d ms) (member l e (put k d ms))) ≡ only_keys keys (member l e ms)
+      by Less rest = rw known refl
+      by Equal rest = refl
+      by Greater rest = ap (λ b. list_any (bytes_eq l) keys && b) rest
+
+-- ## Members in byte order
+
+-- members behind members
+abbrev pub then : Members → Members → Members
+then no_members ns = ns
+then (member k d ms) ns = member k d (then ms ns)
+
+-- the key comes after all keys of the members
+abbrev pub is_behind : List ℕ → Members → Bool
+is_behind k no_members = true
+is_behind k (member l e ms) = is_gt (slice_cmp nat_cmp k l) && is_behind k ms
+
+pub then-given : (k : List ℕ) (o : Option Data) (ms ns : Members) → then (given k o ms) ns ≡ given k o (then ms ns)
+then-given k None ms ns = refl
+then-given k (Some d) ms ns = refl
+
+pub behind-given : (k l : List ℕ) (o : Option Data) (ms : Members) → is_gt (slice_cmp nat_cmp k l) ≡ true → is_behind k ms ≡ true → is_behind k (given l o ms) ≡ true
+behind-given k l None ms after rest = rest
+behind-given k l (Some d) ms after rest = rw (after, rest) refl
+
+both : (a b : Bool) → (a && b) ≡ true → (a ≡ true) × (b ≡ true)
+both true b e = (refl, e)
+both false b e = absurd (cc)
+
+-- a member whose key comes after all is put last
+pub put-behind : (k : List ℕ) (d : Data) (ms : Members) → is_behind k ms ≡ true → put k d ms ≡ then ms (member k d no_members)
+put-behind k d no_members after = refl
+put-behind k d (member l e ms) after =
+    let parts = both (is_gt (slice_cmp nat_cmp k l)) (is_behind k ms) after in
+    by (slice_cmp nat_cmp k l) parts.0 (put-behind k d ms parts.1)
+  where
+    by : (r : Ordering) → is_gt r ≡ true → put k d ms ≡ then ms (member k d no_members)
+        → match_ordering r (member k d (member l e ms)) (member l d ms) (member l e (put k d ms)) ≡ member l e (then ms (member k d no_members))
+    by Less e rest = absurd (cc)
+    by Equal e rest = absurd (cc)
+    by Greater e' rest = ap (member l e) rest
+
+then-none : (ms : Members) → then ms no_members ≡ ms
+then-none no_members = refl
+then-none (member k d ms) = ap (member k d) (then-none ms)
+
+pub put_given-behind : (k : List ℕ) (o : Option Data) (ms : Members) → is_behind k ms ≡ true → put_given k o ms ≡ then ms (given k o no_members)
+put_given-behind k None ms after = sym (then-none ms)
+put_given-behind k (Some d) ms after = put-behind k d ms after
+
+then-then : (ms ns os : Members) → then (then ms ns) os ≡ then ms (then ns os)
+then-then no_members ns os = refl
+then-then (member k d ms) ns os = ap (member k d) (then-then ms ns os)
+
+behind-then : (k : List ℕ) (ms ns : Members) → is_behind k ms ≡ true → is_behind k ns ≡ true → is_behind k (then ms ns) ≡ true
+behind-then k no_members ns one two = two
+behind-then k (member l e ms) ns one two =
+    let parts = both (is_gt (slice_cmp nat_cmp k l)) (is_behind k ms) one in
+    rw (parts.0, behind-then k ms ns parts.1 two) refl
+
+-- one more behind members that were put behind others
+put_given-then : (k : List ℕ) (o : Option Data) (ms ns : Members) → is_behind k ms ≡ true → is_behind k ns ≡ true → put_given k o (then ms ns) ≡ then ms (then ns (given k o no_members))
+put_given-then k o ms ns one two = put_given-behind k o (then ms ns) (behind-then k ms ns one two) ∙ then-then ms ns (given k o no_members)
+
+-- ## Limits
+
+module _ (l : Limit) where
+  abbrev cores : Option Data
+  cores = option_map count l.cores
+
+  abbrev ram : Option Data
+  ram = option_map count l.ram
+
+  abbrev servers : Option Data
+  servers = option_map count l.instances
+
+  pub then-limit : (ms ns : Members) → then (given_limit l ms) ns ≡ given_limit l (then ms ns)
+  then-limit ms ns =
+      then-given (codes "max-cores") cores (given (codes "max-ram") ram (given (codes "max-servers") servers ms)) ns
+      ∙ ap (given (codes "max-cores") cores) (then-given (codes "max-ram") ram (given (codes "max-servers") servers ms) ns
+      ∙ ap (given (codes "max-ram") ram) (then-given (codes "max-servers") servers ms ns))
+
+  pub behind-limit : (k : List ℕ) (ms : Members) → is_gt (slice_cmp nat_cmp k (codes "max-cores")) ≡ true → is_gt (slice_cmp nat_cmp k (codes "max-ram")) ≡ true → is_gt (slice_cmp nat_cmp k (codes "max-servers")) ≡ true
+      → is_behind k ms ≡ true → is_behind k (given_limit l ms) ≡ true
+  behind-limit k ms one two three rest =
+      behind-given k (codes "max-cores") cores (given (codes "max-ram") ram (given (codes "max-servers") servers ms)) one
+      (behind-given k (codes "max-ram") ram (given (codes "max-servers") servers ms) two (behind-given k (codes "max-servers") servers ms three rest))
+
+  -- a limit put behind members
+  pub put_limit-behind : (ms : Members) → is_behind (codes "max-cores") ms ≡ true → is_behind (codes "max-ram") ms ≡ true → is_behind (codes "max-servers") ms ≡ true → put_limit l ms ≡ then ms (given_limit l no_members)
+  put_limit-behind ms one two three =
+      let c = given (codes "max-cores") cores no_members in
+      let r = given (codes "max-ram") ram no_members in
+      let cr = given (codes "max-cores") cores r in
+      let s = given (codes "max-servers") servers no_members in
+      let first : put_given (codes "max-cores") cores ms ≡ then ms c = put_given-behind (codes "max-cores") cores ms one in
+      let second : put_given (codes "max-ram") ram (then ms c) ≡ then ms cr =
+      put_given-then (codes "max-ram") ram ms c two (behind-given (codes "max-ram") (codes "max-cores") cores no_members refl refl)
+      ∙ ap (then ms) (then-given (codes "max-cores") cores no_members r) in
+      let third : put_given (codes "max-servers") servers (then ms cr) ≡ then ms (given_limit l no_members) =
+      put_given-then (codes "max-servers") servers ms cr three
+      (behind-given (codes "max-servers") (codes "max-cores") cores r refl (behind-given (codes "max-servers") (codes "max-ram") ram no_members refl refl))
+      ∙ ap (then ms) (then-given (codes "max-cores") cores r s ∙ ap (given (codes "max-cores") cores) (then-given (codes "max-ram") ram no_members s)) in
+      ap (λ x. put_given (codes "max-servers") servers (put_given (codes "max-ram") ram x)) first ∙ ap (put_given (codes "max-servers") servers) second ∙ third
+
+  -- what is found under the keys of a limit, and under another
+  pub get-limit_other : (k : List ℕ) (ms : Members) → is_eq (slice_cmp nat_cmp k (codes "max-cores")) ≡ false → is_eq (slice_cmp nat_cmp k (codes "max-ram")) ≡ false → is_eq (slice_cmp nat_cmp k (codes "max-servers")) ≡ false
+      → get_member k (given_limit l ms) ≡ get_member k ms
+  get-limit_other k ms one two three =
+      get-other k (codes "max-cores") cores (given (codes "max-ram") ram (given (codes "max-servers") servers ms)) one
+      ∙ get-other k (codes "max-ram") ram (given (codes "max-servers") servers ms) two
+      ∙ get-other k (codes "max-servers") servers ms three
+
+  pub get-servers : (ms : Members) → get_member (codes "max-servers") ms ≡ None → get_member (codes "max-servers") (given_limit l ms) ≡ servers
+  get-servers ms none =
+      get-other (codes "max-servers") (codes "max-cores") cores (given (codes "max-ram") ram (given (codes "max-servers") servers ms)) refl
+      ∙ get-other (codes "max-servers") (codes "max-ram") ram (given (codes "max-servers") servers ms) refl
+      ∙ get-given (codes "max-servers") servers ms refl none
+
+  pub get-cores : (ms : Members) → get_member (codes "max-cores") ms ≡ None → get_member (codes "max-cores") (given_limit l ms) ≡ cores
+  get-cores ms none =
+      get-given (codes "max-cores") cores (given (codes "max-ram") ram (given (codes "max-servers") servers ms)) refl
+      (get-other (codes "max-cores") (codes "max-ram") ram (given (codes "max-servers") servers ms) refl ∙ get-other (codes "max-cores") (codes "max-servers") servers ms refl ∙ none)
+
+  pub get-ram : (ms : Members) → get_member (codes "max-ram") ms ≡ None → get_member (codes "max-ram") (given_limit l ms) ≡ ram
+  get-ram ms none =
+      get-other (codes "max-ram") (codes "max-cores") cores (given (codes "max-ram") ram (given (codes "max-servers") servers ms)) refl
+      ∙ get-given (codes "max-ram") ram (given (codes "max-servers") servers ms) refl (get-other (codes "max-ram") (codes "max-servers") servers ms refl ∙ none)
+
+  pub keys-limit : (keys : List (List ℕ)) (ms : Members) → list_any (bytes_eq (codes "max-cores")) keys ≡ true → list_any (bytes_eq (codes "max-ram")) keys ≡ true → list_any (bytes_eq (codes "max-servers")) keys ≡ true
+      → only_keys keys (given_limit l ms) ≡ only_keys keys ms
+  keys-limit keys ms one two three =
+      keys-given keys (codes "max-cores") cores (given (codes "max-ram") ram (given (codes "max-servers") servers ms)) one
+      ∙ keys-given keys (codes "max-ram") ram (given (codes "max-servers") servers ms) two
+      ∙ keys-given keys (codes "max-servers") servers ms three
+
+-- ## What the code puts
+
+pub pool_members : (starts offers name : Data) (l : Limit)
+    → put (codes "name") name (put_limit l (put (codes "labels") offers (put (codes "fail-starts") starts no_members)))
+    ≡ member (codes "fail-starts") starts (member (codes "labels") offers (given_limit l (member (codes "name") name no_members)))
+pool_members starts offers name l =
+    let base = member (codes "fail-starts") starts (member (codes "labels") offers no_members) in
+    let front : put_limit l base ≡ then base (given_limit l no_members) = put_limit-behind l base refl refl refl in
+    let last : is_behind (codes "name") (then base (given_limit l no_members)) ≡ true = behind-limit l (codes "name") no_members refl refl refl refl in
+    ap (put (codes "name") name) front ∙ put-behind (codes "name") name (then base (given_limit l no_members)) last
+    ∙ ap (then base) (then-limit l no_members (member (codes "name") name no_members))
 
 pub provider_members : (retries name pools : Data) (concurrency : Option ℕ)
-    → put (codes "pools") pools (put (codes "name") name (put_given (codes "max-concurrency") concurrency (put (codes "launch-retries") retries no_members)))
-    ≡ member (codes "launch-retries") retries (given (codes "max-concurrency") concurrency (member (codes "name") name (member (codes "pools") pools no_members)))
-provider_members retries name pools None = refl
-provider_members retries name pools (Some x) = refl
+    → put (codes "pools") pools (put (codes "name") name (put_count (codes "max-concurrency") concurrency (put (codes "launch-retries") retries no_members)))
+    ≡ member (codes "launch-retries") retries (given_count (codes "max-concurrency") concurrency (member (codes "name") name (member (codes "pools") pools no_members)))
+provider_members retries name pools concurrency =
+    let o = option_map count concurrency in
+    let base = member (codes "launch-retries") retries no_members in
+    let own : Members → Members = given (codes "max-concurrency") o in
+    let named = member (codes "name") name no_members in
+    let first : put_given (codes "max-concurrency") o base ≡ then base (own no_members) = put_given-behind (codes "max-concurrency") o base refl in
+    let second : put (codes "name") name (then base (own no_members)) ≡ then base (own named) =
+    put-behind (codes "name") name (then base (own no_members)) (behind-given (codes "name") (codes "max-concurrency") o no_members refl refl)
+    ∙ ap (then base) (then-given (codes "max-concurrency") o no_members named) in
+    let third : put (codes "pools") pools (then base (own named)) ≡ then base (own (then named (member (codes "pools") pools no_members))) =
+    put-behind (codes "pools") pools (then base (own named)) (behind-given (codes "pools") (codes "max-concurrency") o named refl refl)
+    ∙ ap (then base) (then-given (codes "max-concurrency") o named (member (codes "pools") pools no_members)) in
+    ap (λ x. put (codes "pools") pools (put (codes "name") name x)) first ∙ ap (put (codes "pools") pools) second ∙ third

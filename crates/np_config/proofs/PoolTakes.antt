@@ -8,25 +8,31 @@ use Rattle.serde_json.specs.Data.{Data}
 use Rattle.np_amount.specs.declared.amount.Limit.{Limit}
 use Rattle.np_json.specs.declared.fault.ConfigFault.{ConfigFault}
 use Rattle.np_json.specs.declared.leaf.Length.{Length}
-use Rattle.np_json.specs.Reading.{◌>>=◌, ◌>>◌}
+use Rattle.np_lists.specs.Refusals.{◌>>=◌, ◌>>◌}
 use Rattle.np_json.specs.Leaf.{object_at, name_at, whole_or, whole_maybe}
-use Rattle.np_json.proofs.Takes.{bind_ok, then_ok, ok, same_ok, whole_or-takes, whole_maybe-takes, name_at-takes, list_required-takes}
-use Rattle.np_config.specs.declared.row.Label.{Label}
-use Rattle.np_config.specs.declared.row.Provider.{Provider}
-use Rattle.np_config.specs.declared.row.Pool.{Pool}
-use Rattle.np_config.specs.declared.row.Offer.{Offer}
+use Rattle.np_lists.proofs.RefusalLemmas.{bind-ok, rest-ok}
+use Rattle.np_json.proofs.Takes.{ok, same_ok, whole_or-takes, whole_maybe-takes, name_at-takes, list_required-takes}
+use Rattle.np_text.specs.declared.limit.TheConstants.{LABELS, POOLS, FAIL_STARTS, LAUNCHES, CONCURRENCY, POOL_SERVERS, POOL_CORES, POOL_RAM}
+use Rattle.np_json.specs.Leaf.{one_to, behind}
+use Rattle.np_config.specs.Keys.{provider_keys, pool_keys}
+use Rattle.np_site.specs.declared.row.Label.{Label}
+use Rattle.np_site.specs.declared.row.Provider.{Provider}
+use Rattle.np_site.specs.declared.row.Pool.{Pool}
+use Rattle.np_site.specs.declared.row.Offer.{Offer}
 use Rattle.np_config.specs.declared.providers.PoolsOf.{PoolsOf}
 use Rattle.np_config.specs.declared.providers.Providers.{Providers}
 use Rattle.np_config.specs.Providers.{limit_at, offers_at, starts_at, pool_row, pool_at, provider_row, pools_at, provider_at}
-use Rattle.np_config.specs.Sound.{EachAfter, StandsByOwner, HasNewName, IsOffer, IsStart, IsPool, IsProvider, AreProviders}
-use Rattle.np_config.proofs.Turns.{EachAfter-push, EachAfter-append}
-use Rattle.np_config.proofs.Owners.{after_earlier, filter-append, filter-all}
+use Rattle.np_lists.specs.EachAfter.{EachAfter}
+use Rattle.np_site.specs.Sound.{StandsByOwner, HasNewName, IsLimit, IsOffer, IsStart, IsPool, IsProvider, AreProviders}
+use Rattle.np_lists.proofs.EachAfterLemmas.{EachAfter-push, EachAfter-append}
+use Rattle.std.proofs.lemmas.List.Elements.{filter-append}
+use Rattle.np_lists.proofs.KeptLemmas.{filter-keeps_all}
+use Rattle.np_site.proofs.Owners.{after_earlier}
 use Rattle.np_config.proofs.RowTakes.{Rows, Rows-push, new_name, offers_at-takes, starts_at-takes}
 
-record IsLimit (l : Limit) : Type 0 where
-  servers : IfSome l.instances (λ n. (0 ≤ n) × (n ≤ 1000000))
-  cores : IfSome l.cores (λ n. (0 ≤ n) × (n ≤ 1000000000))
-  ram : IfSome l.ram (λ n. (0 ≤ n) × (n ≤ 1000000000))
+up_to : (most : ℕ) (o : Option ℕ) → IfSome o (λ n. (0 ≤ n) × (n ≤ most)) → IfSome o (λ n. n ≤ most)
+up_to most None within = tt
+up_to most (Some n) within = within.1
 
 abbrev made_limit : Option ℕ → Option ℕ → Option ℕ → Limit
 made_limit x y z = record { instances = x; cores = y; ram = z }
@@ -34,16 +40,16 @@ made_limit x y z = record { instances = x; cores = y; ram = z }
 limit_at-takes : (at : List ℕ) (d : Data) (l : Limit) → limit_at at d ≡ Ok l → IsLimit l
 unfolding limit_at
 limit_at-takes at d l e =
-    let servers = whole_maybe at (codes "max-servers") 0 1000000 d in
-    let cores = whole_maybe at (codes "max-cores") 0 1000000000 d in
-    let ram = whole_maybe at (codes "max-ram") 0 1000000000 d in
-    let x = bind_ok servers (λ x. cores >>= λ y. ram >>= λ z. ok (made_limit x y z)) l e in
-    let y = bind_ok cores (λ y. ram >>= λ z. ok (made_limit x.0 y z)) l x.2 in
-    let z = bind_ok ram (λ z. ok (made_limit x.0 y.0 z)) l y.2 in
+    let servers = whole_maybe at (codes "max-servers") 0 POOL_SERVERS d in
+    let cores = whole_maybe at (codes "max-cores") 0 POOL_CORES d in
+    let ram = whole_maybe at (codes "max-ram") 0 POOL_RAM d in
+    let x = bind-ok servers (λ x. cores >>= λ y. ram >>= λ z. ok (made_limit x y z)) l e in
+    let y = bind-ok cores (λ y. ram >>= λ z. ok (made_limit x.0 y z)) l x.2 in
+    let z = bind-ok ram (λ z. ok (made_limit x.0 y.0 z)) l y.2 in
     subst IsLimit (same_ok (made_limit x.0 y.0 z.0) l z.2) (record {
-      servers = whole_maybe-takes at (codes "max-servers") 0 1000000 d x.0 x.1;
-      cores = whole_maybe-takes at (codes "max-cores") 0 1000000000 d y.0 y.1;
-      ram = whole_maybe-takes at (codes "max-ram") 0 1000000000 d z.0 z.1;
+      servers = up_to POOL_SERVERS x.0 (whole_maybe-takes at (codes "max-servers") 0 POOL_SERVERS d x.0 x.1);
+      cores = up_to POOL_CORES y.0 (whole_maybe-takes at (codes "max-cores") 0 POOL_CORES d y.0 y.1);
+      ram = up_to POOL_RAM z.0 (whole_maybe-takes at (codes "max-ram") 0 POOL_RAM d z.0 z.1);
     })
 
 -- the rest of a pool, beside its name
@@ -52,9 +58,9 @@ record IsRest (labels provider : ℕ) (name : List ℕ) (p : Pool) : Type 0 wher
   same_provider : p.provider ≡ provider
   limit : IsLimit p.limit
   offers : EachAfter (IsOffer labels) [] p.offers
-  few_offers : length p.offers ≤ 256
+  few_offers : length p.offers ≤ LABELS
   starts : EachAfter IsStart [] p.fail_starts
-  few_starts : length p.fail_starts ≤ 4096
+  few_starts : length p.fail_starts ≤ FAIL_STARTS
 
 abbrev made_pool : ℕ → List ℕ → Limit → List Offer → List ℕ → Pool
 made_pool provider name l o s = record { provider = provider; name = name; limit = l; offers = o; fail_starts = s }
@@ -64,9 +70,9 @@ unfolding pool_row
 pool_row-takes labels at provider name d p e =
     let offers = offers_at labels at d in
     let starts = starts_at at d in
-    let l = bind_ok (limit_at at d) (λ l. offers >>= λ o. starts >>= λ s. ok (made_pool provider name l o s)) p e in
-    let o = bind_ok offers (λ o. starts >>= λ s. ok (made_pool provider name l.0 o s)) p l.2 in
-    let s = bind_ok starts (λ s. ok (made_pool provider name l.0 o.0 s)) p o.2 in
+    let l = bind-ok (limit_at at d) (λ l. offers >>= λ o. starts >>= λ s. ok (made_pool provider name l o s)) p e in
+    let o = bind-ok offers (λ o. starts >>= λ s. ok (made_pool provider name l.0 o s)) p l.2 in
+    let s = bind-ok starts (λ s. ok (made_pool provider name l.0 o.0 s)) p o.2 in
     let good_offers = offers_at-takes labels at d o.0 o.1 in
     let good_starts = starts_at-takes at d s.0 s.1 in
     subst (IsRest (length labels) provider name) (same_ok (made_pool provider name l.0 o.0 s.0) p s.2) (record {
@@ -91,15 +97,13 @@ pool_at-takes labels k at n s t d are e =
     let named = name_at (λ (p : Pool). p.name) at s.pools d in
     let put : Pool → Result PoolsOf ConfigFault = λ p. ok (record s { pools = s.pools ++ p ∷ [] }) in
     let rest : List ℕ → Result PoolsOf ConfigFault = λ name. pool_row labels at s.provider name d >>= put in
-    let o = then_ok (object_at at (codes "name" ∷ codes "max-servers" ∷ codes "max-cores" ∷ codes "max-ram" ∷ codes "labels" ∷ codes "fail-starts" ∷ []) d) (named >>= rest) t e in
-    let a = bind_ok named rest t o in
-    let p = bind_ok (pool_row labels at s.provider a.0 d) put t a.2 in
+    let o = rest-ok (object_at at pool_keys d) (named >>= rest) t e in
+    let a = bind-ok named rest t o in
+    let p = bind-ok (pool_row labels at s.provider a.0 d) put t a.2 in
     let row = pool_row-takes labels at s.provider a.0 d p.0 p.1 in
     let is : IsPool (length labels) s.pools p.0 = record {
       name = new_name (λ (r : Pool). r.name) s.pools p.0 a.0 row.same_name (name_at-takes (λ (r : Pool). r.name) at s.pools d a.0 a.1);
-      servers = row.limit.servers;
-      cores = row.limit.cores;
-      ram = row.limit.ram;
+      limit = row.limit;
       offers = row.offers;
       few_offers = row.few_offers;
       starts = row.starts;
@@ -117,12 +121,12 @@ record AreOwn (labels provider earlier : ℕ) (ps : List Pool) : Type 0 where
   each : EachAfter (IsPool labels) [] ps
   owned : All (λ p. p.provider ≡ provider) ps
   some : 1 ≤ length ps
-  few : earlier + length ps ≤ 64
+  few : earlier + length ps ≤ POOLS
 
 pools_at-takes : (labels : List Label) (at : List ℕ) (earlier k : ℕ) (d : Data) (own : PoolsOf) → pools_at labels at earlier k d ≡ Ok own → AreOwn (length labels) k earlier own.pools
 unfolding pools_at
 pools_at-takes labels at earlier k d own e =
-    let l : Length = record { before = earlier; least = 1; most = 64 } in
+    let l : Length = behind earlier (one_to POOLS) in
     let none : PoolsOf = record { provider = k; pools = [] } in
     let start : ArePools (length labels) k 0 none = record { same_provider = refl; rows = (tt, refl); owned = All-nil (λ (p : Pool). p.provider ≡ k) } in
     let r = list_required-takes (pool_at labels) (ArePools (length labels) k) (pool_at-takes labels k) at (codes "pools") l none own d start e in
@@ -135,18 +139,18 @@ made_provider name r c = record { name = name; retries = r; concurrency = c }
 record IsProviderRest (name : List ℕ) (p : Provider) : Type 0 where
   same_name : p.name ≡ name
   some_try : 1 ≤ p.retries
-  retries : p.retries ≤ 16
-  concurrency : IfSome p.concurrency (λ n. (1 ≤ n) × (n ≤ 4096))
+  retries : p.retries ≤ LAUNCHES
+  concurrency : IfSome p.concurrency (λ n. (1 ≤ n) × (n ≤ CONCURRENCY))
 
 provider_row-takes : (at name : List ℕ) (d : Data) (p : Provider) → provider_row at name d ≡ Ok p → IsProviderRest name p
 unfolding provider_row
 provider_row-takes at name d p e =
-    let limits = whole_maybe at (codes "max-concurrency") 1 4096 d in
-    let r = bind_ok (whole_or at (codes "launch-retries") 1 16 3 d) (λ r. limits >>= λ c. ok (made_provider name r c)) p e in
-    let c = bind_ok limits (λ c. ok (made_provider name r.0 c)) p r.2 in
-    let tries = whole_or-takes at (codes "launch-retries") 1 16 3 d r.0 (omega arith) (omega arith) r.1 in
+    let limits = whole_maybe at (codes "max-concurrency") 1 CONCURRENCY d in
+    let r = bind-ok (whole_or at (codes "launch-retries") 1 LAUNCHES 3 d) (λ r. limits >>= λ c. ok (made_provider name r c)) p e in
+    let c = bind-ok limits (λ c. ok (made_provider name r.0 c)) p r.2 in
+    let tries = whole_or-takes at (codes "launch-retries") 1 LAUNCHES 3 d r.0 (omega arith) (omega arith) r.1 in
     subst (IsProviderRest name) (same_ok (made_provider name r.0 c.0) p c.2)
-    (record { same_name = refl; some_try = tries.0; retries = tries.1; concurrency = whole_maybe-takes at (codes "max-concurrency") 1 4096 d c.0 c.1 })
+    (record { same_name = refl; some_try = tries.0; retries = tries.1; concurrency = whole_maybe-takes at (codes "max-concurrency") 1 CONCURRENCY d c.0 c.1 })
 
 -- so many providers, with their pools
 abbrev pub Supply : ℕ → ℕ → Providers → Type 0
@@ -174,7 +178,7 @@ supply-more labels providers pools own p old next mine =
             | inl less ↦ let had = old.each_has_one j less in omega arith
             | inr least ↦
                 let same : j ≡ k = omega arith in
-                let all : filter (λ q. q.provider == j) own ≡ own = filter-all (λ (q : Pool). q.provider == j) own (All-weaker (λ (q : Pool). q.provider ≡ k) (λ (q : Pool). (q.provider == j) ≡ true) (λ q h. grind (arith, nat_tests)) own mine.owned) in
+                let all : filter (λ q. q.provider == j) own ≡ own = filter-keeps_all (λ (q : Pool). q.provider == j) own (All-weaker (λ (q : Pool). q.provider ≡ k) (λ (q : Pool). (q.provider == j) ≡ true) (λ q h. grind (arith, nat_tests)) own mine.owned) in
                 let count : length (filter (λ q. q.provider == j) own) ≡ length own = ap length all in
                 let some = mine.some in
                 omega arith
@@ -188,10 +192,10 @@ provider_at-takes labels at n s t d are e =
     let pools = pools_at labels at (length s.pools) (length s.providers) d in
     let put : Provider → PoolsOf → Result Providers ConfigFault = λ p own. ok (record { providers = s.providers ++ p ∷ []; pools = s.pools ++ own.pools }) in
     let rest : List ℕ → Result Providers ConfigFault = λ name. provider_row at name d >>= λ p. pools >>= put p in
-    let o = then_ok (object_at at (codes "name" ∷ codes "launch-retries" ∷ codes "max-concurrency" ∷ codes "pools" ∷ []) d) (named >>= rest) t e in
-    let a = bind_ok named rest t o in
-    let p = bind_ok (provider_row at a.0 d) (λ p. pools >>= put p) t a.2 in
-    let own = bind_ok pools (put p.0) t p.2 in
+    let o = rest-ok (object_at at provider_keys d) (named >>= rest) t e in
+    let a = bind-ok named rest t o in
+    let p = bind-ok (provider_row at a.0 d) (λ p. pools >>= put p) t a.2 in
+    let own = bind-ok pools (put p.0) t p.2 in
     let row = provider_row-takes at a.0 d p.0 p.1 in
     let is : IsProvider s.providers p.0 = record {
       name = new_name (λ (r : Provider). r.name) s.providers p.0 a.0 row.same_name (name_at-takes (λ (r : Provider). r.name) at s.providers d a.0 a.1);

@@ -5,16 +5,17 @@ use Rattle.serde_json.specs.View.{items_of}
 use Rattle.serde_json.specs.Written.{has_float, items_have_float, members_have_float}
 use Rattle.np_text.specs.declared.id.LabelId.{LabelId}
 use Rattle.np_text.specs.declared.id.SemId.{SemId}
-use Rattle.np_config.specs.declared.row.Label.{Label}
-use Rattle.np_config.specs.declared.row.Provider.{Provider}
-use Rattle.np_config.specs.declared.row.Pool.{Pool}
-use Rattle.np_config.specs.declared.row.Offer.{Offer}
-use Rattle.np_config.specs.declared.row.Sem.{Sem}
-use Rattle.np_config.specs.declared.row.Requester.{Requester}
-use Rattle.np_config.specs.declared.row.Job.{Job}
-use Rattle.np_config.specs.declared.row.Fault.{Fault}
-use Rattle.np_config.specs.Configuration.{Configuration}
-use Rattle.np_config.specs.Canonical.{count, given, list_data, label_data, label_name, semaphore_name, offer_data, pool_data, pools_of, provider_data, placed, semaphore_data, job_data, jobs_of, requester_data, fault_data, configuration_data}
+use Rattle.np_site.specs.declared.row.Label.{Label}
+use Rattle.np_site.specs.declared.row.Provider.{Provider}
+use Rattle.np_site.specs.declared.row.Pool.{Pool}
+use Rattle.np_site.specs.declared.row.Offer.{Offer}
+use Rattle.np_site.specs.declared.row.Sem.{Sem}
+use Rattle.np_site.specs.declared.row.Requester.{Requester}
+use Rattle.np_site.specs.declared.row.Job.{Job}
+use Rattle.np_site.specs.declared.row.Fault.{Fault}
+use Rattle.np_site.specs.Configuration.{Configuration}
+use Rattle.np_amount.specs.declared.amount.Limit.{Limit}
+use Rattle.np_config.specs.Canonical.{count, given_count, given_limit, list_data, label_data, label_name, semaphore_name, offer_data, pool_data, pools_of, provider_data, placed, semaphore_data, job_data, jobs_of, requester_data, fault_data, configuration_data}
 
 abbrev Plain : Data → Type 0
 Plain d = has_float d ≡ false
@@ -27,26 +28,24 @@ placed_plain : {T : Type 0} (shown : ℕ → T → Data) → ((k : ℕ) (x : T) 
 placed_plain shown each k [] = refl
 placed_plain shown each k (x ∷ xs) = rw (each k x) (placed_plain shown each (k + 1) xs)
 
-given_plain : (key : List ℕ) (o : Option ℕ) (ms : Members) → members_have_float (given key o ms) ≡ members_have_float ms
-given_plain key None ms = refl
-given_plain key (Some n) ms = refl
+count_plain : (key : List ℕ) (o : Option ℕ) (ms : Members) → members_have_float (given_count key o ms) ≡ members_have_float ms
+count_plain key None ms = refl
+count_plain key (Some n) ms = refl
+
+limit_plain : (l : Limit) (ms : Members) → members_have_float (given_limit l ms) ≡ members_have_float ms
+limit_plain l ms =
+    count_plain (codes "max-cores") l.cores (given_count (codes "max-ram") l.ram (given_count (codes "max-servers") l.instances ms))
+    ∙ count_plain (codes "max-ram") l.ram (given_count (codes "max-servers") l.instances ms)
+    ∙ count_plain (codes "max-servers") l.instances ms
 
 module _ (c : Configuration) where
   pool_plain : (p : Pool) → Plain (pool_data c p)
-  pool_plain p =
-      let cores = p.limit.cores in
-      let ram = p.limit.ram in
-      let servers = p.limit.instances in
-      let last = member (codes "name") (string p.name) no_members in
-      let third = given_plain (codes "max-servers") servers last in
-      let second = given_plain (codes "max-ram") ram (given (codes "max-servers") servers last) in
-      let first = given_plain (codes "max-cores") cores (given (codes "max-ram") ram (given (codes "max-servers") servers last)) in
-      rw (list_plain count (λ n. refl) p.fail_starts, list_plain (offer_data c) (λ o. refl) p.offers, first, second, third) refl
+  pool_plain p = rw (list_plain count (λ n. refl) p.fail_starts, list_plain (offer_data c) (λ o. refl) p.offers, limit_plain p.limit (member (codes "name") (string p.name) no_members)) refl
 
   provider_plain : (k : ℕ) (p : Provider) → Plain (provider_data c k p)
   provider_plain k p =
       let pools = list_plain (pool_data c) pool_plain (pools_of c k) in
-      rw (given_plain (codes "max-concurrency") p.concurrency (member (codes "name") (string p.name) (member (codes "pools") (list_data (pool_data c) (pools_of c k)) no_members)), pools) refl
+      rw (count_plain (codes "max-concurrency") p.concurrency (member (codes "name") (string p.name) (member (codes "pools") (list_data (pool_data c) (pools_of c k)) no_members)), pools) refl
 
   job_plain : (j : Job) → Plain (job_data c j)
   job_plain j = rw (list_plain (λ (l : LabelId). string (label_name c l)) (λ l. refl) j.labels, list_plain (λ (s : SemId). string (semaphore_name c s)) (λ s. refl) j.semaphores) refl
@@ -74,24 +73,24 @@ placed_depth : {T : Type 0} (shown : ℕ → T → Data) (n : ℕ) → ((k : ℕ
 placed_depth shown n each k [] = omega arith
 placed_depth shown n each k (x ∷ xs) = omega (arith, each k x, placed_depth shown n each (k + 1) xs)
 
-given_depth : (key : List ℕ) (o : Option ℕ) (ms : Members) → members_depth (given key o ms) ≡ members_depth ms
-given_depth key None ms = refl
-given_depth key (Some n) ms = omega arith
+count_depth : (key : List ℕ) (o : Option ℕ) (ms : Members) → members_depth (given_count key o ms) ≡ members_depth ms
+count_depth key None ms = refl
+count_depth key (Some n) ms = omega arith
+
+limit_depth : (l : Limit) (ms : Members) → members_depth (given_limit l ms) ≡ members_depth ms
+limit_depth l ms =
+    count_depth (codes "max-cores") l.cores (given_count (codes "max-ram") l.ram (given_count (codes "max-servers") l.instances ms))
+    ∙ count_depth (codes "max-ram") l.ram (given_count (codes "max-servers") l.instances ms)
+    ∙ count_depth (codes "max-servers") l.instances ms
 
 module _ (c : Configuration) where
   pool_depth : (p : Pool) → depth (pool_data c p) ≤ 3
   pool_depth p =
-      let cores = p.limit.cores in
-      let ram = p.limit.ram in
-      let servers = p.limit.instances in
-      let last = member (codes "name") (string p.name) no_members in
       omega (
         arith,
         list_depth count 0 (λ n. omega arith) p.fail_starts,
         list_depth (offer_data c) 1 (λ o. omega arith) p.offers,
-        given_depth (codes "max-servers") servers last,
-        given_depth (codes "max-ram") ram (given (codes "max-servers") servers last),
-        given_depth (codes "max-cores") cores (given (codes "max-ram") ram (given (codes "max-servers") servers last)),
+        limit_depth p.limit (member (codes "name") (string p.name) no_members),
       )
 
   provider_depth : (k : ℕ) (p : Provider) → depth (provider_data c k p) ≤ 5
@@ -99,7 +98,7 @@ module _ (c : Configuration) where
       omega (
         arith,
         list_depth (pool_data c) 3 pool_depth (pools_of c k),
-        given_depth (codes "max-concurrency") p.concurrency (member (codes "name") (string p.name) (member (codes "pools") (list_data (pool_data c) (pools_of c k)) no_members)),
+        count_depth (codes "max-concurrency") p.concurrency (member (codes "name") (string p.name) (member (codes "pools") (list_data (pool_data c) (pools_of c k)) no_members)),
       )
 
   job_depth : (j : Job) → depth (job_data c j) ≤ 2

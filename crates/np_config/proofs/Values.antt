@@ -6,7 +6,7 @@ use Rattle.serde_json.specs.Data.{Data}
 use Rattle.serde_json.specs.View.{view}
 use Rattle.serde_json.specs.declared.value.Value.{Value}
 use Rattle.np_config.specs.Canonical.{placed}
-use Rattle.np_config.proofs.Owners.{filter-append}
+use Rattle.std.proofs.lemmas.List.Elements.{filter-append}
 
 module _ {T : Type 0} (shown : T → Data) where
   -- one row more

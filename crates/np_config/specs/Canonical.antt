@@ -1,7 +1,7 @@
 -- the one text of a configuration: compact JSON, keys in byte order, every default written, an absent limit left absent (own)
 use Rattle.std.specs.Prelude.{ℕ, ◌+◌, ◌==◌, List, [], ◌∷◌, codes, map, filter, slice_get, Bool, Option, Some, None, if◌then◌else◌}
-use Rattle.std.specs.Option.{option_map_or}
-use Rattle.serde_json.specs.Data.{Data, number, unsigned, boolean, string, array, object, Members, no_members, member, put}
+use Rattle.std.specs.Option.{option_map, option_map_or}
+use Rattle.serde_json.specs.Data.{Data, number, unsigned, boolean, string, array, object, Members, no_members, member}
 use Rattle.serde_json.specs.View.{items_of}
 use Rattle.serde_json.specs.Written.{compact_text}
 use Rattle.np_text.specs.declared.id.LabelId.{LabelId}
@@ -10,33 +10,36 @@ use Rattle.np_text.specs.declared.id.PoolId.{PoolId}
 use Rattle.np_text.specs.declared.id.RequesterId.{RequesterId}
 use Rattle.np_text.specs.declared.id.Role.{Role}
 use Rattle.np_text.specs.declared.id.Role.TheVariants as role
-use Rattle.np_text.specs.declared.word.EndAs.{EndAs}
-use Rattle.np_text.specs.declared.word.EndAs.TheVariants.{Used, Hold}
-use Rattle.np_config.specs.declared.row.Label.{Label}
-use Rattle.np_config.specs.declared.row.Provider.{Provider}
-use Rattle.np_config.specs.declared.row.Pool.{Pool}
-use Rattle.np_config.specs.declared.row.Offer.{Offer}
-use Rattle.np_config.specs.declared.row.Sem.{Sem}
-use Rattle.np_config.specs.declared.row.Requester.{Requester}
-use Rattle.np_config.specs.declared.row.Job.{Job}
-use Rattle.np_config.specs.declared.row.Fault.{Fault}
-use Rattle.np_config.specs.declared.row.FaultKind.{FaultKind}
-use Rattle.np_config.specs.declared.row.FaultKind.TheVariants.{Expire, Crash, Stop}
-use Rattle.np_config.specs.Configuration.{Configuration}
+use Rattle.np_text.specs.declared.word.RoleKind.TheVariants as kind
+use Rattle.np_text.specs.Word.{end_as_word, role_kind_word}
+use Rattle.np_amount.specs.declared.amount.Limit.{Limit}
+use Rattle.np_site.specs.declared.row.Label.{Label}
+use Rattle.np_site.specs.declared.row.Provider.{Provider}
+use Rattle.np_site.specs.declared.row.Pool.{Pool}
+use Rattle.np_site.specs.declared.row.Offer.{Offer}
+use Rattle.np_site.specs.declared.row.Sem.{Sem}
+use Rattle.np_site.specs.declared.row.Requester.{Requester}
+use Rattle.np_site.specs.declared.row.Job.{Job}
+use Rattle.np_site.specs.declared.row.Fault.{Fault}
+use Rattle.np_site.specs.Word.{fault_kind_word}
+use Rattle.np_site.specs.Configuration.{Configuration}
 use Rattle.np_config.specs.Names.{pool_name}
 
 abbrev pub count : ℕ → Data
 count n = number (unsigned n)
 
 -- a member that may be absent
-abbrev pub given : List ℕ → Option ℕ → Members → Members
+abbrev pub given : List ℕ → Option Data → Members → Members
 given key None ms = ms
-given key (Some n) ms = member key (count n) ms
+given key (Some d) ms = member key d ms
 
--- the members, with the number at a key where there is one
-abbrev pub put_given : List ℕ → Option ℕ → Members → Members
-put_given key None ms = ms
-put_given key (Some n) ms = put key (count n) ms
+-- a number that may be absent
+abbrev pub given_count : List ℕ → Option ℕ → Members → Members
+given_count key o ms = given key (option_map count o) ms
+
+-- the limits that are there
+abbrev pub given_limit : Limit → Members → Members
+given_limit l ms = given_count (codes "max-cores") l.cores (given_count (codes "max-ram") l.ram (given_count (codes "max-servers") l.instances ms))
 
 -- the rows of a list, each with its own value
 abbrev pub list_data : {T : Type 0} → (T → Data) → List T → Data
@@ -65,10 +68,8 @@ abbrev pub pool_data : Configuration → Pool → Data
 pool_data c p = object (
     member (codes "fail-starts") (list_data count p.fail_starts) (
     member (codes "labels") (list_data (offer_data c) p.offers) (
-    given (codes "max-cores") p.limit.cores (
-    given (codes "max-ram") p.limit.ram (
-    given (codes "max-servers") p.limit.instances (
-    member (codes "name") (string p.name) no_members))))))
+    given_limit p.limit (
+    member (codes "name") (string p.name) no_members))))
 
 -- the pools of the provider at a place
 abbrev pub pools_of : Configuration → ℕ → List Pool
@@ -77,7 +78,7 @@ pools_of c k = filter (λ p. p.provider == k) c.pools
 abbrev pub provider_data : Configuration → ℕ → Provider → Data
 provider_data c k p = object (
     member (codes "launch-retries") (count p.retries) (
-    given (codes "max-concurrency") p.concurrency (
+    given_count (codes "max-concurrency") p.concurrency (
     member (codes "name") (string p.name) (
     member (codes "pools") (list_data (pool_data c) (pools_of c k)) no_members))))
 
@@ -93,13 +94,9 @@ semaphore_data s = object (member (codes "max") (count s.max) (member (codes "na
 abbrev pub priority_word : ℕ → List ℕ
 priority_word n = if n == 100 then codes "high" else (if n == 200 then codes "normal" else codes "low")
 
-abbrev pub end_word : EndAs → List ℕ
-end_word Used = codes "used"
-end_word Hold = codes "hold"
-
 abbrev pub job_data : Configuration → Job → Data
 job_data c j = object (
-    member (codes "end") (string (end_word j.end)) (
+    member (codes "end") (string (end_as_word j.end)) (
     member (codes "labels") (list_data (λ l. string (label_name c l)) j.labels) (
     member (codes "name") (string j.name) (
     member (codes "priority") (string (priority_word j.priority)) (
@@ -114,15 +111,11 @@ jobs_of c k = filter (λ j. j.requester.0 == k) c.jobs
 abbrev pub requester_data : Configuration → ℕ → Requester → Data
 requester_data c k q = object (member (codes "jobs") (list_data (job_data c) (jobs_of c k)) (member (codes "name") (string q.name) (member (codes "window") (count q.window) no_members)))
 
-abbrev pub kind_word : FaultKind → List ℕ
-kind_word Expire = codes "expire"
-kind_word Crash = codes "crash"
-kind_word Stop = codes "stop"
-
+-- the word of the kind of a role; the reaper has no fault
 abbrev pub role_word : Role → List ℕ
-role_word (role.Launcher p) = codes "launcher"
-role_word (role.Janitor p) = codes "janitor"
-role_word (role.Requester q) = codes "requester"
+role_word (role.Launcher p) = role_kind_word kind.Launcher
+role_word (role.Janitor p) = role_kind_word kind.Janitor
+role_word (role.Requester q) = role_kind_word kind.Requester
 role_word role.Reaper = []
 
 -- the name that a fault's role goes by
@@ -135,7 +128,7 @@ role_name c role.Reaper = []
 abbrev pub fault_data : Configuration → Fault → Data
 fault_data c f = object (
     member (codes "after") (count f.after) (
-    member (codes "kind") (string (kind_word f.kind)) (
+    member (codes "kind") (string (fault_kind_word f.kind)) (
     member (codes "name") (string (role_name c f.role)) (
     member (codes "role") (string (role_word f.role)) no_members))))
 

@@ -1,27 +1,25 @@
 -- planned faults, as they are read (own)
 use Rattle.std.specs.Prelude.{ℕ, List, [], ◌∷◌, ◌++◌, codes, Bool, if◌then◌else◌, Option, Some, None, Result, Ok, Err}
 use Rattle.std.specs.Option.{option_map}
-use Rattle.std.specs.Str.{bytes_eq}
 use Rattle.serde_json.specs.Data.{Data}
 use Rattle.np_text.specs.declared.id.Role.{Role}
 use Rattle.np_text.specs.declared.id.Role.TheVariants as role
+use Rattle.np_text.specs.declared.limit.TheConstants.{FAULT_ACTS}
+use Rattle.np_text.specs.declared.word.RoleKind.{RoleKind}
+use Rattle.np_text.specs.declared.word.RoleKind.TheVariants as kind
+use Rattle.np_text.specs.Word.{role_kind_of}
 use Rattle.np_json.specs.declared.fault.ConfigKind.TheVariants.{UnknownName}
 use Rattle.np_json.specs.declared.fault.ConfigFault.{ConfigFault}
-use Rattle.np_json.specs.Reading.{◌>>=◌, ◌>>◌, found, below}
+use Rattle.np_lists.specs.Refusals.{◌>>=◌, ◌>>◌, found}
+use Rattle.np_json.specs.Reading.{below}
 use Rattle.np_json.specs.Leaf.{object_at, required, text_value, whole_required}
 use Rattle.np_json.specs.Rows.{ReadsItem}
-use Rattle.np_config.specs.declared.row.Requester.{Requester}
-use Rattle.np_config.specs.declared.row.Fault.{Fault}
-use Rattle.np_config.specs.declared.row.FaultKind.{FaultKind}
-use Rattle.np_config.specs.declared.row.FaultKind.TheVariants.{Expire, Crash, Stop}
-use Rattle.np_config.specs.declared.faults.RoleKind.{RoleKind}
-use Rattle.np_config.specs.declared.faults.RoleKind.TheVariants as kind
+use Rattle.np_site.specs.declared.row.Requester.{Requester}
+use Rattle.np_site.specs.declared.row.Fault.{Fault}
+use Rattle.np_site.specs.Word.{fault_kind_of}
+use Rattle.np_config.specs.Keys.{fault_keys}
 use Rattle.np_config.specs.Names.{pool_named, requester_named}
 use Rattle.np_config.specs.Requesters.{word_value}
-
--- what kind of role a word means
-abbrev pub kind_of : List ℕ → Option RoleKind
-kind_of word = if bytes_eq word (codes "launcher") then Some kind.Launcher else (if bytes_eq word (codes "janitor") then Some kind.Janitor else (if bytes_eq word (codes "requester") then Some kind.Requester else None))
 
 -- a word with a meaning, which has to be there
 unfoldable pub required_word : {A : Type 0} → (List ℕ → Option A) → List ℕ → List ℕ → Data → Result A ConfigFault
@@ -33,21 +31,17 @@ role_named pools requesters kind.Launcher text = option_map (λ n. role.Launcher
 role_named pools requesters kind.Janitor text = option_map (λ n. role.Janitor (record { 0 = n })) (pool_named pools text)
 role_named pools requesters kind.Requester text = option_map (λ n. role.Requester (record { 0 = n })) (requester_named requesters text)
 
--- what a word does to a role
-abbrev pub fault_kind_of : List ℕ → Option FaultKind
-fault_kind_of word = if bytes_eq word (codes "expire") then Some Expire else (if bytes_eq word (codes "crash") then Some Crash else (if bytes_eq word (codes "stop") then Some Stop else None))
-
 -- the role of a fault
 unfoldable pub role_at : List (List ℕ) → List Requester → List ℕ → Data → Result Role ConfigFault
 role_at pools requesters at d = do
-  kind ← required_word kind_of at (codes "role") d
+  kind ← required_word role_kind_of at (codes "role") d
   required_word (role_named pools requesters kind) at (codes "name") d
 
 -- a fault of a role that is there; pools go by their full names
 unfoldable pub fault_at : List (List ℕ) → List Requester → ReadsItem (List Fault)
 fault_at pools requesters at earlier d = do
-  object_at at (codes "role" ∷ codes "name" ∷ codes "kind" ∷ codes "after" ∷ []) d
+  object_at at fault_keys d
   role ← role_at pools requesters at d
   kind ← required_word fault_kind_of at (codes "kind") d
-  after ← whole_required at (codes "after") 0 262144 d
+  after ← whole_required at (codes "after") 0 FAULT_ACTS d
   Ok (earlier ++ record { role = role; kind = kind; after = after } ∷ [])

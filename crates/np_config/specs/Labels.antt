@@ -2,23 +2,25 @@
 use Rattle.std.specs.Prelude.{ℕ, List, [], ◌∷◌, ◌++◌, codes, Result, Ok, Err}
 use Rattle.serde_json.specs.Data.{Data}
 use Rattle.np_json.specs.declared.fault.ConfigFault.{ConfigFault}
-use Rattle.np_json.specs.Reading.{◌>>=◌, ◌>>◌}
+use Rattle.np_lists.specs.Refusals.{◌>>=◌, ◌>>◌}
 use Rattle.np_json.specs.Leaf.{object_at, name_at, whole_or}
 use Rattle.np_json.specs.Rows.{ReadsItem}
-use Rattle.np_config.specs.declared.row.Label.{Label}
-use Rattle.np_config.specs.declared.row.Sem.{Sem}
+use Rattle.np_text.specs.declared.limit.TheConstants.{MIN_READY, AGE, HANDLES}
+use Rattle.np_site.specs.declared.row.Label.{Label}
+use Rattle.np_site.specs.declared.row.Sem.{Sem}
+use Rattle.np_config.specs.Keys.{label_keys, semaphore_keys}
 
 -- the rest of a label
 unfoldable pub label_row : List ℕ → List ℕ → Data → Result Label ConfigFault
 label_row at name d = do
-  min_ready ← whole_or at (codes "min-ready") 0 1000 0 d
-  max_ready_age ← whole_or at (codes "max-ready-age") 0 1000000 0 d
+  min_ready ← whole_or at (codes "min-ready") 0 MIN_READY 0 d
+  max_ready_age ← whole_or at (codes "max-ready-age") 0 AGE 0 d
   Ok (record { name = name; min_ready = min_ready; max_ready_age = max_ready_age })
 
 -- a label beside those before it (Nodepool: `min-ready`, `max-ready-age`; ranges and defaults own)
 unfoldable pub label_at : ReadsItem (List Label)
 label_at at earlier d = do
-  object_at at (codes "name" ∷ codes "min-ready" ∷ codes "max-ready-age" ∷ []) d
+  object_at at label_keys d
   name ← name_at (λ (l : Label). l.name) at earlier d
   label ← label_row at name d
   Ok (earlier ++ label ∷ [])
@@ -26,7 +28,7 @@ label_at at earlier d = do
 -- a semaphore beside those before it (Zuul: `max`; range and default own)
 unfoldable pub semaphore_at : ReadsItem (List Sem)
 semaphore_at at earlier d = do
-  object_at at (codes "name" ∷ codes "max" ∷ []) d
+  object_at at semaphore_keys d
   name ← name_at (λ (s : Sem). s.name) at earlier d
-  max ← whole_or at (codes "max") 1 4096 1 d
+  max ← whole_or at (codes "max") 1 HANDLES 1 d
   Ok (earlier ++ record { name = name; max = max } ∷ [])

@@ -1,9 +1,12 @@
-pub mod Configuration
+pub mod Keys
 pub mod Names
 pub mod Labels
 pub mod Providers
 pub mod Requesters
 pub mod Faults
-pub mod Sound
 pub mod Walk
 pub mod Canonical
+pub mod Defaults
+pub mod Put
+pub mod FirstFaults
+pub mod Worked

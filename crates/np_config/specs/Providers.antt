@@ -5,86 +5,77 @@ use Rattle.std.specs.Option.{option_map_or}
 use Rattle.serde_json.specs.Data.{Data}
 use Rattle.np_amount.specs.declared.amount.Amount.{Amount}
 use Rattle.np_amount.specs.declared.amount.Limit.{Limit}
+use Rattle.np_text.specs.declared.limit.TheConstants.{LABELS, POOLS, FAIL_STARTS, LAUNCHES, CONCURRENCY, POOL_SERVERS, POOL_CORES, POOL_RAM, NODE_CORES, NODE_RAM, START_NUMBER}
 use Rattle.np_text.specs.declared.id.LabelId.{LabelId}
 use Rattle.np_json.specs.declared.fault.ConfigKind.TheVariants.{OutOfRange, Repeated, UnknownName}
 use Rattle.np_json.specs.declared.fault.ConfigFault.{ConfigFault}
-use Rattle.np_json.specs.declared.leaf.Length.{Length}
-use Rattle.np_json.specs.Reading.{◌>>=◌, ◌>>◌, refuse, need, below}
-use Rattle.np_json.specs.Leaf.{object_at, required, text_value, name_at, whole_value, whole_or, whole_maybe}
+use Rattle.np_lists.specs.Refusals.{◌>>=◌, ◌>>◌, need, found}
+use Rattle.np_json.specs.Reading.{fault, below}
+use Rattle.np_json.specs.Leaf.{at_most, one_to, behind, object_at, required, text_value, name_at, whole_value, whole_or, whole_maybe}
 use Rattle.np_json.specs.Rows.{ReadsItem, list_required, list_maybe}
-use Rattle.np_config.specs.declared.row.Label.{Label}
-use Rattle.np_config.specs.declared.row.Provider.{Provider}
-use Rattle.np_config.specs.declared.row.Pool.{Pool}
-use Rattle.np_config.specs.declared.row.Offer.{Offer}
+use Rattle.np_site.specs.declared.row.Label.{Label}
+use Rattle.np_site.specs.declared.row.Provider.{Provider}
+use Rattle.np_site.specs.declared.row.Pool.{Pool}
+use Rattle.np_site.specs.declared.row.Offer.{Offer}
 use Rattle.np_config.specs.declared.providers.PoolsOf.{PoolsOf}
 use Rattle.np_config.specs.declared.providers.Providers.{Providers}
+use Rattle.np_site.specs.Sound.{is_unoffered, is_above}
+use Rattle.np_config.specs.Keys.{provider_keys, pool_keys, offer_keys}
 use Rattle.np_config.specs.Names.{label_named}
-
--- a list of at most so many items
-abbrev pub at_most : ℕ → Length
-at_most most = record { before = 0; least = 0; most = most }
 
 -- the label with this name
 unfoldable pub label_for : List Label → List ℕ → List ℕ → Result LabelId ConfigFault
-label_for labels at text = option_map_or (λ n. Ok (record { 0 = n })) (label_named labels text) (refuse UnknownName at)
+label_for labels at text = found (label_named labels text) (fault UnknownName at) >>= λ n. Ok (record { 0 = n })
 
 -- the label whose name stands at a place
 unfoldable pub label_value : List Label → List ℕ → Data → Result LabelId ConfigFault
 label_value labels at d = text_value at d >>= label_for labels at
-
--- whether none of the offers is of this label
-abbrev pub is_unoffered : List Offer → LabelId → Bool
-is_unoffered offers label = not (list_any (λ o. label.0 == o.label.0) offers)
 
 -- the label of an offer, which the pool did not offer before
 unfoldable pub offer_label : List Label → List ℕ → List Offer → Data → Result LabelId ConfigFault
 offer_label labels at earlier d = do
   name ← required at (codes "name") d
   label ← label_value labels (below at (codes "name")) name
-  need (is_unoffered earlier label) Repeated (below at (codes "name"))
+  need (is_unoffered earlier label) (fault Repeated (below at (codes "name")))
   Ok label
 
 -- what a node of an offer takes
 unfoldable pub offer_amount : List ℕ → Data → Result Amount ConfigFault
 offer_amount at d = do
-  cores ← whole_or at (codes "cores") 0 1000 1 d
-  ram ← whole_or at (codes "ram") 0 1000000 1024 d
+  cores ← whole_or at (codes "cores") 0 NODE_CORES 1 d
+  ram ← whole_or at (codes "ram") 0 NODE_RAM 1024 d
   Ok (record { instances = 1; cores = cores; ram = ram })
 
 -- an offer beside those of its pool before it (Nodepool: the labels of a pool; ranges and defaults own)
 unfoldable pub offer_at : List Label → ReadsItem (List Offer)
 offer_at labels at earlier d = do
-  object_at at (codes "name" ∷ codes "cores" ∷ codes "ram" ∷ []) d
+  object_at at offer_keys d
   label ← offer_label labels at earlier d
   amount ← offer_amount at d
   Ok (earlier ++ record { label = label; amount = amount } ∷ [])
 
--- whether the number is above the last one
-abbrev pub is_above : List ℕ → ℕ → Bool
-is_above earlier n = option_map_or (λ last. nat_lt last n) (slice_get earlier (length earlier - 1)) true
-
 -- a start that fails, above the one before it (own)
 unfoldable pub start_at : ReadsItem (List ℕ)
 start_at at earlier d = do
-  n ← whole_value at 1 262144 d
-  need (is_above earlier n) OutOfRange at
+  n ← whole_value at 1 START_NUMBER d
+  need (is_above earlier n) (fault OutOfRange at)
   Ok (earlier ++ n ∷ [])
 
 -- the limits of a pool (Nodepool: `max-servers`, `max-cores`, `max-ram`; ranges own)
 unfoldable pub limit_at : List ℕ → Data → Result Limit ConfigFault
 limit_at at d = do
-  servers ← whole_maybe at (codes "max-servers") 0 1000000 d
-  cores ← whole_maybe at (codes "max-cores") 0 1000000000 d
-  ram ← whole_maybe at (codes "max-ram") 0 1000000000 d
+  servers ← whole_maybe at (codes "max-servers") 0 POOL_SERVERS d
+  cores ← whole_maybe at (codes "max-cores") 0 POOL_CORES d
+  ram ← whole_maybe at (codes "max-ram") 0 POOL_RAM d
   Ok (record { instances = servers; cores = cores; ram = ram })
 
 -- the offers of a pool
 unfoldable pub offers_at : List Label → List ℕ → Data → Result (List Offer) ConfigFault
-offers_at labels at d = list_required (offer_at labels) at (codes "labels") (at_most 256) [] d
+offers_at labels at d = list_required (offer_at labels) at (codes "labels") (at_most LABELS) [] d
 
 -- the failing starts of a pool
 unfoldable pub starts_at : List ℕ → Data → Result (List ℕ) ConfigFault
-starts_at at d = list_maybe start_at at (codes "fail-starts") (at_most 4096) [] d
+starts_at at d = list_maybe start_at at (codes "fail-starts") (at_most FAIL_STARTS) [] d
 
 -- the rest of a pool of the provider at a place
 unfoldable pub pool_row : List Label → List ℕ → ℕ → List ℕ → Data → Result Pool ConfigFault
@@ -97,7 +88,7 @@ pool_row labels at provider name d = do
 -- a pool beside those of its provider before it (Nodepool)
 unfoldable pub pool_at : List Label → ReadsItem PoolsOf
 pool_at labels at s d = do
-  object_at at (codes "name" ∷ codes "max-servers" ∷ codes "max-cores" ∷ codes "max-ram" ∷ codes "labels" ∷ codes "fail-starts" ∷ []) d
+  object_at at pool_keys d
   name ← name_at (λ (p : Pool). p.name) at s.pools d
   pool ← pool_row labels at s.provider name d
   Ok (record s { pools = s.pools ++ pool ∷ [] })
@@ -105,18 +96,18 @@ pool_at labels at s d = do
 -- the rest of a provider (Nodepool: `launch-retries`, `max-concurrency`; ranges and defaults own)
 unfoldable pub provider_row : List ℕ → List ℕ → Data → Result Provider ConfigFault
 provider_row at name d = do
-  retries ← whole_or at (codes "launch-retries") 1 16 3 d
-  concurrency ← whole_maybe at (codes "max-concurrency") 1 4096 d
+  retries ← whole_or at (codes "launch-retries") 1 LAUNCHES 3 d
+  concurrency ← whole_maybe at (codes "max-concurrency") 1 CONCURRENCY d
   Ok (record { name = name; retries = retries; concurrency = concurrency })
 
 -- the pools of a provider, after so many of earlier providers
 unfoldable pub pools_at : List Label → List ℕ → ℕ → ℕ → Data → Result PoolsOf ConfigFault
-pools_at labels at earlier provider d = list_required (pool_at labels) at (codes "pools") (record { before = earlier; least = 1; most = 64 }) (record { provider = provider; pools = [] }) d
+pools_at labels at earlier provider d = list_required (pool_at labels) at (codes "pools") (behind earlier (one_to POOLS)) (record { provider = provider; pools = [] }) d
 
 -- a provider beside those before it, with its pools (Nodepool)
 unfoldable pub provider_at : List Label → ReadsItem Providers
 provider_at labels at s d = do
-  object_at at (codes "name" ∷ codes "launch-retries" ∷ codes "max-concurrency" ∷ codes "pools" ∷ []) d
+  object_at at provider_keys d
   name ← name_at (λ (p : Provider). p.name) at s.providers d
   provider ← provider_row at name d
   own ← pools_at labels at (length s.pools) (length s.providers) d

@@ -4,9 +4,9 @@ ghost use Rattle.std.specs.Prelude.{◌≡◌, Ok, slice_get};
 ghost use Rattle.std.specs.Option.{option_copied};
 
 use crate::print::config_value;
-use crate::row::{Fault, Job, Label, Pool, Provider, Requester, Sem};
 use crate::walk::config_of;
 use np_json::ConfigRead;
+use np_site::{Fault, Job, Label, Pool, Provider, Requester, Sem};
 use np_text::{JobId, LabelId, NoMemory, PoolId, RequesterId, SemId};
 use std::alloc::Global;
 use std::marker::Model;
@@ -25,36 +25,20 @@ pub struct Config {
 }
 
 impl Model for Config {
-    ghost use Rattle.np_config.specs.Configuration.{Configuration};
+    ghost use Rattle.np_site.specs.Configuration.{Configuration, configuration};
+    ghost use Rattle.np_site.specs.Sound.{IsSound};
 
     ghost Value = { Configuration };
 
-    ghost use Rattle.np_config.specs.Sound.{IsSound};
+    ghost view = { λ c. configuration c.labels.items c.providers.items c.pools.items
+        c.semaphores.items c.requesters.items c.jobs.items c.faults.items c.max_hold_age };
 
-    ghost view = { λ c. record {
-      labels = c.labels.items;
-      providers = c.providers.items;
-      pools = c.pools.items;
-      semaphores = c.semaphores.items;
-      requesters = c.requesters.items;
-      jobs = c.jobs.items;
-      faults = c.faults.items;
-      max_hold_age = c.max_hold_age;
-    } };
-
-    ghost invariant = { λ c. IsSound (record {
-      labels = c.labels.items;
-      providers = c.providers.items;
-      pools = c.pools.items;
-      semaphores = c.semaphores.items;
-      requesters = c.requesters.items;
-      jobs = c.jobs.items;
-      faults = c.faults.items;
-      max_hold_age = c.max_hold_age;
-    }) };
+    ghost invariant = { λ c. IsSound (configuration c.labels.items c.providers.items c.pools.items
+        c.semaphores.items c.requesters.items c.jobs.items c.faults.items c.max_hold_age) };
 }
 
-ghost use Rattle.np_config.specs.Sound.{IsSound};
+ghost use Rattle.np_site.specs.Configuration.{configuration};
+ghost use Rattle.np_site.specs.Sound.{IsSound};
 ghost use Rattle.std.specs.Prelude.{IfOk};
 ghost use Rattle.np_json.specs.Reading.{Gives};
 ghost use Rattle.np_config.specs.Walk.{reads};
@@ -72,8 +56,10 @@ impl Config {
         config_of(alloc, bytes)
     }
 
-    /// The configuration with these tables, of which each id is a place. It takes no memory.
+    /// The configuration with these tables, of which each id is a place. No table of today takes
+    /// memory beside the rows that are given.
     pub fn of_parts(
+        _alloc: Global,
         labels: Vec<Label>,
         providers: Vec<Provider>,
         pools: Vec<Pool>,
@@ -83,28 +69,12 @@ impl Config {
         faults: Vec<Fault>,
         max_hold_age: u32,
     ) -> Result<Config, NoMemory>
-        requires { IsSound (record {
-          labels = labels.items;
-          providers = providers.items;
-          pools = pools.items;
-          semaphores = semaphores.items;
-          requesters = requesters.items;
-          jobs = jobs.items;
-          faults = faults.items;
-          max_hold_age = max_hold_age;
-        }) }
-        ensures { result ≡ Ok (record {
-          labels = labels.items;
-          providers = providers.items;
-          pools = pools.items;
-          semaphores = semaphores.items;
-          requesters = requesters.items;
-          jobs = jobs.items;
-          faults = faults.items;
-          max_hold_age = max_hold_age;
-        }) }
+        requires { IsSound (configuration labels.items providers.items pools.items
+            semaphores.items requesters.items jobs.items faults.items max_hold_age) }
+        ensures { result ≡ Ok (configuration labels.items providers.items pools.items
+            semaphores.items requesters.items jobs.items faults.items max_hold_age) }
     {
-        Ok(Config::of_tables(
+        Ok(Config {
             labels,
             providers,
             pools,
@@ -113,50 +83,14 @@ impl Config {
             jobs,
             faults,
             max_hold_age,
-        ))
+        })
     }
 
-    pub(crate) fn of_tables(
-        labels: Vec<Label>,
-        providers: Vec<Provider>,
-        pools: Vec<Pool>,
-        semaphores: Vec<Sem>,
-        requesters: Vec<Requester>,
-        jobs: Vec<Job>,
-        faults: Vec<Fault>,
-        max_hold_age: u32,
-    ) -> Config
-        requires { IsSound (record {
-          labels = labels.items;
-          providers = providers.items;
-          pools = pools.items;
-          semaphores = semaphores.items;
-          requesters = requesters.items;
-          jobs = jobs.items;
-          faults = faults.items;
-          max_hold_age = max_hold_age;
-        }) }
-        ensures { result ≡ record {
-          labels = labels.items;
-          providers = providers.items;
-          pools = pools.items;
-          semaphores = semaphores.items;
-          requesters = requesters.items;
-          jobs = jobs.items;
-          faults = faults.items;
-          max_hold_age = max_hold_age;
-        } }
+    /// Every configuration is sound. The call does nothing: a caller's proof takes the fact from it.
+    pub fn soundness(&self)
+        ensures { IsSound self.now }
     {
-        Config {
-            labels,
-            providers,
-            pools,
-            semaphores,
-            requesters,
-            jobs,
-            faults,
-            max_hold_age,
-        }
+        let _labels = &self.labels;
     }
 
     /// The one text of the configuration: compact JSON, keys in byte order, every default written.
@@ -166,46 +100,41 @@ impl Config {
         ensures text { IfOk result (λ b. b.items ≡ canonical self.now) }
         ensures again { IfOk result (λ b. reads b.items ≡ Ok self.now) }
     {
-        let _age = self.max_hold_age();
+        self.soundness();
         Ok(config_value(alloc, self)?.to_vec(alloc)?)
     }
 
     /// The label, or `None` exactly past the end of the table.
     pub fn label(&self, id: LabelId) -> Option<&Label>
-        ensures answer { option_copied result ≡ slice_get self.now.labels id.0 }
-        ensures sound { IsSound self.now }
+        ensures { option_copied result ≡ slice_get self.now.labels id.0 }
     {
         self.labels.get(id.0 as usize)
     }
 
     /// The provider at this place, or `None` exactly past the end of the table.
     pub fn provider(&self, at: u16) -> Option<&Provider>
-        ensures answer { option_copied result ≡ slice_get self.now.providers at }
-        ensures sound { IsSound self.now }
+        ensures { option_copied result ≡ slice_get self.now.providers at }
     {
         self.providers.get(at as usize)
     }
 
     /// The pool, or `None` exactly past the end of the table.
     pub fn pool(&self, id: PoolId) -> Option<&Pool>
-        ensures answer { option_copied result ≡ slice_get self.now.pools id.0 }
-        ensures sound { IsSound self.now }
+        ensures { option_copied result ≡ slice_get self.now.pools id.0 }
     {
         self.pools.get(id.0 as usize)
     }
 
     /// The semaphore, or `None` exactly past the end of the table.
     pub fn semaphore(&self, id: SemId) -> Option<&Sem>
-        ensures answer { option_copied result ≡ slice_get self.now.semaphores id.0 }
-        ensures sound { IsSound self.now }
+        ensures { option_copied result ≡ slice_get self.now.semaphores id.0 }
     {
         self.semaphores.get(id.0 as usize)
     }
 
     /// The requester, or `None` exactly past the end of the table.
     pub fn requester(&self, id: RequesterId) -> Option<&Requester>
-        ensures answer { option_copied result ≡ slice_get self.now.requesters id.0 }
-        ensures sound { IsSound self.now }
+        ensures { option_copied result ≡ slice_get self.now.requesters id.0 }
     {
         self.requesters.get(id.0 as usize)
     }
@@ -226,51 +155,43 @@ impl Config {
 
     /// After how many ticks a node that is held for its user is removed; 0 is never.
     pub fn max_hold_age(&self) -> u32
-        ensures age { result ≡ self.now.max_hold_age }
-        // Every configuration is sound.
-        ensures sound { IsSound self.now }
+        ensures { result ≡ self.now.max_hold_age }
     {
         self.max_hold_age
     }
 
     pub(crate) fn labels(&self) -> &[Label]
-        ensures rows { result.now ≡ self.now.labels }
-        ensures sound { IsSound self.now }
+        ensures { result.now ≡ self.now.labels }
     {
         &self.labels
     }
 
     pub(crate) fn providers(&self) -> &[Provider]
-        ensures rows { result.now ≡ self.now.providers }
-        ensures sound { IsSound self.now }
+        ensures { result.now ≡ self.now.providers }
     {
         &self.providers
     }
 
     pub(crate) fn pools(&self) -> &[Pool]
-        ensures rows { result.now ≡ self.now.pools }
-        ensures sound { IsSound self.now }
+        ensures { result.now ≡ self.now.pools }
     {
         &self.pools
     }
 
     pub(crate) fn semaphores(&self) -> &[Sem]
-        ensures rows { result.now ≡ self.now.semaphores }
-        ensures sound { IsSound self.now }
+        ensures { result.now ≡ self.now.semaphores }
     {
         &self.semaphores
     }
 
     pub(crate) fn requesters(&self) -> &[Requester]
-        ensures rows { result.now ≡ self.now.requesters }
-        ensures sound { IsSound self.now }
+        ensures { result.now ≡ self.now.requesters }
     {
         &self.requesters
     }
 
     pub(crate) fn jobs(&self) -> &[Job]
-        ensures rows { result.now ≡ self.now.jobs }
-        ensures sound { IsSound self.now }
+        ensures { result.now ≡ self.now.jobs }
     {
         &self.jobs
     }

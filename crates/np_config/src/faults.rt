@@ -5,23 +5,17 @@ ghost use Rattle.serde_json.specs.View.{view};
 ghost use Rattle.np_json.specs.Reading.{Gives, pointer_to};
 ghost use Rattle.np_config.specs.Requesters.{word_value};
 ghost use Rattle.np_config.specs.Names.{pool_named};
-ghost use Rattle.np_config.specs.Faults.{kind_of, role_named, fault_kind_of, required_word, role_at, fault_at};
+ghost use Rattle.np_config.specs.Faults.{role_named, required_word, role_at, fault_at};
+ghost use Rattle.np_text.specs.Word.{role_kind_of};
+ghost use Rattle.np_site.specs.Word.{fault_kind_of};
 
-use crate::items::{Items, Name};
 use crate::requesters::meaning;
-use crate::row::{Fault, FaultKind, Requester};
-use np_json::{ConfigRead, Named, Place, Rows, Table, object, required, text_of, whole_required};
-use np_text::{PoolId, RequesterId, Role};
+use np_json::{ConfigRead, Place, Rows, Table, object, required, text_of, whole_required};
+use np_lists::Items;
+use np_site::{Fault, FaultKind, Name, Named, Requester};
+use np_text::{FAULT_ACTS, PoolId, RequesterId, Role, RoleKind};
 use serde_json::Value;
 use std::alloc::Global;
-
-/// The kinds of roles that may have a fault.
-#[derive(Clone, Copy)]
-pub(crate) enum RoleKind {
-    Launcher,
-    Janitor,
-    Requester,
-}
 
 /// The name of a provider, `/`, and the name of its pool.
 #[derive(Drop)]
@@ -44,20 +38,6 @@ pub(crate) struct Roles {
     pub requesters: Table<Requester>,
 }
 
-fn kind_of(word: &str) -> Option<RoleKind>
-    ensures { result ≡ kind_of word.now }
-{
-    if word == "launcher" {
-        Some(RoleKind::Launcher)
-    } else if word == "janitor" {
-        Some(RoleKind::Janitor)
-    } else if word == "requester" {
-        Some(RoleKind::Requester)
-    } else {
-        None
-    }
-}
-
 fn pool_place(roles: &Roles, name: &[u8]) -> Option<u16>
     ensures { result ≡ pool_named (map (λ n. n.text) roles.now.pools) name.now }
 {
@@ -74,29 +54,15 @@ fn role_named(roles: &Roles, kind: RoleKind, name: &[u8]) -> Option<Role>
     }
 }
 
-fn fault_kind_of(word: &str) -> Option<FaultKind>
-    ensures { result ≡ fault_kind_of word.now }
-{
-    if word == "expire" {
-        Some(FaultKind::Expire)
-    } else if word == "crash" {
-        Some(FaultKind::Crash)
-    } else if word == "stop" {
-        Some(FaultKind::Stop)
-    } else {
-        None
-    }
-}
-
 #[tactic(auto, using(np_json::proofs::Binds::exits), unfolding(crate::specs::Faults::required_word, crate::specs::Requesters::word_value))]
 fn role_kind(alloc: Global, at: &[u8], value: &Value) -> Result<RoleKind, ConfigRead>
     ensures { Gives (λ k. k) result
-        (required_word kind_of at.now (codes "role") (view value.now)) }
+        (required_word role_kind_of at.now (codes "role") (view value.now)) }
 {
     let member = required(alloc, at, "role", value)?;
     let place = Place::Member(at, "role");
     let word = text_of(alloc, place, member)?;
-    meaning(alloc, place, kind_of(word))
+    meaning(alloc, place, RoleKind::from_word(word.as_bytes()))
 }
 
 #[tactic(auto, using(np_json::proofs::Binds::exits), unfolding(crate::specs::Faults::required_word, crate::specs::Requesters::word_value))]
@@ -134,7 +100,7 @@ fn fault_kind(alloc: Global, at: &[u8], value: &Value) -> Result<FaultKind, Conf
     let member = required(alloc, at, "kind", value)?;
     let place = Place::Member(at, "kind");
     let word = text_of(alloc, place, member)?;
-    meaning(alloc, place, fault_kind_of(word))
+    meaning(alloc, place, FaultKind::from_word(word.as_bytes()))
 }
 
 impl Rows<Roles> for Items<Fault> {
@@ -156,7 +122,7 @@ impl Rows<Roles> for Items<Fault> {
         object(alloc, at, &["role", "name", "kind", "after"], value)?;
         let role = role_of(alloc, roles, at, value)?;
         let kind = fault_kind(alloc, at, value)?;
-        let after = whole_required(alloc, at, "after", 0, 262_144, value)?;
+        let after = whole_required(alloc, at, "after", 0, FAULT_ACTS, value)?;
         self.push(Fault { role, kind, after })?;
         Ok(())
     }

@@ -3,22 +3,14 @@
 ghost use Rattle.std.specs.Prelude.{◌≡◌, ◌+◌, ◌<◌, IfOk, length};
 ghost use Rattle.np_config.specs.Labels.{label_at, semaphore_at};
 
-use crate::items::Name;
-use crate::row::{Label, Sem};
-use np_json::{ConfigRead, Named, Place, Rows, Table, name, object, whole};
+use np_json::{ConfigRead, Place, Rows, Table, name, object, whole};
+use np_site::{Label, Name, Sem};
+use np_text::{AGE, HANDLES, MIN_READY};
 use serde_json::Value;
 use std::alloc::Global;
 
 /// What rows are read with that refer to nothing.
 pub(crate) struct Alone;
-
-impl Named for Label {
-    ghost name = { λ l. l.name };
-
-    fn name(&self) -> &[u8] {
-        self.name.items()
-    }
-}
 
 ghost use Rattle.serde_json.specs.View.{view};
 ghost use Rattle.np_json.specs.Reading.{Gives};
@@ -29,8 +21,8 @@ fn label_row(alloc: Global, at: &[u8], name: Name, value: &Value) -> Result<Labe
     ensures gives { Gives (λ l. l) result (label_row at.now name (view value.now)) }
     ensures name { IfOk result (λ l. l.name ≡ name) }
 {
-    let min_ready = whole(alloc, at, "min-ready", 0, 1000, 0, value)?;
-    let max_ready_age = whole(alloc, at, "max-ready-age", 0, 1_000_000, 0, value)?;
+    let min_ready = whole(alloc, at, "min-ready", 0, MIN_READY, 0, value)?;
+    let max_ready_age = whole(alloc, at, "max-ready-age", 0, AGE, 0, value)?;
     Ok(Label {
         name,
         min_ready,
@@ -74,14 +66,6 @@ pub(crate) struct Known {
     pub semaphores: Table<Sem>,
 }
 
-impl Named for Sem {
-    ghost name = { λ s. s.name };
-
-    fn name(&self) -> &[u8] {
-        self.name.items()
-    }
-}
-
 impl Rows<Alone> for Table<Sem> {
     ghost reads = { λ _ at earlier d. semaphore_at at earlier d };
 
@@ -99,7 +83,7 @@ impl Rows<Alone> for Table<Sem> {
         let at = at.as_slice();
         object(alloc, at, &["name", "max"], value)?;
         let name = name(alloc, at, self, value)?;
-        let max = whole(alloc, at, "max", 1, 4096, 1, value)?;
+        let max = whole(alloc, at, "max", 1, HANDLES, 1, value)?;
         let name = Name::new(name);
         self.push(alloc, Sem { name, max })?;
         Ok(())

@@ -3,22 +3,24 @@
 //!
 //! `specs/Walk` says what configuration the bytes of a JSON text are, or their first fault, and
 //! `specs/Canonical` which text a configuration has. Every `Config` is one that a text can have
-//! (`specs/Sound`), and its text is read as that configuration.
+//! (np_site's `specs/Sound`), and its text is read as that configuration. What an absent key stands
+//! for is in `specs/Defaults`, examples of texts in `specs/Worked` and `specs/FirstFaults`; the laws on
+//! them are in `law`.
 #![tactic(auto)]
 
 mod config;
 mod faults;
-mod items;
 mod labels;
+mod law;
 mod print;
 mod providers;
 mod requesters;
-mod row;
 #[cfg(test)]
 mod tests;
 mod walk;
 
 pub use config::Config;
-pub use items::{Items, LabelList, Name, NumberList, OfferList, SemList};
+pub use law::{
+    a_worked_text_is_read_and_printed, an_absent_key_has_its_default, texts_have_their_first_faults,
+};
 pub use np_json::{ConfigFault, ConfigKind, ConfigRead, Pointer};
-pub use row::{Fault, FaultKind, Job, Label, Offer, Pool, Provider, Requester, Sem};

@@ -3,29 +3,24 @@
 ghost use Rattle.std.specs.Prelude.{◌≡◌, ◌==◌, ◌+◌, ◌<◌, ℕ, List, false, IfOk, length};
 ghost use Rattle.std.specs.List.{list_any};
 ghost use Rattle.np_config.specs.Providers.{offer_at, start_at, pool_at, provider_at};
-
-use crate::items::{Items, Name, NumberList, OfferList};
-use crate::labels::{Alone, Labels};
-use crate::row::{Offer, Pool, Provider};
-use np_amount::{Amount, Limit};
-use np_json::{
-    ConfigKind, ConfigRead, Length, Marked, Named, Numbered, Place, Rows, Table, fault_in, name,
-    object, required, rows_maybe, rows_required, text_of, whole, whole_maybe, whole_of,
-};
-use np_text::LabelId;
-use serde_json::Value;
-use std::alloc::Global;
-
-/// The most labels of a configuration, and the most offers of a pool.
-pub(crate) const LABELS: usize = 256;
-/// The most planned failing starts of a pool.
-const FAIL_STARTS: usize = 4_096;
-/// The most pools of a configuration, through all its providers.
-const POOLS: usize = 64;
-
 ghost use Rattle.serde_json.specs.View.{view};
 ghost use Rattle.np_json.specs.Reading.{Gives, pointer_to};
 ghost use Rattle.np_config.specs.Providers.{label_for, label_value, offer_label, offer_amount, limit_at, offers_at, starts_at, pool_row, provider_row, pools_at};
+
+use crate::labels::{Alone, Labels};
+use np_amount::{Amount, Limit};
+use np_json::{
+    ConfigKind, ConfigRead, Length, Marked, Place, Rows, Table, fault_in, name, object, required,
+    rows_maybe, rows_required, text_of, whole, whole_maybe, whole_of,
+};
+use np_lists::Items;
+use np_site::{Name, NumberList, Offer, OfferList, Pool, Provider};
+use np_text::{
+    CONCURRENCY, FAIL_STARTS, LABELS, LAUNCHES, LabelId, NODE_CORES, NODE_RAM, POOL_CORES,
+    POOL_RAM, POOL_SERVERS, POOLS, START_NUMBER,
+};
+use serde_json::Value;
+use std::alloc::Global;
 
 #[tactic(auto, unfolding(crate::specs::Providers::label_for))]
 fn label_for(
@@ -58,14 +53,6 @@ pub(crate) fn label_of(
     label_for(alloc, labels, place, text.as_bytes())
 }
 
-impl Numbered for Offer {
-    ghost number = { λ o. o.label.0 };
-
-    fn number(&self) -> u16 {
-        self.label.0
-    }
-}
-
 #[tactic(auto, using(np_json::proofs::Binds::exits), unfolding(crate::specs::Providers::offer_label))]
 fn offer_label(
     alloc: Global,
@@ -92,8 +79,8 @@ fn offer_label(
 fn offer_amount(alloc: Global, at: &[u8], value: &Value) -> Result<Amount, ConfigRead>
     ensures { Gives (λ a. a) result (offer_amount at.now (view value.now)) }
 {
-    let cores = whole(alloc, at, "cores", 0, 1000, 1, value)?;
-    let ram = whole(alloc, at, "ram", 0, 1_000_000, 1024, value)?;
+    let cores = whole(alloc, at, "cores", 0, NODE_CORES, 1, value)?;
+    let ram = whole(alloc, at, "ram", 0, NODE_RAM, 1024, value)?;
     Ok(Amount {
         instances: 1,
         cores: u64::from(cores),
@@ -124,7 +111,7 @@ impl Rows<Labels> for Marked<Offer> {
     }
 }
 
-ghost use Rattle.np_config.specs.Providers.{is_above};
+ghost use Rattle.np_site.specs.Sound.{is_above};
 
 fn is_above(starts: &[u32], start: u32) -> bool
     ensures { result ≡ is_above starts.now start }
@@ -148,20 +135,12 @@ impl Rows<Alone> for NumberList {
         place: Place<'_>,
         value: &Value,
     ) -> Result<(), ConfigRead> {
-        let start = whole_of(alloc, place, 1, 262_144, value)?;
+        let start = whole_of(alloc, place, 1, START_NUMBER, value)?;
         if !is_above(self.items(), start) {
             return Err(fault_in(alloc, ConfigKind::OutOfRange, place));
         }
         self.push(start)?;
         Ok(())
-    }
-}
-
-impl Named for Pool {
-    ghost name = { λ p. p.name };
-
-    fn name(&self) -> &[u8] {
-        self.name.items()
     }
 }
 
@@ -172,7 +151,7 @@ pub(crate) struct PoolsOf {
     pub pools: Table<Pool>,
 }
 
-fn wide(number: Option<u32>) -> Option<u64>
+pub(crate) fn wide(number: Option<u32>) -> Option<u64>
     ensures { result ≡ number }
 {
     match number {
@@ -181,23 +160,13 @@ fn wide(number: Option<u32>) -> Option<u64>
     }
 }
 
-pub(crate) const fn at_most(most: usize) -> Length
-    ensures { result ≡ record { before = 0; least = 0; most = most } }
-{
-    Length {
-        before: 0,
-        least: 0,
-        most,
-    }
-}
-
 #[tactic(auto, using(np_json::proofs::Binds::exits), unfolding(crate::specs::Providers::limit_at))]
 fn limit_of(alloc: Global, at: &[u8], value: &Value) -> Result<Limit, ConfigRead>
     ensures { Gives (λ l. l) result (limit_at at.now (view value.now)) }
 {
-    let servers = whole_maybe(alloc, at, "max-servers", 0, 1_000_000, value)?;
-    let cores = whole_maybe(alloc, at, "max-cores", 0, 1_000_000_000, value)?;
-    let ram = whole_maybe(alloc, at, "max-ram", 0, 1_000_000_000, value)?;
+    let servers = whole_maybe(alloc, at, "max-servers", 0, POOL_SERVERS, value)?;
+    let cores = whole_maybe(alloc, at, "max-cores", 0, POOL_CORES, value)?;
+    let ram = whole_maybe(alloc, at, "max-ram", 0, POOL_RAM, value)?;
     Ok(Limit {
         instances: wide(servers),
         cores: wide(cores),
@@ -215,7 +184,15 @@ fn offers_of(
     ensures { Gives (λ o. o) result (offers_at labels.now.table at.now (view value.now)) }
 {
     let none = Marked::<Offer>::new(alloc);
-    let offers = rows_required(alloc, labels, at, "labels", at_most(LABELS), value, none)?;
+    let offers = rows_required(
+        alloc,
+        labels,
+        at,
+        "labels",
+        Length::at_most(LABELS),
+        value,
+        none,
+    )?;
     Ok(OfferList::new(offers.into_rows()))
 }
 
@@ -229,7 +206,7 @@ fn starts_of(alloc: Global, at: &[u8], value: &Value) -> Result<NumberList, Conf
         &Alone,
         at,
         "fail-starts",
-        at_most(FAIL_STARTS),
+        Length::at_most(FAIL_STARTS),
         value,
         none,
     )
@@ -291,14 +268,6 @@ impl Rows<Labels> for PoolsOf {
     }
 }
 
-impl Named for Provider {
-    ghost name = { λ p. p.name };
-
-    fn name(&self) -> &[u8] {
-        self.name.items()
-    }
-}
-
 /// Providers with the pools of all of them, as far as they were read.
 #[derive(Drop)]
 pub(crate) struct Providers {
@@ -311,8 +280,8 @@ fn provider_row(alloc: Global, at: &[u8], name: Name, value: &Value) -> Result<P
     ensures gives { Gives (λ p. p) result (provider_row at.now name (view value.now)) }
     ensures name { IfOk result (λ p. p.name ≡ name) }
 {
-    let retries = whole(alloc, at, "launch-retries", 1, 16, 3, value)?;
-    let concurrency = whole_maybe(alloc, at, "max-concurrency", 1, 4096, value)?;
+    let retries = whole(alloc, at, "launch-retries", 1, LAUNCHES, 3, value)?;
+    let concurrency = whole_maybe(alloc, at, "max-concurrency", 1, CONCURRENCY, value)?;
     Ok(Provider {
         name,
         retries: retries as u8,
@@ -332,11 +301,7 @@ fn pools_of(
     ensures { Gives (λ own. own) result
         (pools_at labels.now.table at.now earlier provider (view value.now)) }
 {
-    let length = Length {
-        before: earlier,
-        least: 1,
-        most: POOLS,
-    };
+    let length = Length::one_to(POOLS).behind(earlier);
     let pools = Table::new(alloc);
     let none = PoolsOf { provider, pools };
     rows_required(alloc, labels, at, "pools", length, value, none)

@@ -3,27 +3,23 @@
 ghost use Rattle.std.specs.Prelude.{◌≡◌, ◌==◌, ◌+◌, ◌<◌, ℕ, List, Option, false, IfOk, length};
 ghost use Rattle.std.specs.List.{list_any};
 ghost use Rattle.serde_json.specs.View.{view};
-ghost use Rattle.np_json.specs.Reading.{Gives, pointer_to};
-ghost use Rattle.np_config.specs.Requesters.{wanted_at, taken_at, semaphore_for, priority_of, end_of, meaning_of, word_value, word_or, wants_at, takes_at, demand_at, job_row, job_at, jobs_at, requester_row, requester_at};
+ghost use Rattle.np_json.specs.Reading.{Gives, pointer_to, fault};
+ghost use Rattle.np_text.specs.Word.{end_as_of};
+ghost use Rattle.np_config.specs.Requesters.{wanted_at, taken_at, semaphore_for, priority_of, meaning_of, word_value, word_or, wants_at, takes_at, demand_at, job_row, job_at, jobs_at, requester_row, requester_at};
 
-use crate::items::{Items, LabelList, Name, SemList};
 use crate::labels::{Known, Labels};
 use crate::providers::label_of;
-use crate::row::{Job, Requester};
 use np_json::{
-    ConfigKind, ConfigRead, Length, Marked, Named, Place, Rows, Table, fault_in, flag, name,
-    object, rows_maybe, rows_required, text_of, whole,
+    ConfigKind, ConfigRead, Length, Marked, Place, Rows, Table, fault_in, flag, name, object,
+    rows_maybe, rows_required, text_of, whole,
 };
-use np_text::{EndAs, RequesterId, SemId};
+use np_lists::Items;
+use np_site::{Job, LabelList, Name, Requester, SemList};
+use np_text::{
+    EndAs, JOB_LABELS, JOB_SEMAPHORES, JOBS, RELATIVE_PRIORITY, RequesterId, SemId, WINDOW,
+};
 use serde_json::Value;
 use std::alloc::Global;
-
-/// The most labels of a job.
-const JOB_LABELS: usize = 32;
-/// The most semaphores of a job.
-const JOB_SEMAPHORES: usize = 8;
-/// The most jobs of a configuration, through all its requesters.
-const JOBS: usize = 4_096;
 
 impl Rows<Labels> for LabelList {
     ghost reads = { λ labels at earlier d. wanted_at labels.table at earlier d };
@@ -97,25 +93,13 @@ fn priority_of(word: &str) -> Option<u16>
     }
 }
 
-fn end_of(word: &str) -> Option<EndAs>
-    ensures { result ≡ end_of word.now }
-{
-    if word == "used" {
-        Some(EndAs::Used)
-    } else if word == "hold" {
-        Some(EndAs::Hold)
-    } else {
-        None
-    }
-}
-
 /// What a word means, where it means something.
 pub(crate) fn meaning<T: Drop>(
     alloc: Global,
     place: Place<'_>,
     told: Option<T>,
 ) -> Result<T, ConfigRead>
-    ensures { Gives (λ t. t) result (found told UnknownName (pointer_to place.entry)) }
+    ensures { Gives (λ t. t) result (found told (fault UnknownName (pointer_to place.entry))) }
 {
     let Some(told) = told else {
         return Err(fault_in(alloc, ConfigKind::UnknownName, place));
@@ -123,7 +107,7 @@ pub(crate) fn meaning<T: Drop>(
     Ok(told)
 }
 
-ghost use Rattle.np_json.specs.Reading.{found};
+ghost use Rattle.np_lists.specs.Refusals.{found};
 ghost use Rattle.np_json.specs.declared.fault.ConfigKind.TheVariants.{UnknownName};
 
 #[tactic(auto, using(np_json::proofs::Binds::exits), unfolding(crate::specs::Requesters::word_value))]
@@ -148,17 +132,17 @@ fn priority(alloc: Global, at: &[u8], value: &Value) -> Result<u16, ConfigRead>
 #[tactic(auto, using(np_json::proofs::Binds::exits), unfolding(crate::specs::Requesters::word_value))]
 fn end_word(alloc: Global, place: Place<'_>, value: &Value) -> Result<EndAs, ConfigRead>
     ensures { Gives (λ e. e) result
-        (word_value end_of (pointer_to place.entry) (view value.now)) }
+        (word_value end_as_of (pointer_to place.entry) (view value.now)) }
 {
     let word = text_of(alloc, place, value)?;
-    meaning(alloc, place, end_of(word))
+    meaning(alloc, place, EndAs::from_word(word.as_bytes()))
 }
 
 ghost use Rattle.np_text.specs.declared.word.EndAs.TheVariants.{Used};
 
 fn end_as(alloc: Global, at: &[u8], value: &Value) -> Result<EndAs, ConfigRead>
     ensures { Gives (λ e. e) result
-        (word_or end_of at.now (codes "end") Used (view value.now)) }
+        (word_or end_as_of at.now (codes "end") Used (view value.now)) }
 {
     let Some(member) = value.get("end") else {
         return Ok(EndAs::Used);
@@ -177,11 +161,7 @@ fn wants_of(
 ) -> Result<LabelList, ConfigRead>
     ensures { Gives (λ w. w) result (wants_at labels.now.table at.now (view value.now)) }
 {
-    let length = Length {
-        before: 0,
-        least: 1,
-        most: JOB_LABELS,
-    };
+    let length = Length::one_to(JOB_LABELS);
     let none = LabelList::none(alloc);
     rows_required(alloc, labels, at, "labels", length, value, none)
 }
@@ -190,11 +170,7 @@ fn wants_of(
 fn takes_of(alloc: Global, known: &Known, at: &[u8], value: &Value) -> Result<SemList, ConfigRead>
     ensures { Gives (λ t. t) result (takes_at known.now.semaphores at.now (view value.now)) }
 {
-    let length = Length {
-        before: 0,
-        least: 0,
-        most: JOB_SEMAPHORES,
-    };
+    let length = Length::at_most(JOB_SEMAPHORES);
     let none = Marked::<SemId>::new(alloc);
     let taken = rows_maybe(alloc, known, at, "semaphores", length, value, none)?;
     Ok(SemList::new(taken.into_rows()))
@@ -214,7 +190,15 @@ fn demand_of(alloc: Global, labels: &Labels, at: &[u8], value: &Value) -> Result
 {
     let labels = wants_of(alloc, labels, at, value)?;
     let priority = priority(alloc, at, value)?;
-    let relative_priority = whole(alloc, at, "relative-priority", 0, 1_000_000, 0, value)?;
+    let relative_priority = whole(
+        alloc,
+        at,
+        "relative-priority",
+        0,
+        RELATIVE_PRIORITY,
+        0,
+        value,
+    )?;
     Ok(Demand {
         labels,
         priority,
@@ -249,14 +233,6 @@ fn job_row(
         resources_first,
         end,
     })
-}
-
-impl Named for Job {
-    ghost name = { λ j. j.name };
-
-    fn name(&self) -> &[u8] {
-        self.name.items()
-    }
 }
 
 /// The jobs of the requester at a place, as far as they were read.
@@ -312,22 +288,10 @@ fn jobs_of(
     ensures { Gives (λ own. own) result
         (jobs_at known.now.labels.table known.now.semaphores at.now earlier requester (view value.now)) }
 {
-    let length = Length {
-        before: earlier,
-        least: 0,
-        most: JOBS,
-    };
+    let length = Length::at_most(JOBS).behind(earlier);
     let jobs = Table::new(alloc);
     let none = JobsOf { requester, jobs };
     rows_maybe(alloc, known, at, "jobs", length, value, none)
-}
-
-impl Named for Requester {
-    ghost name = { λ q. q.name };
-
-    fn name(&self) -> &[u8] {
-        self.name.items()
-    }
 }
 
 /// Requesters with the jobs of all of them, as far as they were read.
@@ -347,7 +311,7 @@ fn requester_row(
     ensures gives { Gives (λ q. q) result (requester_row at.now name (view value.now)) }
     ensures name { IfOk result (λ q. q.name ≡ name) }
 {
-    let window = whole(alloc, at, "window", 1, 4096, 20, value)?;
+    let window = whole(alloc, at, "window", 1, WINDOW, 20, value)?;
     Ok(Requester { name, window })
 }
 

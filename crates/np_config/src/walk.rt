@@ -1,36 +1,24 @@
 //! Reading a configuration as a whole.
 
-ghost use Rattle.std.specs.Prelude.{◌≡◌, ◌<◌, ◌^◌, [], codes, map, length, IfOk};
+ghost use Rattle.std.specs.Prelude.{◌≡◌, ◌<◌, ◌^◌, [], map, length, IfOk};
 ghost use Rattle.serde_json.specs.View.{view};
 ghost use Rattle.np_json.specs.Reading.{Gives};
-ghost use Rattle.np_json.specs.Rows.{list_required, list_maybe};
 ghost use Rattle.np_config.specs.Names.{pool_name, pool_names, IsUnused};
-ghost use Rattle.np_config.specs.Sound.{EachAfter};
-ghost use Rattle.np_config.specs.Labels.{label_at, semaphore_at};
-ghost use Rattle.np_config.specs.Providers.{at_most, provider_at};
-ghost use Rattle.np_config.specs.Requesters.{requester_at};
-ghost use Rattle.np_config.specs.Faults.{fault_at};
+ghost use Rattle.np_lists.specs.EachAfter.{EachAfter};
 
 use crate::config::Config;
 use crate::faults::{PoolName, Roles};
-use crate::items::{Items, Name};
 use crate::labels::{Alone, Known, Labels};
-use crate::providers::{LABELS, Providers, at_most};
+use crate::providers::Providers;
 use crate::requesters::Requesters;
-use crate::row::{Fault, Pool, Provider, Sem};
 use np_json::{
     ConfigKind, ConfigRead, Length, Table, fault_at, object, rows_maybe, rows_required, whole,
 };
+use np_lists::Items;
+use np_site::{Fault, Name, Pool, Provider, Requester, Sem};
+use np_text::{AGE, FAULTS, LABELS, PROVIDERS, REQUESTERS, SEMAPHORES};
 use serde_json::{Category, Value};
 use std::alloc::{AllocError, Global};
-
-const PROVIDERS: usize = 64;
-
-const SEMAPHORES: usize = 64;
-
-const REQUESTERS: usize = 16;
-
-const FAULTS: usize = 1_024;
 
 /// The name of a pool's provider, `/`, and its own name.
 pub(crate) fn full_name(
@@ -68,89 +56,77 @@ fn names_of_pools(
     Ok(names)
 }
 
-pub(crate) fn labels_of(alloc: Global, value: &Value) -> Result<Labels, ConfigRead>
-    ensures { Gives (λ l. l.table) result
-        (list_required label_at [] (codes "labels") (at_most 256) [] (view value.now)) }
+/// What faults may refer to.
+fn roles_of(
+    alloc: Global,
+    supply: &Providers,
+    requesters: Table<Requester>,
+) -> Result<Roles, AllocError>
+    requires unused { EachAfter IsUnused [] (pool_names supply.now.providers supply.now.pools) }
+    requires few { length supply.now.pools < 2 ^ 16 }
+    ensures pools { IfOk result
+        (λ r. map (λ n. n.text) r.pools ≡ pool_names supply.now.providers supply.now.pools) }
+    ensures requesters { IfOk result (λ r. r.requesters ≡ requesters) }
+{
+    let pools = names_of_pools(alloc, supply.providers.rows(), supply.pools.items())?;
+    Ok(Roles { pools, requesters })
+}
+
+fn labels_of(alloc: Global, value: &Value) -> Result<Labels, ConfigRead>
+    ensures { Gives (λ l. l.table) result (labels_at (view value.now)) }
 {
     let none = Table::new(alloc);
-    let table = rows_required(alloc, &Alone, b"", "labels", at_most(LABELS), value, none)?;
+    let length = Length::at_most(LABELS);
+    let table = rows_required(alloc, &Alone, b"", "labels", length, value, none)?;
     Ok(Labels { table })
 }
 
-pub(crate) fn providers_of(
-    alloc: Global,
-    labels: &Labels,
-    value: &Value,
-) -> Result<Providers, ConfigRead>
-    ensures { Gives (λ s. s) result (list_required (provider_at labels.now.table) [] (codes "providers")
-        (record { before = 0; least = 1; most = 64 }) (record { providers = []; pools = [] }) (view value.now)) }
+fn providers_of(alloc: Global, labels: &Labels, value: &Value) -> Result<Providers, ConfigRead>
+    ensures gives { Gives (λ s. s) result (providers_at labels.now.table (view value.now)) }
+    ensures unused { IfOk result (λ s. EachAfter IsUnused [] (pool_names s.providers s.pools)) }
+    ensures few { IfOk result (λ s. length s.pools < 2 ^ 16) }
 {
-    let length = Length {
-        before: 0,
-        least: 1,
-        most: PROVIDERS,
-    };
     let none = Providers {
         providers: Table::new(alloc),
         pools: Items::none(alloc),
     };
+    let length = Length::one_to(PROVIDERS);
     rows_required(alloc, labels, b"", "providers", length, value, none)
 }
 
-pub(crate) fn semaphores_of(alloc: Global, value: &Value) -> Result<Table<Sem>, ConfigRead>
-    ensures { Gives (λ s. s) result
-        (list_maybe semaphore_at [] (codes "semaphores") (at_most 64) [] (view value.now)) }
+fn semaphores_of(alloc: Global, value: &Value) -> Result<Table<Sem>, ConfigRead>
+    ensures { Gives (λ s. s) result (semaphores_at (view value.now)) }
 {
     let none = Table::new(alloc);
-    rows_maybe(
-        alloc,
-        &Alone,
-        b"",
-        "semaphores",
-        at_most(SEMAPHORES),
-        value,
-        none,
-    )
+    let length = Length::at_most(SEMAPHORES);
+    rows_maybe(alloc, &Alone, b"", "semaphores", length, value, none)
 }
 
-pub(crate) fn requesters_of(
-    alloc: Global,
-    known: &Known,
-    value: &Value,
-) -> Result<Requesters, ConfigRead>
-    ensures { Gives (λ r. r) result (list_maybe (requester_at known.now.labels.table known.now.semaphores)
-        [] (codes "requesters") (at_most 16) (record { requesters = []; jobs = [] }) (view value.now)) }
+fn requesters_of(alloc: Global, known: &Known, value: &Value) -> Result<Requesters, ConfigRead>
+    ensures { Gives (λ r. r) result
+        (requesters_at known.now.labels.table known.now.semaphores (view value.now)) }
 {
     let none = Requesters {
         requesters: Table::new(alloc),
         jobs: Items::none(alloc),
     };
-    rows_maybe(
-        alloc,
-        known,
-        b"",
-        "requesters",
-        at_most(REQUESTERS),
-        value,
-        none,
-    )
+    let length = Length::at_most(REQUESTERS);
+    rows_maybe(alloc, known, b"", "requesters", length, value, none)
 }
 
-pub(crate) fn faults_of(
-    alloc: Global,
-    roles: &Roles,
-    value: &Value,
-) -> Result<Items<Fault>, ConfigRead>
-    ensures { Gives (λ f. f) result (list_maybe (fault_at (map (λ n. n.text) roles.now.pools) roles.now.requesters)
-        [] (codes "faults") (at_most 1024) [] (view value.now)) }
+fn faults_of(alloc: Global, roles: &Roles, value: &Value) -> Result<Items<Fault>, ConfigRead>
+    ensures { Gives (λ f. f) result
+        (faults_at (map (λ n. n.text) roles.now.pools) roles.now.requesters (view value.now)) }
 {
     let none = Items::none(alloc);
-    rows_maybe(alloc, roles, b"", "faults", at_most(FAULTS), value, none)
+    let length = Length::at_most(FAULTS);
+    rows_maybe(alloc, roles, b"", "faults", length, value, none)
 }
 
-ghost use Rattle.np_config.specs.Walk.{configuration_at, reads};
+ghost use Rattle.np_config.specs.Walk.{labels_at, providers_at, semaphores_at, requesters_at, faults_at, configuration_at, reads};
 
 /// The configuration that a JSON value is, or its first fault.
+#[tactic(auto, using(np_json::proofs::Binds::exits, crate::proofs::WalkTakes::taken), unfolding(crate::specs::Walk::configuration_at))]
 fn configuration_of(alloc: Global, value: &Value) -> Result<Config, ConfigRead>
     ensures { Gives (λ c. c) result (configuration_at (view value.now)) }
 {
@@ -164,18 +140,15 @@ fn configuration_of(alloc: Global, value: &Value) -> Result<Config, ConfigRead>
     ];
     object(alloc, b"", &keys, value)?;
     let labels = labels_of(alloc, value)?;
-    let age = whole(alloc, b"", "max-hold-age", 0, 1_000_000, 0, value)?;
+    let age = whole(alloc, b"", "max-hold-age", 0, AGE, 0, value)?;
     let supply = providers_of(alloc, &labels, value)?;
     let semaphores = semaphores_of(alloc, value)?;
     let known = Known { labels, semaphores };
     let demand = requesters_of(alloc, &known, value)?;
-    let names = names_of_pools(alloc, supply.providers.rows(), supply.pools.items())?;
-    let roles = Roles {
-        pools: names,
-        requesters: demand.requesters,
-    };
+    let roles = roles_of(alloc, &supply, demand.requesters)?;
     let faults = faults_of(alloc, &roles, value)?;
-    Ok(Config::of_tables(
+    let config = Config::of_parts(
+        alloc,
         known.labels.table.into_rows(),
         supply.providers.into_rows(),
         supply.pools.into_vec(),
@@ -184,7 +157,8 @@ fn configuration_of(alloc: Global, value: &Value) -> Result<Config, ConfigRead>
         demand.jobs.into_vec(),
         faults.into_vec(),
         age,
-    ))
+    )?;
+    Ok(config)
 }
 
 /// The configuration that bytes are, or their first fault.

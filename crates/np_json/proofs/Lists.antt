@@ -1,5 +1,5 @@
 -- lists that were mapped
-use Rattle.std.proofs.Common.{◌≡◌, ℕ, ◌+◌, ◌∙◌, List, [], ◌∷◌, ◌++◌, map, Bool, true, false, cond, not, ◌||◌, length, ltb, Some, None, ap, refl}
+use Rattle.std.proofs.Common.{◌≡◌, ◌+◌, ◌∙◌, List, [], ◌∷◌, ◌++◌, map, Bool, false, cond, not, ◌||◌, length, ltb, Some, None, ap, refl}
 use Rattle.std.specs.Prelude.{position}
 use Rattle.std.specs.List.{list_any, prefix_len, position_or_len}
 use Rattle.std.proofs.lemmas.List.{length-map}

@@ -1,38 +1,21 @@
 -- what holds of what was read without a fault
-use Rattle.std.proofs.Common.{◌≡◌, ℕ, ◌+◌, ◌<◌, ◌≤◌, List, [], ◌∷◌, ◌++◌, codes, Bool, true, false, cond, ◌&&◌, not, length, nat_le, nat_lt, Option, Some, None, Result, Ok, Err, IfSome, decimal, refl, sym, ap, ◌∙◌, subst, arith, suc, zero}
+use Rattle.std.proofs.Common.{◌≡◌, ℕ, ◌+◌, ◌≤◌, List, codes, Bool, true, false, ◌&&◌, not, nat_le, Option, Some, None, Result, Ok, IfSome, decimal, refl, sym, ap, subst, arith, suc}
 use Rattle.std.proofs.lemmas.Bool.Decides.{nat_tests}
 use Rattle.std.specs.List.{list_any}
 use Rattle.std.specs.Option.{option_map_or, option_and_then}
 use Rattle.std.specs.Str.{bytes_eq}
 use Rattle.serde_json.specs.Data.{Data, Items, no_items, item}
 use Rattle.serde_json.specs.Events.{items_len}
-use Rattle.serde_json.specs.Find.{get, as_str, as_array, as_bool, as_number, as_u64}
+use Rattle.serde_json.specs.Find.{get, as_array, as_number, as_u64}
 use Rattle.np_text.specs.Name.{is_name_text}
-use Rattle.np_json.specs.declared.fault.ConfigKind.{ConfigKind}
-use Rattle.np_json.specs.declared.fault.ConfigKind.TheVariants.{Missing, WrongType, OutOfRange, BadName, Repeated, TooMany}
+use Rattle.np_json.specs.declared.fault.ConfigKind.TheVariants.{WrongType, OutOfRange, BadName, Repeated, TooMany}
 use Rattle.np_json.specs.declared.fault.ConfigFault.{ConfigFault}
 use Rattle.np_json.specs.declared.leaf.Length.{Length}
-use Rattle.np_json.specs.Reading.{◌>>=◌, ◌>>◌, refuse, need, found, below}
+use Rattle.np_lists.specs.Refusals.{◌>>=◌, ◌>>◌, need, found}
+use Rattle.np_lists.proofs.RefusalLemmas.{bind-ok, need-ok}
+use Rattle.np_json.specs.Reading.{fault, below}
 use Rattle.np_json.specs.Leaf.{required, text_value, in_range, whole_value, of_length, list_value, new_name, name_at, whole_required, whole_or, whole_maybe}
 use Rattle.np_json.specs.Rows.{ReadsItem, items_from, list_at, list_required, list_maybe}
-
-pub bind_ok : {A B : Type 0} (r : Result A ConfigFault) (f : A → Result B ConfigFault) (y : B) → (r >>= f) ≡ Ok y → (x : A) × (r ≡ Ok x) × (f x ≡ Ok y)
-bind_ok (Ok x) f y e = (x, refl, e)
-bind_ok (Err g) f y e = absurd (cc)
-
-pub then_ok : {B : Type 0} (r : Result (Unit {0}) ConfigFault) (f : Result B ConfigFault) (y : B) → (r >> f) ≡ Ok y → f ≡ Ok y
-then_ok (Ok x) f y e = e
-then_ok (Err g) f y e = absurd (cc)
-
--- a test that was passed on the way
-pub need_ok : {B : Type 0} (b : Bool) (kind : ConfigKind) (at : List ℕ) (f : Result B ConfigFault) (y : B) → (need b kind at >> f) ≡ Ok y → (b ≡ true) × (f ≡ Ok y)
-need_ok true kind at f y e = (refl, e)
-need_ok false kind at f y e = absurd (cc)
-
--- what was found, and read on with
-pub found_ok : {A B : Type 0} (o : Option A) (f : A → Result B ConfigFault) (g : ConfigFault) (y : B) → option_map_or f o (Err g) ≡ Ok y → (x : A) × (o ≡ Some x) × (f x ≡ Ok y)
-found_ok None f g y e = absurd (cc)
-found_ok (Some x) f g y e = (x, refl, e)
 
 abbrev pub ok : {A : Type 0} → A → Result A ConfigFault
 ok x = Ok x
@@ -44,7 +27,7 @@ same_ok x y e = cc
 
 in_range-takes : (at : List ℕ) (least most m n : ℕ) → in_range at least most m ≡ Ok n → (least ≤ n) × (n ≤ most)
 in_range-takes at least most m n e =
-    let t = need_ok (nat_le least m && nat_le m most) OutOfRange at (ok m) n e in
+    let t = need-ok (nat_le least m && nat_le m most) (fault OutOfRange at) (ok m) n e in
     let same : m ≡ n = same_ok m n t.1 in
     let test : (nat_le least m && nat_le m most) ≡ true = t.0 in
     let low : least ≤ m = grind (arith, nat_tests) in
@@ -53,13 +36,13 @@ in_range-takes at least most m n e =
 
 pub whole_value-takes : (at : List ℕ) (least most : ℕ) (d : Data) (n : ℕ) → whole_value at least most d ≡ Ok n → (least ≤ n) × (n ≤ most)
 whole_value-takes at least most d n e =
-    let t = bind_ok (found (option_and_then as_u64 (as_number d)) WrongType at) (in_range at least most) n e in
+    let t = bind-ok (found (option_and_then as_u64 (as_number d)) (fault WrongType at)) (in_range at least most) n e in
     in_range-takes at least most t.0 n t.2
 
 pub whole_required-takes : (at key : List ℕ) (least most : ℕ) (d : Data) (n : ℕ) → whole_required at key least most d ≡ Ok n → (least ≤ n) × (n ≤ most)
 unfolding whole_required
 whole_required-takes at key least most d n e =
-    let t = bind_ok (required at key d) (whole_value (below at key) least most) n e in
+    let t = bind-ok (required at key d) (whole_value (below at key) least most) n e in
     whole_value-takes (below at key) least most t.0 n t.2
 
 pub whole_or-takes : (at key : List ℕ) (least most absent : ℕ) (d : Data) (n : ℕ) → least ≤ absent → absent ≤ most → whole_or at key least most absent d ≡ Ok n → (least ≤ n) × (n ≤ most)
@@ -75,7 +58,7 @@ whole_maybe-takes at key least most d o e = by (get key d) e
     by : (v : Option Data) → option_map_or (λ w. whole_value (below at key) least most w >>= λ n. ok (Some n)) v (ok None) ≡ Ok o → IfSome o (λ n. (least ≤ n) × (n ≤ most))
     by None e = let same : None ≡ o = same_ok None o e in subst (λ (p : Option ℕ). IfSome p (λ n. (least ≤ n) × (n ≤ most))) same tt
     by (Some w) e =
-        let t = bind_ok (whole_value (below at key) least most w) (λ n. ok (Some n)) o e in
+        let t = bind-ok (whole_value (below at key) least most w) (λ n. ok (Some n)) o e in
         let same : Some t.0 ≡ o = same_ok (Some t.0) o t.2 in
         subst (λ (p : Option ℕ). IfSome p (λ n. (least ≤ n) × (n ≤ most))) same (whole_value-takes (below at key) least most w t.0 t.1)
 
@@ -90,11 +73,11 @@ pub name_at-takes : {T : Type 0} (name : T → List ℕ) (at : List ℕ) (earlie
 unfolding name_at new_name
 name_at-takes {T} name at earlier d n e =
     let here = below at (codes "name") in
-    let v = bind_ok (required at (codes "name") d) (λ v. text_value here v >>= new_name name here earlier) n e in
-    let t = bind_ok (text_value here v.0) (new_name name here earlier) n v.2 in
+    let v = bind-ok (required at (codes "name") d) (λ v. text_value here v >>= new_name name here earlier) n e in
+    let t = bind-ok (text_value here v.0) (new_name name here earlier) n v.2 in
     let unused : List ℕ → Bool = λ m. not (list_any (λ row. bytes_eq m (name row)) earlier) in
-    let good = need_ok (is_name_text t.0) BadName here (need (unused t.0) Repeated here >> ok t.0) n t.2 in
-    let new = need_ok (unused t.0) Repeated here (ok t.0) n good.1 in
+    let good = need-ok (is_name_text t.0) (fault BadName here) (need (unused t.0) (fault Repeated here) >> ok t.0) n t.2 in
+    let new = need-ok (unused t.0) (fault Repeated here) (ok t.0) n good.1 in
     let same : t.0 ≡ n = same_ok t.0 n new.1 in
     (subst (λ (m : List ℕ). is_name_text m ≡ true) same good.0, not_true _ (subst (λ (m : List ℕ). unused m ≡ true) same new.0))
 
@@ -109,7 +92,7 @@ items_from-keeps {S} read P step at n m s t no_items so_far e =
     let none : m + 0 ≡ m = omega arith in
     subst (λ (k : ℕ). P k t) (sym none) (subst (P m) same so_far)
 items_from-keeps {S} read P step at n m s t (item d ds) so_far e =
-    let x = bind_ok (read (below at (decimal n)) s d) (λ after. items_from read at (n + 1) after ds) t e in
+    let x = bind-ok (read (below at (decimal n)) s d) (λ after. items_from read at (n + 1) after ds) t e in
     let more : m + 1 + items_len ds ≡ m + suc (items_len ds) = omega arith in
     subst (λ (k : ℕ). P k t) more (items_from-keeps read P step at (n + 1) (m + 1) x.0 t ds (step (below at (decimal n)) m s x.0 d so_far x.1) x.2)
 
@@ -118,10 +101,10 @@ pub list_at-takes : {S : Type 0} (read : ReadsItem S) (P : ℕ → S → Type 0)
     → (at : List ℕ) (l : Length) (s t : S) (d : Data) → P 0 s → list_at read at l s d ≡ Ok t → (n : ℕ) × (l.before + n ≤ l.most) × (l.least ≤ n) × P n t
 unfolding list_at
 list_at-takes {S} read P step at l s t d start e =
-    let v = bind_ok (list_value at l d) (items_from read at 0 s) t e in
-    let a = bind_ok (found (as_array d) WrongType at) (of_length at l) v.0 v.1 in
-    let most = need_ok (nat_le (l.before + items_len a.0) l.most) TooMany at (need (nat_le l.least (items_len a.0)) OutOfRange at >> ok a.0) v.0 a.2 in
-    let least = need_ok (nat_le l.least (items_len a.0)) OutOfRange at (ok a.0) v.0 most.1 in
+    let v = bind-ok (list_value at l d) (items_from read at 0 s) t e in
+    let a = bind-ok (found (as_array d) (fault WrongType at)) (of_length at l) v.0 v.1 in
+    let most = need-ok (nat_le (l.before + items_len a.0) l.most) (fault TooMany at) (need (nat_le l.least (items_len a.0)) (fault OutOfRange at) >> ok a.0) v.0 a.2 in
+    let least = need-ok (nat_le l.least (items_len a.0)) (fault OutOfRange at) (ok a.0) v.0 most.1 in
     let same : a.0 ≡ v.0 = same_ok a.0 v.0 least.1 in
     let high : nat_le (l.before + items_len a.0) l.most ≡ true = most.0 in
     let low : nat_le l.least (items_len a.0) ≡ true = least.0 in
@@ -134,7 +117,7 @@ pub list_required-takes : {S : Type 0} (read : ReadsItem S) (P : ℕ → S → T
     → (at key : List ℕ) (l : Length) (s t : S) (d : Data) → P 0 s → list_required read at key l s d ≡ Ok t → (n : ℕ) × (l.before + n ≤ l.most) × (l.least ≤ n) × P n t
 unfolding list_required
 list_required-takes {S} read P step at key l s t d start e =
-    let v = bind_ok (required at key d) (list_at read (below at key) l s) t e in
+    let v = bind-ok (required at key d) (list_at read (below at key) l s) t e in
     list_at-takes read P step (below at key) l s t v.0 start v.2
 
 pub list_maybe-takes : {S : Type 0} (read : ReadsItem S) (P : ℕ → S → Type 0) → ((at : List ℕ) (n : ℕ) (s t : S) (d : Data) → P n s → read at s d ≡ Ok t → P (n + 1) t)

@@ -1,5 +1,5 @@
 -- what stands at a place of a JSON value
-use Rattle.std.specs.Prelude.{◌≡◌, ℕ, ◌+◌, List, [], ◌∷◌, codes, Bool, true, ◌&&◌, not, nat_le, nat_lt, Option, Some, None, option_and_then, Result, Ok, Err}
+use Rattle.std.specs.Prelude.{ℕ, ◌+◌, List, codes, Bool, true, ◌&&◌, not, nat_le, Option, Some, None, option_and_then, Result, Ok}
 use Rattle.std.specs.List.{list_any}
 use Rattle.std.specs.Option.{option_map_or}
 use Rattle.std.specs.Str.{bytes_eq}
@@ -10,7 +10,20 @@ use Rattle.np_text.specs.Name.{is_name_text}
 use Rattle.np_json.specs.declared.fault.ConfigKind.TheVariants.{Missing, UnknownKey, WrongType, OutOfRange, BadName, Repeated, TooMany}
 use Rattle.np_json.specs.declared.fault.ConfigFault.{ConfigFault}
 use Rattle.np_json.specs.declared.leaf.Length.{Length}
-use Rattle.np_json.specs.Reading.{◌>>=◌, ◌>>◌, refuse, need, found, below}
+use Rattle.np_lists.specs.Refusals.{◌>>=◌, ◌>>◌, need, found}
+use Rattle.np_json.specs.Reading.{fault, below}
+
+-- a list of at most so many items
+abbrev pub at_most : ℕ → Length
+at_most most = record { before = 0; least = 0; most = most }
+
+-- a list of one item or more
+abbrev pub one_to : ℕ → Length
+one_to most = record { before = 0; least = 1; most = most }
+
+-- behind lists of so many items that share the limit
+abbrev pub behind : ℕ → Length → Length
+behind earlier l = record l { before = earlier }
 
 -- each key is one of these
 abbrev pub only_keys : List (List ℕ) → Members → Bool
@@ -19,43 +32,54 @@ only_keys keys (member key d ms) = list_any (bytes_eq key) keys && only_keys key
 
 -- an object that has no key but these (own)
 abbrev pub object_at : List ℕ → List (List ℕ) → Data → Result (Unit {0}) ConfigFault
-object_at at keys d = found (as_object d) WrongType at >>= λ ms. need (only_keys keys ms) UnknownKey at
+object_at at keys d = do
+  ms ← found (as_object d) (fault WrongType at)
+  need (only_keys keys ms) (fault UnknownKey at)
 
 -- a member that has to be there
 abbrev pub required : List ℕ → List ℕ → Data → Result Data ConfigFault
-required at key d = found (get key d) Missing (below at key)
+required at key d = found (get key d) (fault Missing (below at key))
 
 -- a text
 abbrev pub text_value : List ℕ → Data → Result (List ℕ) ConfigFault
-text_value at d = found (as_str d) WrongType at
+text_value at d = found (as_str d) (fault WrongType at)
 
 -- true or false
 abbrev pub flag_value : List ℕ → Data → Result Bool ConfigFault
-flag_value at d = found (as_bool d) WrongType at
+flag_value at d = found (as_bool d) (fault WrongType at)
 
 -- a number of a range
 abbrev pub in_range : List ℕ → ℕ → ℕ → ℕ → Result ℕ ConfigFault
-in_range at least most n = need (nat_le least n && nat_le n most) OutOfRange at >> Ok n
+in_range at least most n = need (nat_le least n && nat_le n most) (fault OutOfRange at) >> Ok n
 
 -- a whole number, without a sign, point or exponent, of a range
 abbrev pub whole_value : List ℕ → ℕ → ℕ → Data → Result ℕ ConfigFault
-whole_value at least most d = found (option_and_then as_u64 (as_number d)) WrongType at >>= in_range at least most
+whole_value at least most d = found (option_and_then as_u64 (as_number d)) (fault WrongType at) >>= in_range at least most
 
 -- as many items as there may be, counting those of earlier lists that share the limit
 abbrev pub of_length : List ℕ → Length → Items → Result Items ConfigFault
-of_length at l ds = need (nat_le (l.before + items_len ds) l.most) TooMany at >> (need (nat_le l.least (items_len ds)) OutOfRange at >> Ok ds)
+of_length at l ds = do
+  need (nat_le (l.before + items_len ds) l.most) (fault TooMany at)
+  need (nat_le l.least (items_len ds)) (fault OutOfRange at)
+  Ok ds
 
 -- a list with as many items as there may be
 abbrev pub list_value : List ℕ → Length → Data → Result Items ConfigFault
-list_value at l d = found (as_array d) WrongType at >>= of_length at l
+list_value at l d = found (as_array d) (fault WrongType at) >>= of_length at l
 
 -- a name that none of the earlier rows has
 unfoldable pub new_name : {T : Type 0} → (T → List ℕ) → List ℕ → List T → List ℕ → Result (List ℕ) ConfigFault
-new_name name at earlier text = need (is_name_text text) BadName at >> (need (not (list_any (λ row. bytes_eq text (name row)) earlier)) Repeated at >> Ok text)
+new_name name at earlier text = do
+  need (is_name_text text) (fault BadName at)
+  need (not (list_any (λ row. bytes_eq text (name row)) earlier)) (fault Repeated at)
+  Ok text
 
 -- the name of a row
 unfoldable pub name_at : {T : Type 0} → (T → List ℕ) → List ℕ → List T → Data → Result (List ℕ) ConfigFault
-name_at name at earlier d = required at (codes "name") d >>= λ v. text_value (below at (codes "name")) v >>= new_name name (below at (codes "name")) earlier
+name_at name at earlier d = do
+  v ← required at (codes "name") d
+  text ← text_value (below at (codes "name")) v
+  new_name name (below at (codes "name")) earlier text
 
 -- a number that has to be there
 unfoldable pub whole_required : List ℕ → List ℕ → ℕ → ℕ → Data → Result ℕ ConfigFault

@@ -1,11 +1,12 @@
 -- the items of a list, one after another
-use Rattle.std.specs.Prelude.{ℕ, ◌+◌, List, [], decimal, Option, Result, Ok, Err}
+use Rattle.std.specs.Prelude.{ℕ, ◌+◌, List, decimal, Result, Ok}
 use Rattle.std.specs.Option.{option_map_or}
 use Rattle.serde_json.specs.Data.{Data, Items, no_items, item}
 use Rattle.serde_json.specs.Find.{get}
 use Rattle.np_json.specs.declared.fault.ConfigFault.{ConfigFault}
 use Rattle.np_json.specs.declared.leaf.Length.{Length}
-use Rattle.np_json.specs.Reading.{◌>>=◌, below}
+use Rattle.np_lists.specs.Refusals.{◌>>=◌}
+use Rattle.np_json.specs.Reading.{below}
 use Rattle.np_json.specs.Leaf.{required, list_value}
 
 -- how an item is read: at its place, beside what was read before it in the list

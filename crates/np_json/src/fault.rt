@@ -84,6 +84,14 @@ impl From<AllocError> for ConfigRead {
     }
 }
 
+impl From<np_text::NoMemory> for ConfigRead {
+    ghost from_gives = { λ _ e. e ≡ NoMemory };
+
+    fn from(_: np_text::NoMemory) -> ConfigRead {
+        ConfigRead::NoMemory
+    }
+}
+
 impl<T: Drop> From<AllocFailed<T>> for ConfigRead {
     ghost from_gives = { λ _ e. e ≡ NoMemory };
 

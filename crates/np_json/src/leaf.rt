@@ -5,7 +5,7 @@ ghost use Rattle.std.specs.List.{list_any};
 ghost use Rattle.std.specs.Str.{bytes_eq};
 ghost use Rattle.serde_json.specs.View.{view, members_view, items_view};
 ghost use Rattle.np_json.specs.Reading.{Gives, pointer_to};
-ghost use Rattle.np_json.specs.Leaf.{only_keys, object_at, required, text_value, flag_value, whole_value, list_value};
+ghost use Rattle.np_json.specs.Leaf.{at_most, one_to, behind, only_keys, object_at, required, text_value, flag_value, whole_value, list_value};
 
 use crate::fault::{ConfigKind, ConfigRead, Place, fault_at, fault_in};
 use serde_json::{Map, Value};
@@ -113,6 +113,41 @@ pub struct Length {
     pub before: usize,
     pub least: usize,
     pub most: usize,
+}
+
+impl Length {
+    /// At most so many items.
+    pub const fn at_most(most: usize) -> Length
+        ensures { result ≡ at_most most }
+    {
+        Length {
+            before: 0,
+            least: 0,
+            most,
+        }
+    }
+
+    /// One item or more.
+    pub const fn one_to(most: usize) -> Length
+        ensures { result ≡ one_to most }
+    {
+        Length {
+            before: 0,
+            least: 1,
+            most,
+        }
+    }
+
+    /// The same behind earlier lists that share the limit, which have so many items.
+    pub const fn behind(self, earlier: usize) -> Length
+        ensures { result ≡ behind earlier self }
+    {
+        Length {
+            before: earlier,
+            least: self.least,
+            most: self.most,
+        }
+    }
 }
 
 ghost use Rattle.std.specs.Prelude.{◌+◌, vec_len};

@@ -5,16 +5,9 @@ ghost use Rattle.std.specs.List.{list_any};
 ghost use Rattle.std.specs.Str.{bytes_eq};
 
 use indexmap::IndexSet;
+use np_site::Named;
 use std::alloc::{AllocError, Global};
 use std::marker::Model;
-
-/// Something with a name.
-pub trait Named: Drop {
-    ghost name: { Self → List ℕ };
-
-    fn name(&self) -> &[u8]
-        ensures { result.now ≡ name self.now };
-}
 
 /// Rows in order, at most 65,535, found by their names, of which each stands once.
 #[derive(Drop)]

@@ -4,17 +4,9 @@ ghost use Rattle.std.specs.Prelude.{◌≡◌, ◌==◌, List, ℕ, ◌++◌, �
 ghost use Rattle.std.specs.List.{list_any};
 
 use indexmap::IndexSet;
-use np_text::SemId;
+use np_site::Numbered;
 use std::alloc::{AllocError, Global};
 use std::marker::Model;
-
-/// Something with a number.
-pub trait Numbered: Drop {
-    ghost number: { Self → ℕ };
-
-    fn number(&self) -> u16
-        ensures { result ≡ number self.now };
-}
 
 /// Rows in order, of which no two have one number.
 #[derive(Drop)]
@@ -69,13 +61,5 @@ impl<T: Numbered> Marked<T> {
         self.numbers.insert(row.number())?;
         self.rows.push(row)?;
         Ok(())
-    }
-}
-
-impl Numbered for SemId {
-    ghost number = { λ s. s.0 };
-
-    fn number(&self) -> u16 {
-        self.0
     }
 }

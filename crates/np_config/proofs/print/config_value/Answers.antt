@@ -5,16 +5,16 @@ use Rattle.np_config.proofs.Ascii.{labels-ascii, semaphores-ascii, providers-asc
 use Rattle.np_config.proofs.print.config_value.Goals as goal
 
 pub list_value-requires-2 : goal.list_value-requires-2
-list_value-requires-2 c = rw c.labels.ensures.rows (labels-ascii _ c.labels.ensures.sound)
+list_value-requires-2 c = rw c.labels.ensures (labels-ascii _ c.soundness.ensures)
 
 pub placed_value-requires-clause-shown : goal.placed_value-requires-clause-shown
-placed_value-requires-clause-shown c = rw c.providers.ensures.rows (providers-ascii _ c.providers.ensures.sound)
+placed_value-requires-clause-shown c = rw c.providers.ensures (providers-ascii _ c.soundness.ensures)
 
 pub placed_value-requires-2-clause-shown : goal.placed_value-requires-2-clause-shown
-placed_value-requires-2-clause-shown c = rw c.requesters.ensures.rows (requesters-ascii _ c.requesters.ensures.sound)
+placed_value-requires-2-clause-shown c = rw c.requesters.ensures (requesters-ascii _ c.soundness.ensures)
 
 pub list_value-requires-3 : goal.list_value-requires-3
-list_value-requires-3 c = rw c.semaphores.ensures.rows (semaphores-ascii _ c.semaphores.ensures.sound)
+list_value-requires-3 c = rw c.semaphores.ensures (semaphores-ascii _ c.soundness.ensures)
 
 pub returns : goal.returns
 returns c =
@@ -33,10 +33,10 @@ returns c =
       c.in_ok-requesters.ensures,
       c.in_ok-semaphores.ensures,
       c.faults.ensures,
-      c.labels.ensures.rows,
-      c.providers.ensures.rows,
-      c.requesters.ensures.rows,
-      c.semaphores.ensures.rows,
-      c.from.ensures,
-      c.max_hold_age.ensures.age,
+      c.labels.ensures,
+      c.providers.ensures,
+      c.requesters.ensures,
+      c.semaphores.ensures,
+      c.from-age.ensures,
+      c.max_hold_age.ensures,
     ))

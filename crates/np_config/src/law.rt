@@ -1,0 +1,54 @@
+//! What the definitions of reading and printing say together.
+
+ghost use Rattle.std.specs.Prelude.{◌≡◌, ◌≤◌, ℕ, List, Ok, length};
+ghost use Rattle.std.specs.List.{AllByRecursion};
+ghost use Rattle.np_text.specs.declared.limit.TheConstants.{JOBS};
+ghost use Rattle.np_site.specs.declared.row.Label.{Label};
+ghost use Rattle.np_site.specs.declared.row.Offer.{Offer};
+ghost use Rattle.np_site.specs.declared.row.Sem.{Sem};
+ghost use Rattle.np_config.specs.declared.providers.PoolsOf.{PoolsOf};
+ghost use Rattle.np_config.specs.declared.providers.Providers.{Providers};
+ghost use Rattle.np_config.specs.declared.requesters.JobsOf.{JobsOf};
+ghost use Rattle.np_config.specs.declared.requesters.Requesters.{Requesters};
+ghost use Rattle.np_config.specs.Labels.{label_at, semaphore_at};
+ghost use Rattle.np_config.specs.Providers.{offer_at, pool_at, provider_at};
+ghost use Rattle.np_config.specs.Requesters.{job_at, requester_at};
+ghost use Rattle.np_config.specs.Walk.{configuration_at, reads};
+ghost use Rattle.np_config.specs.Canonical.{canonical};
+ghost use Rattle.np_config.specs.Defaults.{AllStand, top_defaults, label_defaults, provider_defaults, pool_defaults, offer_defaults, semaphore_defaults, requester_defaults, job_defaults};
+ghost use Rattle.np_config.specs.FirstFaults.{HasFirstFault, faulty_labels, faulty_pools, faulty_requesters, faulty_faults};
+ghost use Rattle.np_config.specs.Worked.{worked, worked_text, worked_canonical};
+
+/// An object without an optional key reads as that object with the key's default put in.
+pub fn an_absent_key_has_its_default()
+    ensures top { AllStand configuration_at top_defaults }
+    ensures label { (at : List ℕ) (earlier : List Label) →
+        AllStand (label_at at earlier) label_defaults }
+    ensures provider { (labels : List Label) (at : List ℕ) (s : Providers) →
+        AllStand (provider_at labels at s) provider_defaults }
+    ensures pool { (labels : List Label) (at : List ℕ) (s : PoolsOf) →
+        AllStand (pool_at labels at s) pool_defaults }
+    ensures offer { (labels : List Label) (at : List ℕ) (earlier : List Offer) →
+        AllStand (offer_at labels at earlier) offer_defaults }
+    ensures semaphore { (at : List ℕ) (earlier : List Sem) →
+        AllStand (semaphore_at at earlier) semaphore_defaults }
+    ensures requester { (labels : List Label) (semaphores : List Sem) (at : List ℕ)
+        (s : Requesters) → length s.jobs ≤ JOBS →
+        AllStand (requester_at labels semaphores at s) requester_defaults }
+    ensures job { (labels : List Label) (semaphores : List Sem) (at : List ℕ) (s : JobsOf) →
+        AllStand (job_at labels semaphores at s) job_defaults }
+{}
+
+/// Texts with their first faults.
+pub fn texts_have_their_first_faults()
+    ensures labels { AllByRecursion HasFirstFault faulty_labels }
+    ensures pools { AllByRecursion HasFirstFault faulty_pools }
+    ensures requesters { AllByRecursion HasFirstFault faulty_requesters }
+    ensures faults { AllByRecursion HasFirstFault faulty_faults }
+{}
+
+/// A text with every optional key absent, what it is read as, and its canonical text.
+pub fn a_worked_text_is_read_and_printed()
+    ensures read { reads worked_text ≡ Ok worked }
+    ensures printed { canonical worked ≡ worked_canonical }
+{}
