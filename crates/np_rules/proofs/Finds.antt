@@ -7,11 +7,11 @@ use Rattle.np_text.specs.declared.id.PoolId.{PoolId}
 use Rattle.np_text.specs.declared.id.NodeId.{NodeId}
 use Rattle.np_text.specs.declared.id.RequestId.{RequestId}
 use Rattle.np_record.specs.declared.record.RoleRecord.{RoleRecord}
-use Rattle.np_config.specs.Configuration.{Configuration}
-use Rattle.np_rules.specs.Entries.{RequestEntry, NodeEntry}
-use Rattle.np_rules.specs.State.{State}
-use Rattle.np_rules.specs.Tables.{request_entry, node_entry, same_request}
-use Rattle.np_rules.specs.Node.{starts_of}
+use Rattle.np_site.specs.Configuration.{Configuration}
+use Rattle.np_machine.specs.Entries.{RequestEntry, NodeEntry}
+use Rattle.np_machine.specs.State.{State}
+use Rattle.np_machine.specs.Tables.{request_entry, node_entry, same_request}
+use Rattle.np_machine.specs.Node.{starts_of}
 use Rattle.np_rules.specs.Fits.{most, RoleFits, RequestFits, NodeFits, Fits}
 use Rattle.std.specs.Prelude.{is_ok, nat_lt, unwrap_or}
 use Rattle.np_text.specs.declared.id.JobId.{JobId}
@@ -24,15 +24,16 @@ use Rattle.np_text.specs.declared.id.Role.{Role}
 use Rattle.np_text.specs.declared.id.Role.TheVariants.{Launcher, Janitor, Requester, Reaper}
 use Rattle.np_text.specs.declared.word.Reason.{Reason}
 use Rattle.np_event.specs.declared.reply.Done.{Done}
-use Rattle.np_rules.specs.Tables.{request_in, node_in, role_in, insert_before, handles_of}
-use Rattle.np_rules.specs.Reasons.{next_label}
-use Rattle.np_rules.specs.Tests.{Answer, launcher}
-use Rattle.np_rules.specs.Request.{judge_decline}
-use Rattle.np_rules.specs.Node.{judge_take_ready, judge_start}
-use Rattle.np_rules.specs.Rising.{NonePass}
-use Rattle.np_rules.proofs.Each.{all-find, all-at}
+use Rattle.np_machine.specs.Tables.{request_in, node_in, role_in, handles_of}
+use Rattle.np_lists.specs.Change.{insert_before}
+use Rattle.np_machine.specs.Reasons.{next_label}
+use Rattle.np_machine.specs.Tests.{Answer, launcher}
+use Rattle.np_machine.specs.Request.{judge_decline}
+use Rattle.np_machine.specs.Node.{judge_take_ready, judge_start}
+use Rattle.np_lists.specs.Rising.{NonePass}
+use Rattle.np_lists.proofs.Each.{all-find, all-at}
 use Rattle.np_rules.proofs.Passed.{launcher-role, decline-first, take_ready-room, start-idle}
-use Rattle.np_rules.proofs.Changing.{insert_before-end}
+use Rattle.np_lists.proofs.ChangeLemmas.{insert_before-end}
 
 pub node-fits : (c : Configuration) (s : State) (n : NodeId) (e : NodeEntry) → Fits c s → node_entry n s.nodes ≡ Some e → NodeFits s e
 node-fits c s n e fits is = all-find (NodeFits s) (λ other. other.id.0 == n.0) s.nodes e fits.each_node is

@@ -6,20 +6,20 @@ use Rattle.std.proofs.lemmas.Bool.Decides.{nat_tests}
 use Rattle.np_text.specs.declared.id.PoolId.{PoolId}
 use Rattle.np_text.specs.declared.id.JobId.{JobId}
 use Rattle.np_text.specs.declared.word.Reason.TheVariants.{NeverFits}
-use Rattle.np_config.specs.Configuration.{Configuration}
+use Rattle.np_site.specs.Configuration.{Configuration}
 use Rattle.np_record.specs.declared.record.Declined.{Declined}
 use Rattle.np_record.specs.declared.record.RequestRecord.{RequestRecord}
 use Rattle.np_record.specs.declared.record.RoleRecord.{RoleRecord}
 use Rattle.np_event.specs.declared.entry.Entry.{Entry}
-use Rattle.np_rules.specs.Entries.{RequestEntry, NodeEntry}
-use Rattle.np_rules.specs.State.{State}
-use Rattle.np_rules.specs.Tables.{same_request}
-use Rattle.np_rules.specs.Order.{is_declined_by}
-use Rattle.np_rules.specs.History.{Runs}
+use Rattle.np_machine.specs.Entries.{RequestEntry, NodeEntry}
+use Rattle.np_machine.specs.State.{State}
+use Rattle.np_machine.specs.Tables.{same_request}
+use Rattle.np_machine.specs.Order.{is_declined_by}
+use Rattle.np_machine.specs.History.{Runs}
 use Rattle.np_rules.specs.Fits.{most, RoleFits, RequestFits, NodeFits, Fits, IsFitSite}
-use Rattle.np_rules.specs.Rising.{NonePass}
-use Rattle.np_rules.proofs.Each.{all-weaker}
-use Rattle.np_rules.proofs.Differ.{few}
+use Rattle.np_lists.specs.Rising.{NonePass}
+use Rattle.np_lists.proofs.Each.{all-weaker}
+use Rattle.np_lists.proofs.Differ.{few}
 use Rattle.np_rules.proofs.Shape.{Deeds, decliner, RequestKept, RequestShape, NodeShape, Shaped}
 use Rattle.np_rules.proofs.Shapes.{launcher-pool, janitor-pool, requester-place}
 use Rattle.np_rules.proofs.ShapeRuns.{shape-Runs}

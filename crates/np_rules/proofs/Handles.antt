@@ -3,8 +3,9 @@ use Rattle.std.proofs.Common.{◌≡◌, ℕ, zero, suc, ◌-◌, ◌<◌, List,
 use Rattle.std.proofs.Math.Seq.{take-append_seam}
 use Rattle.np_text.specs.declared.id.SemId.{SemId}
 use Rattle.np_text.specs.declared.id.JobId.{JobId}
-use Rattle.np_rules.specs.Tables.{change_at, is_among}
-use Rattle.np_rules.specs.Semaphore.{with_handle, all_with_handle}
+use Rattle.np_lists.specs.Change.{change_at}
+use Rattle.np_machine.specs.Tables.{is_among}
+use Rattle.np_machine.specs.Semaphore.{with_handle, all_with_handle}
 use Rattle.np_rules.specs.Undo.{without_last}
 
 pub handles-step : (j : JobId) (xs : List SemId) (d : SemId) (hs : List (List JobId)) → 0 < length xs → all_with_handle j (drop 1 xs) (change_at (get_or xs 0 d).0 (with_handle j) hs) ≡ all_with_handle j xs hs

@@ -1,17 +1,8 @@
-pub mod Steps
-pub mod Changes
-pub mod Runs
-pub mod Rises
-pub mod Acts
-pub mod Halves
-pub mod RisingLemmas
 pub mod CountLemmas
 pub mod Offered
 pub mod TallyLemmas
 pub mod PlaceLemmas
-pub mod Each
 pub mod Passed
-pub mod Differ
 pub mod Shape
 pub mod Settings
 pub mod Shaping
@@ -20,9 +11,7 @@ pub mod ShapeRuns
 pub mod FitsRuns
 pub mod Finds
 pub mod OwnerLemmas
-pub mod Pairs
 pub mod Changing
-pub mod PositionLemmas
 pub mod Handles
 pub mod StepLemmas
 pub mod StartLemmas

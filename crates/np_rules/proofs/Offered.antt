@@ -13,10 +13,10 @@ use Rattle.np_amount.specs.Amounts.{nothing, plus, times, total, IsAtMost}
 use Rattle.np_amount.proofs.Sums.{same_amount, plus-assoc, plus-comm, nothing-plus}
 use Rattle.np_text.specs.declared.id.PoolId.{PoolId}
 use Rattle.np_text.specs.declared.id.LabelId.{LabelId}
-use Rattle.np_config.specs.Configuration.{Configuration}
-use Rattle.np_config.specs.declared.row.Offer.{Offer}
-use Rattle.np_rules.specs.Entries.{NodeEntry}
-use Rattle.np_rules.specs.Count.{offers_of, amount_of, is_kind, number_of}
+use Rattle.np_site.specs.Configuration.{Configuration}
+use Rattle.np_site.specs.declared.row.Offer.{Offer}
+use Rattle.np_machine.specs.Entries.{NodeEntry}
+use Rattle.np_machine.specs.Count.{offers_of, amount_of, is_kind, number_of}
 use Rattle.np_rules.specs.Fits.{AmountFits, AllApart, OffersFit}
 
 -- what a node of the label takes by these offers

@@ -2,10 +2,10 @@
 use Rattle.std.proofs.Common.{◌≡◌, ◌<◌, ℕ, zero, suc, List, [], ◌∷◌, length, drop, refl, arith, Some, None, true, false, get_or}
 use Rattle.std.specs.Prelude.{slice_get}
 use Rattle.np_text.specs.declared.id.NodeId.{NodeId}
-use Rattle.np_config.specs.declared.row.Job.{Job}
+use Rattle.np_site.specs.declared.row.Job.{Job}
 use Rattle.np_record.specs.declared.record.JobRecord.{JobRecord}
-use Rattle.np_rules.specs.Tables.{is_marked}
-use Rattle.np_rules.specs.Node.{owner_from}
+use Rattle.np_machine.specs.Tables.{is_marked}
+use Rattle.np_machine.specs.Node.{owner_from}
 
 owner-without : (n : NodeId) (records : List JobRecord) → owner_from n records [] ≡ None
 owner-without n [] = refl

@@ -9,20 +9,20 @@ use Rattle.np_text.specs.declared.id.RequestId.{RequestId}
 use Rattle.np_text.specs.declared.id.Role.{Role}
 use Rattle.np_text.specs.declared.id.Role.TheVariants.{Launcher, Janitor, Requester, Reaper}
 use Rattle.np_text.specs.declared.word.Reason.{Reason}
-use Rattle.np_config.specs.Configuration.{Configuration}
+use Rattle.np_site.specs.Configuration.{Configuration}
 use Rattle.np_record.specs.declared.record.NodeRecord.{NodeRecord}
 use Rattle.np_record.specs.declared.record.RequestRecord.{RequestRecord}
 use Rattle.np_event.specs.declared.reply.Done.{Done}
-use Rattle.np_rules.specs.declared.state.SessionFacts.{SessionFacts}
-use Rattle.np_rules.specs.State.{State}
-use Rattle.np_rules.specs.Kinds.{is_building}
-use Rattle.np_rules.specs.Tables.{role_of, session_of, request_in, node_in}
-use Rattle.np_rules.specs.Order.{is_declined_by}
-use Rattle.np_rules.specs.Reasons.{next_label}
-use Rattle.np_rules.specs.Tests.{launcher, as_launcher}
-use Rattle.np_rules.specs.Request.{judge_decline}
-use Rattle.np_rules.specs.Node.{judge_take_ready, judge_start, judge_done}
-use Rattle.np_rules.specs.Session.{judge_open, is_role}
+use Rattle.np_machine.specs.declared.state.SessionFacts.{SessionFacts}
+use Rattle.np_machine.specs.State.{State}
+use Rattle.np_machine.specs.Kinds.{is_building}
+use Rattle.np_machine.specs.Tables.{role_of, session_of, request_in, node_in}
+use Rattle.np_machine.specs.Order.{is_declined_by}
+use Rattle.np_machine.specs.Reasons.{next_label}
+use Rattle.np_machine.specs.Tests.{launcher, as_launcher}
+use Rattle.np_machine.specs.Request.{judge_decline}
+use Rattle.np_machine.specs.Node.{judge_take_ready, judge_start, judge_done}
+use Rattle.np_machine.specs.Session.{judge_open, is_role}
 
 pub open-role : (c : Configuration) (s : State) (role : Role) (what : Done) → judge_open c s role ≡ Ok what → is_role c role ≡ true
 open-role c s role what is = grind (arith, nat_tests)

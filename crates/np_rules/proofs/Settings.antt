@@ -1,18 +1,18 @@
 -- the form of a state after a change of one table or number
 use Rattle.std.proofs.Common.{◌≡◌, ℕ, ◌≤◌, List, length, true}
 use Rattle.std.specs.List.{AllByRecursion}
-use Rattle.np_config.specs.Configuration.{Configuration}
+use Rattle.np_site.specs.Configuration.{Configuration}
 use Rattle.np_text.specs.declared.id.JobId.{JobId}
 use Rattle.np_record.specs.declared.record.JobRecord.{JobRecord}
 use Rattle.np_record.specs.declared.record.RoleRecord.{RoleRecord}
-use Rattle.np_rules.specs.declared.state.SessionFacts.{SessionFacts}
-use Rattle.np_rules.specs.declared.state.Registration.{Registration}
-use Rattle.np_rules.specs.declared.state.Swept.{Swept}
-use Rattle.np_rules.specs.Entries.{RequestEntry, NodeEntry}
-use Rattle.np_rules.specs.State.{State}
-use Rattle.np_rules.specs.Session.{is_role}
+use Rattle.np_machine.specs.declared.state.SessionFacts.{SessionFacts}
+use Rattle.np_machine.specs.declared.state.Registration.{Registration}
+use Rattle.np_machine.specs.declared.state.Swept.{Swept}
+use Rattle.np_machine.specs.Entries.{RequestEntry, NodeEntry}
+use Rattle.np_machine.specs.State.{State}
+use Rattle.np_machine.specs.Session.{is_role}
 use Rattle.np_rules.specs.Fits.{JobFits}
-use Rattle.np_rules.proofs.Each.{all-weaker}
+use Rattle.np_lists.proofs.Each.{all-weaker}
 use Rattle.np_rules.proofs.Shape.{same, Deeds, RequestShape, NodeShape, Shaped, wider-request, wider-node}
 
 -- ## one table or number changed

@@ -2,20 +2,20 @@
 use Rattle.std.proofs.Common.{◌≡◌, ℕ, suc, ◌<◌, ◌≤◌, List, length, arith, true}
 use Rattle.std.specs.Prelude.{◌&&◌, not}
 use Rattle.std.specs.List.{AllByRecursion}
-use Rattle.np_config.specs.Configuration.{Configuration}
+use Rattle.np_site.specs.Configuration.{Configuration}
 use Rattle.np_text.specs.declared.id.JobId.{JobId}
 use Rattle.np_record.specs.declared.record.Declined.{Declined}
 use Rattle.np_record.specs.declared.record.RequestRecord.{RequestRecord}
 use Rattle.np_record.specs.declared.record.NodeRecord.{NodeRecord}
 use Rattle.np_record.specs.declared.record.RoleRecord.{RoleRecord}
-use Rattle.np_rules.specs.Entries.{RequestEntry, NodeEntry}
-use Rattle.np_rules.specs.State.{State}
-use Rattle.np_rules.specs.Kinds.{is_building}
-use Rattle.np_rules.specs.Count.{retries_of}
-use Rattle.np_rules.specs.Session.{is_role}
+use Rattle.np_machine.specs.Entries.{RequestEntry, NodeEntry}
+use Rattle.np_machine.specs.State.{State}
+use Rattle.np_machine.specs.Kinds.{is_building}
+use Rattle.np_machine.specs.Count.{retries_of}
+use Rattle.np_machine.specs.Session.{is_role}
 use Rattle.np_rules.specs.Fits.{JobFits}
-use Rattle.np_rules.proofs.Differ.{Differ}
-use Rattle.np_rules.proofs.Each.{all-weaker}
+use Rattle.np_lists.proofs.Differ.{Differ}
+use Rattle.np_lists.proofs.Each.{all-weaker}
 
 pub record Deeds (a n : ℕ) (role : RoleRecord) : Type 0 where
   pub acts : role.acts ≤ a

@@ -3,26 +3,27 @@ use Rattle.std.proofs.Common.{◌≡◌, ℕ, suc, ◌+◌, ◌≤◌, List, [],
 use Rattle.std.proofs.lemmas.List.{length-map}
 use Rattle.std.specs.Prelude.{slice_get, ◌==◌, is_some}
 use Rattle.np_text.specs.declared.id.JobId.{JobId}
-use Rattle.np_config.specs.Configuration.{Configuration}
+use Rattle.np_site.specs.Configuration.{Configuration}
 use Rattle.np_record.specs.declared.record.RoleRecord.{RoleRecord}
 use Rattle.np_event.specs.declared.event.Event.{Event}
 use Rattle.np_event.specs.declared.event.Event.TheVariants as ev
 use Rattle.np_event.specs.declared.entry.Entry.{Entry}
 use Rattle.np_event.specs.declared.reply.Done.{Done}
-use Rattle.np_rules.specs.Entries.{NodeEntry}
-use Rattle.np_rules.specs.State.{State, start, new_job, no_deeds}
+use Rattle.np_machine.specs.Entries.{NodeEntry}
+use Rattle.np_machine.specs.State.{State, start, new_job, no_deeds}
 use Rattle.np_rules.specs.Fits.{JobFits, IsFitSite}
-use Rattle.np_rules.specs.Tables.{session_of, request_in, request_queue, node_in, node_queue, remove_node, change_first, is_marked}
-use Rattle.np_rules.specs.Reasons.{next_label}
-use Rattle.np_rules.specs.Tests.{launcher}
-use Rattle.np_rules.specs.Request.{next_id, asked_by, kept_ready_by, registers, submit_for, submitted, kept_ready, accept_by, accepted, decline_by, declined, fulfilled, given_back, failed}
-use Rattle.np_rules.specs.Node.{took_ready, create_by, create_for, created, starts_of, one_more_start, start_by, started, reported, with_mark, node_ended, given_up, node_freed, is_wanted}
-use Rattle.np_rules.specs.Semaphore.{acquired, all_in_use, take_for, take_from, taken, finished, withdrawn, released}
-use Rattle.np_rules.specs.Session.{muted, crashed, expired}
-use Rattle.np_rules.specs.Step.{judge, effect, next, acting}
-use Rattle.np_rules.specs.History.{state_after, Runs}
-use Rattle.np_rules.proofs.Steps.{after_found-keeps, after_given-keeps, next-keeps}
-use Rattle.np_rules.proofs.Each.{all-push, all-map, all-change_first, all-change_at_to, all-remove_first, length-remove_first}
+use Rattle.np_machine.specs.Tables.{session_of, request_in, request_queue, node_in, node_queue, remove_node, is_marked}
+use Rattle.np_lists.specs.Change.{change_first}
+use Rattle.np_machine.specs.Reasons.{next_label}
+use Rattle.np_machine.specs.Tests.{launcher}
+use Rattle.np_machine.specs.Request.{next_id, asked_by, kept_ready_by, registers, submit_for, submitted, kept_ready, accept_by, accepted, decline_by, declined, fulfilled, given_back, failed}
+use Rattle.np_machine.specs.Node.{took_ready, create_by, create_for, created, starts_of, one_more_start, start_by, started, reported, with_mark, node_ended, given_up, node_freed, is_wanted}
+use Rattle.np_machine.specs.Semaphore.{acquired, all_in_use, take_for, take_from, taken, finished, withdrawn, released}
+use Rattle.np_machine.specs.Session.{muted, crashed, expired}
+use Rattle.np_machine.specs.Step.{judge, effect, next, acting}
+use Rattle.np_machine.specs.History.{state_after, Runs}
+use Rattle.np_machine.proofs.Steps.{after_found-keeps, after_given-keeps, next-keeps}
+use Rattle.np_lists.proofs.Each.{all-push, all-map, all-change_first, all-change_at_to, all-remove_first, length-remove_first}
 use Rattle.np_rules.proofs.Passed.{open-role, launcher-role, decline-first, take_ready-room, start-idle, done-flying}
 use Rattle.np_rules.proofs.Shape.{up, same, Deeds, wider-deeds, RequestKept, NodeKept, NodeShape, Shaped, wider}
 use Rattle.np_rules.proofs.Settings.{set-tick, set-sessions, set-registrations, set-nodes, set-handles, set-jobs, set-deeds}

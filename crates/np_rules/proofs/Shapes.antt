@@ -19,29 +19,30 @@ use Rattle.np_text.specs.declared.word.EndAs.TheVariants as end
 use Rattle.np_text.specs.declared.word.NodeState.TheVariants as node_state
 use Rattle.np_text.specs.declared.word.RequestState.{RequestState}
 use Rattle.np_text.specs.declared.word.Reason.{Reason}
-use Rattle.np_config.specs.Configuration.{Configuration}
+use Rattle.np_site.specs.Configuration.{Configuration}
 use Rattle.np_record.specs.declared.record.Declined.{Declined}
 use Rattle.np_record.specs.declared.record.RequestRecord.{RequestRecord}
 use Rattle.np_record.specs.declared.record.NodeRecord.{NodeRecord}
 use Rattle.np_record.specs.declared.record.RoleRecord.{RoleRecord}
 use Rattle.np_event.specs.declared.event.Outcome.{Outcome}
 use Rattle.np_event.specs.declared.event.Outcome.TheVariants as outcome
-use Rattle.np_rules.specs.declared.state.SessionFacts.{SessionFacts}
-use Rattle.np_rules.specs.Entries.{RequestEntry, NodeEntry}
-use Rattle.np_rules.specs.State.{State}
-use Rattle.np_rules.specs.Kinds.{is_building}
+use Rattle.np_machine.specs.declared.state.SessionFacts.{SessionFacts}
+use Rattle.np_machine.specs.Entries.{RequestEntry, NodeEntry}
+use Rattle.np_machine.specs.State.{State}
+use Rattle.np_machine.specs.Kinds.{is_building}
 use Rattle.np_rules.specs.Fits.{IsFitSite}
-use Rattle.np_rules.specs.Tables.{change_first, role_of, is_session, request_in, remove_request, node_in, all_freed, put_request, change_session}
-use Rattle.np_rules.specs.Count.{retries_of}
-use Rattle.np_rules.specs.Order.{is_declined_by}
-use Rattle.np_rules.specs.Reasons.{next_label}
-use Rattle.np_rules.specs.Tests.{launcher}
-use Rattle.np_rules.specs.Request.{insert_request, declined_with}
-use Rattle.np_rules.specs.Node.{with_node, allocated, took_ready, made, created, starts_of, launched, ended_as, with_pair}
-use Rattle.np_rules.specs.Session.{is_role, ended, expired, request_left, node_left}
-use Rattle.np_rules.proofs.Changes.{length-change_at}
-use Rattle.np_rules.proofs.Each.{all-push, all-at, all-insert_before, all-change_at, all-change_first_to, length-filter_at_most, length-change_first, length-insert_before}
-use Rattle.np_rules.proofs.Differ.{differ-push}
+use Rattle.np_lists.specs.Change.{change_first}
+use Rattle.np_machine.specs.Tables.{role_of, is_session, request_in, remove_request, node_in, all_freed, put_request, change_session}
+use Rattle.np_machine.specs.Count.{retries_of}
+use Rattle.np_machine.specs.Order.{is_declined_by}
+use Rattle.np_machine.specs.Reasons.{next_label}
+use Rattle.np_machine.specs.Tests.{launcher}
+use Rattle.np_machine.specs.Request.{insert_request, declined_with}
+use Rattle.np_machine.specs.Node.{with_node, allocated, took_ready, made, created, starts_of, launched, ended_as, with_pair}
+use Rattle.np_machine.specs.Session.{is_role, ended, expired, request_left, node_left}
+use Rattle.np_lists.proofs.ChangeLemmas.{length-change_at}
+use Rattle.np_lists.proofs.Each.{all-push, all-at, all-insert_before, all-change_at, all-change_first_to, length-filter_at_most, length-change_first, length-insert_before}
+use Rattle.np_lists.proofs.Differ.{differ-push}
 use Rattle.np_rules.proofs.Passed.{launcher-role}
 use Rattle.np_rules.proofs.Shape.{up, same, Deeds, decliner, RequestKept, RequestShape, NodeKept, NodeShape, Shaped, wider, wider-node}
 use Rattle.np_rules.proofs.Settings.{set-sessions, set-registrations, set-requests, set-nodes, set-swept, set-next_request, set-next_node}

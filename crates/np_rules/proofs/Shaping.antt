@@ -12,21 +12,22 @@ use Rattle.np_text.specs.declared.id.JobId.{JobId}
 use Rattle.np_text.specs.declared.id.SemId.{SemId}
 use Rattle.np_text.specs.declared.id.Role.{Role}
 use Rattle.np_text.specs.declared.id.Role.TheVariants.{Launcher, Janitor, Requester, Reaper}
-use Rattle.np_config.specs.Configuration.{Configuration}
+use Rattle.np_site.specs.Configuration.{Configuration}
 use Rattle.np_record.specs.declared.record.RequestRecord.{RequestRecord}
 use Rattle.np_record.specs.declared.record.NodeRecord.{NodeRecord}
 use Rattle.np_record.specs.declared.record.JobRecord.{JobRecord}
 use Rattle.np_record.specs.declared.record.RoleRecord.{RoleRecord}
-use Rattle.np_rules.specs.declared.state.Swept.{Swept}
-use Rattle.np_rules.specs.Entries.{RequestEntry, NodeEntry}
-use Rattle.np_rules.specs.State.{State}
+use Rattle.np_machine.specs.declared.state.Swept.{Swept}
+use Rattle.np_machine.specs.Entries.{RequestEntry, NodeEntry}
+use Rattle.np_machine.specs.State.{State}
 use Rattle.np_rules.specs.Fits.{JobFits}
-use Rattle.np_rules.specs.Tables.{change_first, change_at, insert_before, same_request, joined, left, is_queued, request_in, request_entry, request_queue, put_request, put_request_queue, remove_request, node_in, node_entry, node_queue, put_node, put_node_queue, all_freed, put_job, is_among, change_launcher, change_janitor, change_requester}
-use Rattle.np_rules.specs.Semaphore.{with_handle, all_with_handle, without_handle, all_without_handle, all_in_use, in_use}
-use Rattle.np_rules.specs.Node.{with_pair, is_swept, is_pair_after}
-use Rattle.np_rules.specs.Step.{with_act, one_more_act}
-use Rattle.np_rules.specs.Session.{struck_unless}
-use Rattle.np_rules.proofs.Each.{all-find, all-at, all-remove_first, all-set, all-change_first, all-change_at, all-weaker, all-change_at_to, length-filter_at_most, length-change_first, length-remove_first, length-insert_before}
+use Rattle.np_lists.specs.Change.{change_first, change_at, insert_before}
+use Rattle.np_machine.specs.Tables.{same_request, joined, left, is_queued, request_in, request_entry, request_queue, put_request, put_request_queue, remove_request, node_in, node_entry, node_queue, put_node, put_node_queue, all_freed, put_job, is_among, change_launcher, change_janitor, change_requester}
+use Rattle.np_machine.specs.Semaphore.{with_handle, all_with_handle, without_handle, all_without_handle, all_in_use, in_use}
+use Rattle.np_machine.specs.Node.{with_pair, is_swept, is_pair_after}
+use Rattle.np_machine.specs.Step.{with_act, one_more_act}
+use Rattle.np_machine.specs.Session.{struck_unless}
+use Rattle.np_lists.proofs.Each.{all-find, all-at, all-remove_first, all-set, all-change_first, all-change_at, all-weaker, all-change_at_to, length-filter_at_most, length-change_first, length-remove_first, length-insert_before}
 use Rattle.np_rules.proofs.Shape.{up, same, Deeds, RequestKept, RequestShape, NodeKept, NodeShape, Shaped, wider, wider-deeds}
 use Rattle.np_rules.proofs.Settings.{set-requests, set-nodes, set-jobs, set-deeds}
 

@@ -7,14 +7,15 @@ use Rattle.std.proofs.lemmas.List.Elements.{All-head, All-tail}
 use Rattle.std.proofs.lemmas.List.Folds.{list_any-append}
 use Rattle.np_text.specs.declared.id.PoolId.{PoolId}
 use Rattle.np_amount.specs.Amounts.{nothing}
-use Rattle.np_config.specs.declared.row.Label.{Label}
-use Rattle.np_config.specs.declared.row.Provider.{Provider}
-use Rattle.np_config.specs.declared.row.Pool.{Pool}
-use Rattle.np_config.specs.declared.row.Offer.{Offer}
-use Rattle.np_config.specs.declared.row.Job.{Job}
-use Rattle.np_config.specs.Configuration.{Configuration}
-use Rattle.np_config.specs.Sound.{EachAfter, StandsByOwner, IsSound, IsLabel, IsProvider, IsOffer, IsPool, IsJob}
-use Rattle.np_rules.specs.Count.{retries_of}
+use Rattle.np_site.specs.declared.row.Label.{Label}
+use Rattle.np_site.specs.declared.row.Provider.{Provider}
+use Rattle.np_site.specs.declared.row.Pool.{Pool}
+use Rattle.np_site.specs.declared.row.Offer.{Offer}
+use Rattle.np_site.specs.declared.row.Job.{Job}
+use Rattle.np_site.specs.Configuration.{Configuration}
+use Rattle.np_lists.specs.EachAfter.{EachAfter}
+use Rattle.np_site.specs.Sound.{StandsByOwner, IsSound, IsLabel, IsProvider, IsOffer, IsPool, IsJob}
+use Rattle.np_machine.specs.Count.{retries_of}
 use Rattle.np_rules.specs.Fits.{AmountFits, AllApart, OffersFit, JobRowFits, IsFitSite}
 
 -- ## rows by place

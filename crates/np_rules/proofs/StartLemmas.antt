@@ -1,9 +1,9 @@
 -- the tables before the first event
 use Rattle.std.proofs.Common.{◌≡◌, List, [], ◌∷◌, length, map, refl, ap, arith}
 use Rattle.std.specs.Prelude.{replicate}
-use Rattle.np_config.specs.Configuration.{Configuration}
-use Rattle.np_rules.specs.State.{start}
-use Rattle.np_rules.specs.History.{Runs}
+use Rattle.np_site.specs.Configuration.{Configuration}
+use Rattle.np_machine.specs.State.{start}
+use Rattle.np_machine.specs.History.{Runs}
 
 pub replicate-map : {X Y : Type 0} (x : X) (ys : List Y) → replicate (length ys) x ≡ map (λ _. x) ys
 replicate-map x [] = refl

@@ -2,20 +2,20 @@
 use Rattle.std.proofs.Common.{◌≡◌, ℕ, ◌<◌, ◌≤◌, List, [], ◌∷◌, ◌++◌, length, refl, ap, sym, ◌∙◌, arith, length-append, Option, Some, None}
 use Rattle.std.specs.Option.{option_map}
 use Rattle.np_text.specs.declared.id.Role.{Role}
-use Rattle.np_config.specs.Configuration.{Configuration}
+use Rattle.np_site.specs.Configuration.{Configuration}
 use Rattle.np_record.specs.declared.record.RoleRecord.{RoleRecord}
 use Rattle.np_event.specs.declared.event.Event.{Event}
 use Rattle.np_event.specs.declared.entry.Entry.{Entry}
 use Rattle.np_event.specs.declared.reply.Reply.{Reply}
-use Rattle.np_rules.specs.State.{State, start}
-use Rattle.np_rules.specs.Laws.{acts_of}
-use Rattle.np_rules.specs.Tables.{role_in}
+use Rattle.np_machine.specs.State.{State, start}
+use Rattle.np_machine.specs.Laws.{acts_of}
+use Rattle.np_machine.specs.Tables.{role_in}
 use Rattle.np_rules.specs.Fits.{most, Fits}
-use Rattle.np_rules.specs.Step.{judge, effect, next, reply_of}
-use Rattle.np_rules.specs.History.{after, Runs}
-use Rattle.np_rules.proofs.Acts.{SameActs-effect}
+use Rattle.np_machine.specs.Step.{judge, effect, next, reply_of}
+use Rattle.np_machine.specs.History.{after, Runs}
+use Rattle.np_machine.proofs.Acts.{SameActs-effect}
 use Rattle.np_rules.proofs.Finds.{role-fits}
-use Rattle.np_rules.proofs.Runs.{state_after-push, replayed-push}
+use Rattle.np_machine.proofs.Runs.{state_after-push, replayed-push}
 
 acts_by : (c : Configuration) (s : State) (role : Role) (n : ℕ) (o : Option RoleRecord) → Fits c s → role_in role s ≡ o → option_map (λ deeds. deeds.acts) o ≡ Some n → n ≤ most
 acts_by c s role n None fits has is = absurd cc

@@ -1,177 +1,21 @@
 -- what a change of the nodes leaves of their numbers
 use Rattle.std.proofs.Common.{◌≡◌, ◌≢◌, ℕ, zero, suc, ◌+◌, ◌-◌, ◌*◌, ◌<◌, ◌≤◌, ◌^◌, List, [], ◌∷◌, length, take, get_or, map, cond, refl, ap, sym, ◌∙◌, subst, arith, Bool, true, false, Option, Some, None}
-use Rattle.std.specs.Prelude.{◌==◌, ◌&&◌, nat_lt, filter, find, replicate, slice_get, is_none, IfSome}
+use Rattle.std.specs.Prelude.{◌==◌, ◌&&◌, nat_lt, find, replicate, slice_get, IfSome}
 use Rattle.std.specs.Option.{option_map}
 use Rattle.std.specs.List.{list_any}
 use Rattle.std.proofs.lemmas.Bool.Decides.{nat_tests}
-use Rattle.std.proofs.lemmas.List.Sums.{length-filter, count_by-le-length}
 use Rattle.std.proofs.lemmas.List.Filters.{length-filter_more}
 use Rattle.np_text.specs.declared.id.PoolId.{PoolId}
 use Rattle.np_text.specs.declared.id.LabelId.{LabelId}
 use Rattle.np_text.specs.declared.id.SessionId.{SessionId}
-use Rattle.np_rules.specs.Entries.{NodeEntry}
-use Rattle.np_rules.specs.Kinds.{is_ready}
-use Rattle.np_rules.specs.Tables.{change_first, remove_first, insert_before, holder, is_session, is_queued, left}
-use Rattle.np_rules.specs.Count.{is_kind, number_of}
-use Rattle.np_rules.specs.Reasons.{is_spare}
-use Rattle.np_rules.specs.Tally.{tally_place, number_at, number_changed, AreNumbers, spares_of, is_free, spare_place, IsTally, IsSameKind}
-use Rattle.np_rules.proofs.Changes.{slice_get-change_at, slice_get-change_at_other}
-
--- ## the nodes that pass a test
-
-abbrev pub passing : (NodeEntry → Bool) → List NodeEntry → ℕ
-passing k nodes = length (filter k nodes)
-
--- one more where the node passes
-abbrev pub one_if : Bool → ℕ → ℕ
-one_if true n = suc n
-one_if false n = n
-
--- 1 where there is a node and it passes
-abbrev pub one_of : (NodeEntry → Bool) → Option NodeEntry → ℕ
-one_of k None = 0
-one_of k (Some e) = one_if (k e) 0
-
-one_ifs : (a b : Bool) (n : ℕ) → one_if a (one_if b n) ≡ one_if b (one_if a n)
-one_ifs true true n = refl
-one_ifs true false n = refl
-one_ifs false true n = refl
-one_ifs false false n = refl
-
-one_added : (b : Bool) (n : ℕ) → one_if b n ≡ n + one_if b 0
-one_added true n = omega arith
-one_added false n = omega arith
-
-pub passing-bound : (k : NodeEntry → Bool) (nodes : List NodeEntry) → passing k nodes ≤ length nodes
-passing-bound k nodes = omega (arith, length-filter k nodes, count_by-le-length k nodes)
-
-found_all : {X : Type 0} (Q : X → Type 0) (o : Option X) → ((x : X) → Q x) → IfSome o Q
-found_all Q None all = tt
-found_all Q (Some x) all = all x
-
-positive : (n : ℕ) → true ≡ nat_lt 0 (suc n)
-positive n = grind (arith, nat_tests)
-
-module _ (k : NodeEntry → Bool) where
-  passing_step : (e : NodeEntry) (nodes : List NodeEntry) → passing k (e ∷ nodes) ≡ one_if (k e) (passing k nodes)
-  passing_step e nodes = step (k e) refl where
-    step : (b : Bool) → k e ≡ b → passing k (e ∷ nodes) ≡ one_if b (passing k nodes)
-    step true is = rw is refl
-    step false is = rw is refl
-
-  passing-mapped : (f : NodeEntry → NodeEntry) (nodes : List NodeEntry) → ((e : NodeEntry) → k (f e) ≡ k e) → passing k (map f nodes) ≡ passing k nodes
-  passing-mapped f [] same = refl
-  passing-mapped f (e ∷ nodes) same =
-      passing_step (f e) (map f nodes)
-      ∙ rw (same e, passing-mapped f nodes same) refl
-      ∙ sym (passing_step e nodes)
-
-  passing-kept : (t : NodeEntry → Bool) (f : NodeEntry → NodeEntry) (nodes : List NodeEntry) → IfSome (find t nodes) (λ e. k (f e) ≡ k e) → passing k (change_first t f nodes) ≡ passing k nodes
-  passing-kept t f [] same = refl
-  passing-kept t f (e ∷ nodes) same = by (t e) refl (λ later. passing-kept t f nodes later) where
-    by : (b : Bool) → t e ≡ b → (IfSome (find t nodes) (λ x. k (f x) ≡ k x) → passing k (change_first t f nodes) ≡ passing k nodes) → passing k (change_first t f (e ∷ nodes)) ≡ passing k (e ∷ nodes)
-    by true is rest =
-        let here : k (f e) ≡ k e = rw is at same in
-        rw is (passing_step (f e) nodes ∙ ap (λ (b : Bool). one_if b (passing k nodes)) here ∙ sym (passing_step e nodes))
-    by false is rest =
-        let later : IfSome (find t nodes) (λ x. k (f x) ≡ k x) = rw is at same in
-        rw is (passing_step e (change_first t f nodes) ∙ ap (one_if (k e)) (rest later) ∙ sym (passing_step e nodes))
-
-  passing-inserted : (t : NodeEntry → Bool) (new : NodeEntry) (nodes : List NodeEntry) → passing k (insert_before t new nodes) ≡ one_if (k new) (passing k nodes)
-  passing-inserted t new [] = passing_step new []
-  passing-inserted t new (e ∷ nodes) = by (t e) refl (passing-inserted t new nodes) where
-    by : (b : Bool) → t e ≡ b → passing k (insert_before t new nodes) ≡ one_if (k new) (passing k nodes) → passing k (insert_before t new (e ∷ nodes)) ≡ one_if (k new) (passing k (e ∷ nodes))
-    by true is rest = rw is (passing_step new (e ∷ nodes))
-    by false is rest = rw is (
-        passing_step e (insert_before t new nodes)
-        ∙ ap (one_if (k e)) rest
-        ∙ one_ifs (k e) (k new) (passing k nodes)
-        ∙ ap (one_if (k new)) (sym (passing_step e nodes)))
-
-  passing-removed : (t : NodeEntry → Bool) (nodes : List NodeEntry) (old : NodeEntry) → find t nodes ≡ Some old → passing k nodes ≡ one_if (k old) (passing k (remove_first t nodes))
-  passing-removed t [] old found = absurd cc
-  passing-removed t (e ∷ nodes) old found = by (t e) refl (λ later. passing-removed t nodes old later) where
-    by : (b : Bool) → t e ≡ b → (find t nodes ≡ Some old → passing k nodes ≡ one_if (k old) (passing k (remove_first t nodes))) → passing k (e ∷ nodes) ≡ one_if (k old) (passing k (remove_first t (e ∷ nodes)))
-    by true is rest =
-        let here : Some e ≡ Some old = rw is at found in
-        let same : e ≡ old = cc in
-        rw (is, ← same) (passing_step e nodes)
-    by false is rest =
-        let later : find t nodes ≡ Some old = rw is at found in
-        rw is (
-        passing_step e nodes
-        ∙ ap (one_if (k e)) (rest later)
-        ∙ one_ifs (k e) (k old) (passing k (remove_first t nodes))
-        ∙ ap (one_if (k old)) (sym (passing_step e (remove_first t nodes))))
-
-  -- the one that is found is among those that pass, or does not pass
-  passing-found : (t : NodeEntry → Bool) (nodes : List NodeEntry) → one_of k (find t nodes) ≤ passing k nodes
-  passing-found t [] = omega arith
-  passing-found t (e ∷ nodes) = by (t e) refl (passing-found t nodes) where
-    one : (b : Bool) (n m : ℕ) → n ≤ m → one_if b n ≤ one_if b m
-    one true n m most = omega arith
-    one false n m most = omega arith
-
-    over : (b : Bool) (n m : ℕ) → n ≤ m → n ≤ one_if b m
-    over true n m most = omega arith
-    over false n m most = omega arith
-
-    by : (b : Bool) → t e ≡ b → one_of k (find t nodes) ≤ passing k nodes → one_of k (find t (e ∷ nodes)) ≤ passing k (e ∷ nodes)
-    by true is rest = rw (is, passing_step e nodes) (one (k e) 0 (passing k nodes) (omega arith))
-    by false is rest = rw (is, passing_step e nodes) (over (k e) (one_of k (find t nodes)) (passing k nodes) rest)
-
-  -- one less for what was found, one more for what it became
-  passing-changed : (t : NodeEntry → Bool) (f : NodeEntry → NodeEntry) (nodes : List NodeEntry) → ((e : NodeEntry) → t (f e) ≡ t e) →
-      passing k (change_first t f nodes) ≡ passing k nodes - one_of k (find t nodes) + one_of k (find t (change_first t f nodes))
-  passing-changed t f [] same = refl
-  passing-changed t f (e ∷ nodes) same = by (t e) refl (passing-changed t f nodes same) (passing-found t nodes) where
-    swap : (a b : Bool) (n : ℕ) → one_if b n ≡ one_if a n - one_if a 0 + one_if b 0
-    swap true true n = omega arith
-    swap true false n = omega arith
-    swap false true n = omega arith
-    swap false false n = omega arith
-
-    keep : (a : Bool) (n m x y : ℕ) → n ≡ m - x + y → x ≤ m → one_if a n ≡ one_if a m - x + y
-    keep true n m x y is most = omega arith
-    keep false n m x y is most = omega arith
-
-    by : (b : Bool) → t e ≡ b → passing k (change_first t f nodes) ≡ passing k nodes - one_of k (find t nodes) + one_of k (find t (change_first t f nodes)) → one_of k (find t nodes) ≤ passing k nodes →
-        passing k (change_first t f (e ∷ nodes)) ≡ passing k (e ∷ nodes) - one_of k (find t (e ∷ nodes)) + one_of k (find t (change_first t f (e ∷ nodes)))
-    by true is rest most =
-        let still : t (f e) ≡ true = same e ∙ is in
-        rw (is, still, passing_step (f e) nodes, passing_step e nodes) (swap (k e) (k (f e)) (passing k nodes))
-    by false is rest most =
-        let changed : change_first t f (e ∷ nodes) ≡ e ∷ change_first t f nodes = rw is refl in
-        let became : find t (e ∷ change_first t f nodes) ≡ find t (change_first t f nodes) = rw is refl in
-        let was : find t (e ∷ nodes) ≡ find t nodes = rw is refl in
-        ap (passing k) changed ∙ passing_step e (change_first t f nodes)
-        ∙ keep (k e) (passing k (change_first t f nodes)) (passing k nodes) (one_of k (find t nodes)) (one_of k (find t (change_first t f nodes))) rest most
-        ∙ ap (λ (o : Option NodeEntry). one_if (k e) (passing k nodes) - one_of k o + one_of k (find t (change_first t f nodes))) (sym was)
-        ∙ ap (λ (o : Option NodeEntry). one_if (k e) (passing k nodes) - one_of k (find t (e ∷ nodes)) + one_of k o) (sym (ap (find t) changed ∙ became))
-        ∙ ap (λ (n : ℕ). n - one_of k (find t (e ∷ nodes)) + one_of k (find t (change_first t f (e ∷ nodes)))) (sym (passing_step e nodes))
-
-  -- whether one passes
-  pub passing-any : (nodes : List NodeEntry) → list_any k nodes ≡ nat_lt 0 (passing k nodes)
-  passing-any [] = refl
-  passing-any (e ∷ nodes) = by (k e) refl (passing-any nodes) where
-    by : (b : Bool) → k e ≡ b → list_any k nodes ≡ nat_lt 0 (passing k nodes) → list_any k (e ∷ nodes) ≡ nat_lt 0 (passing k (e ∷ nodes))
-    by true is rest = rw is (positive (passing k nodes))
-    by false is rest = rw is rest
-
--- ## nodes of a pool and a label
-
-same_kind : (p : PoolId) (l : LabelId) (a b : NodeEntry) → IsSameKind a b → is_kind p l b ≡ is_kind p l a
-same_kind p l a b same = rw (same.pool, same.label) refl
-
-parted : (a b c d e : Bool) → (a && b && c && d && e) ≡ ((a && b && c) && (d && e))
-parted true true true d e = refl
-parted true true false d e = refl
-parted true false c d e = refl
-parted false b c d e = refl
-
--- a spare node is free, and of the pool and the label
-spare_is : (p : PoolId) (l : LabelId) (e : NodeEntry) → is_spare p l e ≡ (is_free e && is_kind p l e)
-spare_is p l e = parted (is_ready e.kept.state) (is_none e.kept.allocated_to) (is_none (holder e.queue)) (e.kept.pool.0 == p.0) (e.kept.label.0 == l.0)
+use Rattle.np_lists.specs.Change.{change_first, remove_first, insert_before}
+use Rattle.np_lists.proofs.ChangeLemmas.{slice_get-change_at, slice_get-change_at_other}
+use Rattle.np_lists.proofs.Each.{length-filter_at_most}
+use Rattle.np_table.proofs.PassingLemmas.{one_if, one_of, one_of-small, passing-mapped, passing-inserted, passing-removed, passing-changed}
+use Rattle.np_machine.specs.Entries.{NodeEntry}
+use Rattle.np_machine.specs.Count.{is_kind}
+use Rattle.np_machine.specs.Tables.{is_session, is_queued, left}
+use Rattle.np_rules.specs.Tally.{tally_place, number_at, number_changed, number_moved, AreNumbers, count_of, count_place, is_any, IsSameKind}
 
 -- ## the numbers
 
@@ -229,35 +73,13 @@ moved f q m before after numbers own others are p l = by ((q.0 == p.0) && (m.0 =
 pub AreNumbers-same : (before after : PoolId → LabelId → ℕ) (numbers : List ℕ) → ((p : PoolId) (l : LabelId) → after p l ≡ before p l) → AreNumbers before numbers → AreNumbers after numbers
 AreNumbers-same before after numbers same are p l = rw (same p l) (are p l)
 
--- one less for a node that may be spare
-took : (o : Option NodeEntry) (before : PoolId → LabelId → ℕ) (numbers : List ℕ) → AreNumbers before numbers → AreNumbers (λ p l. before p l - one_of (is_spare p l) o) (number_changed (λ n. n - 1) (spare_place o) numbers)
-took None before numbers are = AreNumbers-same before (λ p l. before p l - 0) numbers (λ p l. omega arith) are
-took (Some e) before numbers are = by (is_free e) refl where
-  at_place : (o : Option ℕ) → spare_place (Some e) ≡ o → AreNumbers (λ p l. before p l - one_if (is_spare p l e) 0) (number_changed (λ n. n - 1) o numbers) → AreNumbers (λ p l. before p l - one_if (is_spare p l e) 0) (number_changed (λ n. n - 1) (spare_place (Some e)) numbers)
-  at_place o same is = subst (λ (x : Option ℕ). AreNumbers (λ p l. before p l - one_if (is_spare p l e) 0) (number_changed (λ n. n - 1) x numbers)) (sym same) is
+length_take : {X : Type 0} (i : ℕ) (xs : List X) → length (take i xs) ≤ length xs
+length_take zero xs = omega arith
+length_take (suc i) [] = omega arith
+length_take (suc i) (x ∷ xs) = omega (arith, length_take i xs)
 
-  by : (b : Bool) → is_free e ≡ b → AreNumbers (λ p l. before p l - one_if (is_spare p l e) 0) (number_changed (λ n. n - 1) (spare_place (Some e)) numbers)
-  by true is = at_place (tally_place e.kept.pool e.kept.label) (rw is refl) (moved (λ n. n - 1) e.kept.pool e.kept.label before (λ p l. before p l - one_if (is_spare p l e) 0) numbers
-      (λ p l own. rw (spare_is p l e, is, own) refl)
-      (λ p l other. rw (spare_is p l e, is, other) (omega arith))
-      are)
-  by false is = at_place None (rw is refl) (AreNumbers-same before (λ p l. before p l - one_if (is_spare p l e) 0) numbers (λ p l. rw (spare_is p l e, is) (omega arith)) are)
+-- ## the nodes that pass a test, by pool and label
 
--- one more for a node that may be spare
-pub gave : (o : Option NodeEntry) (before : PoolId → LabelId → ℕ) (numbers : List ℕ) → AreNumbers before numbers → AreNumbers (λ p l. before p l + one_of (is_spare p l) o) (number_changed (λ n. n + 1) (spare_place o) numbers)
-gave None before numbers are = AreNumbers-same before (λ p l. before p l + 0) numbers (λ p l. omega arith) are
-gave (Some e) before numbers are = by (is_free e) refl where
-  at_place : (o : Option ℕ) → spare_place (Some e) ≡ o → AreNumbers (λ p l. before p l + one_if (is_spare p l e) 0) (number_changed (λ n. n + 1) o numbers) → AreNumbers (λ p l. before p l + one_if (is_spare p l e) 0) (number_changed (λ n. n + 1) (spare_place (Some e)) numbers)
-  at_place o same is = subst (λ (x : Option ℕ). AreNumbers (λ p l. before p l + one_if (is_spare p l e) 0) (number_changed (λ n. n + 1) x numbers)) (sym same) is
-
-  by : (b : Bool) → is_free e ≡ b → AreNumbers (λ p l. before p l + one_if (is_spare p l e) 0) (number_changed (λ n. n + 1) (spare_place (Some e)) numbers)
-  by true is = at_place (tally_place e.kept.pool e.kept.label) (rw is refl) (moved (λ n. n + 1) e.kept.pool e.kept.label before (λ p l. before p l + one_if (is_spare p l e) 0) numbers
-      (λ p l own. rw (spare_is p l e, is, own) refl)
-      (λ p l other. rw (spare_is p l e, is, other) (omega arith))
-      are)
-  by false is = at_place None (rw is refl) (AreNumbers-same before (λ p l. before p l + one_if (is_spare p l e) 0) numbers (λ p l. rw (spare_is p l e, is) (omega arith)) are)
-
--- there is room for it
 one_more : (o : Option ℕ) (m : ℕ) → m + 1 < 2 ^ 64 → IfSome o (λ n. n ≡ m) → IfSome o (λ n. n + 1 < 2 ^ 64)
 one_more None m room same = tt
 one_more (Some n) m room same = let is : n ≡ m = same in omega arith
@@ -265,88 +87,108 @@ one_more (Some n) m room same = let is : n ≡ m = same in omega arith
 own_kind : (e : NodeEntry) → is_kind e.kept.pool e.kept.label e ≡ true
 own_kind e = grind (arith, nat_tests)
 
-pub gave-room : (o : Option NodeEntry) (before : PoolId → LabelId → ℕ) (numbers : List ℕ) → AreNumbers before numbers → ((p : PoolId) (l : LabelId) → before p l + one_of (is_spare p l) o < 2 ^ 64) → IfSome {T = ℕ} (number_at numbers (spare_place o)) (λ n. n + 1 < 2 ^ 64)
-gave-room None before numbers are room = tt
-gave-room (Some e) before numbers are room = by (is_free e) refl (room e.kept.pool e.kept.label) where
-  by : (b : Bool) → is_free e ≡ b → before e.kept.pool e.kept.label + one_if (is_spare e.kept.pool e.kept.label e) 0 < 2 ^ 64 → IfSome {T = ℕ} (number_at numbers (spare_place (Some e))) (λ n. n + 1 < 2 ^ 64)
-  by true is small =
-      let one : before e.kept.pool e.kept.label + 1 < 2 ^ 64 = rw (spare_is e.kept.pool e.kept.label e, is, own_kind e) at small in
-      rw is (one_more (number_at numbers (tally_place e.kept.pool e.kept.label)) (before e.kept.pool e.kept.label) one (are e.kept.pool e.kept.label))
-  by false is small = rw is tt
+module _ (test : NodeEntry → Bool) where
+  -- the node counts for the pool and the label
+  abbrev counts : PoolId → LabelId → NodeEntry → Bool
+  counts p l e = test e && is_kind p l e
 
--- ## the table
+  -- a number changed for a node that may count
+  counted : (f : ℕ → ℕ) (o : Option NodeEntry) (before after : PoolId → LabelId → ℕ) (numbers : List ℕ) →
+      ((p : PoolId) (l : LabelId) → one_of (counts p l) o ≡ 0 → after p l ≡ before p l) →
+      ((p : PoolId) (l : LabelId) → one_of (counts p l) o ≡ 1 → after p l ≡ f (before p l)) →
+      AreNumbers before numbers → AreNumbers after (number_changed f (count_place test o) numbers)
+  counted f None before after numbers same changed are = AreNumbers-same before after numbers (λ p l. same p l refl) are
+  counted f (Some e) before after numbers same changed are = by (test e) refl where
+    at_place : (o : Option ℕ) → count_place test (Some e) ≡ o → AreNumbers after (number_changed f o numbers) → AreNumbers after (number_changed f (count_place test (Some e)) numbers)
+    at_place o is here = subst (λ (x : Option ℕ). AreNumbers after (number_changed f x numbers)) (sym is) here
 
--- one node changed, which stays of its pool and label
-pub IsTally-changed : (t : NodeEntry → Bool) (f : NodeEntry → NodeEntry) (nodes : List NodeEntry) (numbers spares : List ℕ) → ((e : NodeEntry) → t (f e) ≡ t e) → IfSome (find t nodes) (λ e. IsSameKind e (f e)) → IsTally nodes numbers spares →
-    IsTally (change_first t f nodes) numbers (number_changed (λ n. n + 1) (spare_place (find t (change_first t f nodes))) (number_changed (λ n. n - 1) (spare_place (find t nodes)) spares))
-IsTally-changed t f nodes numbers spares still same tally = record {
-  all = AreNumbers-same (λ p l. number_of p l nodes) (λ p l. number_of p l (change_first t f nodes)) numbers (λ p l. passing-kept (is_kind p l) t f nodes (kinds p l (find t nodes) same)) tally.all;
-  spare = AreNumbers-same (λ p l. spares_of p l nodes - one_of (is_spare p l) (find t nodes) + one_of (is_spare p l) (find t (change_first t f nodes))) (λ p l. spares_of p l (change_first t f nodes)) _
-      (λ p l. passing-changed (is_spare p l) t f nodes still)
-      (gave (find t (change_first t f nodes)) (λ p l. spares_of p l nodes - one_of (is_spare p l) (find t nodes)) _ (took (find t nodes) (λ p l. spares_of p l nodes) spares tally.spare));
-} where
-  kinds : (p : PoolId) (l : LabelId) (o : Option NodeEntry) → IfSome o (λ e. IsSameKind e (f e)) → IfSome o (λ e. is_kind p l (f e) ≡ is_kind p l e)
-  kinds p l None is = tt
-  kinds p l (Some e) is = same_kind p l e (f e) is
+    by : (b : Bool) → test e ≡ b → AreNumbers after (number_changed f (count_place test (Some e)) numbers)
+    by true is = at_place (tally_place e.kept.pool e.kept.label) (rw is refl) (moved f e.kept.pool e.kept.label before after numbers
+        (λ p l own. changed p l (rw (is, own) refl))
+        (λ p l other. same p l (rw (is, other) refl))
+        are)
+    by false is = at_place None (rw is refl) (AreNumbers-same before after numbers (λ p l. same p l (rw is refl)) are)
 
-pub changed-room : (t : NodeEntry → Bool) (f : NodeEntry → NodeEntry) (nodes : List NodeEntry) (numbers spares : List ℕ) → ((e : NodeEntry) → t (f e) ≡ t e) → length (change_first t f nodes) < 2 ^ 64 → IsTally nodes numbers spares →
-    IfSome {T = ℕ} (number_at (number_changed (λ n. n - 1) (spare_place (find t nodes)) spares) (spare_place (find t (change_first t f nodes)))) (λ n. n + 1 < 2 ^ 64)
-changed-room t f nodes numbers spares still few tally =
-    gave-room (find t (change_first t f nodes)) (λ p l. spares_of p l nodes - one_of (is_spare p l) (find t nodes)) _ (took (find t nodes) (λ p l. spares_of p l nodes) spares tally.spare)
-    (λ p l. omega (arith, passing-changed (is_spare p l) t f nodes still, passing-bound (is_spare p l) (change_first t f nodes)))
+  took : (o : Option NodeEntry) (before : PoolId → LabelId → ℕ) (numbers : List ℕ) → AreNumbers before numbers → AreNumbers (λ p l. before p l - one_of (counts p l) o) (number_changed (λ n. n - 1) (count_place test o) numbers)
+  took o before numbers are = counted (λ n. n - 1) o before (λ p l. before p l - one_of (counts p l) o) numbers (λ p l none. omega (arith, none)) (λ p l one. omega (arith, one)) are
 
--- a change of any node, which stays of its pool and label
-pub same_all : (t : NodeEntry → Bool) (f : NodeEntry → NodeEntry) (nodes : List NodeEntry) → ((e : NodeEntry) → IsSameKind e (f e)) → IfSome (find t nodes) (λ e. IsSameKind e (f e))
-same_all t f nodes same = found_all (λ e. IsSameKind e (f e)) (find t nodes) same
+  gave : (o : Option NodeEntry) (before : PoolId → LabelId → ℕ) (numbers : List ℕ) → AreNumbers before numbers → AreNumbers (λ p l. before p l + one_of (counts p l) o) (number_changed (λ n. n + 1) (count_place test o) numbers)
+  gave o before numbers are = counted (λ n. n + 1) o before (λ p l. before p l + one_of (counts p l) o) numbers (λ p l none. omega (arith, none)) (λ p l one. omega (arith, one)) are
 
--- every node changed
-pub numbers-mapped : (f : NodeEntry → NodeEntry) (nodes : List NodeEntry) (numbers : List ℕ) → ((e : NodeEntry) → IsSameKind e (f e)) → AreNumbers (λ p l. number_of p l nodes) numbers → AreNumbers (λ p l. number_of p l (map f nodes)) numbers
-numbers-mapped f nodes numbers same are = AreNumbers-same (λ p l. number_of p l nodes) (λ p l. number_of p l (map f nodes)) numbers (λ p l. passing-mapped (is_kind p l) f nodes (λ e. same_kind p l e (f e) (same e))) are
+  -- there is room for one more
+  gave-room : (o : Option NodeEntry) (before : PoolId → LabelId → ℕ) (numbers : List ℕ) → AreNumbers before numbers → ((p : PoolId) (l : LabelId) → before p l + one_of (counts p l) o < 2 ^ 64) → IfSome {T = ℕ} (number_at numbers (count_place test o)) (λ n. n + 1 < 2 ^ 64)
+  gave-room None before numbers are room = tt
+  gave-room (Some e) before numbers are room = by (test e) refl (room e.kept.pool e.kept.label) where
+    by : (b : Bool) → test e ≡ b → before e.kept.pool e.kept.label + one_if (counts e.kept.pool e.kept.label e) 0 < 2 ^ 64 → IfSome {T = ℕ} (number_at numbers (count_place test (Some e))) (λ n. n + 1 < 2 ^ 64)
+    by true is small =
+        let one : before e.kept.pool e.kept.label + 1 < 2 ^ 64 = rw (is, own_kind e) at small in
+        rw is (one_more (number_at numbers (tally_place e.kept.pool e.kept.label)) (before e.kept.pool e.kept.label) one (are e.kept.pool e.kept.label))
+    by false is small = rw is tt
 
-pub IsTally-inserted : (t : NodeEntry → Bool) (new : NodeEntry) (nodes : List NodeEntry) (numbers spares : List ℕ) → IsTally nodes numbers spares →
-    IsTally (insert_before t new nodes) (number_changed (λ n. n + 1) (tally_place new.kept.pool new.kept.label) numbers) (number_changed (λ n. n + 1) (spare_place (Some new)) spares)
-IsTally-inserted t new nodes numbers spares tally = record {
-  all = moved (λ n. n + 1) new.kept.pool new.kept.label (λ p l. number_of p l nodes) (λ p l. number_of p l (insert_before t new nodes)) numbers
-      (λ p l own. let all : number_of p l (insert_before t new nodes) ≡ suc (number_of p l nodes) = passing-inserted (is_kind p l) t new nodes ∙ rw own refl in omega arith)
-      (λ p l other. passing-inserted (is_kind p l) t new nodes ∙ rw other refl)
-      tally.all;
-  spare = AreNumbers-same (λ p l. spares_of p l nodes + one_of (is_spare p l) (Some new)) (λ p l. spares_of p l (insert_before t new nodes)) _
-      (λ p l. passing-inserted (is_spare p l) t new nodes ∙ one_added (is_spare p l new) (spares_of p l nodes))
-      (gave (Some new) (λ p l. spares_of p l nodes) spares tally.spare);
-}
+  -- ## one node changed, new or removed
 
-lost : (b : Bool) (n m : ℕ) → n ≡ one_if b m → m ≡ n - one_if b 0
-lost true n m is = omega arith
-lost false n m is = omega arith
+  module _ (t : NodeEntry → Bool) (nodes : List NodeEntry) (numbers : List ℕ) (are : AreNumbers (count_of test nodes) numbers) where
+    module _ (f : NodeEntry → NodeEntry) (still : (e : NodeEntry) → t (f e) ≡ t e) where
+      pub count-changed : AreNumbers (count_of test (change_first t f nodes)) (number_moved (count_place test (find t nodes)) (count_place test (find t (change_first t f nodes))) numbers)
+      count-changed =
+          AreNumbers-same (λ p l. count_of test nodes p l - one_of (counts p l) (find t nodes) + one_of (counts p l) (find t (change_first t f nodes))) (count_of test (change_first t f nodes)) _
+          (λ p l. passing-changed (counts p l) t f nodes still)
+          (gave (find t (change_first t f nodes)) (λ p l. count_of test nodes p l - one_of (counts p l) (find t nodes)) _ (took (find t nodes) (count_of test nodes) numbers are))
 
-pub IsTally-removed : (t : NodeEntry → Bool) (nodes : List NodeEntry) (old : NodeEntry) (numbers spares : List ℕ) → find t nodes ≡ Some old → IsTally nodes numbers spares →
-    IsTally (remove_first t nodes) (number_changed (λ n. n - 1) (tally_place old.kept.pool old.kept.label) numbers) (number_changed (λ n. n - 1) (spare_place (Some old)) spares)
-IsTally-removed t nodes old numbers spares found tally = record {
-  all = moved (λ n. n - 1) old.kept.pool old.kept.label (λ p l. number_of p l nodes) (λ p l. number_of p l (remove_first t nodes)) numbers
-      (λ p l own. let all : number_of p l nodes ≡ suc (number_of p l (remove_first t nodes)) = passing-removed (is_kind p l) t nodes old found ∙ rw own refl in omega arith)
-      (λ p l other. sym (passing-removed (is_kind p l) t nodes old found ∙ rw other refl))
-      tally.all;
-  spare = AreNumbers-same (λ p l. spares_of p l nodes - one_of (is_spare p l) (Some old)) (λ p l. spares_of p l (remove_first t nodes)) _
-      (λ p l. lost (is_spare p l old) (spares_of p l nodes) (spares_of p l (remove_first t nodes)) (passing-removed (is_spare p l) t nodes old found))
-      (took (Some old) (λ p l. spares_of p l nodes) spares tally.spare);
-}
+      pub count-changed_room : length (change_first t f nodes) < 2 ^ 64 → IfSome {T = ℕ} (number_at (number_changed (λ n. n - 1) (count_place test (find t nodes)) numbers) (count_place test (find t (change_first t f nodes)))) (λ n. n + 1 < 2 ^ 64)
+      count-changed_room few =
+          gave-room (find t (change_first t f nodes)) (λ p l. count_of test nodes p l - one_of (counts p l) (find t nodes)) _ (took (find t nodes) (count_of test nodes) numbers are)
+          (λ p l. omega (arith, passing-changed (counts p l) t f nodes still, length-filter_at_most (counts p l) (change_first t f nodes)))
 
--- there is room for a new node
-small : (o : Option ℕ) (m : ℕ) → m ≤ 262144 → IfSome o (λ n. n ≡ m) → IfSome o (λ n. n + 1 < 2 ^ 64)
-small None m most same = tt
-small (Some n) m most same = let is : n ≡ m = same in omega arith
+    pub count-inserted : (new : NodeEntry) → AreNumbers (count_of test (insert_before t new nodes)) (number_changed (λ n. n + 1) (count_place test (Some new)) numbers)
+    count-inserted new =
+        AreNumbers-same (λ p l. count_of test nodes p l + one_of (counts p l) (Some new)) (count_of test (insert_before t new nodes)) _
+        (λ p l. passing-inserted (counts p l) t new nodes)
+        (gave (Some new) (count_of test nodes) numbers are)
 
-pub numbers-small : (nodes : List NodeEntry) (numbers : List ℕ) → AreNumbers (λ p l. number_of p l nodes) numbers → length nodes ≤ 262144 → (p : PoolId) (l : LabelId) → IfSome {T = ℕ} (number_at numbers (tally_place p l)) (λ n. n + 1 < 2 ^ 64)
-numbers-small nodes numbers are few p l = small (number_at numbers (tally_place p l)) (number_of p l nodes) (omega (arith, passing-bound (is_kind p l) nodes)) (are p l)
+    pub count-inserted_room : (new : NodeEntry) → length nodes ≤ 262144 → IfSome {T = ℕ} (number_at numbers (count_place test (Some new))) (λ n. n + 1 < 2 ^ 64)
+    count-inserted_room new few =
+        gave-room (Some new) (count_of test nodes) numbers are
+        (λ p l. omega (arith, length-filter_at_most (counts p l) nodes, one_of-small (counts p l) (Some new)))
 
-least : (b : Bool) → one_if b 0 ≤ 1
-least true = omega arith
-least false = omega arith
+    pub count-removed : (old : NodeEntry) → find t nodes ≡ Some old → AreNumbers (count_of test (remove_first t nodes)) (number_changed (λ n. n - 1) (count_place test (Some old)) numbers)
+    count-removed old found =
+        AreNumbers-same (λ p l. count_of test nodes p l - one_of (counts p l) (Some old)) (count_of test (remove_first t nodes)) _
+        (λ p l. passing-removed (counts p l) t nodes old found)
+        (took (Some old) (count_of test nodes) numbers are)
 
-pub spares-small : (nodes : List NodeEntry) (spares : List ℕ) → AreNumbers (λ p l. spares_of p l nodes) spares → length nodes ≤ 262144 → (new : NodeEntry) → IfSome {T = ℕ} (number_at spares (spare_place (Some new))) (λ n. n + 1 < 2 ^ 64)
-spares-small nodes spares are few new = gave-room (Some new) (λ p l. spares_of p l nodes) spares are (λ p l. omega (arith, passing-bound (is_spare p l) nodes, least (is_spare p l new)))
+  -- ## counted anew, one node after another
 
--- ## counted anew
+  one_cond : (b : Bool) → cond b 1 0 ≡ one_if b 0
+  one_cond true = refl
+  one_cond false = refl
+
+  one_further : (nodes : List NodeEntry) (i : ℕ) (row : NodeEntry) → i < length nodes → row ≡ get_or nodes i row → (p : PoolId) (l : LabelId) → count_of test (take (i + 1) nodes) p l ≡ count_of test (take i nodes) p l + one_of (counts p l) (Some row)
+  one_further nodes i row within at p l =
+      length-filter_more (counts p l) nodes i row within
+      ∙ ap (λ (e : NodeEntry). count_of test (take i nodes) p l + cond (counts p l e) 1 0) (sym at)
+      ∙ ap (λ (n : ℕ). count_of test (take i nodes) p l + n) (one_cond (counts p l row))
+
+  module _ (nodes : List NodeEntry) (numbers : List ℕ) (i : ℕ) (row : NodeEntry) (within : i < length nodes) (at : row ≡ get_or nodes i row) (are : AreNumbers (count_of test (take i nodes)) numbers) where
+    pub count-more : AreNumbers (count_of test (take (i + 1) nodes)) (number_changed (λ n. n + 1) (count_place test (Some row)) numbers)
+    count-more =
+        AreNumbers-same (λ p l. count_of test (take i nodes) p l + one_of (counts p l) (Some row)) (count_of test (take (i + 1) nodes)) _ (one_further nodes i row within at) (gave (Some row) (count_of test (take i nodes)) numbers are)
+
+    pub count-more_room : length nodes < 2 ^ 64 → IfSome {T = ℕ} (number_at numbers (count_place test (Some row))) (λ n. n + 1 < 2 ^ 64)
+    count-more_room few =
+        gave-room (Some row) (count_of test (take i nodes)) numbers are
+        (λ p l. omega (arith, one_further nodes i row within at p l, length-filter_at_most (counts p l) (take (i + 1) nodes), length_take (i + 1) nodes))
+
+-- ## every node changed
+
+same_kind : (p : PoolId) (l : LabelId) (a b : NodeEntry) → IsSameKind a b → is_kind p l b ≡ is_kind p l a
+same_kind p l a b same = rw (same.pool, same.label) refl
+
+-- each stays of its pool and label
+pub count-mapped : (f : NodeEntry → NodeEntry) (nodes : List NodeEntry) (numbers : List ℕ) → ((e : NodeEntry) → IsSameKind e (f e)) → AreNumbers (count_of is_any nodes) numbers → AreNumbers (count_of is_any (map f nodes)) numbers
+count-mapped f nodes numbers same are = AreNumbers-same (count_of is_any nodes) (count_of is_any (map f nodes)) numbers (λ p l. passing-mapped (is_kind p l) f nodes (λ e. same_kind p l e (f e) (same e))) are
+
+-- ## no nodes
 
 zero_at : (count i : ℕ) → IfSome {T = ℕ} (slice_get (replicate count 0) i) (λ n. n ≡ 0)
 zero_at zero i = tt
@@ -359,33 +201,6 @@ zero_found count (Some i) = zero_at count i
 
 pub zeros-are : (count : ℕ) → AreNumbers (λ p l. 0) (replicate count 0)
 zeros-are count p l = zero_found count (tally_place p l)
-
-one_cond : (b : Bool) → cond b 1 0 ≡ one_if b 0
-one_cond true = refl
-one_cond false = refl
-
--- one node further
-spares_more : (nodes : List NodeEntry) (i : ℕ) (row : NodeEntry) → i < length nodes → row ≡ get_or nodes i row → (p : PoolId) (l : LabelId) → spares_of p l (take (i + 1) nodes) ≡ spares_of p l (take i nodes) + one_of (is_spare p l) (Some row)
-spares_more nodes i row within at p l =
-    length-filter_more (is_spare p l) nodes i row within
-    ∙ ap (λ (e : NodeEntry). spares_of p l (take i nodes) + cond (is_spare p l e) 1 0) (sym at)
-    ∙ ap (λ (n : ℕ). spares_of p l (take i nodes) + n) (one_cond (is_spare p l row))
-
-pub spares-more : (nodes : List NodeEntry) (spares : List ℕ) (i : ℕ) (row : NodeEntry) → i < length nodes → row ≡ get_or nodes i row → AreNumbers (λ p l. spares_of p l (take i nodes)) spares →
-    AreNumbers (λ p l. spares_of p l (take (i + 1) nodes)) (number_changed (λ n. n + 1) (spare_place (Some row)) spares)
-spares-more nodes spares i row within at are =
-    AreNumbers-same (λ p l. spares_of p l (take i nodes) + one_of (is_spare p l) (Some row)) (λ p l. spares_of p l (take (i + 1) nodes)) _ (spares_more nodes i row within at) (gave (Some row) (λ p l. spares_of p l (take i nodes)) spares are)
-
-length_take : {X : Type 0} (i : ℕ) (xs : List X) → length (take i xs) ≤ length xs
-length_take zero xs = omega arith
-length_take (suc i) [] = omega arith
-length_take (suc i) (x ∷ xs) = omega (arith, length_take i xs)
-
-pub spares-room : (nodes : List NodeEntry) (spares : List ℕ) (i : ℕ) (row : NodeEntry) → i < length nodes → row ≡ get_or nodes i row → length nodes < 2 ^ 64 → AreNumbers (λ p l. spares_of p l (take i nodes)) spares →
-    IfSome {T = ℕ} (number_at spares (spare_place (Some row))) (λ n. n + 1 < 2 ^ 64)
-spares-room nodes spares i row within at few are =
-    gave-room (Some row) (λ p l. spares_of p l (take i nodes)) spares are
-    (λ p l. omega (arith, spares_more nodes i row within at p l, passing-bound (is_spare p l) (take (i + 1) nodes), length_take (i + 1) nodes))
 
 -- ## a session that stands in no queue
 

@@ -8,18 +8,18 @@ use Rattle.np_text.specs.declared.id.JobId.{JobId}
 use Rattle.np_text.specs.declared.id.RequesterId.{RequesterId}
 use Rattle.np_text.specs.declared.id.Role.TheVariants.{Launcher, Janitor, Requester}
 use Rattle.np_amount.specs.declared.amount.Amount.{Amount}
-use Rattle.np_config.specs.Configuration.{Configuration}
-use Rattle.np_config.specs.declared.row.Offer.{Offer}
-use Rattle.np_config.specs.declared.row.Job.{Job}
+use Rattle.np_site.specs.Configuration.{Configuration}
+use Rattle.np_site.specs.declared.row.Offer.{Offer}
+use Rattle.np_site.specs.declared.row.Job.{Job}
 use Rattle.np_record.specs.declared.record.RoleRecord.{RoleRecord}
 use Rattle.np_record.specs.declared.record.JobRecord.{JobRecord}
-use Rattle.np_rules.specs.Entries.{RequestEntry, NodeEntry}
-use Rattle.np_rules.specs.Kinds.{is_building}
-use Rattle.np_rules.specs.Order.{is_declined_by}
-use Rattle.np_rules.specs.Count.{offers_of, amount_of, retries_of}
-use Rattle.np_rules.specs.Reasons.{ready_age}
-use Rattle.np_rules.specs.Tables.{role_of}
-use Rattle.np_rules.specs.State.{State}
+use Rattle.np_machine.specs.Entries.{RequestEntry, NodeEntry}
+use Rattle.np_machine.specs.Kinds.{is_building}
+use Rattle.np_machine.specs.Order.{is_declined_by}
+use Rattle.np_machine.specs.Count.{offers_of, amount_of, retries_of}
+use Rattle.np_machine.specs.Reasons.{ready_age}
+use Rattle.np_machine.specs.Tables.{role_of}
+use Rattle.np_machine.specs.State.{State}
 
 -- no number passes that of a full journal's entries
 abbrev pub most : ℕ

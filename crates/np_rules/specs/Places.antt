@@ -5,9 +5,9 @@ use Rattle.np_text.specs.declared.id.PoolId.{PoolId}
 use Rattle.np_text.specs.declared.id.LabelId.{LabelId}
 use Rattle.np_text.specs.declared.id.NodeId.{NodeId}
 use Rattle.np_text.specs.declared.id.RequestId.{RequestId}
-use Rattle.np_rules.specs.Entries.{NodeEntry}
-use Rattle.np_rules.specs.Tables.{node_entry}
-use Rattle.np_rules.specs.Request.{is_filled}
+use Rattle.np_machine.specs.Entries.{NodeEntry}
+use Rattle.np_machine.specs.Tables.{node_entry}
+use Rattle.np_machine.specs.Request.{is_filled}
 
 -- 1 where there is a label and no node as fulfil wants it
 abbrev pub lack_at : PoolId → SessionId → RequestId → List NodeEntry → Option LabelId → Option NodeId → ℕ

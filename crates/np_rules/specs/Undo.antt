@@ -1,7 +1,7 @@
 -- one handle taken back, where it was added last
 use Rattle.std.specs.Prelude.{ℕ, ◌-◌, List, Bool, true, false, length, take}
 use Rattle.np_text.specs.declared.id.JobId.{JobId}
-use Rattle.np_rules.specs.Tables.{change_at}
+use Rattle.np_lists.specs.Change.{change_at}
 
 abbrev pub without_last : List JobId → List JobId
 without_last jobs = take (length jobs - 1) jobs

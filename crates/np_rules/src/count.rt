@@ -3,13 +3,14 @@
 ghost use Rattle.std.specs.Prelude.{◌≡◌, ◌==◌, ◌+◌, ◌*◌, ◌<◌, ◌≤◌, ◌^◌, [], length, map, filter, find, option_copied};
 ghost use Rattle.np_text.specs.declared.id.LabelId.{LabelId};
 ghost use Rattle.np_amount.specs.Amounts.{total, IsAtMost, times};
-ghost use Rattle.np_rules.specs.Count.{offers_of, limit_of, retries_of, offer_of, is_offered, amount_of, amount_of_all, count_of, is_short};
+ghost use Rattle.np_machine.specs.Count.{offers_of, limit_of, retries_of, offer_of, is_offered, amount_of, amount_of_all, count_of, is_short};
 ghost use Rattle.np_rules.specs.Fits.{AmountFits, OffersFit, Fits};
 
 use crate::nodes::NodeTable;
 use crate::tables::Tables;
 use np_amount::{Amount, Limit};
-use np_config::{Config, Offer};
+use np_config::Config;
+use np_site::Offer;
 use np_text::{LabelId, PoolId};
 
 const NOTHING: Amount = Amount {

@@ -10,7 +10,7 @@ mod session;
 
 ghost use Rattle.std.specs.Prelude.{◌≡◌, OnOk, OnErr, IsOk};
 ghost use Rattle.np_rules.specs.Fits.{Fits};
-ghost use Rattle.np_rules.specs.Step.{judge, effect};
+ghost use Rattle.np_machine.specs.Step.{judge, effect};
 
 use crate::tables::Tables;
 use np_config::Config;

@@ -9,7 +9,7 @@ mod session;
 
 ghost use Rattle.std.specs.Prelude.{◌≡◌, ◌≤◌, length};
 ghost use Rattle.np_rules.specs.Fits.{Fits};
-ghost use Rattle.np_rules.specs.Step.{judge};
+ghost use Rattle.np_machine.specs.Step.{judge};
 
 use crate::tables::Tables;
 use np_config::Config;

@@ -1,37 +1,29 @@
-//! The machine: what each event is answered, and the state that it leaves.
+//! The machine over vectors.
 //!
-//! The definitions stand in `specs/`: read `State`, then `Step`, which names the row of each event,
-//! then the row itself in `Request`, `Node`, `Semaphore` or `Session`. They know lists and numbers
-//! alone: no path, no index, no room.
+//! np_machine defines what each event is answered and the state that it leaves. `Plain` gives the
+//! definitions' answers and leaves the definitions' states, and its journal always leads to its
+//! state. `Look` reads a state.
 //!
-//! `Plain` is the machine over vectors: each call gives the definitions' answer and leaves the
-//! definitions' state, and its journal always leads to that state. `Look` reads a state. Below them
-//! `tables` keeps the lists, `judge` has the tests of each event, and `effect` its changes.
+//! Below them `tables` keeps the lists, `judge` has the tests of each event, and `effect` its changes.
+//! Requests, nodes and swept pairs stand in the order of their keys (`keys`), and one of them is
+//! changed by one of the changes in `change`. `specs` has only what this code needs beside the
+//! definitions.
 #![tactic(auto)]
 
+mod change;
 mod count;
 mod effect;
 mod judge;
-mod law;
-mod locks;
+mod keys;
 mod look;
 mod nodes;
 mod order;
 mod plain;
-mod queue;
 mod reason;
 mod roles;
 mod start;
-mod state;
-mod swept;
 mod tables;
+mod tally;
 
-pub use law::{
-    a_journal_leads_to_one_state, a_prefix_runs_too, a_refusal_changes_nothing,
-    an_accepted_event_is_one_act_of_its_role, the_next_numbers_never_fall,
-};
-pub use locks::Locked;
 pub use look::Look;
 pub use plain::Plain;
-pub use queue::Queue;
-pub use state::{NodeEntry, Registration, RequestEntry, SessionFacts, Swept};

@@ -2,14 +2,14 @@
 
 ghost use Rattle.std.specs.Prelude.{◌≡◌, ◌<◌, ◌≤◌, ℕ, length, slice_get};
 ghost use Rattle.std.specs.Option.{option_map};
-ghost use Rattle.np_config.specs.Configuration.{Configuration};
-ghost use Rattle.np_rules.specs.State.{State};
-ghost use Rattle.np_rules.specs.Tables.{session_of, registered, request_in, request_queue, node_in, node_queue, handles_of, has_handle, role_in};
-ghost use Rattle.np_rules.specs.Node.{is_swept};
+ghost use Rattle.np_site.specs.Configuration.{Configuration};
+ghost use Rattle.np_machine.specs.State.{State};
+ghost use Rattle.np_machine.specs.Tables.{session_of, registered, request_in, request_queue, node_in, node_queue, handles_of, has_handle, role_in};
+ghost use Rattle.np_machine.specs.Node.{is_swept};
 
 use crate::plain::Plain;
-use crate::state::SessionFacts;
 use np_config::Config;
+use np_machine::SessionFacts;
 use np_record::{JobRecord, NodeRecord, RequestRecord, RoleRecord};
 use np_text::{JobId, NodeId, PoolId, RequestId, Role, SemId, SessionId};
 

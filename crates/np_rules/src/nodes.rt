@@ -1,43 +1,45 @@
-//! The nodes under their locks, with the number of those of each pool and label, and of the spare ones
-//! among them.
+//! The nodes under their locks, with the number of those of each pool and label, and of the unused
+//! ones among them.
 //!
-//! What a pool uses is asked at each node that it makes, and its spare nodes for each request that
-//! waits, so the numbers are kept and not counted anew. A change of one node changes two of them at
+//! What a pool uses is asked at each node that it makes, and its unused nodes for each request that
+//! waits, so the numbers are kept and not counted anew. A change of one node changes four of them at
 //! most; where a session leaves its queues, or a request's nodes are freed together, all nodes are
-//! walked, and the spare ones counted on the way.
+//! walked, and the unused ones counted on the way.
 
-ghost use Rattle.std.specs.Prelude.{◌≡◌, ◌==◌, ◌≤◌, ◌<◌, ◌-◌, ◌^◌, ◌*◌, ◌+◌, [], Some, length, find, map, nat_lt, replicate, option_copied, OnOk, OnErr, IfOk, IfSome};
-ghost use Rattle.np_rules.specs.declared.locks.Locked.{Locked};
-ghost use Rattle.np_rules.specs.Count.{number_of};
-ghost use Rattle.np_rules.specs.Entries.{NodeEntry};
-ghost use Rattle.np_rules.specs.Node.{allocated};
-ghost use Rattle.np_rules.specs.Rising.{NonePass};
-ghost use Rattle.np_rules.specs.Semaphore.{in_use, all_in_use};
-ghost use Rattle.np_rules.specs.Tables.{change_first, remove_first, insert_before, is_queued, joined, left, all_freed};
-ghost use Rattle.np_rules.specs.Tally.{tally_place, number_at, number_changed, spares_of, spare_place, AreNumbers, IsSameKind};
-ghost use Rattle.np_rules.specs.Reasons.{is_spare};
+ghost use Rattle.std.specs.Prelude.{◌≡◌, ◌==◌, ◌≤◌, ◌<◌, ◌^◌, [], IfOk, OnErr, OnOk, find, length, map, nat_lt, option_copied};
 ghost use Rattle.std.specs.List.{list_any};
+ghost use Rattle.np_lists.specs.Change.{change_first, insert_before, remove_first};
+ghost use Rattle.np_lists.specs.Rising.{NonePass};
+ghost use Rattle.np_machine.specs.Count.{number_of};
+ghost use Rattle.np_machine.specs.Entries.{NodeEntry};
+ghost use Rattle.np_machine.specs.Reasons.{is_spare};
+ghost use Rattle.np_machine.specs.Semaphore.{all_in_use};
+ghost use Rattle.np_machine.specs.Tables.{all_freed, is_queued, left};
 
-use crate::locks::LockTable;
-use crate::queue::is_in;
-use crate::reason::{is_free, is_spare};
-use crate::state::NodeEntry;
-use np_record::NodeRecord;
-use np_text::{LABELS, LabelId, NodeId, NodeState, PoolId, RequestId, SessionId};
+use crate::change::{Free, Leave, TakeOver};
+use crate::keys::ByNode;
+use crate::reason::is_spare;
+use crate::tally::{
+    add_one, kind_place, move_one, number_at, recount, spare_place, take_one, tally_place, zeros,
+};
+use np_machine::{NodeEntry, is_in};
+use np_table::{KeyTable, RowChange, always};
+use np_text::{LABELS, LabelId, NodeId, PoolId, RequestId, SessionId};
 use std::alloc::{AllocError, Global};
 use std::marker::Model;
 
-/// The nodes, by number. A node is found by halves, and the number of a pool and a label by place.
+/// The nodes, by number. A node is found by binary search, and the number of a pool and a label by
+/// place.
 #[derive(Drop)]
 pub struct NodeTable {
-    table: LockTable<NodeId, NodeRecord>,
+    table: KeyTable<ByNode>,
     numbers: Vec<usize>,
     spares: Vec<usize>,
 }
 
 impl Model for NodeTable {
     ghost use Rattle.std.specs.Prelude.{List};
-    ghost use Rattle.np_rules.specs.Entries.{NodeEntry};
+    ghost use Rattle.np_machine.specs.Entries.{NodeEntry};
     ghost use Rattle.np_rules.specs.Tally.{IsTally};
 
     ghost Value = { List NodeEntry };
@@ -45,105 +47,6 @@ impl Model for NodeTable {
     ghost view = { λ nodes. nodes.table };
 
     ghost invariant = { λ nodes. IsTally nodes.table nodes.numbers.items nodes.spares.items };
-}
-
-/// Where the number of the pool and the label stands, where the label has one.
-fn tally_place(pool: PoolId, label: LabelId) -> Option<usize>
-    ensures { result ≡ tally_place pool label }
-{
-    let label = label.0 as usize;
-    if label < LABELS {
-        Some(pool.0 as usize * LABELS + label)
-    } else {
-        None
-    }
-}
-
-/// The number at a place that may be.
-fn number_at(numbers: &[usize], at: Option<usize>) -> Option<usize>
-    ensures { result ≡ number_at numbers.now at }
-{
-    numbers.get(at?).copied()
-}
-
-/// One more at a place, where there is one.
-fn add_one(numbers: &mut Vec<usize>, at: Option<usize>)
-    requires { IfSome (number_at numbers.old.items at) (λ n. n + 1 < 2 ^ 64) }
-    ensures { numbers.new.items ≡ number_changed (λ n. n + 1) at numbers.old.items }
-{
-    let Some(at) = at else {
-        return;
-    };
-    if at >= numbers.len() {
-        return;
-    }
-    let number = &mut numbers[at];
-    *number += 1;
-}
-
-/// One less at a place, where there is one.
-fn take_one(numbers: &mut Vec<usize>, at: Option<usize>)
-    ensures { numbers.new.items ≡ number_changed (λ n. n - 1) at numbers.old.items }
-{
-    let Some(at) = at else {
-        return;
-    };
-    if at >= numbers.len() {
-        return;
-    }
-    let number = &mut numbers[at];
-    *number = number.saturating_sub(1);
-}
-
-/// One less at a place, and then one more at another, where there are such.
-fn move_one(numbers: &mut Vec<usize>, before: Option<usize>, after: Option<usize>)
-    requires { IfSome (number_at (number_changed (λ n. n - 1) before numbers.old.items) after) (λ n. n + 1 < 2 ^ 64) }
-    ensures { numbers.new.items ≡ number_changed (λ n. n + 1) after (number_changed (λ n. n - 1) before numbers.old.items) }
-{
-    take_one(numbers, before);
-    add_one(numbers, after);
-}
-
-/// Where the node is counted as a spare one, if it is.
-fn spare_place(row: Option<&NodeEntry>) -> Option<usize>
-    ensures { result ≡ spare_place (option_copied row.entry) }
-{
-    let row = row?;
-    if is_free(row) {
-        tally_place(row.kept.pool, row.kept.label)
-    } else {
-        None
-    }
-}
-
-fn clear(numbers: &mut Vec<usize>)
-    ensures { numbers.new.items ≡ replicate (length numbers.old.items) 0 }
-{
-    for number in numbers.iter_mut() {
-        *number = 0;
-    }
-}
-
-/// The spare nodes, counted anew.
-fn recount(spares: &mut Vec<usize>, nodes: &[NodeEntry])
-    requires { length nodes.now < 2 ^ 64 }
-    ensures { AreNumbers (λ p l. spares_of p l nodes.now) spares.new.items }
-{
-    clear(spares);
-    for row in nodes {
-        add_one(spares, spare_place(Some(row)));
-    }
-}
-
-/// So many zeros.
-fn zeros(alloc: Global, count: usize) -> Result<Vec<usize>, AllocError>
-    ensures { IfOk result (λ numbers. numbers.items ≡ replicate count 0) }
-{
-    let mut numbers = Vec::new(alloc);
-    for _at in 0..count {
-        numbers.push(0)?;
-    }
-    Ok(numbers)
 }
 
 /// Whether the session stands in the queue of a node.
@@ -164,13 +67,13 @@ fn count_kind(nodes: &[NodeEntry], pool: PoolId, label: LabelId) -> usize
 }
 
 impl NodeTable {
-    /// No nodes, where there are so many pools.
+    /// No nodes, where there are `pools` pools.
     pub(crate) fn new(alloc: Global, pools: usize) -> Result<NodeTable, AllocError>
         requires { pools ≤ 64 }
         ensures { IfOk result (λ nodes. nodes ≡ []) }
     {
         Ok(NodeTable {
-            table: LockTable::new(alloc),
+            table: KeyTable::new(alloc),
             numbers: zeros(alloc, pools * LABELS)?,
             spares: zeros(alloc, pools * LABELS)?,
         })
@@ -184,10 +87,10 @@ impl NodeTable {
     }
 
     /// The node of this number.
-    pub(crate) fn get(&self, id: NodeId) -> Option<&NodeEntry>
+    pub(crate) fn find(&self, id: NodeId) -> Option<&NodeEntry>
         ensures { option_copied result ≡ find (λ row. row.id.0 == id.0) self.now }
     {
-        self.table.get(id)
+        self.table.find(id)
     }
 
     /// How many nodes of the pool and the label there are. Only those of a pool or a label that the
@@ -201,8 +104,9 @@ impl NodeTable {
         }
     }
 
-    /// Whether there is a spare node of the pool and the label: ready, free and unlocked. Only those of
-    /// a pool or a label that the configuration has not are looked at one by one.
+    /// Whether there is an unused node of the pool and the label: ready, allocated to no request and
+    /// unlocked. Only those of a pool or a label that the configuration has not are looked at one by
+    /// one.
     pub(crate) fn has_spare(&self, pool: PoolId, label: LabelId) -> bool
         ensures { result ≡ list_any (is_spare pool label) self.now }
     {
@@ -212,40 +116,25 @@ impl NodeTable {
         }
     }
 
-    /// Another record of this node, of the same pool and label.
-    pub(crate) fn put(&mut self, id: NodeId, kept: NodeRecord)
-        requires { IfSome (find (λ row. row.id.0 == id.0) self.old) (λ row. IsSameKind row (record row { kept = kept })) }
-        ensures { self.new ≡ change_first (λ row. row.id.0 == id.0) (λ row. record row { kept = kept }) self.old }
-    {
-        let before = spare_place(self.table.get(id));
-        self.table.put(id, kept);
-        let after = spare_place(self.table.get(id));
-        let _most = self.table.count();
-        move_one(&mut self.spares, before, after);
-    }
-
-    /// The session joins the queue of this node, unless it is there.
-    pub(crate) fn join(&mut self, id: NodeId, session: SessionId) -> Result<(), AllocError>
-        ensures ok { OnOk result (self.new ≡ change_first (λ row. row.id.0 == id.0) (λ row. record row { queue = joined session row.queue }) self.old) }
+    /// Changes the node of this number, if there is one.
+    pub(crate) fn change<C: RowChange<NodeEntry>>(
+        &mut self,
+        id: NodeId,
+        change: &C,
+    ) -> Result<(), C::Error>
+        requires { (row : NodeEntry) → (C.after change.now row).id ≡ row.id }
+        ensures ok { OnOk result (self.new ≡ change_first (λ row. row.id.0 == id.0) (C.after change.now) self.old) }
         ensures err { OnErr result (self.new ≡ self.old) }
     {
-        let before = spare_place(self.table.get(id));
-        self.table.join(id, session)?;
-        let after = spare_place(self.table.get(id));
-        let _most = self.table.count();
-        move_one(&mut self.spares, before, after);
+        let kind = kind_place(self.table.find(id));
+        let spare = spare_place(self.table.find(id));
+        self.table.change(id, change)?;
+        let kind_after = kind_place(self.table.find(id));
+        let spare_after = spare_place(self.table.find(id));
+        self.table.is_countable();
+        move_one(&mut self.numbers, kind, kind_after);
+        move_one(&mut self.spares, spare, spare_after);
         Ok(())
-    }
-
-    /// The session leaves the queue of this node.
-    pub(crate) fn leave(&mut self, id: NodeId, session: SessionId)
-        ensures { self.new ≡ change_first (λ row. row.id.0 == id.0) (λ row. record row { queue = left session row.queue }) self.old }
-    {
-        let before = spare_place(self.table.get(id));
-        self.table.leave(id, session);
-        let after = spare_place(self.table.get(id));
-        let _most = self.table.count();
-        move_one(&mut self.spares, before, after);
     }
 
     /// The session leaves every queue.
@@ -255,8 +144,17 @@ impl NodeTable {
         if !is_queued_at(session, self.table.rows()) {
             return;
         }
-        self.table.leave_all(session);
-        let _most = self.table.count();
+        self.table.change_all(&Leave { session });
+        self.table.is_countable();
+        recount(&mut self.spares, self.table.rows());
+    }
+
+    /// Every node that is allocated to the request is freed.
+    pub(crate) fn free_all(&mut self, request: RequestId)
+        ensures { self.new ≡ all_freed request self.old }
+    {
+        self.table.change_all(&Free { request });
+        self.table.is_countable();
         recount(&mut self.spares, self.table.rows());
     }
 
@@ -264,13 +162,13 @@ impl NodeTable {
     pub(crate) fn remove(&mut self, id: NodeId)
         ensures { self.new ≡ remove_first (λ row. row.id.0 == id.0) self.old }
     {
-        let Some(row) = self.table.get(id) else {
+        let Some(row) = self.table.find(id) else {
             return;
         };
-        let at = tally_place(row.kept.pool, row.kept.label);
+        let kind = kind_place(Some(row));
         let spare = spare_place(Some(row));
         self.table.remove(id);
-        take_one(&mut self.numbers, at);
+        take_one(&mut self.numbers, kind);
         take_one(&mut self.spares, spare);
     }
 
@@ -281,54 +179,12 @@ impl NodeTable {
         ensures ok { OnOk result (self.new ≡ insert_before (λ other. nat_lt row.id.0 other.id.0) row self.old) }
         ensures err { OnErr result (self.new ≡ self.old) }
     {
-        let at = tally_place(row.kept.pool, row.kept.label);
+        let kind = kind_place(Some(&row));
         let spare = spare_place(Some(&row));
         self.table.insert(row)?;
-        add_one(&mut self.numbers, at);
+        add_one(&mut self.numbers, kind);
         add_one(&mut self.spares, spare);
         Ok(())
-    }
-
-    /// Every node that is allocated to the request is freed.
-    pub(crate) fn free_all(&mut self, request: RequestId)
-        ensures { self.new ≡ all_freed request self.old }
-    {
-        self.table.free_all(request);
-        let _most = self.table.count();
-        recount(&mut self.spares, self.table.rows());
-    }
-
-    /// The node is allocated to the request, and the session joins its queue, unless it is there.
-    pub(crate) fn allocate(
-        &mut self,
-        node: NodeId,
-        request: RequestId,
-        session: SessionId,
-    ) -> Result<(), AllocError>
-        ensures ok { OnOk result (self.new ≡ change_first (λ row. row.id.0 == node.0) (allocated request session) self.old) }
-        ensures err { OnErr result (self.new ≡ self.old) }
-    {
-        let before = spare_place(self.table.get(node));
-        self.table.allocate(node, request, session)?;
-        let after = spare_place(self.table.get(node));
-        let _most = self.table.count();
-        move_one(&mut self.spares, before, after);
-        Ok(())
-    }
-
-    /// The node is in use from this tick.
-    fn take_over(&mut self, node: NodeId, tick: u32)
-        ensures { self.new ≡ change_first (λ row. row.id.0 == node.0) (in_use tick) self.old }
-    {
-        let Some(row) = self.get(node) else {
-            return;
-        };
-        let kept = NodeRecord {
-            since: tick,
-            state: NodeState::InUse,
-            ..row.kept
-        };
-        self.put(node, kept);
     }
 
     /// Each of the nodes is in use from this tick.
@@ -336,7 +192,7 @@ impl NodeTable {
         ensures { self.new ≡ all_in_use tick nodes.now self.old }
     {
         for node in nodes {
-            self.take_over(*node, tick);
+            always(self.change(*node, &TakeOver { tick }));
         }
     }
 }

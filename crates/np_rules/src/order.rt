@@ -2,10 +2,9 @@
 
 ghost use Rattle.std.specs.Prelude.{◌≡◌, filter};
 ghost use Rattle.std.specs.Option.{option_map};
-ghost use Rattle.np_rules.specs.Order.{comes_before, is_pool, is_pinned_away, is_declined_by, is_pending_by, is_candidate, least};
+ghost use Rattle.np_machine.specs.Order.{comes_before, is_pool, is_pinned_away, is_declined_by, is_pending_by, is_candidate, least};
 
-use crate::queue::holder_of;
-use crate::state::RequestEntry;
+use np_machine::{RequestEntry, holder_of};
 use np_record::{Declined, RequestRecord};
 use np_text::{PoolId, RequestId, RequestState};
 

@@ -2,7 +2,8 @@
 
 ghost use Rattle.std.specs.Prelude.{◌≡◌, ◌<◌, ◌≤◌, ◌++◌, ◌∷◌, [], length, OnOk, OnErr, IfOk, Some, true, is_ok, option_and_then};
 ghost use Rattle.np_rules.specs.Fits.{Fits};
-ghost use Rattle.np_rules.specs.Step.{judge, effect, maker_of, acting, with_act, next, reply_of};
+ghost use Rattle.np_site.specs.Sound.{IsSound};
+ghost use Rattle.np_machine.specs.Step.{judge, effect, maker_of, acting, with_act, next, reply_of};
 
 use crate::tables::Tables;
 use np_config::Config;
@@ -57,8 +58,15 @@ fn reply_of(answer: Result<Done, Refusal>) -> Reply
     }
 }
 
+/// Every configuration is sound.
+fn is_sound(config: &Config)
+    ensures { IsSound config.now }
+{
+    config.soundness();
+}
+
 impl Tables {
-    ghost use Rattle.np_rules.specs.State.{State};
+    ghost use Rattle.np_machine.specs.State.{State};
 
     /// The role of the event's maker.
     fn acting(&self, event: Event) -> Option<Role>
@@ -121,9 +129,9 @@ impl Model for Plain {
 }
 
 impl Plain {
-    ghost use Rattle.np_rules.specs.History.{Runs};
+    ghost use Rattle.np_machine.specs.History.{Runs};
     ghost use Rattle.np_rules.specs.Ran.{answer_of, applied};
-    ghost use Rattle.np_rules.specs.State.{start};
+    ghost use Rattle.np_machine.specs.State.{start};
     ghost use Rattle.np_rules.specs.Fits.{IsFitSite};
 
     /// The machine before the first event.
@@ -131,7 +139,7 @@ impl Plain {
     pub fn new(alloc: Global, config: Config) -> Result<Plain, AllocError>
         ensures { IfOk result (λ m. m ≡ record { configuration = config; journal = []; state = start config }) }
     {
-        let _age = config.max_hold_age();
+        is_sound(&config);
         let tables = Tables::start(alloc, &config)?;
         Ok(Plain {
             config,

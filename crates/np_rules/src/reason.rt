@@ -3,18 +3,16 @@
 ghost use Rattle.std.specs.Prelude.{◌≡◌, ◌==◌, ◌<◌, ◌+◌, ◌≤◌, ◌^◌, length};
 ghost use Rattle.std.specs.List.{list_any};
 ghost use Rattle.np_text.specs.declared.id.LabelId.{LabelId};
-ghost use Rattle.np_rules.specs.Count.{amount_of, count_of};
+ghost use Rattle.np_machine.specs.Count.{amount_of, count_of};
 ghost use Rattle.np_rules.specs.Fits.{AmountFits, Fits};
-ghost use Rattle.np_rules.specs.Tally.{is_free};
-ghost use Rattle.np_rules.specs.Reasons.{next_label, never_fits, first_unoffered, is_spent, is_true, ready_age, is_past, due_tick, is_old_ready, is_old_hold, is_spare, is_stuck_at, is_stuck, is_paused};
+ghost use Rattle.np_machine.specs.Reasons.{next_label, never_fits, first_unoffered, is_spent, is_true, ready_age, is_past, due_tick, is_old_ready, is_old_hold, is_spare, is_stuck_at, is_stuck, is_paused, is_unused};
 
 use crate::count::{amount_of_labels, has_offer, limit};
 use crate::order::is_pending_by;
-use crate::queue::holder_of;
-use crate::state::{NodeEntry, RequestEntry};
 use crate::tables::Tables;
 use np_amount::Amount;
 use np_config::Config;
+use np_machine::{NodeEntry, RequestEntry, holder_of};
 use np_record::{NodeRecord, RequestRecord};
 use np_text::{LabelId, NodeId, NodeState, PoolId, Reason};
 
@@ -93,9 +91,9 @@ pub(crate) fn ready_age(config: &Config, label: LabelId) -> u32
     }
 }
 
-/// Whether the node is ready, free and unlocked.
-pub(crate) fn is_free(entry: &NodeEntry) -> bool
-    ensures { result ≡ is_free entry.now }
+/// Whether the node is ready, allocated to no request and unlocked.
+pub(crate) fn is_unused(entry: &NodeEntry) -> bool
+    ensures { result ≡ is_unused entry.now }
 {
     entry.kept.state == NodeState::Ready
         && entry.kept.allocated_to.is_none()
@@ -106,7 +104,7 @@ pub(crate) fn is_free(entry: &NodeEntry) -> bool
 pub(crate) fn is_spare(pool: PoolId, label: LabelId, entry: &NodeEntry) -> bool
     ensures { result ≡ is_spare pool label entry.now }
 {
-    is_free(entry) && entry.kept.pool.0 == pool.0 && entry.kept.label.0 == label.0
+    is_unused(entry) && entry.kept.pool.0 == pool.0 && entry.kept.label.0 == label.0
 }
 
 impl Tables {

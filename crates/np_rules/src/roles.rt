@@ -2,10 +2,11 @@
 
 ghost use Rattle.std.specs.Prelude.{◌≡◌, ◌≤◌, Some, slice_get};
 ghost use Rattle.np_record.specs.declared.record.RoleRecord.{RoleRecord};
-ghost use Rattle.np_rules.specs.Tables.{change_at, role_in, change_role};
-ghost use Rattle.np_rules.specs.Session.{struck_unless};
-ghost use Rattle.np_rules.specs.Node.{one_more_start};
-ghost use Rattle.np_rules.specs.Step.{one_more_act};
+ghost use Rattle.np_lists.specs.Change.{change_at};
+ghost use Rattle.np_machine.specs.Tables.{role_in, change_role};
+ghost use Rattle.np_machine.specs.Session.{struck_unless};
+ghost use Rattle.np_machine.specs.Node.{one_more_start};
+ghost use Rattle.np_machine.specs.Step.{one_more_act};
 
 use crate::tables::Tables;
 use np_record::RoleRecord;

@@ -2,14 +2,13 @@
 
 ghost use Rattle.std.specs.Prelude.{◌≡◌, ◌≤◌, ◌<◌, List, [], length, map, replicate, IfOk};
 ghost use Rattle.np_text.specs.declared.id.JobId.{JobId};
-ghost use Rattle.np_rules.specs.State.{start, new_job, no_deeds};
+ghost use Rattle.np_machine.specs.State.{start, new_job, no_deeds};
 
-use crate::locks::LockTable;
+use crate::keys::{RequestTable, SweptTable};
 use crate::nodes::NodeTable;
-use crate::queue::Queue;
-use crate::swept::SweptTable;
 use crate::tables::Tables;
 use np_config::Config;
+use np_machine::Queue;
 use np_record::{JobRecord, MarkRow, RoleRecord};
 use np_text::{JobId, Phase, PoolId, RequesterId, SemId};
 use std::alloc::{AllocError, Global};
@@ -122,7 +121,7 @@ impl Tables {
             tick: 0,
             sessions: Vec::new(alloc),
             registrations: Vec::new(alloc),
-            requests: LockTable::new(alloc),
+            requests: RequestTable::new(alloc),
             nodes,
             handles,
             jobs,

@@ -1,18 +1,18 @@
 //! What the plain machine keeps: vectors, seen as the state of the definitions.
 
 ghost use Rattle.std.specs.Prelude.{◌≡◌, ◌+◌, ◌<◌, ◌≤◌, [], length, option_copied, slice_get, OnOk, OnErr, IfOk};
-ghost use Rattle.np_rules.specs.Tables.{session_of, role_of, registered, request_entry, node_entry, is_session_of, is_request, request_holder, node_holder, put_job, role_in};
+ghost use Rattle.np_machine.specs.Tables.{session_of, role_of, registered, request_entry, node_entry, is_session_of, is_request, request_holder, node_holder, put_job, put_node, put_request, role_in};
 ghost use Rattle.std.specs.Option.{option_map};
-ghost use Rattle.np_rules.specs.Node.{is_swept};
-ghost use Rattle.np_rules.specs.Tests.{maker, launcher, janitor, requester, wrong_request, wrong_node};
+ghost use Rattle.np_machine.specs.Node.{is_swept};
+ghost use Rattle.np_machine.specs.Tests.{maker, launcher, janitor, requester, wrong_request, wrong_node};
 
-use crate::locks::LockTable;
+use crate::change::Put;
+use crate::keys::{RequestTable, SweptTable};
 use crate::nodes::NodeTable;
-use crate::queue::{Queue, holder_of};
-use crate::state::{NodeEntry, Registration, RequestEntry, SessionFacts};
-use crate::swept::SweptTable;
 use np_event::{Found, Refusal};
+use np_machine::{NodeEntry, Queue, Registration, RequestEntry, SessionFacts, Swept, holder_of};
 use np_record::{JobRecord, NodeRecord, RequestRecord, RoleRecord};
+use np_table::always;
 use np_text::{JobId, NodeId, NodeState, PoolId, RequestId, RequesterId, Role, SessionId};
 use std::alloc::Global;
 use std::marker::Model;
@@ -24,7 +24,7 @@ pub struct Tables {
     pub(crate) tick: u32,
     pub(crate) sessions: Vec<SessionFacts>,
     pub(crate) registrations: Vec<Registration>,
-    pub(crate) requests: LockTable<RequestId, RequestRecord>,
+    pub(crate) requests: RequestTable,
     pub(crate) nodes: NodeTable,
     pub(crate) handles: Vec<Queue<JobId>>,
     pub(crate) jobs: Vec<JobRecord>,
@@ -37,7 +37,7 @@ pub struct Tables {
 }
 
 impl Model for Tables {
-    ghost use Rattle.np_rules.specs.State.{State};
+    ghost use Rattle.np_machine.specs.State.{State};
 
     ghost Value = { State };
 
@@ -97,7 +97,7 @@ pub(crate) fn wrong_node(node: &NodeRecord) -> Refusal
 }
 
 impl Tables {
-    ghost use Rattle.np_rules.specs.State.{State};
+    ghost use Rattle.np_machine.specs.State.{State};
 
     /// What is known of the session; sessions count from 1.
     pub(crate) fn session(&self, session: SessionId) -> Option<SessionFacts>
@@ -159,7 +159,7 @@ impl Tables {
     pub(crate) fn was_swept(&self, node: NodeId, server: u64) -> bool
         ensures { result ≡ is_swept node server self.now.swept }
     {
-        self.swept.has(node, server)
+        self.swept.has(Swept { node, server })
     }
 
     /// The role of a session.
@@ -232,14 +232,14 @@ impl Tables {
     pub(crate) fn request(&self, request: RequestId) -> Option<&RequestEntry>
         ensures { option_copied result ≡ request_entry request self.now.requests }
     {
-        self.requests.get(request)
+        self.requests.find(request)
     }
 
     /// The node with its queue.
     pub(crate) fn node(&self, node: NodeId) -> Option<&NodeEntry>
         ensures { option_copied result ≡ node_entry node self.now.nodes }
     {
-        self.nodes.get(node)
+        self.nodes.find(node)
     }
 
     /// The job, as the machine keeps it.
@@ -255,6 +255,20 @@ impl Tables {
         ensures { self.new ≡ record self.old { jobs = put_job job kept self.old.jobs } }
     {
         self.jobs[job.0 as usize] = kept;
+    }
+
+    /// Another record of the request.
+    pub(crate) fn put_request(&mut self, request: RequestId, kept: RequestRecord)
+        ensures { self.new ≡ record self.old { requests = put_request request kept self.old.requests } }
+    {
+        always(self.requests.change(request, &Put { kept }));
+    }
+
+    /// Another record of the node.
+    pub(crate) fn put_node(&mut self, node: NodeId, kept: NodeRecord)
+        ensures { self.new ≡ record self.old { nodes = put_node node kept self.old.nodes } }
+    {
+        always(self.nodes.change(node, &Put { kept }));
     }
 
     /// Who holds the request.

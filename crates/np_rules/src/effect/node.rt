@@ -3,19 +3,21 @@
 ghost use Rattle.std.specs.Prelude.{◌≡◌, ◌<◌, ◌≤◌, length, map, OnOk, OnErr, IsOk};
 ghost use Rattle.std.specs.List.{position};
 ghost use Rattle.np_rules.specs.Fits.{Fits};
-ghost use Rattle.np_rules.specs.Tables.{change_first, is_marked};
-ghost use Rattle.np_rules.specs.Node.{judge_take_ready, effect_take_ready, with_node, effect_create, judge_start, effect_start, state_after_launch, launched, effect_done, effect_lock_node, effect_unlock_node, ended_as, marked, with_mark, effect_end_node, effect_mark_deleting, effect_gone, effect_free_node, effect_sweep};
+ghost use Rattle.np_lists.specs.Change.{change_first};
+ghost use Rattle.np_machine.specs.Tables.{is_marked};
+ghost use Rattle.np_machine.specs.Node.{judge_take_ready, effect_take_ready, with_node, effect_create, judge_start, effect_start, state_after_launch, launched, effect_done, effect_lock_node, effect_unlock_node, ended_as, marked, with_mark, effect_end_node, effect_mark_deleting, effect_gone, effect_free_node, effect_sweep};
 
+use crate::change::{Allocate, Join, Leave};
 use crate::count::retries;
 use crate::judge::node::is_marked;
-use crate::locks::Locked;
-use crate::queue::Queue;
 use crate::reason::next_label;
 use crate::roles::add_start;
 use crate::tables::Tables;
 use np_config::Config;
 use np_event::Outcome;
+use np_machine::{Locked, Queue, Swept};
 use np_record::{JobRecord, MarkRow, Marked, NodeRecord, RequestRecord};
+use np_table::always;
 use np_text::{EndAs, NodeId, NodeState, RequestId, SessionId};
 use std::alloc::AllocError;
 
@@ -125,8 +127,8 @@ impl Tables {
             return Ok(());
         };
         let kept = with_node(&entry.kept, node);
-        self.nodes.allocate(node, request, session)?;
-        self.requests.put(request, kept);
+        self.nodes.change(node, &Allocate { request, session })?;
+        self.put_request(request, kept);
         Ok(())
     }
 
@@ -168,8 +170,8 @@ impl Tables {
             },
             queue,
         })?;
-        self.requests.put(request, kept);
         self.next_node += 1;
+        self.put_request(request, kept);
         Ok(())
     }
 
@@ -190,7 +192,7 @@ impl Tables {
             start: self.starts_of(pool) + 1,
             ..entry.kept
         };
-        self.nodes.put(node, kept);
+        self.put_node(node, kept);
         add_start(&mut self.launchers, pool.0 as usize);
     }
 
@@ -202,7 +204,7 @@ impl Tables {
         };
         let most = retries(config, entry.kept.pool);
         let kept = launched(most, self.tick, outcome, &entry.kept);
-        self.nodes.put(node, kept);
+        self.put_node(node, kept);
     }
 
     pub(crate) fn effect_lock_node(
@@ -213,14 +215,14 @@ impl Tables {
         ensures ok { OnOk result (self.new ≡ effect_lock_node self.old session node) }
         ensures err { OnErr result (self.new ≡ self.old) }
     {
-        self.nodes.join(node, session)?;
+        self.nodes.change(node, &Join { session })?;
         Ok(())
     }
 
     pub(crate) fn effect_unlock_node(&mut self, session: SessionId, node: NodeId)
         ensures { self.new ≡ effect_unlock_node self.old session node }
     {
-        self.nodes.leave(node, session);
+        always(self.nodes.change(node, &Leave { session }));
     }
 
     pub(crate) fn effect_end_node(&mut self, node: NodeId, end: EndAs)
@@ -234,7 +236,7 @@ impl Tables {
             state: ended_as(end),
             ..entry.kept
         };
-        self.nodes.put(node, kept);
+        self.put_node(node, kept);
         mark_ended(&mut self.jobs, node);
     }
 
@@ -249,7 +251,7 @@ impl Tables {
             state: NodeState::Deleting,
             ..entry.kept
         };
-        self.nodes.put(node, kept);
+        self.put_node(node, kept);
     }
 
     pub(crate) fn effect_gone(&mut self, node: NodeId)
@@ -268,7 +270,7 @@ impl Tables {
             allocated_to: None,
             ..entry.kept
         };
-        self.nodes.put(node, kept);
+        self.put_node(node, kept);
     }
 
     pub(crate) fn effect_sweep(&mut self, node: NodeId, server: u64) -> Result<(), AllocError>
@@ -278,7 +280,11 @@ impl Tables {
         if self.is_wanted(node, server) {
             return Ok(());
         }
-        self.swept.add(node, server)?;
+        let pair = Swept { node, server };
+        if self.swept.has(pair) {
+            return Ok(());
+        }
+        self.swept.insert(pair)?;
         Ok(())
     }
 }

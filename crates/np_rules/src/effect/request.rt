@@ -2,15 +2,16 @@
 
 ghost use Rattle.std.specs.Prelude.{◌≡◌, ◌<◌, ◌≤◌, ◌++◌, ◌∷◌, [], length, OnOk, OnErr, IsOk};
 ghost use Rattle.np_rules.specs.Fits.{Fits};
-ghost use Rattle.np_rules.specs.Request.{effect_register, asked_by, effect_submit, kept_ready_by, effect_min_ready, effect_lock_request, effect_unlock_request, effect_accept, judge_decline, all_declined, state_after_decline, declined_with, effect_decline, effect_fulfil, effect_reset, effect_fail_declined};
+ghost use Rattle.np_machine.specs.Request.{effect_register, asked_by, effect_submit, kept_ready_by, effect_min_ready, effect_lock_request, effect_unlock_request, effect_accept, judge_decline, all_declined, state_after_decline, declined_with, effect_decline, effect_fulfil, effect_reset, effect_fail_declined};
 
-use crate::locks::Locked;
+use crate::change::{Join, Leave};
 use crate::order::is_declined_by;
-use crate::queue::Queue;
-use crate::state::{Registration, RequestEntry};
 use crate::tables::Tables;
-use np_config::{Config, Job};
+use np_config::Config;
+use np_machine::{Locked, Queue, Registration, RequestEntry};
 use np_record::{DeclineRow, Declined, JobRecord, LabelRow, NodeRow, RequestRecord};
+use np_site::Job;
+use np_table::always;
 use np_text::{JobId, LabelId, Phase, PoolId, Reason, RequestId, RequestState, SessionId};
 use std::alloc::{AllocError, Global};
 
@@ -173,14 +174,14 @@ impl Tables {
         ensures ok { OnOk result (self.new ≡ effect_lock_request self.old session request) }
         ensures err { OnErr result (self.new ≡ self.old) }
     {
-        self.requests.join(request, session)?;
+        self.requests.change(request, &Join { session })?;
         Ok(())
     }
 
     pub(crate) fn effect_unlock_request(&mut self, session: SessionId, request: RequestId)
         ensures { self.new ≡ effect_unlock_request self.old session request }
     {
-        self.requests.leave(request, session);
+        always(self.requests.change(request, &Leave { session }));
     }
 
     pub(crate) fn effect_accept(&mut self, session: SessionId, request: RequestId)
@@ -197,7 +198,7 @@ impl Tables {
             pool: Some(pool),
             ..entry.kept
         };
-        self.requests.put(request, kept);
+        self.put_request(request, kept);
     }
 
     pub(crate) fn effect_decline(
@@ -230,7 +231,7 @@ impl Tables {
             state,
             ..entry.kept
         };
-        self.requests.put(request, kept);
+        self.put_request(request, kept);
         self.nodes.free_all(request);
     }
 
@@ -249,7 +250,7 @@ impl Tables {
             state: RequestState::Fulfilled,
             ..entry.kept
         };
-        self.requests.put(request, kept);
+        self.put_request(request, kept);
     }
 
     pub(crate) fn effect_reset(&mut self, request: RequestId)
@@ -264,7 +265,7 @@ impl Tables {
             state: RequestState::Requested,
             ..entry.kept
         };
-        self.requests.put(request, kept);
+        self.put_request(request, kept);
         self.nodes.free_all(request);
     }
 
@@ -278,6 +279,6 @@ impl Tables {
             state: RequestState::Failed,
             ..entry.kept
         };
-        self.requests.put(request, kept);
+        self.put_request(request, kept);
     }
 }

@@ -3,13 +3,13 @@
 ghost use Rattle.std.specs.Prelude.{◌≡◌, ◌<◌, ◌≤◌, length, map, OnOk, OnErr, IfOk};
 ghost use Rattle.np_rules.specs.Undo.{taken_back};
 ghost use Rattle.np_rules.specs.Fits.{Fits};
-ghost use Rattle.np_rules.specs.Tables.{change_at};
-ghost use Rattle.np_rules.specs.Semaphore.{with_handle, all_with_handle, effect_acquire, unended, effect_take, effect_finish, effect_withdraw, without_handle, all_without_handle, effect_release};
+ghost use Rattle.np_lists.specs.Change.{change_at};
+ghost use Rattle.np_machine.specs.Semaphore.{with_handle, all_with_handle, effect_acquire, unended, effect_take, effect_finish, effect_withdraw, without_handle, all_without_handle, effect_release};
 
 use crate::judge::semaphore::{ending_of, is_in_list};
-use crate::queue::Queue;
 use crate::tables::Tables;
 use np_config::Config;
+use np_machine::Queue;
 use np_record::{JobRecord, MarkRow, Marked};
 use np_text::{Ending, JobId, NodeId, Phase, SemId};
 use std::alloc::AllocError;

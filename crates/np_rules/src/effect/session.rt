@@ -2,12 +2,14 @@
 
 ghost use Rattle.std.specs.Prelude.{◌≡◌, ◌<◌, ◌≤◌, ◌-◌, length, not, filter, OnOk, OnErr};
 ghost use Rattle.np_rules.specs.Fits.{Fits};
-ghost use Rattle.np_rules.specs.Tables.{change_at, is_session};
-ghost use Rattle.np_rules.specs.Session.{muted, ended, effect_tick, effect_open, effect_crash, effect_expire};
+ghost use Rattle.np_lists.specs.Change.{change_at};
+ghost use Rattle.np_machine.specs.Tables.{is_session};
+ghost use Rattle.np_machine.specs.Session.{muted, ended, effect_tick, effect_open, effect_crash, effect_expire};
 
-use crate::state::{Registration, SessionFacts};
+use crate::change::Leave;
 use crate::tables::Tables;
 use np_config::Config;
+use np_machine::{Registration, SessionFacts};
 use np_text::{Role, SessionId};
 use std::alloc::AllocError;
 
@@ -79,7 +81,7 @@ impl Tables {
         };
         end_at(&mut self.sessions, (session.0 as usize).saturating_sub(1));
         drop_registrations(&mut self.registrations, session);
-        self.requests.leave_all(session);
+        self.requests.change_all(&Leave { session });
         self.nodes.leave_all(session);
         self.strike(facts.role, facts.mute);
     }

@@ -3,14 +3,13 @@
 ghost use Rattle.std.specs.Prelude.{◌≡◌, ◌≤◌};
 ghost use Rattle.std.specs.Option.{option_copied};
 ghost use Rattle.np_rules.specs.Places.{lack_at};
-ghost use Rattle.np_rules.specs.Request.{is_filled, unfilled, judge_fulfil};
+ghost use Rattle.np_machine.specs.Request.{is_filled, unfilled, judge_fulfil};
 
 use crate::judge::semaphore::none_missing;
 use crate::order::is_pending_by;
-use crate::queue::holder_of;
-use crate::state::NodeEntry;
 use crate::tables::{Tables, is_named, is_of_request, wrong_request};
 use np_event::{Done, Refusal};
+use np_machine::{NodeEntry, holder_of};
 use np_record::RequestRecord;
 use np_text::{LabelId, NodeId, NodeState, PoolId, RequestId, SessionId};
 

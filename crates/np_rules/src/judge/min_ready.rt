@@ -3,15 +3,15 @@
 ghost use Rattle.std.specs.Prelude.{◌≡◌, ◌≤◌, length};
 ghost use Rattle.std.specs.List.{list_any};
 ghost use Rattle.np_rules.specs.Fits.{Fits};
-ghost use Rattle.np_rules.specs.Request.{is_min_ready_for, is_spent_min_ready, is_coming, is_free_ready, ready_count, judge_min_ready};
+ghost use Rattle.np_machine.specs.Request.{is_min_ready_for, is_spent_min_ready, is_coming, is_free_ready, ready_count, judge_min_ready};
 
 use crate::count::has_offer;
 use crate::judge::request::quota_short;
 use crate::order::is_of_pool;
-use crate::state::{NodeEntry, RequestEntry};
 use crate::tables::{Tables, is_named};
 use np_config::Config;
 use np_event::{Done, Refusal};
+use np_machine::{NodeEntry, RequestEntry};
 use np_record::RequestRecord;
 use np_text::{LabelId, NodeState, PoolId, RequestId, RequestState, SessionId};
 

@@ -4,16 +4,16 @@ ghost use Rattle.std.specs.Prelude.{◌≡◌, ◌==◌, ◌<◌, ◌+◌, ◌�
 ghost use Rattle.std.specs.List.{list_any};
 ghost use Rattle.std.specs.Option.{option_map_or};
 ghost use Rattle.np_rules.specs.Fits.{Fits};
-ghost use Rattle.np_rules.specs.Tables.{node_in, is_marked};
-ghost use Rattle.np_rules.specs.Node.{judge_take_ready, judge_create, starts_of, judge_start, judge_done, place_reply, judge_lock_node, judge_unlock_node, owner_from, is_own, judge_end_node, may_delete, judge_mark_deleting, judge_gone, standing, judge_free_node, is_server, is_wanted, judge_sweep};
+ghost use Rattle.np_machine.specs.Tables.{node_in, is_marked};
+ghost use Rattle.np_machine.specs.Node.{judge_take_ready, judge_create, starts_of, judge_start, judge_done, place_reply, judge_lock_node, judge_unlock_node, owner_from, is_own, judge_end_node, may_delete, judge_mark_deleting, judge_gone, standing, judge_free_node, is_server, is_wanted, judge_sweep};
 
 use crate::judge::request::quota_short;
 use crate::order::is_pending_by;
-use crate::queue::{count_ahead, is_in};
 use crate::reason::{due_tick, next_label, ready_age};
 use crate::tables::{Tables, is_named, wrong_node, wrong_request};
 use np_config::Config;
 use np_event::{Done, Refusal};
+use np_machine::{count_ahead, is_in};
 use np_record::{JobRecord, NodeRecord};
 use np_text::{JobId, NodeId, NodeState, PoolId, RequestId, RequesterId, SessionId};
 

@@ -2,11 +2,11 @@
 
 ghost use Rattle.std.specs.Prelude.{◌≡◌, ◌<◌, ◌+◌, ◌≤◌, ◌^◌, length, count_by, not};
 ghost use Rattle.std.specs.List.{list_any};
-ghost use Rattle.np_rules.specs.Tests.{quota_short};
+ghost use Rattle.np_machine.specs.Tests.{quota_short};
 ghost use Rattle.np_rules.specs.Fits.{Fits};
-ghost use Rattle.np_rules.specs.Order.{first_of, is_declined_by};
+ghost use Rattle.np_machine.specs.Order.{first_of, is_declined_by};
 ghost use Rattle.np_text.specs.declared.id.Role.TheVariants.{Launcher};
-ghost use Rattle.np_rules.specs.Request.{next_id, judge_register, judge_submit, other_than, lock_pending, lock_request_as, judge_lock_request, unlock_request_as, judge_unlock_request, judge_accept, in_state_for, judge_decline, judge_reset, undeclined, judge_fail_declined};
+ghost use Rattle.np_machine.specs.Request.{next_id, judge_register, judge_submit, other_than, lock_pending, lock_request_as, judge_lock_request, unlock_request_as, judge_unlock_request, judge_accept, in_state_for, judge_decline, judge_reset, undeclined, judge_fail_declined};
 
 use crate::judge::semaphore::{none_missing, wrong_job};
 use crate::order::{first_of, is_declined_by, is_pending_by, is_pinned_away};

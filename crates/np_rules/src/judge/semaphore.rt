@@ -4,17 +4,18 @@ ghost use Rattle.std.specs.Prelude.{◌≡◌, ◌≤◌, ◌<◌, ◌^◌, List
 ghost use Rattle.np_text.specs.declared.id.SemId.{SemId};
 ghost use Rattle.np_text.specs.declared.id.JobId.{JobId};
 ghost use Rattle.np_rules.specs.Fits.{Fits};
-ghost use Rattle.np_rules.specs.Tables.{is_among, has_handle, handles_of};
-ghost use Rattle.np_rules.specs.Tests.{missing_handles, none_missing, own_job};
+ghost use Rattle.np_machine.specs.Tables.{is_among, has_handle, handles_of};
+ghost use Rattle.np_machine.specs.Tests.{missing_handles, none_missing, own_job, wrong_job};
 ghost use Rattle.np_rules.specs.Seen.{seen};
 ghost use Rattle.std.specs.List.{list_any, list_all};
-ghost use Rattle.np_rules.specs.Semaphore.{max_of, is_full, first_full, judge_acquire, unheld, may_take, judge_take, is_requesters, has_live_session, is_busy_with, has_failed_request, is_finishable, ending_of, may_finish, requester_or_janitor, judge_finish, judge_withdraw, judge_release};
+ghost use Rattle.np_machine.specs.Semaphore.{max_of, is_full, first_full, judge_acquire, unheld, may_take, judge_take, is_requesters, has_live_session, is_busy_with, has_failed_request, is_finishable, ending_of, may_finish, requester_or_janitor, judge_finish, judge_withdraw, judge_release};
 
-use crate::queue::holder_of;
 use crate::tables::{Tables, is_named, wrong_request};
-use np_config::{Config, Job};
+use np_config::Config;
 use np_event::{Done, Found, Refusal};
+use np_machine::holder_of;
 use np_record::{JobRecord, Marked, NodeRow};
+use np_site::Job;
 use np_text::{
     Ending, JobId, NodeId, NodeState, Phase, RequestState, RequesterId, Role, SemId, SessionId,
 };
@@ -28,7 +29,7 @@ pub(crate) fn is_in_list(jobs: &[JobId], job: JobId) -> bool
 
 /// The refusal that shows a job's phase.
 pub(crate) fn wrong_job(job: &JobRecord) -> Refusal
-    ensures { result ≡ Rattle.np_rules.specs.Tests.wrong_job job.now }
+    ensures { result ≡ wrong_job job.now }
 {
     Refusal::WrongState(Found::Job(job.phase))
 }

@@ -2,7 +2,7 @@
 
 ghost use Rattle.std.specs.Prelude.{◌≡◌};
 ghost use Rattle.np_rules.specs.Fits.{Fits};
-ghost use Rattle.np_rules.specs.Session.{is_role, judge_open, judge_crash, judge_expire};
+ghost use Rattle.np_machine.specs.Session.{is_role, judge_open, judge_crash, judge_expire};
 
 use crate::tables::Tables;
 use np_config::Config;

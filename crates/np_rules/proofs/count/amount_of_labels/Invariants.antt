@@ -1,6 +1,6 @@
 use Rattle.std.proofs.Common.{◌≡◌, ◌≤◌, ◌*◌, map, take}
 use Rattle.np_amount.specs.Amounts.{total}
-use Rattle.np_rules.specs.Count.{amount_of}
+use Rattle.np_machine.specs.Count.{amount_of}
 use Rattle.np_rules.proofs.count.amount_of_labels.Given as goal
 
 abbrev pub invariant-loop-label : goal.invariant-loop-label

@@ -1,6 +1,6 @@
 use Rattle.std.proofs.Common.{◌≡◌, ◌≤◌, ◌*◌, map, take}
 use Rattle.np_amount.specs.Amounts.{total, times}
-use Rattle.np_rules.specs.Count.{offers_of, number_of}
+use Rattle.np_machine.specs.Count.{offers_of, number_of}
 use Rattle.np_rules.proofs.count.count.Given as goal
 
 abbrev pub invariant-loop-offer : goal.invariant-loop-offer

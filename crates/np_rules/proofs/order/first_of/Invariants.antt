@@ -1,6 +1,6 @@
 use Rattle.std.proofs.Common.{◌≡◌, take}
 use Rattle.std.specs.Prelude.{filter, option_copied}
-use Rattle.np_rules.specs.Order.{is_candidate, least}
+use Rattle.np_machine.specs.Order.{is_candidate, least}
 use Rattle.np_rules.proofs.order.first_of.Given as goal
 
 abbrev pub invariant-loop-entry : goal.invariant-loop-entry

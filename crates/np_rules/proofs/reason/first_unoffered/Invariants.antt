@@ -1,7 +1,7 @@
 use Rattle.std.proofs.Common.{◌≡◌, drop}
 use Rattle.std.specs.Prelude.{find, not}
-use Rattle.np_rules.specs.Count.{is_offered}
-use Rattle.np_rules.specs.Reasons.{first_unoffered}
+use Rattle.np_machine.specs.Count.{is_offered}
+use Rattle.np_machine.specs.Reasons.{first_unoffered}
 use Rattle.np_rules.proofs.reason.first_unoffered.Given as goal
 
 abbrev pub invariant-loop-label : goal.invariant-loop-label

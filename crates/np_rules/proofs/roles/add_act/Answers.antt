@@ -2,8 +2,8 @@ use Rattle.std.proofs.Common.{◌≡◌, ◌<◌, sym, ◌∙◌, ap, arith, len
 use Rattle.std.specs.Prelude.{slice_get, slice_set}
 use Rattle.std.proofs.lemmas.Option.{slice_get-get_or}
 use Rattle.np_record.specs.declared.record.RoleRecord.{RoleRecord}
-use Rattle.np_rules.specs.Step.{one_more_act}
-use Rattle.np_rules.proofs.Changing.{change_at-set, change_at-past}
+use Rattle.np_machine.specs.Step.{one_more_act}
+use Rattle.np_lists.proofs.ChangeLemmas.{change_at-set, change_at-past}
 use Rattle.np_rules.proofs.roles.add_act.Goals as goal
 
 pub returns-then-at-len : goal.returns-then-at-len

@@ -1,6 +1,6 @@
 use Rattle.std.proofs.Common.{◌≡◌}
 use Rattle.std.specs.Prelude.{replicate}
-use Rattle.np_rules.specs.State.{no_deeds}
+use Rattle.np_machine.specs.State.{no_deeds}
 use Rattle.np_rules.proofs.start.idle_roles.Given as goal
 
 abbrev pub invariant-loop-at : goal.invariant-loop-at

@@ -2,9 +2,9 @@ use Rattle.std.proofs.Common.{◌≡◌, sym, ◌∙◌, ap, Some, None}
 use Rattle.std.specs.Prelude.{slice_set}
 use Rattle.std.specs.List.{position}
 use Rattle.np_record.specs.declared.record.JobRecord.{JobRecord}
-use Rattle.np_rules.specs.Tables.{is_marked}
-use Rattle.np_rules.specs.Node.{with_mark}
-use Rattle.np_rules.proofs.PositionLemmas.{change_first-position, change_first-nowhere}
+use Rattle.np_machine.specs.Tables.{is_marked}
+use Rattle.np_machine.specs.Node.{with_mark}
+use Rattle.np_lists.proofs.PositionLemmas.{change_first-position, change_first-nowhere}
 use Rattle.np_rules.proofs.effect.node.mark_ended.Goals as goal
 
 pub returns-in_default : goal.returns-in_default

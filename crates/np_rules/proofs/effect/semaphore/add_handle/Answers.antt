@@ -1,10 +1,11 @@
 use Rattle.std.proofs.Common.{◌≡◌, ◌<◌, ◌++◌, ◌∷◌, [], sym, ◌∙◌, ap, arith, refl, length, List, true, false}
 use Rattle.std.specs.Prelude.{slice_set}
 use Rattle.np_text.specs.declared.id.JobId.{JobId}
-use Rattle.np_rules.specs.Tables.{change_at, is_among}
-use Rattle.np_rules.specs.Semaphore.{with_handle}
+use Rattle.np_lists.specs.Change.{change_at}
+use Rattle.np_machine.specs.Tables.{is_among}
+use Rattle.np_machine.specs.Semaphore.{with_handle}
 use Rattle.np_rules.specs.Undo.{without_last}
-use Rattle.np_rules.proofs.Changing.{change_at-set, change_at-past}
+use Rattle.np_lists.proofs.ChangeLemmas.{change_at-set, change_at-past}
 use Rattle.np_rules.proofs.Handles.{change_at-undone}
 use Rattle.np_rules.proofs.effect.semaphore.add_handle.Goals as goal
 

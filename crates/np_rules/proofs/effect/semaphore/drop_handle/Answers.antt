@@ -1,8 +1,8 @@
 use Rattle.std.proofs.Common.{◌<◌, sym, ◌∙◌, ap, arith, length, List}
 use Rattle.std.specs.Prelude.{slice_set}
 use Rattle.np_text.specs.declared.id.JobId.{JobId}
-use Rattle.np_rules.specs.Semaphore.{without_handle}
-use Rattle.np_rules.proofs.Changing.{change_at-set, change_at-past}
+use Rattle.np_machine.specs.Semaphore.{without_handle}
+use Rattle.np_lists.proofs.ChangeLemmas.{change_at-set, change_at-past}
 use Rattle.np_rules.proofs.effect.semaphore.drop_handle.Goals as goal
 
 pub returns-then-at-len : goal.returns-then-at-len

@@ -1,5 +1,5 @@
 use Rattle.std.proofs.Common.{◌≡◌, drop}
-use Rattle.np_rules.specs.Semaphore.{all_without_handle}
+use Rattle.np_machine.specs.Semaphore.{all_without_handle}
 use Rattle.np_rules.proofs.effect.semaphore.drop_handles.Given as goal
 
 abbrev pub invariant-loop-semaphore : goal.invariant-loop-semaphore

@@ -3,7 +3,7 @@ use Rattle.std.specs.Prelude.{slice_set}
 use Rattle.std.proofs.lemmas.Bool.Decides.{nat_tests}
 use Rattle.np_text.specs.declared.id.JobId.{JobId}
 use Rattle.np_rules.specs.Undo.{without_last}
-use Rattle.np_rules.proofs.Changing.{change_at-set, change_at-past}
+use Rattle.np_lists.proofs.ChangeLemmas.{change_at-set, change_at-past}
 use Rattle.np_rules.proofs.effect.semaphore.take_back.Goals as goal
 
 pub returns-then-at-len : goal.returns-then-at-len

@@ -1,8 +1,8 @@
 use Rattle.std.proofs.Common.{◌<◌, sym, ◌∙◌, ap, arith, length}
 use Rattle.std.specs.Prelude.{slice_set}
-use Rattle.np_rules.specs.declared.state.SessionFacts.{SessionFacts}
-use Rattle.np_rules.specs.Session.{ended}
-use Rattle.np_rules.proofs.Changing.{change_at-set, change_at-past}
+use Rattle.np_machine.specs.declared.state.SessionFacts.{SessionFacts}
+use Rattle.np_machine.specs.Session.{ended}
+use Rattle.np_lists.proofs.ChangeLemmas.{change_at-set, change_at-past}
 use Rattle.np_rules.proofs.effect.session.end_at.Goals as goal
 
 pub returns-then-at-len : goal.returns-then-at-len

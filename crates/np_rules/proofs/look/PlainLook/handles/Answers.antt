@@ -1,5 +1,5 @@
 use Rattle.std.proofs.Common.{◌≤◌, length, arith}
-use Rattle.np_rules.specs.Tables.{handles_of}
+use Rattle.np_machine.specs.Tables.{handles_of}
 use Rattle.np_rules.proofs.FitsRuns.{Fits-Runs}
 use Rattle.np_rules.proofs.Finds.{handles-fit}
 use Rattle.np_rules.proofs.look.PlainLook.handles.Goals as goal

@@ -1,5 +1,5 @@
 use Rattle.std.proofs.Common.{◌≡◌, drop}
-use Rattle.np_rules.specs.Semaphore.{all_in_use}
+use Rattle.np_machine.specs.Semaphore.{all_in_use}
 use Rattle.np_rules.proofs.nodes.NodeTable.take_over_all.Given as goal
 
 abbrev pub invariant-loop-node : goal.invariant-loop-node

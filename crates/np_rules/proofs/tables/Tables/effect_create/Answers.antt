@@ -1,7 +1,7 @@
 use Rattle.std.proofs.Common.{◌≡◌, ◌++◌, ◌∷◌, [], sym, refl}
 use Rattle.std.specs.Prelude.{nat_lt}
-use Rattle.np_rules.specs.Entries.{NodeEntry}
-use Rattle.np_rules.specs.Tables.{insert_before}
+use Rattle.np_machine.specs.Entries.{NodeEntry}
+use Rattle.np_lists.specs.Change.{insert_before}
 use Rattle.np_rules.proofs.FitsRuns.{fresh_node}
 use Rattle.np_rules.proofs.Finds.{next-room, node-last}
 use Rattle.np_rules.proofs.tables.Tables.effect_create.Goals as goal
@@ -15,4 +15,4 @@ insert-requires c = record { few = rw (← c.self.view_is) at c.requires.nodes; 
 pub returns-clause-ok : goal.returns-clause-ok
 returns-clause-ok c =
     let last : (new : NodeEntry) → insert_before (λ e. nat_lt c.self.inside.next_node e.id.0) new c.self.inside.nodes ≡ c.self.inside.nodes ++ new ∷ [] = λ new. (rw (← c.self.view_is) at (node-last c.requires new)) in
-    rw (← c.in-Ok.ensures, ← c.in-Some.ensures, ← c.in-Some-next_label.ensures, ← c.self.view_is, c.put.ensures, c.with_node-kept.ensures, c.in_ok-insert.ensures.ok, last, c.in_ok-push.ensures.ok, c.new-queue.ensures) refl
+    rw (c.put_request.ensures, ← c.in-Ok.ensures, ← c.in-Some.ensures, ← c.in-Some-next_label.ensures, ← c.self.view_is, c.with_node-kept.ensures, c.in_ok-insert.ensures.ok, last, c.in_ok-push.ensures.ok, c.new-queue.ensures) refl

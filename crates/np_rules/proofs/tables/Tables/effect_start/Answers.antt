@@ -1,6 +1,7 @@
-use Rattle.std.proofs.Common.{sym, arith}
+use Rattle.std.proofs.Common.{◌≡◌, sym, ◌∙◌, ap, arith}
+use Rattle.np_machine.specs.State.{State}
 use Rattle.np_rules.specs.Fits.{RoleFits}
-use Rattle.np_rules.proofs.Each.{all-at}
+use Rattle.np_lists.proofs.Each.{all-at}
 use Rattle.np_rules.proofs.Finds.{start-room, starts-fit}
 use Rattle.np_rules.proofs.tables.Tables.effect_start.Goals as goal
 
@@ -12,5 +13,5 @@ overflow_add-kept-2 c = omega (arith, c.starts_of.ensures, starts-fit _ _ c.in-O
 
 pub add_start-requires : goal.add_start-requires
 add_start-requires c =
-    let all = rw (← c.self.view_is) at c.requires.fits.launchers in
-    λ role is. (all-at RoleFits c.self.inside.launchers.items _ role all is).starts
+    let same : c.self.inside.launchers.items ≡ c.args.self.now.launchers = ap (λ (t : State). t.launchers) (c.self.view_is ∙ c.put_node.ensures) in
+    λ role is. (all-at RoleFits c.args.self.now.launchers _ role c.requires.fits.launchers (rw same at is)).starts

@@ -1,9 +1,9 @@
 use Rattle.std.proofs.Common.{◌≡◌, ◌<◌, ◌+◌, sym, ◌∙◌, ap, refl, arith, length, add-one, Some, None, true, false, get_or}
 use Rattle.std.specs.Prelude.{slice_get}
 use Rattle.std.proofs.lemmas.Option.{slice_get_within}
-use Rattle.np_rules.specs.State.{State}
-use Rattle.np_rules.specs.Tables.{is_marked}
-use Rattle.np_rules.specs.Node.{owner_from}
+use Rattle.np_machine.specs.State.{State}
+use Rattle.np_machine.specs.Tables.{is_marked}
+use Rattle.np_machine.specs.Node.{owner_from}
 use Rattle.np_rules.proofs.OwnerLemmas.{owner-none, owner-here, owner-later}
 use Rattle.np_rules.proofs.tables.Tables.has_own.Goals as goal
 

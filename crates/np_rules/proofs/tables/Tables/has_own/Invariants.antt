@@ -1,5 +1,5 @@
 use Rattle.std.proofs.Common.{◌≡◌, ◌≤◌, drop, length}
-use Rattle.np_rules.specs.Node.{owner_from}
+use Rattle.np_machine.specs.Node.{owner_from}
 use Rattle.np_rules.proofs.tables.Tables.has_own.Given as goal
 
 abbrev pub invariant-loop-kept : goal.invariant-loop-kept

@@ -1,6 +1,6 @@
 use Rattle.std.proofs.Common.{◌≡◌, sym, arith, true}
 use Rattle.std.specs.Prelude.{not, ◌&&◌}
-use Rattle.np_rules.specs.Kinds.{is_building}
+use Rattle.np_machine.specs.Kinds.{is_building}
 use Rattle.np_rules.specs.Fits.{NodeFits}
 use Rattle.np_rules.proofs.Finds.{node-fits, starts-fit}
 use Rattle.std.proofs.lemmas.Bool.Decides.{nat_tests}

@@ -1,6 +1,6 @@
 use Rattle.std.proofs.Common.{[], List, refl}
 use Rattle.np_text.specs.declared.id.JobId.{JobId}
-use Rattle.np_rules.specs.State.{new_job, no_deeds}
+use Rattle.np_machine.specs.State.{new_job, no_deeds}
 use Rattle.np_rules.proofs.StartLemmas.{replicate-map}
 use Rattle.np_rules.proofs.tables.Tables.start.Goals as goal
 

@@ -1,5 +1,5 @@
 use Rattle.std.proofs.Common.{◌≡◌, ◌≤◌, ◌+◌, drop}
-use Rattle.np_rules.specs.Request.{unfilled}
+use Rattle.np_machine.specs.Request.{unfilled}
 use Rattle.np_rules.proofs.tables.Tables.unfilled.Given as goal
 
 abbrev pub invariant-loop-at : goal.invariant-loop-at

@@ -1,0 +1,39 @@
+-- laws of whole runs
+use Rattle.std.proofs.Common.{◌≡◌, List, [], ◌∷◌, ◌++◌, refl, ap, arith, length-append, Ok, Err}
+use Rattle.np_site.specs.Configuration.{Configuration}
+use Rattle.np_event.specs.declared.event.Event.{Event}
+use Rattle.np_event.specs.declared.entry.Entry.{Entry}
+use Rattle.np_event.specs.declared.reply.Refusal.{Refusal}
+use Rattle.np_event.specs.declared.reply.Reply.TheVariants as reply
+use Rattle.np_machine.specs.State.{State, start}
+use Rattle.np_machine.specs.Tests.{Answer}
+use Rattle.np_machine.specs.Step.{judge, next, reply_of}
+use Rattle.np_machine.specs.History.{state_after, replayed, after, Runs}
+
+pub refusal_by : (c : Configuration) (s : State) (e : Event) (why : Refusal) (a : Answer) → judge c s e ≡ a → reply_of a ≡ reply.Refused why → next c s e ≡ s
+refusal_by c s e why (Ok what) is refused = cc
+refusal_by c s e why (Err other) is refused = rw is refl
+
+pub state_after-push : (c : Configuration) (s : State) (journal : List Entry) (entry : Entry) → state_after c s (journal ++ entry ∷ []) ≡ next c (state_after c s journal) entry.event
+state_after-push c s [] entry = refl
+state_after-push c s (first ∷ journal) entry = state_after-push c (next c s first.event) journal entry
+
+pub replayed-push : (c : Configuration) (s : State) (journal : List Entry) (entry : Entry) → replayed c s (journal ++ entry ∷ []) ≡ replayed c s journal ++ record { event = entry.event; reply = reply_of (judge c (state_after c s journal) entry.event) } ∷ []
+replayed-push c s [] entry = refl
+replayed-push c s (first ∷ journal) entry = ap (λ (t : List Entry). record { event = first.event; reply = reply_of (judge c s first.event) } ∷ t) (replayed-push c (next c s first.event) journal entry)
+
+-- the replies of a journal begin with those of its prefix
+pub replayed-prefix : (c : Configuration) (s : State) (before rest : List Entry) → replayed c s (before ++ rest) ≡ before ++ rest → replayed c s before ≡ before
+replayed-prefix c s [] rest is = refl
+replayed-prefix c s (first ∷ before) rest is =
+    let head : record { event = first.event; reply = reply_of (judge c s first.event) } ≡ first = cc in
+    let tail : replayed c (next c s first.event) (before ++ rest) ≡ before ++ rest = cc in
+    let more : replayed c (next c s first.event) before ≡ before = replayed-prefix c (next c s first.event) before rest tail in
+    cc
+
+pub Runs-prefix : (c : Configuration) (before rest : List Entry) (s : State) → Runs c (before ++ rest) s → Runs c before (after c before)
+Runs-prefix c before rest s runs = record {
+  replies = replayed-prefix c (start c) before rest runs.replies;
+  ends = refl;
+  short = omega (arith, length-append before rest, runs.short);
+}

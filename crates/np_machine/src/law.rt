@@ -1,0 +1,52 @@
+//! That the definitions mean what they say: laws over every state and every journal.
+
+ghost use Rattle.std.specs.Prelude.{◌≡◌, ◌+◌, List, ◌++◌, Some, None, is_ok, true, false};
+ghost use Rattle.std.specs.Option.{option_map};
+ghost use Rattle.np_text.specs.declared.id.SessionId.{SessionId};
+ghost use Rattle.np_text.specs.declared.id.Role.{Role};
+ghost use Rattle.np_site.specs.Configuration.{Configuration};
+ghost use Rattle.np_event.specs.declared.event.Event.{Event};
+ghost use Rattle.np_event.specs.declared.reply.Refusal.{Refusal};
+ghost use Rattle.np_event.specs.declared.reply.Reply.TheVariants as reply;
+ghost use Rattle.np_event.specs.declared.entry.Entry.{Entry};
+ghost use Rattle.np_machine.specs.State.{State};
+ghost use Rattle.np_machine.specs.Tables.{role_of};
+ghost use Rattle.np_machine.specs.Step.{react, judge, next, maker_of};
+ghost use Rattle.np_machine.specs.History.{Runs, after};
+ghost use Rattle.np_machine.specs.Laws.{RisesFrom, acts_of, same_role};
+
+/// A refused event leaves the state as it was.
+pub fn a_refusal_changes_nothing()
+    ensures { (c : Configuration) (s : State) (e : Event) (why : Refusal) →
+        (react c s e).0 ≡ reply.Refused why → (react c s e).1 ≡ s }
+{}
+
+/// A journal with the machine's replies leads to one state.
+pub fn a_journal_leads_to_one_state()
+    ensures { (c : Configuration) (journal : List Entry) (s t : State) →
+        Runs c journal s → Runs c journal t → s ≡ t }
+{}
+
+/// Every prefix of a journal with the machine's replies has them too.
+pub fn a_prefix_runs_too()
+    ensures { (c : Configuration) (before rest : List Entry) (s : State) →
+        Runs c (before ++ rest) s → Runs c before (after c before) }
+{}
+
+/// The next numbers of sessions, requests and nodes never fall.
+pub fn the_next_numbers_never_fall()
+    ensures { (c : Configuration) (s : State) (e : Event) → RisesFrom s (next c s e) }
+{}
+
+/// An accepted event of a maker adds 1 to the acts of its role and to no other; any other event
+/// adds none.
+pub fn an_accepted_event_is_one_act_of_its_role()
+    ensures own { (c : Configuration) (s : State) (e : Event) (session : SessionId) (role : Role) →
+        maker_of e ≡ Some session → role_of session s ≡ Some role → is_ok (judge c s e) ≡ true →
+        acts_of role (next c s e) ≡ option_map (λ n. n + 1) (acts_of role s) }
+    ensures others { (c : Configuration) (s : State) (e : Event) (session : SessionId) (role other : Role) →
+        maker_of e ≡ Some session → role_of session s ≡ Some role → same_role other role ≡ false →
+        acts_of other (next c s e) ≡ acts_of other s }
+    ensures no_maker { (c : Configuration) (s : State) (e : Event) (role : Role) →
+        maker_of e ≡ None → acts_of role (next c s e) ≡ acts_of role s }
+{}

@@ -1,0 +1,19 @@
+//! The machine, defined: what each event is answered, and the state that it leaves.
+//!
+//! The definitions stand in `specs/`: read `State`, then `Step`, which names the row of each event,
+//! then the row itself in `Request`, `Node`, `Semaphore` or `Session`. They know lists and numbers
+//! alone: no path, no index, no room. `law` has what they say together.
+//!
+//! The code here is what the state's lists hold. What keeps a state stands in the crates above.
+#![tactic(auto)]
+
+mod law;
+mod queue;
+mod state;
+
+pub use law::{
+    a_journal_leads_to_one_state, a_prefix_runs_too, a_refusal_changes_nothing,
+    an_accepted_event_is_one_act_of_its_role, the_next_numbers_never_fall,
+};
+pub use queue::{Queue, count_ahead, holder_of, is_in};
+pub use state::{Locked, NodeEntry, Registration, RequestEntry, SessionFacts, Swept};

@@ -1,5 +1,0 @@
-use Rattle.np_rules.proofs.Runs.{Runs-prefix}
-use Rattle.np_rules.proofs.law.a_prefix_runs_too.Goals as goal
-
-pub returns : goal.returns
-returns c = Runs-prefix

@@ -1,0 +1,129 @@
+//! The orders of the machine's tables: what a row is found by, and which row stands first.
+
+ghost use Rattle.np_machine.specs.Entries.{NodeEntry, RequestEntry};
+ghost use Rattle.np_machine.specs.declared.state.Swept.{Swept};
+ghost use Rattle.np_machine.specs.Order.{is_id_before};
+ghost use Rattle.np_machine.specs.Tables.{same_request};
+ghost use Rattle.np_rules.specs.Keys.{is_node_before, is_pair_before, node_equal, node_one_way, node_some_way, node_transitive, pair_equal, pair_one_way, pair_some_way, pair_transitive, request_equal, request_one_way, request_some_way, request_transitive, same_node, same_pair};
+
+use np_machine::{NodeEntry, RequestEntry, Swept};
+use np_table::{KeyTable, Order};
+use np_text::{NodeId, RequestId};
+
+/// Nodes, by number.
+pub struct ByNode;
+
+/// Requests, by priority and then sequence, which is the byte order of their ids' texts.
+pub struct ByRequest;
+
+/// Swept pairs, by node and then server.
+pub struct BySwept;
+
+/// The requests under their locks.
+pub type RequestTable = KeyTable<ByRequest>;
+/// The swept pairs.
+pub type SweptTable = KeyTable<BySwept>;
+
+impl Order for ByNode {
+    type Key = NodeId;
+
+    type Row = NodeEntry;
+
+    ghost key = { λ row. row.id };
+
+    ghost before = { is_node_before };
+
+    ghost same = { same_node };
+
+    fn key(row: &NodeEntry) -> NodeId {
+        row.id
+    }
+
+    fn is_before(first: NodeId, second: NodeId) -> bool {
+        first.0 < second.0
+    }
+
+    fn is_same(first: NodeId, second: NodeId) -> bool {
+        first.0 == second.0
+    }
+
+    ghost transitive = { node_transitive };
+
+    ghost one_way = { node_one_way };
+
+    ghost some_way = { node_some_way };
+
+    ghost equal = { node_equal };
+}
+
+impl Order for ByRequest {
+    type Key = RequestId;
+
+    type Row = RequestEntry;
+
+    ghost key = { λ row. row.id };
+
+    ghost before = { is_id_before };
+
+    ghost same = { same_request };
+
+    fn key(row: &RequestEntry) -> RequestId {
+        row.id
+    }
+
+    fn is_before(first: RequestId, second: RequestId) -> bool {
+        if first.priority == second.priority {
+            first.seq < second.seq
+        } else {
+            first.priority < second.priority
+        }
+    }
+
+    fn is_same(first: RequestId, second: RequestId) -> bool {
+        first.priority == second.priority && first.seq == second.seq
+    }
+
+    ghost transitive = { request_transitive };
+
+    ghost one_way = { request_one_way };
+
+    ghost some_way = { request_some_way };
+
+    ghost equal = { request_equal };
+}
+
+impl Order for BySwept {
+    type Key = Swept;
+
+    type Row = Swept;
+
+    ghost key = { λ pair. pair };
+
+    ghost before = { is_pair_before };
+
+    ghost same = { same_pair };
+
+    fn key(pair: &Swept) -> Swept {
+        *pair
+    }
+
+    fn is_before(first: Swept, second: Swept) -> bool {
+        if first.node.0 == second.node.0 {
+            first.server < second.server
+        } else {
+            first.node.0 < second.node.0
+        }
+    }
+
+    fn is_same(first: Swept, second: Swept) -> bool {
+        first.node.0 == second.node.0 && first.server == second.server
+    }
+
+    ghost transitive = { pair_transitive };
+
+    ghost one_way = { pair_one_way };
+
+    ghost some_way = { pair_some_way };
+
+    ghost equal = { pair_equal };
+}
