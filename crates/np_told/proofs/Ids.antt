@@ -9,26 +9,28 @@ use Rattle.np_text.specs.declared.id.SessionId.{SessionId}
 use Rattle.np_text.specs.declared.id.NodeId.{NodeId}
 use Rattle.np_text.specs.declared.id.JobId.{JobId}
 use Rattle.np_text.specs.declared.id.RequestId.{RequestId}
-use Rattle.np_config.specs.Configuration.{Configuration}
-use Rattle.np_config.specs.Sound.{EachAfter, StandsByOwner, IsPriority, IsJob, IsSound}
-use Rattle.np_config.specs.declared.row.Job.{Job}
+use Rattle.np_site.specs.Configuration.{Configuration}
+use Rattle.np_lists.specs.EachAfter.{EachAfter}
+use Rattle.np_site.specs.Sound.{StandsByOwner, IsPriority, IsJob, IsSound}
+use Rattle.np_site.specs.declared.row.Job.{Job}
 use Rattle.np_record.specs.declared.record.RequestRecord.{RequestRecord}
 use Rattle.np_record.specs.declared.record.NodeRecord.{NodeRecord}
 use Rattle.np_record.specs.declared.record.JobRecord.{JobRecord}
 use Rattle.np_event.specs.declared.event.Event.{Event}
 use Rattle.np_event.specs.declared.event.Event.TheVariants as ev
-use Rattle.np_rules.specs.Entries.{RequestEntry, NodeEntry}
-use Rattle.np_rules.specs.State.{State, start}
-use Rattle.np_rules.specs.Tables.{change_first, session_of, same_request, is_marked, request_entry, request_in, put_request, remove_request, node_in, put_node, kept_from, all_freed, put_job}
-use Rattle.np_rules.specs.Reasons.{next_label}
-use Rattle.np_rules.specs.Tests.{launcher}
-use Rattle.np_rules.specs.Request.{registers, next_id, asked_by, submit_for, submitted, kept_ready_by, kept_ready, accept_by, accepted, decline_by, declined, fulfilled, given_back, failed}
-use Rattle.np_rules.specs.Node.{allocated, took_ready, made, create_by, create_for, created, start_by, started, reported, with_mark, node_ended, given_up, node_freed}
-use Rattle.np_rules.specs.Semaphore.{acquired, in_use, all_in_use, take_for, take_from, taken, finished, withdrawn, released}
-use Rattle.np_rules.specs.Session.{crashed, request_left, node_left, expired}
-use Rattle.np_rules.specs.Step.{effect, next}
-use Rattle.np_rules.proofs.Steps.{after_found-keeps, after_given-keeps, next-keeps}
-use Rattle.np_rules.proofs.Each.{all-push, all-find, all-remove_first, all-insert_before, all-change_first, length-change_first}
+use Rattle.np_machine.specs.Entries.{RequestEntry, NodeEntry}
+use Rattle.np_machine.specs.State.{State, start}
+use Rattle.np_lists.specs.Change.{change_first}
+use Rattle.np_machine.specs.Tables.{session_of, same_request, is_marked, request_entry, request_in, put_request, remove_request, node_in, put_node, kept_from, all_freed, put_job}
+use Rattle.np_machine.specs.Reasons.{next_label}
+use Rattle.np_machine.specs.Tests.{launcher}
+use Rattle.np_machine.specs.Request.{registers, next_id, asked_by, submit_for, submitted, kept_ready_by, kept_ready, accept_by, accepted, decline_by, declined, fulfilled, given_back, failed}
+use Rattle.np_machine.specs.Node.{allocated, took_ready, made, create_by, create_for, created, start_by, started, reported, with_mark, node_ended, given_up, node_freed}
+use Rattle.np_machine.specs.Semaphore.{acquired, in_use, all_in_use, take_for, take_from, taken, finished, withdrawn, released}
+use Rattle.np_machine.specs.Session.{crashed, request_left, node_left, expired}
+use Rattle.np_machine.specs.Step.{effect, next}
+use Rattle.np_machine.proofs.Steps.{after_found-keeps, after_given-keeps, next-keeps}
+use Rattle.np_lists.proofs.Each.{all-push, all-find, all-remove_first, all-insert_before, all-change_first, length-change_first}
 use Rattle.np_told.specs.Told.{has_digits}
 
 -- an allocation is to such a request

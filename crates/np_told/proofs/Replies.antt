@@ -14,24 +14,25 @@ use Rattle.np_text.specs.declared.id.Role.{Role}
 use Rattle.np_text.specs.declared.id.Role.TheVariants.{Launcher, Janitor, Requester, Reaper}
 use Rattle.np_text.specs.declared.word.Reason.{Reason}
 use Rattle.np_text.specs.declared.word.Reason.TheVariants as reason
-use Rattle.np_config.specs.Configuration.{Configuration}
-use Rattle.np_config.specs.Sound.{IsSound}
-use Rattle.np_config.specs.declared.row.Job.{Job}
+use Rattle.np_site.specs.Configuration.{Configuration}
+use Rattle.np_site.specs.Sound.{IsSound}
+use Rattle.np_site.specs.declared.row.Job.{Job}
 use Rattle.np_record.specs.declared.record.NodeRecord.{NodeRecord}
 use Rattle.np_event.specs.declared.event.Event.{Event}
 use Rattle.np_event.specs.declared.event.Event.TheVariants as ev
 use Rattle.np_event.specs.declared.reply.Refusal.{Refusal}
-use Rattle.np_rules.specs.Entries.{RequestEntry}
-use Rattle.np_rules.specs.State.{State}
-use Rattle.np_rules.specs.Tables.{node_in}
-use Rattle.np_rules.specs.Order.{earlier, comes_before, is_candidate, least, first_of}
-use Rattle.np_rules.specs.Tests.{Answer, ◌>>=◌, maker}
-use Rattle.np_rules.specs.Request.{judge_register, judge_submit, judge_min_ready, lock_request_as, unlock_request_as, judge_accept, judge_decline, judge_fulfil, judge_reset, judge_fail_declined, next_id}
-use Rattle.np_rules.specs.Node.{judge_take_ready, judge_create, judge_start, judge_done, judge_lock_node, judge_unlock_node, judge_end_node, judge_mark_deleting, judge_gone, judge_free_node, judge_sweep}
-use Rattle.np_rules.specs.Semaphore.{judge_acquire, judge_take, judge_finish, judge_withdraw, judge_release}
-use Rattle.np_rules.specs.Session.{judge_open, judge_crash, judge_expire}
-use Rattle.np_rules.specs.Step.{judge}
-use Rattle.np_rules.proofs.Each.{all-filter}
+use Rattle.np_machine.specs.Entries.{RequestEntry}
+use Rattle.np_machine.specs.State.{State}
+use Rattle.np_machine.specs.Tables.{node_in}
+use Rattle.np_machine.specs.Order.{earlier, comes_before, is_candidate, least, first_of}
+use Rattle.np_machine.specs.Tests.{Answer, maker}
+use Rattle.np_lists.specs.Refusals.{◌>>=◌}
+use Rattle.np_machine.specs.Request.{judge_register, judge_submit, judge_min_ready, lock_request_as, unlock_request_as, judge_accept, judge_decline, judge_fulfil, judge_reset, judge_fail_declined, next_id}
+use Rattle.np_machine.specs.Node.{judge_take_ready, judge_create, judge_start, judge_done, judge_lock_node, judge_unlock_node, judge_end_node, judge_mark_deleting, judge_gone, judge_free_node, judge_sweep}
+use Rattle.np_machine.specs.Semaphore.{judge_acquire, judge_take, judge_finish, judge_withdraw, judge_release}
+use Rattle.np_machine.specs.Session.{judge_open, judge_crash, judge_expire}
+use Rattle.np_machine.specs.Step.{judge}
+use Rattle.np_lists.proofs.Each.{all-filter}
 use Rattle.np_told.specs.Told.{has_digits, is_told_refusal, is_told_answer}
 use Rattle.np_told.proofs.Ids.{IdHasDigits, allocation_has_digits, HasIds, job-digits, node-digits}
 

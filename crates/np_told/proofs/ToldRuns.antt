@@ -1,14 +1,14 @@
 -- the replies of a run can be told
 use Rattle.std.proofs.Common.{◌≡◌, List, [], ◌∷◌, length, ap, sym, ◌∙◌, subst, true, Ok, Err}
 use Rattle.std.specs.List.{AllByRecursion}
-use Rattle.np_config.specs.Configuration.{Configuration}
-use Rattle.np_config.specs.Sound.{IsSound}
+use Rattle.np_site.specs.Configuration.{Configuration}
+use Rattle.np_site.specs.Sound.{IsSound}
 use Rattle.np_event.specs.declared.entry.Entry.{Entry}
 use Rattle.np_event.specs.Line.{HasEventLine}
-use Rattle.np_rules.specs.State.{State, start}
-use Rattle.np_rules.specs.Tests.{Answer}
-use Rattle.np_rules.specs.Step.{judge, next, reply_of}
-use Rattle.np_rules.specs.History.{state_after, replayed, Runs}
+use Rattle.np_machine.specs.State.{State, start}
+use Rattle.np_machine.specs.Tests.{Answer}
+use Rattle.np_machine.specs.Step.{judge, next, reply_of}
+use Rattle.np_machine.specs.History.{state_after, replayed, Runs}
 use Rattle.np_told.specs.Told.{is_told, is_told_answer, IsToldEntry}
 use Rattle.np_told.proofs.Ids.{HasIds, HasIds-start, HasIds-next}
 use Rattle.np_told.proofs.Replies.{judge-told}

@@ -27,3 +27,4 @@ pub mod WithdrawnEarly
 pub mod ReadyAge
 pub mod PausedPool
 pub mod EndedByTheWrongParty
+pub mod MadeUp

@@ -1,5 +1,5 @@
 -- what worked journals are written in: ids, sites and lines
-use Rattle.std.specs.Prelude.{◌≡◌, ℕ, List, [], ◌∷◌, Option, Some, None, false, codes}
+use Rattle.std.specs.Prelude.{◌≡◌, ℕ, List, [], ◌∷◌, Some, None, false, codes}
 use Rattle.np_amount.specs.declared.amount.Limit.{Limit}
 use Rattle.np_text.specs.declared.id.SessionId.{SessionId}
 use Rattle.np_text.specs.declared.id.PoolId.{PoolId}
@@ -11,21 +11,21 @@ use Rattle.np_text.specs.declared.id.RequestId.{RequestId}
 use Rattle.np_text.specs.declared.id.Role.{Role}
 use Rattle.np_text.specs.declared.id.Role.TheVariants.{Launcher, Janitor, Requester}
 use Rattle.np_text.specs.declared.word.EndAs.TheVariants as end
-use Rattle.np_config.specs.Configuration.{Configuration}
-use Rattle.np_config.specs.declared.row.Label.{Label}
-use Rattle.np_config.specs.declared.row.Provider.{Provider}
-use Rattle.np_config.specs.declared.row.Offer.{Offer}
-use Rattle.np_config.specs.declared.row.Pool.{Pool}
-use Rattle.np_config.specs.declared.row.Sem.{Sem}
-use Rattle.np_config.specs.declared.row.Job.{Job}
+use Rattle.np_site.specs.Configuration.{Configuration}
+use Rattle.np_site.specs.declared.row.Label.{Label}
+use Rattle.np_site.specs.declared.row.Provider.{Provider}
+use Rattle.np_site.specs.declared.row.Offer.{Offer}
+use Rattle.np_site.specs.declared.row.Pool.{Pool}
+use Rattle.np_site.specs.declared.row.Sem.{Sem}
+use Rattle.np_site.specs.declared.row.Job.{Job}
 use Rattle.np_event.specs.declared.event.Event.{Event}
 use Rattle.np_event.specs.declared.entry.Entry.{Entry}
 use Rattle.np_event.specs.declared.reply.Done.{Done}
 use Rattle.np_event.specs.declared.reply.Refusal.{Refusal}
 use Rattle.np_event.specs.declared.reply.Reply.TheVariants as reply
-use Rattle.np_rules.specs.State.{start}
-use Rattle.np_rules.specs.History.{replayed, after}
-use Rattle.np_rules.specs.Fates.{Fate, fates}
+use Rattle.np_machine.specs.State.{start}
+use Rattle.np_machine.specs.History.{replayed, after}
+use Rattle.np_machine.specs.Fates.{Fate, fates}
 
 -- the machine gives the journal's replies, and the jobs come to these ends
 pub record Plays (c : Configuration) (journal : List Entry) (ends : List Fate) : Type 0 where

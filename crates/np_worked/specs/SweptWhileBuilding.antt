@@ -1,15 +1,15 @@
 -- whatever server a building node may get is kept
-use Rattle.std.specs.Prelude.{ℕ, List, [], ◌∷◌, ◌++◌, take}
+use Rattle.std.specs.Prelude.{List, [], ◌∷◌, ◌++◌, take}
 use Rattle.np_text.specs.declared.word.Phase.TheVariants as phase
-use Rattle.np_config.specs.Configuration.{Configuration}
+use Rattle.np_site.specs.Configuration.{Configuration}
 use Rattle.np_event.specs.declared.event.Event.TheVariants as ev
 use Rattle.np_event.specs.declared.entry.Entry.{Entry}
 use Rattle.np_event.specs.declared.reply.Done.TheVariants as done
 use Rattle.np_event.specs.declared.reply.Refusal.TheVariants as no
 use Rattle.np_event.specs.declared.reply.Found.TheVariants as found
-use Rattle.np_rules.specs.Fates.{Fate}
-use Rattle.np_rules.specs.Fates as fate
-use Rattle.np_worked.specs.Site.{session, node, job, janitor, line, refused}
+use Rattle.np_machine.specs.Fates.{Fate}
+use Rattle.np_machine.specs.Fates as fate
+use Rattle.np_worked.specs.Site.{session, node, janitor, line, refused}
 use Rattle.np_worked.specs.PlainPath as plain
 
 -- the configuration

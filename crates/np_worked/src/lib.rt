@@ -8,8 +8,7 @@
 
 mod journal;
 mod journals;
-#[cfg(test)]
-mod tests;
+mod property;
 
 ghost use Rattle.np_worked.specs.Site.{Plays};
 ghost use Rattle.np_worked.specs.PlainPath as plain_path;
@@ -43,6 +42,11 @@ ghost use Rattle.np_worked.specs.EndedByTheWrongParty as ended_by_the_wrong_part
 
 pub use journal::Journal;
 pub use journals::{FAILURE_JOURNALS, JOB_JOURNALS, NODE_JOURNALS, REQUEST_JOURNALS};
+pub use property::{
+    a_failure_needs_its_decline, a_lost_node_is_not_kept,
+    a_request_is_held_until_its_launcher_expires, a_tick_may_not_change_a_node,
+    planned_starts_fail, the_next_in_the_queue_is_the_live_holder, two_holders_are_not_safe,
+};
 
 /// From a job's request to its fulfilled node.
 pub fn plain_path()

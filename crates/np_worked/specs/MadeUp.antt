@@ -1,0 +1,59 @@
+-- what no machine does: journals and a turn, each against one property
+use Rattle.std.specs.Prelude.{List, [], ◌∷◌, ◌++◌, Some, None, false, take}
+use Rattle.np_text.specs.declared.word.NodeState.{NodeState}
+use Rattle.np_text.specs.declared.word.NodeState.TheVariants as node_state
+use Rattle.np_text.specs.declared.word.Reason.TheVariants as reason
+use Rattle.np_event.specs.declared.event.Event.TheVariants as ev
+use Rattle.np_event.specs.declared.entry.Entry.{Entry}
+use Rattle.np_event.specs.declared.reply.Done.TheVariants as done
+use Rattle.np_event.specs.declared.reply.Refusal.TheVariants as no
+use Rattle.np_machine.specs.Entries.{NodeEntry}
+use Rattle.np_machine.specs.State.{State, start}
+use Rattle.np_machine.specs.Turns.{Turn}
+use Rattle.np_worked.specs.Site.{session, node, label, pool, request, plain_site, line, refused}
+use Rattle.np_worked.specs.PlainPath as plain
+
+-- two sessions are told that they hold the same node
+abbrev pub two_holders : List Entry
+two_holders =
+    line (ev.LockNode (session 1) (node 0)) done.Held
+    ∷ line (ev.LockNode (session 2) (node 0)) done.Held
+    ∷ []
+
+-- a node is made, and has no record afterwards
+abbrev pub lost_node : List Entry
+lost_node = line (ev.Create (session 1) (request 200 0)) (done.Node (node 0)) ∷ []
+
+-- the decline that turns the request failed is said to be refused
+abbrev pub unsaid_decline : List Entry
+unsaid_decline = take 5 plain.journal ++ refused (ev.Decline (session 1) (request 200 0) reason.NeverFits) no.FalseReason ∷ []
+
+-- a node that session 1 holds
+abbrev pub held_node : NodeState → NodeEntry
+held_node state = record {
+  id = node 0;
+  kept = record {
+    allocated_to = None;
+    attempts = 1;
+    in_flight = false;
+    label = label 0;
+    pool = pool 0;
+    server = Some 1;
+    since = 0;
+    start = 1;
+    state = state;
+  };
+  queue = session 1 ∷ [];
+}
+
+-- the machine before the first event, but for that node
+abbrev pub with_held_node : NodeState → State
+with_held_node state = record (start plain_site) { nodes = held_node state ∷ [] }
+
+-- a tick deletes a node that a session holds
+abbrev pub deleting_tick : Turn
+deleting_tick = record {
+  before = with_held_node node_state.Ready;
+  entry = line ev.Tick done.Plain;
+  later = with_held_node node_state.Deleting;
+}
