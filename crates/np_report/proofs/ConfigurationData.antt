@@ -1,5 +1,5 @@
 -- the value of a sound configuration is of whole numbers, ASCII strings and keys in order
-use Rattle.std.proofs.Common.{◌≡◌, ℕ, List, [], codes, length, true, refl, arith}
+use Rattle.std.proofs.Common.{◌≡◌, ℕ, ◌≤◌, List, [], codes, length, true, refl, arith, Option, Some, None, IfSome}
 use Rattle.std.specs.Prelude.{slice_get, ◌==◌}
 use Rattle.serde_json.specs.Data.{string, no_members, member}
 use Rattle.np_text.specs.declared.id.LabelId.{LabelId}
@@ -7,18 +7,19 @@ use Rattle.np_text.specs.declared.id.SemId.{SemId}
 use Rattle.np_text.specs.declared.id.PoolId.{PoolId}
 use Rattle.np_text.specs.declared.id.Role.{Role}
 use Rattle.np_text.specs.declared.id.Role.TheVariants as role
-use Rattle.np_config.specs.declared.row.Label.{Label}
-use Rattle.np_config.specs.declared.row.Provider.{Provider}
-use Rattle.np_config.specs.declared.row.Pool.{Pool}
-use Rattle.np_config.specs.declared.row.Offer.{Offer}
-use Rattle.np_config.specs.declared.row.Sem.{Sem}
-use Rattle.np_config.specs.declared.row.Requester.{Requester}
-use Rattle.np_config.specs.declared.row.Job.{Job}
-use Rattle.np_config.specs.declared.row.Fault.{Fault}
-use Rattle.np_config.specs.Configuration.{Configuration}
+use Rattle.np_site.specs.declared.row.Label.{Label}
+use Rattle.np_site.specs.declared.row.Provider.{Provider}
+use Rattle.np_site.specs.declared.row.Pool.{Pool}
+use Rattle.np_site.specs.declared.row.Offer.{Offer}
+use Rattle.np_site.specs.declared.row.Sem.{Sem}
+use Rattle.np_site.specs.declared.row.Requester.{Requester}
+use Rattle.np_site.specs.declared.row.Job.{Job}
+use Rattle.np_site.specs.declared.row.Fault.{Fault}
+use Rattle.np_site.specs.Configuration.{Configuration}
 use Rattle.np_config.specs.Names.{pool_name}
-use Rattle.np_config.specs.Sound.{StandsByOwner, IsSound, IsLabel, IsProvider, IsOffer, IsStart, IsPool, IsSem, IsRequester, IsWanted, IsTaken, IsJob, IsFault}
-use Rattle.np_config.specs.Canonical.{count, given, list_data, label_data, label_name, semaphore_name, full_name, offer_data, pool_data, pools_of, provider_data, semaphore_data, job_data, requester_data, role_name, fault_data, configuration_data}
+use Rattle.np_site.specs.Sound.{StandsByOwner, IsSound, IsLabel, IsProvider, IsOffer, IsStart, IsPool, IsSem, IsRequester, IsWanted, IsTaken, IsJob, IsFault}
+use Rattle.np_config.specs.Canonical.{count, given_count, list_data, label_data, label_name, semaphore_name, full_name, offer_data, pool_data, pools_of, provider_data, semaphore_data, job_data, requester_data, role_name, fault_data, configuration_data}
+use Rattle.np_lists.proofs.EachAfterLemmas.{EachAfter-from_all}
 use Rattle.np_config.proofs.Ascii.{label-ascii, semaphore-ascii, requester-ascii, pool_name-ascii}
 use Rattle.np_report.proofs.WholeData.{is_ascii, IsWhole}
 use Rattle.np_report.proofs.ConfigurationParts.{is_ascii-name, is_ascii-found, is_ascii-priority, is_ascii-end_word, is_ascii-kind_word, is_ascii-role_word, HaveWhole-given, put_all-pool_members, put_all-provider_members, AreWhole-list, AreWhole-placed, AreWhole-filter}
@@ -62,12 +63,16 @@ module _ (c : Configuration) (sound : IsSound c) where
       let is = stands.own in
       let limit = p.limit in
       let last = member (codes "name") (string p.name) no_members in
-      let third = HaveWhole-given (codes "max-servers") limit.instances last 0 1000000 refl (omega arith) is.servers (refl, is_ascii-name p.name is.name.named, tt) in
-      let second = HaveWhole-given (codes "max-ram") limit.ram (given (codes "max-servers") limit.instances last) 0 1000000000 refl (omega arith) is.ram third in
-      let first = HaveWhole-given (codes "max-cores") limit.cores (given (codes "max-ram") limit.ram (given (codes "max-servers") limit.instances last)) 0 1000000000 refl (omega arith) is.cores second in (
+      let third = HaveWhole-given (codes "max-servers") limit.instances last 1000000 refl (omega arith) is.limit.servers (refl, is_ascii-name p.name is.name.named, tt) in
+      let second = HaveWhole-given (codes "max-ram") limit.ram (given_count (codes "max-servers") limit.instances last) 1000000000 refl (omega arith) is.limit.ram third in
+      let first = HaveWhole-given (codes "max-cores") limit.cores (given_count (codes "max-ram") limit.ram (given_count (codes "max-servers") limit.instances last)) 1000000000 refl (omega arith) is.limit.cores second in (
         put_all-pool_members (list_data count p.fail_starts) (list_data (offer_data c) p.offers) (string p.name) limit.cores limit.ram limit.instances,
         (refl, AreWhole-list IsStart count IsWhole-start [] p.fail_starts is.starts, (refl, AreWhole-list (IsOffer (length c.labels)) (offer_data c) IsWhole-offer_data [] p.offers is.offers, first)),
       )
+
+  within : (o : Option ℕ) → IfSome o (λ n. (1 ≤ n) × (n ≤ 4096)) → IfSome o (λ n. n ≤ 4096)
+  within None is = tt
+  within (Some n) is = is.1
 
   IsWhole-provider_data : (e : List Provider) (k : ℕ) (p : Provider) → IsProvider e p → IsWhole (provider_data c k p)
   IsWhole-provider_data e k p is =
@@ -75,14 +80,15 @@ module _ (c : Configuration) (sound : IsSound c) where
       let pools = AreWhole-filter (StandsByOwner (λ (q : Pool). q.provider) (IsPool (length c.labels))) (pool_data c) (λ (q : Pool). q.provider == k) IsWhole-pool_data [] c.pools sound.supply.each_pool in
       let last = member (codes "name") (string p.name) (member (codes "pools") (list_data (pool_data c) (pools_of c k)) no_members) in (
         put_all-provider_members (count p.retries) (string p.name) (list_data (pool_data c) (pools_of c k)) p.concurrency,
-        (refl, omega arith, HaveWhole-given (codes "max-concurrency") p.concurrency last 1 4096 refl (omega arith) is.concurrency (refl, is_ascii-name p.name is.name.named, (refl, pools, tt))),
+        (refl, omega arith, HaveWhole-given (codes "max-concurrency") p.concurrency last 4096 refl (omega arith) (within p.concurrency is.concurrency) (refl, is_ascii-name p.name is.name.named, (refl, pools, tt))),
       )
 
   IsWhole-job_data : (e : List Job) (j : Job) → StandsByOwner (λ (i : Job). i.requester.0) (IsJob (length c.labels) (length c.semaphores)) e j → IsWhole (job_data c j)
   IsWhole-job_data e j stands =
       let is = stands.own in
       let relative = is.relative in
-      let labels = AreWhole-list (IsWanted (length c.labels)) (λ (l : LabelId). string (label_name c l)) (λ before l wanted. is_ascii-label_name l) [] j.labels is.wanted in
+      let each = EachAfter-from_all (IsWanted (length c.labels)) [] j.labels is.wanted in
+      let labels = AreWhole-list (λ (before : List LabelId) (l : LabelId). IsWanted (length c.labels) l) (λ (l : LabelId). string (label_name c l)) (λ before l wanted. is_ascii-label_name l) [] j.labels each in
       let semaphores = AreWhole-list (IsTaken (length c.semaphores)) (λ (s : SemId). string (semaphore_name c s)) (λ before s taken. is_ascii-semaphore_name s) [] j.semaphores is.taken in (
         refl,
         (
@@ -98,7 +104,7 @@ module _ (c : Configuration) (sound : IsSound c) where
       let jobs = AreWhole-filter (StandsByOwner (λ (i : Job). i.requester.0) (IsJob (length c.labels) (length c.semaphores))) (job_data c) (λ (j : Job). j.requester.0 == k) IsWhole-job_data [] c.jobs sound.demand.each_job in
       (refl, (refl, jobs, (refl, is_ascii-name q.name is.name.named, (refl, omega arith, tt))))
 
-  IsWhole-fault_data : (e : List Fault) (f : Fault) → IsFault (length c.pools) (length c.requesters) e f → IsWhole (fault_data c f)
+  IsWhole-fault_data : (e : List Fault) (f : Fault) → IsFault (length c.pools) (length c.requesters) f → IsWhole (fault_data c f)
   IsWhole-fault_data e f is =
       let most = is.after in
       (refl, (refl, omega arith, (refl, is_ascii-kind_word f.kind, (refl, is_ascii-role_name f.role, (refl, is_ascii-role_word f.role, tt)))))
@@ -106,7 +112,8 @@ module _ (c : Configuration) (sound : IsSound c) where
   pub IsWhole-configuration_data : IsWhole (configuration_data c)
   IsWhole-configuration_data =
       let most = sound.max_hold_age in
-      let faults = AreWhole-list (IsFault (length c.pools) (length c.requesters)) (fault_data c) IsWhole-fault_data [] c.faults sound.faults in
+      let each = EachAfter-from_all (IsFault (length c.pools) (length c.requesters)) [] c.faults sound.faults in
+      let faults = AreWhole-list (λ (before : List Fault) (f : Fault). IsFault (length c.pools) (length c.requesters) f) (fault_data c) IsWhole-fault_data [] c.faults each in
       let labels = AreWhole-list IsLabel label_data IsWhole-label_data [] c.labels sound.labels in
       let providers = AreWhole-placed IsProvider (provider_data c) IsWhole-provider_data 0 [] c.providers sound.supply.each_provider in
       let requesters = AreWhole-placed IsRequester (requester_data c) IsWhole-requester_data 0 [] c.requesters sound.demand.each_requester in

@@ -12,10 +12,12 @@ use Rattle.np_text.specs.declared.id.Role.{Role}
 use Rattle.np_text.specs.declared.id.Role.TheVariants as role
 use Rattle.np_text.specs.declared.word.EndAs.{EndAs}
 use Rattle.np_text.specs.declared.word.EndAs.TheVariants.{Used, Hold}
-use Rattle.np_config.specs.declared.row.FaultKind.{FaultKind}
-use Rattle.np_config.specs.declared.row.FaultKind.TheVariants.{Expire, Crash, Stop}
-use Rattle.np_config.specs.Sound.{EachAfter}
-use Rattle.np_config.specs.Canonical.{given, placed, end_word, kind_word, role_word}
+use Rattle.np_site.specs.declared.row.FaultKind.{FaultKind}
+use Rattle.np_site.specs.declared.row.FaultKind.TheVariants.{Expire, Crash, Stop}
+use Rattle.np_lists.specs.EachAfter.{EachAfter}
+use Rattle.np_text.specs.Word.{end_as_word}
+use Rattle.np_site.specs.Word.{fault_kind_word}
+use Rattle.np_config.specs.Canonical.{given_count, placed, role_word}
 use Rattle.np_report.proofs.WholeData.{is_ascii, put_all, IsWhole, AreWhole, HaveWhole}
 
 -- ## strings
@@ -40,11 +42,11 @@ is_ascii-priority true b = refl
 is_ascii-priority false true = refl
 is_ascii-priority false false = refl
 
-pub is_ascii-end_word : (e : EndAs) → is_ascii (end_word e) ≡ true
+pub is_ascii-end_word : (e : EndAs) → is_ascii (end_as_word e) ≡ true
 is_ascii-end_word Used = refl
 is_ascii-end_word Hold = refl
 
-pub is_ascii-kind_word : (k : FaultKind) → is_ascii (kind_word k) ≡ true
+pub is_ascii-kind_word : (k : FaultKind) → is_ascii (fault_kind_word k) ≡ true
 is_ascii-kind_word Expire = refl
 is_ascii-kind_word Crash = refl
 is_ascii-kind_word Stop = refl
@@ -57,13 +59,13 @@ is_ascii-role_word role.Reaper = refl
 
 -- ## members that may be absent
 
-pub HaveWhole-given : (key : List ℕ) (o : Option ℕ) (ms : Members) (least most : ℕ) → is_ascii key ≡ true → most < 2 ^ 64 → IfSome o (λ n. (least ≤ n) × (n ≤ most)) → HaveWhole ms → HaveWhole (given key o ms)
-HaveWhole-given key None ms least most ascii fits is rest = rest
-HaveWhole-given key (Some n) ms least most ascii fits is rest = let within = is.1 in (ascii, omega arith, rest)
+pub HaveWhole-given : (key : List ℕ) (o : Option ℕ) (ms : Members) (most : ℕ) → is_ascii key ≡ true → most < 2 ^ 64 → IfSome o (λ n. n ≤ most) → HaveWhole ms → HaveWhole (given_count key o ms)
+HaveWhole-given key None ms most ascii fits is rest = rest
+HaveWhole-given key (Some n) ms most ascii fits is rest = (ascii, omega arith, rest)
 
 abbrev pool_members : Data → Data → Data → Option ℕ → Option ℕ → Option ℕ → Members
 pool_members starts offers name cores ram servers =
-    member (codes "fail-starts") starts (member (codes "labels") offers (given (codes "max-cores") cores (given (codes "max-ram") ram (given (codes "max-servers") servers (member (codes "name") name no_members)))))
+    member (codes "fail-starts") starts (member (codes "labels") offers (given_count (codes "max-cores") cores (given_count (codes "max-ram") ram (given_count (codes "max-servers") servers (member (codes "name") name no_members)))))
 
 pub put_all-pool_members : (starts offers name : Data) (cores ram servers : Option ℕ) → put_all no_members (pool_members starts offers name cores ram servers) ≡ pool_members starts offers name cores ram servers
 put_all-pool_members starts offers name None None None = refl
@@ -76,7 +78,7 @@ put_all-pool_members starts offers name (Some x) (Some y) None = refl
 put_all-pool_members starts offers name (Some x) (Some y) (Some z) = refl
 
 abbrev provider_members : Data → Data → Data → Option ℕ → Members
-provider_members retries name pools concurrency = member (codes "launch-retries") retries (given (codes "max-concurrency") concurrency (member (codes "name") name (member (codes "pools") pools no_members)))
+provider_members retries name pools concurrency = member (codes "launch-retries") retries (given_count (codes "max-concurrency") concurrency (member (codes "name") name (member (codes "pools") pools no_members)))
 
 pub put_all-provider_members : (retries name pools : Data) (concurrency : Option ℕ) → put_all no_members (provider_members retries name pools concurrency) ≡ provider_members retries name pools concurrency
 put_all-provider_members retries name pools None = refl

@@ -3,11 +3,11 @@ use Rattle.std.proofs.Common.{◌≡◌, ℕ, zero, suc, ◌+◌, List, [], ◌�
 use Rattle.std.specs.Prelude.{slice_get}
 use Rattle.std.specs.Option.{option_map_or}
 use Rattle.np_text.specs.Lines.{line}
-use Rattle.np_config.specs.Configuration.{Configuration}
-use Rattle.np_config.specs.declared.row.Job.{Job}
+use Rattle.np_site.specs.Configuration.{Configuration}
+use Rattle.np_site.specs.declared.row.Job.{Job}
 use Rattle.np_record.specs.declared.record.JobRecord.{JobRecord}
-use Rattle.np_rules.specs.Fates.{fate_of}
-use Rattle.np_rules.specs.State.{State}
+use Rattle.np_machine.specs.Fates.{fate_of}
+use Rattle.np_machine.specs.State.{State}
 use Rattle.np_report.specs.Text.{job_text, fate_text, fate_lines}
 
 -- the lines of these jobs with these records

@@ -7,18 +7,18 @@ use Rattle.np_text.specs.Lines.{is_line, line, lines_of}
 use Rattle.np_text.specs.Sections.{bar, has_bar, sections_of}
 use Rattle.np_text.proofs.LineLemmas.{lines_of-lines}
 use Rattle.np_text.proofs.SectionLemmas.{sections_of-bar}
-use Rattle.np_config.specs.Configuration.{Configuration}
+use Rattle.np_site.specs.Configuration.{Configuration}
 use Rattle.np_config.specs.Canonical.{configuration_data, canonical}
-use Rattle.np_config.specs.Sound.{IsSound}
+use Rattle.np_site.specs.Sound.{IsSound}
 use Rattle.np_config.specs.Walk.{reads}
 use Rattle.np_event.specs.declared.event.Event.{Event}
 use Rattle.np_event.specs.declared.entry.Entry.{Entry}
 use Rattle.np_event.specs.Line.{HasEntryLine, entry_line}
 use Rattle.np_event.proofs.EntryLemmas.{is_line-entry, entry_line-no_bar, entry_line-injective}
-use Rattle.np_rules.specs.State.{State, start}
-use Rattle.np_rules.specs.Step.{judge, next, reply_of}
-use Rattle.np_rules.specs.Fates.{fates}
-use Rattle.np_rules.specs.History.{replayed, after, Runs}
+use Rattle.np_machine.specs.State.{State, start}
+use Rattle.np_machine.specs.Step.{judge, next, reply_of}
+use Rattle.np_machine.specs.Fates.{fates}
+use Rattle.np_machine.specs.History.{replayed, after, Runs}
 use Rattle.np_report.specs.Text.{entry_lines, fate_lines, text_of}
 use Rattle.np_report.proofs.Compact.{is_line-compact_text}
 use Rattle.np_report.proofs.OwnText.{reads-canonical}

@@ -1,8 +1,8 @@
 -- the text of a sound configuration is read as that configuration
 use Rattle.std.proofs.Common.{◌≡◌, Ok}
-use Rattle.np_config.specs.Configuration.{Configuration}
+use Rattle.np_site.specs.Configuration.{Configuration}
 use Rattle.np_config.specs.Canonical.{configuration_data, canonical}
-use Rattle.np_config.specs.Sound.{IsSound}
+use Rattle.np_site.specs.Sound.{IsSound}
 use Rattle.np_config.specs.Walk.{reads}
 use Rattle.np_config.proofs.AgainWhole.{reads-again}
 use Rattle.np_config.proofs.Shapes.{configuration-depth}

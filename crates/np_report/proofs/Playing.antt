@@ -3,15 +3,15 @@ use Rattle.std.proofs.Common.{◌≡◌, ℕ, suc, ◌+◌, ◌<◌, ◌≤◌, 
 use Rattle.std.specs.List.{AllByRecursion}
 use Rattle.std.proofs.lemmas.Bool.Decides.{nat_tests}
 use Rattle.std.proofs.lemmas.List.{take_more}
-use Rattle.np_config.specs.Configuration.{Configuration}
+use Rattle.np_site.specs.Configuration.{Configuration}
 use Rattle.np_event.specs.declared.entry.Entry.{Entry}
 use Rattle.np_event.specs.declared.event.Event.{Event}
 use Rattle.np_event.specs.Line.{HasEventLine}
-use Rattle.np_rules.specs.State.{State, start}
-use Rattle.np_rules.specs.Step.{judge, next, reply_of}
-use Rattle.np_rules.specs.History.{state_after, after}
+use Rattle.np_machine.specs.State.{State, start}
+use Rattle.np_machine.specs.Step.{judge, next, reply_of}
+use Rattle.np_machine.specs.History.{state_after, after}
 use Rattle.np_rules.specs.Ran.{Ran, applied, has_room}
-use Rattle.np_rules.proofs.Runs.{state_after-push}
+use Rattle.np_machine.proofs.Runs.{state_after-push}
 use Rattle.np_report.specs.Played.{played_from, played, ran}
 
 pub length-played_from : (c : Configuration) (s : State) (events : List Event) → length (played_from c s events) ≡ length events

@@ -3,7 +3,7 @@ use Rattle.std.specs.Prelude.{◌≡◌, ℕ, ◌+◌, nat_lt, if◌then◌else�
 use Rattle.np_text.specs.Lines.{lines_of}
 use Rattle.np_text.specs.Sections.{sections_of}
 use Rattle.np_json.specs.declared.fault.ConfigFault.{ConfigFault}
-use Rattle.np_config.specs.Configuration.{Configuration}
+use Rattle.np_site.specs.Configuration.{Configuration}
 use Rattle.np_config.specs.Walk.{reads}
 use Rattle.np_event.specs.declared.event.Event.{Event}
 use Rattle.np_event.specs.declared.fault.LineFault.{LineFault}

@@ -4,36 +4,22 @@ use Rattle.std.specs.List.{flat_map}
 use Rattle.std.specs.Option.{option_map_or}
 use Rattle.np_text.specs.declared.id.PoolId.{PoolId}
 use Rattle.np_text.specs.declared.id.NodeId.{NodeId}
-use Rattle.np_text.specs.declared.word.Phase.{Phase}
-use Rattle.np_text.specs.declared.word.Phase.TheVariants as phase
-use Rattle.np_text.specs.declared.word.Reason.{Reason}
-use Rattle.np_text.specs.declared.word.Reason.TheVariants as reason
+use Rattle.np_text.specs.Word.{phase_word, reason_text_of}
 use Rattle.np_text.specs.Lines.{line}
 use Rattle.np_text.specs.Sections.{bar}
-use Rattle.np_config.specs.Configuration.{Configuration}
+use Rattle.np_site.specs.Configuration.{Configuration}
 use Rattle.np_config.specs.Canonical.{canonical}
-use Rattle.np_config.specs.declared.row.Job.{Job}
+use Rattle.np_site.specs.declared.row.Job.{Job}
 use Rattle.np_record.specs.declared.record.Declined.{Declined}
 use Rattle.np_event.specs.declared.entry.Entry.{Entry}
 use Rattle.np_event.specs.Line.{entry_line}
-use Rattle.np_rules.specs.History.{after}
-use Rattle.np_rules.specs.Fates.{Fate, fates}
-use Rattle.np_rules.specs.Fates as fate
-
-abbrev pub phase_text : Phase → List ℕ
-phase_text phase.New = codes "new"
-phase_text phase.Asked = codes "asked"
-phase_text phase.Using = codes "using"
-phase_text phase.Over = codes "over"
-
-abbrev pub reason_text : Reason → List ℕ
-reason_text (reason.NoLabel l) = codes "no-label-l" ++ decimal l.0
-reason_text reason.NeverFits = codes "never-fits"
-reason_text (reason.Spent n) = codes "spent-n" ++ decimal n.0
+use Rattle.np_machine.specs.History.{after}
+use Rattle.np_machine.specs.Fates.{Fate, fates}
+use Rattle.np_machine.specs.Fates as fate
 
 -- a pool's decline, after a space
 abbrev pub decline_text : Declined → List ℕ
-decline_text d = codes " p" ++ decimal d.pool.0 ++ codes ":" ++ reason_text d.reason
+decline_text d = codes " p" ++ decimal d.pool.0 ++ codes ":" ++ reason_text_of d.reason
 
 -- a node, after a space
 abbrev pub node_text : NodeId → List ℕ
@@ -49,7 +35,7 @@ fate_text (fate.served p nodes) = codes "served" ++ pool_text p ++ flat_map node
 fate_text (fate.failed declined) = codes "failed" ++ flat_map decline_text declined
 fate_text fate.lost = codes "lost"
 fate_text fate.withdrawn = codes "withdrawn"
-fate_text (fate.waiting p) = codes "waiting " ++ phase_text p
+fate_text (fate.waiting p) = codes "waiting " ++ phase_word p
 
 -- the name of the job's requester
 abbrev pub requester_name : Configuration → Job → List ℕ

@@ -1,7 +1,7 @@
 //! How many jobs came to which end.
 
 ghost use Rattle.std.specs.Prelude.{◌≡◌, ◌≤◌, ◌++◌, codes, length, count_by, if◌then◌else◌, OnOk, IfOk};
-ghost use Rattle.np_rules.specs.Fates.{fates, fate_of};
+ghost use Rattle.np_machine.specs.Fates.{fates, fate_of};
 ghost use Rattle.np_report.specs.Summary.{is_end, summary_of, count_line};
 
 use np_record::JobRecord;
@@ -81,7 +81,7 @@ pub fn summary<L: Look>(alloc: Global, look: &L) -> Result<Vec<u8>, NoMemory>
     requires jobs { length (L.state look.now).jobs ≡ length (L.site look.now).jobs }
     ensures { IfOk result (λ text. text.items ≡ summary_of (fates (L.state look.now))) }
 {
-    let _age = look.config().max_hold_age();
+    look.config().soundness();
     let mut out = Vec::new(alloc);
     put_count(&mut out, b"jobs", count_jobs(look))?;
     put_count(&mut out, b"served", count_ends(look, End::Served))?;

@@ -2,42 +2,12 @@
 
 ghost use Rattle.std.specs.Prelude.{◌≡◌, ◌++◌, map, OnOk};
 ghost use Rattle.std.specs.List.{flat_map};
-ghost use Rattle.np_rules.specs.Fates.{declines_of, fate_of};
-ghost use Rattle.np_report.specs.Text.{decline_text, fate_text, node_text, phase_text, pool_text, reason_text};
+ghost use Rattle.np_machine.specs.Fates.{declines_of, fate_of};
+ghost use Rattle.np_report.specs.Text.{decline_text, fate_text, node_text, pool_text};
 
 use np_record::{Declined, JobRecord, Marked};
 use np_rules::Look;
-use np_text::{Ending, NoMemory, Phase, PoolId, Reason, put_number};
-
-fn phase_name(phase: Phase) -> &'static [u8]
-    ensures { result.now ≡ phase_text phase }
-{
-    match phase {
-        Phase::New => b"new",
-        Phase::Asked => b"asked",
-        Phase::Using => b"using",
-        Phase::Over => b"over",
-    }
-}
-
-fn put_reason(out: &mut Vec<u8>, reason: Reason) -> Result<(), NoMemory>
-    ensures { OnOk result (out.new.items ≡ out.old.items ++ reason_text reason) }
-{
-    match reason {
-        Reason::NoLabel(label) => {
-            out.extend_from_slice(b"no-label-l")?;
-            put_number(out, u64::from(label.0))
-        }
-        Reason::NeverFits => {
-            out.extend_from_slice(b"never-fits")?;
-            Ok(())
-        }
-        Reason::Spent(node) => {
-            out.extend_from_slice(b"spent-n")?;
-            put_number(out, u64::from(node.0))
-        }
-    }
-}
+use np_text::{Ending, NoMemory, PoolId, put_number, put_reason};
 
 fn put_decline(out: &mut Vec<u8>, declined: Declined) -> Result<(), NoMemory>
     ensures { OnOk result (out.new.items ≡ out.old.items ++ decline_text declined) }
@@ -118,7 +88,7 @@ pub(crate) fn put_fate<L: Look>(
         }
         None => {
             out.extend_from_slice(b"waiting ")?;
-            out.extend_from_slice(phase_name(job.phase))?;
+            out.extend_from_slice(job.phase.word().as_bytes())?;
             Ok(())
         }
     }

@@ -2,12 +2,12 @@
 
 ghost use Rattle.std.specs.Prelude.{◌≡◌, List};
 ghost use Rattle.std.specs.List.{AllByRecursion};
-ghost use Rattle.np_config.specs.Configuration.{Configuration};
-ghost use Rattle.np_config.specs.Sound.{IsSound};
+ghost use Rattle.np_site.specs.Configuration.{Configuration};
+ghost use Rattle.np_site.specs.Sound.{IsSound};
 ghost use Rattle.np_event.specs.declared.entry.Entry.{Entry};
 ghost use Rattle.np_event.specs.Line.{HasEntryLine};
-ghost use Rattle.np_rules.specs.State.{State};
-ghost use Rattle.np_rules.specs.History.{Runs};
+ghost use Rattle.np_machine.specs.State.{State};
+ghost use Rattle.np_machine.specs.History.{Runs};
 ghost use Rattle.np_report.specs.Text.{text_of};
 
 /// A Text tells its run: two sound configurations, as each `Config` is, and two runs whose entries

@@ -3,7 +3,7 @@
 ghost use Rattle.std.specs.Prelude.{◌≡◌, ◌≤◌, length, IfOk};
 ghost use Rattle.std.specs.List.{AllByRecursion};
 ghost use Rattle.np_event.specs.Line.{HasEventLine};
-ghost use Rattle.np_rules.specs.History.{Runs};
+ghost use Rattle.np_machine.specs.History.{Runs};
 ghost use Rattle.np_report.specs.Played.{played, ran};
 
 use crate::script::Script;

@@ -4,15 +4,16 @@ ghost use Rattle.std.specs.Prelude.{◌≡◌, ◌+◌, ◌≤◌, ◌++◌, ◌
 ghost use Rattle.std.specs.List.{AllByRecursion};
 ghost use Rattle.np_text.specs.Lines.{line};
 ghost use Rattle.np_event.specs.Line.{HasEventLine, entry_line};
-ghost use Rattle.np_rules.specs.Fates.{fates};
-ghost use Rattle.np_rules.specs.History.{Runs};
+ghost use Rattle.np_machine.specs.Fates.{fates};
+ghost use Rattle.np_machine.specs.History.{Runs};
 ghost use Rattle.np_told.specs.Told.{IsToldEntry};
 ghost use Rattle.np_report.specs.Text.{text_of, job_text, entry_lines, fate_lines};
 
 use crate::fate::put_fate;
-use np_config::{Config, Job};
+use np_config::Config;
 use np_event::{Entry, put_entry};
 use np_rules::Look;
+use np_site::Job;
 use np_text::{JobId, NoMemory, put_number};
 use std::alloc::Global;
 
@@ -55,7 +56,7 @@ fn put_fates<L: Look>(out: &mut Vec<u8>, look: &L) -> Result<(), NoMemory>
     ensures { OnOk result (out.new.items ≡ out.old.items ++ fate_lines (L.site look.now) 0 (L.site look.now).jobs (fates (L.state look.now))) }
 {
     let config = look.config();
-    let _age = config.max_hold_age();
+    config.soundness();
     let mut at = 0;
     while let Some(job) = config.job(JobId(at)) {
         let Some(kept) = look.job(JobId(at)) else {
@@ -79,7 +80,7 @@ pub fn text<L: Look>(alloc: Global, look: &L, journal: &[Entry]) -> Result<Vec<u
     ensures { IfOk result (λ text. text.items ≡ text_of (L.site look.now) journal.now) }
 {
     let config = look.config();
-    let _age = config.max_hold_age();
+    config.soundness();
     let mut out = config.to_json(alloc)?;
     out.extend_from_slice(b"\n%%\n")?;
     put_entries(&mut out, journal)?;

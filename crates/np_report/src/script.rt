@@ -7,9 +7,10 @@ ghost use Rattle.np_config.specs.Walk.{reads};
 ghost use Rattle.np_event.specs.Line.{HasEventLine};
 ghost use Rattle.np_report.specs.Script.{script_of, events_from, problem_of, Tells, Reads};
 
-use np_config::{Config, Items};
+use np_config::Config;
 use np_event::{Event, LineFault, read_event};
 use np_json::{ConfigFault, ConfigRead};
+use np_lists::Items;
 use np_text::{JOURNAL_ENTRIES, line_at, split_sections};
 use std::alloc::{AllocFailed, Global};
 

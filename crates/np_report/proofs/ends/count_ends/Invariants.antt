@@ -1,5 +1,5 @@
 use Rattle.std.proofs.Common.{◌≡◌, ◌≤◌, ◌-◌, ◌+◌, length, drop, map, count_by}
-use Rattle.np_rules.specs.Fates.{fate_of}
+use Rattle.np_machine.specs.Fates.{fate_of}
 use Rattle.np_report.specs.Summary.{is_end}
 use Rattle.np_report.proofs.ends.count_ends.Given as goal
 

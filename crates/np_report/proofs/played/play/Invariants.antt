@@ -1,5 +1,5 @@
 use Rattle.std.proofs.Common.{◌≡◌, take}
-use Rattle.np_rules.specs.History.{Runs}
+use Rattle.np_machine.specs.History.{Runs}
 use Rattle.np_report.specs.Played.{ran}
 use Rattle.np_report.proofs.played.play.Given as goal
 

@@ -2,7 +2,7 @@ use Rattle.std.proofs.Common.{◌≡◌, ◌<◌, ◌+◌, ◌++◌, ◌∙◌, 
 use Rattle.std.specs.Prelude.{slice_get}
 use Rattle.std.specs.Option.{option_copied}
 use Rattle.std.proofs.lemmas.Option.{slice_get_within}
-use Rattle.np_config.specs.Configuration.{Configuration}
+use Rattle.np_site.specs.Configuration.{Configuration}
 use Rattle.np_report.proofs.FateLines.{lines_from, lines_from-put, lines_from-end, lines_from-short}
 use Rattle.np_report.proofs.print.put_fates.Goals as goal
 

@@ -1,9 +1,9 @@
 use Rattle.std.proofs.Common.{subst}
-use Rattle.np_config.specs.Sound.{IsSound}
+use Rattle.np_site.specs.Sound.{IsSound}
 use Rattle.np_told.proofs.ToldRuns.{told-Runs}
 use Rattle.np_report.proofs.print.text.Goals as goal
 
 pub put_entries-requires : goal.put_entries-requires
 put_entries-requires g c =
     told-Runs (g.L.Look.site c.args.look.now) c.args.journal.now (g.L.Look.state c.args.look.now)
-    (subst IsSound c.config-config.ensures c.max_hold_age-age.ensures.sound) c.requires.runs c.requires.lines
+    (subst IsSound c.config-config.ensures c.soundness.ensures) c.requires.runs c.requires.lines

@@ -6,7 +6,7 @@ use Rattle.np_text.proofs.LineLemmas.{lines_of-walk}
 use Rattle.np_event.specs.declared.event.Event.{Event}
 use Rattle.np_event.specs.Line.{HasEventLine, event_in}
 use Rattle.np_event.specs.Words.{words_of}
-use Rattle.np_rules.proofs.Each.{all-push}
+use Rattle.np_lists.proofs.Each.{all-push}
 use Rattle.np_report.specs.Script.{problem_of, events_from}
 use Rattle.np_report.proofs.Reading.{read_before, events_from-read, events_from-fault, events_from-many}
 use Rattle.np_report.proofs.script.read_events.Goals as goal
