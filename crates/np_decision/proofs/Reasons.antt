@@ -1,0 +1,43 @@
+-- a decline that finds the request in another state
+use Rattle.std.proofs.Common.{◌≡◌, refl, sym, ap, ◌∙◌, Option, Some, None, Ok, Err}
+use Rattle.np_text.specs.declared.id.SessionId.{SessionId}
+use Rattle.np_text.specs.declared.id.PoolId.{PoolId}
+use Rattle.np_text.specs.declared.id.RequestId.{RequestId}
+use Rattle.np_text.specs.declared.word.Reason.{Reason}
+use Rattle.np_text.specs.declared.word.Reason.TheVariants.{NoLabel, NeverFits, Spent}
+use Rattle.np_record.specs.declared.record.RequestRecord.{RequestRecord}
+use Rattle.np_event.specs.declared.reply.Refusal.{Refusal}
+use Rattle.np_event.specs.declared.reply.Refusal.TheVariants as no
+use Rattle.np_lists.specs.Refusals.{found}
+use Rattle.np_site.specs.Configuration.{Configuration}
+use Rattle.np_machine.specs.State.{State}
+use Rattle.np_machine.specs.Tables.{request_in}
+use Rattle.np_machine.specs.Tests.{launcher, request_at, by_registrant, by_request_holder}
+use Rattle.np_machine.specs.Request.{in_state_for, judge_decline}
+use Rattle.np_decision.specs.declared.asked.Asked.{Asked}
+use Rattle.np_decision.specs.Views.{asked_of, new_record}
+use Rattle.np_decision.specs.Verdicts.{without_declines}
+
+-- a reason asks nothing of a request's declines
+in_state_for-asked : (p : PoolId) (k : RequestRecord) (why : Reason) → in_state_for p (new_record (asked_of k)) why ≡ in_state_for p k why
+in_state_for-asked p k (NoLabel l) = refl
+in_state_for-asked p k NeverFits = refl
+in_state_for-asked p k (Spent n) = refl
+
+asked_by : (o : Option RequestRecord) (k : RequestRecord) (asked : Asked) → o ≡ Some k → Ok asked ≡ without_declines (found o no.NoRequest) → asked_of k ≡ asked
+asked_by None k asked has is = absurd cc
+asked_by (Some other) k asked has is = let same : other ≡ k = cc in rw (← same) cc
+
+there_by : (o : Option RequestRecord) (asked : Asked) → Ok asked ≡ without_declines (found o no.NoRequest) → o ≡ None → ⊥
+there_by None asked is has = cc
+there_by (Some k) asked is has = cc
+
+state_by : (c : Configuration) (s : State) (session : SessionId) (r : RequestId) (why : Reason) (p : PoolId) (asked : Asked) (refusal : Refusal) (o : Option RequestRecord) → request_in r s.requests ≡ o → Ok p ≡ launcher s session → Ok asked ≡ without_declines (request_at s r) → Ok tt ≡ by_registrant s p session → Ok tt ≡ by_request_holder s r session → Err refusal ≡ in_state_for p (new_record asked) why → judge_decline c s session r why ≡ Err refusal
+state_by c s session r why p asked refusal None has who is registrant holder state = absurd (there_by (request_in r s.requests) asked is has)
+state_by c s session r why p asked refusal (Some k) has who is registrant holder state =
+    let same : asked_of k ≡ asked = asked_by (request_in r s.requests) k asked has is in
+    let refused : in_state_for p k why ≡ Err refusal = sym (in_state_for-asked p k why) ∙ ap (λ (a : Asked). in_state_for p (new_record a) why) same ∙ sym state in
+    rw (← who, has, ← registrant, ← holder, refused) refl
+
+pub decline-state : (c : Configuration) (s : State) (session : SessionId) (r : RequestId) (why : Reason) (p : PoolId) (asked : Asked) (refusal : Refusal) → Ok p ≡ launcher s session → Ok asked ≡ without_declines (request_at s r) → Ok tt ≡ by_registrant s p session → Ok tt ≡ by_request_holder s r session → Err refusal ≡ in_state_for p (new_record asked) why → judge_decline c s session r why ≡ Err refusal
+decline-state c s session r why p asked refusal who found registrant holder state = state_by c s session r why p asked refusal (request_in r s.requests) refl who found registrant holder state

@@ -1,0 +1,16 @@
+-- the places of a request, one by one
+use Rattle.std.specs.Prelude.{ℕ, List, Option, Some, None, if◌then◌else◌}
+use Rattle.np_text.specs.declared.id.SessionId.{SessionId}
+use Rattle.np_text.specs.declared.id.PoolId.{PoolId}
+use Rattle.np_text.specs.declared.id.LabelId.{LabelId}
+use Rattle.np_text.specs.declared.id.NodeId.{NodeId}
+use Rattle.np_text.specs.declared.id.RequestId.{RequestId}
+use Rattle.np_machine.specs.Entries.{NodeEntry}
+use Rattle.np_machine.specs.Tables.{node_entry}
+use Rattle.np_machine.specs.Request.{is_filled}
+
+-- 1 where there is a label and no node as fulfil wants it
+abbrev pub lack_at : PoolId → SessionId → RequestId → List NodeEntry → Option LabelId → Option NodeId → ℕ
+lack_at p session r nodes None number = 0
+lack_at p session r nodes (Some l) None = 1
+lack_at p session r nodes (Some l) (Some n) = if is_filled p session r l (node_entry n nodes) then 0 else 1

@@ -1,0 +1,50 @@
+//! What keeps a state, and one step of it.
+
+ghost use Rattle.std.specs.Prelude.{◌≡◌, OnOk, OnErr, IfOk};
+ghost use Rattle.np_machine.specs.Step.{judge, next, reply_of};
+ghost use Rattle.np_decision.specs.Changes.{changed};
+ghost use Rattle.np_decision.specs.Fits.{Fits};
+ghost use Rattle.np_decision.specs.Verdicts.{IsReached, IsPlanned};
+
+use crate::changes::Changes;
+use crate::decision::decide;
+use crate::look::Look;
+use np_event::{Event, Reply};
+use std::alloc::AllocError;
+
+/// Keeps a state.
+pub trait StateKeeper: Look {
+    /// The changes of an accepted event happen. Where memory is wanted, nothing changes.
+    fn change(&mut self, changes: &Changes) -> Result<(), AllocError>
+        // A run of the configuration reaches the state, whose numbers leave room.
+        requires reached { IsReached (Self.site self.old) (Self.state self.old) }
+        requires fits { Fits (Self.site self.old) (Self.state self.old) }
+        requires planned { IsPlanned (Self.site self.old) (Self.state self.old) changes.now }
+        ensures site { Self.site self.new ≡ Self.site self.old }
+        ensures recorded { Self.recorded self.new ≡ Self.recorded self.old }
+        ensures ok { OnOk result (Self.state self.new ≡
+            changed (Self.site self.old) changes.now (Self.state self.old)) }
+        ensures err { OnErr result (Self.state self.new ≡ Self.state self.old) };
+}
+
+/// One step of the machine, whatever keeps the state: the event's reply, and where it is accepted
+/// its changes. Where memory is wanted, nothing changes.
+pub fn step<K: StateKeeper>(keeper: &mut K, event: Event) -> Result<Reply, AllocError>
+    requires reached { IsReached (K.site keeper.old) (K.state keeper.old) }
+    requires fits { Fits (K.site keeper.old) (K.state keeper.old) }
+    ensures site { K.site keeper.new ≡ K.site keeper.old }
+    ensures recorded { K.recorded keeper.new ≡ K.recorded keeper.old }
+    ensures reply { IfOk result (λ r. r ≡
+        reply_of (judge (K.site keeper.old) (K.state keeper.old) event)) }
+    ensures ok { OnOk result (K.state keeper.new ≡
+        next (K.site keeper.old) (K.state keeper.old) event) }
+    ensures err { OnErr result (K.state keeper.new ≡ K.state keeper.old) }
+{
+    match decide(keeper, event) {
+        Err(refusal) => Ok(Reply::Refused(refusal)),
+        Ok(verdict) => {
+            keeper.change(&verdict.changes)?;
+            Ok(Reply::Done(verdict.done))
+        }
+    }
+}

@@ -1,0 +1,46 @@
+//! The decision: what each event is answered and what it changes, once for every representation of
+//! the state.
+//!
+//! A representation says what can be read of its state (`Look`). The rows, one function for each
+//! event, answer a refusal or a `Verdict`: what the event is answered, and its `Changes` as data.
+//! `specs/Plan` names the changes of each event, `specs/Changes` says what a change does to the
+//! state, and the law in `law` that both together are the machine's step. What keeps a state makes
+//! the changes (`StateKeeper`), and `step` is one step of the machine over it.
+#![tactic(auto)]
+
+mod asked;
+mod changes;
+mod count;
+mod decision;
+mod keeper;
+mod law;
+mod look;
+mod node;
+mod request;
+mod semaphore;
+mod session;
+mod tests;
+mod verdict;
+mod walk;
+
+pub use asked::{Asked, NodeView, RequestView};
+pub use changes::{
+    Changes, Deed, Growth, HandlesChange, JobsChange, Maker, NodesChange, RequestEdit,
+    RequestsChange, SessionsChange,
+};
+pub use count::offers;
+pub use decision::decide;
+pub use keeper::{StateKeeper, step};
+pub use law::an_accepted_event_changes_what_is_planned;
+pub use look::Look;
+pub use node::{
+    decide_create, decide_done, decide_end_node, decide_free_node, decide_gone, decide_lock_node,
+    decide_mark_deleting, decide_start, decide_sweep, decide_take_ready, decide_unlock_node,
+};
+pub use request::{
+    decide_accept, decide_decline, decide_fail_declined, decide_fulfil, decide_lock_request,
+    decide_min_ready, decide_register, decide_reset, decide_submit, decide_unlock_request,
+};
+pub use semaphore::{decide_acquire, decide_finish, decide_release, decide_take, decide_withdraw};
+pub use session::{decide_crash, decide_expire, decide_open, decide_tick};
+pub use verdict::Verdict;

@@ -1,0 +1,585 @@
+//! The rows on nodes.
+
+ghost use Rattle.std.specs.Prelude.{◌≡◌, ◌<◌, ◌≤◌, ◌+◌, ◌^◌, length, slice_get, option_and_then, IfOk};
+ghost use Rattle.np_machine.specs.Count.{retries_of};
+ghost use Rattle.np_machine.specs.Reasons.{ready_age, is_past, due_tick};
+ghost use Rattle.np_machine.specs.Node.{judge_take_ready, judge_create, starts_of, judge_start, judge_done, state_after_launch, launched, place_reply, judge_lock_node, judge_unlock_node, is_own, judge_end_node, ended_as, may_delete, judge_mark_deleting, judge_gone, standing, judge_free_node, is_server, is_wanted, judge_sweep};
+ghost use Rattle.np_decision.specs.Fits.{Fits};
+ghost use Rattle.np_decision.specs.Plan.{plan_take_ready, new_node, plan_create, plan_start, plan_done, plan_lock_node, plan_unlock_node, end_in, plan_end_node, plan_mark_deleting, plan_gone, plan_free_node, plan_sweep};
+ghost use Rattle.np_decision.specs.Verdicts.{answer_of};
+
+use crate::changes::{Changes, Deed, Growth, JobsChange, NodesChange, RequestEdit, RequestsChange};
+use crate::count;
+use crate::look::Look;
+use crate::tests::{
+    by_node_holder, by_registrant, by_request_holder, has_room, is_pending_by, janitor, launcher,
+    maker, next_label, node_at, of_pool, request_at, requester, wrong_node, wrong_request,
+};
+use crate::verdict::{Verdict, made_by};
+use np_event::{Done, Outcome, Refusal};
+use np_record::NodeRecord;
+use np_text::{
+    EndAs, JobId, LabelId, NodeId, NodeState, PoolId, RequestId, RequesterId, Role, SessionId,
+};
+
+/// The launcher gives a ready node to the request.
+pub fn decide_take_ready<L: Look>(
+    look: &L,
+    session: SessionId,
+    request: RequestId,
+    node: NodeId,
+) -> Result<Verdict, Refusal>
+    ensures answer { answer_of result ≡ judge_take_ready (L.state look.now) session request node }
+    ensures changes { IfOk result (λ v. v.changes ≡
+        plan_take_ready (L.state look.now) session request node) }
+{
+    let pool = launcher(look, session)?;
+    let asked = request_at(look, request)?;
+    let kept = node_at(look, node)?;
+    by_registrant(look, pool, session)?;
+    by_request_holder(look, request, session)?;
+    if !is_pending_by(pool, &asked) {
+        return Err(wrong_request(&asked));
+    }
+    if asked.pinned.is_some() {
+        return Err(Refusal::NotOwner);
+    }
+    let Some(label) = next_label(&asked) else {
+        return Err(wrong_request(&asked));
+    };
+    if kept.state != NodeState::Ready {
+        return Err(wrong_node(&kept));
+    }
+    if let Some(other) = kept.allocated_to {
+        return Err(Refusal::Allocated(other));
+    }
+    if kept.pool.0 != pool.0 || kept.label.0 != label.0 {
+        return Err(Refusal::NoLabel(label));
+    }
+    if let Some(holder) = look.node_holder(node) {
+        return Err(Refusal::Busy(holder));
+    }
+    Ok(Verdict {
+        done: Done::Held,
+        changes: Changes {
+            grows: Growth::Allocate { node, request },
+            requests: RequestsChange::Edit {
+                request,
+                edit: RequestEdit::AddNode { node },
+            },
+            ..made_by(session, Role::Launcher(pool))
+        },
+    })
+}
+
+/// A node that nobody has launched yet.
+fn new_node<L: Look>(look: &L, request: RequestId, pool: PoolId, label: LabelId) -> NodeRecord
+    ensures { result ≡ new_node (L.state look.now) request pool label }
+{
+    NodeRecord {
+        allocated_to: Some(request),
+        attempts: 0,
+        in_flight: false,
+        label,
+        pool,
+        server: None,
+        since: look.tick(),
+        start: 0,
+        state: NodeState::Building,
+    }
+}
+
+/// The launcher makes a node for the request's next label.
+pub fn decide_create<L: Look>(
+    look: &L,
+    session: SessionId,
+    request: RequestId,
+) -> Result<Verdict, Refusal>
+    requires { Fits (L.site look.now) (L.state look.now) }
+    ensures answer { answer_of result ≡
+        judge_create (L.site look.now) (L.state look.now) session request }
+    ensures changes { IfOk result (λ v. v.changes ≡
+        plan_create (L.state look.now) session request) }
+{
+    let pool = launcher(look, session)?;
+    let asked = request_at(look, request)?;
+    by_registrant(look, pool, session)?;
+    by_request_holder(look, request, session)?;
+    if !is_pending_by(pool, &asked) {
+        return Err(wrong_request(&asked));
+    }
+    let Some(label) = next_label(&asked) else {
+        return Err(wrong_request(&asked));
+    };
+    has_room(look, pool, label)?;
+    let node = NodeId(look.next_node());
+    Ok(Verdict {
+        done: Done::Node(node),
+        changes: Changes {
+            grows: Growth::Node {
+                kept: new_node(look, request, pool, label),
+            },
+            requests: RequestsChange::Edit {
+                request,
+                edit: RequestEdit::AddNode { node },
+            },
+            ..made_by(session, Role::Launcher(pool))
+        },
+    })
+}
+
+/// How many launches the pool has started.
+fn starts_of<L: Look>(look: &L, pool: PoolId) -> u32
+    requires { Fits (L.site look.now) (L.state look.now) }
+    ensures starts { result ≡ starts_of pool (L.state look.now) }
+    ensures few { result ≤ 262144 }
+{
+    match look.role(Role::Launcher(pool)) {
+        None => 0,
+        Some(deeds) => deeds.starts,
+    }
+}
+
+/// The launcher begins an attempt to launch the node.
+pub fn decide_start<L: Look>(look: &L, session: SessionId, node: NodeId) -> Result<Verdict, Refusal>
+    requires { Fits (L.site look.now) (L.state look.now) }
+    ensures answer { answer_of result ≡ judge_start (L.state look.now) session node }
+    ensures changes { IfOk result (λ v. v.changes ≡ plan_start (L.state look.now) session node) }
+{
+    let pool = launcher(look, session)?;
+    let kept = node_at(look, node)?;
+    of_pool(pool, &kept)?;
+    by_node_holder(look, node, session)?;
+    if kept.state != NodeState::Building || kept.in_flight {
+        return Err(wrong_node(&kept));
+    }
+    let attempts = kept.attempts + 1;
+    let start = starts_of(look, pool) + 1;
+    Ok(Verdict {
+        done: Done::Started {
+            attempt: attempts,
+            start,
+        },
+        changes: Changes {
+            nodes: NodesChange::Put {
+                node,
+                kept: NodeRecord {
+                    attempts,
+                    in_flight: true,
+                    start,
+                    ..kept
+                },
+            },
+            deed: Some(Deed::StartsAndActs { pool }),
+            ..made_by(session, Role::Launcher(pool))
+        },
+    })
+}
+
+fn state_after_launch(retries: u8, node: &NodeRecord, outcome: Outcome) -> NodeState
+    ensures { result ≡ state_after_launch retries node.now outcome }
+{
+    match outcome {
+        Outcome::Launched(_) => NodeState::Ready,
+        Outcome::Failed => {
+            if node.attempts == retries {
+                NodeState::Failed
+            } else {
+                node.state
+            }
+        }
+    }
+}
+
+/// The node after what became of its launch.
+fn launched(retries: u8, tick: u32, outcome: Outcome, node: &NodeRecord) -> NodeRecord
+    ensures { result ≡ launched retries tick outcome node.now }
+{
+    let state = state_after_launch(retries, node, outcome);
+    match outcome {
+        Outcome::Launched(server) => NodeRecord {
+            in_flight: false,
+            server: Some(server),
+            since: tick,
+            state,
+            ..*node
+        },
+        Outcome::Failed => NodeRecord {
+            in_flight: false,
+            state,
+            ..*node
+        },
+    }
+}
+
+fn retries<L: Look>(look: &L, pool: PoolId) -> u8
+    ensures { result ≡ retries_of (L.site look.now) pool }
+{
+    count::retries(look.config(), pool)
+}
+
+/// The launcher says what became of the launch.
+pub fn decide_done<L: Look>(
+    look: &L,
+    session: SessionId,
+    node: NodeId,
+    attempt: u8,
+    outcome: Outcome,
+) -> Result<Verdict, Refusal>
+    ensures answer { answer_of result ≡ judge_done (L.state look.now) session node attempt }
+    ensures changes { IfOk result (λ v. v.changes ≡
+        plan_done (L.site look.now) (L.state look.now) session node outcome) }
+{
+    let pool = launcher(look, session)?;
+    let kept = node_at(look, node)?;
+    of_pool(pool, &kept)?;
+    by_node_holder(look, node, session)?;
+    if !kept.in_flight {
+        return Err(wrong_node(&kept));
+    }
+    if kept.attempts != attempt {
+        return Err(Refusal::WrongAttempt(kept.attempts));
+    }
+    Ok(Verdict {
+        done: Done::Plain,
+        changes: Changes {
+            nodes: NodesChange::Put {
+                node,
+                kept: launched(retries(look, kept.pool), look.tick(), outcome, &kept),
+            },
+            ..made_by(session, Role::Launcher(pool))
+        },
+    })
+}
+
+/// First in the queue, or how many stand before.
+fn place_reply(ahead: u32) -> Done
+    ensures { result ≡ place_reply ahead }
+{
+    if ahead == 0 {
+        Done::Held
+    } else {
+        Done::Queued { ahead }
+    }
+}
+
+/// The maker joins the node's queue.
+pub fn decide_lock_node<L: Look>(
+    look: &L,
+    session: SessionId,
+    node: NodeId,
+) -> Result<Verdict, Refusal>
+    requires { Fits (L.site look.now) (L.state look.now) }
+    ensures answer { answer_of result ≡ judge_lock_node (L.state look.now) session node }
+    ensures changes { IfOk result (λ v. v.changes ≡
+        plan_lock_node (L.state look.now) session node) }
+{
+    let role = maker(look, session)?;
+    node_at(look, node)?;
+    Ok(Verdict {
+        done: place_reply(look.ahead_at_node(session, node)),
+        changes: Changes {
+            grows: Growth::JoinNode { node },
+            ..made_by(session, role)
+        },
+    })
+}
+
+/// The maker leaves the node's queue.
+pub fn decide_unlock_node<L: Look>(
+    look: &L,
+    session: SessionId,
+    node: NodeId,
+) -> Result<Verdict, Refusal>
+    requires { Fits (L.site look.now) (L.state look.now) }
+    ensures answer { answer_of result ≡ judge_unlock_node (L.state look.now) session node }
+    ensures changes { IfOk result (λ v. v.changes ≡
+        plan_unlock_node (L.state look.now) session node) }
+{
+    let role = maker(look, session)?;
+    node_at(look, node)?;
+    if !look.waits_at_node(session, node) {
+        return Err(Refusal::NotHeld);
+    }
+    Ok(Verdict {
+        done: Done::Plain,
+        changes: Changes {
+            nodes: NodesChange::Leave { node },
+            ..made_by(session, role)
+        },
+    })
+}
+
+fn ended_as(end: EndAs) -> NodeState
+    ensures { result ≡ ended_as end }
+{
+    match end {
+        EndAs::Used => NodeState::Used,
+        EndAs::Hold => NodeState::Hold,
+    }
+}
+
+/// Whether the job is there, and the requester's.
+fn is_own<L: Look>(look: &L, requester: RequesterId, job: Option<JobId>) -> bool
+    ensures { result ≡
+        is_own requester (option_and_then (λ j. slice_get (L.site look.now).jobs j.0) job) }
+{
+    let Some(job) = job else {
+        return false;
+    };
+    match look.config().job(job) {
+        None => false,
+        Some(row) => row.requester.0 == requester.0,
+    }
+}
+
+/// The node is marked ended in the job, where there is one.
+fn end_in(job: Option<JobId>, node: NodeId) -> JobsChange
+    ensures { result ≡ end_in job node }
+{
+    match job {
+        None => JobsChange::Same,
+        Some(job) => JobsChange::EndNode { job, node },
+    }
+}
+
+/// The requester is done with a node of its job.
+#[tactic(auto, using(crate::proofs::OwnerLemmas::owner_at))]
+pub fn decide_end_node<L: Look>(
+    look: &L,
+    session: SessionId,
+    node: NodeId,
+    end: EndAs,
+) -> Result<Verdict, Refusal>
+    ensures answer { answer_of result ≡
+        judge_end_node (L.site look.now) (L.state look.now) session node }
+    ensures changes { IfOk result (λ v. v.changes ≡
+        plan_end_node (L.state look.now) session node end) }
+{
+    let own = requester(look, session)?;
+    let kept = node_at(look, node)?;
+    by_node_holder(look, node, session)?;
+    if kept.state != NodeState::InUse {
+        return Err(wrong_node(&kept));
+    }
+    let job = look.owner(node);
+    if !is_own(look, own, job) {
+        return Err(Refusal::NotOwner);
+    }
+    Ok(Verdict {
+        done: Done::Plain,
+        changes: Changes {
+            nodes: NodesChange::Put {
+                node,
+                kept: NodeRecord {
+                    since: look.tick(),
+                    state: ended_as(end),
+                    ..kept
+                },
+            },
+            jobs: end_in(job, node),
+            ..made_by(session, Role::Requester(own))
+        },
+    })
+}
+
+/// Older than the age allows, where it allows one; 0 is no age.
+fn is_past(age: u32, since: u32, tick: u32) -> bool
+    ensures { result ≡ is_past age since tick }
+{
+    age > 0 && tick.saturating_sub(since) > age
+}
+
+/// The first tick at which it is past the age; 0 for never.
+fn due_tick(age: u32, since: u32) -> u32
+    requires { since + age + 1 < 2 ^ 32 }
+    ensures { result ≡ due_tick age since }
+{
+    if age == 0 { 0 } else { since + age + 1 }
+}
+
+fn max_hold_age<L: Look>(look: &L) -> u32
+    ensures { result ≡ (L.site look.now).max_hold_age }
+{
+    look.config().max_hold_age()
+}
+
+fn ready_age<L: Look>(look: &L, label: LabelId) -> u32
+    ensures { result ≡ ready_age (L.site look.now) label }
+{
+    count::ready_age(look.config(), label)
+}
+
+/// Whether a node may go: a ready one where nobody has it and it is old or its pool is paused, a
+/// held one where it is old, any other at once.
+fn may_delete<L: Look>(look: &L, node: &NodeRecord) -> Result<(), Refusal>
+    requires fits { Fits (L.site look.now) (L.state look.now) }
+    requires since { node.now.since ≤ 262144 }
+    ensures { result ≡ may_delete (L.site look.now) (L.state look.now) node.now node.now.state }
+{
+    match node.state {
+        NodeState::Building | NodeState::InUse | NodeState::Used | NodeState::Failed => Ok(()),
+        NodeState::Deleting => Err(wrong_node(node)),
+        NodeState::Hold => {
+            let age = max_hold_age(look);
+            if is_past(age, node.since, look.tick()) {
+                return Ok(());
+            }
+            Err(Refusal::NotDue(due_tick(age, node.since)))
+        }
+        NodeState::Ready => {
+            if let Some(request) = node.allocated_to {
+                return Err(Refusal::Allocated(request));
+            }
+            let age = ready_age(look, node.label);
+            if is_past(age, node.since, look.tick()) || look.is_paused(node.pool) {
+                return Ok(());
+            }
+            Err(Refusal::NotDue(due_tick(age, node.since)))
+        }
+    }
+}
+
+/// The janitor gives a node up.
+pub fn decide_mark_deleting<L: Look>(
+    look: &L,
+    session: SessionId,
+    node: NodeId,
+) -> Result<Verdict, Refusal>
+    requires { Fits (L.site look.now) (L.state look.now) }
+    ensures answer { answer_of result ≡
+        judge_mark_deleting (L.site look.now) (L.state look.now) session node }
+    ensures changes { IfOk result (λ v. v.changes ≡
+        plan_mark_deleting (L.state look.now) session node) }
+{
+    let pool = janitor(look, session)?;
+    let kept = node_at(look, node)?;
+    by_node_holder(look, node, session)?;
+    may_delete(look, &kept)?;
+    Ok(Verdict {
+        done: Done::Plain,
+        changes: Changes {
+            nodes: NodesChange::Put {
+                node,
+                kept: NodeRecord {
+                    in_flight: false,
+                    state: NodeState::Deleting,
+                    ..kept
+                },
+            },
+            ..made_by(session, Role::Janitor(pool))
+        },
+    })
+}
+
+/// The node's record is removed.
+pub fn decide_gone<L: Look>(look: &L, session: SessionId, node: NodeId) -> Result<Verdict, Refusal>
+    ensures answer { answer_of result ≡ judge_gone (L.state look.now) session node }
+    ensures changes { IfOk result (λ v. v.changes ≡ plan_gone (L.state look.now) session node) }
+{
+    let pool = janitor(look, session)?;
+    let kept = node_at(look, node)?;
+    by_node_holder(look, node, session)?;
+    if kept.state != NodeState::Deleting {
+        return Err(wrong_node(&kept));
+    }
+    Ok(Verdict {
+        done: Done::Plain,
+        changes: Changes {
+            nodes: NodesChange::Remove { node },
+            ..made_by(session, Role::Janitor(pool))
+        },
+    })
+}
+
+/// The request, where it is there.
+fn standing<L: Look>(look: &L, found: Option<RequestId>) -> Option<RequestId>
+    ensures { result ≡ standing (L.state look.now) found }
+{
+    let request = found?;
+    match look.asked(request) {
+        None => None,
+        Some(_) => Some(request),
+    }
+}
+
+/// The janitor frees a ready node whose request is gone.
+pub fn decide_free_node<L: Look>(
+    look: &L,
+    session: SessionId,
+    node: NodeId,
+) -> Result<Verdict, Refusal>
+    ensures answer { answer_of result ≡ judge_free_node (L.state look.now) session node }
+    ensures changes { IfOk result (λ v. v.changes ≡
+        plan_free_node (L.state look.now) session node) }
+{
+    let pool = janitor(look, session)?;
+    let kept = node_at(look, node)?;
+    by_node_holder(look, node, session)?;
+    if kept.state != NodeState::Ready || kept.allocated_to.is_none() {
+        return Err(wrong_node(&kept));
+    }
+    if let Some(request) = standing(look, kept.allocated_to) {
+        return Err(Refusal::Allocated(request));
+    }
+    Ok(Verdict {
+        done: Done::Plain,
+        changes: Changes {
+            nodes: NodesChange::Put {
+                node,
+                kept: NodeRecord {
+                    allocated_to: None,
+                    ..kept
+                },
+            },
+            ..made_by(session, Role::Janitor(pool))
+        },
+    })
+}
+
+fn is_server(server: u64, found: Option<u64>) -> bool
+    ensures { result ≡ is_server server found }
+{
+    match found {
+        None => false,
+        Some(other) => other == server,
+    }
+}
+
+/// Whether the node is there, and building or with this server.
+fn is_wanted<L: Look>(look: &L, node: NodeId, server: u64) -> bool
+    ensures { result ≡ is_wanted (L.state look.now) node server }
+{
+    match look.node(node) {
+        None => false,
+        Some(kept) => kept.state == NodeState::Building || is_server(server, kept.server),
+    }
+}
+
+/// The janitor asks whether a server of its cloud is still wanted.
+pub fn decide_sweep<L: Look>(
+    look: &L,
+    session: SessionId,
+    node: NodeId,
+    server: u64,
+) -> Result<Verdict, Refusal>
+    ensures answer { answer_of result ≡ judge_sweep (L.state look.now) session node server }
+    ensures changes { IfOk result (λ v. v.changes ≡
+        plan_sweep (L.state look.now) session node server) }
+{
+    let pool = janitor(look, session)?;
+    let bare = made_by(session, Role::Janitor(pool));
+    if is_wanted(look, node, server) {
+        return Ok(Verdict {
+            done: Done::Keep,
+            changes: bare,
+        });
+    }
+    Ok(Verdict {
+        done: Done::Remove,
+        changes: Changes {
+            grows: Growth::Swept { node, server },
+            ..bare
+        },
+    })
+}

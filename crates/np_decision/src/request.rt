@@ -1,0 +1,654 @@
+//! The rows on requests.
+
+ghost use Rattle.std.specs.Prelude.{◌≡◌, ◌<◌, ◌≤◌, ◌==◌, length, not, IfOk};
+ghost use Rattle.std.specs.List.{list_any};
+ghost use Rattle.np_text.specs.declared.id.Role.TheVariants.{Launcher, Janitor};
+ghost use Rattle.np_machine.specs.Order.{first_of, is_pinned_away};
+ghost use Rattle.np_machine.specs.Reasons.{is_spent, is_true};
+ghost use Rattle.np_machine.specs.Request.{judge_register, judge_submit, judge_min_ready, other_than, lock_pending, lock_request_as, judge_lock_request, unlock_request_as, judge_unlock_request, judge_accept, in_state_for, judge_decline, unfilled, judge_fulfil, judge_reset, judge_fail_declined};
+ghost use Rattle.np_decision.specs.Fits.{Fits};
+ghost use Rattle.np_decision.specs.Views.{new_record};
+ghost use Rattle.np_decision.specs.Plan.{plan_register, asked_for, plan_submit, asked_to_keep, plan_min_ready, plan_lock_request, plan_unlock_request, plan_accept, plan_decline, request_after_fulfil, nodes_after_fulfil, plan_fulfil, plan_reset, plan_fail_declined};
+ghost use Rattle.np_decision.specs.Places.{lack_at};
+ghost use Rattle.np_decision.specs.Verdicts.{answer_of, min_ready_of};
+
+use crate::asked::Asked;
+use crate::changes::{Changes, Growth, JobsChange, NodesChange, RequestEdit, RequestsChange};
+use crate::look::Look;
+use crate::tests::{
+    by_registrant, by_request_holder, first_unoffered, has_room, is_named, is_of_request,
+    is_offered, is_pending_by, is_too_much, janitor, job_at, launcher, maker, missing_handles,
+    none_missing, of_requester, record_of, request_at, requester, wrong_job, wrong_request,
+};
+use crate::verdict::{Verdict, made_by};
+use np_event::{Done, Refusal};
+use np_record::{JobRecord, LabelRow, NodeRow};
+use np_site::Job;
+use np_text::{
+    JobId, LabelId, NodeId, NodeState, Phase, PoolId, Reason, RequestId, RequestState, Role,
+    SessionId,
+};
+
+/// The launcher of a pool takes its registration.
+pub fn decide_register<L: Look>(look: &L, session: SessionId) -> Result<Verdict, Refusal>
+    ensures answer { answer_of result ≡ judge_register (L.state look.now) session }
+    ensures changes { IfOk result (λ v. v.changes ≡ plan_register (L.state look.now) session) }
+{
+    let pool = launcher(look, session)?;
+    if let Some(other) = look.registration(pool) {
+        return Err(Refusal::Taken(other));
+    }
+    Ok(Verdict {
+        done: Done::Plain,
+        changes: Changes {
+            grows: Growth::Registration { pool },
+            ..made_by(session, Role::Launcher(pool))
+        },
+    })
+}
+
+/// The labels as a row.
+fn row_of(labels: &[LabelId]) -> LabelRow
+    requires { length labels.now ≤ 32 }
+    ensures { result ≡ labels.now }
+{
+    let mut row = LabelRow::new();
+    for label in labels {
+        let _room = row.push(*label);
+    }
+    row
+}
+
+/// What a job asks for.
+fn asked_for(job: JobId, row: &Job) -> Asked
+    requires { length row.now.labels ≤ 32 }
+    ensures { result ≡ asked_for job row.now }
+{
+    Asked {
+        job: Some(job),
+        labels: row_of(row.labels.items()),
+        nodes: NodeRow::new(),
+        pinned: None,
+        pool: None,
+        relative_priority: row.relative_priority,
+        state: RequestState::Requested,
+    }
+}
+
+/// The requester asks for the nodes of its job.
+pub fn decide_submit<L: Look>(look: &L, session: SessionId, job: JobId) -> Result<Verdict, Refusal>
+    requires { Fits (L.site look.now) (L.state look.now) }
+    ensures answer { answer_of result ≡
+        judge_submit (L.site look.now) (L.state look.now) session job }
+    ensures changes { IfOk result (λ v. v.changes ≡
+        plan_submit (L.site look.now) (L.state look.now) session job) }
+{
+    let owner = requester(look, session)?;
+    let row = job_at(look, job)?;
+    let kept = record_of(look, job)?;
+    of_requester(owner, row)?;
+    if kept.phase != Phase::New {
+        return Err(wrong_job(&kept));
+    }
+    let missing = missing_handles(look, job, row);
+    if !row.resources_first && missing != 0 {
+        return Err(Refusal::NotAll(missing as u32));
+    }
+    let id = RequestId {
+        priority: row.priority,
+        seq: look.next_request(),
+    };
+    Ok(Verdict {
+        done: Done::Request(id),
+        changes: Changes {
+            grows: Growth::Request {
+                priority: row.priority,
+                asked: asked_for(job, row),
+            },
+            jobs: JobsChange::Put {
+                job,
+                kept: JobRecord {
+                    phase: Phase::Asked,
+                    request: Some(id),
+                    ..kept
+                },
+            },
+            ..made_by(session, Role::Requester(owner))
+        },
+    })
+}
+
+/// What a pool asks for to keep a node of the label ready.
+fn asked_to_keep(pool: PoolId, label: LabelId) -> Asked
+    ensures { result ≡ asked_to_keep pool label }
+{
+    let mut labels = LabelRow::new();
+    let _room = labels.push(label);
+    Asked {
+        job: None,
+        labels,
+        nodes: NodeRow::new(),
+        pinned: Some(pool),
+        pool: None,
+        relative_priority: 0,
+        state: RequestState::Requested,
+    }
+}
+
+/// How many free ready nodes of the label are kept.
+fn min_ready<L: Look>(look: &L, label: LabelId) -> Result<u32, Refusal>
+    ensures { result ≡ min_ready_of (L.site look.now) label }
+{
+    match look.config().label(label) {
+        None => Err(Refusal::NoLabel(label)),
+        Some(row) => Ok(row.min_ready),
+    }
+}
+
+/// The launcher asks for a node of a label that is to be kept ready.
+pub fn decide_min_ready<L: Look>(
+    look: &L,
+    session: SessionId,
+    label: LabelId,
+) -> Result<Verdict, Refusal>
+    requires { Fits (L.site look.now) (L.state look.now) }
+    ensures answer { answer_of result ≡
+        judge_min_ready (L.site look.now) (L.state look.now) session label }
+    ensures changes { IfOk result (λ v. v.changes ≡
+        plan_min_ready (L.state look.now) session label) }
+{
+    let pool = launcher(look, session)?;
+    let least = min_ready(look, label)?;
+    by_registrant(look, pool, session)?;
+    if !is_offered(look, pool, label) {
+        return Err(Refusal::NoLabel(label));
+    }
+    if look.has_spent_min_ready(pool, label) {
+        return Err(Refusal::Spent);
+    }
+    let ready = look.ready_count(label);
+    if ready >= least {
+        return Err(Refusal::Enough(ready));
+    }
+    has_room(look, pool, label)?;
+    Ok(Verdict {
+        done: Done::Request(RequestId {
+            priority: 400,
+            seq: look.next_request(),
+        }),
+        changes: Changes {
+            grows: Growth::Request {
+                priority: 400,
+                asked: asked_to_keep(pool, label),
+            },
+            ..made_by(session, Role::Launcher(pool))
+        },
+    })
+}
+
+/// The first candidate of the pool, where it is another than this request.
+fn other_than<L: Look>(look: &L, request: RequestId, pool: PoolId) -> Option<RequestId>
+    ensures { result ≡ other_than request (first_of pool (L.state look.now)) }
+{
+    let first = look.first_of(pool)?;
+    if first.priority == request.priority && first.seq == request.seq {
+        return None;
+    }
+    Some(first)
+}
+
+fn lock_first<L: Look>(
+    look: &L,
+    pool: PoolId,
+    session: SessionId,
+    request: RequestId,
+) -> Result<Done, Refusal>
+    ensures { result ≡ lock_request_as (L.state look.now) session request (Launcher pool) }
+{
+    let asked = request_at(look, request)?;
+    by_registrant(look, pool, session)?;
+    if asked.state != RequestState::Requested {
+        return Err(wrong_request(&asked));
+    }
+    if look.is_declined(request, pool) {
+        return Err(Refusal::Declined);
+    }
+    if is_pinned_away(pool, &asked) {
+        return Err(Refusal::NotOwner);
+    }
+    if let Some(holder) = look.request_holder(request) {
+        return Err(Refusal::Busy(holder));
+    }
+    if let Some(first) = other_than(look, request, pool) {
+        return Err(Refusal::NotFirst(first));
+    }
+    Ok(Done::Held)
+}
+
+/// Whether the request is pinned to another pool.
+fn is_pinned_away(pool: PoolId, asked: &Asked) -> bool
+    ensures { result ≡ is_pinned_away pool (new_record asked.now) }
+{
+    match asked.pinned {
+        None => false,
+        Some(other) => other.0 != pool.0,
+    }
+}
+
+fn lock_pending<L: Look>(look: &L, request: RequestId) -> Result<Done, Refusal>
+    ensures { result ≡ lock_pending (L.state look.now) request }
+{
+    let asked = request_at(look, request)?;
+    if asked.state != RequestState::Pending {
+        return Err(wrong_request(&asked));
+    }
+    if let Some(holder) = look.request_holder(request) {
+        return Err(Refusal::Busy(holder));
+    }
+    Ok(Done::Held)
+}
+
+fn lock_request_as<L: Look>(
+    look: &L,
+    session: SessionId,
+    request: RequestId,
+    role: Role,
+) -> Result<Done, Refusal>
+    ensures { result ≡ lock_request_as (L.state look.now) session request role }
+{
+    match role {
+        Role::Launcher(pool) => lock_first(look, pool, session, request),
+        Role::Janitor(_) => lock_pending(look, request),
+        Role::Requester(_) | Role::Reaper => Err(Refusal::WrongRole),
+    }
+}
+
+/// A launcher takes up the first request of its pool, a janitor one that is pending.
+pub fn decide_lock_request<L: Look>(
+    look: &L,
+    session: SessionId,
+    request: RequestId,
+) -> Result<Verdict, Refusal>
+    ensures answer { answer_of result ≡ judge_lock_request (L.state look.now) session request }
+    ensures changes { IfOk result (λ v. v.changes ≡
+        plan_lock_request (L.state look.now) session request) }
+{
+    let role = maker(look, session)?;
+    let done = lock_request_as(look, session, request, role)?;
+    Ok(Verdict {
+        done,
+        changes: Changes {
+            grows: Growth::JoinRequest { request },
+            ..made_by(session, role)
+        },
+    })
+}
+
+fn unlock_served<L: Look>(
+    look: &L,
+    pool: PoolId,
+    session: SessionId,
+    request: RequestId,
+) -> Result<Done, Refusal>
+    ensures { result ≡ unlock_request_as (L.state look.now) session request (Launcher pool) }
+{
+    let asked = request_at(look, request)?;
+    by_request_holder(look, request, session)?;
+    if is_pending_by(pool, &asked) {
+        return Err(wrong_request(&asked));
+    }
+    Ok(Done::Plain)
+}
+
+fn unlock_any<L: Look>(
+    look: &L,
+    pool: PoolId,
+    session: SessionId,
+    request: RequestId,
+) -> Result<Done, Refusal>
+    ensures { result ≡ unlock_request_as (L.state look.now) session request (Janitor pool) }
+{
+    request_at(look, request)?;
+    by_request_holder(look, request, session)?;
+    Ok(Done::Plain)
+}
+
+fn unlock_request_as<L: Look>(
+    look: &L,
+    session: SessionId,
+    request: RequestId,
+    role: Role,
+) -> Result<Done, Refusal>
+    ensures { result ≡ unlock_request_as (L.state look.now) session request role }
+{
+    match role {
+        Role::Launcher(pool) => unlock_served(look, pool, session, request),
+        Role::Janitor(pool) => unlock_any(look, pool, session, request),
+        Role::Requester(_) | Role::Reaper => Err(Refusal::WrongRole),
+    }
+}
+
+/// The maker gives the lock back; a launcher not while its pool serves the request.
+pub fn decide_unlock_request<L: Look>(
+    look: &L,
+    session: SessionId,
+    request: RequestId,
+) -> Result<Verdict, Refusal>
+    ensures answer { answer_of result ≡ judge_unlock_request (L.state look.now) session request }
+    ensures changes { IfOk result (λ v. v.changes ≡
+        plan_unlock_request (L.state look.now) session request) }
+{
+    let role = maker(look, session)?;
+    let done = unlock_request_as(look, session, request, role)?;
+    Ok(Verdict {
+        done,
+        changes: Changes {
+            requests: RequestsChange::Leave { request },
+            ..made_by(session, role)
+        },
+    })
+}
+
+/// The launcher takes the request for its pool, so that no other pool serves it.
+pub fn decide_accept<L: Look>(
+    look: &L,
+    session: SessionId,
+    request: RequestId,
+) -> Result<Verdict, Refusal>
+    requires { Fits (L.site look.now) (L.state look.now) }
+    ensures answer { answer_of result ≡
+        judge_accept (L.site look.now) (L.state look.now) session request }
+    ensures changes { IfOk result (λ v. v.changes ≡
+        plan_accept (L.state look.now) session request) }
+{
+    let pool = launcher(look, session)?;
+    let asked = request_at(look, request)?;
+    by_registrant(look, pool, session)?;
+    by_request_holder(look, request, session)?;
+    if asked.state != RequestState::Requested {
+        return Err(wrong_request(&asked));
+    }
+    if look.is_declined(request, pool) {
+        return Err(Refusal::Declined);
+    }
+    if let Some(label) = first_unoffered(look, pool, asked.labels.items()) {
+        return Err(Refusal::NoLabel(label));
+    }
+    let _few = asked.labels.len();
+    if is_too_much(look, pool, asked.labels.items()) {
+        return Err(Refusal::NeverFits);
+    }
+    Ok(Verdict {
+        done: Done::Plain,
+        changes: Changes {
+            requests: RequestsChange::Edit {
+                request,
+                edit: RequestEdit::Serve { pool },
+            },
+            ..made_by(session, Role::Launcher(pool))
+        },
+    })
+}
+
+/// A pool gives up with a failed node while it serves the request, and else before it took it.
+fn in_state_for(pool: PoolId, asked: &Asked, reason: Reason) -> Result<(), Refusal>
+    ensures { result ≡ in_state_for pool (new_record asked.now) reason }
+{
+    let right = match reason {
+        Reason::NoLabel(_) | Reason::NeverFits => asked.state == RequestState::Requested,
+        Reason::Spent(_) => is_pending_by(pool, asked),
+    };
+    if right {
+        Ok(())
+    } else {
+        Err(wrong_request(asked))
+    }
+}
+
+/// Whether the label is among the request's labels.
+fn asks_label(asked: &Asked, label: LabelId) -> bool
+    ensures { result ≡ list_any (λ other. other.0 == label.0) asked.now.labels }
+{
+    asked.labels.items().iter().any(|other| other.0 == label.0)
+}
+
+/// Whether the node is in the request's list.
+fn has_node(asked: &Asked, node: NodeId) -> bool
+    ensures { result ≡ list_any (λ other. other.0 == node.0) asked.now.nodes }
+{
+    asked.nodes.items().iter().any(|other| other.0 == node.0)
+}
+
+fn is_spent<L: Look>(look: &L, node: NodeId) -> bool
+    ensures { result ≡ is_spent node (L.state look.now) }
+{
+    match look.node(node) {
+        None => false,
+        Some(kept) => kept.state == NodeState::Failed,
+    }
+}
+
+/// Whether the reason is true of the request at the pool.
+fn is_true<L: Look>(look: &L, pool: PoolId, asked: &Asked, reason: Reason) -> bool
+    requires { Fits (L.site look.now) (L.state look.now) }
+    ensures { result ≡
+        is_true (L.site look.now) (L.state look.now) pool (new_record asked.now) reason }
+{
+    match reason {
+        Reason::NoLabel(label) => asks_label(asked, label) && !is_offered(look, pool, label),
+        Reason::NeverFits => {
+            let _few = asked.labels.len();
+            is_too_much(look, pool, asked.labels.items())
+        }
+        Reason::Spent(node) => has_node(asked, node) && is_spent(look, node),
+    }
+}
+
+/// The launcher hands the request on to the other pools; it fails where none is left.
+pub fn decide_decline<L: Look>(
+    look: &L,
+    session: SessionId,
+    request: RequestId,
+    reason: Reason,
+) -> Result<Verdict, Refusal>
+    requires { Fits (L.site look.now) (L.state look.now) }
+    ensures answer { answer_of result ≡
+        judge_decline (L.site look.now) (L.state look.now) session request reason }
+    ensures changes { IfOk result (λ v. v.changes ≡
+        plan_decline (L.state look.now) session request reason) }
+{
+    let pool = launcher(look, session)?;
+    let asked = request_at(look, request)?;
+    by_registrant(look, pool, session)?;
+    by_request_holder(look, request, session)?;
+    in_state_for(pool, &asked, reason)?;
+    if look.is_declined(request, pool) {
+        return Err(Refusal::Declined);
+    }
+    if !is_true(look, pool, &asked, reason) {
+        return Err(Refusal::FalseReason);
+    }
+    let failed = asked.pinned.is_some() || look.is_last_pool(request, pool);
+    Ok(Verdict {
+        done: Done::Plain,
+        changes: Changes {
+            requests: RequestsChange::Edit {
+                request,
+                edit: RequestEdit::Decline {
+                    pool,
+                    reason,
+                    failed,
+                },
+            },
+            nodes: NodesChange::FreeAll { request },
+            ..made_by(session, Role::Launcher(pool))
+        },
+    })
+}
+
+/// 1 where there is a label and no node for it.
+fn lack<L: Look>(
+    look: &L,
+    pool: PoolId,
+    session: SessionId,
+    request: RequestId,
+    label: Option<LabelId>,
+    number: Option<NodeId>,
+) -> usize
+    ensures lack { result ≡ lack_at pool session request (L.state look.now).nodes label number }
+    ensures few { result ≤ 1 }
+{
+    let Some(label) = label else {
+        return 0;
+    };
+    let Some(number) = number else {
+        return 1;
+    };
+    let Some(kept) = look.node(number) else {
+        return 1;
+    };
+    let filled = kept.state == NodeState::Ready
+        && is_of_request(request, kept.allocated_to)
+        && kept.pool.0 == pool.0
+        && kept.label.0 == label.0
+        && is_named(session, look.node_holder(number));
+    if filled { 0 } else { 1 }
+}
+
+/// How many places of the labels have no node as `fulfil` wants it.
+fn unfilled<L: Look>(
+    look: &L,
+    pool: PoolId,
+    session: SessionId,
+    request: RequestId,
+    asked: &Asked,
+) -> usize
+    ensures unfilled { result ≡
+        unfilled pool session request (L.state look.now).nodes asked.now.labels asked.now.nodes }
+    ensures few { result ≤ 32 }
+{
+    let mut missing = 0;
+    for at in 0..asked.labels.len() {
+        missing += lack(
+            look,
+            pool,
+            session,
+            request,
+            asked.labels.at(at),
+            asked.nodes.at(at),
+        );
+    }
+    missing
+}
+
+fn request_after_fulfil(request: RequestId, pinned: bool) -> RequestsChange
+    ensures { result ≡ request_after_fulfil request pinned }
+{
+    if pinned {
+        RequestsChange::Remove { request }
+    } else {
+        RequestsChange::Edit {
+            request,
+            edit: RequestEdit::Fulfil,
+        }
+    }
+}
+
+fn nodes_after_fulfil(request: RequestId, pinned: bool) -> NodesChange
+    ensures { result ≡ nodes_after_fulfil request pinned }
+{
+    if pinned {
+        NodesChange::FreeAll { request }
+    } else {
+        NodesChange::Same
+    }
+}
+
+/// The launcher hands all the request's nodes over at once; a min-ready request goes, and its node
+/// is free.
+pub fn decide_fulfil<L: Look>(
+    look: &L,
+    session: SessionId,
+    request: RequestId,
+) -> Result<Verdict, Refusal>
+    ensures answer { answer_of result ≡ judge_fulfil (L.state look.now) session request }
+    ensures changes { IfOk result (λ v. v.changes ≡
+        plan_fulfil (L.state look.now) session request) }
+{
+    let pool = launcher(look, session)?;
+    let asked = request_at(look, request)?;
+    by_registrant(look, pool, session)?;
+    by_request_holder(look, request, session)?;
+    if !is_pending_by(pool, &asked) {
+        return Err(wrong_request(&asked));
+    }
+    none_missing(unfilled(look, pool, session, request, &asked))?;
+    let pinned = asked.pinned.is_some();
+    Ok(Verdict {
+        done: Done::Plain,
+        changes: Changes {
+            requests: request_after_fulfil(request, pinned),
+            nodes: nodes_after_fulfil(request, pinned),
+            ..made_by(session, Role::Launcher(pool))
+        },
+    })
+}
+
+/// The janitor gives back a request whose launcher is gone.
+pub fn decide_reset<L: Look>(
+    look: &L,
+    session: SessionId,
+    request: RequestId,
+) -> Result<Verdict, Refusal>
+    ensures answer { answer_of result ≡ judge_reset (L.state look.now) session request }
+    ensures changes { IfOk result (λ v. v.changes ≡ plan_reset (L.state look.now) session request) }
+{
+    let pool = janitor(look, session)?;
+    let asked = request_at(look, request)?;
+    by_request_holder(look, request, session)?;
+    if asked.state != RequestState::Pending {
+        return Err(wrong_request(&asked));
+    }
+    Ok(Verdict {
+        done: Done::Plain,
+        changes: Changes {
+            requests: RequestsChange::Edit {
+                request,
+                edit: RequestEdit::GiveBack,
+            },
+            nodes: NodesChange::FreeAll { request },
+            ..made_by(session, Role::Janitor(pool))
+        },
+    })
+}
+
+/// The janitor fails a request that every registered pool has declined.
+pub fn decide_fail_declined<L: Look>(
+    look: &L,
+    session: SessionId,
+    request: RequestId,
+) -> Result<Verdict, Refusal>
+    ensures answer { answer_of result ≡ judge_fail_declined (L.state look.now) session request }
+    ensures changes { IfOk result (λ v. v.changes ≡
+        plan_fail_declined (L.state look.now) session request) }
+{
+    let pool = janitor(look, session)?;
+    let asked = request_at(look, request)?;
+    if asked.state != RequestState::Requested {
+        return Err(wrong_request(&asked));
+    }
+    if look.registrations() == 0 {
+        return Err(Refusal::NotRegistered);
+    }
+    none_missing(look.undeclined(request) as usize)?;
+    Ok(Verdict {
+        done: Done::Plain,
+        changes: Changes {
+            requests: RequestsChange::Edit {
+                request,
+                edit: RequestEdit::Fail,
+            },
+            ..made_by(session, Role::Janitor(pool))
+        },
+    })
+}

@@ -1,0 +1,356 @@
+//! The rows on semaphores and jobs.
+
+ghost use Rattle.std.specs.Prelude.{◌≡◌, ◌<◌, ◌≤◌, ◌^◌, length, map, IfOk};
+ghost use Rattle.std.specs.List.{list_any, list_all};
+ghost use Rattle.np_text.specs.declared.id.SemId.{SemId};
+ghost use Rattle.np_machine.specs.Tables.{role_of};
+ghost use Rattle.np_machine.specs.Semaphore.{is_full, first_full, judge_acquire, unheld, unended, judge_take, is_busy_with, has_failed_request, is_finishable, ending_of, may_finish, requester_or_janitor, judge_finish, judge_withdraw, may_release, judge_release};
+ghost use Rattle.np_decision.specs.Fits.{Fits};
+ghost use Rattle.np_decision.specs.Plan.{plan_acquire, plan_take, plan_finish, request_after_withdraw, plan_withdraw, plan_release};
+ghost use Rattle.np_decision.specs.Verdicts.{answer_of, asked_request};
+
+use crate::changes::{Changes, Growth, HandlesChange, JobsChange, NodesChange, RequestsChange};
+use crate::look::Look;
+use crate::tests::{
+    is_named, job_at, maker, missing_handles, none_missing, of_requester, record_of, request_at,
+    requester, wrong_job, wrong_request,
+};
+use crate::verdict::{Verdict, made_by};
+use crate::walk::is_requester;
+use np_event::{Done, Refusal};
+use np_record::{JobRecord, MarkRow, Marked, NodeRow};
+use np_site::Job;
+use np_text::{
+    Ending, JobId, NodeId, NodeState, Phase, RequestId, RequestState, RequesterId, Role, SemId,
+    SessionId,
+};
+
+/// As many jobs have a handle as may.
+fn is_full<L: Look>(look: &L, semaphore: SemId) -> bool
+    ensures { result ≡ is_full (L.site look.now) (L.state look.now) semaphore }
+{
+    let max = match look.config().semaphore(semaphore) {
+        None => 0,
+        Some(row) => row.max,
+    };
+    max <= look.handles(semaphore)
+}
+
+/// The first of the job's semaphores that is full and of which it has no handle.
+fn first_full<L: Look>(look: &L, id: JobId, job: &Job) -> Option<SemId>
+    ensures { result ≡ first_full (L.site look.now) (L.state look.now) id job.now }
+{
+    for semaphore in job.semaphores.items() {
+        if !look.has_handle(*semaphore, id) && is_full(look, *semaphore) {
+            return Some(*semaphore);
+        }
+    }
+    None
+}
+
+/// The job takes all its semaphores, or none.
+pub fn decide_acquire<L: Look>(look: &L, session: SessionId, job: JobId) -> Result<Verdict, Refusal>
+    ensures answer { answer_of result ≡
+        judge_acquire (L.site look.now) (L.state look.now) session job }
+    ensures changes { IfOk result (λ v. v.changes ≡ plan_acquire (L.state look.now) session job) }
+{
+    let owner = requester(look, session)?;
+    let row = job_at(look, job)?;
+    let kept = record_of(look, job)?;
+    of_requester(owner, row)?;
+    if kept.phase == Phase::Over {
+        return Err(wrong_job(&kept));
+    }
+    if let Some(full) = first_full(look, job, row) {
+        return Err(Refusal::SemaphoreFull(full));
+    }
+    Ok(Verdict {
+        done: Done::Plain,
+        changes: Changes {
+            grows: Growth::Handles { job },
+            ..made_by(session, Role::Requester(owner))
+        },
+    })
+}
+
+/// How many of the nodes the session does not hold.
+fn unheld<L: Look>(look: &L, session: SessionId, numbers: &NodeRow) -> usize
+    ensures unheld { result ≡ unheld (L.state look.now) session numbers.now }
+    ensures few { result ≤ 32 }
+{
+    let _most = numbers.len();
+    numbers
+        .items()
+        .iter()
+        .filter(|n| !is_named(session, look.node_holder(**n)))
+        .count()
+}
+
+/// The nodes as marks of a job that is done with none of them.
+fn unended_marks(nodes: &[NodeId]) -> MarkRow
+    requires { length nodes.now ≤ 32 }
+    ensures { result ≡ map unended nodes.now }
+{
+    let mut row = MarkRow::new();
+    for node in nodes {
+        let _room = row.push(Marked {
+            node: *node,
+            ended: false,
+        });
+    }
+    row
+}
+
+/// The request of the job.
+fn request_of(job: &JobRecord) -> Result<RequestId, Refusal>
+    ensures { result ≡ asked_request job.now }
+{
+    match job.request {
+        None => Err(Refusal::NoRequest),
+        Some(request) => Ok(request),
+    }
+}
+
+/// The requester takes over the nodes of its fulfilled request.
+pub fn decide_take<L: Look>(look: &L, session: SessionId, job: JobId) -> Result<Verdict, Refusal>
+    requires { Fits (L.site look.now) (L.state look.now) }
+    ensures answer { answer_of result ≡
+        judge_take (L.site look.now) (L.state look.now) session job }
+    ensures changes { IfOk result (λ v. v.changes ≡ plan_take (L.state look.now) session job) }
+{
+    let owner = requester(look, session)?;
+    let row = job_at(look, job)?;
+    let kept = record_of(look, job)?;
+    of_requester(owner, row)?;
+    if kept.phase != Phase::Asked {
+        return Err(wrong_job(&kept));
+    }
+    let request = request_of(&kept)?;
+    let asked = request_at(look, request)?;
+    if asked.state != RequestState::Fulfilled {
+        return Err(wrong_request(&asked));
+    }
+    none_missing(unheld(look, session, &asked.nodes))?;
+    none_missing(missing_handles(look, job, row))?;
+    let _most = asked.nodes.len();
+    Ok(Verdict {
+        done: Done::Plain,
+        changes: Changes {
+            requests: RequestsChange::Remove { request },
+            nodes: NodesChange::TakeOver { nodes: asked.nodes },
+            jobs: JobsChange::Put {
+                job,
+                kept: JobRecord {
+                    nodes: unended_marks(asked.nodes.items()),
+                    phase: Phase::Using,
+                    pool: asked.pool,
+                    ..kept
+                },
+            },
+            ..made_by(session, Role::Requester(owner))
+        },
+    })
+}
+
+fn role_of<L: Look>(look: &L, session: SessionId) -> Option<Role>
+    ensures { result ≡ role_of session (L.state look.now) }
+{
+    match look.session(session) {
+        None => None,
+        Some(facts) => Some(facts.role),
+    }
+}
+
+/// Whether the node is in use, and held by a session of the requester.
+fn is_busy_with<L: Look>(look: &L, requester: RequesterId, node: NodeId) -> bool
+    ensures { result ≡ is_busy_with requester (L.state look.now) node }
+{
+    let Some(kept) = look.node(node) else {
+        return false;
+    };
+    if kept.state != NodeState::InUse {
+        return false;
+    }
+    let Some(holder) = look.node_holder(node) else {
+        return false;
+    };
+    is_requester(requester, role_of(look, holder))
+}
+
+fn is_any_busy<L: Look>(look: &L, requester: RequesterId, nodes: &[Marked]) -> bool
+    ensures { result ≡ list_any (λ m. is_busy_with requester (L.state look.now) m.node) nodes.now }
+{
+    nodes.iter().any(|m| is_busy_with(look, requester, m.node))
+}
+
+fn has_failed_request<L: Look>(look: &L, kept: &JobRecord) -> bool
+    ensures { result ≡ has_failed_request (L.state look.now) kept.now }
+{
+    let Some(request) = kept.request else {
+        return false;
+    };
+    match look.asked(request) {
+        None => false,
+        Some(asked) => asked.state == RequestState::Failed,
+    }
+}
+
+/// Whether the job is asked and its request failed, or using and done with each of its nodes.
+fn is_finishable<L: Look>(look: &L, job: &Job, kept: &JobRecord) -> bool
+    ensures { result ≡ is_finishable (L.state look.now) job.now kept.now }
+{
+    if kept.phase == Phase::Asked && has_failed_request(look, kept) {
+        return true;
+    }
+    kept.phase == Phase::Using && !is_any_busy(look, job.requester, kept.nodes.items())
+}
+
+fn requester_or_janitor(role: Role) -> Result<(), Refusal>
+    ensures { result ≡ requester_or_janitor role }
+{
+    match role {
+        Role::Launcher(_) | Role::Reaper => Err(Refusal::WrongRole),
+        Role::Janitor(_) | Role::Requester(_) => Ok(()),
+    }
+}
+
+/// The requester its own job, the janitor one that was left alone.
+fn may_finish<L: Look>(look: &L, job: &Job, role: Role) -> Result<(), Refusal>
+    ensures { result ≡ may_finish (L.state look.now) job.now role }
+{
+    let own = match role {
+        Role::Launcher(_) | Role::Reaper => return Err(Refusal::WrongRole),
+        Role::Janitor(_) => !look.has_live_session(job.requester),
+        Role::Requester(requester) => job.requester.0 == requester.0,
+    };
+    if own { Ok(()) } else { Err(Refusal::NotOwner) }
+}
+
+fn are_ended(nodes: &[Marked]) -> bool
+    ensures { result ≡ list_all (λ m. m.ended) nodes.now }
+{
+    nodes.iter().all(|m| m.ended)
+}
+
+/// How a job ends that is finished now.
+fn ending_of(kept: &JobRecord) -> Ending
+    ensures { result ≡ ending_of kept.now }
+{
+    if kept.phase == Phase::Asked {
+        return Ending::Failed;
+    }
+    if are_ended(kept.nodes.items()) {
+        Ending::Served
+    } else {
+        Ending::Lost
+    }
+}
+
+/// The job is over; a janitor finishes it where its requester has no session left.
+pub fn decide_finish<L: Look>(look: &L, session: SessionId, job: JobId) -> Result<Verdict, Refusal>
+    ensures answer { answer_of result ≡
+        judge_finish (L.site look.now) (L.state look.now) session job }
+    ensures changes { IfOk result (λ v. v.changes ≡ plan_finish (L.state look.now) session job) }
+{
+    let role = maker(look, session)?;
+    requester_or_janitor(role)?;
+    let row = job_at(look, job)?;
+    let kept = record_of(look, job)?;
+    may_finish(look, row, role)?;
+    if !is_finishable(look, row, &kept) {
+        return Err(wrong_job(&kept));
+    }
+    let ending = ending_of(&kept);
+    Ok(Verdict {
+        done: Done::Ended(ending),
+        changes: Changes {
+            jobs: JobsChange::Put {
+                job,
+                kept: JobRecord {
+                    ending: Some(ending),
+                    phase: Phase::Over,
+                    ..kept
+                },
+            },
+            ..made_by(session, role)
+        },
+    })
+}
+
+/// The request goes, where there is one.
+fn request_after_withdraw(request: Option<RequestId>) -> RequestsChange
+    ensures { result ≡ request_after_withdraw request }
+{
+    match request {
+        None => RequestsChange::Same,
+        Some(request) => RequestsChange::Remove { request },
+    }
+}
+
+/// The requester gives its job up before it has nodes.
+pub fn decide_withdraw<L: Look>(
+    look: &L,
+    session: SessionId,
+    job: JobId,
+) -> Result<Verdict, Refusal>
+    ensures answer { answer_of result ≡
+        judge_withdraw (L.site look.now) (L.state look.now) session job }
+    ensures changes { IfOk result (λ v. v.changes ≡ plan_withdraw (L.state look.now) session job) }
+{
+    let owner = requester(look, session)?;
+    let row = job_at(look, job)?;
+    let kept = record_of(look, job)?;
+    of_requester(owner, row)?;
+    if kept.phase != Phase::New && kept.phase != Phase::Asked {
+        return Err(wrong_job(&kept));
+    }
+    Ok(Verdict {
+        done: Done::Plain,
+        changes: Changes {
+            requests: request_after_withdraw(kept.request),
+            jobs: JobsChange::Put {
+                job,
+                kept: JobRecord {
+                    ending: Some(Ending::Withdrawn),
+                    phase: Phase::Over,
+                    ..kept
+                },
+            },
+            ..made_by(session, Role::Requester(owner))
+        },
+    })
+}
+
+/// The requester its own job, any janitor.
+fn may_release(job: &Job, role: Role) -> Result<(), Refusal>
+    ensures { result ≡ may_release job.now role }
+{
+    match role {
+        Role::Launcher(_) | Role::Reaper => Err(Refusal::WrongRole),
+        Role::Janitor(_) => Ok(()),
+        Role::Requester(requester) => of_requester(requester, job),
+    }
+}
+
+/// The job's handles are given back.
+pub fn decide_release<L: Look>(look: &L, session: SessionId, job: JobId) -> Result<Verdict, Refusal>
+    ensures answer { answer_of result ≡
+        judge_release (L.site look.now) (L.state look.now) session job }
+    ensures changes { IfOk result (λ v. v.changes ≡ plan_release (L.state look.now) session job) }
+{
+    let role = maker(look, session)?;
+    requester_or_janitor(role)?;
+    let row = job_at(look, job)?;
+    let kept = record_of(look, job)?;
+    may_release(row, role)?;
+    if kept.phase != Phase::Over {
+        return Err(wrong_job(&kept));
+    }
+    Ok(Verdict {
+        done: Done::Plain,
+        changes: Changes {
+            handles: HandlesChange::Release { job },
+            ..made_by(session, role)
+        },
+    })
+}

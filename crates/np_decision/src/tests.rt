@@ -1,0 +1,336 @@
+//! Tests that rows share, each with its refusal.
+
+ghost use Rattle.std.specs.Prelude.{◌≡◌, ◌<◌, ◌≤◌, ◌^◌, ◌==◌, length, find, not};
+ghost use Rattle.np_amount.specs.Amounts.{fits};
+ghost use Rattle.np_machine.specs.Tables.{is_session_of, is_request};
+ghost use Rattle.np_machine.specs.Order.{is_pool, is_pending_by};
+ghost use Rattle.np_machine.specs.Count.{is_offered, amount_of_all, limit_of, is_short, count_of};
+ghost use Rattle.np_machine.specs.Reasons.{next_label};
+ghost use Rattle.np_machine.specs.Tests.{maker, launcher, janitor, requester, request_at, node_at, job_at, record_of, of_requester, by_registrant, by_request_holder, by_node_holder, of_pool, wrong_request, wrong_node, wrong_job, none_missing, missing_handles};
+ghost use Rattle.np_decision.specs.Fits.{Fits};
+ghost use Rattle.np_decision.specs.Views.{new_record};
+ghost use Rattle.np_decision.specs.Verdicts.{without_declines, row_of_job, has_room};
+
+use crate::asked::Asked;
+use crate::count;
+use crate::look::Look;
+use np_amount::Amount;
+use np_event::{Found, Refusal};
+use np_record::{JobRecord, NodeRecord};
+use np_site::Job;
+use np_text::{
+    JobId, LabelId, NodeId, NodeState, PoolId, RequestId, RequestState, RequesterId, Role,
+    SessionId,
+};
+
+// The maker.
+
+/// The role of the session that makes the event.
+pub(crate) fn maker<L: Look>(look: &L, session: SessionId) -> Result<Role, Refusal>
+    ensures { result ≡ maker (L.state look.now) session }
+{
+    let Some(facts) = look.session(session) else {
+        return Err(Refusal::NoSession);
+    };
+    if !facts.live {
+        return Err(Refusal::Expired);
+    }
+    if facts.mute {
+        return Err(Refusal::Crashed);
+    }
+    Ok(facts.role)
+}
+
+/// The pool whose launcher makes the event.
+pub(crate) fn launcher<L: Look>(look: &L, session: SessionId) -> Result<PoolId, Refusal>
+    ensures { result ≡ launcher (L.state look.now) session }
+{
+    match maker(look, session)? {
+        Role::Launcher(pool) => Ok(pool),
+        Role::Janitor(_) | Role::Requester(_) | Role::Reaper => Err(Refusal::WrongRole),
+    }
+}
+
+/// The pool whose janitor makes the event.
+pub(crate) fn janitor<L: Look>(look: &L, session: SessionId) -> Result<PoolId, Refusal>
+    ensures { result ≡ janitor (L.state look.now) session }
+{
+    match maker(look, session)? {
+        Role::Janitor(pool) => Ok(pool),
+        Role::Launcher(_) | Role::Requester(_) | Role::Reaper => Err(Refusal::WrongRole),
+    }
+}
+
+/// The requester that makes the event.
+pub(crate) fn requester<L: Look>(look: &L, session: SessionId) -> Result<RequesterId, Refusal>
+    ensures { result ≡ requester (L.state look.now) session }
+{
+    match maker(look, session)? {
+        Role::Requester(requester) => Ok(requester),
+        Role::Launcher(_) | Role::Janitor(_) | Role::Reaper => Err(Refusal::WrongRole),
+    }
+}
+
+// What the event names.
+
+/// The request without its declines.
+pub(crate) fn request_at<L: Look>(look: &L, request: RequestId) -> Result<Asked, Refusal>
+    ensures { result ≡ without_declines (request_at (L.state look.now) request) }
+{
+    match look.asked(request) {
+        None => Err(Refusal::NoRequest),
+        Some(asked) => Ok(asked),
+    }
+}
+
+/// The node's record.
+pub(crate) fn node_at<L: Look>(look: &L, node: NodeId) -> Result<NodeRecord, Refusal>
+    ensures { result ≡ node_at (L.state look.now) node }
+{
+    match look.node(node) {
+        None => Err(Refusal::NoNode),
+        Some(kept) => Ok(kept),
+    }
+}
+
+/// The job as the configuration has it.
+pub(crate) fn job_at<L: Look>(look: &L, job: JobId) -> Result<&Job, Refusal>
+    ensures { row_of_job result ≡ job_at (L.site look.now) job }
+{
+    match look.config().job(job) {
+        None => Err(Refusal::NoJob),
+        Some(row) => Ok(row),
+    }
+}
+
+/// The job as the machine keeps it.
+pub(crate) fn record_of<L: Look>(look: &L, job: JobId) -> Result<JobRecord, Refusal>
+    ensures { result ≡ record_of (L.state look.now) job }
+{
+    match look.job(job) {
+        None => Err(Refusal::NoJob),
+        Some(kept) => Ok(kept),
+    }
+}
+
+// Who may.
+
+/// Whether the option names this session.
+pub(crate) fn is_named(session: SessionId, found: Option<SessionId>) -> bool
+    ensures { result ≡ is_session_of session found }
+{
+    match found {
+        None => false,
+        Some(other) => other.0 == session.0,
+    }
+}
+
+/// Whether the option names this request.
+pub(crate) fn is_of_request(request: RequestId, found: Option<RequestId>) -> bool
+    ensures { result ≡ is_request request found }
+{
+    match found {
+        None => false,
+        Some(other) => other.priority == request.priority && other.seq == request.seq,
+    }
+}
+
+/// The job is the requester's own.
+pub(crate) fn of_requester(requester: RequesterId, job: &Job) -> Result<(), Refusal>
+    ensures { result ≡ of_requester requester job.now }
+{
+    if job.requester.0 == requester.0 {
+        Ok(())
+    } else {
+        Err(Refusal::NotOwner)
+    }
+}
+
+/// The node is of the maker's pool.
+pub(crate) fn of_pool(pool: PoolId, node: &NodeRecord) -> Result<(), Refusal>
+    ensures { result ≡ of_pool pool node.now }
+{
+    if node.pool.0 == pool.0 {
+        Ok(())
+    } else {
+        Err(Refusal::NotOwner)
+    }
+}
+
+/// The maker holds its pool's registration.
+pub(crate) fn by_registrant<L: Look>(
+    look: &L,
+    pool: PoolId,
+    session: SessionId,
+) -> Result<(), Refusal>
+    ensures { result ≡ by_registrant (L.state look.now) pool session }
+{
+    if is_named(session, look.registration(pool)) {
+        Ok(())
+    } else {
+        Err(Refusal::NotRegistered)
+    }
+}
+
+/// The maker is first in the request's queue.
+pub(crate) fn by_request_holder<L: Look>(
+    look: &L,
+    request: RequestId,
+    session: SessionId,
+) -> Result<(), Refusal>
+    ensures { result ≡ by_request_holder (L.state look.now) request session }
+{
+    if is_named(session, look.request_holder(request)) {
+        Ok(())
+    } else {
+        Err(Refusal::NotHeld)
+    }
+}
+
+/// The maker is first in the node's queue.
+pub(crate) fn by_node_holder<L: Look>(
+    look: &L,
+    node: NodeId,
+    session: SessionId,
+) -> Result<(), Refusal>
+    ensures { result ≡ by_node_holder (L.state look.now) node session }
+{
+    if is_named(session, look.node_holder(node)) {
+        Ok(())
+    } else {
+        Err(Refusal::NotHeld)
+    }
+}
+
+// States.
+
+/// The refusal that shows a request's state.
+pub(crate) fn wrong_request(asked: &Asked) -> Refusal
+    ensures { result ≡ wrong_request (new_record asked.now) }
+{
+    Refusal::WrongState(Found::Request(asked.state))
+}
+
+/// The refusal that shows a node's state; a building node with a launch running shows so.
+pub(crate) fn wrong_node(node: &NodeRecord) -> Refusal
+    ensures { result ≡ wrong_node node.now }
+{
+    if node.state == NodeState::Building && node.in_flight {
+        Refusal::WrongState(Found::InFlight)
+    } else {
+        Refusal::WrongState(Found::Node(node.state))
+    }
+}
+
+/// The refusal that shows a job's phase.
+pub(crate) fn wrong_job(job: &JobRecord) -> Refusal
+    ensures { result ≡ wrong_job job.now }
+{
+    Refusal::WrongState(Found::Job(job.phase))
+}
+
+/// Whether the option names this pool.
+pub(crate) fn is_of_pool(pool: PoolId, found: Option<PoolId>) -> bool
+    ensures { result ≡ is_pool pool found }
+{
+    match found {
+        None => false,
+        Some(other) => other.0 == pool.0,
+    }
+}
+
+/// Whether the request is pending, and this pool serves it.
+pub(crate) fn is_pending_by(pool: PoolId, asked: &Asked) -> bool
+    ensures { result ≡ is_pending_by pool (new_record asked.now) }
+{
+    asked.state == RequestState::Pending && is_of_pool(pool, asked.pool)
+}
+
+/// The label that the request's next node is to have.
+pub(crate) fn next_label(asked: &Asked) -> Option<LabelId>
+    ensures { result ≡ next_label (new_record asked.now) }
+{
+    asked.labels.at(asked.nodes.len())
+}
+
+/// Refused where some are missing.
+pub(crate) fn none_missing(missing: usize) -> Result<(), Refusal>
+    requires { missing < 2 ^ 32 }
+    ensures { result ≡ none_missing missing }
+{
+    if missing != 0 {
+        return Err(Refusal::NotAll(missing as u32));
+    }
+    Ok(())
+}
+
+// Quota and semaphores.
+
+/// The first of the labels that the pool does not offer.
+pub(crate) fn first_unoffered<L: Look>(
+    look: &L,
+    pool: PoolId,
+    labels: &[LabelId],
+) -> Option<LabelId>
+    ensures { result ≡ find (λ l. not (is_offered (L.site look.now) pool l)) labels.now }
+{
+    count::first_unoffered(look.config(), pool, labels)
+}
+
+/// Whether the pool offers the label.
+pub(crate) fn is_offered<L: Look>(look: &L, pool: PoolId, label: LabelId) -> bool
+    ensures { result ≡ is_offered (L.site look.now) pool label }
+{
+    count::is_offered(look.config(), pool, label)
+}
+
+/// Whether the labels together pass a limit of the pool, however empty it is.
+pub(crate) fn is_too_much<L: Look>(look: &L, pool: PoolId, labels: &[LabelId]) -> bool
+    requires fits { Fits (L.site look.now) (L.state look.now) }
+    requires few { length labels.now < 2 ^ 32 }
+    ensures { result ≡
+        not (fits (amount_of_all (L.site look.now) pool labels.now)
+        (limit_of (L.site look.now) pool)) }
+{
+    count::is_too_much(look.config(), pool, labels)
+}
+
+/// The pool has room for one more node of the label.
+pub(crate) fn has_room<L: Look>(look: &L, pool: PoolId, label: LabelId) -> Result<(), Refusal>
+    requires { Fits (L.site look.now) (L.state look.now) }
+    ensures { result ≡ has_room (L.site look.now) (L.state look.now) pool label }
+{
+    let used = look.used(pool);
+    if lacks_room(look, pool, label, used) {
+        return Err(Refusal::QuotaShort {
+            instances: used.instances,
+            cores: used.cores,
+            ram: used.ram,
+        });
+    }
+    Ok(())
+}
+
+/// Whether one more node of the label passes a limit of the pool that uses so much.
+pub(crate) fn lacks_room<L: Look>(look: &L, pool: PoolId, label: LabelId, used: Amount) -> bool
+    requires fits { Fits (L.site look.now) (L.state look.now) }
+    requires used { used ≡ count_of (L.site look.now) (L.state look.now) pool }
+    requires instances { used.instances < 2 ^ 63 }
+    requires cores { used.cores < 2 ^ 63 }
+    requires ram { used.ram < 2 ^ 63 }
+    ensures { result ≡ is_short (L.site look.now) (L.state look.now) pool label }
+{
+    count::lacks_room(look.config(), pool, label, used)
+}
+
+/// How many of the job's semaphores it has no handle of.
+pub(crate) fn missing_handles<L: Look>(look: &L, id: JobId, job: &Job) -> usize
+    ensures missing { result ≡ missing_handles (L.state look.now) id job.now }
+    ensures few { result ≤ length job.now.semaphores }
+{
+    job.semaphores
+        .items()
+        .iter()
+        .filter(|x| !look.has_handle(**x, id))
+        .count()
+}

@@ -1,0 +1,26 @@
+//! That an event is accepted.
+
+ghost use Rattle.std.specs.Prelude.{◌≡◌};
+ghost use Rattle.np_decision.specs.Plan.{same, made_by};
+
+use crate::changes::{Changes, Deed, Maker, SAME};
+use np_event::Done;
+use np_text::{Role, SessionId};
+
+/// That the event is accepted: what it is answered, and what it changes.
+#[derive(Clone, Copy)]
+pub struct Verdict {
+    pub done: Done,
+    pub changes: Changes,
+}
+
+/// One act of the session's role, and nothing else.
+pub(crate) fn made_by(session: SessionId, role: Role) -> Changes
+    ensures { result ≡ made_by session role same }
+{
+    Changes {
+        maker: Some(Maker { session, role }),
+        deed: Some(Deed::Acts),
+        ..SAME
+    }
+}

@@ -1,0 +1,216 @@
+//! What the walks of a reader ask of each row.
+
+ghost use Rattle.std.specs.Prelude.{◌≡◌, ◌<◌, ◌≤◌, ◌^◌, ◌&&◌, ◌||◌, ◌==◌, is_none, cond, Some};
+ghost use Rattle.np_text.specs.declared.id.LabelId.{LabelId};
+ghost use Rattle.np_machine.specs.Count.{amount_of};
+ghost use Rattle.np_decision.specs.Fits.{AmountFits};
+ghost use Rattle.np_decision.specs.Readers.{short_label};
+ghost use Rattle.np_machine.specs.Kinds.{is_requested, is_pending, is_failed, is_ready};
+ghost use Rattle.np_machine.specs.Tables.{is_marked};
+ghost use Rattle.np_machine.specs.Order.{comes_before, is_pool, is_declined_by, is_pending_by, is_candidate};
+ghost use Rattle.np_machine.specs.Reasons.{is_spare};
+ghost use Rattle.np_machine.specs.Request.{is_min_ready_for};
+ghost use Rattle.np_machine.specs.Semaphore.{is_requesters};
+ghost use Rattle.np_decision.specs.Views.{asked_of, request_seen, node_seen, earlier_view};
+
+use crate::asked::{Asked, NodeView, RequestView};
+use crate::count::lacks_room;
+use np_amount::Amount;
+use np_config::Config;
+use np_machine::SessionFacts;
+use np_record::{Declined, JobRecord, NodeRecord, RequestRecord};
+use np_text::{LabelId, NodeId, NodeState, PoolId, RequestState, RequesterId, Role};
+
+/// The request's record without its declines.
+pub(crate) fn asked_of(kept: &RequestRecord) -> Asked
+    ensures { result ≡ asked_of kept.now }
+{
+    Asked {
+        job: kept.job,
+        labels: kept.labels,
+        nodes: kept.nodes,
+        pinned: kept.pinned,
+        pool: kept.pool,
+        relative_priority: kept.relative_priority,
+        state: kept.state,
+    }
+}
+
+/// Whether the pool is among the declines.
+pub(crate) fn is_declined_by(pool: PoolId, declined: &[Declined]) -> bool
+    ensures { result ≡ is_declined_by pool declined.now }
+{
+    declined.iter().any(|d| d.pool.0 == pool.0)
+}
+
+fn names_pool(pool: PoolId, found: Option<PoolId>) -> bool
+    ensures { result ≡ is_pool pool found }
+{
+    match found {
+        None => false,
+        Some(other) => other.0 == pool.0,
+    }
+}
+
+/// Whether the pool's launcher may take the request up next.
+pub(crate) fn is_candidate(pool: PoolId, view: &RequestView) -> bool
+    ensures { result ≡ is_candidate pool (request_seen view.now) }
+{
+    let elsewhere = match view.kept.pinned {
+        None => false,
+        Some(other) => other.0 != pool.0,
+    };
+    view.kept.state == RequestState::Requested
+        && view.holder.is_none()
+        && !is_declined_by(pool, view.kept.declined.items())
+        && !elsewhere
+}
+
+/// By priority, then relative priority, then sequence.
+fn comes_before(a: &RequestView, b: &RequestView) -> bool
+    ensures { result ≡ comes_before (request_seen a.now) (request_seen b.now) }
+{
+    if a.id.priority != b.id.priority {
+        return a.id.priority < b.id.priority;
+    }
+    if a.kept.relative_priority != b.kept.relative_priority {
+        return a.kept.relative_priority < b.kept.relative_priority;
+    }
+    a.id.seq < b.id.seq
+}
+
+/// The earlier of both.
+pub(crate) fn earlier(best: Option<RequestView>, view: RequestView) -> RequestView
+    ensures { result ≡ earlier_view best view }
+{
+    let Some(other) = best else {
+        return view;
+    };
+    if comes_before(&view, &other) {
+        view
+    } else {
+        other
+    }
+}
+
+fn is_min_ready_for(label: LabelId, request: &RequestRecord) -> bool
+    ensures { result ≡ is_min_ready_for label request.now }
+{
+    if request.pinned.is_none() {
+        return false;
+    }
+    match request.labels.at(0) {
+        None => false,
+        Some(other) => other.0 == label.0,
+    }
+}
+
+/// Whether it is a failed min-ready request of the pool for the label.
+pub(crate) fn is_spent_min_ready(pool: PoolId, label: LabelId, request: &RequestRecord) -> bool
+    ensures { result ≡
+        (is_failed request.now.state && is_pool pool request.now.pinned
+        && is_min_ready_for label request.now) }
+{
+    request.state == RequestState::Failed
+        && names_pool(pool, request.pinned)
+        && is_min_ready_for(label, request)
+}
+
+/// Whether it is a min-ready request for the label that is requested or pending.
+pub(crate) fn is_coming(label: LabelId, request: &RequestRecord) -> bool
+    ensures { result ≡
+        ((is_requested request.now.state || is_pending request.now.state)
+        && is_min_ready_for label request.now) }
+{
+    (request.state == RequestState::Requested || request.state == RequestState::Pending)
+        && is_min_ready_for(label, request)
+}
+
+/// Whether it is a ready node of the label that is allocated to no request.
+pub(crate) fn is_free_ready(label: LabelId, node: &NodeRecord) -> bool
+    ensures { result ≡
+        (is_ready node.now.state && is_none node.now.allocated_to
+        && (node.now.label.0 == label.0)) }
+{
+    node.state == NodeState::Ready && node.allocated_to.is_none() && node.label.0 == label.0
+}
+
+/// Whether it is a ready, free and unlocked node of the pool with the label.
+pub(crate) fn is_spare(pool: PoolId, label: LabelId, view: &NodeView) -> bool
+    ensures { result ≡ is_spare pool label (node_seen view.now) }
+{
+    view.kept.state == NodeState::Ready
+        && view.kept.allocated_to.is_none()
+        && view.holder.is_none()
+        && view.kept.pool.0 == pool.0
+        && view.kept.label.0 == label.0
+}
+
+fn is_pending_by(pool: PoolId, request: &RequestRecord) -> bool
+    ensures { result ≡ is_pending_by pool request.now }
+{
+    request.state == RequestState::Pending && names_pool(pool, request.pool)
+}
+
+/// The next label of the request, where the pool serves it and has no room for a node of the label.
+pub(crate) fn short_label(
+    config: &Config,
+    pool: PoolId,
+    used: Amount,
+    request: &RequestRecord,
+) -> Option<LabelId>
+    requires instances { used.instances < 2 ^ 63 }
+    requires cores { used.cores < 2 ^ 63 }
+    requires ram { used.ram < 2 ^ 63 }
+    requires small { (l : LabelId) → AmountFits (amount_of config.now pool l) }
+    ensures { result ≡ short_label config.now pool used request.now }
+{
+    if !is_pending_by(pool, request) {
+        return None;
+    }
+    let label = request.labels.at(request.nodes.len())?;
+    if lacks_room(config, pool, label, used) {
+        Some(label)
+    } else {
+        None
+    }
+}
+
+/// 1 where it holds.
+pub(crate) fn one_if(holds: bool) -> u32
+    ensures one { result ≡ cond holds 1 0 }
+    ensures few { result ≤ 1 }
+{
+    if holds { 1 } else { 0 }
+}
+
+/// Whether the other pool is among the declines, or is this pool.
+pub(crate) fn declines_or_is(pool: PoolId, other: PoolId, declined: &[Declined]) -> bool
+    ensures { result ≡ (is_declined_by other declined.now || (pool.0 == other.0)) }
+{
+    is_declined_by(other, declined) || pool.0 == other.0
+}
+
+/// Whether it is a session of the requester that has not expired.
+pub(crate) fn is_live_of(requester: RequesterId, facts: &SessionFacts) -> bool
+    ensures { result ≡ (facts.now.live && is_requesters requester (Some facts.now.role)) }
+{
+    facts.live && is_requester(requester, Some(facts.role))
+}
+
+/// Whether the job has the node among its nodes.
+pub(crate) fn is_marked(node: NodeId, job: &JobRecord) -> bool
+    ensures { result ≡ is_marked node job.now }
+{
+    job.nodes.items().iter().any(|m| m.node.0 == node.0)
+}
+
+/// Whether the role is this requester.
+pub(crate) fn is_requester(requester: RequesterId, role: Option<Role>) -> bool
+    ensures { result ≡ is_requesters requester role }
+{
+    match role {
+        Some(Role::Requester(other)) => other.0 == requester.0,
+        Some(Role::Launcher(_)) | Some(Role::Janitor(_)) | Some(Role::Reaper) | None => false,
+    }
+}
