@@ -1,5 +1,5 @@
 -- Words read back.
-use Rattle.std.proofs.Common.{◌≡◌, ℕ, Bool, true, false, cond, List, [], ◌∷◌, Option, Some, None, refl, sym, ap, ◌∙◌}
+use Rattle.std.proofs.Common.{◌≡◌, ℕ, Bool, true, false, cond, List, [], ◌∷◌, Option, Some, refl, sym, ap, ◌∙◌}
 use Rattle.std.specs.List.{find}
 use Rattle.std.specs.Str.{bytes_eq}
 use Rattle.std.proofs.lemmas.Slice.Eq.{bytes_eq-Decides}
@@ -34,56 +34,49 @@ find-word {X = X} word (y ∷ ys) x text is = cases (bytes_eq text (word y)) ref
     cases true here is rest = sym ((bytes_eq-Decides text (word y)).0 here ∙ ap word (some_injective y x is))
     cases false here is rest = rest is
 
-request_state_again : (x : RequestState) → request_state_of (request_state_word x) ≡ Some x
-request_state_again request.Requested = refl
-request_state_again request.Pending = refl
-request_state_again request.Fulfilled = refl
-request_state_again request.Failed = refl
+-- values have their words where each is found by its word
+AreWords-found : {X : Type 0} (word : X → List ℕ) (xs : List X) → ((x : X) → find (λ y. bytes_eq (word x) (word y)) xs ≡ Some x)
+    → AreWords word (λ text. find (λ y. bytes_eq text (word y)) xs)
+AreWords-found word xs again = record { reads_back = again; spelled = find-word word xs }
 
 pub request_state_words : AreWords request_state_word request_state_of
-request_state_words = record { reads_back = request_state_again; spelled = find-word request_state_word request_states }
-
-node_state_again : (x : NodeState) → node_state_of (node_state_word x) ≡ Some x
-node_state_again node.Building = refl
-node_state_again node.Ready = refl
-node_state_again node.InUse = refl
-node_state_again node.Used = refl
-node_state_again node.Hold = refl
-node_state_again node.Deleting = refl
-node_state_again node.Failed = refl
+request_state_words = AreWords-found request_state_word request_states again
+  where
+    again : (x : RequestState) → request_state_of (request_state_word x) ≡ Some x
+    again request.Requested = refl
+    again x = refl
 
 pub node_state_words : AreWords node_state_word node_state_of
-node_state_words = record { reads_back = node_state_again; spelled = find-word node_state_word node_states }
-
-end_as_again : (x : EndAs) → end_as_of (end_as_word x) ≡ Some x
-end_as_again end.Used = refl
-end_as_again end.Hold = refl
+node_state_words = AreWords-found node_state_word node_states again
+  where
+    again : (x : NodeState) → node_state_of (node_state_word x) ≡ Some x
+    again node.Building = refl
+    again x = refl
 
 pub end_as_words : AreWords end_as_word end_as_of
-end_as_words = record { reads_back = end_as_again; spelled = find-word end_as_word ends }
-
-phase_again : (x : Phase) → phase_of (phase_word x) ≡ Some x
-phase_again phase.New = refl
-phase_again phase.Asked = refl
-phase_again phase.Using = refl
-phase_again phase.Over = refl
+end_as_words = AreWords-found end_as_word ends again
+  where
+    again : (x : EndAs) → end_as_of (end_as_word x) ≡ Some x
+    again end.Used = refl
+    again x = refl
 
 pub phase_words : AreWords phase_word phase_of
-phase_words = record { reads_back = phase_again; spelled = find-word phase_word phases }
-
-ending_again : (x : Ending) → ending_of (ending_word x) ≡ Some x
-ending_again ending.Served = refl
-ending_again ending.Lost = refl
-ending_again ending.Failed = refl
-ending_again ending.Withdrawn = refl
+phase_words = AreWords-found phase_word phases again
+  where
+    again : (x : Phase) → phase_of (phase_word x) ≡ Some x
+    again phase.New = refl
+    again x = refl
 
 pub ending_words : AreWords ending_word ending_of
-ending_words = record { reads_back = ending_again; spelled = find-word ending_word endings }
-
-role_kind_again : (x : RoleKind) → role_kind_of (role_kind_word x) ≡ Some x
-role_kind_again role.Launcher = refl
-role_kind_again role.Janitor = refl
-role_kind_again role.Requester = refl
+ending_words = AreWords-found ending_word endings again
+  where
+    again : (x : Ending) → ending_of (ending_word x) ≡ Some x
+    again ending.Served = refl
+    again x = refl
 
 pub role_kind_words : AreWords role_kind_word role_kind_of
-role_kind_words = record { reads_back = role_kind_again; spelled = find-word role_kind_word role_kinds }
+role_kind_words = AreWords-found role_kind_word role_kinds again
+  where
+    again : (x : RoleKind) → role_kind_of (role_kind_word x) ≡ Some x
+    again role.Launcher = refl
+    again x = refl

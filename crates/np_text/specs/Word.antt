@@ -66,6 +66,7 @@ ending_word ending.Withdrawn = codes "withdrawn"
 abbrev pub reason_kind_word : ReasonKind → List ℕ
 reason_kind_word kind.NoLabel = codes "no-label"
 reason_kind_word kind.NeverFits = codes "never-fits"
+reason_kind_word kind.TenantNeverFits = codes "tenant-never-fits"
 reason_kind_word kind.Spent = codes "spent"
 
 -- which kind of role (own)
@@ -78,6 +79,7 @@ role_kind_word role.Requester = codes "requester"
 abbrev pub reason_text_of : Reason → List ℕ
 reason_text_of (reason.NoLabel l) = reason_kind_word kind.NoLabel ++ codes "-l" ++ decimal l.0
 reason_text_of reason.NeverFits = reason_kind_word kind.NeverFits
+reason_text_of reason.TenantNeverFits = reason_kind_word kind.TenantNeverFits
 reason_text_of (reason.Spent n) = reason_kind_word kind.Spent ++ codes "-n" ++ decimal n.0
 
 -- ## The value of a word, where it is the word of one

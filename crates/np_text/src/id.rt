@@ -17,6 +17,11 @@ pub struct LabelId(pub u16);
 #[derive(Clone, Copy, Debug, PartialEq, Eq, PartialOrd, Ord)]
 pub struct SemId(pub u16);
 
+/// A tenant's number: 0 is the tenant `default`, and those of the configuration count from 1, in its
+/// order; in text `t0`.
+#[derive(Clone, Copy, Debug, PartialEq, Eq, PartialOrd, Ord)]
+pub struct TenantId(pub u16);
+
 /// A requester's place in the configuration, from 0; in text `q0`.
 #[derive(Clone, Copy, Debug, PartialEq, Eq, PartialOrd, Ord)]
 pub struct RequesterId(pub u16);

@@ -17,7 +17,9 @@ mod number;
 mod request;
 mod word;
 
-pub use id::{JobId, LabelId, NodeId, PoolId, RequestId, RequesterId, Role, SemId, SessionId};
+pub use id::{
+    JobId, LabelId, NodeId, PoolId, RequestId, RequesterId, Role, SemId, SessionId, TenantId,
+};
 pub use law::{
     a_name_is_ascii, a_number_has_one_spelling, a_request_has_one_spelling, a_value_has_one_word,
     a_walk_gives_the_lines, request_texts_stand_in_order, sections_part_at_the_first_bar,
@@ -27,7 +29,7 @@ pub use limit::{
     AGE, CONCURRENCY, FAIL_STARTS, FAULT_ACTS, FAULTS, HANDLES, INPUT_BYTES, JOB_LABELS,
     JOB_SEMAPHORES, JOBS, JOURNAL_ENTRIES, LABELS, LAUNCHES, MIN_READY, NAME_BYTES, NODE_CORES,
     NODE_RAM, POOL_CORES, POOL_RAM, POOL_SERVERS, POOLS, PROVIDERS, RELATIVE_PRIORITY, REQUESTERS,
-    SEMAPHORES, SEQUENCE, START_NUMBER, WINDOW, ZNODE_BYTES,
+    SEMAPHORES, SEQUENCE, START_NUMBER, TENANTS, WINDOW, ZNODE_BYTES,
 };
 pub use lines::{line_at, split_sections};
 pub use memory::NoMemory;

@@ -25,6 +25,8 @@ pub const PROVIDERS: usize = 64;
 pub const POOLS: usize = 64;
 /// The most semaphores of a configuration.
 pub const SEMAPHORES: usize = 64;
+/// The most tenants of a configuration, which has the tenant `default` beside them.
+pub const TENANTS: usize = 64;
 /// The most requesters of a configuration.
 pub const REQUESTERS: usize = 16;
 /// The most jobs of a configuration, through all its requesters.

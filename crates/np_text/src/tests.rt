@@ -167,9 +167,10 @@ fn values_have_their_words(rt: HostRuntime) {
 
 #[test]
 fn reasons_are_appended(rt: HostRuntime) -> Result<(), Fail> {
-    let reasons: [(Reason, &[u8]); 3] = [
+    let reasons: [(Reason, &[u8]); 4] = [
         (Reason::NoLabel(LabelId(255)), b":no-label-l255"),
         (Reason::NeverFits, b":never-fits"),
+        (Reason::TenantNeverFits, b":tenant-never-fits"),
         (Reason::Spent(NodeId(u32::MAX)), b":spent-n4294967295"),
     ];
     for (reason, want) in reasons {

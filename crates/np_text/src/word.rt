@@ -17,6 +17,8 @@ pub enum Reason {
     NoLabel(LabelId),
     /// The labels together pass a limit of the pool, however empty it is.
     NeverFits,
+    /// The labels together pass a limit of the job's tenant, however little its other jobs use.
+    TenantNeverFits,
     /// This node of the request failed, and its launches are used up.
     Spent(NodeId),
 }
@@ -26,6 +28,7 @@ pub enum Reason {
 pub enum ReasonKind {
     NoLabel,
     NeverFits,
+    TenantNeverFits,
     Spent,
 }
 
@@ -37,16 +40,25 @@ impl ReasonKind {
         match self {
             ReasonKind::NoLabel => "no-label",
             ReasonKind::NeverFits => "never-fits",
+            ReasonKind::TenantNeverFits => "tenant-never-fits",
             ReasonKind::Spent => "spent",
         }
     }
+}
+
+fn put_kind(out: &mut Vec<u8>, kind: ReasonKind) -> Result<(), NoMemory>
+    ensures ok { OnOk result (out.new.items ≡ out.old.items ++ reason_kind_word kind) }
+    ensures err { OnErr result (StartsWith out.new.items out.old.items) }
+{
+    out.extend_from_slice(kind.word().as_bytes())?;
+    Ok(())
 }
 
 fn put_numbered(out: &mut Vec<u8>, kind: ReasonKind, letter: &[u8], n: u64) -> Result<(), NoMemory>
     ensures ok { OnOk result (out.new.items ≡ out.old.items ++ (reason_kind_word kind ++ letter.now ++ decimal n)) }
     ensures err { OnErr result (StartsWith out.new.items out.old.items) }
 {
-    out.extend_from_slice(kind.word().as_bytes())?;
+    put_kind(out, kind)?;
     out.extend_from_slice(letter)?;
     put_number(out, n)
 }
@@ -57,10 +69,8 @@ fn put_reason_parts(out: &mut Vec<u8>, reason: Reason) -> Result<(), NoMemory>
 {
     match reason {
         Reason::NoLabel(label) => put_numbered(out, ReasonKind::NoLabel, b"-l", u64::from(label.0)),
-        Reason::NeverFits => {
-            out.extend_from_slice(ReasonKind::NeverFits.word().as_bytes())?;
-            Ok(())
-        }
+        Reason::NeverFits => put_kind(out, ReasonKind::NeverFits),
+        Reason::TenantNeverFits => put_kind(out, ReasonKind::TenantNeverFits),
         Reason::Spent(node) => put_numbered(out, ReasonKind::Spent, b"-n", u64::from(node.0)),
     }
 }
