@@ -53,6 +53,7 @@ event_again (ev.OpenSession (role.Requester q)) no_reaper = refl
 event_again (ev.OpenSession role.Reaper) no_reaper = absurd no_reaper
 event_again (ev.Decline s r (reason.NoLabel l)) no_reaper = refl
 event_again (ev.Decline s r reason.NeverFits) no_reaper = refl
+event_again (ev.Decline s r reason.TenantNeverFits) no_reaper = refl
 event_again (ev.Decline s r (reason.Spent n)) no_reaper = refl
 event_again (ev.Done s n k (outcome.Launched x)) no_reaper = refl
 event_again (ev.Done s n k outcome.Failed) no_reaper = refl

@@ -1,22 +1,21 @@
 -- Which fault a line has: by its form, by the count of its words, by the first word that does not fit.
-use Rattle.std.proofs.Common.{◌≡◌, ◌≢◌, ℕ, zero, suc, ◌+◌, ◌<◌, ◌≤◌, Bool, true, false, cond, ◌&&◌, ◌==◌, List, [], ◌∷◌, length, drop, Option, Some, None, Result, Ok, Err, refl, sym, ap, subst, ◌∙◌, arith}
+use Rattle.std.proofs.Common.{◌≡◌, ◌≢◌, ℕ, zero, suc, ◌+◌, ◌<◌, ◌≤◌, Bool, true, false, ◌&&◌, ◌==◌, List, [], ◌∷◌, length, drop, Option, Some, None, Result, Ok, Err, refl, sym, ap, subst, ◌∙◌, arith}
 use Rattle.std.specs.Prelude.{codes, if◌then◌else◌, nat_le, ◌↔◌}
 use Rattle.std.specs.List.{find}
 use Rattle.std.specs.Str.{bytes_eq}
-use Rattle.std.proofs.lemmas.Bool.{eq-eqb, eqb-true}
+use Rattle.std.proofs.lemmas.Bool.{eqb-true}
 use Rattle.std.proofs.lemmas.Bool.Decides.{nat_tests}
 use Rattle.np_text.proofs.SpellingLemmas.{both_true}
-use Rattle.np_event.specs.declared.event.Event.{Event}
 use Rattle.np_event.specs.declared.event_form.EventForm.{EventForm}
 use Rattle.np_event.specs.declared.event_form.EventForm.TheVariants as form
 use Rattle.np_event.specs.declared.fault.LineFault.{LineFault}
-use Rattle.np_event.specs.declared.fault.LineFault.TheVariants.{BadArgument, UnknownEvent, WrongCount}
+use Rattle.np_event.specs.declared.fault.LineFault.TheVariants.{BadArgument, WrongCount}
 use Rattle.np_event.specs.declared.kind.Fields.{Fields}
 use Rattle.np_event.specs.declared.kind.Kind.{Kind}
 use Rattle.np_event.specs.EventForm.{event_forms, event_row}
-use Rattle.np_event.specs.Faults.{IsFirstUnfit, IsOfNoForm, Says}
-use Rattle.np_event.specs.Kind.{HasWord, field_text, with_field}
-use Rattle.np_event.specs.Line.{chosen, event_form_of, event_in, is_agreed, is_headed, undecided, with_fields, with_form}
+use Rattle.np_event.specs.Faults.{IsFirstUnfit, IsOfNoForm}
+use Rattle.np_event.specs.Kind.{with_field}
+use Rattle.np_event.specs.Line.{chosen, event_in, is_agreed, is_headed, undecided, with_fields, with_form}
 use Rattle.np_event.specs.Reading.{fields_from, fitting, row_fields, stand}
 use Rattle.np_event.specs.Row.{blank}
 use Rattle.np_event.proofs.EventLemmas.{find-None}
@@ -98,9 +97,9 @@ with_fields-fault : (F : EventForm) (o : Result Fields LineFault) (fault : LineF
 with_fields-fault F (Ok f) fault = (λ answer. absurd (cc), λ answer. absurd (cc))
 with_fields-fault F (Err other) fault = (λ answer. cc, λ answer. cc)
 
--- a fixed word stands, and what stands behind it
-stood : (a b : Bool) → (a && b) ≡ true → a ≡ true
-stood a b both = (both_true a b both).0
+-- what holds of a fixed word holds of the word that stands in its place
+at_fixed : (P : List ℕ → Type 0) (text fixed : List ℕ) (behind : Bool) → (bytes_eq text fixed && behind) ≡ true → P fixed → P text
+at_fixed P text fixed behind stands holds = subst P (sym (same_bytes text fixed (both_true (bytes_eq text fixed) behind stands).0)) holds
 
 abbrev Agrees : EventForm → List (List ℕ) → Type 0
 Agrees F rest = find (is_agreed (event_row F).head rest) event_forms ≡ Some F
@@ -110,49 +109,37 @@ agreed_form : (F : EventForm) (rest : List (List ℕ)) → stand (event_row F).k
 unfolding event_forms
 agreed_form form.Tick rest stands = refl
 agreed_form form.OpenLauncher [] stands = absurd (cc)
-agreed_form form.OpenLauncher (w ∷ ws) stands =
-    let here : bytes_eq w (codes "launcher") ≡ true = stood (bytes_eq w (codes "launcher")) _ stands in
-    subst (λ x. Agrees form.OpenLauncher (x ∷ ws)) (sym (same_bytes w (codes "launcher") here)) refl
+agreed_form form.OpenLauncher (w ∷ ws) stands = at_fixed (λ x. Agrees form.OpenLauncher (x ∷ ws)) w (codes "launcher") _ stands refl
 agreed_form form.OpenJanitor [] stands = absurd (cc)
-agreed_form form.OpenJanitor (w ∷ ws) stands =
-    let here : bytes_eq w (codes "janitor") ≡ true = stood (bytes_eq w (codes "janitor")) _ stands in
-    subst (λ x. Agrees form.OpenJanitor (x ∷ ws)) (sym (same_bytes w (codes "janitor") here)) refl
+agreed_form form.OpenJanitor (w ∷ ws) stands = at_fixed (λ x. Agrees form.OpenJanitor (x ∷ ws)) w (codes "janitor") _ stands refl
 agreed_form form.OpenRequester [] stands = absurd (cc)
-agreed_form form.OpenRequester (w ∷ ws) stands =
-    let here : bytes_eq w (codes "requester") ≡ true = stood (bytes_eq w (codes "requester")) _ stands in
-    subst (λ x. Agrees form.OpenRequester (x ∷ ws)) (sym (same_bytes w (codes "requester") here)) refl
+agreed_form form.OpenRequester (w ∷ ws) stands = at_fixed (λ x. Agrees form.OpenRequester (x ∷ ws)) w (codes "requester") _ stands refl
 agreed_form form.DeclineNoLabel [] stands = absurd (cc)
 agreed_form form.DeclineNoLabel (a ∷ []) stands = absurd (cc)
 agreed_form form.DeclineNoLabel (a ∷ b ∷ []) stands = absurd (cc)
-agreed_form form.DeclineNoLabel (a ∷ b ∷ w ∷ ws) stands =
-    let here : bytes_eq w (codes "no-label") ≡ true = stood (bytes_eq w (codes "no-label")) _ stands in
-    subst (λ x. Agrees form.DeclineNoLabel (a ∷ b ∷ x ∷ ws)) (sym (same_bytes w (codes "no-label") here)) refl
+agreed_form form.DeclineNoLabel (a ∷ b ∷ w ∷ ws) stands = at_fixed (λ x. Agrees form.DeclineNoLabel (a ∷ b ∷ x ∷ ws)) w (codes "no-label") _ stands refl
 agreed_form form.DeclineNeverFits [] stands = absurd (cc)
 agreed_form form.DeclineNeverFits (a ∷ []) stands = absurd (cc)
 agreed_form form.DeclineNeverFits (a ∷ b ∷ []) stands = absurd (cc)
-agreed_form form.DeclineNeverFits (a ∷ b ∷ w ∷ ws) stands =
-    let here : bytes_eq w (codes "never-fits") ≡ true = stood (bytes_eq w (codes "never-fits")) _ stands in
-    subst (λ x. Agrees form.DeclineNeverFits (a ∷ b ∷ x ∷ ws)) (sym (same_bytes w (codes "never-fits") here)) refl
+agreed_form form.DeclineNeverFits (a ∷ b ∷ w ∷ ws) stands = at_fixed (λ x. Agrees form.DeclineNeverFits (a ∷ b ∷ x ∷ ws)) w (codes "never-fits") _ stands refl
+agreed_form form.DeclineTenantNeverFits [] stands = absurd (cc)
+agreed_form form.DeclineTenantNeverFits (a ∷ []) stands = absurd (cc)
+agreed_form form.DeclineTenantNeverFits (a ∷ b ∷ []) stands = absurd (cc)
+agreed_form form.DeclineTenantNeverFits (a ∷ b ∷ w ∷ ws) stands = at_fixed (λ x. Agrees form.DeclineTenantNeverFits (a ∷ b ∷ x ∷ ws)) w (codes "tenant-never-fits") _ stands refl
 agreed_form form.DeclineSpent [] stands = absurd (cc)
 agreed_form form.DeclineSpent (a ∷ []) stands = absurd (cc)
 agreed_form form.DeclineSpent (a ∷ b ∷ []) stands = absurd (cc)
-agreed_form form.DeclineSpent (a ∷ b ∷ w ∷ ws) stands =
-    let here : bytes_eq w (codes "spent") ≡ true = stood (bytes_eq w (codes "spent")) _ stands in
-    subst (λ x. Agrees form.DeclineSpent (a ∷ b ∷ x ∷ ws)) (sym (same_bytes w (codes "spent") here)) refl
+agreed_form form.DeclineSpent (a ∷ b ∷ w ∷ ws) stands = at_fixed (λ x. Agrees form.DeclineSpent (a ∷ b ∷ x ∷ ws)) w (codes "spent") _ stands refl
 agreed_form form.DoneOk [] stands = absurd (cc)
 agreed_form form.DoneOk (a ∷ []) stands = absurd (cc)
 agreed_form form.DoneOk (a ∷ b ∷ []) stands = absurd (cc)
 agreed_form form.DoneOk (a ∷ b ∷ c ∷ []) stands = absurd (cc)
-agreed_form form.DoneOk (a ∷ b ∷ c ∷ w ∷ ws) stands =
-    let here : bytes_eq w (codes "ok") ≡ true = stood (bytes_eq w (codes "ok")) _ stands in
-    subst (λ x. Agrees form.DoneOk (a ∷ b ∷ c ∷ x ∷ ws)) (sym (same_bytes w (codes "ok") here)) refl
+agreed_form form.DoneOk (a ∷ b ∷ c ∷ w ∷ ws) stands = at_fixed (λ x. Agrees form.DoneOk (a ∷ b ∷ c ∷ x ∷ ws)) w (codes "ok") _ stands refl
 agreed_form form.DoneFailed [] stands = absurd (cc)
 agreed_form form.DoneFailed (a ∷ []) stands = absurd (cc)
 agreed_form form.DoneFailed (a ∷ b ∷ []) stands = absurd (cc)
 agreed_form form.DoneFailed (a ∷ b ∷ c ∷ []) stands = absurd (cc)
-agreed_form form.DoneFailed (a ∷ b ∷ c ∷ w ∷ ws) stands =
-    let here : bytes_eq w (codes "failed") ≡ true = stood (bytes_eq w (codes "failed")) _ stands in
-    subst (λ x. Agrees form.DoneFailed (a ∷ b ∷ c ∷ x ∷ ws)) (sym (same_bytes w (codes "failed") here)) refl
+agreed_form form.DoneFailed (a ∷ b ∷ c ∷ w ∷ ws) stands = at_fixed (λ x. Agrees form.DoneFailed (a ∷ b ∷ c ∷ x ∷ ws)) w (codes "failed") _ stands refl
 agreed_form F rest stands = refl
 
 form_judges : (F : EventForm) (rest : List (List ℕ)) → stand (event_row F).kinds rest ≡ true
@@ -174,6 +161,7 @@ abbrev first_of : EventForm → EventForm
 first_of form.OpenJanitor = form.OpenLauncher
 first_of form.OpenRequester = form.OpenLauncher
 first_of form.DeclineNeverFits = form.DeclineNoLabel
+first_of form.DeclineTenantNeverFits = form.DeclineNoLabel
 first_of form.DeclineSpent = form.DeclineNoLabel
 first_of form.DoneFailed = form.DoneOk
 first_of F = F
@@ -223,6 +211,7 @@ decided-unknown F rest place decided none reached =
 -- forms of one name that no word decides have one count of words
 one_count : (F : EventForm) → (event_row F).decided_at ≡ None → length (event_row (first_of F)).kinds ≡ length (event_row F).kinds
 one_count form.DeclineNeverFits undecided = absurd (cc)
+one_count form.DeclineTenantNeverFits undecided = absurd (cc)
 one_count form.DeclineSpent undecided = absurd (cc)
 one_count form.DoneFailed undecided = absurd (cc)
 one_count form.Tick undecided = refl
@@ -260,6 +249,7 @@ undecided-word form.OpenJanitor rest decided none count = no_role rest none coun
 undecided-word form.OpenRequester rest decided none count = no_role rest none count
 undecided-word form.DeclineNoLabel rest decided none count = absurd (cc)
 undecided-word form.DeclineNeverFits rest decided none count = absurd (cc)
+undecided-word form.DeclineTenantNeverFits rest decided none count = absurd (cc)
 undecided-word form.DeclineSpent rest decided none count = absurd (cc)
 undecided-word form.DoneOk rest decided none count = absurd (cc)
 undecided-word form.DoneFailed rest decided none count = absurd (cc)

@@ -7,6 +7,7 @@ use Rattle.std.proofs.lemmas.Bool.{eq-eqb, eqb-true}
 use Rattle.std.proofs.lemmas.Slice.Eq.{bytes_eq-Decides}
 use Rattle.np_text.specs.Number.{number_of}
 use Rattle.np_text.specs.Request.{request_of}
+use Rattle.np_text.specs.declared.limit.TheConstants.{RELATIVE_PRIORITY}
 use Rattle.std.specs.Prelude.{codes}
 use Rattle.np_text.specs.declared.word.Ending.{Ending}
 use Rattle.np_text.specs.declared.word.Ending.TheVariants as ending
@@ -41,6 +42,7 @@ copy kind.Requester f g = record g { requester = f.requester }
 copy kind.Semaphore f g = record g { semaphore = f.semaphore }
 copy kind.Attempt f g = record g { attempt = f.attempt }
 copy kind.Number f g = record g { number = f.number }
+copy kind.Relative f g = record g { relative = f.relative }
 copy kind.Server f g = record g { server = f.server }
 copy kind.Instances f g = record g { instances = f.instances }
 copy kind.Cores f g = record g { cores = f.cores }
@@ -62,13 +64,14 @@ number kind.Requester = 7
 number kind.Semaphore = 8
 number kind.Attempt = 9
 number kind.Number = 10
-number kind.Server = 11
-number kind.Instances = 12
-number kind.Cores = 13
-number kind.Ram = 14
-number kind.End = 15
-number kind.Ending = 16
-number kind.Found = 17
+number kind.Relative = 11
+number kind.Server = 12
+number kind.Instances = 13
+number kind.Cores = 14
+number kind.Ram = 15
+number kind.End = 16
+number kind.Ending = 17
+number kind.Found = 18
 
 abbrev pub same_kind : Kind → Kind → Bool
 same_kind j k = number j == number k
@@ -86,6 +89,7 @@ field_text-copy kind.Requester kind.Requester f g other = absurd (cc)
 field_text-copy kind.Semaphore kind.Semaphore f g other = absurd (cc)
 field_text-copy kind.Attempt kind.Attempt f g other = absurd (cc)
 field_text-copy kind.Number kind.Number f g other = absurd (cc)
+field_text-copy kind.Relative kind.Relative f g other = absurd (cc)
 field_text-copy kind.Server kind.Server f g other = absurd (cc)
 field_text-copy kind.Instances kind.Instances f g other = absurd (cc)
 field_text-copy kind.Cores kind.Cores f g other = absurd (cc)
@@ -107,6 +111,7 @@ HasWord-copy kind.Requester kind.Requester f g other has = absurd (cc)
 HasWord-copy kind.Semaphore kind.Semaphore f g other has = absurd (cc)
 HasWord-copy kind.Attempt kind.Attempt f g other has = absurd (cc)
 HasWord-copy kind.Number kind.Number f g other has = absurd (cc)
+HasWord-copy kind.Relative kind.Relative f g other has = absurd (cc)
 HasWord-copy kind.Server kind.Server f g other has = absurd (cc)
 HasWord-copy kind.Instances kind.Instances f g other has = absurd (cc)
 HasWord-copy kind.Cores kind.Cores f g other has = absurd (cc)
@@ -211,6 +216,8 @@ with_field-told kind.Attempt text f g answer = said kind.Attempt text f _ (numbe
     let told = number_of-spelled ATTEMPT n text (omega arith) found in record { says = told.1; word = omega arith; rest = refl })
 with_field-told kind.Number text f g answer = said kind.Number text f _ (number_of NUMBER text) g answer (λ n found.
     let told = number_of-spelled NUMBER n text (omega arith) found in record { says = told.1; word = omega arith; rest = refl })
+with_field-told kind.Relative text f g answer = said kind.Relative text f _ (number_of RELATIVE_PRIORITY text) g answer (λ n found.
+    let told = number_of-spelled RELATIVE_PRIORITY n text (omega arith) found in record { says = told.1; word = told.0; rest = refl })
 with_field-told kind.Server text f g answer = said kind.Server text f _ (number_of WIDE text) g answer (λ n found.
     let told = number_of-spelled WIDE n text (omega arith) found in record { says = told.1; word = omega arith; rest = refl })
 with_field-told kind.Instances text f g answer = said kind.Instances text f _ (number_of WIDE text) g answer (λ n found.
@@ -267,6 +274,7 @@ with_field-text kind.Requester f g has = ap (option_map (λ n. record g { reques
 with_field-text kind.Semaphore f g has = ap (option_map (λ n. record g { semaphore = record { 0 = n } })) (number_behind-lettered 120 PLACE f.semaphore.0 (omega arith) (omega arith))
 with_field-text kind.Attempt f g has = ap (option_map (λ n. record g { attempt = n })) (number_of-decimal ATTEMPT f.attempt (omega arith) (omega arith))
 with_field-text kind.Number f g has = ap (option_map (λ n. record g { number = n })) (number_of-decimal NUMBER f.number (omega arith) (omega arith))
+with_field-text kind.Relative f g has = ap (option_map (λ n. record g { relative = n })) (number_of-decimal RELATIVE_PRIORITY f.relative has (omega arith))
 with_field-text kind.Server f g has = ap (option_map (λ n. record g { server = n })) (number_of-decimal WIDE f.server (omega arith) (omega arith))
 with_field-text kind.Instances f g has = ap (option_map (λ n. record g { instances = n })) (number_of-decimal WIDE f.instances (omega arith) (omega arith))
 with_field-text kind.Cores f g has = ap (option_map (λ n. record g { cores = n })) (number_of-decimal WIDE f.cores (omega arith) (omega arith))

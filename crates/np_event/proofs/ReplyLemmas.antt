@@ -12,7 +12,6 @@ use Rattle.np_event.specs.declared.fault.LineFault.{LineFault}
 use Rattle.np_event.specs.declared.kind.Fields.{Fields}
 use Rattle.np_event.specs.declared.reply.Done.{Done}
 use Rattle.np_event.specs.declared.reply.Done.TheVariants as done
-use Rattle.np_event.specs.declared.reply.Found.{Found}
 use Rattle.np_event.specs.declared.reply.Found.TheVariants as found
 use Rattle.np_event.specs.declared.reply.Refusal.{Refusal}
 use Rattle.np_event.specs.declared.reply.Refusal.TheVariants as no
@@ -21,7 +20,7 @@ use Rattle.np_event.specs.declared.reply.Reply.TheVariants as reply
 use Rattle.np_event.specs.Kind.{field_text}
 use Rattle.np_event.specs.Line.{HasReplyLine, done_line, done_with, is_headed_done, is_headed_refusal, refusal_in, refusal_line, refusal_with, reply_in, reply_line, told}
 use Rattle.np_event.specs.Reading.{HaveWords, row_fields, row_line}
-use Rattle.np_event.specs.ReplyForm.{done_forms, done_of, done_fields, done_row, refusal_forms, refusal_of, refusal_fields, refusal_row, told_found}
+use Rattle.np_event.specs.ReplyForm.{done_forms, done_of, done_fields, done_row, refusal_forms, refusal_of, refusal_fields, refusal_row}
 use Rattle.np_event.specs.Row.{blank}
 use Rattle.np_event.specs.Words.{is_space, words_of}
 use Rattle.np_event.proofs.EventLemmas.{same_words}

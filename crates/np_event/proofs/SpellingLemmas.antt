@@ -107,6 +107,7 @@ plain-field_text kind.Requester f has = plain-decimal f.requester.0 (omega arith
 plain-field_text kind.Semaphore f has = plain-decimal f.semaphore.0 (omega arith)
 plain-field_text kind.Attempt f has = plain-decimal f.attempt (omega arith)
 plain-field_text kind.Number f has = plain-decimal f.number (omega arith)
+plain-field_text kind.Relative f has = plain-decimal f.relative (omega arith)
 plain-field_text kind.Server f has = plain-decimal f.server has
 plain-field_text kind.Instances f has = plain-decimal f.instances has
 plain-field_text kind.Cores f has = plain-decimal f.cores has

@@ -25,12 +25,14 @@ event_row form.Crash = row (codes "crash") (kind.Session ∷ [])
 event_row form.Expire = row (codes "expire") (kind.Session ∷ [])
 event_row form.Register = row (codes "register") (kind.Session ∷ [])
 event_row form.Submit = row (codes "submit") (kind.Session ∷ kind.Job ∷ [])
+event_row form.Revise = row (codes "revise") (kind.Session ∷ kind.Job ∷ kind.Relative ∷ [])
 event_row form.MinReady = row (codes "min-ready") (kind.Session ∷ kind.Label ∷ [])
 event_row form.LockRequest = row (codes "lock-request") (kind.Session ∷ kind.Request ∷ [])
 event_row form.UnlockRequest = row (codes "unlock-request") (kind.Session ∷ kind.Request ∷ [])
 event_row form.Accept = row (codes "accept") (kind.Session ∷ kind.Request ∷ [])
 event_row form.DeclineNoLabel = decided 3 (codes "decline") (kind.Session ∷ kind.Request ∷ kind.Fixed (fixed.Reason reason_kind.NoLabel) ∷ kind.Label ∷ [])
 event_row form.DeclineNeverFits = decided 3 (codes "decline") (kind.Session ∷ kind.Request ∷ kind.Fixed (fixed.Reason reason_kind.NeverFits) ∷ [])
+event_row form.DeclineTenantNeverFits = decided 3 (codes "decline") (kind.Session ∷ kind.Request ∷ kind.Fixed (fixed.Reason reason_kind.TenantNeverFits) ∷ [])
 event_row form.DeclineSpent = decided 3 (codes "decline") (kind.Session ∷ kind.Request ∷ kind.Fixed (fixed.Reason reason_kind.Spent) ∷ kind.Node ∷ [])
 event_row form.TakeReady = row (codes "take-ready") (kind.Session ∷ kind.Request ∷ kind.Node ∷ [])
 event_row form.Create = row (codes "create") (kind.Session ∷ kind.Request ∷ [])
@@ -63,12 +65,14 @@ event_of form.Crash f = ev.Crash f.session
 event_of form.Expire f = ev.Expire f.session
 event_of form.Register f = ev.Register f.session
 event_of form.Submit f = ev.Submit f.session f.job
+event_of form.Revise f = ev.Revise f.session f.job f.relative
 event_of form.MinReady f = ev.MinReady f.session f.label
 event_of form.LockRequest f = ev.LockRequest f.session f.request
 event_of form.UnlockRequest f = ev.UnlockRequest f.session f.request
 event_of form.Accept f = ev.Accept f.session f.request
 event_of form.DeclineNoLabel f = ev.Decline f.session f.request (reason.NoLabel f.label)
 event_of form.DeclineNeverFits f = ev.Decline f.session f.request reason.NeverFits
+event_of form.DeclineTenantNeverFits f = ev.Decline f.session f.request reason.TenantNeverFits
 event_of form.DeclineSpent f = ev.Decline f.session f.request (reason.Spent f.node)
 event_of form.TakeReady f = ev.TakeReady f.session f.request f.node
 event_of form.Create f = ev.Create f.session f.request
@@ -101,12 +105,14 @@ event_parts (ev.Crash s) = (form.Crash, record blank { session = s })
 event_parts (ev.Expire s) = (form.Expire, record blank { session = s })
 event_parts (ev.Register s) = (form.Register, record blank { session = s })
 event_parts (ev.Submit s j) = (form.Submit, record blank { session = s; job = j })
+event_parts (ev.Revise s j v) = (form.Revise, record blank { session = s; job = j; relative = v })
 event_parts (ev.MinReady s l) = (form.MinReady, record blank { session = s; label = l })
 event_parts (ev.LockRequest s r) = (form.LockRequest, record blank { session = s; request = r })
 event_parts (ev.UnlockRequest s r) = (form.UnlockRequest, record blank { session = s; request = r })
 event_parts (ev.Accept s r) = (form.Accept, record blank { session = s; request = r })
 event_parts (ev.Decline s r (reason.NoLabel l)) = (form.DeclineNoLabel, record blank { session = s; request = r; label = l })
 event_parts (ev.Decline s r reason.NeverFits) = (form.DeclineNeverFits, record blank { session = s; request = r })
+event_parts (ev.Decline s r reason.TenantNeverFits) = (form.DeclineTenantNeverFits, record blank { session = s; request = r })
 event_parts (ev.Decline s r (reason.Spent n)) = (form.DeclineSpent, record blank { session = s; request = r; node = n })
 event_parts (ev.TakeReady s r n) = (form.TakeReady, record blank { session = s; request = r; node = n })
 event_parts (ev.Create s r) = (form.Create, record blank { session = s; request = r })

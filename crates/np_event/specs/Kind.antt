@@ -1,10 +1,11 @@
 -- What may stand at a place of a line, and its one spelling (own).
-use Rattle.std.specs.Prelude.{◌≢◌, ℕ, ◌^◌, ◌<◌, ◌==◌, if◌then◌else◌, List, [], ◌∷◌, codes, Option, Some, None}
+use Rattle.std.specs.Prelude.{◌≢◌, ℕ, ◌^◌, ◌<◌, ◌≤◌, ◌==◌, if◌then◌else◌, List, [], ◌∷◌, codes, Option, Some, None}
 use Rattle.std.specs.Fmt.{decimal}
 use Rattle.std.specs.Option.{option_map, option_or}
 use Rattle.std.specs.Str.{bytes_eq}
 use Rattle.np_text.specs.Number.{number_of}
 use Rattle.np_text.specs.Request.{HasText, request_of, request_text_of}
+use Rattle.np_text.specs.declared.limit.TheConstants.{RELATIVE_PRIORITY}
 use Rattle.np_text.specs.declared.word.Ending.{Ending}
 use Rattle.np_text.specs.declared.word.Ending.TheVariants as ending
 use Rattle.np_text.specs.Word.{end_as_of, end_as_word, ending_of, ending_word, node_state_of, node_state_word, phase_of, phase_word, reason_kind_word, request_state_of, request_state_word, role_kind_word}
@@ -71,6 +72,7 @@ field_text kind.Requester f = lettered 113 f.requester.0
 field_text kind.Semaphore f = lettered 120 f.semaphore.0
 field_text kind.Attempt f = decimal f.attempt
 field_text kind.Number f = decimal f.number
+field_text kind.Relative f = decimal f.relative
 field_text kind.Server f = decimal f.server
 field_text kind.Instances f = decimal f.instances
 field_text kind.Cores f = decimal f.cores
@@ -79,7 +81,7 @@ field_text kind.End f = end_as_word f.end
 field_text kind.Ending f = ending_word f.ending
 field_text kind.Found f = found_text f.found
 
--- a line can say it: numbers within their types, requests of three digits, no withdrawn job
+-- a line can say it: numbers within their types, requests of three digits, relative priorities that a job may have, no withdrawn job
 abbrev pub HasWord : Kind → Fields → Type 0
 HasWord (kind.Fixed word) f = Unit {0}
 HasWord kind.Session f = f.session.0 < 2 ^ 32
@@ -92,6 +94,7 @@ HasWord kind.Requester f = f.requester.0 < 2 ^ 16
 HasWord kind.Semaphore f = f.semaphore.0 < 2 ^ 16
 HasWord kind.Attempt f = f.attempt < 2 ^ 8
 HasWord kind.Number f = f.number < 2 ^ 32
+HasWord kind.Relative f = f.relative ≤ RELATIVE_PRIORITY
 HasWord kind.Server f = f.server < 2 ^ 64
 HasWord kind.Instances f = f.instances < 2 ^ 64
 HasWord kind.Cores f = f.cores < 2 ^ 64
@@ -113,6 +116,7 @@ with_field kind.Requester text f = option_map (λ n. record f { requester = reco
 with_field kind.Semaphore text f = option_map (λ n. record f { semaphore = record { 0 = n } }) (number_behind 120 PLACE text)
 with_field kind.Attempt text f = option_map (λ n. record f { attempt = n }) (number_of ATTEMPT text)
 with_field kind.Number text f = option_map (λ n. record f { number = n }) (number_of NUMBER text)
+with_field kind.Relative text f = option_map (λ n. record f { relative = n }) (number_of RELATIVE_PRIORITY text)
 with_field kind.Server text f = option_map (λ n. record f { server = n }) (number_of WIDE text)
 with_field kind.Instances text f = option_map (λ n. record f { instances = n }) (number_of WIDE text)
 with_field kind.Cores text f = option_map (λ n. record f { cores = n }) (number_of WIDE text)

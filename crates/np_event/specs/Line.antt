@@ -34,7 +34,7 @@ abbrev pub OpensNoReaper : Event → Type 0
 OpensNoReaper (ev.OpenSession role.Reaper) = ⊥
 OpensNoReaper e = Unit {0}
 
--- an event has a line: it opens no reaper's session, its numbers are within their types, its requests have three digits
+-- an event has a line: it opens no reaper's session, its numbers are within their types, its requests have three digits, and a job may have its relative priority
 pub record HasEventLine (e : Event) : Type 0 where
   pub role : OpensNoReaper e
   pub words : HaveWords (event_row (event_parts e).0).kinds (event_parts e).1

@@ -84,6 +84,8 @@ refusal_row (no.NotDue n) = row (codes "not-due") (kind.Number ∷ [])
 refusal_row (no.Enough n) = row (codes "enough") (kind.Number ∷ [])
 refusal_row no.Spent = row (codes "spent") []
 refusal_row no.Full = row (codes "full") []
+refusal_row (no.TenantShort i c m) = row (codes "tenant-short") (kind.Instances ∷ kind.Cores ∷ kind.Ram ∷ [])
+refusal_row no.TenantNeverFits = row (codes "tenant-never-fits") []
 
 -- the refusal of the same form with these fields
 abbrev pub refusal_of : Refusal → Fields → Refusal
@@ -99,6 +101,7 @@ refusal_of (no.NotAll n) f = no.NotAll f.number
 refusal_of (no.SemaphoreFull x) f = no.SemaphoreFull f.semaphore
 refusal_of (no.NotDue n) f = no.NotDue f.number
 refusal_of (no.Enough n) f = no.Enough f.number
+refusal_of (no.TenantShort i c m) f = no.TenantShort f.instances f.cores f.ram
 refusal_of form f = form
 
 -- what a refusal says
@@ -115,6 +118,7 @@ refusal_fields (no.NotAll n) = record blank { number = n }
 refusal_fields (no.SemaphoreFull x) = record blank { semaphore = x }
 refusal_fields (no.NotDue n) = record blank { number = n }
 refusal_fields (no.Enough n) = record blank { number = n }
+refusal_fields (no.TenantShort i c m) = record blank { instances = i; cores = c; ram = m }
 refusal_fields form = blank
 
 -- a refusal of each form

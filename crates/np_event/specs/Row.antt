@@ -35,6 +35,7 @@ blank = record {
   semaphore = record { 0 = 0 };
   attempt = 0;
   number = 0;
+  relative = 0;
   server = 0;
   instances = 0;
   cores = 0;

@@ -31,6 +31,11 @@ pub enum Event {
         session: SessionId,
         job: JobId,
     },
+    Revise {
+        session: SessionId,
+        job: JobId,
+        relative: u32,
+    },
     MinReady {
         session: SessionId,
         label: LabelId,

@@ -8,6 +8,7 @@ use crate::event::{Event, Outcome};
 use crate::kind::Kind::*;
 use crate::kind::{
     BLANK, FAILED, Fields, JANITOR, LAUNCHER, NEVER_FITS, NO_LABEL, OK, REQUESTER, SPENT,
+    TENANT_NEVER_FITS,
 };
 use crate::row::Row;
 use np_text::{JobId, NodeId, Reason, RequestId, Role, SessionId};
@@ -23,12 +24,14 @@ pub(crate) enum EventForm {
     Expire,
     Register,
     Submit,
+    Revise,
     MinReady,
     LockRequest,
     UnlockRequest,
     Accept,
     DeclineNoLabel,
     DeclineNeverFits,
+    DeclineTenantNeverFits,
     DeclineSpent,
     TakeReady,
     Create,
@@ -55,7 +58,7 @@ pub(crate) enum EventForm {
 use EventForm as Form;
 
 /// All forms, as the lines of the table stand.
-pub(crate) const EVENT_FORMS: [EventForm; 35] = [
+pub(crate) const EVENT_FORMS: [EventForm; 37] = [
     Form::Tick,
     Form::OpenLauncher,
     Form::OpenJanitor,
@@ -64,12 +67,14 @@ pub(crate) const EVENT_FORMS: [EventForm; 35] = [
     Form::Expire,
     Form::Register,
     Form::Submit,
+    Form::Revise,
     Form::MinReady,
     Form::LockRequest,
     Form::UnlockRequest,
     Form::Accept,
     Form::DeclineNoLabel,
     Form::DeclineNeverFits,
+    Form::DeclineTenantNeverFits,
     Form::DeclineSpent,
     Form::TakeReady,
     Form::Create,
@@ -110,12 +115,18 @@ pub(crate) fn event_row(form: EventForm) -> Row
         Form::Expire => Row::of(b"expire", &[Session]),
         Form::Register => Row::of(b"register", &[Session]),
         Form::Submit => Row::of(b"submit", &[Session, Job]),
+        Form::Revise => Row::of(b"revise", &[Session, Job, Relative]),
         Form::MinReady => Row::of(b"min-ready", &[Session, Label]),
         Form::LockRequest => Row::of(b"lock-request", &[Session, Request]),
         Form::UnlockRequest => Row::of(b"unlock-request", &[Session, Request]),
         Form::Accept => Row::of(b"accept", &[Session, Request]),
         Form::DeclineNoLabel => Row::decided(3, b"decline", &[Session, Request, NO_LABEL, Label]),
         Form::DeclineNeverFits => Row::decided(3, b"decline", &[Session, Request, NEVER_FITS]),
+        Form::DeclineTenantNeverFits => Row::decided(
+            3,
+            b"decline",
+            &[Session, Request, TENANT_NEVER_FITS],
+        ),
         Form::DeclineSpent => Row::decided(3, b"decline", &[Session, Request, SPENT, Node]),
         Form::TakeReady => Row::of(b"take-ready", &[Session, Request, Node]),
         Form::Create => Row::of(b"create", &[Session, Request]),
@@ -168,6 +179,11 @@ pub(crate) fn event_of(form: EventForm, said: Fields) -> Event
             session: said.session,
             job: said.job,
         },
+        Form::Revise => Event::Revise {
+            session: said.session,
+            job: said.job,
+            relative: said.relative,
+        },
         Form::MinReady => Event::MinReady {
             session: said.session,
             label: said.label,
@@ -193,6 +209,11 @@ pub(crate) fn event_of(form: EventForm, said: Fields) -> Event
             session: said.session,
             request: said.request,
             reason: Reason::NeverFits,
+        },
+        Form::DeclineTenantNeverFits => Event::Decline {
+            session: said.session,
+            request: said.request,
+            reason: Reason::TenantNeverFits,
         },
         Form::DeclineSpent => Event::Decline {
             session: said.session,
@@ -344,6 +365,17 @@ pub(crate) fn event_parts(event: Event) -> (EventForm, Fields)
         Event::Expire { session } => (Form::Expire, by(session)),
         Event::Register { session } => (Form::Register, by(session)),
         Event::Submit { session, job } => (Form::Submit, on_job(session, job)),
+        Event::Revise {
+            session,
+            job,
+            relative,
+        } => (
+            Form::Revise,
+            Fields {
+                relative,
+                ..on_job(session, job)
+            },
+        ),
         Event::MinReady { session, label } => (
             Form::MinReady,
             Fields {
@@ -376,6 +408,11 @@ pub(crate) fn event_parts(event: Event) -> (EventForm, Fields)
             request,
             reason: Reason::NeverFits,
         } => (Form::DeclineNeverFits, on_request(session, request)),
+        Event::Decline {
+            session,
+            request,
+            reason: Reason::TenantNeverFits,
+        } => (Form::DeclineTenantNeverFits, on_request(session, request)),
         Event::Decline {
             session,
             request,

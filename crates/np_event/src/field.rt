@@ -9,8 +9,9 @@ ghost use Rattle.np_event.specs.Kind.{HasWord, field_text, fixed_text, found_of,
 use crate::kind::{ATTEMPT, Fields, Fixed, Kind, NUMBER, PLACE, WIDE};
 use crate::reply::Found;
 use np_text::{
-    EndAs, Ending, JobId, LabelId, NoMemory, NodeId, NodeState, Phase, PoolId, RequestState,
-    RequesterId, SemId, SessionId, put_number, read_number, read_request, request_text,
+    EndAs, Ending, JobId, LabelId, NoMemory, NodeId, NodeState, Phase, PoolId, RELATIVE_PRIORITY,
+    RequestState, RequesterId, SemId, SessionId, put_number, read_number, read_request,
+    request_text,
 };
 
 pub(crate) fn fixed_text(word: Fixed) -> &'static str
@@ -145,6 +146,7 @@ pub(crate) fn with_field(kind: Kind, text: &[u8], fields: Fields) -> Option<Fiel
         Kind::Semaphore => more.semaphore = SemId(read_u16(b'x', text)?),
         Kind::Attempt => more.attempt = read_number(text, ATTEMPT)? as u8,
         Kind::Number => more.number = read_number(text, NUMBER)? as u32,
+        Kind::Relative => more.relative = read_number(text, u64::from(RELATIVE_PRIORITY))? as u32,
         Kind::Server => more.server = read_number(text, WIDE)?,
         Kind::Instances => more.instances = read_number(text, WIDE)?,
         Kind::Cores => more.cores = read_number(text, WIDE)?,
@@ -174,6 +176,7 @@ pub(crate) fn put_field(out: &mut Vec<u8>, kind: Kind, fields: &Fields) -> Resul
         Kind::Semaphore => put_behind(out, b'x', u64::from(fields.semaphore.0)),
         Kind::Attempt => put_number(out, u64::from(fields.attempt)),
         Kind::Number => put_number(out, u64::from(fields.number)),
+        Kind::Relative => put_number(out, u64::from(fields.relative)),
         Kind::Server => put_number(out, fields.server),
         Kind::Instances => put_number(out, fields.instances),
         Kind::Cores => put_number(out, fields.cores),
@@ -190,6 +193,7 @@ pub(crate) fn has_word(kind: Kind, fields: Fields) -> bool
 {
     match kind {
         Kind::Request => (100..=999).contains(&fields.request.priority),
+        Kind::Relative => fields.relative <= RELATIVE_PRIORITY,
         Kind::Ending => fields.ending != Ending::Withdrawn,
         Kind::Fixed(_) => true,
         Kind::Session => true,

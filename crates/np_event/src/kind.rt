@@ -39,6 +39,8 @@ pub(crate) enum Kind {
     Attempt,
     /// A number of 32 bits.
     Number,
+    /// A relative priority of a job.
+    Relative,
     /// A server of the cloud.
     Server,
     Instances,
@@ -61,6 +63,8 @@ pub(crate) const REQUESTER: Kind = Kind::Fixed(Fixed::Role(RoleKind::Requester))
 pub(crate) const NO_LABEL: Kind = Kind::Fixed(Fixed::Reason(ReasonKind::NoLabel));
 
 pub(crate) const NEVER_FITS: Kind = Kind::Fixed(Fixed::Reason(ReasonKind::NeverFits));
+
+pub(crate) const TENANT_NEVER_FITS: Kind = Kind::Fixed(Fixed::Reason(ReasonKind::TenantNeverFits));
 
 pub(crate) const SPENT: Kind = Kind::Fixed(Fixed::Reason(ReasonKind::Spent));
 
@@ -90,6 +94,7 @@ pub(crate) struct Fields {
     pub semaphore: SemId,
     pub attempt: u8,
     pub number: u32,
+    pub relative: u32,
     pub server: u64,
     pub instances: u64,
     pub cores: u64,
@@ -118,6 +123,7 @@ pub(crate) const BLANK: Fields = Fields {
     semaphore: SemId(0),
     attempt: 0,
     number: 0,
+    relative: 0,
     server: 0,
     instances: 0,
     cores: 0,

@@ -273,7 +273,7 @@ fn opens_no_reaper(event: Event) -> bool
 }
 
 /// Whether an event has a line: a reaper's session has none, nor a request whose priority has not
-/// three digits.
+/// three digits, nor a relative priority above the largest of a job.
 pub fn event_has_line(event: Event) -> bool
     ensures { IsTrue result ↔ HasEventLine event }
 {

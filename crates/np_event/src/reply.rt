@@ -85,6 +85,13 @@ pub enum Refusal {
     Spent,
     /// The journal has no room. Never recorded.
     Full,
+    /// The count now of the job's tenant.
+    TenantShort {
+        instances: u64,
+        cores: u64,
+        ram: u64,
+    },
+    TenantNeverFits,
 }
 
 /// The answer to an event.

@@ -2,6 +2,7 @@
 //! refusal is one more row in each table here, and one in each table of `specs/ReplyForm`.
 //! A reply stands for its form too: the tables go by the variant, and its values do not count.
 ghost use Rattle.std.specs.Prelude.{◌≡◌, ◌≤◌, length};
+ghost use Rattle.np_event.specs.Row.{blank};
 ghost use Rattle.np_event.specs.ReplyForm.{done_of, done_fields, done_row, refusal_fields, refusal_of, refusal_row};
 
 use crate::kind::{BLANK, BLANK_FOUND, BLANK_REQUEST, Fields, Kind};
@@ -27,7 +28,7 @@ pub(crate) const DONE_FORMS: [Done; 10] = [
 ];
 
 /// A refusal of each form.
-pub(crate) const REFUSAL_FORMS: [Refusal; 27] = [
+pub(crate) const REFUSAL_FORMS: [Refusal; 29] = [
     Refusal::NoSession,
     Refusal::Expired,
     Refusal::Crashed,
@@ -59,6 +60,12 @@ pub(crate) const REFUSAL_FORMS: [Refusal; 27] = [
     Refusal::Enough(0),
     Refusal::Spent,
     Refusal::Full,
+    Refusal::TenantShort {
+        instances: 0,
+        cores: 0,
+        ram: 0,
+    },
+    Refusal::TenantNeverFits,
 ];
 
 /// The first word, and what stands behind it. It goes by the reply's form alone.
@@ -158,6 +165,11 @@ pub(crate) fn refusal_row(form: Refusal) -> Row
         Refusal::Enough(_) => Row::of(b"enough", &[Kind::Number]),
         Refusal::Spent => Row::of(b"spent", &[]),
         Refusal::Full => Row::of(b"full", &[]),
+        Refusal::TenantShort { .. } => Row::of(
+            b"tenant-short",
+            &[Kind::Instances, Kind::Cores, Kind::Ram],
+        ),
+        Refusal::TenantNeverFits => Row::of(b"tenant-never-fits", &[]),
     }
 }
 
@@ -182,7 +194,23 @@ pub(crate) fn refusal_of(form: Refusal, said: Fields) -> Refusal
         Refusal::SemaphoreFull(_) => Refusal::SemaphoreFull(said.semaphore),
         Refusal::NotDue(_) => Refusal::NotDue(said.number),
         Refusal::Enough(_) => Refusal::Enough(said.number),
+        Refusal::TenantShort { .. } => Refusal::TenantShort {
+            instances: said.instances,
+            cores: said.cores,
+            ram: said.ram,
+        },
         _ => form,
+    }
+}
+
+fn counted(instances: u64, cores: u64, ram: u64) -> Fields
+    ensures { result ≡ record blank { instances = instances; cores = cores; ram = ram } }
+{
+    Fields {
+        instances,
+        cores,
+        ram,
+        ..BLANK
     }
 }
 
@@ -200,18 +228,18 @@ pub(crate) fn refusal_fields(refusal: Refusal) -> Fields
             instances,
             cores,
             ram,
-        } => Fields {
-            instances,
-            cores,
-            ram,
-            ..BLANK
-        },
+        } => counted(instances, cores, ram),
         Refusal::Allocated(request) => Fields { request, ..BLANK },
         Refusal::WrongAttempt(attempt) => Fields { attempt, ..BLANK },
         Refusal::NotAll(number) => Fields { number, ..BLANK },
         Refusal::SemaphoreFull(semaphore) => Fields { semaphore, ..BLANK },
         Refusal::NotDue(number) => Fields { number, ..BLANK },
         Refusal::Enough(number) => Fields { number, ..BLANK },
+        Refusal::TenantShort {
+            instances,
+            cores,
+            ram,
+        } => counted(instances, cores, ram),
         _ => BLANK,
     }
 }

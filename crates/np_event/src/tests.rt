@@ -19,7 +19,7 @@ const J: JobId = JobId(3);
 const L: LabelId = LabelId(65_535);
 
 // Each form of an event, with its line.
-const EVENTS: [(&[u8], Event); 37] = [
+const EVENTS: [(&[u8], Event); 40] = [
     (b"tick", Event::Tick),
     (
         b"open launcher p0",
@@ -48,6 +48,22 @@ const EVENTS: [(&[u8], Event); 37] = [
     ),
     (b"register s1", Event::Register { session: S }),
     (b"submit s1 j3", Event::Submit { session: S, job: J }),
+    (
+        b"revise s1 j3 0",
+        Event::Revise {
+            session: S,
+            job: J,
+            relative: 0,
+        },
+    ),
+    (
+        b"revise s1 j3 1000000",
+        Event::Revise {
+            session: S,
+            job: J,
+            relative: 1_000_000,
+        },
+    ),
     (
         b"min-ready s1 l65535",
         Event::MinReady {
@@ -90,6 +106,14 @@ const EVENTS: [(&[u8], Event); 37] = [
             session: S,
             request: R,
             reason: Reason::NeverFits,
+        },
+    ),
+    (
+        b"decline s1 200-0000000000 tenant-never-fits",
+        Event::Decline {
+            session: S,
+            request: R,
+            reason: Reason::TenantNeverFits,
         },
     ),
     (
@@ -235,7 +259,7 @@ const EVENTS: [(&[u8], Event); 37] = [
 ];
 
 // Each reply, with what stands behind ` = `.
-const REPLIES: [(&[u8], Reply); 53] = [
+const REPLIES: [(&[u8], Reply); 55] = [
     (b"ok", Reply::Done(Done::Plain)),
     (b"session s1", Reply::Done(Done::Session(S))),
     (b"request 200-0000000000", Reply::Done(Done::Request(R))),
@@ -368,6 +392,18 @@ const REPLIES: [(&[u8], Reply); 53] = [
     (b"refused enough 1", Reply::Refused(Refusal::Enough(1))),
     (b"refused spent", Reply::Refused(Refusal::Spent)),
     (b"refused full", Reply::Refused(Refusal::Full)),
+    (
+        b"refused tenant-short 1 4294967296 18446744073709551615",
+        Reply::Refused(Refusal::TenantShort {
+            instances: 1,
+            cores: 4_294_967_296,
+            ram: u64::MAX,
+        }),
+    ),
+    (
+        b"refused tenant-never-fits",
+        Reply::Refused(Refusal::TenantNeverFits),
+    ),
 ];
 
 #[test]
@@ -405,9 +441,53 @@ fn replies_are_read_and_written(rt: HostRuntime) -> Result<(), Fail> {
 }
 
 #[test]
+fn journal_lines_tell_of_tenants(rt: HostRuntime) -> Result<(), Fail> {
+    let rows: [(&[u8], Event, Reply); 3] = [
+        (
+            b"revise s2 j0 5 = ok",
+            Event::Revise {
+                session: SessionId(2),
+                job: JobId(0),
+                relative: 5,
+            },
+            Reply::Done(Done::Plain),
+        ),
+        (
+            b"accept s1 200-0000000000 = refused tenant-never-fits",
+            Event::Accept {
+                session: S,
+                request: R,
+            },
+            Reply::Refused(Refusal::TenantNeverFits),
+        ),
+        (
+            b"create s1 200-0000000000 = refused tenant-short 1 0 8",
+            Event::Create {
+                session: S,
+                request: R,
+            },
+            Reply::Refused(Refusal::TenantShort {
+                instances: 1,
+                cores: 0,
+                ram: 8,
+            }),
+        ),
+    ];
+    for (line, event, reply) in rows {
+        let entry = Entry { event, reply };
+        assert_eq!(rt; read_entry(line), Some(entry), "{line:?}");
+        assert!(rt; entry_has_line(entry), "{entry:?}");
+        let mut out = Vec::new(rt.alloc());
+        assert_eq!(rt; put_entry(&mut out, entry), Ok(()), "{entry:?}");
+        assert_eq!(rt; out.as_slice(), line, "{entry:?}");
+    }
+    Ok(())
+}
+
+#[test]
 fn the_first_fault_is_named(rt: HostRuntime) {
     use LineFault::*;
-    const ROWS: [(&[u8], LineFault); 44] = [
+    const ROWS: [(&[u8], LineFault); 52] = [
         (b"", UnknownEvent),
         (b" tick", UnknownEvent),
         (b"tock", UnknownEvent),
@@ -433,6 +513,11 @@ fn the_first_fault_is_named(rt: HostRuntime) {
         (b"min-ready s1 l65536", BadArgument { word: 3 }),
         (b"submit x y", BadArgument { word: 2 }),
         (b"submit s1 y", BadArgument { word: 3 }),
+        (b"revise s2 j0", WrongCount),
+        (b"revise s2 j0 1 1", WrongCount),
+        (b"revise s2 x 1000001", BadArgument { word: 3 }),
+        (b"revise s2 j0 1000001", BadArgument { word: 4 }),
+        (b"revise s2 j0 01", BadArgument { word: 4 }),
         (b"accept s1 099-0000000000", BadArgument { word: 3 }),
         (b"accept s1 1000-0000000000", BadArgument { word: 3 }),
         (b"accept s1 200-4294967296", BadArgument { word: 3 }),
@@ -442,6 +527,12 @@ fn the_first_fault_is_named(rt: HostRuntime) {
         (b"decline a b no-label", WrongCount),
         (b"decline a b never-fits", BadArgument { word: 2 }),
         (b"decline s1 200-0000000000 never-fits l0", WrongCount),
+        (b"decline a b tenant-never-fits", BadArgument { word: 2 }),
+        (b"decline s1 200-0000000000 tenant-never-fits x", WrongCount),
+        (
+            b"decline s1 200-0000000000 tenant-spent n0",
+            BadArgument { word: 4 },
+        ),
         (
             b"decline s1 200-0000000000 spent l0",
             BadArgument { word: 5 },
@@ -466,7 +557,7 @@ fn the_first_fault_is_named(rt: HostRuntime) {
 
 #[test]
 fn other_lines_are_no_entries(rt: HostRuntime) {
-    const ROWS: [&[u8]; 12] = [
+    const ROWS: [&[u8]; 14] = [
         b"",
         b"tick",
         b"tick = ",
@@ -479,6 +570,8 @@ fn other_lines_are_no_entries(rt: HostRuntime) {
         b"tick = refused wrong-state withdrawn",
         b"tick = ended withdrawn",
         b"tick = queued 4294967296",
+        b"tick = refused tenant-short 1 2",
+        b"tick = refused tenant-never-fits 1",
     ];
     for line in ROWS {
         assert_eq!(rt; read_entry(line), None, "{line:?}");
@@ -498,6 +591,15 @@ fn some_values_have_no_line(rt: HostRuntime) {
         request: far,
     };
     assert!(rt; !event_has_line(accept), "a priority of four digits");
+    let revise = Event::Revise {
+        session: S,
+        job: J,
+        relative: 1_000_001,
+    };
+    assert!(rt;
+        !event_has_line(revise),
+        "a relative priority that no job has"
+    );
     let withdrawn = Entry {
         event: Event::Tick,
         reply: Reply::Done(Done::Ended(Ending::Withdrawn)),
