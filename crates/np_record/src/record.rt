@@ -3,7 +3,7 @@
 use crate::row::{Item, Row};
 use np_text::{
     Ending, JOB_LABELS, JobId, LabelId, NodeId, NodeState, POOLS, Phase, PoolId, Reason, RequestId,
-    RequestState, Role,
+    RequestState, Role, TenantId,
 };
 
 /// That a pool declined a request, and why.
@@ -105,6 +105,8 @@ pub struct NodeRecord {
     /// Which start of its pool the last launch was; 0 before the first.
     pub start: u32,
     pub state: NodeState,
+    /// The tenant whose job the node was given to, if any.
+    pub tenant: Option<TenantId>,
 }
 
 /// A job.
