@@ -5,7 +5,7 @@ use Rattle.std.specs.Option.{option_map_or}
 use Rattle.std.specs.Str.{bytes_eq}
 use Rattle.np_text.specs.Name.{is_name_text}
 use Rattle.np_amount.specs.declared.amount.Limit.{Limit}
-use Rattle.np_text.specs.declared.limit.TheConstants.{LABELS, PROVIDERS, POOLS, SEMAPHORES, REQUESTERS, JOBS, JOB_LABELS, JOB_SEMAPHORES, FAULTS, FAIL_STARTS}
+use Rattle.np_text.specs.declared.limit.TheConstants.{LABELS, PROVIDERS, POOLS, SEMAPHORES, TENANTS, REQUESTERS, JOBS, JOB_LABELS, JOB_SEMAPHORES, FAULTS, FAIL_STARTS}
 use Rattle.np_text.specs.declared.limit.TheConstants.{MIN_READY, AGE, LAUNCHES, CONCURRENCY, POOL_SERVERS, POOL_CORES, POOL_RAM, NODE_CORES, NODE_RAM, START_NUMBER, HANDLES, WINDOW, RELATIVE_PRIORITY, FAULT_ACTS}
 use Rattle.np_text.specs.declared.id.LabelId.{LabelId}
 use Rattle.np_text.specs.declared.id.SemId.{SemId}
@@ -16,10 +16,11 @@ use Rattle.np_site.specs.declared.row.Provider.{Provider}
 use Rattle.np_site.specs.declared.row.Pool.{Pool}
 use Rattle.np_site.specs.declared.row.Offer.{Offer}
 use Rattle.np_site.specs.declared.row.Sem.{Sem}
+use Rattle.np_site.specs.declared.row.Tenant.{Tenant}
 use Rattle.np_site.specs.declared.row.Requester.{Requester}
 use Rattle.np_site.specs.declared.row.Job.{Job}
 use Rattle.np_site.specs.declared.row.Fault.{Fault}
-use Rattle.np_site.specs.Configuration.{Configuration}
+use Rattle.np_site.specs.Configuration.{Configuration, default_name}
 use Rattle.np_lists.specs.EachAfter.{EachAfter}
 
 -- a name, and no earlier row has it
@@ -83,6 +84,12 @@ pub record IsSem (earlier : List Sem) (s : Sem) : Type 0 where
   pub some : 1 ≤ s.max
   pub max : s.max ≤ HANDLES
 
+-- a listed tenant beside the earlier ones
+pub record IsTenant (earlier : List Tenant) (t : Tenant) : Type 0 where
+  pub name : HasNewName (λ (r : Tenant). r.name) earlier t
+  pub listed : bytes_eq t.name default_name ≡ false
+  pub limit : IsLimit t.limit
+
 pub record IsRequester (earlier : List Requester) (q : Requester) : Type 0 where
   pub name : HasNewName (λ (r : Requester). r.name) earlier q
   pub some : 1 ≤ q.window
@@ -104,8 +111,8 @@ pub record IsTaken (semaphores : ℕ) (earlier : List SemId) (s : SemId) : Type 
   pub semaphore : s.0 < semaphores
   pub new : is_untaken earlier s ≡ true
 
--- a job beside the earlier ones of its requester, where there are so many labels and semaphores
-pub record IsJob (labels semaphores : ℕ) (earlier : List Job) (j : Job) : Type 0 where
+-- a job beside the earlier ones of its requester, where there are so many labels, semaphores and listed tenants
+pub record IsJob (labels semaphores tenants : ℕ) (earlier : List Job) (j : Job) : Type 0 where
   pub name : HasNewName (λ (r : Job). r.name) earlier j
   pub wanted : All (IsWanted labels) j.labels
   pub some_label : 1 ≤ length j.labels
@@ -114,6 +121,7 @@ pub record IsJob (labels semaphores : ℕ) (earlier : List Job) (j : Job) : Type
   pub relative : j.relative_priority ≤ RELATIVE_PRIORITY
   pub taken : EachAfter (IsTaken semaphores) [] j.semaphores
   pub few_taken : length j.semaphores ≤ JOB_SEMAPHORES
+  pub tenant : j.tenant.0 ≤ tenants
 
 -- a role that is there, where there are so many pools and requesters; the reaper has no fault
 abbrev pub IsRole : ℕ → ℕ → Role → Type 0
@@ -135,9 +143,9 @@ pub record AreProviders (labels : ℕ) (providers : List Provider) (pools : List
   pub each_has_one : (k : ℕ) → k < length providers → 1 ≤ length (filter (λ p. p.provider == k) pools)
 
 -- requesters and the jobs of all of them
-pub record AreRequesters (labels semaphores : ℕ) (requesters : List Requester) (jobs : List Job) : Type 0 where
+pub record AreRequesters (labels semaphores tenants : ℕ) (requesters : List Requester) (jobs : List Job) : Type 0 where
   pub each_requester : EachAfter IsRequester [] requesters
-  pub each_job : EachAfter (StandsByOwner (λ (j : Job). j.requester.0) (IsJob labels semaphores)) [] jobs
+  pub each_job : EachAfter (StandsByOwner (λ (j : Job). j.requester.0) (IsJob labels semaphores tenants)) [] jobs
   pub few_jobs : length jobs ≤ JOBS
   pub owned : All (λ j. j.requester.0 < length requesters) jobs
 
@@ -151,7 +159,9 @@ pub record IsSound (c : Configuration) : Type 0 where
   pub few_providers : length c.providers ≤ PROVIDERS
   pub semaphores : EachAfter IsSem [] c.semaphores
   pub few_semaphores : length c.semaphores ≤ SEMAPHORES
-  pub demand : AreRequesters (length c.labels) (length c.semaphores) c.requesters c.jobs
+  pub tenants : EachAfter IsTenant [] c.tenants
+  pub few_tenants : length c.tenants ≤ TENANTS
+  pub demand : AreRequesters (length c.labels) (length c.semaphores) (length c.tenants) c.requesters c.jobs
   pub few_requesters : length c.requesters ≤ REQUESTERS
   pub faults : All (IsFault (length c.pools) (length c.requesters)) c.faults
   pub few_faults : length c.faults ≤ FAULTS

@@ -11,5 +11,5 @@ mod row;
 pub use named::{Named, Numbered};
 pub use row::{
     Fault, FaultKind, Job, Label, LabelList, Name, NumberList, Offer, OfferList, Pool, Provider,
-    Requester, Sem, SemList,
+    Requester, Sem, SemList, Tenant,
 };

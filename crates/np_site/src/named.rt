@@ -2,7 +2,7 @@
 
 ghost use Rattle.std.specs.Prelude.{◌≡◌, List, ℕ};
 
-use crate::row::{Job, Label, Offer, Pool, Provider, Requester, Sem};
+use crate::row::{Job, Label, Offer, Pool, Provider, Requester, Sem, Tenant};
 use np_text::SemId;
 
 /// Something with a name.
@@ -46,6 +46,14 @@ impl Named for Pool {
 }
 
 impl Named for Sem {
+    ghost name = { λ row. row.name };
+
+    fn name(&self) -> &[u8] {
+        self.name.items()
+    }
+}
+
+impl Named for Tenant {
     ghost name = { λ row. row.name };
 
     fn name(&self) -> &[u8] {

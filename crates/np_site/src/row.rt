@@ -5,7 +5,7 @@ ghost use Rattle.np_site.specs.Word.{fault_kind_of, fault_kind_word};
 
 use np_amount::{Amount, Limit};
 use np_lists::Items;
-use np_text::{EndAs, LabelId, RequesterId, Role, SemId};
+use np_text::{EndAs, LabelId, RequesterId, Role, SemId, TenantId};
 
 /// The bytes of a name.
 pub type Name = Items<u8>;
@@ -66,6 +66,14 @@ pub struct Sem {
     pub max: u32,
 }
 
+/// A tenant, to which jobs belong (Zuul).
+#[derive(Drop)]
+pub struct Tenant {
+    pub name: Name,
+    /// What the nodes of its jobs may take, in the ranges of a pool's limits.
+    pub limit: Limit,
+}
+
 /// A requester of nodes.
 #[derive(Drop)]
 pub struct Requester {
@@ -91,6 +99,8 @@ pub struct Job {
     pub resources_first: bool,
     /// What its nodes are left as.
     pub end: EndAs,
+    /// 0 is the tenant `default`, and those of the configuration count from 1.
+    pub tenant: TenantId,
 }
 
 /// What happens to a session when its fault is due.
