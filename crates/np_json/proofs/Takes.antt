@@ -12,9 +12,9 @@ use Rattle.np_json.specs.declared.fault.ConfigKind.TheVariants.{WrongType, OutOf
 use Rattle.np_json.specs.declared.fault.ConfigFault.{ConfigFault}
 use Rattle.np_json.specs.declared.leaf.Length.{Length}
 use Rattle.np_lists.specs.Refusals.{◌>>=◌, ◌>>◌, need, found}
-use Rattle.np_lists.proofs.RefusalLemmas.{bind-ok, need-ok}
+use Rattle.np_lists.proofs.RefusalLemmas.{bind-ok, rest-ok, need-ok}
 use Rattle.np_json.specs.Reading.{fault, below}
-use Rattle.np_json.specs.Leaf.{required, text_value, in_range, whole_value, of_length, list_value, new_name, name_at, whole_required, whole_or, whole_maybe}
+use Rattle.np_json.specs.Leaf.{object_at, required, text_value, in_range, whole_value, of_length, list_value, new_name, name_at, named_at, whole_required, whole_or, whole_maybe}
 use Rattle.np_json.specs.Rows.{ReadsItem, items_from, list_at, list_required, list_maybe}
 
 abbrev pub ok : {A : Type 0} → A → Result A ConfigFault
@@ -64,11 +64,11 @@ whole_maybe-takes at key least most d o e = by (get key d) e
 
 -- ## Names
 
-not_true : (b : Bool) → not b ≡ true → b ≡ false
+pub not_true : (b : Bool) → not b ≡ true → b ≡ false
 not_true true e = absurd (cc)
 not_true false e = refl
 
-pub name_at-takes : {T : Type 0} (name : T → List ℕ) (at : List ℕ) (earlier : List T) (d : Data) (n : List ℕ) → name_at name at earlier d ≡ Ok n
+name_at-takes : {T : Type 0} (name : T → List ℕ) (at : List ℕ) (earlier : List T) (d : Data) (n : List ℕ) → name_at name at earlier d ≡ Ok n
     → (is_name_text n ≡ true) × (list_any (λ row. bytes_eq n (name row)) earlier ≡ false)
 unfolding name_at new_name
 name_at-takes {T} name at earlier d n e =
@@ -80,6 +80,11 @@ name_at-takes {T} name at earlier d n e =
     let new = need-ok (unused t.0) (fault Repeated here) (ok t.0) n good.1 in
     let same : t.0 ≡ n = same_ok t.0 n new.1 in
     (subst (λ (m : List ℕ). is_name_text m ≡ true) same good.0, not_true _ (subst (λ (m : List ℕ). unused m ≡ true) same new.0))
+
+pub named_at-takes : {T : Type 0} (name : T → List ℕ) (keys : List (List ℕ)) (at : List ℕ) (earlier : List T) (d : Data) (n : List ℕ) → named_at name keys at earlier d ≡ Ok n
+    → (is_name_text n ≡ true) × (list_any (λ row. bytes_eq n (name row)) earlier ≡ false)
+unfolding named_at
+named_at-takes name keys at earlier d n e = name_at-takes name at earlier d n (rest-ok (object_at at keys d) (name_at name at earlier d) n e)
 
 -- ## Lists
 

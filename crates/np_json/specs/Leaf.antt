@@ -81,6 +81,12 @@ name_at name at earlier d = do
   text ← text_value (below at (codes "name")) v
   new_name name (below at (codes "name")) earlier text
 
+-- the name of a row, which is an object that has no key but these
+unfoldable pub named_at : {T : Type 0} → (T → List ℕ) → List (List ℕ) → List ℕ → List T → Data → Result (List ℕ) ConfigFault
+named_at name keys at earlier d = do
+  object_at at keys d
+  name_at name at earlier d
+
 -- a number that has to be there
 unfoldable pub whole_required : List ℕ → List ℕ → ℕ → ℕ → Data → Result ℕ ConfigFault
 whole_required at key least most d = required at key d >>= whole_value (below at key) least most

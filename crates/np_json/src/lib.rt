@@ -16,5 +16,5 @@ pub use fault::{ConfigFault, ConfigKind, ConfigRead, Place, Pointer, fault_at, f
 pub use leaf::{Length, flag_of, list_of, object, required, text_of, whole_of};
 pub use list::{Rows, rows_maybe, rows_of, rows_required};
 pub use member::{flag, whole, whole_maybe, whole_required};
-pub use named::{Table, name};
+pub use named::{NamedRow, Table, named_row};
 pub use numbered::Marked;

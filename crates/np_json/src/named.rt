@@ -79,6 +79,7 @@ impl<T: Named> Table<T> {
     pub fn place(&self, name: &[u8]) -> Option<u16>
         ensures place { result ≡ position (λ row. bytes_eq name.now (T.name row)) self.now }
         ensures within { IfSome result (λ place. place < length self.now) }
+        ensures small { IfSome result (λ place. place + 1 < 2 ^ 16) }
     {
         let place = self.names.get_index_of(name)?;
         Some(place as u16)
@@ -99,13 +100,14 @@ impl<T: Named> Table<T> {
     }
 }
 
-ghost use Rattle.std.specs.Prelude.{◌==◌, codes};
+ghost use Rattle.std.specs.Prelude.{◌==◌, codes, map};
 ghost use Rattle.serde_json.specs.View.{view};
 ghost use Rattle.np_json.specs.Reading.{Gives, pointer_to};
-ghost use Rattle.np_json.specs.Leaf.{new_name, name_at};
+ghost use Rattle.np_json.specs.Leaf.{new_name, name_at, named_at};
 
 use crate::fault::{ConfigKind, ConfigRead, Place, fault_in};
-use crate::leaf::{required, text_of};
+use crate::leaf::{object, required, text_of};
+use np_site::Name;
 use np_text::is_name;
 use serde_json::Value;
 
@@ -132,7 +134,7 @@ fn new_name<T: Named>(
 
 /// The name of a row, which none of the earlier ones has.
 #[tactic(auto, using(crate::proofs::Binds::exits), unfolding(crate::specs::Leaf::name_at))]
-pub fn name<T: Named>(
+fn name<T: Named>(
     alloc: Global,
     at: &[u8],
     earlier: &Table<T>,
@@ -147,4 +149,34 @@ pub fn name<T: Named>(
     let place = Place::Member(at, "name");
     let text = text_of(alloc, place, member)?;
     new_name(alloc, place, earlier, text.as_bytes())
+}
+
+/// What is read first of a row: where it stands, and its name.
+#[derive(Drop)]
+pub struct NamedRow {
+    /// The pointer to the row.
+    pub at: Vec<u8>,
+    pub name: Name,
+}
+
+/// The name of a row, which is an object that has no key but these. None of the earlier rows has it.
+#[tactic(auto, using(crate::proofs::Binds::exits), unfolding(crate::specs::Leaf::named_at))]
+pub fn named_row<T: Named>(
+    alloc: Global,
+    place: Place<'_>,
+    keys: &[&str],
+    earlier: &Table<T>,
+    value: &Value,
+) -> Result<NamedRow, ConfigRead>
+    ensures gives { Gives (λ r. r.name) result (named_at T.name (map (λ k. k.now) keys.now)
+        (pointer_to place.entry) earlier.now (view value.now)) }
+    ensures at { IfOk result (λ r. r.at.items ≡ pointer_to place.entry) }
+    ensures fresh { IfOk result
+        (λ r. list_any (λ row. bytes_eq r.name (T.name row)) earlier.now ≡ false) }
+{
+    let at = place.pointer(alloc)?;
+    object(alloc, at.as_slice(), keys, value)?;
+    let name = name(alloc, at.as_slice(), earlier, value)?;
+    let name = Name::new(name);
+    Ok(NamedRow { at, name })
 }
