@@ -18,7 +18,7 @@ use Rattle.np_json.specs.declared.fault.ConfigFault.{ConfigFault}
 use Rattle.np_json.specs.declared.leaf.Length.{Length}
 use Rattle.np_lists.specs.Refusals.{◌>>=◌, ◌>>◌}
 use Rattle.np_json.specs.Reading.{below}
-use Rattle.np_json.specs.Leaf.{whole_value, whole_or, name_at, new_name, required}
+use Rattle.np_json.specs.Leaf.{whole_value, whole_or, name_at, named_at, new_name, required}
 use Rattle.np_json.specs.Rows.{ReadsItem, items_from, list_at, list_required, list_maybe}
 use Rattle.np_json.proofs.Takes.{ok}
 use Rattle.np_text.specs.declared.limit.TheConstants.{MIN_READY, AGE, HANDLES, START_NUMBER, NODE_CORES, NODE_RAM, POOL_SERVERS, POOL_CORES, POOL_RAM}
@@ -93,12 +93,12 @@ limit_again at d l is servers cores ram =
 -- ## Rows
 
 pub label_again : (at : List ℕ) (e : List Label) (l : Label) → IsLabel e l → label_at at e (label_data l) ≡ Ok (e ++ l ∷ [])
-unfolding label_at label_row name_at new_name
+unfolding label_at label_row named_at name_at new_name
 label_again at e l is =
     rw (is.name.named, is.name.new, up_to_again (below at (codes "min-ready")) MIN_READY l.min_ready is.min_ready, up_to_again (below at (codes "max-ready-age")) AGE l.max_ready_age is.max_ready_age) refl
 
 pub semaphore_again : (at : List ℕ) (e : List Sem) (s : Sem) → IsSem e s → semaphore_at at e (semaphore_data s) ≡ Ok (e ++ s ∷ [])
-unfolding semaphore_at name_at new_name
+unfolding semaphore_at named_at name_at new_name
 semaphore_again at e s is = rw (is.name.named, is.name.new, whole_again (below at (codes "max")) 1 HANDLES s.max is.some is.max) refl
 
 pub start_again : (at : List ℕ) (e : List ℕ) (n : ℕ) → IsStart e n → start_at at e (count n) ≡ Ok (e ++ n ∷ [])

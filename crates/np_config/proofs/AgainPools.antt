@@ -14,7 +14,7 @@ use Rattle.np_json.specs.declared.fault.ConfigFault.{ConfigFault}
 use Rattle.np_json.specs.declared.leaf.Length.{Length}
 use Rattle.np_lists.specs.Refusals.{◌>>=◌, ◌>>◌}
 use Rattle.np_json.specs.Reading.{below}
-use Rattle.np_json.specs.Leaf.{at_most, name_at, new_name}
+use Rattle.np_json.specs.Leaf.{at_most, name_at, named_at, new_name}
 use Rattle.np_text.specs.declared.limit.TheConstants.{LABELS, FAIL_STARTS}
 use Rattle.np_json.specs.Rows.{ReadsItem, items_from, list_at, list_required, list_maybe}
 use Rattle.np_json.proofs.Takes.{ok}
@@ -63,7 +63,7 @@ abbrev of_provider : ℕ → Pool → Pool
 of_provider k p = record p { provider = k }
 
 pub pool_again : (c : Configuration) → EachAfter IsLabel [] c.labels → (at : List ℕ) (s : PoolsOf) (p : Pool) → (p.provider ≡ s.provider) × IsPool (length c.labels) s.pools p → pool_at c.labels at s (pool_data c p) ≡ Ok (joined s p)
-unfolding pool_at pool_row offers_at starts_at list_required list_maybe name_at new_name
+unfolding pool_at pool_row offers_at starts_at list_required list_maybe named_at name_at new_name
 pool_again c each at s p is =
     let last = member (codes "name") (string p.name) no_members in
     let keys = keys-limit p.limit pool_keys last refl refl refl in

@@ -12,7 +12,7 @@ use Rattle.np_json.specs.declared.fault.ConfigFault.{ConfigFault}
 use Rattle.np_json.specs.declared.leaf.Length.{Length}
 use Rattle.np_lists.specs.Refusals.{◌>>=◌, ◌>>◌}
 use Rattle.np_json.specs.Reading.{below as under}
-use Rattle.np_json.specs.Leaf.{name_at, new_name}
+use Rattle.np_json.specs.Leaf.{name_at, named_at, new_name}
 use Rattle.np_json.specs.Rows.{items_from, list_at, list_required}
 use Rattle.np_json.proofs.Takes.{ok}
 use Rattle.np_text.specs.declared.limit.TheConstants.{POOLS, LAUNCHES, CONCURRENCY}
@@ -64,7 +64,7 @@ module _ (c : Configuration) (each_label : EachAfter IsLabel [] c.labels) where
 provider_again : (c : Configuration) (at : List ℕ) (s : Providers) (k : ℕ) (p : Provider) (own : List Pool) → IsProvider s.providers p
     → list_at (pool_at c.labels) (under at (codes "pools")) (behind (length s.pools) (one_to POOLS)) (own_of (length s.providers) []) (list_data (pool_data c) (pools_of c k)) ≡ Ok (own_of (length s.providers) own)
     → provider_at c.labels at s (provider_data c k p) ≡ Ok (supply_of (s.providers ++ p ∷ []) (s.pools ++ own))
-unfolding provider_at provider_row pools_at list_required name_at new_name
+unfolding provider_at provider_row pools_at list_required named_at name_at new_name
 provider_again c at s k p own is read =
     let last = member (codes "name") (string p.name) (member (codes "pools") (list_data (pool_data c) (pools_of c k)) no_members) in
     let o = option_map count p.concurrency in

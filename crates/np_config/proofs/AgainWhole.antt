@@ -2,7 +2,7 @@
 use Rattle.std.proofs.Common.{◌≡◌, ℕ, ◌+◌, ◌<◌, ◌≤◌, Bool, true, List, [], ◌∷◌, ◌++◌, codes, map, length, Option, Some, Result, Ok, Err, refl, sym, ap, ◌∙◌, subst, arith, suc}
 use Rattle.std.specs.Str.{IsUtf8}
 use Rattle.std.proofs.lemmas.List.{length-map}
-use Rattle.serde_json.specs.Data.{Data, Items, array}
+use Rattle.serde_json.specs.Data.{Data, Items, array, no_members}
 use Rattle.serde_json.specs.Events.{items_len}
 use Rattle.serde_json.specs.Read.{read}
 use Rattle.serde_json.specs.View.{items_of}
@@ -12,7 +12,7 @@ use Rattle.np_lists.specs.Refusals.{◌>>=◌, ◌>>◌}
 use Rattle.np_json.specs.Reading.{below as under}
 use Rattle.np_json.specs.Rows.{ReadsItem, items_from, list_at, list_required, list_maybe}
 use Rattle.np_json.proofs.Takes.{ok}
-use Rattle.np_text.specs.declared.limit.TheConstants.{LABELS, PROVIDERS, SEMAPHORES, REQUESTERS, FAULTS, AGE}
+use Rattle.np_text.specs.declared.limit.TheConstants.{LABELS, PROVIDERS, SEMAPHORES, TENANTS, REQUESTERS, FAULTS, AGE}
 use Rattle.np_json.specs.Leaf.{at_most, one_to}
 use Rattle.np_site.specs.declared.row.Provider.{Provider}
 use Rattle.np_site.specs.declared.row.Pool.{Pool}
@@ -21,6 +21,7 @@ use Rattle.np_site.specs.declared.row.Job.{Job}
 use Rattle.np_config.specs.declared.providers.Providers.{Providers}
 use Rattle.np_config.specs.declared.requesters.Requesters.{Requesters}
 use Rattle.np_site.specs.Configuration.{Configuration}
+use Rattle.np_config.specs.Keys.{top_keys}
 use Rattle.np_config.specs.Names.{pool_names}
 use Rattle.np_config.specs.Labels.{label_at, semaphore_at}
 use Rattle.np_config.specs.Providers.{provider_at}
@@ -28,12 +29,14 @@ use Rattle.np_config.specs.Requesters.{requester_at}
 use Rattle.np_config.specs.Faults.{fault_at}
 use Rattle.np_config.specs.Walk.{configuration_at, reads}
 use Rattle.np_site.specs.Sound.{IsLabel, IsSem, IsPool, IsJob, IsFault, IsSound}
-use Rattle.np_config.specs.Canonical.{count, list_data, label_data, provider_data, semaphore_data, requester_data, fault_data, placed, configuration_data}
+use Rattle.np_config.specs.Canonical.{count, list_data, label_data, provider_data, semaphore_data, list_if_any, tenant_data, requester_data, fault_data, placed, configuration_data}
 use Rattle.np_site.proofs.Owners.{below, below-none, below-all}
 use Rattle.np_config.proofs.Parsed.{parsed-some}
 use Rattle.np_lists.proofs.EachAfterLemmas.{EachAfter-from_all}
 use Rattle.np_config.proofs.Again.{most_test, up_to_again, list_again, label_again, semaphore_again}
 use Rattle.np_config.proofs.AgainProviders.{providers_again}
+use Rattle.np_config.proofs.Members.{keys-given, get-given}
+use Rattle.np_config.proofs.AgainTenants.{tenants_again}
 use Rattle.np_config.proofs.AgainJobs.{requesters_again}
 use Rattle.np_config.proofs.AgainFaults.{fault_again}
 
@@ -76,20 +79,20 @@ providers_read c sound =
     let some = sound.some_provider in
     list_at-items (provider_at c.labels) at (one_to PROVIDERS) (supply [] []) (supply c.providers c.pools) ds (start ∙ ap (λ (ps : List Pool). ok (supply c.providers ps)) end) (omega arith) (omega arith)
 
-requesters_read : (c : Configuration) → IsSound c → list_at (requester_at c.labels c.semaphores) (under [] (codes "requesters")) (at_most REQUESTERS) (demand [] []) (array (items_of (placed (requester_data c) 0 c.requesters))) ≡ Ok (demand c.requesters c.jobs)
+requesters_read : (c : Configuration) → IsSound c → list_at (requester_at c.labels c.semaphores c.tenants) (under [] (codes "requesters")) (at_most REQUESTERS) (demand [] []) (array (items_of (placed (requester_data c) 0 c.requesters))) ≡ Ok (demand c.requesters c.jobs)
 requesters_read c sound =
     let at = under [] (codes "requesters") in
     let owner : Job → ℕ = λ j. j.requester.0 in
-    let P = IsJob (length c.labels) (length c.semaphores) in
-    let items = requesters_again c sound.labels sound.semaphores sound.demand at 0 [] c.requesters 0 refl (omega arith) sound.demand.each_requester in
+    let P = IsJob (length c.labels) (length c.semaphores) (length c.tenants) in
+    let items = requesters_again c sound.labels sound.semaphores sound.tenants sound.demand at 0 [] c.requesters 0 refl (omega arith) sound.demand.each_requester in
     let ds = placed (requester_data c) 0 c.requesters in
-    let start : items_from (requester_at c.labels c.semaphores) at 0 (demand [] []) (items_of ds) ≡ Ok (demand c.requesters (below owner P (0 + length c.requesters) c.jobs))
-    = subst (λ (js : List Job). items_from (requester_at c.labels c.semaphores) at 0 (demand [] js) (items_of ds) ≡ Ok (demand c.requesters (below owner P (0 + length c.requesters) c.jobs))) (below-none owner P c.jobs) items in
+    let start : items_from (requester_at c.labels c.semaphores c.tenants) at 0 (demand [] []) (items_of ds) ≡ Ok (demand c.requesters (below owner P (0 + length c.requesters) c.jobs))
+    = subst (λ (js : List Job). items_from (requester_at c.labels c.semaphores c.tenants) at 0 (demand [] js) (items_of ds) ≡ Ok (demand c.requesters (below owner P (0 + length c.requesters) c.jobs))) (below-none owner P c.jobs) items in
     let none : 0 + length c.requesters ≡ length c.requesters = omega arith in
     let end : below owner P (0 + length c.requesters) c.jobs ≡ c.jobs = ap (λ (k : ℕ). below owner P k c.jobs) none ∙ below-all owner P (length c.requesters) c.jobs sound.demand.owned in
     let many : length ds ≡ length c.requesters = length-placed (requester_data c) 0 c.requesters in
     let few = sound.few_requesters in
-    list_at-items (requester_at c.labels c.semaphores) at (at_most REQUESTERS) (demand [] []) (demand c.requesters c.jobs) ds (start ∙ ap (λ (js : List Job). ok (demand c.requesters js)) end) (omega arith) (omega arith)
+    list_at-items (requester_at c.labels c.semaphores c.tenants) at (at_most REQUESTERS) (demand [] []) (demand c.requesters c.jobs) ds (start ∙ ap (λ (js : List Job). ok (demand c.requesters js)) end) (omega arith) (omega arith)
 
 configuration_again : (c : Configuration) → IsSound c → configuration_at (configuration_data c) ≡ Ok c
 unfolding configuration_at list_required list_maybe
@@ -99,7 +102,18 @@ configuration_again c sound =
     let each = EachAfter-from_all (IsFault (length c.pools) (length c.requesters)) [] c.faults sound.faults in
     let faults = list_again (fault_at (pool_names c.providers c.pools) c.requesters) (fault_data c) (λ e f. IsFault (length c.pools) (length c.requesters) f)
     (fault_again c (length c.labels) sound.supply sound.demand.each_requester) (under [] (codes "faults")) (at_most FAULTS) c.faults each (omega (arith, sound.few_faults)) (omega arith) in
-    rw (labels, up_to_again (under [] (codes "max-hold-age")) AGE c.max_hold_age sound.max_hold_age, providers_read c sound, semaphores, requesters_read c sound, faults) refl
+    let tenants = list_if_any tenant_data c.tenants in
+    rw (
+      keys-given top_keys (codes "tenants") tenants no_members refl,
+      labels,
+      up_to_again (under [] (codes "max-hold-age")) AGE c.max_hold_age sound.max_hold_age,
+      providers_read c sound,
+      semaphores,
+      get-given (codes "tenants") tenants no_members refl refl,
+      tenants_again (under [] (codes "tenants")) c.tenants sound.tenants sound.few_tenants,
+      requesters_read c sound,
+      faults,
+    ) refl
 
 -- the text is read as the configuration
 pub reads-again : (c : Configuration) (b : List ℕ) → IsSound c → IsUtf8 b → read b ≡ Some (configuration_data c) → reads b ≡ Ok c

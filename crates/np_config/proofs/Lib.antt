@@ -1,5 +1,6 @@
 pub mod RowTakes
 pub mod PoolTakes
+pub mod TenantTakes
 pub mod JobTakes
 pub mod FullNames
 pub mod WalkTakes
@@ -11,6 +12,7 @@ pub mod Shapes
 pub mod Again
 pub mod AgainPools
 pub mod AgainProviders
+pub mod AgainTenants
 pub mod AgainJobs
 pub mod AgainFaults
 pub mod AgainWhole

@@ -210,15 +210,24 @@ module _ (l : Limit) where
 
 -- ## What the code puts
 
+-- a limit and a name behind members
+limit_and_name : (base : Members) (name : Data) (l : Limit) → is_behind (codes "max-cores") base ≡ true → is_behind (codes "max-ram") base ≡ true → is_behind (codes "max-servers") base ≡ true → is_behind (codes "name") base ≡ true
+    → put (codes "name") name (put_limit l base) ≡ then base (given_limit l (member (codes "name") name no_members))
+limit_and_name base name l cores ram servers named =
+    let last = member (codes "name") name no_members in
+    let front : put_limit l base ≡ then base (given_limit l no_members) = put_limit-behind l base cores ram servers in
+    let behind : is_behind (codes "name") (then base (given_limit l no_members)) ≡ true = behind-then (codes "name") base (given_limit l no_members) named (behind-limit l (codes "name") no_members refl refl refl refl) in
+    ap (put (codes "name") name) front ∙ put-behind (codes "name") name (then base (given_limit l no_members)) behind
+    ∙ then-then base (given_limit l no_members) last ∙ ap (then base) (then-limit l no_members last)
+
 pub pool_members : (starts offers name : Data) (l : Limit)
     → put (codes "name") name (put_limit l (put (codes "labels") offers (put (codes "fail-starts") starts no_members)))
     ≡ member (codes "fail-starts") starts (member (codes "labels") offers (given_limit l (member (codes "name") name no_members)))
 pool_members starts offers name l =
-    let base = member (codes "fail-starts") starts (member (codes "labels") offers no_members) in
-    let front : put_limit l base ≡ then base (given_limit l no_members) = put_limit-behind l base refl refl refl in
-    let last : is_behind (codes "name") (then base (given_limit l no_members)) ≡ true = behind-limit l (codes "name") no_members refl refl refl refl in
-    ap (put (codes "name") name) front ∙ put-behind (codes "name") name (then base (given_limit l no_members)) last
-    ∙ ap (then base) (then-limit l no_members (member (codes "name") name no_members))
+    limit_and_name (member (codes "fail-starts") starts (member (codes "labels") offers no_members)) name l refl refl refl refl
+
+pub tenant_members : (name : Data) (l : Limit) → put (codes "name") name (put_limit l no_members) ≡ given_limit l (member (codes "name") name no_members)
+tenant_members name l = limit_and_name no_members name l refl refl refl refl
 
 pub provider_members : (retries name pools : Data) (concurrency : Option ℕ)
     → put (codes "pools") pools (put (codes "name") name (put_count (codes "max-concurrency") concurrency (put (codes "launch-retries") retries no_members)))
@@ -236,3 +245,23 @@ provider_members retries name pools concurrency =
     put-behind (codes "pools") pools (then base (own named)) (behind-given (codes "pools") (codes "max-concurrency") o named refl refl)
     ∙ ap (then base) (then-given (codes "max-concurrency") o named (member (codes "pools") pools no_members)) in
     ap (λ x. put (codes "pools") pools (put (codes "name") name x)) first ∙ ap (put (codes "pools") pools) second ∙ third
+
+pub job_members : (end labels name priority relative first semaphores : Data) (tenant : Option Data)
+    → put_given (codes "tenant") tenant (put (codes "semaphores") semaphores (put (codes "resources-first") first (put (codes "relative-priority") relative (
+    put (codes "priority") priority (put (codes "name") name (put (codes "labels") labels (put (codes "end") end no_members)))))))
+    ≡ member (codes "end") end (member (codes "labels") labels (member (codes "name") name (member (codes "priority") priority (
+    member (codes "relative-priority") relative (member (codes "resources-first") first (member (codes "semaphores") semaphores (given (codes "tenant") tenant no_members)))))))
+job_members end labels name priority relative first semaphores tenant =
+    put_given-behind (codes "tenant") tenant
+    (member (codes "end") end (member (codes "labels") labels (member (codes "name") name (member (codes "priority") priority (
+    member (codes "relative-priority") relative (member (codes "resources-first") first (member (codes "semaphores") semaphores no_members))))))) refl
+
+pub top_members : (faults labels age providers requesters semaphores : Data) (tenants : Option Data)
+    → put_given (codes "tenants") tenants (put (codes "semaphores") semaphores (put (codes "requesters") requesters (put (codes "providers") providers (
+    put (codes "max-hold-age") age (put (codes "labels") labels (put (codes "faults") faults no_members))))))
+    ≡ member (codes "faults") faults (member (codes "labels") labels (member (codes "max-hold-age") age (member (codes "providers") providers (
+    member (codes "requesters") requesters (member (codes "semaphores") semaphores (given (codes "tenants") tenants no_members))))))
+top_members faults labels age providers requesters semaphores tenants =
+    put_given-behind (codes "tenants") tenants
+    (member (codes "faults") faults (member (codes "labels") labels (member (codes "max-hold-age") age (member (codes "providers") providers (
+    member (codes "requesters") requesters (member (codes "semaphores") semaphores no_members)))))) refl

@@ -8,10 +8,10 @@ use Rattle.serde_json.specs.Data.{Data}
 use Rattle.np_amount.specs.declared.amount.Limit.{Limit}
 use Rattle.np_json.specs.declared.fault.ConfigFault.{ConfigFault}
 use Rattle.np_json.specs.declared.leaf.Length.{Length}
-use Rattle.np_lists.specs.Refusals.{◌>>=◌, ◌>>◌}
-use Rattle.np_json.specs.Leaf.{object_at, name_at, whole_or, whole_maybe}
-use Rattle.np_lists.proofs.RefusalLemmas.{bind-ok, rest-ok}
-use Rattle.np_json.proofs.Takes.{ok, same_ok, whole_or-takes, whole_maybe-takes, name_at-takes, list_required-takes}
+use Rattle.np_lists.specs.Refusals.{◌>>=◌}
+use Rattle.np_json.specs.Leaf.{named_at, whole_or, whole_maybe}
+use Rattle.np_lists.proofs.RefusalLemmas.{bind-ok}
+use Rattle.np_json.proofs.Takes.{ok, same_ok, whole_or-takes, whole_maybe-takes, named_at-takes, list_required-takes}
 use Rattle.np_text.specs.declared.limit.TheConstants.{LABELS, POOLS, FAIL_STARTS, LAUNCHES, CONCURRENCY, POOL_SERVERS, POOL_CORES, POOL_RAM}
 use Rattle.np_json.specs.Leaf.{one_to, behind}
 use Rattle.np_config.specs.Keys.{provider_keys, pool_keys}
@@ -37,7 +37,7 @@ up_to most (Some n) within = within.1
 abbrev made_limit : Option ℕ → Option ℕ → Option ℕ → Limit
 made_limit x y z = record { instances = x; cores = y; ram = z }
 
-limit_at-takes : (at : List ℕ) (d : Data) (l : Limit) → limit_at at d ≡ Ok l → IsLimit l
+pub limit_at-takes : (at : List ℕ) (d : Data) (l : Limit) → limit_at at d ≡ Ok l → IsLimit l
 unfolding limit_at
 limit_at-takes at d l e =
     let servers = whole_maybe at (codes "max-servers") 0 POOL_SERVERS d in
@@ -94,15 +94,13 @@ record ArePools (labels provider n : ℕ) (s : PoolsOf) : Type 0 where
 pool_at-takes : (labels : List Label) (k : ℕ) (at : List ℕ) (n : ℕ) (s t : PoolsOf) (d : Data) → ArePools (length labels) k n s → pool_at labels at s d ≡ Ok t → ArePools (length labels) k (n + 1) t
 unfolding pool_at
 pool_at-takes labels k at n s t d are e =
-    let named = name_at (λ (p : Pool). p.name) at s.pools d in
     let put : Pool → Result PoolsOf ConfigFault = λ p. ok (record s { pools = s.pools ++ p ∷ [] }) in
     let rest : List ℕ → Result PoolsOf ConfigFault = λ name. pool_row labels at s.provider name d >>= put in
-    let o = rest-ok (object_at at pool_keys d) (named >>= rest) t e in
-    let a = bind-ok named rest t o in
+    let a = bind-ok (named_at (λ (p : Pool). p.name) pool_keys at s.pools d) rest t e in
     let p = bind-ok (pool_row labels at s.provider a.0 d) put t a.2 in
     let row = pool_row-takes labels at s.provider a.0 d p.0 p.1 in
     let is : IsPool (length labels) s.pools p.0 = record {
-      name = new_name (λ (r : Pool). r.name) s.pools p.0 a.0 row.same_name (name_at-takes (λ (r : Pool). r.name) at s.pools d a.0 a.1);
+      name = new_name (λ (r : Pool). r.name) s.pools p.0 a.0 row.same_name (named_at-takes (λ (r : Pool). r.name) pool_keys at s.pools d a.0 a.1);
       limit = row.limit;
       offers = row.offers;
       few_offers = row.few_offers;
@@ -188,17 +186,15 @@ supply-more labels providers pools own p old next mine =
 pub provider_at-takes : (labels : List Label) (at : List ℕ) (n : ℕ) (s t : Providers) (d : Data) → Supply (length labels) n s → provider_at labels at s d ≡ Ok t → Supply (length labels) (n + 1) t
 unfolding provider_at
 provider_at-takes labels at n s t d are e =
-    let named = name_at (λ (p : Provider). p.name) at s.providers d in
     let pools = pools_at labels at (length s.pools) (length s.providers) d in
     let put : Provider → PoolsOf → Result Providers ConfigFault = λ p own. ok (record { providers = s.providers ++ p ∷ []; pools = s.pools ++ own.pools }) in
     let rest : List ℕ → Result Providers ConfigFault = λ name. provider_row at name d >>= λ p. pools >>= put p in
-    let o = rest-ok (object_at at provider_keys d) (named >>= rest) t e in
-    let a = bind-ok named rest t o in
+    let a = bind-ok (named_at (λ (p : Provider). p.name) provider_keys at s.providers d) rest t e in
     let p = bind-ok (provider_row at a.0 d) (λ p. pools >>= put p) t a.2 in
     let own = bind-ok pools (put p.0) t p.2 in
     let row = provider_row-takes at a.0 d p.0 p.1 in
     let is : IsProvider s.providers p.0 = record {
-      name = new_name (λ (r : Provider). r.name) s.providers p.0 a.0 row.same_name (name_at-takes (λ (r : Provider). r.name) at s.providers d a.0 a.1);
+      name = new_name (λ (r : Provider). r.name) s.providers p.0 a.0 row.same_name (named_at-takes (λ (r : Provider). r.name) provider_keys at s.providers d a.0 a.1);
       some_try = row.some_try;
       retries = row.retries;
       concurrency = row.concurrency;

@@ -13,9 +13,9 @@ use Rattle.np_json.specs.declared.fault.ConfigKind.TheVariants.{OutOfRange, Repe
 use Rattle.np_json.specs.declared.fault.ConfigFault.{ConfigFault}
 use Rattle.np_lists.specs.Refusals.{◌>>=◌, ◌>>◌, need}
 use Rattle.np_json.specs.Reading.{fault, below}
-use Rattle.np_json.specs.Leaf.{object_at, required, text_value, name_at, whole_value, whole_or, whole_maybe}
+use Rattle.np_json.specs.Leaf.{object_at, required, text_value, named_at, whole_value, whole_or, whole_maybe}
 use Rattle.np_lists.proofs.RefusalLemmas.{bind-ok, rest-ok, need-ok, found-ok}
-use Rattle.np_json.proofs.Takes.{ok, same_ok, whole_value-takes, whole_or-takes, whole_maybe-takes, name_at-takes, list_required-takes, list_maybe-takes}
+use Rattle.np_json.proofs.Takes.{ok, same_ok, whole_value-takes, whole_or-takes, whole_maybe-takes, named_at-takes, list_required-takes, list_maybe-takes}
 use Rattle.np_text.specs.declared.limit.TheConstants.{LABELS, FAIL_STARTS, MIN_READY, AGE, NODE_CORES, NODE_RAM, START_NUMBER, HANDLES}
 use Rattle.np_json.specs.Leaf.{at_most}
 use Rattle.np_config.specs.Keys.{label_keys, offer_keys, semaphore_keys}
@@ -62,13 +62,11 @@ label_row-takes at name d l e =
 pub label_at-takes : (at : List ℕ) (n : ℕ) (s t : List Label) (d : Data) → Rows IsLabel n s → label_at at s d ≡ Ok t → Rows IsLabel (n + 1) t
 unfolding label_at
 label_at-takes at n s t d rows e =
-    let named = name_at (λ (l : Label). l.name) at s d in
     let rest : List ℕ → Result (List Label) ConfigFault = λ name. label_row at name d >>= λ l. ok (s ++ l ∷ []) in
-    let o = rest-ok (object_at at label_keys d) (named >>= rest) t e in
-    let a = bind-ok named rest t o in
+    let a = bind-ok (named_at (λ (l : Label). l.name) label_keys at s d) rest t e in
     let b = bind-ok (label_row at a.0 d) (λ l. ok (s ++ l ∷ [])) t a.2 in
     let row = label_row-takes at a.0 d b.0 b.1 in
-    let is : IsLabel s b.0 = record { name = new_name (λ (l : Label). l.name) s b.0 a.0 row.0 (name_at-takes (λ (l : Label). l.name) at s d a.0 a.1); min_ready = row.1; max_ready_age = row.2 } in
+    let is : IsLabel s b.0 = record { name = new_name (λ (l : Label). l.name) s b.0 a.0 row.0 (named_at-takes (λ (l : Label). l.name) label_keys at s d a.0 a.1); min_ready = row.1; max_ready_age = row.2 } in
     Rows-push IsLabel n s t b.0 (same_ok (s ++ b.0 ∷ []) t b.2) rows is
 
 -- ## Semaphores
@@ -79,15 +77,13 @@ made_semaphore name x = record { name = name; max = x }
 pub semaphore_at-takes : (at : List ℕ) (n : ℕ) (s t : List Sem) (d : Data) → Rows IsSem n s → semaphore_at at s d ≡ Ok t → Rows IsSem (n + 1) t
 unfolding semaphore_at
 semaphore_at-takes at n s t d rows e =
-    let named = name_at (λ (l : Sem). l.name) at s d in
     let most = whole_or at (codes "max") 1 HANDLES 1 d in
     let put : List ℕ → ℕ → Result (List Sem) ConfigFault = λ name x. ok (s ++ made_semaphore name x ∷ []) in
-    let o = rest-ok (object_at at semaphore_keys d) (named >>= λ name. most >>= put name) t e in
-    let a = bind-ok named (λ name. most >>= put name) t o in
+    let a = bind-ok (named_at (λ (l : Sem). l.name) semaphore_keys at s d) (λ name. most >>= put name) t e in
     let b = bind-ok most (put a.0) t a.2 in
     let x = made_semaphore a.0 b.0 in
     let max = whole_or-takes at (codes "max") 1 HANDLES 1 d b.0 (omega arith) (omega arith) b.1 in
-    let is : IsSem s x = record { name = new_name (λ (l : Sem). l.name) s x a.0 refl (name_at-takes (λ (l : Sem). l.name) at s d a.0 a.1); some = max.0; max = max.1 } in
+    let is : IsSem s x = record { name = new_name (λ (l : Sem). l.name) s x a.0 refl (named_at-takes (λ (l : Sem). l.name) semaphore_keys at s d a.0 a.1); some = max.0; max = max.1 } in
     Rows-push IsSem n s t x (same_ok (s ++ x ∷ []) t b.2) rows is
 
 -- ## Offers

@@ -1,21 +1,24 @@
 -- the value of a configuration has no float, and nests a few levels deep
-use Rattle.std.proofs.Common.{◌≡◌, ℕ, ◌+◌, ◌≤◌, List, [], ◌∷◌, ◌++◌, codes, map, Bool, true, false, ◌||◌, Option, Some, None, refl, sym, ap, ◌∙◌, arith}
+use Rattle.std.proofs.Common.{◌≡◌, ℕ, ◌+◌, ◌≤◌, List, [], ◌∷◌, ◌++◌, codes, map, Bool, true, false, cond, ◌||◌, length, Option, Some, None, IfSome, refl, sym, ap, ◌∙◌, arith}
+use Rattle.std.specs.Prelude.{◌==◌}
 use Rattle.serde_json.specs.Data.{Data, string, array, object, Members, member, no_members, depth, items_depth, members_depth}
 use Rattle.serde_json.specs.View.{items_of}
 use Rattle.serde_json.specs.Written.{has_float, items_have_float, members_have_float}
 use Rattle.np_text.specs.declared.id.LabelId.{LabelId}
 use Rattle.np_text.specs.declared.id.SemId.{SemId}
+use Rattle.np_text.specs.declared.id.TenantId.{TenantId}
 use Rattle.np_site.specs.declared.row.Label.{Label}
 use Rattle.np_site.specs.declared.row.Provider.{Provider}
 use Rattle.np_site.specs.declared.row.Pool.{Pool}
 use Rattle.np_site.specs.declared.row.Offer.{Offer}
 use Rattle.np_site.specs.declared.row.Sem.{Sem}
+use Rattle.np_site.specs.declared.row.Tenant.{Tenant}
 use Rattle.np_site.specs.declared.row.Requester.{Requester}
 use Rattle.np_site.specs.declared.row.Job.{Job}
 use Rattle.np_site.specs.declared.row.Fault.{Fault}
 use Rattle.np_site.specs.Configuration.{Configuration}
 use Rattle.np_amount.specs.declared.amount.Limit.{Limit}
-use Rattle.np_config.specs.Canonical.{count, given_count, given_limit, list_data, label_data, label_name, semaphore_name, offer_data, pool_data, pools_of, provider_data, placed, semaphore_data, job_data, jobs_of, requester_data, fault_data, configuration_data}
+use Rattle.np_config.specs.Canonical.{count, given, given_count, given_limit, list_data, list_if_any, label_data, label_name, semaphore_name, tenant_name, tenant_data, job_tenant, offer_data, pool_data, pools_of, provider_data, placed, semaphore_data, job_data, jobs_of, requester_data, fault_data, configuration_data}
 
 abbrev Plain : Data → Type 0
 Plain d = has_float d ≡ false
@@ -38,6 +41,20 @@ limit_plain l ms =
     ∙ count_plain (codes "max-ram") l.ram (given_count (codes "max-servers") l.instances ms)
     ∙ count_plain (codes "max-servers") l.instances ms
 
+given_plain : (key : List ℕ) (o : Option Data) (ms : Members) → IfSome o Plain → members_have_float (given key o ms) ≡ members_have_float ms
+given_plain key None ms plain = refl
+given_plain key (Some d) ms plain = rw plain refl
+
+any_plain : {T : Type 0} (shown : T → Data) → ((x : T) → Plain (shown x)) → (xs : List T) → IfSome (list_if_any shown xs) Plain
+any_plain shown each xs = by (length xs == 0)
+  where
+    by : (b : Bool) → IfSome (cond b None (Some (list_data shown xs))) Plain
+    by true = tt
+    by false = list_plain shown each xs
+
+tenant_plain : (t : Tenant) → Plain (tenant_data t)
+tenant_plain t = limit_plain t.limit (member (codes "name") (string t.name) no_members)
+
 module _ (c : Configuration) where
   pool_plain : (p : Pool) → Plain (pool_data c p)
   pool_plain p = rw (list_plain count (λ n. refl) p.fail_starts, list_plain (offer_data c) (λ o. refl) p.offers, limit_plain p.limit (member (codes "name") (string p.name) no_members)) refl
@@ -47,8 +64,20 @@ module _ (c : Configuration) where
       let pools = list_plain (pool_data c) pool_plain (pools_of c k) in
       rw (count_plain (codes "max-concurrency") p.concurrency (member (codes "name") (string p.name) (member (codes "pools") (list_data (pool_data c) (pools_of c k)) no_members)), pools) refl
 
+  job_tenant_plain : (t : TenantId) → IfSome (job_tenant c t) Plain
+  job_tenant_plain t = by (t.0 == 0)
+    where
+      by : (b : Bool) → IfSome (cond b None (Some (string (tenant_name c t)))) Plain
+      by true = tt
+      by false = refl
+
   job_plain : (j : Job) → Plain (job_data c j)
-  job_plain j = rw (list_plain (λ (l : LabelId). string (label_name c l)) (λ l. refl) j.labels, list_plain (λ (s : SemId). string (semaphore_name c s)) (λ s. refl) j.semaphores) refl
+  job_plain j =
+      rw (
+        list_plain (λ (l : LabelId). string (label_name c l)) (λ l. refl) j.labels,
+        list_plain (λ (s : SemId). string (semaphore_name c s)) (λ s. refl) j.semaphores,
+        given_plain (codes "tenant") (job_tenant c j.tenant) no_members (job_tenant_plain j.tenant),
+      ) refl
 
   requester_plain : (k : ℕ) (q : Requester) → Plain (requester_data c k q)
   requester_plain k q = rw (list_plain (job_data c) job_plain (jobs_of c k)) refl
@@ -61,6 +90,7 @@ module _ (c : Configuration) where
         placed_plain (provider_data c) provider_plain 0 c.providers,
         placed_plain (requester_data c) requester_plain 0 c.requesters,
         list_plain semaphore_data (λ s. refl) c.semaphores,
+        given_plain (codes "tenants") (list_if_any tenant_data c.tenants) no_members (any_plain tenant_data tenant_plain c.tenants),
       ) refl
 
 -- ## Depths
@@ -83,6 +113,20 @@ limit_depth l ms =
     ∙ count_depth (codes "max-ram") l.ram (given_count (codes "max-servers") l.instances ms)
     ∙ count_depth (codes "max-servers") l.instances ms
 
+given_depth : (key : List ℕ) (o : Option Data) (n : ℕ) → IfSome o (λ d. depth d ≤ n) → members_depth (given key o no_members) ≤ n
+given_depth key None n within = omega arith
+given_depth key (Some d) n within = omega arith
+
+any_depth : {T : Type 0} (shown : T → Data) (n : ℕ) → ((x : T) → depth (shown x) ≤ n) → (xs : List T) → IfSome (list_if_any shown xs) (λ d. depth d ≤ n + 1)
+any_depth shown n each xs = by (length xs == 0)
+  where
+    by : (b : Bool) → IfSome (cond b None (Some (list_data shown xs))) (λ d. depth d ≤ n + 1)
+    by true = tt
+    by false = omega (arith, list_depth shown n each xs)
+
+tenant_depth : (t : Tenant) → depth (tenant_data t) ≤ 1
+tenant_depth t = omega (arith, limit_depth t.limit (member (codes "name") (string t.name) no_members))
+
 module _ (c : Configuration) where
   pool_depth : (p : Pool) → depth (pool_data c p) ≤ 3
   pool_depth p =
@@ -101,8 +145,21 @@ module _ (c : Configuration) where
         count_depth (codes "max-concurrency") p.concurrency (member (codes "name") (string p.name) (member (codes "pools") (list_data (pool_data c) (pools_of c k)) no_members)),
       )
 
+  job_tenant_depth : (t : TenantId) → IfSome (job_tenant c t) (λ d. depth d ≤ 0)
+  job_tenant_depth t = by (t.0 == 0)
+    where
+      by : (b : Bool) → IfSome (cond b None (Some (string (tenant_name c t)))) (λ d. depth d ≤ 0)
+      by true = tt
+      by false = omega arith
+
   job_depth : (j : Job) → depth (job_data c j) ≤ 2
-  job_depth j = omega (arith, list_depth (λ (l : LabelId). string (label_name c l)) 0 (λ l. omega arith) j.labels, list_depth (λ (s : SemId). string (semaphore_name c s)) 0 (λ s. omega arith) j.semaphores)
+  job_depth j =
+      omega (
+        arith,
+        list_depth (λ (l : LabelId). string (label_name c l)) 0 (λ l. omega arith) j.labels,
+        list_depth (λ (s : SemId). string (semaphore_name c s)) 0 (λ s. omega arith) j.semaphores,
+        given_depth (codes "tenant") (job_tenant c j.tenant) 0 (job_tenant_depth j.tenant),
+      )
 
   requester_depth : (k : ℕ) (q : Requester) → depth (requester_data c k q) ≤ 4
   requester_depth k q = omega (arith, list_depth (job_data c) 2 job_depth (jobs_of c k))
@@ -116,4 +173,5 @@ module _ (c : Configuration) where
         placed_depth (provider_data c) 5 provider_depth 0 c.providers,
         placed_depth (requester_data c) 4 requester_depth 0 c.requesters,
         list_depth semaphore_data 1 (λ s. omega arith) c.semaphores,
+        given_depth (codes "tenants") (list_if_any tenant_data c.tenants) 2 (any_depth tenant_data 1 tenant_depth c.tenants),
       )

@@ -16,7 +16,7 @@ use Rattle.np_json.specs.Leaf.{object_at, required, text_value, whole_or, whole_
 use Rattle.np_json.specs.Rows.{list_required, list_maybe}
 use Rattle.np_lists.proofs.RefusalLemmas.{bind-ok, rest-ok, found-ok, found-some}
 use Rattle.np_json.proofs.Takes.{ok, same_ok, whole_or-takes, whole_required-takes, list_required-takes, list_maybe-takes}
-use Rattle.np_text.specs.declared.limit.TheConstants.{LABELS, PROVIDERS, SEMAPHORES, REQUESTERS, FAULTS, AGE, FAULT_ACTS}
+use Rattle.np_text.specs.declared.limit.TheConstants.{LABELS, PROVIDERS, SEMAPHORES, TENANTS, REQUESTERS, FAULTS, AGE, FAULT_ACTS}
 use Rattle.np_json.specs.Leaf.{at_most, one_to}
 use Rattle.np_config.specs.Keys.{top_keys, fault_keys}
 use Rattle.np_text.specs.Word.{role_kind_of}
@@ -25,6 +25,7 @@ use Rattle.np_site.specs.declared.row.Label.{Label}
 use Rattle.np_site.specs.declared.row.Provider.{Provider}
 use Rattle.np_site.specs.declared.row.Pool.{Pool}
 use Rattle.np_site.specs.declared.row.Sem.{Sem}
+use Rattle.np_site.specs.declared.row.Tenant.{Tenant}
 use Rattle.np_site.specs.declared.row.Requester.{Requester}
 use Rattle.np_site.specs.declared.row.Fault.{Fault}
 use Rattle.np_site.specs.declared.row.FaultKind.{FaultKind}
@@ -36,14 +37,16 @@ use Rattle.np_site.specs.Configuration.{Configuration, configuration}
 use Rattle.np_config.specs.Names.{pool_names, pool_name, pool_named, requester_named, IsUnused}
 use Rattle.np_config.specs.Labels.{label_at, semaphore_at}
 use Rattle.np_config.specs.Providers.{provider_at}
+use Rattle.np_config.specs.Tenants.{tenant_at}
 use Rattle.np_config.specs.Requesters.{meaning_of, word_value, requester_at}
 use Rattle.np_config.specs.Faults.{role_named, required_word, role_at, fault_at}
-use Rattle.np_config.specs.Walk.{labels_at, providers_at, semaphores_at, requesters_at, faults_at, configuration_at, parsed, reads}
+use Rattle.np_config.specs.Walk.{labels_at, providers_at, semaphores_at, tenants_at, requesters_at, faults_at, configuration_at, parsed, reads}
 use Rattle.np_config.proofs.FullNames.{pool_names-unused}
 use Rattle.np_lists.specs.EachAfter.{EachAfter}
-use Rattle.np_site.specs.Sound.{IsLabel, IsSem, IsRole, IsFault, IsSound}
+use Rattle.np_site.specs.Sound.{IsLabel, IsSem, IsTenant, IsRole, IsFault, IsSound}
 use Rattle.np_config.proofs.RowTakes.{Rows, RowsAlone, RowsAlone-push, RowsAlone-none, found_within, label_at-takes, semaphore_at-takes}
 use Rattle.np_config.proofs.PoolTakes.{Supply, provider_at-takes, supply-none}
+use Rattle.np_config.proofs.TenantTakes.{tenant_at-takes}
 use Rattle.np_config.proofs.JobTakes.{Demands, requester_at-takes, demands-none}
 
 -- ## Faults
@@ -127,14 +130,20 @@ semaphores-take d t e =
     let count : length t ≡ r.0 = r.2.1 in
     (r.2.0, omega (arith, r.1))
 
+tenants-take : (d : Data) (t : List Tenant) → tenants_at d ≡ Ok t → EachAfter IsTenant [] t × (length t ≤ TENANTS)
+tenants-take d t e =
+    let r = list_maybe-takes tenant_at (Rows IsTenant) tenant_at-takes [] (codes "tenants") (at_most TENANTS) [] t d (omega arith) refl (tt, refl) e in
+    let count : length t ≡ r.0 = r.2.1 in
+    (r.2.0, omega (arith, r.1))
+
 abbrev no_requesters : Requesters
 no_requesters = record { requesters = []; jobs = [] }
 
-requesters-take : (labels : List Label) (semaphores : List Sem) (d : Data) (t : Requesters) → requesters_at labels semaphores d ≡ Ok t
-    → (n : ℕ) × Demands (length labels) (length semaphores) n t × (length t.requesters ≤ REQUESTERS)
-requesters-take labels semaphores d t e =
-    let r = list_maybe-takes (requester_at labels semaphores) (Demands (length labels) (length semaphores)) (requester_at-takes labels semaphores) [] (codes "requesters") (at_most REQUESTERS) no_requesters t d (omega arith) refl
-    (demands-none (length labels) (length semaphores)) e in
+requesters-take : (labels : List Label) (semaphores : List Sem) (tenants : List Tenant) (d : Data) (t : Requesters) → requesters_at labels semaphores tenants d ≡ Ok t
+    → (n : ℕ) × Demands (length labels) (length semaphores) (length tenants) n t × (length t.requesters ≤ REQUESTERS)
+requesters-take labels semaphores tenants d t e =
+    let r = list_maybe-takes (requester_at labels semaphores tenants) (Demands (length labels) (length semaphores) (length tenants)) (requester_at-takes labels semaphores tenants) [] (codes "requesters") (at_most REQUESTERS) no_requesters t d (omega arith) refl
+    (demands-none (length labels) (length semaphores) (length tenants)) e in
     let count : length t.requesters ≡ r.0 = r.2.1 in
     (r.0, r.2, omega (arith, r.1))
 
@@ -147,14 +156,56 @@ faults-take pools requesters d t e =
     (r.2.0, omega (arith, r.1))
 
 -- the whole, of its tables
+module _ (d : Data) (c : Configuration) (ls : List Label) (labels : labels_at d ≡ Ok ls) (a : ℕ) (age : whole_or [] (codes "max-hold-age") 0 AGE 0 d ≡ Ok a)
+    (s : Providers) (providers : providers_at ls d ≡ Ok s) (ss : List Sem) (semaphores : semaphores_at d ≡ Ok ss) where
+  abbrev made : List Tenant → Requesters → List Fault → Configuration
+  made ts r fs = configuration ls s.providers s.pools ss ts r.requesters r.jobs fs a
+
+  abbrev faults : Requesters → Result (List Fault) ConfigFault
+  faults r = faults_at (pool_names s.providers s.pools) r.requesters d
+
+  whole-takes : (ts : List Tenant) (r : Requesters) (fs : List Fault) → tenants_at d ≡ Ok ts → requesters_at ls ss ts d ≡ Ok r → faults r ≡ Ok fs → IsSound (made ts r fs)
+  whole-takes ts r fs tenants requesters planned =
+      let good_labels = labels-take d ls labels in
+      let good_age = whole_or-takes [] (codes "max-hold-age") 0 AGE 0 d a (omega arith) (omega arith) age in
+      let good_providers = providers-take ls d s providers in
+      let good_sems = semaphores-take d ss semaphores in
+      let good_tenants = tenants-take d ts tenants in
+      let good_requesters = requesters-take ls ss ts d r requesters in
+      let good_faults = faults-take (pool_names s.providers s.pools) r.requesters d fs planned in
+      let pools : length (pool_names s.providers s.pools) ≡ length s.pools = length-map s.pools (pool_name s.providers) in
+      record {
+        labels = good_labels.0;
+        few_labels = good_labels.1;
+        max_hold_age = good_age.1;
+        supply = good_providers.1.0;
+        some_provider = good_providers.2;
+        few_providers = good_providers.3;
+        semaphores = good_sems.0;
+        few_semaphores = good_sems.1;
+        tenants = good_tenants.0;
+        few_tenants = good_tenants.1;
+        demand = good_requesters.1.0;
+        few_requesters = good_requesters.2;
+        faults = subst (λ (m : ℕ). All (IsFault m (length r.requesters)) fs) pools good_faults.0;
+        few_faults = good_faults.1;
+      }
+
+  rest-takes : (tenants_at d >>= λ ts. requesters_at ls ss ts d >>= λ r. faults r >>= λ fs. ok (made ts r fs)) ≡ Ok c → IsSound c
+  rest-takes e =
+      let put : List Tenant → Requesters → Result Configuration ConfigFault = λ ts r. faults r >>= λ fs. ok (made ts r fs) in
+      let ts = bind-ok (tenants_at d) (λ ts. requesters_at ls ss ts d >>= put ts) c e in
+      let r = bind-ok (requesters_at ls ss ts.0 d) (put ts.0) c ts.2 in
+      let fs = bind-ok (faults r.0) (λ fs. ok (made ts.0 r.0 fs)) c r.2 in
+      subst IsSound (same_ok (made ts.0 r.0 fs.0) c fs.2) (whole-takes ts.0 r.0 fs.0 ts.1 r.1 fs.1)
+
 pub configuration-takes : (d : Data) (c : Configuration) → configuration_at d ≡ Ok c → IsSound c
 unfolding configuration_at
 configuration-takes d c e =
     let ages = whole_or [] (codes "max-hold-age") 0 AGE 0 d in
-    let faults : Providers → Requesters → Result (List Fault) ConfigFault = λ s r. faults_at (pool_names s.providers s.pools) r.requesters d in
-    let made : List Label → ℕ → Providers → List Sem → Requesters → List Fault → Configuration = λ ls a s ss r fs. configuration ls s.providers s.pools ss r.requesters r.jobs fs a in
-    let r6 : List Label → ℕ → Providers → List Sem → Requesters → Result Configuration ConfigFault = λ ls a s ss r. faults s r >>= λ fs. ok (made ls a s ss r fs) in
-    let r5 : List Label → ℕ → Providers → List Sem → Result Configuration ConfigFault = λ ls a s ss. requesters_at ls ss d >>= r6 ls a s ss in
+    let planned : Providers → Requesters → Result (List Fault) ConfigFault = λ s r. faults_at (pool_names s.providers s.pools) r.requesters d in
+    let r5 : List Label → ℕ → Providers → List Sem → Result Configuration ConfigFault
+    = λ ls a s ss. tenants_at d >>= λ ts. requesters_at ls ss ts d >>= λ r. planned s r >>= λ fs. ok (configuration ls s.providers s.pools ss ts r.requesters r.jobs fs a) in
     let r4 : List Label → ℕ → Providers → Result Configuration ConfigFault = λ ls a s. semaphores_at d >>= r5 ls a s in
     let r3 : List Label → ℕ → Result Configuration ConfigFault = λ ls a. providers_at ls d >>= r4 ls a in
     let r2 : List Label → Result Configuration ConfigFault = λ ls. ages >>= r3 ls in
@@ -163,29 +214,7 @@ configuration-takes d c e =
     let a = bind-ok ages (r3 ls.0) c ls.2 in
     let s = bind-ok (providers_at ls.0 d) (r4 ls.0 a.0) c a.2 in
     let ss = bind-ok (semaphores_at d) (r5 ls.0 a.0 s.0) c s.2 in
-    let r = bind-ok (requesters_at ls.0 ss.0 d) (r6 ls.0 a.0 s.0 ss.0) c ss.2 in
-    let fs = bind-ok (faults s.0 r.0) (λ fs. ok (made ls.0 a.0 s.0 ss.0 r.0 fs)) c r.2 in
-    let good_labels = labels-take d ls.0 ls.1 in
-    let age = whole_or-takes [] (codes "max-hold-age") 0 AGE 0 d a.0 (omega arith) (omega arith) a.1 in
-    let good_providers = providers-take ls.0 d s.0 s.1 in
-    let good_sems = semaphores-take d ss.0 ss.1 in
-    let good_requesters = requesters-take ls.0 ss.0 d r.0 r.1 in
-    let good_faults = faults-take (pool_names s.0.providers s.0.pools) r.0.requesters d fs.0 fs.1 in
-    let pools : length (pool_names s.0.providers s.0.pools) ≡ length s.0.pools = length-map s.0.pools (pool_name s.0.providers) in
-    subst IsSound (same_ok (made ls.0 a.0 s.0 ss.0 r.0 fs.0) c fs.2) (record {
-      labels = good_labels.0;
-      few_labels = good_labels.1;
-      max_hold_age = age.1;
-      supply = good_providers.1.0;
-      some_provider = good_providers.2;
-      few_providers = good_providers.3;
-      semaphores = good_sems.0;
-      few_semaphores = good_sems.1;
-      demand = good_requesters.1.0;
-      few_requesters = good_requesters.2;
-      faults = subst (λ (m : ℕ). All (IsFault m (length r.0.requesters)) fs.0) pools good_faults.0;
-      few_faults = good_faults.1;
-    })
+    rest-takes d c ls.0 ls.1 a.0 a.1 s.0 s.1 ss.0 ss.1 ss.2
 
 -- what bytes are read as may stand
 pub reads-takes : (bytes : List ℕ) (c : Configuration) → reads bytes ≡ Ok c → IsSound c

@@ -1,11 +1,12 @@
--- the one text of a configuration: compact JSON, keys in byte order, every default written, an absent limit left absent (own)
-use Rattle.std.specs.Prelude.{ℕ, ◌+◌, ◌==◌, List, [], ◌∷◌, codes, map, filter, slice_get, Bool, Option, Some, None, if◌then◌else◌}
+-- the one text of a configuration: compact JSON, keys in byte order, every default written but no tenants and a job's tenant `default`, an absent limit left absent (own)
+use Rattle.std.specs.Prelude.{ℕ, ◌+◌, ◌==◌, List, [], ◌∷◌, codes, length, map, filter, slice_get, Bool, Option, Some, None, if◌then◌else◌}
 use Rattle.std.specs.Option.{option_map, option_map_or}
 use Rattle.serde_json.specs.Data.{Data, number, unsigned, boolean, string, array, object, Members, no_members, member}
 use Rattle.serde_json.specs.View.{items_of}
 use Rattle.serde_json.specs.Written.{compact_text}
 use Rattle.np_text.specs.declared.id.LabelId.{LabelId}
 use Rattle.np_text.specs.declared.id.SemId.{SemId}
+use Rattle.np_text.specs.declared.id.TenantId.{TenantId}
 use Rattle.np_text.specs.declared.id.PoolId.{PoolId}
 use Rattle.np_text.specs.declared.id.RequesterId.{RequesterId}
 use Rattle.np_text.specs.declared.id.Role.{Role}
@@ -18,11 +19,12 @@ use Rattle.np_site.specs.declared.row.Provider.{Provider}
 use Rattle.np_site.specs.declared.row.Pool.{Pool}
 use Rattle.np_site.specs.declared.row.Offer.{Offer}
 use Rattle.np_site.specs.declared.row.Sem.{Sem}
+use Rattle.np_site.specs.declared.row.Tenant.{Tenant}
 use Rattle.np_site.specs.declared.row.Requester.{Requester}
 use Rattle.np_site.specs.declared.row.Job.{Job}
 use Rattle.np_site.specs.declared.row.Fault.{Fault}
 use Rattle.np_site.specs.Word.{fault_kind_word}
-use Rattle.np_site.specs.Configuration.{Configuration}
+use Rattle.np_site.specs.Configuration.{Configuration, tenant_of}
 use Rattle.np_config.specs.Names.{pool_name}
 
 abbrev pub count : ℕ → Data
@@ -45,6 +47,10 @@ given_limit l ms = given_count (codes "max-cores") l.cores (given_count (codes "
 abbrev pub list_data : {T : Type 0} → (T → Data) → List T → Data
 list_data shown xs = array (items_of (map shown xs))
 
+-- such a list, where it has any row
+abbrev pub list_if_any : {T : Type 0} → (T → Data) → List T → Option Data
+list_if_any shown xs = if length xs == 0 then None else Some (list_data shown xs)
+
 abbrev pub label_data : Label → Data
 label_data l = object (member (codes "max-ready-age") (count l.max_ready_age) (member (codes "min-ready") (count l.min_ready) (member (codes "name") (string l.name) no_members)))
 
@@ -54,6 +60,9 @@ label_name c l = option_map_or (λ r. r.name) (slice_get c.labels l.0) []
 
 abbrev pub semaphore_name : Configuration → SemId → List ℕ
 semaphore_name c s = option_map_or (λ r. r.name) (slice_get c.semaphores s.0) []
+
+abbrev pub tenant_name : Configuration → TenantId → List ℕ
+tenant_name c t = option_map_or (λ r. r.name) (tenant_of c t) []
 
 abbrev pub requester_name : Configuration → RequesterId → List ℕ
 requester_name c q = option_map_or (λ r. r.name) (slice_get c.requesters q.0) []
@@ -90,6 +99,13 @@ placed shown k (x ∷ xs) = shown k x ∷ placed shown (k + 1) xs
 abbrev pub semaphore_data : Sem → Data
 semaphore_data s = object (member (codes "max") (count s.max) (member (codes "name") (string s.name) no_members))
 
+abbrev pub tenant_data : Tenant → Data
+tenant_data t = object (given_limit t.limit (member (codes "name") (string t.name) no_members))
+
+-- the tenant of a job, where it isn't the default one
+abbrev pub job_tenant : Configuration → TenantId → Option Data
+job_tenant c t = if t.0 == 0 then None else Some (string (tenant_name c t))
+
 -- the word of a priority
 abbrev pub priority_word : ℕ → List ℕ
 priority_word n = if n == 100 then codes "high" else (if n == 200 then codes "normal" else codes "low")
@@ -102,7 +118,8 @@ job_data c j = object (
     member (codes "priority") (string (priority_word j.priority)) (
     member (codes "relative-priority") (count j.relative_priority) (
     member (codes "resources-first") (boolean j.resources_first) (
-    member (codes "semaphores") (list_data (λ s. string (semaphore_name c s)) j.semaphores) no_members)))))))
+    member (codes "semaphores") (list_data (λ s. string (semaphore_name c s)) j.semaphores) (
+    given (codes "tenant") (job_tenant c j.tenant) no_members))))))))
 
 -- the jobs of the requester at a place
 abbrev pub jobs_of : Configuration → ℕ → List Job
@@ -140,7 +157,8 @@ configuration_data c = object (
     member (codes "max-hold-age") (count c.max_hold_age) (
     member (codes "providers") (array (items_of (placed (provider_data c) 0 c.providers))) (
     member (codes "requesters") (array (items_of (placed (requester_data c) 0 c.requesters))) (
-    member (codes "semaphores") (list_data semaphore_data c.semaphores) no_members))))))
+    member (codes "semaphores") (list_data semaphore_data c.semaphores) (
+    given (codes "tenants") (list_if_any tenant_data c.tenants) no_members)))))))
 
 -- the text
 unfoldable pub canonical : Configuration → List ℕ

@@ -26,7 +26,7 @@ abbrev pub no_rows : Data
 no_rows = array no_items
 
 abbrev pub top_defaults : List Default
-top_defaults = default (codes "max-hold-age") (count 0) ∷ default (codes "semaphores") no_rows ∷ default (codes "requesters") no_rows ∷ default (codes "faults") no_rows ∷ []
+top_defaults = default (codes "max-hold-age") (count 0) ∷ default (codes "semaphores") no_rows ∷ default (codes "tenants") no_rows ∷ default (codes "requesters") no_rows ∷ default (codes "faults") no_rows ∷ []
 
 abbrev pub label_defaults : List Default
 label_defaults = default (codes "min-ready") (count 0) ∷ default (codes "max-ready-age") (count 0) ∷ []
@@ -35,7 +35,7 @@ label_defaults = default (codes "min-ready") (count 0) ∷ default (codes "max-r
 abbrev pub provider_defaults : List Default
 provider_defaults = default (codes "launch-retries") (count 3) ∷ []
 
--- an absent `max-servers`, `max-cores` or `max-ram` is no limit
+-- an absent `max-servers`, `max-cores` or `max-ram` is no limit, of a tenant too
 abbrev pub pool_defaults : List Default
 pool_defaults = default (codes "fail-starts") no_rows ∷ []
 
@@ -55,4 +55,5 @@ job_defaults =
     ∷ default (codes "semaphores") no_rows
     ∷ default (codes "resources-first") (boolean false)
     ∷ default (codes "end") (string (codes "used"))
+    ∷ default (codes "tenant") (string (codes "default"))
     ∷ []

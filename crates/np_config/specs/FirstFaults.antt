@@ -25,7 +25,7 @@ abbrev pub faulty_labels : List Faulty
 faulty_labels =
     faulty (codes "[") NotJson []
     ∷ faulty (codes "[]") WrongType []
-    ∷ faulty (codes "{'tenants':[]}") UnknownKey []
+    ∷ faulty (codes "{'colour':[]}") UnknownKey []
     ∷ faulty (codes "{}") Missing (codes "/labels")
     ∷ faulty (codes "{'labels':[]}") Missing (codes "/providers")
     ∷ faulty (codes "{'labels':[],'max-hold-age':1000001,'providers':{}}") OutOfRange (codes "/max-hold-age")
@@ -76,6 +76,21 @@ faulty_requesters =
     ∷ faulty (with_top (codes "'requesters':[{'name':'z','jobs':[{'name':'j','labels':['b']}]}]")) UnknownName (codes "/requesters/0/jobs/0/labels/0")
     ∷ faulty (with_top (codes "'requesters':[{'name':'z','jobs':[{'name':'j','labels':['a'],'priority':'top'}]}]")) UnknownName (codes "/requesters/0/jobs/0/priority")
     ∷ faulty (with_top (codes "'semaphores':[{'name':'s'}],'requesters':[{'name':'z','jobs':[{'name':'j','labels':['a'],'semaphores':['s','s']}]}]")) Repeated (codes "/requesters/0/jobs/0/semaphores/1")
+    ∷ []
+
+-- tenants with their limits, and the tenants of jobs
+abbrev pub faulty_tenants : List Faulty
+faulty_tenants =
+    faulty (with_top (codes "'semaphores':[{'name':'s','max':0}],'tenants':{}")) OutOfRange (codes "/semaphores/0/max")
+    ∷ faulty (with_top (codes "'tenants':{},'requesters':{}")) WrongType (codes "/tenants")
+    ∷ faulty (with_top (codes "'tenants':[{'name':'t','cores':1}]")) UnknownKey (codes "/tenants/0")
+    ∷ faulty (with_top (codes "'tenants':[{'max-servers':-1}]")) Missing (codes "/tenants/0/name")
+    ∷ faulty (with_top (codes "'tenants':[{'name':'default'}]")) Repeated (codes "/tenants/0/name")
+    ∷ faulty (with_top (codes "'tenants':[{'name':'t'},{'name':'t'}]")) Repeated (codes "/tenants/1/name")
+    ∷ faulty (with_top (codes "'tenants':[{'name':'t','max-servers':-1}]")) WrongType (codes "/tenants/0/max-servers")
+    ∷ faulty (with_top (codes "'tenants':[{'name':'t','max-ram':1000000001}]")) OutOfRange (codes "/tenants/0/max-ram")
+    ∷ faulty (with_top (codes "'requesters':[{'name':'z','jobs':[{'name':'j','labels':['a'],'tenant':0}]}]")) WrongType (codes "/requesters/0/jobs/0/tenant")
+    ∷ faulty (with_top (codes "'requesters':[{'name':'z','jobs':[{'name':'j','labels':['a'],'tenant':'t'}]}]")) UnknownName (codes "/requesters/0/jobs/0/tenant")
     ∷ []
 
 -- planned faults: a pool goes by the names of its provider and its own

@@ -2,7 +2,7 @@
 use Rattle.std.specs.Prelude.{ℕ, List, [], ◌∷◌, codes}
 
 abbrev pub top_keys : List (List ℕ)
-top_keys = codes "labels" ∷ codes "max-hold-age" ∷ codes "providers" ∷ codes "semaphores" ∷ codes "requesters" ∷ codes "faults" ∷ []
+top_keys = codes "labels" ∷ codes "max-hold-age" ∷ codes "providers" ∷ codes "semaphores" ∷ codes "tenants" ∷ codes "requesters" ∷ codes "faults" ∷ []
 
 abbrev pub label_keys : List (List ℕ)
 label_keys = codes "name" ∷ codes "min-ready" ∷ codes "max-ready-age" ∷ []
@@ -19,11 +19,14 @@ offer_keys = codes "name" ∷ codes "cores" ∷ codes "ram" ∷ []
 abbrev pub semaphore_keys : List (List ℕ)
 semaphore_keys = codes "name" ∷ codes "max" ∷ []
 
+abbrev pub tenant_keys : List (List ℕ)
+tenant_keys = codes "name" ∷ codes "max-servers" ∷ codes "max-cores" ∷ codes "max-ram" ∷ []
+
 abbrev pub requester_keys : List (List ℕ)
 requester_keys = codes "name" ∷ codes "window" ∷ codes "jobs" ∷ []
 
 abbrev pub job_keys : List (List ℕ)
-job_keys = codes "name" ∷ codes "labels" ∷ codes "priority" ∷ codes "relative-priority" ∷ codes "semaphores" ∷ codes "resources-first" ∷ codes "end" ∷ []
+job_keys = codes "name" ∷ codes "labels" ∷ codes "priority" ∷ codes "relative-priority" ∷ codes "semaphores" ∷ codes "resources-first" ∷ codes "end" ∷ codes "tenant" ∷ []
 
 abbrev pub fault_keys : List (List ℕ)
 fault_keys = codes "role" ∷ codes "name" ∷ codes "kind" ∷ codes "after" ∷ []

@@ -2,8 +2,8 @@
 use Rattle.std.specs.Prelude.{ℕ, List, [], ◌∷◌, ◌++◌, codes, Result, Ok, Err}
 use Rattle.serde_json.specs.Data.{Data}
 use Rattle.np_json.specs.declared.fault.ConfigFault.{ConfigFault}
-use Rattle.np_lists.specs.Refusals.{◌>>=◌, ◌>>◌}
-use Rattle.np_json.specs.Leaf.{object_at, name_at, whole_or}
+use Rattle.np_lists.specs.Refusals.{◌>>=◌}
+use Rattle.np_json.specs.Leaf.{named_at, whole_or}
 use Rattle.np_json.specs.Rows.{ReadsItem}
 use Rattle.np_text.specs.declared.limit.TheConstants.{MIN_READY, AGE, HANDLES}
 use Rattle.np_site.specs.declared.row.Label.{Label}
@@ -20,15 +20,13 @@ label_row at name d = do
 -- a label beside those before it (Nodepool: `min-ready`, `max-ready-age`; ranges and defaults own)
 unfoldable pub label_at : ReadsItem (List Label)
 label_at at earlier d = do
-  object_at at label_keys d
-  name ← name_at (λ (l : Label). l.name) at earlier d
+  name ← named_at (λ (l : Label). l.name) label_keys at earlier d
   label ← label_row at name d
   Ok (earlier ++ label ∷ [])
 
 -- a semaphore beside those before it (Zuul: `max`; range and default own)
 unfoldable pub semaphore_at : ReadsItem (List Sem)
 semaphore_at at earlier d = do
-  object_at at semaphore_keys d
-  name ← name_at (λ (s : Sem). s.name) at earlier d
+  name ← named_at (λ (s : Sem). s.name) semaphore_keys at earlier d
   max ← whole_or at (codes "max") 1 HANDLES 1 d
   Ok (earlier ++ record { name = name; max = max } ∷ [])

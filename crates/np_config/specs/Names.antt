@@ -1,13 +1,16 @@
 -- what a name stands for
-use Rattle.std.specs.Prelude.{◌≡◌, false, ℕ, List, [], ◌∷◌, ◌++◌, codes, map, Bool, position, slice_get, Option, Some, None}
+use Rattle.std.specs.Prelude.{◌≡◌, false, ℕ, List, [], ◌∷◌, ◌+◌, ◌++◌, codes, map, Bool, if◌then◌else◌, position, slice_get, Option, Some, None}
 use Rattle.std.specs.List.{list_any}
-use Rattle.std.specs.Option.{option_map_or}
+use Rattle.std.specs.Option.{option_map, option_map_or}
 use Rattle.std.specs.Str.{bytes_eq}
+use Rattle.np_text.specs.declared.id.TenantId.{TenantId}
 use Rattle.np_site.specs.declared.row.Label.{Label}
 use Rattle.np_site.specs.declared.row.Provider.{Provider}
 use Rattle.np_site.specs.declared.row.Pool.{Pool}
 use Rattle.np_site.specs.declared.row.Sem.{Sem}
+use Rattle.np_site.specs.declared.row.Tenant.{Tenant}
 use Rattle.np_site.specs.declared.row.Requester.{Requester}
+use Rattle.np_site.specs.Configuration.{default_name}
 
 -- the place of the label with this name
 abbrev pub label_named : List Label → List ℕ → Option ℕ
@@ -16,6 +19,14 @@ label_named labels text = position (λ l. bytes_eq text l.name) labels
 -- the place of the semaphore with this name
 abbrev pub semaphore_named : List Sem → List ℕ → Option ℕ
 semaphore_named semaphores text = position (λ s. bytes_eq text s.name) semaphores
+
+-- the tenant with this number
+abbrev pub tenant_id : ℕ → TenantId
+tenant_id n = record { 0 = n }
+
+-- the tenant with this name: `default` is 0, and the listed ones count from 1
+abbrev pub tenant_named : List Tenant → List ℕ → Option TenantId
+tenant_named tenants text = if bytes_eq text default_name then Some (tenant_id 0) else option_map (λ n. tenant_id (n + 1)) (position (λ t. bytes_eq text t.name) tenants)
 
 -- the name of a provider, `/`, and the name of its pool (own)
 abbrev pub pool_name : List Provider → Pool → List ℕ

@@ -11,7 +11,7 @@ use Rattle.np_json.specs.declared.fault.ConfigKind.TheVariants.{OutOfRange, Repe
 use Rattle.np_json.specs.declared.fault.ConfigFault.{ConfigFault}
 use Rattle.np_lists.specs.Refusals.{◌>>=◌, ◌>>◌, need, found}
 use Rattle.np_json.specs.Reading.{fault, below}
-use Rattle.np_json.specs.Leaf.{at_most, one_to, behind, object_at, required, text_value, name_at, whole_value, whole_or, whole_maybe}
+use Rattle.np_json.specs.Leaf.{at_most, one_to, behind, object_at, required, text_value, named_at, whole_value, whole_or, whole_maybe}
 use Rattle.np_json.specs.Rows.{ReadsItem, list_required, list_maybe}
 use Rattle.np_site.specs.declared.row.Label.{Label}
 use Rattle.np_site.specs.declared.row.Provider.{Provider}
@@ -61,7 +61,7 @@ start_at at earlier d = do
   need (is_above earlier n) (fault OutOfRange at)
   Ok (earlier ++ n ∷ [])
 
--- the limits of a pool (Nodepool: `max-servers`, `max-cores`, `max-ram`; ranges own)
+-- the limits of a pool or a tenant (Nodepool: `max-servers`, `max-cores`, `max-ram`; ranges own)
 unfoldable pub limit_at : List ℕ → Data → Result Limit ConfigFault
 limit_at at d = do
   servers ← whole_maybe at (codes "max-servers") 0 POOL_SERVERS d
@@ -88,8 +88,7 @@ pool_row labels at provider name d = do
 -- a pool beside those of its provider before it (Nodepool)
 unfoldable pub pool_at : List Label → ReadsItem PoolsOf
 pool_at labels at s d = do
-  object_at at pool_keys d
-  name ← name_at (λ (p : Pool). p.name) at s.pools d
+  name ← named_at (λ (p : Pool). p.name) pool_keys at s.pools d
   pool ← pool_row labels at s.provider name d
   Ok (record s { pools = s.pools ++ pool ∷ [] })
 
@@ -107,8 +106,7 @@ pools_at labels at earlier provider d = list_required (pool_at labels) at (codes
 -- a provider beside those before it, with its pools (Nodepool)
 unfoldable pub provider_at : List Label → ReadsItem Providers
 provider_at labels at s d = do
-  object_at at provider_keys d
-  name ← name_at (λ (p : Provider). p.name) at s.providers d
+  name ← named_at (λ (p : Provider). p.name) provider_keys at s.providers d
   provider ← provider_row at name d
   own ← pools_at labels at (length s.pools) (length s.providers) d
   Ok (record { providers = s.providers ++ provider ∷ []; pools = s.pools ++ own.pools })

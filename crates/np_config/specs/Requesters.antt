@@ -16,17 +16,18 @@ use Rattle.np_json.specs.declared.fault.ConfigKind.TheVariants.{Repeated, Unknow
 use Rattle.np_json.specs.declared.fault.ConfigFault.{ConfigFault}
 use Rattle.np_lists.specs.Refusals.{◌>>=◌, ◌>>◌, need, found}
 use Rattle.np_json.specs.Reading.{fault, below}
-use Rattle.np_json.specs.Leaf.{at_most, one_to, behind, object_at, text_value, name_at, whole_or, flag_or}
+use Rattle.np_json.specs.Leaf.{at_most, one_to, behind, text_value, named_at, whole_or, flag_or}
 use Rattle.np_json.specs.Rows.{ReadsItem, list_required, list_maybe}
 use Rattle.np_site.specs.declared.row.Label.{Label}
 use Rattle.np_site.specs.declared.row.Sem.{Sem}
+use Rattle.np_site.specs.declared.row.Tenant.{Tenant}
 use Rattle.np_site.specs.declared.row.Requester.{Requester}
 use Rattle.np_site.specs.declared.row.Job.{Job}
 use Rattle.np_config.specs.declared.requesters.Demand.{Demand}
 use Rattle.np_config.specs.declared.requesters.JobsOf.{JobsOf}
 use Rattle.np_config.specs.declared.requesters.Requesters.{Requesters}
 use Rattle.np_site.specs.Sound.{is_untaken}
-use Rattle.np_config.specs.Names.{label_named, semaphore_named}
+use Rattle.np_config.specs.Names.{label_named, semaphore_named, tenant_id, tenant_named}
 use Rattle.np_config.specs.Keys.{requester_keys, job_keys}
 use Rattle.np_config.specs.Providers.{label_value}
 
@@ -79,25 +80,25 @@ demand_at labels at d = do
   Ok (record { labels = wanted; priority = priority; relative_priority = relative })
 
 -- the rest of a job of a requester (Zuul: `resources-first` on a semaphore, here on the job; defaults own)
-unfoldable pub job_row : List Sem → List ℕ → RequesterId → List ℕ → Demand → Data → Result Job ConfigFault
-job_row semaphores at requester name demand d = do
+unfoldable pub job_row : List Sem → List Tenant → List ℕ → RequesterId → List ℕ → Demand → Data → Result Job ConfigFault
+job_row semaphores tenants at requester name demand d = do
   taken ← takes_at semaphores at d
   first ← flag_or at (codes "resources-first") false d
   end ← word_or end_as_of at (codes "end") Used d
-  Ok (record { requester = requester; name = name; labels = demand.labels; priority = demand.priority; relative_priority = demand.relative_priority; semaphores = taken; resources_first = first; end = end })
+  tenant ← word_or (tenant_named tenants) at (codes "tenant") (tenant_id 0) d
+  Ok (record { requester = requester; name = name; labels = demand.labels; priority = demand.priority; relative_priority = demand.relative_priority; semaphores = taken; resources_first = first; end = end; tenant = tenant })
 
 -- a job beside those of its requester before it (own)
-unfoldable pub job_at : List Label → List Sem → ReadsItem JobsOf
-job_at labels semaphores at s d = do
-  object_at at job_keys d
-  name ← name_at (λ (j : Job). j.name) at s.jobs d
+unfoldable pub job_at : List Label → List Sem → List Tenant → ReadsItem JobsOf
+job_at labels semaphores tenants at s d = do
+  name ← named_at (λ (j : Job). j.name) job_keys at s.jobs d
   demand ← demand_at labels at d
-  job ← job_row semaphores at s.requester name demand d
+  job ← job_row semaphores tenants at s.requester name demand d
   Ok (record s { jobs = s.jobs ++ job ∷ [] })
 
 -- the jobs of a requester, after so many of earlier requesters
-unfoldable pub jobs_at : List Label → List Sem → List ℕ → ℕ → RequesterId → Data → Result JobsOf ConfigFault
-jobs_at labels semaphores at earlier requester d = list_maybe (job_at labels semaphores) at (codes "jobs") (behind earlier (at_most JOBS)) (record { requester = requester; jobs = [] }) d
+unfoldable pub jobs_at : List Label → List Sem → List Tenant → List ℕ → ℕ → RequesterId → Data → Result JobsOf ConfigFault
+jobs_at labels semaphores tenants at earlier requester d = list_maybe (job_at labels semaphores tenants) at (codes "jobs") (behind earlier (at_most JOBS)) (record { requester = requester; jobs = [] }) d
 
 -- the rest of a requester (own)
 unfoldable pub requester_row : List ℕ → List ℕ → Data → Result Requester ConfigFault
@@ -106,10 +107,9 @@ requester_row at name d = do
   Ok (record { name = name; window = window })
 
 -- a requester beside those before it, with its jobs (own)
-unfoldable pub requester_at : List Label → List Sem → ReadsItem Requesters
-requester_at labels semaphores at s d = do
-  object_at at requester_keys d
-  name ← name_at (λ (q : Requester). q.name) at s.requesters d
+unfoldable pub requester_at : List Label → List Sem → List Tenant → ReadsItem Requesters
+requester_at labels semaphores tenants at s d = do
+  name ← named_at (λ (q : Requester). q.name) requester_keys at s.requesters d
   requester ← requester_row at name d
-  own ← jobs_at labels semaphores at (length s.jobs) (record { 0 = length s.requesters }) d
+  own ← jobs_at labels semaphores tenants at (length s.jobs) (record { 0 = length s.requesters }) d
   Ok (record { requesters = s.requesters ++ requester ∷ []; jobs = s.jobs ++ own.jobs })

@@ -10,9 +10,10 @@ use Rattle.np_lists.specs.Refusals.{◌>>=◌, ◌>>◌, found}
 use Rattle.np_json.specs.Reading.{fault}
 use Rattle.np_json.specs.Leaf.{at_most, one_to, object_at, whole_or}
 use Rattle.np_json.specs.Rows.{list_required, list_maybe}
-use Rattle.np_text.specs.declared.limit.TheConstants.{LABELS, PROVIDERS, SEMAPHORES, REQUESTERS, FAULTS, AGE}
+use Rattle.np_text.specs.declared.limit.TheConstants.{LABELS, PROVIDERS, SEMAPHORES, TENANTS, REQUESTERS, FAULTS, AGE}
 use Rattle.np_site.specs.declared.row.Label.{Label}
 use Rattle.np_site.specs.declared.row.Sem.{Sem}
+use Rattle.np_site.specs.declared.row.Tenant.{Tenant}
 use Rattle.np_site.specs.declared.row.Requester.{Requester}
 use Rattle.np_site.specs.declared.row.Fault.{Fault}
 use Rattle.np_site.specs.Configuration.{Configuration, configuration}
@@ -22,6 +23,7 @@ use Rattle.np_config.specs.Keys.{top_keys}
 use Rattle.np_config.specs.Names.{pool_names}
 use Rattle.np_config.specs.Labels.{label_at, semaphore_at}
 use Rattle.np_config.specs.Providers.{provider_at}
+use Rattle.np_config.specs.Tenants.{tenant_at}
 use Rattle.np_config.specs.Requesters.{requester_at}
 use Rattle.np_config.specs.Faults.{fault_at}
 
@@ -35,8 +37,11 @@ providers_at labels d = list_required (provider_at labels) [] (codes "providers"
 abbrev pub semaphores_at : Data → Result (List Sem) ConfigFault
 semaphores_at d = list_maybe semaphore_at [] (codes "semaphores") (at_most SEMAPHORES) [] d
 
-abbrev pub requesters_at : List Label → List Sem → Data → Result Requesters ConfigFault
-requesters_at labels semaphores d = list_maybe (requester_at labels semaphores) [] (codes "requesters") (at_most REQUESTERS) (record { requesters = []; jobs = [] }) d
+abbrev pub tenants_at : Data → Result (List Tenant) ConfigFault
+tenants_at d = list_maybe tenant_at [] (codes "tenants") (at_most TENANTS) [] d
+
+abbrev pub requesters_at : List Label → List Sem → List Tenant → Data → Result Requesters ConfigFault
+requesters_at labels semaphores tenants d = list_maybe (requester_at labels semaphores tenants) [] (codes "requesters") (at_most REQUESTERS) (record { requesters = []; jobs = [] }) d
 
 abbrev pub faults_at : List (List ℕ) → List Requester → Data → Result (List Fault) ConfigFault
 faults_at pools requesters d = list_maybe (fault_at pools requesters) [] (codes "faults") (at_most FAULTS) [] d
@@ -49,9 +54,10 @@ configuration_at d = do
   age ← whole_or [] (codes "max-hold-age") 0 AGE 0 d
   s ← providers_at labels d
   semaphores ← semaphores_at d
-  r ← requesters_at labels semaphores d
+  tenants ← tenants_at d
+  r ← requesters_at labels semaphores tenants d
   faults ← faults_at (pool_names s.providers s.pools) r.requesters d
-  Ok (configuration labels s.providers s.pools semaphores r.requesters r.jobs faults age)
+  Ok (configuration labels s.providers s.pools semaphores tenants r.requesters r.jobs faults age)
 
 -- the JSON value that bytes are, where they are UTF-8
 abbrev pub parsed : List ℕ → Option Data

@@ -1,6 +1,7 @@
 -- a text with every optional key absent, what it is read as, and its canonical text
 use Rattle.std.specs.Prelude.{ℕ, List, [], ◌∷◌, ◌++◌, codes, false, Option, None}
 use Rattle.np_text.specs.declared.id.LabelId.{LabelId}
+use Rattle.np_text.specs.declared.id.TenantId.{TenantId}
 use Rattle.np_text.specs.declared.id.PoolId.{PoolId}
 use Rattle.np_text.specs.declared.id.RequesterId.{RequesterId}
 use Rattle.np_text.specs.declared.id.Role.TheVariants.{Janitor}
@@ -32,6 +33,7 @@ worked = record {
     fail_starts = [];
   } ∷ [];
   semaphores = record { name = codes "s"; max = 1 } ∷ [];
+  tenants = [];
   requesters = record { name = codes "z"; window = 20 } ∷ [];
   jobs = record {
     requester = record { 0 = 0 };
@@ -42,6 +44,7 @@ worked = record {
     semaphores = [];
     resources_first = false;
     end = Used;
+    tenant = record { 0 = 0 };
   } ∷ [];
   faults = record { role = Janitor (record { 0 = 0 }); kind = Stop; after = 3 } ∷ [];
   max_hold_age = 0;

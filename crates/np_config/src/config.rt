@@ -1,13 +1,14 @@
 //! The configuration as a whole.
 
-ghost use Rattle.std.specs.Prelude.{◌≡◌, Ok, slice_get};
+ghost use Rattle.std.specs.Prelude.{◌≡◌, slice_get};
 ghost use Rattle.std.specs.Option.{option_copied};
 
 use crate::print::config_value;
+use crate::tenants::default_tenant;
 use crate::walk::config_of;
 use np_json::ConfigRead;
-use np_site::{Fault, Job, Label, Pool, Provider, Requester, Sem};
-use np_text::{JobId, LabelId, NoMemory, PoolId, RequesterId, SemId};
+use np_site::{Fault, Job, Label, Pool, Provider, Requester, Sem, Tenant};
+use np_text::{JobId, LabelId, NoMemory, PoolId, RequesterId, SemId, TenantId};
 use std::alloc::Global;
 use std::marker::Model;
 
@@ -18,6 +19,10 @@ pub struct Config {
     providers: Vec<Provider>,
     pools: Vec<Pool>,
     semaphores: Vec<Sem>,
+    /// The tenants that are listed.
+    tenants: Vec<Tenant>,
+    /// The tenant `default`.
+    unlisted: Tenant,
     requesters: Vec<Requester>,
     jobs: Vec<Job>,
     faults: Vec<Fault>,
@@ -25,19 +30,22 @@ pub struct Config {
 }
 
 impl Model for Config {
-    ghost use Rattle.np_site.specs.Configuration.{Configuration, configuration};
+    ghost use Rattle.std.specs.Prelude.{◌≡◌};
+    ghost use Rattle.np_site.specs.Configuration.{Configuration, configuration, default_tenant};
     ghost use Rattle.np_site.specs.Sound.{IsSound};
 
     ghost Value = { Configuration };
 
     ghost view = { λ c. configuration c.labels.items c.providers.items c.pools.items
-        c.semaphores.items c.requesters.items c.jobs.items c.faults.items c.max_hold_age };
+        c.semaphores.items c.tenants.items c.requesters.items c.jobs.items c.faults.items
+        c.max_hold_age };
 
-    ghost invariant = { λ c. IsSound (configuration c.labels.items c.providers.items c.pools.items
-        c.semaphores.items c.requesters.items c.jobs.items c.faults.items c.max_hold_age) };
+    ghost invariant = { λ c. IsSound (configuration c.labels.items c.providers.items
+        c.pools.items c.semaphores.items c.tenants.items c.requesters.items c.jobs.items
+        c.faults.items c.max_hold_age) × (c.unlisted ≡ default_tenant) };
 }
 
-ghost use Rattle.np_site.specs.Configuration.{configuration};
+ghost use Rattle.np_site.specs.Configuration.{configuration, tenant_of};
 ghost use Rattle.np_site.specs.Sound.{IsSound};
 ghost use Rattle.std.specs.Prelude.{IfOk};
 ghost use Rattle.np_json.specs.Reading.{Gives};
@@ -56,29 +64,33 @@ impl Config {
         config_of(alloc, bytes)
     }
 
-    /// The configuration with these tables, of which each id is a place. No table of today takes
-    /// memory beside the rows that are given.
+    /// The configuration with these tables, of which each id is a place. It takes memory for the
+    /// tenant `default`, which is not listed.
     pub fn of_parts(
-        _alloc: Global,
+        alloc: Global,
         labels: Vec<Label>,
         providers: Vec<Provider>,
         pools: Vec<Pool>,
         semaphores: Vec<Sem>,
+        tenants: Vec<Tenant>,
         requesters: Vec<Requester>,
         jobs: Vec<Job>,
         faults: Vec<Fault>,
         max_hold_age: u32,
     ) -> Result<Config, NoMemory>
         requires { IsSound (configuration labels.items providers.items pools.items
-            semaphores.items requesters.items jobs.items faults.items max_hold_age) }
-        ensures { result ≡ Ok (configuration labels.items providers.items pools.items
-            semaphores.items requesters.items jobs.items faults.items max_hold_age) }
+            semaphores.items tenants.items requesters.items jobs.items faults.items max_hold_age) }
+        ensures { IfOk result (λ c. c ≡ configuration labels.items providers.items pools.items
+            semaphores.items tenants.items requesters.items jobs.items faults.items max_hold_age) }
     {
+        let unlisted = default_tenant(alloc)?;
         Ok(Config {
             labels,
             providers,
             pools,
             semaphores,
+            tenants,
+            unlisted,
             requesters,
             jobs,
             faults,
@@ -93,9 +105,9 @@ impl Config {
         let _labels = &self.labels;
     }
 
-    /// The one text of the configuration: compact JSON, keys in byte order, every default written.
-    /// Reading it gives the same configuration. The cost grows with the length of the text, and with
-    /// the number of jobs times that of requesters.
+    /// The one text of the configuration: compact JSON, keys in byte order, every default written
+    /// but no tenants and a job's tenant `default`. Reading it gives the same configuration. The cost
+    /// grows with the length of the text, and with the number of jobs times that of requesters.
     pub fn to_json(&self, alloc: Global) -> Result<Vec<u8>, NoMemory>
         ensures text { IfOk result (λ b. b.items ≡ canonical self.now) }
         ensures again { IfOk result (λ b. reads b.items ≡ Ok self.now) }
@@ -130,6 +142,17 @@ impl Config {
         ensures { option_copied result ≡ slice_get self.now.semaphores id.0 }
     {
         self.semaphores.get(id.0 as usize)
+    }
+
+    /// The tenant, or `None` exactly past the last one; 0 is the tenant `default`, and those that
+    /// are listed count from 1.
+    pub fn tenant(&self, id: TenantId) -> Option<&Tenant>
+        ensures { option_copied result ≡ tenant_of self.now id }
+    {
+        if id.0 == 0 {
+            return Some(&self.unlisted);
+        }
+        self.tenants.get((id.0 - 1) as usize)
     }
 
     /// The requester, or `None` exactly past the end of the table.
@@ -182,6 +205,12 @@ impl Config {
         ensures { result.now ≡ self.now.semaphores }
     {
         &self.semaphores
+    }
+
+    pub(crate) fn tenants(&self) -> &[Tenant]
+        ensures { result.now ≡ self.now.tenants }
+    {
+        &self.tenants
     }
 
     pub(crate) fn requesters(&self) -> &[Requester]

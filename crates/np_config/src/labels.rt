@@ -3,8 +3,8 @@
 ghost use Rattle.std.specs.Prelude.{◌≡◌, ◌+◌, ◌<◌, IfOk, length};
 ghost use Rattle.np_config.specs.Labels.{label_at, semaphore_at};
 
-use np_json::{ConfigRead, Place, Rows, Table, name, object, whole};
-use np_site::{Label, Name, Sem};
+use np_json::{ConfigRead, NamedRow, Place, Rows, Table, named_row, whole};
+use np_site::{Label, Name, Sem, Tenant};
 use np_text::{AGE, HANDLES, MIN_READY};
 use serde_json::Value;
 use std::alloc::Global;
@@ -43,11 +43,9 @@ impl Rows<Alone> for Table<Label> {
         place: Place<'_>,
         value: &Value,
     ) -> Result<(), ConfigRead> {
-        let at = place.pointer(alloc)?;
-        let at = at.as_slice();
-        object(alloc, at, &["name", "min-ready", "max-ready-age"], value)?;
-        let name = name(alloc, at, self, value)?;
-        let label = label_row(alloc, at, Name::new(name), value)?;
+        let keys = ["name", "min-ready", "max-ready-age"];
+        let NamedRow { at, name } = named_row(alloc, place, &keys, self, value)?;
+        let label = label_row(alloc, at.as_slice(), name, value)?;
         self.push(alloc, label)?;
         Ok(())
     }
@@ -59,11 +57,12 @@ pub(crate) struct Labels {
     pub table: Table<Label>,
 }
 
-/// The labels and semaphores that jobs may refer to.
+/// The labels, semaphores and tenants that jobs may refer to.
 #[derive(Drop)]
 pub(crate) struct Known {
     pub labels: Labels,
     pub semaphores: Table<Sem>,
+    pub tenants: Table<Tenant>,
 }
 
 impl Rows<Alone> for Table<Sem> {
@@ -79,12 +78,8 @@ impl Rows<Alone> for Table<Sem> {
         place: Place<'_>,
         value: &Value,
     ) -> Result<(), ConfigRead> {
-        let at = place.pointer(alloc)?;
-        let at = at.as_slice();
-        object(alloc, at, &["name", "max"], value)?;
-        let name = name(alloc, at, self, value)?;
-        let max = whole(alloc, at, "max", 1, HANDLES, 1, value)?;
-        let name = Name::new(name);
+        let NamedRow { at, name } = named_row(alloc, place, &["name", "max"], self, value)?;
+        let max = whole(alloc, at.as_slice(), "max", 1, HANDLES, 1, value)?;
         self.push(alloc, Sem { name, max })?;
         Ok(())
     }

@@ -6,6 +6,7 @@ ghost use Rattle.np_text.specs.declared.limit.TheConstants.{JOBS};
 ghost use Rattle.np_site.specs.declared.row.Label.{Label};
 ghost use Rattle.np_site.specs.declared.row.Offer.{Offer};
 ghost use Rattle.np_site.specs.declared.row.Sem.{Sem};
+ghost use Rattle.np_site.specs.declared.row.Tenant.{Tenant};
 ghost use Rattle.np_config.specs.declared.providers.PoolsOf.{PoolsOf};
 ghost use Rattle.np_config.specs.declared.providers.Providers.{Providers};
 ghost use Rattle.np_config.specs.declared.requesters.JobsOf.{JobsOf};
@@ -16,7 +17,7 @@ ghost use Rattle.np_config.specs.Requesters.{job_at, requester_at};
 ghost use Rattle.np_config.specs.Walk.{configuration_at, reads};
 ghost use Rattle.np_config.specs.Canonical.{canonical};
 ghost use Rattle.np_config.specs.Defaults.{AllStand, top_defaults, label_defaults, provider_defaults, pool_defaults, offer_defaults, semaphore_defaults, requester_defaults, job_defaults};
-ghost use Rattle.np_config.specs.FirstFaults.{HasFirstFault, faulty_labels, faulty_pools, faulty_requesters, faulty_faults};
+ghost use Rattle.np_config.specs.FirstFaults.{HasFirstFault, faulty_labels, faulty_pools, faulty_requesters, faulty_tenants, faulty_faults};
 ghost use Rattle.np_config.specs.Worked.{worked, worked_text, worked_canonical};
 
 /// An object without an optional key reads as that object with the key's default put in.
@@ -32,11 +33,12 @@ pub fn an_absent_key_has_its_default()
         AllStand (offer_at labels at earlier) offer_defaults }
     ensures semaphore { (at : List ℕ) (earlier : List Sem) →
         AllStand (semaphore_at at earlier) semaphore_defaults }
-    ensures requester { (labels : List Label) (semaphores : List Sem) (at : List ℕ)
-        (s : Requesters) → length s.jobs ≤ JOBS →
-        AllStand (requester_at labels semaphores at s) requester_defaults }
-    ensures job { (labels : List Label) (semaphores : List Sem) (at : List ℕ) (s : JobsOf) →
-        AllStand (job_at labels semaphores at s) job_defaults }
+    ensures requester { (labels : List Label) (semaphores : List Sem) (tenants : List Tenant)
+        (at : List ℕ) (s : Requesters) → length s.jobs ≤ JOBS →
+        AllStand (requester_at labels semaphores tenants at s) requester_defaults }
+    ensures job { (labels : List Label) (semaphores : List Sem) (tenants : List Tenant)
+        (at : List ℕ) (s : JobsOf) →
+        AllStand (job_at labels semaphores tenants at s) job_defaults }
 {}
 
 /// Texts with their first faults.
@@ -44,6 +46,7 @@ pub fn texts_have_their_first_faults()
     ensures labels { AllByRecursion HasFirstFault faulty_labels }
     ensures pools { AllByRecursion HasFirstFault faulty_pools }
     ensures requesters { AllByRecursion HasFirstFault faulty_requesters }
+    ensures tenants { AllByRecursion HasFirstFault faulty_tenants }
     ensures faults { AllByRecursion HasFirstFault faulty_faults }
 {}
 

@@ -1,5 +1,5 @@
-//! The configuration: labels, providers with their pools, semaphores, requesters with their jobs,
-//! and planned faults.
+//! The configuration: labels, providers with their pools, semaphores, tenants, requesters with
+//! their jobs, and planned faults.
 //!
 //! `specs/Walk` says what configuration the bytes of a JSON text are, or their first fault, and
 //! `specs/Canonical` which text a configuration has. Every `Config` is one that a text can have
@@ -15,6 +15,7 @@ mod law;
 mod print;
 mod providers;
 mod requesters;
+mod tenants;
 #[cfg(test)]
 mod tests;
 mod walk;

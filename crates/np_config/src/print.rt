@@ -9,7 +9,7 @@ mod rows;
 mod value;
 
 use crate::config::Config;
-use crate::print::value::{list_value, placed_value};
+use crate::print::value::{list_if_any, list_value, placed_value, put_given};
 use serde_json::{Map, Value, put};
 use std::alloc::{AllocError, Global};
 
@@ -23,6 +23,7 @@ pub(crate) fn config_value(alloc: Global, config: &Config) -> Result<Value, Allo
     let providers = placed_value(alloc, config, config.providers())?;
     let requesters = placed_value(alloc, config, config.requesters())?;
     let semaphores = list_value(alloc, config, config.semaphores())?;
+    let tenants = list_if_any(alloc, config, config.tenants())?;
     let mut members = Map::new(alloc);
     put(&mut members, alloc, "faults", faults)?;
     put(&mut members, alloc, "labels", labels)?;
@@ -31,5 +32,6 @@ pub(crate) fn config_value(alloc: Global, config: &Config) -> Result<Value, Allo
     put(&mut members, alloc, "providers", providers)?;
     put(&mut members, alloc, "requesters", requesters)?;
     put(&mut members, alloc, "semaphores", semaphores)?;
+    put_given(&mut members, alloc, "tenants", tenants)?;
     Ok(Value::Object(members))
 }

@@ -10,8 +10,8 @@ ghost use Rattle.np_config.specs.Providers.{label_for, label_value, offer_label,
 use crate::labels::{Alone, Labels};
 use np_amount::{Amount, Limit};
 use np_json::{
-    ConfigKind, ConfigRead, Length, Marked, Place, Rows, Table, fault_in, name, object, required,
-    rows_maybe, rows_required, text_of, whole, whole_maybe, whole_of,
+    ConfigKind, ConfigRead, Length, Marked, NamedRow, Place, Rows, Table, fault_in, named_row,
+    object, required, rows_maybe, rows_required, text_of, whole, whole_maybe, whole_of,
 };
 use np_lists::Items;
 use np_site::{Name, NumberList, Offer, OfferList, Pool, Provider};
@@ -160,8 +160,9 @@ pub(crate) fn wide(number: Option<u32>) -> Option<u64>
     }
 }
 
+/// The limits of a pool or a tenant.
 #[tactic(auto, using(np_json::proofs::Binds::exits), unfolding(crate::specs::Providers::limit_at))]
-fn limit_of(alloc: Global, at: &[u8], value: &Value) -> Result<Limit, ConfigRead>
+pub(crate) fn limit_of(alloc: Global, at: &[u8], value: &Value) -> Result<Limit, ConfigRead>
     ensures { Gives (λ l. l) result (limit_at at.now (view value.now)) }
 {
     let servers = whole_maybe(alloc, at, "max-servers", 0, POOL_SERVERS, value)?;
@@ -250,8 +251,6 @@ impl Rows<Labels> for PoolsOf {
         place: Place<'_>,
         value: &Value,
     ) -> Result<(), ConfigRead> {
-        let at = place.pointer(alloc)?;
-        let at = at.as_slice();
         let keys = [
             "name",
             "max-servers",
@@ -260,9 +259,8 @@ impl Rows<Labels> for PoolsOf {
             "labels",
             "fail-starts",
         ];
-        object(alloc, at, &keys, value)?;
-        let name = name(alloc, at, &self.pools, value)?;
-        let pool = pool_row(alloc, labels, at, self.provider, Name::new(name), value)?;
+        let NamedRow { at, name } = named_row(alloc, place, &keys, &self.pools, value)?;
+        let pool = pool_row(alloc, labels, at.as_slice(), self.provider, name, value)?;
         self.pools.push(alloc, pool)?;
         Ok(())
     }
@@ -320,12 +318,10 @@ impl Rows<Labels> for Providers {
         place: Place<'_>,
         value: &Value,
     ) -> Result<(), ConfigRead> {
-        let at = place.pointer(alloc)?;
-        let at = at.as_slice();
         let keys = ["name", "launch-retries", "max-concurrency", "pools"];
-        object(alloc, at, &keys, value)?;
-        let name = name(alloc, at, &self.providers, value)?;
-        let provider = provider_row(alloc, at, Name::new(name), value)?;
+        let NamedRow { at, name } = named_row(alloc, place, &keys, &self.providers, value)?;
+        let at = at.as_slice();
+        let provider = provider_row(alloc, at, name, value)?;
         let earlier = self.pools.items().len();
         let place = self.providers.len() as u16;
         let own = pools_of(alloc, labels, at, earlier, place, value)?;

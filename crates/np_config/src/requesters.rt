@@ -9,9 +9,10 @@ ghost use Rattle.np_config.specs.Requesters.{wanted_at, taken_at, semaphore_for,
 
 use crate::labels::{Known, Labels};
 use crate::providers::label_of;
+use crate::tenants::tenant_of;
 use np_json::{
-    ConfigKind, ConfigRead, Length, Marked, Place, Rows, Table, fault_in, flag, name, object,
-    rows_maybe, rows_required, text_of, whole,
+    ConfigKind, ConfigRead, Length, Marked, NamedRow, Place, Rows, Table, fault_in, flag,
+    named_row, rows_maybe, rows_required, text_of, whole,
 };
 use np_lists::Items;
 use np_site::{Job, LabelList, Name, Requester, SemList};
@@ -217,12 +218,14 @@ fn job_row(
     value: &Value,
 ) -> Result<Job, ConfigRead>
     ensures gives { Gives (λ j. j) result
-        (job_row known.now.semaphores at.now requester name demand (view value.now)) }
+        (job_row known.now.semaphores known.now.tenants at.now requester name demand
+        (view value.now)) }
     ensures name { IfOk result (λ j. j.name ≡ name) }
 {
     let semaphores = takes_of(alloc, known, at, value)?;
     let resources_first = flag(alloc, at, "resources-first", false, value)?;
     let end = end_as(alloc, at, value)?;
+    let tenant = tenant_of(alloc, known, at, value)?;
     Ok(Job {
         requester,
         name,
@@ -232,6 +235,7 @@ fn job_row(
         semaphores,
         resources_first,
         end,
+        tenant,
     })
 }
 
@@ -243,7 +247,8 @@ pub(crate) struct JobsOf {
 }
 
 impl Rows<Known> for JobsOf {
-    ghost reads = { λ known at s d. job_at known.labels.table known.semaphores at s d };
+    ghost reads = { λ known at s d.
+        job_at known.labels.table known.semaphores known.tenants at s d };
 
     ghost count = { λ s. length s.jobs };
 
@@ -255,8 +260,6 @@ impl Rows<Known> for JobsOf {
         place: Place<'_>,
         value: &Value,
     ) -> Result<(), ConfigRead> {
-        let at = place.pointer(alloc)?;
-        let at = at.as_slice();
         let keys = [
             "name",
             "labels",
@@ -265,11 +268,11 @@ impl Rows<Known> for JobsOf {
             "semaphores",
             "resources-first",
             "end",
+            "tenant",
         ];
-        object(alloc, at, &keys, value)?;
-        let name = name(alloc, at, &self.jobs, value)?;
+        let NamedRow { at, name } = named_row(alloc, place, &keys, &self.jobs, value)?;
+        let at = at.as_slice();
         let demand = demand_of(alloc, &known.labels, at, value)?;
-        let name = Name::new(name);
         let job = job_row(alloc, known, at, self.requester, name, demand, value)?;
         self.jobs.push(alloc, job)?;
         Ok(())
@@ -286,7 +289,8 @@ fn jobs_of(
     value: &Value,
 ) -> Result<JobsOf, ConfigRead>
     ensures { Gives (λ own. own) result
-        (jobs_at known.now.labels.table known.now.semaphores at.now earlier requester (view value.now)) }
+        (jobs_at known.now.labels.table known.now.semaphores known.now.tenants at.now
+        earlier requester (view value.now)) }
 {
     let length = Length::at_most(JOBS).behind(earlier);
     let jobs = Table::new(alloc);
@@ -316,7 +320,8 @@ fn requester_row(
 }
 
 impl Rows<Known> for Requesters {
-    ghost reads = { λ known at s d. requester_at known.labels.table known.semaphores at s d };
+    ghost reads = { λ known at s d.
+        requester_at known.labels.table known.semaphores known.tenants at s d };
 
     ghost count = { λ s. length s.requesters };
 
@@ -328,11 +333,10 @@ impl Rows<Known> for Requesters {
         place: Place<'_>,
         value: &Value,
     ) -> Result<(), ConfigRead> {
-        let at = place.pointer(alloc)?;
+        let keys = ["name", "window", "jobs"];
+        let NamedRow { at, name } = named_row(alloc, place, &keys, &self.requesters, value)?;
         let at = at.as_slice();
-        object(alloc, at, &["name", "window", "jobs"], value)?;
-        let name = name(alloc, at, &self.requesters, value)?;
-        let requester = requester_row(alloc, at, Name::new(name), value)?;
+        let requester = requester_row(alloc, at, name, value)?;
         let earlier = self.jobs.items().len();
         let place = RequesterId(self.requesters.len() as u16);
         let own = jobs_of(alloc, known, at, earlier, place, value)?;

@@ -4,6 +4,7 @@ use crate::{Config, ConfigKind, ConfigRead};
 use ConfigKind::{
     BadName, Missing, NotJson, OutOfRange, Repeated, TooMany, UnknownKey, UnknownName, WrongType,
 };
+use np_text::{JobId, TenantId};
 use std::alloc::{AllocError, Global};
 use std::process::Abort;
 use std::test::Fail;
@@ -17,6 +18,16 @@ fn put_labels(alloc: Global, text: &mut String, count: u32) -> Result<(), AllocE
     for i in 1..count {
         let label = format!(in alloc; ",{{\"name\":\"{LONG}{i}\"}}")?;
         text.push_str(label.as_str())?;
+    }
+    text.push_str("]")
+}
+
+// Tenants, the first of which is `t`.
+fn put_tenants(alloc: Global, text: &mut String, count: u32) -> Result<(), AllocError> {
+    text.push_str(",\"tenants\":[{\"name\":\"t\",\"max-servers\":1000000,\"max-cores\":0}")?;
+    for i in 1..count {
+        let tenant = format!(in alloc; ",{{\"name\":\"{LONG}{i}\",\"max-ram\":{i}}}")?;
+        text.push_str(tenant.as_str())?;
     }
     text.push_str("]")
 }
@@ -39,8 +50,10 @@ fn largest(alloc: Global) -> Result<String, AllocError> {
         )?;
         text.push_str(provider.as_str())?;
     }
+    text.push_str("]")?;
+    put_tenants(alloc, &mut text, 64)?;
     text.push_str(
-        "],\"requesters\":[{\"name\":\"z\",\"jobs\":[{\"name\":\"j\",\"labels\":[\"a\"]}]}",
+        ",\"requesters\":[{\"name\":\"z\",\"jobs\":[{\"name\":\"j\",\"labels\":[\"a\"]}]}",
     )?;
     for q in 1..16u32 {
         let requester = format!(in alloc;
@@ -49,7 +62,7 @@ fn largest(alloc: Global) -> Result<String, AllocError> {
         text.push_str(requester.as_str())?;
         for j in 1..273u32 {
             let job = format!(in alloc;
-                ",{{\"name\":\"{LONG}{j}\",\"labels\":[\"{LONG}{q}\",\"a\"]}}"
+                ",{{\"name\":\"{LONG}{j}\",\"labels\":[\"{LONG}{q}\",\"a\"],\"tenant\":\"{LONG}{q}\"}}"
             )?;
             text.push_str(job.as_str())?;
         }
@@ -140,5 +153,95 @@ fn each_kind_of_fault_is_told(rt: HostRuntime) -> Result<(), Fail> {
     put_labels(rt.alloc(), &mut labels, 257)?;
     labels.push_str("}")?;
     check(&rt, labels.as_bytes(), TooMany, "/labels")?;
+    Ok(())
+}
+
+// One label and one pool, and more members of the top.
+fn with_top(alloc: Global, more: &str) -> Result<String, AllocError> {
+    format!(in alloc;
+        "{{\"labels\":[{{\"name\":\"a\"}}],\"providers\":[{{\"name\":\"c\",\"pools\":[{{\"name\":\"m\",\"labels\":[{{\"name\":\"a\"}}]}}]}}]{more}}}"
+    )
+}
+
+#[test]
+fn each_fault_of_a_tenant_is_told(rt: HostRuntime) -> Result<(), Fail> {
+    let alloc = rt.alloc();
+    for (more, kind, pointer) in [
+        (",\"tenants\":7", WrongType, "/tenants"),
+        (
+            ",\"tenants\":[{\"name\":\"default\"}]",
+            Repeated,
+            "/tenants/0/name",
+        ),
+        (",\"tenants\":[{\"max-ram\":1}]", Missing, "/tenants/0/name"),
+        (",\"tenants\":[{\"name\":7}]", WrongType, "/tenants/0/name"),
+        (
+            ",\"tenants\":[{\"name\":\"t\",\"labels\":[]}]",
+            UnknownKey,
+            "/tenants/0",
+        ),
+        (
+            ",\"tenants\":[{\"name\":\"t\",\"max-servers\":1000001}]",
+            OutOfRange,
+            "/tenants/0/max-servers",
+        ),
+        (
+            ",\"tenants\":[{\"name\":\"t\"}],\"requesters\":[{\"name\":\"z\",\"jobs\":[{\"name\":\"j\",\"labels\":[\"a\"],\"tenant\":\"u\"}]}]",
+            UnknownName,
+            "/requesters/0/jobs/0/tenant",
+        ),
+    ] {
+        let text = with_top(alloc, more)?;
+        check(&rt, text.as_bytes(), kind, pointer)?;
+    }
+    let mut tenants = String::new(alloc);
+    put_tenants(alloc, &mut tenants, 65)?;
+    let text = with_top(alloc, tenants.as_str())?;
+    check(&rt, text.as_bytes(), TooMany, "/tenants")?;
+    Ok(())
+}
+
+#[test]
+fn tenants_are_read_and_printed(rt: HostRuntime) -> Result<(), Fail> {
+    let alloc = rt.alloc();
+    let rows =
+        "[{\"max-cores\":2,\"max-ram\":3,\"max-servers\":1,\"name\":\"t\"},{\"max-cores\":0,\"name\":\"u\"},{\"name\":\"v\"}]";
+    let more = format!(in alloc;
+        ",\"tenants\":{rows},\"requesters\":[{{\"name\":\"z\",\"jobs\":[{{\"name\":\"j\",\"labels\":[\"a\"],\"tenant\":\"v\"}},{{\"name\":\"k\",\"labels\":[\"a\"],\"tenant\":\"default\"}}]}}]"
+    )?;
+    let text = with_top(alloc, more.as_str())?;
+    let config = read(alloc, text.as_bytes())?;
+    for (number, name) in [(0, "default"), (1, "t"), (2, "u"), (3, "v")] {
+        let Some(tenant) = config.tenant(TenantId(number)) else {
+            return Err(Fail::from("no tenant"));
+        };
+        assert_eq!(rt; tenant.name.items(), name.as_bytes());
+    }
+    assert!(rt; config.tenant(TenantId(4)).is_none());
+    for (number, tenant) in [(0, TenantId(3)), (1, TenantId(0))] {
+        let Some(job) = config.job(JobId(number)) else {
+            return Err(Fail::from("no job"));
+        };
+        assert_eq!(rt; job.tenant, tenant);
+    }
+    let same =
+        "\"priority\":\"normal\",\"relative-priority\":0,\"resources-first\":false,\"semaphores\":[]";
+    let canonical = format!(in alloc;
+        "{{\"faults\":[],\"labels\":[{{\"max-ready-age\":0,\"min-ready\":0,\"name\":\"a\"}}],\"max-hold-age\":0,\"providers\":[{{\"launch-retries\":3,\"name\":\"c\",\"pools\":[{{\"fail-starts\":[],\"labels\":[{{\"cores\":1,\"name\":\"a\",\"ram\":1024}}],\"name\":\"m\"}}]}}],\"requesters\":[{{\"jobs\":[{{\"end\":\"used\",\"labels\":[\"a\"],\"name\":\"j\",{same},\"tenant\":\"v\"}},{{\"end\":\"used\",\"labels\":[\"a\"],\"name\":\"k\",{same}}}],\"name\":\"z\",\"window\":20}}],\"semaphores\":[],\"tenants\":{rows}}}"
+    )?;
+    let printed = config.to_json(alloc)?;
+    assert!(rt; printed.as_slice() == canonical.as_bytes());
+    Ok(())
+}
+
+#[test]
+fn no_tenants_leave_the_text_as_it_is(rt: HostRuntime) -> Result<(), Fail> {
+    let alloc = rt.alloc();
+    let plain = with_top(alloc, "")?;
+    let told = with_top(alloc, ",\"tenants\":[]")?;
+    let plain = read(alloc, plain.as_bytes())?.to_json(alloc)?;
+    let told = read(alloc, told.as_bytes())?.to_json(alloc)?;
+    assert!(rt; plain.as_slice() == told.as_slice());
+    assert!(rt; plain.as_slice().ends_with(b"\"semaphores\":[]}"));
     Ok(())
 }

@@ -15,8 +15,8 @@ use np_json::{
     ConfigKind, ConfigRead, Length, Table, fault_at, object, rows_maybe, rows_required, whole,
 };
 use np_lists::Items;
-use np_site::{Fault, Name, Pool, Provider, Requester, Sem};
-use np_text::{AGE, FAULTS, LABELS, PROVIDERS, REQUESTERS, SEMAPHORES};
+use np_site::{Fault, Name, Pool, Provider, Requester, Sem, Tenant};
+use np_text::{AGE, FAULTS, LABELS, PROVIDERS, REQUESTERS, SEMAPHORES, TENANTS};
 use serde_json::{Category, Value};
 use std::alloc::{AllocError, Global};
 
@@ -102,9 +102,17 @@ fn semaphores_of(alloc: Global, value: &Value) -> Result<Table<Sem>, ConfigRead>
     rows_maybe(alloc, &Alone, b"", "semaphores", length, value, none)
 }
 
+fn tenants_of(alloc: Global, value: &Value) -> Result<Table<Tenant>, ConfigRead>
+    ensures { Gives (λ t. t) result (tenants_at (view value.now)) }
+{
+    let none = Table::new(alloc);
+    let length = Length::at_most(TENANTS);
+    rows_maybe(alloc, &Alone, b"", "tenants", length, value, none)
+}
+
 fn requesters_of(alloc: Global, known: &Known, value: &Value) -> Result<Requesters, ConfigRead>
-    ensures { Gives (λ r. r) result
-        (requesters_at known.now.labels.table known.now.semaphores (view value.now)) }
+    ensures { Gives (λ r. r) result (requesters_at known.now.labels.table known.now.semaphores
+        known.now.tenants (view value.now)) }
 {
     let none = Requesters {
         requesters: Table::new(alloc),
@@ -123,7 +131,7 @@ fn faults_of(alloc: Global, roles: &Roles, value: &Value) -> Result<Items<Fault>
     rows_maybe(alloc, roles, b"", "faults", length, value, none)
 }
 
-ghost use Rattle.np_config.specs.Walk.{labels_at, providers_at, semaphores_at, requesters_at, faults_at, configuration_at, reads};
+ghost use Rattle.np_config.specs.Walk.{labels_at, providers_at, semaphores_at, tenants_at, requesters_at, faults_at, configuration_at, reads};
 
 /// The configuration that a JSON value is, or its first fault.
 #[tactic(auto, using(np_json::proofs::Binds::exits, crate::proofs::WalkTakes::taken), unfolding(crate::specs::Walk::configuration_at))]
@@ -135,6 +143,7 @@ fn configuration_of(alloc: Global, value: &Value) -> Result<Config, ConfigRead>
         "max-hold-age",
         "providers",
         "semaphores",
+        "tenants",
         "requesters",
         "faults",
     ];
@@ -143,7 +152,12 @@ fn configuration_of(alloc: Global, value: &Value) -> Result<Config, ConfigRead>
     let age = whole(alloc, b"", "max-hold-age", 0, AGE, 0, value)?;
     let supply = providers_of(alloc, &labels, value)?;
     let semaphores = semaphores_of(alloc, value)?;
-    let known = Known { labels, semaphores };
+    let tenants = tenants_of(alloc, value)?;
+    let known = Known {
+        labels,
+        semaphores,
+        tenants,
+    };
     let demand = requesters_of(alloc, &known, value)?;
     let roles = roles_of(alloc, &supply, demand.requesters)?;
     let faults = faults_of(alloc, &roles, value)?;
@@ -153,6 +167,7 @@ fn configuration_of(alloc: Global, value: &Value) -> Result<Config, ConfigRead>
         supply.providers.into_rows(),
         supply.pools.into_vec(),
         known.semaphores.into_rows(),
+        known.tenants.into_rows(),
         roles.requesters.into_rows(),
         demand.jobs.into_vec(),
         faults.into_vec(),

@@ -1,15 +1,16 @@
 //! The names and words that stand for ids and kinds.
 
 ghost use Rattle.std.specs.Prelude.{◌≡◌, IfOk};
+ghost use Rattle.std.specs.Option.{option_map};
 ghost use Rattle.std.specs.Str.{IsAscii};
 ghost use Rattle.serde_json.specs.Data.{string};
 ghost use Rattle.serde_json.specs.View.{view};
-ghost use Rattle.np_config.specs.Canonical.{label_name, semaphore_name, requester_name, full_name, priority_word, role_word, role_name};
+ghost use Rattle.np_config.specs.Canonical.{label_name, semaphore_name, tenant_name, job_tenant, requester_name, full_name, priority_word, role_word, role_name};
 
 use crate::config::Config;
 use crate::print::value::text_value;
 use crate::walk;
-use np_text::{LabelId, PoolId, RequesterId, Role, RoleKind, SemId};
+use np_text::{LabelId, PoolId, RequesterId, Role, RoleKind, SemId, TenantId};
 use serde_json::Value;
 use std::alloc::{AllocError, Global};
 
@@ -35,6 +36,32 @@ pub(crate) fn semaphore_name(config: &Config, id: SemId) -> &[u8]
         Some(semaphore) => semaphore.name.items(),
         None => b"",
     }
+}
+
+/// The name of the tenant with this id.
+fn tenant_name(config: &Config, id: TenantId) -> &[u8]
+    ensures name { result.now ≡ tenant_name config.now id }
+    ensures ascii { IsAscii result.now }
+{
+    config.soundness();
+    match config.tenant(id) {
+        Some(tenant) => tenant.name.items(),
+        None => b"",
+    }
+}
+
+/// The name of a job's tenant, where it isn't the default one.
+pub(crate) fn job_tenant(
+    alloc: Global,
+    config: &Config,
+    id: TenantId,
+) -> Result<Option<Value>, AllocError>
+    ensures { IfOk result (λ v. option_map (λ w. view w) v ≡ job_tenant config.now id) }
+{
+    if id.0 == 0 {
+        return Ok(None);
+    }
+    Ok(Some(text_value(alloc, tenant_name(config, id))?))
 }
 
 /// The name of the requester with this id.

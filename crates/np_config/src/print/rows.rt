@@ -4,15 +4,17 @@ ghost use Rattle.std.specs.Prelude.{◌≡◌, ℕ};
 ghost use Rattle.std.specs.Str.{IsAscii};
 ghost use Rattle.serde_json.specs.Data.{Data, string};
 ghost use Rattle.np_site.specs.Configuration.{Configuration};
-ghost use Rattle.np_config.specs.Canonical.{count, label_data, label_name, semaphore_name, offer_data, pool_data, provider_data, semaphore_data, job_data, requester_data, fault_data};
+ghost use Rattle.np_config.specs.Canonical.{count, label_data, label_name, semaphore_name, offer_data, pool_data, provider_data, semaphore_data, tenant_data, job_data, requester_data, fault_data};
 
 use crate::config::Config;
-use crate::print::names::{label_name, priority_word, role_name_value, role_word, semaphore_name};
+use crate::print::names::{
+    job_tenant, label_name, priority_word, role_name_value, role_word, semaphore_name,
+};
 use crate::print::value::{
-    Owned, Placed, Shown, list_value, owned_value, put_count, put_limit, text_value,
+    Owned, Placed, Shown, list_value, owned_value, put_count, put_given, put_limit, text_value,
 };
 use crate::providers::wide;
-use np_site::{Fault, Job, Label, Offer, Pool, Provider, Requester, Sem};
+use np_site::{Fault, Job, Label, Offer, Pool, Provider, Requester, Sem, Tenant};
 use np_text::{LabelId, SemId};
 use serde_json::{Map, Value, json, put};
 use std::alloc::{AllocError, Global};
@@ -40,6 +42,20 @@ impl Shown for Sem {
     fn value(&self, alloc: Global, _config: &Config) -> Result<Value, AllocError> {
         let name = text_value(alloc, self.name.items())?;
         json!(in alloc; {"max": self.max, "name": name})
+    }
+}
+
+impl Shown for Tenant {
+    ghost can_show = { λ t. IsAscii t.name };
+
+    ghost shown = { λ _ t. tenant_data t };
+
+    fn value(&self, alloc: Global, _config: &Config) -> Result<Value, AllocError> {
+        let name = text_value(alloc, self.name.items())?;
+        let mut members = Map::new(alloc);
+        put_limit(&mut members, alloc, self.limit)?;
+        put(&mut members, alloc, "name", name)?;
+        Ok(Value::Object(members))
     }
 }
 
@@ -123,15 +139,21 @@ impl Shown for Job {
         let name = text_value(alloc, self.name.items())?;
         let labels = list_value(alloc, config, self.labels.items())?;
         let semaphores = list_value(alloc, config, self.semaphores.items())?;
-        json!(in alloc; {
-            "end": self.end.word(),
-            "labels": labels,
-            "name": name,
-            "priority": priority_word(self.priority),
-            "relative-priority": self.relative_priority,
-            "resources-first": self.resources_first,
-            "semaphores": semaphores
-        })
+        let end = Value::try_from_str(alloc, self.end.word())?;
+        let priority = Value::try_from_str(alloc, priority_word(self.priority))?;
+        let relative = Value::from(self.relative_priority);
+        let first = Value::from(self.resources_first);
+        let tenant = job_tenant(alloc, config, self.tenant)?;
+        let mut members = Map::new(alloc);
+        put(&mut members, alloc, "end", end)?;
+        put(&mut members, alloc, "labels", labels)?;
+        put(&mut members, alloc, "name", name)?;
+        put(&mut members, alloc, "priority", priority)?;
+        put(&mut members, alloc, "relative-priority", relative)?;
+        put(&mut members, alloc, "resources-first", first)?;
+        put(&mut members, alloc, "semaphores", semaphores)?;
+        put_given(&mut members, alloc, "tenant", tenant)?;
+        Ok(Value::Object(members))
     }
 }
 

@@ -1,12 +1,13 @@
 //! Lists and members as values.
 
 ghost use Rattle.std.specs.Prelude.{◌≡◌, ◌==◌, ◌<◌, ◌^◌, ℕ, Option, All, filter, length, IfOk, OnOk};
+ghost use Rattle.std.specs.Option.{option_map};
 ghost use Rattle.std.specs.Str.{IsAscii};
 ghost use Rattle.serde_json.specs.Data.{Data, string, array};
 ghost use Rattle.serde_json.specs.View.{view, items_of, members_view};
 ghost use Rattle.np_site.specs.Configuration.{Configuration};
-ghost use Rattle.np_config.specs.Canonical.{list_data, placed};
-ghost use Rattle.np_config.specs.Put.{put_count, put_limit};
+ghost use Rattle.np_config.specs.Canonical.{list_data, list_if_any, placed};
+ghost use Rattle.np_config.specs.Put.{put_given, put_count, put_limit};
 
 use crate::config::Config;
 use np_amount::Limit;
@@ -51,6 +52,22 @@ pub(crate) fn list_value<T: Shown>(
         values.push(row.value(alloc, config)?)?;
     }
     Ok(Value::Array(values))
+}
+
+/// The list of the rows, where there is any.
+pub(crate) fn list_if_any<T: Shown>(
+    alloc: Global,
+    config: &Config,
+    rows: &[T],
+) -> Result<Option<Value>, AllocError>
+    requires { All T.can_show rows.now }
+    ensures { IfOk result
+        (λ v. option_map (λ w. view w) v ≡ list_if_any (T.shown config.now) rows.now) }
+{
+    if rows.is_empty() {
+        return Ok(None);
+    }
+    Ok(Some(list_value(alloc, config, rows)?))
 }
 
 /// A row of an owner.
@@ -105,6 +122,22 @@ pub(crate) fn placed_value<T: Placed>(
         values.push(row.value_at(alloc, config, place as u16)?)?;
     }
     Ok(Value::Array(values))
+}
+
+/// Puts a value, where there is one.
+pub(crate) fn put_given(
+    members: &mut Map<String, Value>,
+    alloc: Global,
+    key: &str,
+    value: Option<Value>,
+) -> Result<(), AllocError>
+    ensures { OnOk result (members_view members.new.entries
+        ≡ put_given key.now (option_map (λ v. view v) value) (members_view members.old.entries)) }
+{
+    let Some(value) = value else {
+        return Ok(());
+    };
+    put(members, alloc, key, value)
 }
 
 /// Puts a number, where there is one.

@@ -14,6 +14,10 @@ pub returns-clause-requesters : goal.returns-clause-requesters
 unfolding config_on_literals
 returns-clause-requesters c = (refl, (refl, (refl, (refl, (refl, (refl, (refl, tt)))))))
 
+pub returns-clause-tenants : goal.returns-clause-tenants
+unfolding config_on_literals
+returns-clause-tenants c = (refl, (refl, (refl, (refl, (refl, (refl, (refl, (refl, (refl, (refl, tt))))))))))
+
 pub returns-clause-faults : goal.returns-clause-faults
 unfolding config_on_literals
 returns-clause-faults c = (refl, (refl, (refl, (refl, (refl, (refl, tt))))))
