@@ -16,7 +16,7 @@ use Rattle.np_machine.specs.Tables.{session_of, role_of, request_in, node_in, ch
 use Rattle.np_lists.specs.Change.{change_at}
 use Rattle.np_machine.specs.Reasons.{next_label}
 use Rattle.np_machine.specs.Tests.{Answer, launcher}
-use Rattle.np_machine.specs.Request.{registers, submit_for, submitted, kept_ready, accept_by, accepted, decline_by, declined, fulfilled, given_back, failed}
+use Rattle.np_machine.specs.Request.{registers, submit_for, submitted, request_of_job, revise_request, revised, kept_ready, accept_by, accepted, decline_by, declined, fulfilled, given_back, failed}
 use Rattle.np_machine.specs.Node.{took_ready, create_by, create_for, created, start_by, started, one_more_start, reported, node_ended, given_up, node_freed}
 use Rattle.np_machine.specs.Semaphore.{acquired, take_for, take_from, taken, finished, withdrawn, released}
 use Rattle.np_machine.specs.Session.{crashed, expired, struck_unless}
@@ -78,6 +78,9 @@ SameActs-effect c s (ev.Register session) = after_given-keeps (SameActs s) (laun
 SameActs-effect c s (ev.Submit session j) =
     after_found-keeps (SameActs s) (slice_get c.jobs j.0) s (submit_for s j) (unchanged s s refl refl refl) (λ job _.
     after_found-keeps (SameActs s) (slice_get s.jobs j.0) s (submitted s j job) (unchanged s s refl refl refl) (λ kept _. unchanged s _ refl refl refl))
+SameActs-effect c s (ev.Revise session j relative) =
+    after_found-keeps (SameActs s) (request_of_job j s) s (revise_request s relative) (unchanged s s refl refl refl) (λ r _.
+    after_found-keeps (SameActs s) (request_in r s.requests) s (revised s relative r) (unchanged s s refl refl refl) (λ request _. unchanged s _ refl refl refl))
 SameActs-effect c s (ev.MinReady session l) = after_given-keeps (SameActs s) (launcher s session) s (kept_ready s l) (unchanged s s refl refl refl) (λ p _. unchanged s _ refl refl refl)
 SameActs-effect c s (ev.LockRequest session r) = unchanged s _ refl refl refl
 SameActs-effect c s (ev.UnlockRequest session r) = unchanged s _ refl refl refl
@@ -87,11 +90,11 @@ SameActs-effect c s (ev.Accept session r) =
 SameActs-effect c s (ev.Decline session r why) =
     after_given-keeps (SameActs s) (launcher s session) s (decline_by s r why) (unchanged s s refl refl refl) (λ p _.
     after_found-keeps (SameActs s) (request_in r s.requests) s (declined s r why p) (unchanged s s refl refl refl) (λ request _. unchanged s _ refl refl refl))
-SameActs-effect c s (ev.TakeReady session r n) = after_found-keeps (SameActs s) (request_in r s.requests) s (took_ready s session r n) (unchanged s s refl refl refl) (λ request _. unchanged s _ refl refl refl)
+SameActs-effect c s (ev.TakeReady session r n) = after_found-keeps (SameActs s) (request_in r s.requests) s (took_ready c s session r n) (unchanged s s refl refl refl) (λ request _. unchanged s _ refl refl refl)
 SameActs-effect c s (ev.Create session r) =
-    after_given-keeps (SameActs s) (launcher s session) s (create_by s session r) (unchanged s s refl refl refl) (λ p _.
-    after_found-keeps (SameActs s) (request_in r s.requests) s (create_for s session r p) (unchanged s s refl refl refl) (λ request _.
-    after_found-keeps (SameActs s) (next_label request) s (created s session r p request) (unchanged s s refl refl refl) (λ l _. unchanged s _ refl refl refl)))
+    after_given-keeps (SameActs s) (launcher s session) s (create_by c s session r) (unchanged s s refl refl refl) (λ p _.
+    after_found-keeps (SameActs s) (request_in r s.requests) s (create_for c s session r p) (unchanged s s refl refl refl) (λ request _.
+    after_found-keeps (SameActs s) (next_label request) s (created c s session r p request) (unchanged s s refl refl refl) (λ l _. unchanged s _ refl refl refl)))
 SameActs-effect c s (ev.Start session n) =
     after_given-keeps (SameActs s) (launcher s session) s (start_by s n) (unchanged s s refl refl refl) (λ p _.
     after_found-keeps (SameActs s) (node_in n s.nodes) s (started s n p) (unchanged s s refl refl refl) (λ k _.

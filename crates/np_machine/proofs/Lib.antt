@@ -2,3 +2,4 @@ pub mod Steps
 pub mod Runs
 pub mod Rises
 pub mod Acts
+pub mod LiveHolders

@@ -9,7 +9,7 @@ use Rattle.np_machine.specs.Laws.{RisesFrom}
 use Rattle.np_machine.specs.Tables.{session_of, request_in, node_in}
 use Rattle.np_machine.specs.Reasons.{next_label}
 use Rattle.np_machine.specs.Tests.{launcher}
-use Rattle.np_machine.specs.Request.{registers, submit_for, submitted, kept_ready, accept_by, accepted, decline_by, declined, fulfilled, given_back, failed}
+use Rattle.np_machine.specs.Request.{registers, submit_for, submitted, request_of_job, revise_request, revised, kept_ready, accept_by, accepted, decline_by, declined, fulfilled, given_back, failed}
 use Rattle.np_machine.specs.Node.{took_ready, create_by, create_for, created, start_by, started, reported, node_ended, given_up, node_freed}
 use Rattle.np_machine.specs.Semaphore.{acquired, take_for, take_from, taken, finished, withdrawn, released}
 use Rattle.np_machine.specs.Session.{crashed, expired}
@@ -34,6 +34,9 @@ RisesFrom-effect c s (ev.Submit session j) =
     after_found-keeps (RisesFrom s) (slice_get c.jobs j.0) s (submit_for s j) (same s) (λ job _.
     after_found-keeps (RisesFrom s) (slice_get s.jobs j.0) s (submitted s j job) (same s) (λ kept _.
     record { sessions = omega arith; requests = omega arith; nodes = omega arith }))
+RisesFrom-effect c s (ev.Revise session j relative) =
+    after_found-keeps (RisesFrom s) (request_of_job j s) s (revise_request s relative) (same s) (λ r _.
+    after_found-keeps (RisesFrom s) (request_in r s.requests) s (revised s relative r) (same s) (λ request _. still s _ refl refl refl))
 RisesFrom-effect c s (ev.MinReady session l) = after_given-keeps (RisesFrom s) (launcher s session) s (kept_ready s l) (same s) (λ p _. record { sessions = omega arith; requests = omega arith; nodes = omega arith })
 RisesFrom-effect c s (ev.LockRequest session r) = still s _ refl refl refl
 RisesFrom-effect c s (ev.UnlockRequest session r) = still s _ refl refl refl
@@ -43,11 +46,11 @@ RisesFrom-effect c s (ev.Accept session r) =
 RisesFrom-effect c s (ev.Decline session r why) =
     after_given-keeps (RisesFrom s) (launcher s session) s (decline_by s r why) (same s) (λ p _.
     after_found-keeps (RisesFrom s) (request_in r s.requests) s (declined s r why p) (same s) (λ request _. still s _ refl refl refl))
-RisesFrom-effect c s (ev.TakeReady session r n) = after_found-keeps (RisesFrom s) (request_in r s.requests) s (took_ready s session r n) (same s) (λ request _. still s _ refl refl refl)
+RisesFrom-effect c s (ev.TakeReady session r n) = after_found-keeps (RisesFrom s) (request_in r s.requests) s (took_ready c s session r n) (same s) (λ request _. still s _ refl refl refl)
 RisesFrom-effect c s (ev.Create session r) =
-    after_given-keeps (RisesFrom s) (launcher s session) s (create_by s session r) (same s) (λ p _.
-    after_found-keeps (RisesFrom s) (request_in r s.requests) s (create_for s session r p) (same s) (λ request _.
-    after_found-keeps (RisesFrom s) (next_label request) s (created s session r p request) (same s) (λ l _.
+    after_given-keeps (RisesFrom s) (launcher s session) s (create_by c s session r) (same s) (λ p _.
+    after_found-keeps (RisesFrom s) (request_in r s.requests) s (create_for c s session r p) (same s) (λ request _.
+    after_found-keeps (RisesFrom s) (next_label request) s (created c s session r p request) (same s) (λ l _.
     record { sessions = omega arith; requests = omega arith; nodes = omega arith })))
 RisesFrom-effect c s (ev.Start session n) =
     after_given-keeps (RisesFrom s) (launcher s session) s (start_by s n) (same s) (λ p _.

@@ -8,7 +8,7 @@ use Rattle.np_record.specs.declared.record.NodeRecord.{NodeRecord}
 use Rattle.np_event.specs.declared.event.Event.{Event}
 use Rattle.np_event.specs.declared.event.Event.TheVariants as ev
 use Rattle.np_event.specs.declared.entry.Entry.{Entry}
-use Rattle.np_machine.specs.Tables.{is_session_of, is_request, request_holder, node_in, node_holder}
+use Rattle.np_machine.specs.Tables.{is_session_of, is_request, request_holder, node_in, node_holder, freed}
 use Rattle.np_machine.specs.Step.{maker_of}
 use Rattle.np_machine.specs.Turns.{Turn, turns, EachTurn}
 
@@ -24,20 +24,23 @@ given_back_by (ev.Decline session r why) = Some r
 given_back_by (ev.Reset session r) = Some r
 given_back_by _ = None
 
--- a decline or a reset of a request, by the holder of its lock, took the allocation to it away and changed nothing else of the node
-pub record TakenBack (t : Turn) (n : NodeId) (node : NodeRecord) : Type 0 where
+-- the holder of the request's lock took the node's allocation to it and its tenant away, and changed nothing else of the node
+pub record TakenBack (t : Turn) (n : NodeId) (node : NodeRecord) (r : RequestId) : Type 0 where
   pub session : SessionId
-  pub r : RequestId
   pub makes : maker_of t.entry.event ≡ Some session
-  pub gives_back : given_back_by t.entry.event ≡ Some r
   pub holds : is_session_of session (request_holder r t.before.requests) ≡ true
   pub allocated : is_request r node.allocated_to ≡ true
-  pub after : node_in n t.later.nodes ≡ Some (record node { allocated_to = None })
+  pub after : node_in n t.later.nodes ≡ Some (freed node)
+
+-- who may change the node: its holder, but in a decline or a reset who holds the request
+abbrev pub IsRightful : Turn → NodeId → NodeRecord → Option RequestId → Type 0
+IsRightful t n node None = ByHolder t n
+IsRightful t n node (Some r) = TakenBack t n node r
 
 -- a node that stood before the turn is as it was, or who may changed it
 abbrev pub IsFenced : Turn → Type 0
 IsFenced t = (n : NodeId) (node : NodeRecord) → node_in n t.before.nodes ≡ Some node
-    → (node_in n t.later.nodes ≡ Some node) ⊎ ByHolder t n ⊎ TakenBack t n node
+    → (node_in n t.later.nodes ≡ Some node) ⊎ IsRightful t n node (given_back_by t.entry.event)
 
 -- each change of a node is its holder's, but for allocations that are given back (own)
 abbrev pub Fenced : Configuration → List Entry → Type 0

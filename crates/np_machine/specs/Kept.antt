@@ -65,9 +65,11 @@ is_request_end r request (ev.Withdraw session j) = is_request_of j request
 is_request_end r request (ev.Fulfil session other) = same_request other r && is_pinned request
 is_request_end r request _ = false
 
+-- that happened, and the request is gone
 pub record EndsRequest (r : RequestId) (t : Turn) : Type 0 where
   pub ends : is_request_end r (request_in r t.before.requests) t.entry.event ≡ true
   pub accepted : IsAccepted t
+  pub gone : request_in r t.later.requests ≡ None
 
 abbrev pub RequestsKept : State → List Turn → Type 0
 RequestsKept final [] = Unit {0}
@@ -86,9 +88,11 @@ abbrev pub is_gone : NodeId → Event → Bool
 is_gone n (ev.Gone session other) = other.0 == n.0
 is_gone n _ = false
 
+-- that happened, and the node's record is gone
 pub record RemovesNode (n : NodeId) (t : Turn) : Type 0 where
   pub removes : is_gone n t.entry.event ≡ true
   pub accepted : IsAccepted t
+  pub gone : node_in n t.later.nodes ≡ None
 
 abbrev pub NodesKept : State → List Turn → Type 0
 NodesKept final [] = Unit {0}

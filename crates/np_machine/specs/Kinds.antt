@@ -58,15 +58,6 @@ is_in_use node.Hold = false
 is_in_use node.Deleting = false
 is_in_use node.Failed = false
 
-abbrev pub is_hold : NodeState → Bool
-is_hold node.Building = false
-is_hold node.Ready = false
-is_hold node.InUse = false
-is_hold node.Used = false
-is_hold node.Hold = true
-is_hold node.Deleting = false
-is_hold node.Failed = false
-
 abbrev pub is_deleting : NodeState → Bool
 is_deleting node.Building = false
 is_deleting node.Ready = false

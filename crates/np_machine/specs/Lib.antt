@@ -3,8 +3,10 @@ pub mod State
 pub mod Kinds
 pub mod Tables
 pub mod Count
+pub mod Tenants
 pub mod Order
 pub mod Reasons
+pub mod First
 pub mod Tests
 pub mod Request
 pub mod Node

@@ -1,5 +1,6 @@
 -- who holds a node or a request, read from the journal alone
-use Rattle.std.specs.Prelude.{◌≡◌, Bool, true, false, ◌==◌, ◌&&◌, if◌then◌else◌, List, [], ◌∷◌, is_some, slice_get}
+use Rattle.std.specs.Prelude.{◌≡◌, Bool, true, false, ◌==◌, ◌&&◌, if◌then◌else◌, List, [], ◌∷◌, ◌++◌, is_some, slice_get}
+use Rattle.std.specs.List.{AllByRecursion}
 use Rattle.std.specs.Option.{option_map_or}
 use Rattle.np_text.specs.declared.id.SessionId.{SessionId}
 use Rattle.np_text.specs.declared.id.NodeId.{NodeId}
@@ -15,7 +16,8 @@ use Rattle.np_event.specs.declared.reply.Reply.{Reply}
 use Rattle.np_event.specs.declared.reply.Reply.TheVariants as reply
 use Rattle.np_machine.specs.Tables.{is_session, same_request, is_marked, request_in}
 use Rattle.np_machine.specs.Step.{next}
-use Rattle.np_machine.specs.History.{after}
+use Rattle.np_machine.specs.History.{after, state_after}
+use Rattle.np_machine.specs.Turns.{is_done}
 use Rattle.np_machine.specs.State.{State, start}
 
 -- ## replies
@@ -74,6 +76,23 @@ holds_from c s session n held (entry ∷ journal) =
 abbrev pub IsLiveHolder : Configuration → List Entry → SessionId → NodeId → Type 0
 IsLiveHolder c journal session n = holds_from c (start c) session n false journal ≡ true
 
+-- ## the same, told of one entry
+
+-- the entry was accepted, and the session holds the node no more after it
+abbrev pub ends_hold : SessionId → NodeId → Entry → Bool
+ends_hold session n entry = is_done entry.reply && is_ending session n entry.event
+
+-- from the state on, an entry by which the session holds the node was accepted, and none after it ends that
+pub record HoldsSince (c : Configuration) (s : State) (journal : List Entry) (session : SessionId) (n : NodeId) : Type 0 where
+  pub before : List Entry
+  pub entry : Entry
+  pub rest : List Entry
+  pub what : Done
+  pub splits : journal ≡ before ++ entry ∷ rest
+  pub accepted : entry.reply ≡ reply.Done what
+  pub holds : is_holding session n (state_after c s (before ++ entry ∷ [])) entry.event what ≡ true
+  pub none_ends : AllByRecursion (λ e. ends_hold session n e ≡ false) rest
+
 -- ## requests
 
 -- the session locked the request
@@ -100,3 +119,18 @@ locks_from session r held (entry ∷ journal) = locks_from session r (locks_afte
 abbrev pub IsLiveRequestHolder : Configuration → List Entry → SessionId → RequestId → Type 0
 IsLiveRequestHolder c journal session r =
     (is_some (request_in r (after c journal).requests) ≡ true) × (locks_from session r false journal ≡ true)
+
+-- the entry was accepted, and the session has the request's lock no more after it
+abbrev pub ends_lock : SessionId → RequestId → Entry → Bool
+ends_lock session r entry = is_done entry.reply && is_unlocking session r entry.event
+
+-- an entry by which the session locked the request was accepted, and none after it ends that
+pub record LockedSince (journal : List Entry) (session : SessionId) (r : RequestId) : Type 0 where
+  pub before : List Entry
+  pub entry : Entry
+  pub rest : List Entry
+  pub what : Done
+  pub splits : journal ≡ before ++ entry ∷ rest
+  pub accepted : entry.reply ≡ reply.Done what
+  pub locks : is_locking session r entry.event what ≡ true
+  pub none_ends : AllByRecursion (λ e. ends_lock session r e ≡ false) rest

@@ -8,6 +8,7 @@ use Rattle.np_text.specs.declared.id.LabelId.{LabelId}
 use Rattle.np_text.specs.declared.id.NodeId.{NodeId}
 use Rattle.np_text.specs.declared.id.RequestId.{RequestId}
 use Rattle.np_text.specs.declared.id.RequesterId.{RequesterId}
+use Rattle.np_text.specs.declared.id.TenantId.{TenantId}
 use Rattle.np_text.specs.declared.word.EndAs.{EndAs}
 use Rattle.np_text.specs.declared.word.EndAs.TheVariants as end
 use Rattle.np_text.specs.declared.word.NodeState.{NodeState}
@@ -28,8 +29,9 @@ use Rattle.np_machine.specs.Entries.{NodeEntry}
 use Rattle.np_machine.specs.declared.state.Swept.{Swept}
 use Rattle.np_machine.specs.Kinds.{is_building, is_ready, is_in_use, is_deleting}
 use Rattle.np_lists.specs.Change.{change_first, insert_before, change_at}
-use Rattle.np_machine.specs.Tables.{is_queued, ahead_of, joined, left, request_in, put_request, node_in, node_queue, node_holder, put_node, put_node_queue, remove_node, is_marked}
+use Rattle.np_machine.specs.Tables.{freed, is_queued, ahead_of, joined, left, request_in, put_request, node_in, node_queue, node_holder, put_node, put_node_queue, remove_node, is_marked}
 use Rattle.np_machine.specs.Count.{retries_of, count_of, is_short}
+use Rattle.np_machine.specs.Tenants.{tenant_of_request}
 use Rattle.np_machine.specs.Reasons.{next_label, ready_age, due_tick, is_old_ready, is_old_hold, is_paused}
 use Rattle.np_machine.specs.Tests.{Answer, Check, maker, launcher, janitor, requester, request_at, node_at, by_registrant, by_request_holder, by_node_holder, of_pool, wrong_node, in_pending_by, incomplete, quota_short, after_found, after_given}
 use Rattle.np_lists.specs.Refusals.{◌>>=◌, ◌>>◌, need, vacant}
@@ -56,18 +58,18 @@ judge_take_ready s session r n = do
 abbrev pub with_node : RequestRecord → NodeId → RequestRecord
 with_node request n = record request { nodes = request.nodes ++ n ∷ [] }
 
--- allocated to the request, and the session joins its queue
-abbrev pub allocated : RequestId → SessionId → NodeEntry → NodeEntry
-allocated r session e = record e { kept = record e.kept { allocated_to = Some r }; queue = joined session e.queue }
+-- allocated to the request, for the tenant of its job, and the session joins its queue
+abbrev pub allocated : RequestId → Option TenantId → SessionId → NodeEntry → NodeEntry
+allocated r tenant session e = record e { kept = record e.kept { allocated_to = Some r; tenant = tenant }; queue = joined session e.queue }
 
-abbrev pub took_ready : State → SessionId → RequestId → NodeId → RequestRecord → State
-took_ready s session r n request = record s {
+abbrev pub took_ready : Configuration → State → SessionId → RequestId → NodeId → RequestRecord → State
+took_ready c s session r n request = record s {
   requests = put_request r (with_node request n) s.requests;
-  nodes = change_first (λ e. e.id.0 == n.0) (allocated r session) s.nodes;
+  nodes = change_first (λ e. e.id.0 == n.0) (allocated r (tenant_of_request c request) session) s.nodes;
 }
 
-abbrev pub effect_take_ready : State → SessionId → RequestId → NodeId → State
-effect_take_ready s session r n = after_found (request_in r s.requests) s (took_ready s session r n)
+abbrev pub effect_take_ready : Configuration → State → SessionId → RequestId → NodeId → State
+effect_take_ready c s session r n = after_found (request_in r s.requests) s (took_ready c s session r n)
 
 -- ## create: the launcher makes a node for the request's next label (Nodepool)
 abbrev pub judge_create : Configuration → State → SessionId → RequestId → Answer
@@ -81,9 +83,9 @@ judge_create c s session r = do
   need (not (is_short c s p l)) (quota_short (count_of c s p))
   Ok (done.Node (record { 0 = s.next_node }))
 
--- a node that nobody has launched yet
-abbrev pub made : State → SessionId → RequestId → PoolId → LabelId → NodeEntry
-made s session r p l = record {
+-- a node that nobody has launched yet, for the tenant of the request's job
+abbrev pub made : Configuration → State → SessionId → RequestId → PoolId → RequestRecord → LabelId → NodeEntry
+made c s session r p request l = record {
   id = record { 0 = s.next_node };
   kept = record {
     allocated_to = Some r;
@@ -95,25 +97,26 @@ made s session r p l = record {
     since = s.tick;
     start = 0;
     state = node_state.Building;
+    tenant = tenant_of_request c request;
   };
   queue = session ∷ [];
 }
 
-abbrev pub created : State → SessionId → RequestId → PoolId → RequestRecord → LabelId → State
-created s session r p request l = record s {
+abbrev pub created : Configuration → State → SessionId → RequestId → PoolId → RequestRecord → LabelId → State
+created c s session r p request l = record s {
   requests = put_request r (with_node request (record { 0 = s.next_node })) s.requests;
-  nodes = s.nodes ++ made s session r p l ∷ [];
+  nodes = s.nodes ++ made c s session r p request l ∷ [];
   next_node = s.next_node + 1;
 }
 
-abbrev pub create_for : State → SessionId → RequestId → PoolId → RequestRecord → State
-create_for s session r p request = after_found (next_label request) s (created s session r p request)
+abbrev pub create_for : Configuration → State → SessionId → RequestId → PoolId → RequestRecord → State
+create_for c s session r p request = after_found (next_label request) s (created c s session r p request)
 
-abbrev pub create_by : State → SessionId → RequestId → PoolId → State
-create_by s session r p = after_found (request_in r s.requests) s (create_for s session r p)
+abbrev pub create_by : Configuration → State → SessionId → RequestId → PoolId → State
+create_by c s session r p = after_found (request_in r s.requests) s (create_for c s session r p)
 
-abbrev pub effect_create : State → SessionId → RequestId → State
-effect_create s session r = after_given (launcher s session) s (create_by s session r)
+abbrev pub effect_create : Configuration → State → SessionId → RequestId → State
+effect_create c s session r = after_given (launcher s session) s (create_by c s session r)
 
 -- ## start: the launcher begins an attempt to launch the node (Nodepool)
 
@@ -308,7 +311,7 @@ judge_free_node s session n = do
   Ok done.Plain
 
 abbrev pub node_freed : State → NodeId → NodeRecord → State
-node_freed s n k = record s { nodes = put_node n (record k { allocated_to = None }) s.nodes }
+node_freed s n k = record s { nodes = put_node n (freed k) s.nodes }
 
 abbrev pub effect_free_node : State → NodeId → State
 effect_free_node s n = after_found (node_in n s.nodes) s (node_freed s n)

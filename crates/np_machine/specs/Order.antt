@@ -1,15 +1,12 @@
--- which request comes first
-use Rattle.std.specs.Prelude.{List, Bool, false, ◌==◌, ◌&&◌, not, if◌then◌else◌, Option, Some, None, is_none, filter, fold, nat_lt}
-use Rattle.std.specs.Option.{option_map}
+-- the order of requests, and whose they are
+use Rattle.std.specs.Prelude.{List, Bool, false, ◌==◌, ◌&&◌, not, if◌then◌else◌, Option, Some, None, nat_lt}
 use Rattle.std.specs.List.{list_any}
 use Rattle.np_text.specs.declared.id.PoolId.{PoolId}
 use Rattle.np_text.specs.declared.id.RequestId.{RequestId}
 use Rattle.np_record.specs.declared.record.Declined.{Declined}
 use Rattle.np_record.specs.declared.record.RequestRecord.{RequestRecord}
 use Rattle.np_machine.specs.Entries.{RequestEntry}
-use Rattle.np_machine.specs.Kinds.{is_requested, is_pending}
-use Rattle.np_machine.specs.Tables.{holder}
-use Rattle.np_machine.specs.State.{State}
+use Rattle.np_machine.specs.Kinds.{is_pending}
 
 -- the id stands before the other in the byte order of their texts
 abbrev pub is_id_before : RequestId → RequestId → Bool
@@ -43,21 +40,3 @@ is_declined_by p declined = list_any (λ d. d.pool.0 == p.0) declined
 -- pending, and this pool serves it
 abbrev pub is_pending_by : PoolId → RequestRecord → Bool
 is_pending_by p request = is_pending request.state && is_pool p request.pool
-
--- what the pool's launcher may take up next: requested, unlocked, not declined by the pool and not pinned to another
-abbrev pub is_candidate : PoolId → RequestEntry → Bool
-is_candidate p e =
-    is_requested e.kept.state && is_none (holder e.queue) && not (is_declined_by p e.kept.declined) && not (is_pinned_away p e.kept)
-
--- the earlier of both
-abbrev pub earlier : Option RequestEntry → RequestEntry → Option RequestEntry
-earlier None e = Some e
-earlier (Some best) e = if comes_before e best then Some e else Some best
-
--- the least of them
-abbrev pub least : List RequestEntry → Option RequestEntry
-least entries = fold earlier None entries
-
--- the first candidate of the pool
-abbrev pub first_of : PoolId → State → Option RequestId
-first_of p s = option_map (λ e. e.id) (least (filter (is_candidate p) s.requests))

@@ -7,7 +7,7 @@ use Rattle.np_text.specs.declared.id.PoolId.{PoolId}
 use Rattle.np_text.specs.declared.id.LabelId.{LabelId}
 use Rattle.np_text.specs.declared.id.NodeId.{NodeId}
 use Rattle.np_text.specs.declared.word.Reason.{Reason}
-use Rattle.np_text.specs.declared.word.Reason.TheVariants.{NoLabel, NeverFits, Spent}
+use Rattle.np_text.specs.declared.word.Reason.TheVariants.{NoLabel, NeverFits, TenantNeverFits, Spent}
 use Rattle.np_site.specs.Configuration.{Configuration}
 use Rattle.np_record.specs.declared.record.RequestRecord.{RequestRecord}
 use Rattle.np_record.specs.declared.record.NodeRecord.{NodeRecord}
@@ -15,6 +15,7 @@ use Rattle.np_machine.specs.Entries.{RequestEntry, NodeEntry}
 use Rattle.np_machine.specs.Kinds.{is_ready, is_failed_node}
 use Rattle.np_machine.specs.Tables.{holder, node_in}
 use Rattle.np_machine.specs.Count.{is_offered, amount_of_all, limit_of, is_kind, is_short}
+use Rattle.np_machine.specs.Tenants.{tenant_never_fits}
 use Rattle.np_machine.specs.Order.{is_pending_by}
 use Rattle.np_machine.specs.State.{State}
 
@@ -40,6 +41,7 @@ is_spent n s = option_map_or (λ k. is_failed_node k.state) (node_in n s.nodes) 
 abbrev pub is_true : Configuration → State → PoolId → RequestRecord → Reason → Bool
 is_true c s p request (NoLabel l) = list_any (λ other. other.0 == l.0) request.labels && not (is_offered c p l)
 is_true c s p request NeverFits = never_fits c p request
+is_true c s p request TenantNeverFits = tenant_never_fits c p request
 is_true c s p request (Spent n) = list_any (λ other. other.0 == n.0) request.nodes && is_spent n s
 
 -- ## ages (Nodepool: max-ready-age, max-hold-age; counted in ticks)

@@ -1,5 +1,5 @@
 -- the rows on requests
-use Rattle.std.specs.Prelude.{ℕ, ◌+◌, List, [], ◌∷◌, ◌++◌, Bool, false, ◌==◌, ◌&&◌, ◌||◌, not, if◌then◌else◌, Option, Some, None, is_some, is_none, Ok, Err, length, slice_get, count_by, nat_lt}
+use Rattle.std.specs.Prelude.{ℕ, ◌+◌, List, [], ◌∷◌, ◌++◌, Bool, false, ◌==◌, ◌&&◌, ◌||◌, not, if◌then◌else◌, Option, Some, None, is_some, is_none, Ok, Err, length, slice_get, count_by, nat_lt, option_and_then}
 use Rattle.std.specs.Option.{option_map_or}
 use Rattle.std.specs.List.{list_any, list_all}
 use Rattle.np_text.specs.declared.id.SessionId.{SessionId}
@@ -24,13 +24,15 @@ use Rattle.np_event.specs.declared.reply.Done.TheVariants as done
 use Rattle.np_event.specs.declared.reply.Refusal.TheVariants as no
 use Rattle.np_machine.specs.Entries.{RequestEntry, NodeEntry}
 use Rattle.np_machine.specs.declared.state.Registration.{Registration}
-use Rattle.np_machine.specs.Kinds.{is_requested, is_pending, is_failed, is_ready, is_new}
+use Rattle.np_machine.specs.Kinds.{is_requested, is_pending, is_failed, is_ready, is_new, is_asked}
 use Rattle.np_lists.specs.Change.{insert_before}
 use Rattle.np_machine.specs.Tables.{registered, same_request, is_request, is_session_of, joined, left, holder, request_in, request_queue, put_request, put_request_queue, remove_request, node_entry, all_freed, put_job}
 use Rattle.np_machine.specs.Count.{is_offered, count_of, is_short}
-use Rattle.np_machine.specs.Order.{is_id_before, is_pool, is_pinned_away, is_declined_by, is_pending_by, first_of}
+use Rattle.np_machine.specs.Order.{is_id_before, is_pool, is_pinned_away, is_declined_by, is_pending_by}
+use Rattle.np_machine.specs.Tenants.{tenant_never_fits}
 use Rattle.np_machine.specs.Reasons.{first_unoffered, never_fits, is_true}
-use Rattle.np_machine.specs.Tests.{Answer, Check, maker, launcher, janitor, request_at, own_job, by_registrant, by_request_holder, unlocked, wrong_request, wrong_job, in_requested, in_pending, in_pending_by, not_declined, none_missing, quota_short, missing_handles, after_found, after_given}
+use Rattle.np_machine.specs.First.{first_of}
+use Rattle.np_machine.specs.Tests.{Answer, Check, maker, launcher, janitor, request_at, own_job, by_registrant, by_request_holder, unlocked, wrong_request, wrong_job, in_requested, in_pending, in_pending_by, not_declined, not_blocked, none_missing, quota_short, missing_handles, after_found, after_given}
 use Rattle.np_lists.specs.Refusals.{◌>>=◌, ◌>>◌, need, found, vacant}
 use Rattle.np_machine.specs.State.{State}
 
@@ -46,7 +48,7 @@ judge_register s session = do
   Ok done.Plain
 
 abbrev pub registers : State → SessionId → PoolId → State
-registers s session p = record s { registrations = s.registrations ++ record { pool = p; session = session } ∷ [] }
+registers s session p = record s { registrations = insert_before (λ g. nat_lt p.0 g.pool.0) (record { pool = p; session = session }) s.registrations }
 
 abbrev pub effect_register : State → SessionId → State
 effect_register s session = after_given (launcher s session) s (registers s session)
@@ -91,6 +93,29 @@ submit_for s j job = after_found (slice_get s.jobs j.0) s (submitted s j job)
 
 abbrev pub effect_submit : Configuration → State → JobId → State
 effect_submit c s j = after_found (slice_get c.jobs j.0) s (submit_for s j)
+
+-- ## revise: the requester changes the relative priority of a request that nobody has accepted (Zuul: node requests are revised)
+abbrev pub judge_revise : Configuration → State → SessionId → JobId → Answer
+judge_revise c s session j = do
+  (_job, kept) ← own_job c s session j
+  need (is_asked kept.phase) (wrong_job kept)
+  r ← found kept.request no.NoRequest
+  request ← request_at s r
+  in_requested request
+  Ok done.Plain
+
+abbrev pub revised : State → ℕ → RequestId → RequestRecord → State
+revised s relative r request = record s { requests = put_request r (record request { relative_priority = relative }) s.requests }
+
+abbrev pub revise_request : State → ℕ → RequestId → State
+revise_request s relative r = after_found (request_in r s.requests) s (revised s relative r)
+
+-- the request of the job
+abbrev pub request_of_job : JobId → State → Option RequestId
+request_of_job j s = option_and_then (λ kept. kept.request) (slice_get s.jobs j.0)
+
+abbrev pub effect_revise : State → JobId → ℕ → State
+effect_revise s j relative = after_found (request_of_job j s) s (revise_request s relative)
 
 -- ## min-ready: the launcher asks for a node of a label that is to be kept ready (Nodepool: min-ready)
 
@@ -166,22 +191,23 @@ lock_pending s r = do
   unlocked s r
   Ok done.Held
 
-abbrev pub lock_request_as : State → SessionId → RequestId → Role → Answer
-lock_request_as s session r (Launcher p) = do
+abbrev pub lock_request_as : Configuration → State → SessionId → RequestId → Role → Answer
+lock_request_as c s session r (Launcher p) = do
   request ← request_at s r
   by_registrant s p session
   in_requested request
   not_declined p request
   need (not (is_pinned_away p request)) no.NotOwner
   unlocked s r
-  vacant (other_than r (first_of p s)) no.NotFirst
+  not_blocked c s p request
+  vacant (other_than r (first_of c s p)) no.NotFirst
   Ok done.Held
-lock_request_as s session r (Janitor p) = lock_pending s r
-lock_request_as s session r (Requester q) = Err no.WrongRole
-lock_request_as s session r Reaper = Err no.WrongRole
+lock_request_as c s session r (Janitor p) = lock_pending s r
+lock_request_as c s session r (Requester q) = Err no.WrongRole
+lock_request_as c s session r Reaper = Err no.WrongRole
 
-abbrev pub judge_lock_request : State → SessionId → RequestId → Answer
-judge_lock_request s session r = maker s session >>= lock_request_as s session r
+abbrev pub judge_lock_request : Configuration → State → SessionId → RequestId → Answer
+judge_lock_request c s session r = maker s session >>= lock_request_as c s session r
 
 abbrev pub effect_lock_request : State → SessionId → RequestId → State
 effect_lock_request s session r =
@@ -219,6 +245,8 @@ judge_accept c s session r = do
   not_declined p request
   vacant (first_unoffered c p request) no.NoLabel
   need (not (never_fits c p request)) no.NeverFits
+  need (not (tenant_never_fits c p request)) no.TenantNeverFits
+  not_blocked c s p request
   Ok done.Plain
 
 abbrev pub accepted : State → RequestId → PoolId → RequestRecord → State
@@ -237,6 +265,7 @@ effect_accept s session r = after_given (launcher s session) s (accept_by s r)
 abbrev pub in_state_for : PoolId → RequestRecord → Reason → Check
 in_state_for p request (reason.NoLabel l) = in_requested request
 in_state_for p request reason.NeverFits = in_requested request
+in_state_for p request reason.TenantNeverFits = in_requested request
 in_state_for p request (reason.Spent n) = in_pending_by p request
 
 abbrev pub judge_decline : Configuration → State → SessionId → RequestId → Reason → Answer

@@ -9,7 +9,9 @@ use Rattle.np_text.specs.declared.id.SemId.{SemId}
 use Rattle.np_text.specs.declared.id.NodeId.{NodeId}
 use Rattle.np_text.specs.declared.id.JobId.{JobId}
 use Rattle.np_text.specs.declared.id.RequestId.{RequestId}
-use Rattle.np_site.specs.Configuration.{Configuration}
+use Rattle.np_text.specs.declared.id.TenantId.{TenantId}
+use Rattle.np_site.specs.Configuration.{Configuration, tenant_of}
+use Rattle.np_site.specs.declared.row.Tenant.{Tenant}
 use Rattle.np_site.specs.declared.row.Pool.{Pool}
 use Rattle.np_site.specs.declared.row.Sem.{Sem}
 use Rattle.np_record.specs.declared.record.RequestRecord.{RequestRecord}
@@ -18,6 +20,7 @@ use Rattle.np_event.specs.declared.entry.Entry.{Entry}
 use Rattle.np_machine.specs.Kinds.{is_fulfilled, is_ready}
 use Rattle.np_machine.specs.Tables.{request_in, is_request, node_in, handles_of, is_among}
 use Rattle.np_machine.specs.Count.{count_of}
+use Rattle.np_machine.specs.Tenants.{count_of_tenant}
 use Rattle.np_machine.specs.LiveHolder.{IsLiveHolder, IsLiveRequestHolder}
 use Rattle.np_machine.specs.History.{after}
 use Rattle.np_machine.specs.State.{State}
@@ -30,6 +33,10 @@ pub record OneHolder (c : Configuration) (journal : List Entry) : Type 0 where
 -- what a pool uses is within each of its limits (Nodepool: quota)
 abbrev pub WithinQuota : Configuration → State → Type 0
 WithinQuota c s = (p : PoolId) (pool : Pool) → slice_get c.pools p.0 ≡ Some pool → IsTrue (fits (count_of c s p) pool.limit)
+
+-- what a tenant uses is within each of its limits (own)
+abbrev pub WithinTenantQuota : Configuration → State → Type 0
+WithinTenantQuota c s = (t : TenantId) (tenant : Tenant) → tenant_of c t ≡ Some tenant → IsTrue (fits (count_of_tenant c s t) tenant.limit)
 
 -- no job twice
 abbrev pub NoRepeat : List JobId → Type 0
@@ -74,3 +81,4 @@ pub record Safe (c : Configuration) (journal : List Entry) : Type 0 where
   pub within_quota : WithinQuota c (after c journal)
   pub within_max : WithinMax c (after c journal)
   pub fulfilled_own : FulfilledOwn (after c journal)
+  pub within_tenant_quota : WithinTenantQuota c (after c journal)

@@ -1,5 +1,5 @@
 -- the rows on semaphores and jobs
-use Rattle.std.specs.Prelude.{ℕ, List, [], ◌∷◌, ◌++◌, Bool, false, ◌==◌, ◌&&◌, ◌||◌, not, if◌then◌else◌, Option, Some, None, Ok, Err, length, map, filter, find, fold, slice_get, count_by, nat_le, option_and_then}
+use Rattle.std.specs.Prelude.{ℕ, List, [], ◌∷◌, ◌++◌, Bool, false, ◌==◌, ◌&&◌, ◌||◌, not, if◌then◌else◌, Option, Some, None, Ok, Err, length, map, filter, find, fold, slice_get, count_by, nat_le, nat_lt, option_and_then}
 use Rattle.std.specs.Option.{option_map_or}
 use Rattle.std.specs.List.{list_any, list_all}
 use Rattle.np_text.specs.declared.id.SessionId.{SessionId}
@@ -23,7 +23,7 @@ use Rattle.np_event.specs.declared.reply.Done.TheVariants as done
 use Rattle.np_event.specs.declared.reply.Refusal.TheVariants as no
 use Rattle.np_machine.specs.Entries.{NodeEntry}
 use Rattle.np_machine.specs.Kinds.{is_fulfilled, is_failed, is_in_use, is_new, is_asked, is_using, is_over}
-use Rattle.np_lists.specs.Change.{change_first, change_at}
+use Rattle.np_lists.specs.Change.{change_first, change_at, insert_before}
 use Rattle.np_machine.specs.Tables.{role_of, is_session_of, holder, request_in, remove_request, node_entry, node_holder, put_job, handles_of, is_among, has_handle}
 use Rattle.np_machine.specs.Tests.{Answer, Check, maker, request_at, job_at, record_of, of_requester, own_job, wrong_request, wrong_job, none_missing, missing_handles, after_found}
 use Rattle.np_lists.specs.Refusals.{◌>>=◌, ◌>>◌, need, found, vacant}
@@ -49,9 +49,9 @@ judge_acquire c s session j = do
   vacant (first_full c s j job) no.SemaphoreFull
   Ok done.Plain
 
--- the job among those with a handle, once
+-- the job at its place among those with a handle, once
 abbrev pub with_handle : JobId → List JobId → List JobId
-with_handle j jobs = if is_among j jobs then jobs else jobs ++ j ∷ []
+with_handle j jobs = if is_among j jobs then jobs else insert_before (λ other. nat_lt j.0 other.0) j jobs
 
 abbrev pub all_with_handle : JobId → List SemId → List (List JobId) → List (List JobId)
 all_with_handle j semaphores handles = fold (λ hs x. change_at x.0 (with_handle j) hs) handles semaphores

@@ -15,13 +15,13 @@ pub record State : Type 0 where
   pub tick : ℕ
   -- session number k stands at place k - 1, and is never removed
   pub sessions : List SessionFacts
-  -- who is registered for which pool, in order of registering
+  -- who is registered for which pool, by pool
   pub registrations : List Registration
   -- the requests with their queues, by priority and then sequence
   pub requests : List RequestEntry
   -- the nodes with their queues, by number
   pub nodes : List NodeEntry
-  -- for each semaphore the jobs with a handle, in order of acquiring
+  -- for each semaphore the jobs with a handle, by job
   pub handles : List (List JobId)
   pub jobs : List JobRecord
   -- what each role has done: launchers and janitors by pool, requesters by place

@@ -12,7 +12,7 @@ use Rattle.np_event.specs.declared.reply.Reply.TheVariants as reply
 use Rattle.np_event.specs.declared.reply.Done.TheVariants as done
 use Rattle.np_machine.specs.Tables.{role_of, change_launcher, change_janitor, change_requester}
 use Rattle.np_machine.specs.Tests.{Answer}
-use Rattle.np_machine.specs.Request.{judge_register, effect_register, judge_submit, effect_submit, judge_min_ready, effect_min_ready, judge_lock_request, effect_lock_request, judge_unlock_request, effect_unlock_request, judge_accept, effect_accept, judge_decline, effect_decline, judge_fulfil, effect_fulfil, judge_reset, effect_reset, judge_fail_declined, effect_fail_declined}
+use Rattle.np_machine.specs.Request.{judge_register, effect_register, judge_submit, effect_submit, judge_revise, effect_revise, judge_min_ready, effect_min_ready, judge_lock_request, effect_lock_request, judge_unlock_request, effect_unlock_request, judge_accept, effect_accept, judge_decline, effect_decline, judge_fulfil, effect_fulfil, judge_reset, effect_reset, judge_fail_declined, effect_fail_declined}
 use Rattle.np_machine.specs.Node.{judge_take_ready, effect_take_ready, judge_create, effect_create, judge_start, effect_start, judge_done, effect_done, judge_lock_node, effect_lock_node, judge_unlock_node, effect_unlock_node, judge_end_node, effect_end_node, judge_mark_deleting, effect_mark_deleting, judge_gone, effect_gone, judge_free_node, effect_free_node, judge_sweep, effect_sweep}
 use Rattle.np_machine.specs.Semaphore.{judge_acquire, effect_acquire, judge_take, effect_take, judge_finish, effect_finish, judge_withdraw, effect_withdraw, judge_release, effect_release}
 use Rattle.np_machine.specs.Session.{effect_tick, judge_open, effect_open, judge_crash, effect_crash, judge_expire, effect_expire}
@@ -26,8 +26,9 @@ judge c s (ev.Crash session) = judge_crash s session
 judge c s (ev.Expire session) = judge_expire s session
 judge c s (ev.Register session) = judge_register s session
 judge c s (ev.Submit session j) = judge_submit c s session j
+judge c s (ev.Revise session j relative) = judge_revise c s session j
 judge c s (ev.MinReady session l) = judge_min_ready c s session l
-judge c s (ev.LockRequest session r) = judge_lock_request s session r
+judge c s (ev.LockRequest session r) = judge_lock_request c s session r
 judge c s (ev.UnlockRequest session r) = judge_unlock_request s session r
 judge c s (ev.Accept session r) = judge_accept c s session r
 judge c s (ev.Decline session r why) = judge_decline c s session r why
@@ -59,13 +60,14 @@ effect c s (ev.Crash session) = effect_crash s session
 effect c s (ev.Expire session) = effect_expire s session
 effect c s (ev.Register session) = effect_register s session
 effect c s (ev.Submit session j) = effect_submit c s j
+effect c s (ev.Revise session j relative) = effect_revise s j relative
 effect c s (ev.MinReady session l) = effect_min_ready s session l
 effect c s (ev.LockRequest session r) = effect_lock_request s session r
 effect c s (ev.UnlockRequest session r) = effect_unlock_request s session r
 effect c s (ev.Accept session r) = effect_accept s session r
 effect c s (ev.Decline session r why) = effect_decline s session r why
-effect c s (ev.TakeReady session r n) = effect_take_ready s session r n
-effect c s (ev.Create session r) = effect_create s session r
+effect c s (ev.TakeReady session r n) = effect_take_ready c s session r n
+effect c s (ev.Create session r) = effect_create c s session r
 effect c s (ev.Start session n) = effect_start s session n
 effect c s (ev.Done session n attempt o) = effect_done c s n o
 effect c s (ev.Fulfil session r) = effect_fulfil s r
@@ -92,6 +94,7 @@ maker_of (ev.Crash session) = None
 maker_of (ev.Expire session) = None
 maker_of (ev.Register session) = Some session
 maker_of (ev.Submit session j) = Some session
+maker_of (ev.Revise session j relative) = Some session
 maker_of (ev.MinReady session l) = Some session
 maker_of (ev.LockRequest session r) = Some session
 maker_of (ev.UnlockRequest session r) = Some session

@@ -119,18 +119,17 @@ put_node_queue n queue nodes = change_first (λ e. e.id.0 == n.0) (λ e. record 
 abbrev pub remove_node : NodeId → List NodeEntry → List NodeEntry
 remove_node n nodes = remove_first (λ e. e.id.0 == n.0) nodes
 
--- an allocation that is not to the request
-abbrev pub kept_from : RequestId → Option RequestId → Option RequestId
-kept_from r None = None
-kept_from r (Some other) = if same_request other r then None else Some other
+-- freed: the allocation and its tenant are taken away, nothing else
+abbrev pub freed : NodeRecord → NodeRecord
+freed k = record k { allocated_to = None; tenant = None }
 
--- freed: the allocation is taken away, nothing else
-abbrev pub freed : RequestId → NodeEntry → NodeEntry
-freed r e = record e { kept = record e.kept { allocated_to = kept_from r e.kept.allocated_to } }
+-- freed, where it is allocated to the request
+abbrev pub freed_from : RequestId → NodeEntry → NodeEntry
+freed_from r e = if is_request r e.kept.allocated_to then record e { kept = freed e.kept } else e
 
 -- every node that is allocated to the request, freed
 abbrev pub all_freed : RequestId → List NodeEntry → List NodeEntry
-all_freed r nodes = map (freed r) nodes
+all_freed r nodes = map (freed_from r) nodes
 
 -- ## jobs and semaphores
 

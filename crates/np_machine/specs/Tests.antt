@@ -23,7 +23,9 @@ use Rattle.np_event.specs.declared.reply.Found.TheVariants as found_state
 use Rattle.np_machine.specs.Kinds.{is_requested, is_pending, is_building}
 use Rattle.np_machine.specs.Tables.{session_of, is_session_of, registered, request_in, request_holder, node_in, node_holder, has_handle}
 use Rattle.np_machine.specs.Order.{is_pending_by, is_declined_by}
+use Rattle.np_machine.specs.Tenants.{count_of_tenant}
 use Rattle.np_machine.specs.Reasons.{next_label}
+use Rattle.np_machine.specs.First.{blocking}
 use Rattle.np_machine.specs.State.{State}
 use Rattle.np_lists.specs.Refusals.{◌>>=◌, ◌>>◌, need, found, vacant}
 
@@ -165,6 +167,13 @@ none_missing missing = need (missing == 0) (no.NotAll missing)
 
 abbrev pub quota_short : Amount → Refusal
 quota_short used = no.QuotaShort used.instances used.cores used.ram
+
+abbrev pub tenant_short : Amount → Refusal
+tenant_short used = no.TenantShort used.instances used.cores used.ram
+
+-- the tenant of the request's job has room for it, at the pool
+abbrev pub not_blocked : Configuration → State → PoolId → RequestRecord → Check
+not_blocked c s p request = vacant (blocking c s p request) (λ t. tenant_short (count_of_tenant c s t))
 
 -- how many of the job's semaphores it has no handle of
 abbrev pub missing_handles : State → JobId → Job → ℕ

@@ -1,16 +1,19 @@
 //! That the definitions mean what they say: laws over every state and every journal.
 
-ghost use Rattle.std.specs.Prelude.{◌≡◌, ◌+◌, List, ◌++◌, Some, None, is_ok, true, false};
+ghost use Rattle.std.specs.Prelude.{◌≡◌, ◌+◌, List, ◌++◌, Some, None, is_ok, is_some, true, false};
 ghost use Rattle.std.specs.Option.{option_map};
 ghost use Rattle.np_text.specs.declared.id.SessionId.{SessionId};
+ghost use Rattle.np_text.specs.declared.id.NodeId.{NodeId};
+ghost use Rattle.np_text.specs.declared.id.RequestId.{RequestId};
 ghost use Rattle.np_text.specs.declared.id.Role.{Role};
 ghost use Rattle.np_site.specs.Configuration.{Configuration};
 ghost use Rattle.np_event.specs.declared.event.Event.{Event};
 ghost use Rattle.np_event.specs.declared.reply.Refusal.{Refusal};
 ghost use Rattle.np_event.specs.declared.reply.Reply.TheVariants as reply;
 ghost use Rattle.np_event.specs.declared.entry.Entry.{Entry};
-ghost use Rattle.np_machine.specs.State.{State};
-ghost use Rattle.np_machine.specs.Tables.{role_of};
+ghost use Rattle.np_machine.specs.State.{State, start};
+ghost use Rattle.np_machine.specs.Tables.{role_of, request_in};
+ghost use Rattle.np_machine.specs.LiveHolder.{IsLiveHolder, IsLiveRequestHolder, HoldsSince, LockedSince};
 ghost use Rattle.np_machine.specs.Step.{react, judge, next, maker_of};
 ghost use Rattle.np_machine.specs.History.{Runs, after};
 ghost use Rattle.np_machine.specs.Laws.{RisesFrom, acts_of, same_role};
@@ -49,4 +52,22 @@ pub fn an_accepted_event_is_one_act_of_its_role()
         acts_of other (next c s e) ≡ acts_of other s }
     ensures no_maker { (c : Configuration) (s : State) (e : Event) (role : Role) →
         maker_of e ≡ None → acts_of role (next c s e) ≡ acts_of role s }
+{}
+
+/// A live holder of a node is who has held it since some entry that was accepted: by that entry it
+/// holds the node, and no accepted entry after it ends that.
+pub fn a_live_holder_has_held_since_an_entry()
+    ensures since { (c : Configuration) (journal : List Entry) (session : SessionId) (n : NodeId) →
+        IsLiveHolder c journal session n → HoldsSince c (start c) journal session n }
+    ensures holder { (c : Configuration) (journal : List Entry) (session : SessionId) (n : NodeId) →
+        HoldsSince c (start c) journal session n → IsLiveHolder c journal session n }
+{}
+
+/// A live holder of a request is who has had its lock since some entry, while the request is there.
+pub fn a_live_holder_of_a_request_has_locked_it()
+    ensures since { (c : Configuration) (journal : List Entry) (session : SessionId) (r : RequestId) →
+        IsLiveRequestHolder c journal session r → LockedSince journal session r }
+    ensures holder { (c : Configuration) (journal : List Entry) (session : SessionId) (r : RequestId) →
+        LockedSince journal session r → is_some (request_in r (after c journal).requests) ≡ true →
+        IsLiveRequestHolder c journal session r }
 {}

@@ -12,7 +12,8 @@ mod queue;
 mod state;
 
 pub use law::{
-    a_journal_leads_to_one_state, a_prefix_runs_too, a_refusal_changes_nothing,
+    a_journal_leads_to_one_state, a_live_holder_has_held_since_an_entry,
+    a_live_holder_of_a_request_has_locked_it, a_prefix_runs_too, a_refusal_changes_nothing,
     an_accepted_event_is_one_act_of_its_role, the_next_numbers_never_fall,
 };
 pub use queue::{Queue, count_ahead, holder_of, is_in};

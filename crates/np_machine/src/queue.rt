@@ -1,9 +1,9 @@
-//! Lists that grow and shrink, which contracts see as lists, and the queues of locks.
+//! The queues of locks, which contracts see as lists.
 
-ghost use Rattle.std.specs.Prelude.{◌≡◌, ◌≤◌, ◌-◌, ◌∷◌, ◌++◌, [], length, take, filter, not, ◌==◌, OnOk, OnErr, slice_get, IsTrue};
+ghost use Rattle.std.specs.Prelude.{◌≡◌, ◌≤◌, ◌∷◌, ◌++◌, [], length, OnOk, OnErr};
 ghost use Rattle.np_machine.specs.Tables.{holder, is_queued, ahead_of, joined, left};
 
-use np_text::{JobId, SessionId};
+use np_text::SessionId;
 use std::alloc::{AllocError, Global};
 use std::marker::Model;
 
@@ -47,15 +47,6 @@ impl<T> Queue<T> {
     {
         self.items.push(member)?;
         Ok(())
-    }
-
-    /// The member that joined last leaves, where there is one.
-    pub fn drop_last(&mut self)
-    where
-        T: Drop,
-        ensures { self.new ≡ take (length self.old - 1) self.old }
-    {
-        let _last = self.items.pop();
     }
 }
 
@@ -113,19 +104,4 @@ fn drop_session(sessions: &mut Vec<SessionId>, session: SessionId)
     ensures { sessions.new.items ≡ left session sessions.old.items }
 {
     sessions.retain(|other| other.0 != session.0);
-}
-
-impl Queue<JobId> {
-    /// The job leaves.
-    pub fn drop_job(&mut self, job: JobId)
-        ensures { self.new ≡ filter (λ other. not (other.0 == job.0)) self.old }
-    {
-        drop_jobs(&mut self.items, job);
-    }
-}
-
-fn drop_jobs(jobs: &mut Vec<JobId>, job: JobId)
-    ensures { jobs.new.items ≡ filter (λ other. not (other.0 == job.0)) jobs.old.items }
-{
-    jobs.retain(|other| other.0 != job.0);
 }
