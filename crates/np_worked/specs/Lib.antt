@@ -27,4 +27,17 @@ pub mod WithdrawnEarly
 pub mod ReadyAge
 pub mod PausedPool
 pub mod EndedByTheWrongParty
+pub mod Revise
+pub mod TenantLimit
+pub mod HalfBuiltRequests
+pub mod DeletedDuringALaunch
+pub mod FinishedByTheJanitor
+pub mod PausedByAKeptLabel
+pub mod NodesThatAreNotFree
+pub mod KeptReadyByAllPools
+pub mod AgedNode
+pub mod TakenWithItsHandles
+pub mod TenantOfANode
+pub mod TenantCountsByPool
+pub mod TwoHandles
 pub mod MadeUp

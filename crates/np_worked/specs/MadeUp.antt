@@ -42,6 +42,7 @@ held_node state = record {
     since = 0;
     start = 1;
     state = state;
+    tenant = None;
   };
   queue = session 1 ∷ [];
 }
@@ -55,5 +56,21 @@ abbrev pub deleting_tick : Turn
 deleting_tick = record {
   before = with_held_node node_state.Ready;
   entry = line ev.Tick done.Plain;
+  later = with_held_node node_state.Deleting;
+}
+
+-- a reset, by a session that holds the node too, deletes the node
+abbrev pub deleting_reset : Turn
+deleting_reset = record {
+  before = with_held_node node_state.Ready;
+  entry = line (ev.Reset (session 1) (request 200 0)) done.Plain;
+  later = with_held_node node_state.Deleting;
+}
+
+-- a node that is said to be gone stands
+abbrev pub standing_gone : Turn
+standing_gone = record {
+  before = with_held_node node_state.Deleting;
+  entry = line (ev.Gone (session 1) (node 0)) done.Plain;
   later = with_held_node node_state.Deleting;
 }

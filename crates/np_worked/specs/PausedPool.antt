@@ -41,6 +41,7 @@ journal =
     ∷ refused (ev.TakeReady (session 1) (request 200 1) (node 0)) (no.NoLabel (label 1))
     ∷ refused (ev.Create (session 1) (request 200 1)) (no.QuotaShort 1 1 1024)
     ∷ line (ev.MarkDeleting (session 2) (node 0)) done.Plain
+    ∷ refused (ev.Create (session 1) (request 200 1)) (no.QuotaShort 1 1 1024)
     ∷ line (ev.Gone (session 2) (node 0)) done.Plain
     ∷ line (ev.Create (session 1) (request 200 1)) (done.Node (node 1))
     ∷ []

@@ -5,6 +5,7 @@ use Rattle.np_text.specs.declared.id.SessionId.{SessionId}
 use Rattle.np_text.specs.declared.id.PoolId.{PoolId}
 use Rattle.np_text.specs.declared.id.LabelId.{LabelId}
 use Rattle.np_text.specs.declared.id.SemId.{SemId}
+use Rattle.np_text.specs.declared.id.TenantId.{TenantId}
 use Rattle.np_text.specs.declared.id.NodeId.{NodeId}
 use Rattle.np_text.specs.declared.id.JobId.{JobId}
 use Rattle.np_text.specs.declared.id.RequestId.{RequestId}
@@ -17,6 +18,7 @@ use Rattle.np_site.specs.declared.row.Provider.{Provider}
 use Rattle.np_site.specs.declared.row.Offer.{Offer}
 use Rattle.np_site.specs.declared.row.Pool.{Pool}
 use Rattle.np_site.specs.declared.row.Sem.{Sem}
+use Rattle.np_site.specs.declared.row.Tenant.{Tenant}
 use Rattle.np_site.specs.declared.row.Job.{Job}
 use Rattle.np_event.specs.declared.event.Event.{Event}
 use Rattle.np_event.specs.declared.entry.Entry.{Entry}
@@ -51,6 +53,9 @@ semaphore k = record { 0 = k }
 
 abbrev pub pool : ℕ → PoolId
 pool k = record { 0 = k }
+
+abbrev pub tenant : ℕ → TenantId
+tenant k = record { 0 = k }
 
 abbrev pub request : ℕ → ℕ → RequestId
 request priority seq = record { priority = priority; seq = seq }
@@ -89,7 +94,10 @@ a_pool provider name offers = record { provider = provider; name = name; limit =
 abbrev pub a_semaphore : List ℕ → Sem
 a_semaphore name = record { name = name; max = 1 }
 
--- a job of the first requester that asks these labels
+abbrev pub a_tenant : List ℕ → Limit → Tenant
+a_tenant name limit = record { name = name; limit = limit }
+
+-- a job of the first requester and the default tenant that asks these labels
 abbrev pub a_job : List ℕ → List LabelId → Job
 a_job name labels = record {
   requester = record { 0 = 0 };
@@ -100,6 +108,7 @@ a_job name labels = record {
   semaphores = [];
   resources_first = false;
   end = end.Used;
+  tenant = tenant 0;
 }
 
 -- one pool that offers one label, and one requester with these jobs
@@ -109,6 +118,7 @@ one_pool jobs = record {
   providers = a_provider (codes "c") ∷ [];
   pools = a_pool 0 (codes "m") (offer 0 ∷ []) ∷ [];
   semaphores = [];
+  tenants = [];
   requesters = record { name = codes "z"; window = 20 } ∷ [];
   jobs = jobs;
   faults = [];

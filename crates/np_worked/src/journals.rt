@@ -3,12 +3,16 @@
 mod failures;
 mod jobs;
 mod nodes;
+mod rare;
 mod requests;
+mod tenants;
 
 pub use failures::FAILURE_JOURNALS;
 pub use jobs::JOB_JOURNALS;
 pub use nodes::NODE_JOURNALS;
+pub use rare::RARE_JOURNALS;
 pub use requests::REQUEST_JOURNALS;
+pub use tenants::TENANT_JOURNALS;
 
 // One pool, one label, one job.
 const PLAIN_SITE: &str =

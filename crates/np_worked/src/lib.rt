@@ -39,13 +39,30 @@ ghost use Rattle.np_worked.specs.WithdrawnEarly as withdrawn_early;
 ghost use Rattle.np_worked.specs.ReadyAge as ready_age;
 ghost use Rattle.np_worked.specs.PausedPool as paused_pool;
 ghost use Rattle.np_worked.specs.EndedByTheWrongParty as ended_by_the_wrong_party;
+ghost use Rattle.np_worked.specs.TwoHandles as two_handles;
+ghost use Rattle.np_worked.specs.TenantCountsByPool as tenant_counts_by_pool;
+ghost use Rattle.np_worked.specs.TenantOfANode as tenant_of_a_node;
+ghost use Rattle.np_worked.specs.TakenWithItsHandles as taken_with_its_handles;
+ghost use Rattle.np_worked.specs.AgedNode as aged_node;
+ghost use Rattle.np_worked.specs.KeptReadyByAllPools as kept_ready_by_all_pools;
+ghost use Rattle.np_worked.specs.NodesThatAreNotFree as nodes_that_are_not_free;
+ghost use Rattle.np_worked.specs.PausedByAKeptLabel as paused_by_a_kept_label;
+ghost use Rattle.np_worked.specs.FinishedByTheJanitor as finished_by_the_janitor;
+ghost use Rattle.np_worked.specs.DeletedDuringALaunch as deleted_during_a_launch;
+ghost use Rattle.np_worked.specs.HalfBuiltRequests as half_built_requests;
+ghost use Rattle.np_worked.specs.TenantLimit as tenant_limit;
+ghost use Rattle.np_worked.specs.Revise as revise;
 
 pub use journal::Journal;
-pub use journals::{FAILURE_JOURNALS, JOB_JOURNALS, NODE_JOURNALS, REQUEST_JOURNALS};
+pub use journals::{
+    FAILURE_JOURNALS, JOB_JOURNALS, NODE_JOURNALS, RARE_JOURNALS, REQUEST_JOURNALS, TENANT_JOURNALS,
+};
 pub use property::{
-    a_failure_needs_its_decline, a_lost_node_is_not_kept,
-    a_request_is_held_until_its_launcher_expires, a_tick_may_not_change_a_node,
-    planned_starts_fail, the_next_in_the_queue_is_the_live_holder, two_holders_are_not_safe,
+    a_failure_needs_its_decline, a_lost_node_is_not_kept, a_lost_session_is_one_strike,
+    a_nodes_age_counts_from_its_last_change, a_removed_node_is_gone,
+    a_request_is_held_until_its_launcher_expires, a_request_that_was_given_up_has_no_pool,
+    a_reset_may_not_delete_a_node, a_tick_may_not_change_a_node, planned_starts_fail,
+    the_next_in_the_queue_is_the_live_holder, two_holders_are_not_safe,
 };
 
 /// From a job's request to its fulfilled node.
@@ -187,4 +204,73 @@ pub fn paused_pool()
 /// Nodes and jobs are ended by their own requester alone.
 pub fn ended_by_the_wrong_party()
     ensures { Plays ended_by_the_wrong_party.site ended_by_the_wrong_party.journal ended_by_the_wrong_party.ends }
+{}
+
+/// A request that nobody has accepted is revised, and another goes first.
+pub fn revise()
+    ensures { Plays revise.site revise.journal revise.ends }
+{}
+
+/// A tenant has room for one request and not for the next, and never for the largest.
+pub fn tenant_limit()
+    ensures { Plays tenant_limit.site tenant_limit.journal tenant_limit.ends }
+{}
+
+/// Of two requests of one tenant that were locked together, one is accepted, and takes all that the
+/// tenant may use.
+pub fn half_built_requests()
+    ensures { Plays half_built_requests.site half_built_requests.journal half_built_requests.ends }
+{}
+
+/// A node that is given up while it is launched is in flight no more.
+pub fn deleted_during_a_launch()
+    ensures { Plays deleted_during_a_launch.site deleted_during_a_launch.journal deleted_during_a_launch.ends }
+{}
+
+/// A janitor ends a job whose requester has no live session, mute or not.
+pub fn finished_by_the_janitor()
+    ensures { Plays finished_by_the_janitor.site finished_by_the_janitor.journal finished_by_the_janitor.ends }
+{}
+
+/// A pool without room pauses for a node that is to be kept ready, though another of its label is
+/// unused.
+pub fn paused_by_a_kept_label()
+    ensures { Plays paused_by_a_kept_label.site paused_by_a_kept_label.journal paused_by_a_kept_label.ends }
+{}
+
+/// A ready node is taken once, by a request that waits for it, when nobody holds it.
+pub fn nodes_that_are_not_free()
+    ensures { Plays nodes_that_are_not_free.site nodes_that_are_not_free.journal nodes_that_are_not_free.ends }
+{}
+
+/// A label is kept ready by all pools together, and not by each.
+pub fn kept_ready_by_all_pools()
+    ensures { Plays kept_ready_by_all_pools.site kept_ready_by_all_pools.journal kept_ready_by_all_pools.ends }
+{}
+
+/// A node is made, launched, taken and ended while ticks pass.
+pub fn aged_node()
+    ensures { Plays aged_node.site aged_node.journal aged_node.ends }
+{}
+
+/// A job that asked for its nodes first takes them when it holds them and has its semaphores, and
+/// its request is gone.
+pub fn taken_with_its_handles()
+    ensures { Plays taken_with_its_handles.site taken_with_its_handles.journal taken_with_its_handles.ends }
+{}
+
+/// A node counts for its tenant while it is allocated and in use, and not when it is free.
+pub fn tenant_of_a_node()
+    ensures { Plays tenant_of_a_node.site tenant_of_a_node.journal tenant_of_a_node.ends }
+{}
+
+/// A tenant counts what each node and each request takes of its own pool, and what a pool can never
+/// serve is declined.
+pub fn tenant_counts_by_pool()
+    ensures { Plays tenant_counts_by_pool.site tenant_counts_by_pool.journal tenant_counts_by_pool.ends }
+{}
+
+/// A semaphore has as many handles as it may, and no more.
+pub fn two_handles()
+    ensures { Plays two_handles.site two_handles.journal two_handles.ends }
 {}

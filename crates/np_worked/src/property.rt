@@ -1,21 +1,25 @@
-//! What the properties of journals say: each of journals of the machine, of which it holds, and of
-//! a made-up one or a made-up turn, of which it does not.
+//! What the properties of journals and the records of a state say. The live holder and the records
+//! are told of worked journals; each other property is refuted of a made-up journal or turn.
 
-ghost use Rattle.std.specs.Prelude.{◌≡◌};
+ghost use Rattle.std.specs.Prelude.{◌≡◌, None, Some, take};
 ghost use Rattle.np_event.specs.declared.event.Outcome.TheVariants as outcome;
 ghost use Rattle.np_machine.specs.Caused.{Caused};
 ghost use Rattle.np_machine.specs.Fenced.{Fenced, IsFenced};
-ghost use Rattle.np_machine.specs.Kept.{Kept};
+ghost use Rattle.np_machine.specs.Kept.{Kept, RemovesNode};
 ghost use Rattle.np_machine.specs.LiveHolder.{IsLiveHolder, IsLiveRequestHolder};
 ghost use Rattle.np_machine.specs.Plan.{outcome_of};
 ghost use Rattle.np_machine.specs.Safe.{OneHolder, Safe};
-ghost use Rattle.np_worked.specs.MadeUp.{deleting_tick, lost_node, two_holders, unsaid_decline};
+ghost use Rattle.np_worked.specs.AgedNode as aged_node;
+ghost use Rattle.np_worked.specs.AgedNode.{pool_after, since_after, strikes_after};
+ghost use Rattle.np_worked.specs.CrashedRequester as crashed_requester;
+ghost use Rattle.np_worked.specs.MadeUp.{deleting_reset, deleting_tick, lost_node, standing_gone, two_holders, unsaid_decline};
 ghost use Rattle.np_worked.specs.NeverFits as never_fits;
 ghost use Rattle.np_worked.specs.PlainPath as plain_path;
 ghost use Rattle.np_worked.specs.QueueAfterAnExpiry as queue_after_an_expiry;
 ghost use Rattle.np_worked.specs.SemaphoresAllOrNone as semaphores_all_or_none;
+ghost use Rattle.np_worked.specs.ResetRequest as reset_request;
 ghost use Rattle.np_worked.specs.RetriesSpent as retries_spent;
-ghost use Rattle.np_worked.specs.Site.{node, pool, request, session};
+ghost use Rattle.np_worked.specs.Site.{janitor, launcher, node, pool, request, requester, session};
 
 /// When the first in a node's queue expires, the next is its live holder, and the third is not.
 pub fn the_next_in_the_queue_is_the_live_holder()
@@ -49,6 +53,38 @@ pub fn a_failure_needs_its_decline()
 /// A tick may not change a node that a session holds.
 pub fn a_tick_may_not_change_a_node()
     ensures { IsFenced deleting_tick → ⊥ }
+{}
+
+/// Nor may a reset delete a node, even if its maker holds it.
+pub fn a_reset_may_not_delete_a_node()
+    ensures { IsFenced deleting_reset → ⊥ }
+{}
+
+/// A node whose record stands was not removed.
+pub fn a_removed_node_is_gone()
+    ensures { RemovesNode (node 0) standing_gone → ⊥ }
+{}
+
+/// A node's age counts from when it was made, launched, taken and ended.
+pub fn a_nodes_age_counts_from_its_last_change()
+    ensures made { since_after aged_node.site (take 9 aged_node.journal) ≡ Some 1 }
+    ensures launched { since_after aged_node.site (take 14 aged_node.journal) ≡ Some 2 }
+    ensures taken { since_after aged_node.site (take 17 aged_node.journal) ≡ Some 3 }
+    ensures ended { since_after aged_node.site aged_node.journal ≡ Some 4 }
+{}
+
+/// A request that its pool declined, or that the janitor gave back, has no pool.
+pub fn a_request_that_was_given_up_has_no_pool()
+    ensures served { pool_after retries_spent.site (take 16 retries_spent.journal) ≡ Some (Some (pool 0)) }
+    ensures declined { pool_after retries_spent.site (take 17 retries_spent.journal) ≡ Some None }
+    ensures reset { pool_after reset_request.site (take 15 reset_request.journal) ≡ Some None }
+{}
+
+/// A role is struck once for a session that is lost, though it stops first and expires then.
+pub fn a_lost_session_is_one_strike()
+    ensures expired { strikes_after (launcher 0) queue_after_an_expiry.site queue_after_an_expiry.journal ≡ Some 1 }
+    ensures crashed { strikes_after (requester 0) crashed_requester.site crashed_requester.journal ≡ Some 1 }
+    ensures other { strikes_after (janitor 0) crashed_requester.site crashed_requester.journal ≡ Some 0 }
 {}
 
 /// The simulated cloud fails the starts that the configuration names, and no other.

@@ -162,6 +162,7 @@ const PAUSED_POOL: Journal = Journal {
         "take-ready s1 200-0000000001 n0 = refused no-label l1",
         "create s1 200-0000000001 = refused quota-short 1 1 1024",
         "mark-deleting s2 n0 = ok",
+        "create s1 200-0000000001 = refused quota-short 1 1 1024",
         "gone s2 n0 = ok",
         "create s1 200-0000000001 = node n1",
     ]],

@@ -4,7 +4,7 @@ use Rattle.std.specs.Option.{option_map_or}
 use Rattle.np_text.specs.declared.word.NodeState.TheVariants as node_state
 use Rattle.np_record.specs.declared.record.NodeRecord.{NodeRecord}
 use Rattle.np_machine.specs.Kinds.{is_deleting}
-use Rattle.np_machine.specs.Fenced.{ByHolder, TakenBack}
+use Rattle.np_machine.specs.Fenced.{ByHolder}
 use Rattle.np_worked.specs.MadeUp.{held_node, deleting_tick}
 use Rattle.np_worked.specs.Site.{node}
 use Rattle.np_worked.proofs.property.a_tick_may_not_change_a_node.Goals as goal
@@ -12,12 +12,11 @@ use Rattle.np_worked.proofs.property.a_tick_may_not_change_a_node.Goals as goal
 abbrev was : NodeRecord
 was = (held_node node_state.Ready).kept
 
-none : (Some (held_node node_state.Deleting).kept ≡ Some was) ⊎ ByHolder deleting_tick (node 0) ⊎ TakenBack deleting_tick (node 0) was → ⊥
+none : (Some (held_node node_state.Deleting).kept ≡ Some was) ⊎ ByHolder deleting_tick (node 0) → ⊥
 none (inl same) =
     let alike : true ≡ false = ap (λ o. option_map_or (λ (k : NodeRecord). is_deleting k.state) o false) same in
     absurd cc
-none (inr (inl by)) = let makes = by.makes in absurd cc
-none (inr (inr back)) = let makes = back.makes in absurd cc
+none (inr by) = let makes = by.makes in absurd cc
 
 pub returns : goal.returns
 returns c = λ fenced. none (fenced (node 0) was refl)
