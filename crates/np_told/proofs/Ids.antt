@@ -21,10 +21,11 @@ use Rattle.np_event.specs.declared.event.Event.TheVariants as ev
 use Rattle.np_machine.specs.Entries.{RequestEntry, NodeEntry}
 use Rattle.np_machine.specs.State.{State, start}
 use Rattle.np_lists.specs.Change.{change_first}
-use Rattle.np_machine.specs.Tables.{session_of, same_request, is_marked, request_entry, request_in, put_request, remove_request, node_in, put_node, kept_from, all_freed, put_job}
+use Rattle.np_machine.specs.Tables.{session_of, same_request, is_marked, request_entry, request_in, put_request, remove_request, node_in, put_node, is_request, freed, all_freed, put_job}
+use Rattle.np_machine.specs.Tenants.{tenant_of_request}
 use Rattle.np_machine.specs.Reasons.{next_label}
 use Rattle.np_machine.specs.Tests.{launcher}
-use Rattle.np_machine.specs.Request.{registers, next_id, asked_by, submit_for, submitted, kept_ready_by, kept_ready, accept_by, accepted, decline_by, declined, fulfilled, given_back, failed}
+use Rattle.np_machine.specs.Request.{registers, next_id, asked_by, submit_for, submitted, request_of_job, revise_request, revised, kept_ready_by, kept_ready, accept_by, accepted, decline_by, declined, fulfilled, given_back, failed}
 use Rattle.np_machine.specs.Node.{allocated, took_ready, made, create_by, create_for, created, start_by, started, reported, with_mark, node_ended, given_up, node_freed}
 use Rattle.np_machine.specs.Semaphore.{acquired, in_use, all_in_use, take_for, take_from, taken, finished, withdrawn, released}
 use Rattle.np_machine.specs.Session.{crashed, request_left, node_left, expired}
@@ -54,16 +55,16 @@ pub record HasIds (c : Configuration) (s : State) : Type 0 where
 priority_digits : (p n : ℕ) → IsPriority p → has_digits (record { priority = p; seq = n }) ≡ true
 priority_digits p n is = grind (arith, nat_tests)
 
-job_digits_in : (labels semaphores : ℕ) (earlier jobs : List Job) → EachAfter (StandsByOwner (λ (j : Job). j.requester.0) (IsJob labels semaphores)) earlier jobs →
+job_digits_in : (labels semaphores tenants : ℕ) (earlier jobs : List Job) → EachAfter (StandsByOwner (λ (j : Job). j.requester.0) (IsJob labels semaphores tenants)) earlier jobs →
     (at n : ℕ) (job : Job) → slice_get jobs at ≡ Some job → has_digits (record { priority = job.priority; seq = n }) ≡ true
-job_digits_in labels semaphores earlier [] each at n job is = cc
-job_digits_in labels semaphores earlier (j ∷ jobs) each zero n job is =
+job_digits_in labels semaphores tenants earlier [] each at n job is = cc
+job_digits_in labels semaphores tenants earlier (j ∷ jobs) each zero n job is =
     let same : j ≡ job = cc in
     subst (λ (x : Job). has_digits (record { priority = x.priority; seq = n }) ≡ true) same (priority_digits j.priority n each.0.own.priority)
-job_digits_in labels semaphores earlier (j ∷ jobs) each (suc at) n job is = job_digits_in labels semaphores (earlier ++ j ∷ []) jobs each.1 at n job is
+job_digits_in labels semaphores tenants earlier (j ∷ jobs) each (suc at) n job is = job_digits_in labels semaphores tenants (earlier ++ j ∷ []) jobs each.1 at n job is
 
 pub job-digits : (c : Configuration) → IsSound c → (at n : ℕ) (job : Job) → slice_get c.jobs at ≡ Some job → has_digits (record { priority = job.priority; seq = n }) ≡ true
-job-digits c sound at n job is = job_digits_in (length c.labels) (length c.semaphores) [] c.jobs sound.demand.each_job at n job is
+job-digits c sound at n job is = job_digits_in (length c.labels) (length c.semaphores) (length c.tenants) [] c.jobs sound.demand.each_job at n job is
 
 pub min_ready-digits : (n : ℕ) → has_digits (record { priority = 400; seq = n }) ≡ true
 min_ready-digits n = refl
@@ -100,13 +101,13 @@ node-digits n nodes k all is = node_by (find (λ e. e.id.0 == n.0) nodes) k (λ 
 
 -- ## lists
 
-freed-digits : (r : RequestId) (o : Option RequestId) → allocation_has_digits o ≡ true → allocation_has_digits (kept_from r o) ≡ true
-freed-digits r None is = refl
-freed-digits r (Some other) is = grind (arith, nat_tests)
+freed-digits : (r : RequestId) (e : NodeEntry) (b : Bool) → AllocationHasDigits e → AllocationHasDigits (cond b (record e { kept = freed e.kept }) e)
+freed-digits r e true is = refl
+freed-digits r e false is = is
 
 all_freed-digits : (r : RequestId) (nodes : List NodeEntry) → AllByRecursion AllocationHasDigits nodes → AllByRecursion AllocationHasDigits (all_freed r nodes)
 all_freed-digits r [] all = tt
-all_freed-digits r (e ∷ nodes) all = (freed-digits r e.kept.allocated_to all.0, all_freed-digits r nodes all.1)
+all_freed-digits r (e ∷ nodes) all = (freed-digits r e (is_request r e.kept.allocated_to) all.0, all_freed-digits r nodes all.1)
 
 requests_left-digits : (session : SessionId) (requests : List RequestEntry) → AllByRecursion IdHasDigits requests → AllByRecursion IdHasDigits (map (request_left session) requests)
 requests_left-digits session [] all = tt
@@ -172,6 +173,9 @@ HasIds-effect c sound s (ev.Submit session j) old =
       nodes = old.nodes;
       jobs = set c s old j _;
     }))
+HasIds-effect c sound s (ev.Revise session j relative) old =
+    after_found-keeps (HasIds c) (request_of_job j s) s (revise_request s relative) old (λ r _.
+    after_found-keeps (HasIds c) (request_in r s.requests) s (revised s relative r) old (λ request _. record { requests = put-digits c s old r _; nodes = old.nodes; jobs = old.jobs }))
 HasIds-effect c sound s (ev.MinReady session l) old = after_given-keeps (HasIds c) (launcher s session) s (kept_ready s l) old (λ p _.
     record { requests = all-insert_before IdHasDigits _ (kept_ready_by (next_id 400 s) p l) s.requests (min_ready-digits s.next_request) old.requests; nodes = old.nodes; jobs = old.jobs })
 HasIds-effect c sound s (ev.LockRequest session r) old = record { requests = all-change_first IdHasDigits _ _ s.requests (λ e is. is) old.requests; nodes = old.nodes; jobs = old.jobs }
@@ -183,17 +187,17 @@ HasIds-effect c sound s (ev.Decline session r why) old =
     after_given-keeps (HasIds c) (launcher s session) s (decline_by s r why) old (λ p _.
     after_found-keeps (HasIds c) (request_in r s.requests) s (declined s r why p) old (λ request _. record { requests = put-digits c s old r _; nodes = all_freed-digits r s.nodes old.nodes; jobs = old.jobs }))
 HasIds-effect c sound s (ev.TakeReady session r n) old =
-    after_found-keeps (HasIds c) (request_in r s.requests) s (took_ready s session r n) old (λ request is. record {
+    after_found-keeps (HasIds c) (request_in r s.requests) s (took_ready c s session r n) old (λ request is. record {
       requests = put-digits c s old r _;
-      nodes = all-change_first AllocationHasDigits _ (allocated r session) s.nodes (λ e _. request-digits r s.requests request old.requests is) old.nodes;
+      nodes = all-change_first AllocationHasDigits _ (allocated r (tenant_of_request c request) session) s.nodes (λ e _. request-digits r s.requests request old.requests is) old.nodes;
       jobs = old.jobs;
     })
 HasIds-effect c sound s (ev.Create session r) old =
-    after_given-keeps (HasIds c) (launcher s session) s (create_by s session r) old (λ p _.
-    after_found-keeps (HasIds c) (request_in r s.requests) s (create_for s session r p) old (λ request is.
-    after_found-keeps (HasIds c) (next_label request) s (created s session r p request) old (λ l _. record {
+    after_given-keeps (HasIds c) (launcher s session) s (create_by c s session r) old (λ p _.
+    after_found-keeps (HasIds c) (request_in r s.requests) s (create_for c s session r p) old (λ request is.
+    after_found-keeps (HasIds c) (next_label request) s (created c s session r p request) old (λ l _. record {
       requests = put-digits c s old r _;
-      nodes = all-push AllocationHasDigits s.nodes (made s session r p l) old.nodes (request-digits r s.requests request old.requests is);
+      nodes = all-push AllocationHasDigits s.nodes (made c s session r p request l) old.nodes (request-digits r s.requests request old.requests is);
       jobs = old.jobs;
     })))
 HasIds-effect c sound s (ev.Start session n) old =

@@ -1,6 +1,6 @@
 -- what an event is answered can be told
-use Rattle.std.proofs.Common.{◌≡◌, ℕ, List, [], ◌∷◌, refl, arith, Bool, true, false, cond, Option, Some, None, Result, Ok, Err}
-use Rattle.std.specs.Prelude.{slice_get, filter, fold}
+use Rattle.std.proofs.Common.{◌≡◌, ℕ, List, [], ◌∷◌, refl, subst, arith, Bool, true, false, cond, Option, Some, None, Result, Ok, Err}
+use Rattle.std.specs.Prelude.{slice_get, filter, fold, not}
 use Rattle.std.specs.List.{AllByRecursion}
 use Rattle.std.specs.Option.{option_map}
 use Rattle.std.proofs.lemmas.Bool.Decides.{nat_tests}
@@ -21,13 +21,17 @@ use Rattle.np_record.specs.declared.record.NodeRecord.{NodeRecord}
 use Rattle.np_event.specs.declared.event.Event.{Event}
 use Rattle.np_event.specs.declared.event.Event.TheVariants as ev
 use Rattle.np_event.specs.declared.reply.Refusal.{Refusal}
+use Rattle.np_event.specs.declared.reply.Refusal.TheVariants as no
 use Rattle.np_machine.specs.Entries.{RequestEntry}
 use Rattle.np_machine.specs.State.{State}
-use Rattle.np_machine.specs.Tables.{node_in}
-use Rattle.np_machine.specs.Order.{earlier, comes_before, is_candidate, least, first_of}
-use Rattle.np_machine.specs.Tests.{Answer, maker}
-use Rattle.np_lists.specs.Refusals.{◌>>=◌}
-use Rattle.np_machine.specs.Request.{judge_register, judge_submit, judge_min_ready, lock_request_as, unlock_request_as, judge_accept, judge_decline, judge_fulfil, judge_reset, judge_fail_declined, next_id}
+use Rattle.np_machine.specs.Tables.{same_request, node_in}
+use Rattle.np_machine.specs.Order.{comes_before, is_pinned_away}
+use Rattle.np_machine.specs.First.{earlier, is_candidate, least, first_of}
+use Rattle.np_machine.specs.Tests.{Answer, Check, maker, launcher, request_at, by_registrant, by_request_holder, in_requested, not_declined, not_blocked, unlocked}
+use Rattle.np_machine.specs.Reasons.{first_unoffered, never_fits}
+use Rattle.np_machine.specs.Tenants.{tenant_never_fits}
+use Rattle.np_lists.specs.Refusals.{◌>>=◌, ◌>>◌, need, found, vacant}
+use Rattle.np_machine.specs.Request.{judge_register, judge_submit, judge_revise, judge_min_ready, other_than, lock_request_as, unlock_request_as, judge_accept, judge_decline, judge_fulfil, judge_reset, judge_fail_declined, next_id}
 use Rattle.np_machine.specs.Node.{judge_take_ready, judge_create, judge_start, judge_done, judge_lock_node, judge_unlock_node, judge_end_node, judge_mark_deleting, judge_gone, judge_free_node, judge_sweep}
 use Rattle.np_machine.specs.Semaphore.{judge_acquire, judge_take, judge_finish, judge_withdraw, judge_release}
 use Rattle.np_machine.specs.Session.{judge_open, judge_crash, judge_expire}
@@ -59,8 +63,8 @@ id-digits : (o : Option RequestEntry) → entry_has_digits o ≡ true → alloca
 id-digits None is = refl
 id-digits (Some e) is = is
 
-first-digits : (p : PoolId) (s : State) → AllByRecursion IdHasDigits s.requests → allocation_has_digits (first_of p s) ≡ true
-first-digits p s all = id-digits (least (filter (is_candidate p) s.requests)) (least-digits (filter (is_candidate p) s.requests) None refl (all-filter IdHasDigits (is_candidate p) s.requests all))
+first-digits : (c : Configuration) (s : State) (p : PoolId) → AllByRecursion IdHasDigits s.requests → allocation_has_digits (first_of c s p) ≡ true
+first-digits c s p all = id-digits (least (filter (is_candidate c s p) s.requests)) (least-digits (filter (is_candidate c s p) s.requests) None refl (all-filter IdHasDigits (is_candidate c s p) s.requests all))
 
 -- the allocation of a node, where it is there
 abbrev pub node_has_digits : Option NodeRecord → Bool
@@ -94,22 +98,67 @@ register-told s session = grind (arith, nat_tests)
 submit-told : (c : Configuration) (s : State) (session : SessionId) (j : JobId) → next_has_digits s (slice_get c.jobs j.0) ≡ true → is_told_answer (judge_submit c s session j) ≡ true
 submit-told c s session j named = grind (arith, nat_tests)
 
+revise-told : (c : Configuration) (s : State) (session : SessionId) (j : JobId) → is_told_answer (judge_revise c s session j) ≡ true
+revise-told c s session j = grind (arith, nat_tests)
+
 min_ready-told : (c : Configuration) (s : State) (session : SessionId) (l : LabelId) → is_told_answer (judge_min_ready c s session l) ≡ true
 min_ready-told c s session l = grind (arith, nat_tests)
 
 maker-told : (s : State) (session : SessionId) (why : Refusal) → maker s session ≡ Err why → is_told_refusal why ≡ true
 maker-told s session why is = grind (arith, nat_tests)
 
-made_by : (o : Result Role Refusal) (rest : Role → Answer) → ((why : Refusal) → o ≡ Err why → is_told_refusal why ≡ true) → ((role : Role) → is_told_answer (rest role) ≡ true) → is_told_answer (o >>= rest) ≡ true
-made_by (Ok role) rest refused each = each role
+launcher-told : (s : State) (session : SessionId) (why : Refusal) → launcher s session ≡ Err why → is_told_refusal why ≡ true
+launcher-told s session why is = grind (arith, nat_tests)
+
+-- ## tests one after another
+
+-- whatever refuses can be told
+abbrev RefusesTold : {A : Type 0} → Result A Refusal → Type 0
+RefusesTold o = (why : Refusal) → o ≡ Err why → is_told_refusal why ≡ true
+
+made_by : {A : Type 0} (o : Result A Refusal) (rest : A → Answer) → RefusesTold o → ((a : A) → is_told_answer (rest a) ≡ true) → is_told_answer (o >>= rest) ≡ true
+made_by (Ok a) rest refused each = each a
 made_by (Err why) rest refused each = refused why refl
+
+then-told : (o : Check) (rest : Answer) → RefusesTold o → is_told_answer rest ≡ true → is_told_answer (o >> rest) ≡ true
+then-told (Ok u) rest refused told = told
+then-told (Err why) rest refused told = refused why refl
+
+need-told : (b : Bool) (refusal : Refusal) → is_told_refusal refusal ≡ true → RefusesTold (need b refusal)
+need-told true refusal told why is = absurd cc
+need-told false refusal told why is = let same : refusal ≡ why = cc in subst (λ (x : Refusal). is_told_refusal x ≡ true) same told
+
+found-told : {A : Type 0} (o : Option A) (refusal : Refusal) → is_told_refusal refusal ≡ true → RefusesTold (found o refusal)
+found-told None refusal told why is = let same : refusal ≡ why = cc in subst (λ (x : Refusal). is_told_refusal x ≡ true) same told
+found-told (Some a) refusal told why is = absurd cc
+
+vacant-told : {A : Type 0} (o : Option A) (refusal : A → Refusal) → ((a : A) → o ≡ Some a → is_told_refusal (refusal a) ≡ true) → RefusesTold (vacant o refusal)
+vacant-told None refusal each why is = absurd cc
+vacant-told (Some a) refusal each why is = let same : refusal a ≡ why = cc in subst (λ (x : Refusal). is_told_refusal x ≡ true) same (each a refl)
 
 -- what is answered by the maker's role
 by_role-told : (s : State) (session : SessionId) (rest : Role → Answer) → ((role : Role) → is_told_answer (rest role) ≡ true) → is_told_answer (maker s session >>= rest) ≡ true
 by_role-told s session rest each = made_by (maker s session) rest (maker-told s session) each
 
-lock_request_as-told : (c : Configuration) (s : State) (session : SessionId) (r : RequestId) → HasIds c s → (role : Role) → is_told_answer (lock_request_as s session r role) ≡ true
-lock_request_as-told c s session r ids (Launcher p) = let named = first-digits p s ids.requests in grind (arith, nat_tests)
+other_by : (r first other : RequestId) (b : Bool) → same_request first r ≡ b → has_digits first ≡ true → cond b None (Some first) ≡ Some other → has_digits other ≡ true
+other_by r first other true same told is = absurd cc
+other_by r first other false same told is = let one : first ≡ other = cc in subst (λ (x : RequestId). has_digits x ≡ true) one told
+
+-- another request that is first
+other-digits : (r : RequestId) (o : Option RequestId) (other : RequestId) → allocation_has_digits o ≡ true → other_than r o ≡ Some other → has_digits other ≡ true
+other-digits r None other told is = absurd cc
+other-digits r (Some first) other told is = other_by r first other (same_request first r) refl told is
+
+lock_request_as-told : (c : Configuration) (s : State) (session : SessionId) (r : RequestId) → HasIds c s → (role : Role) → is_told_answer (lock_request_as c s session r role) ≡ true
+lock_request_as-told c s session r ids (Launcher p) =
+    made_by (request_at s r) _ (found-told _ _ refl) (λ request.
+    then-told (by_registrant s p session) _ (need-told _ _ refl) (
+    then-told (in_requested request) _ (need-told _ _ refl) (
+    then-told (not_declined p request) _ (need-told _ _ refl) (
+    then-told (need (not (is_pinned_away p request)) no.NotOwner) _ (need-told _ _ refl) (
+    then-told (unlocked s r) _ (vacant-told _ _ (λ holder is. refl)) (
+    then-told (not_blocked c s p request) _ (vacant-told _ _ (λ t is. refl)) (
+    then-told (vacant (other_than r (first_of c s p)) no.NotFirst) _ (vacant-told _ _ (λ first is. other-digits r (first_of c s p) first (first-digits c s p ids.requests) is)) refl)))))))
 lock_request_as-told c s session r ids (Janitor p) = grind (arith, nat_tests)
 lock_request_as-told c s session r ids (Requester q) = refl
 lock_request_as-told c s session r ids Reaper = refl
@@ -121,11 +170,22 @@ unlock_request_as-told s session r (Requester q) = refl
 unlock_request_as-told s session r Reaper = refl
 
 accept-told : (c : Configuration) (s : State) (session : SessionId) (r : RequestId) → is_told_answer (judge_accept c s session r) ≡ true
-accept-told c s session r = grind (arith, nat_tests)
+accept-told c s session r =
+    made_by (launcher s session) _ (launcher-told s session) (λ p.
+    made_by (request_at s r) _ (found-told _ _ refl) (λ request.
+    then-told (by_registrant s p session) _ (need-told _ _ refl) (
+    then-told (by_request_holder s r session) _ (need-told _ _ refl) (
+    then-told (in_requested request) _ (need-told _ _ refl) (
+    then-told (not_declined p request) _ (need-told _ _ refl) (
+    then-told (vacant (first_unoffered c p request) no.NoLabel) _ (vacant-told _ _ (λ l is. refl)) (
+    then-told (need (not (never_fits c p request)) no.NeverFits) _ (need-told _ _ refl) (
+    then-told (need (not (tenant_never_fits c p request)) no.TenantNeverFits) _ (need-told _ _ refl) (
+    then-told (not_blocked c s p request) _ (vacant-told _ _ (λ t is. refl)) refl)))))))))
 
 decline-told : (c : Configuration) (s : State) (session : SessionId) (r : RequestId) (why : Reason) → is_told_answer (judge_decline c s session r why) ≡ true
 decline-told c s session r (reason.NoLabel l) = grind (arith, nat_tests)
 decline-told c s session r reason.NeverFits = grind (arith, nat_tests)
+decline-told c s session r reason.TenantNeverFits = grind (arith, nat_tests)
 decline-told c s session r (reason.Spent n) = grind (arith, nat_tests)
 
 fulfil-told : (s : State) (session : SessionId) (r : RequestId) → is_told_answer (judge_fulfil s session r) ≡ true
@@ -209,8 +269,9 @@ judge-told c s (ev.Crash session) sound ids = crash-told s session
 judge-told c s (ev.Expire session) sound ids = expire-told s session
 judge-told c s (ev.Register session) sound ids = register-told s session
 judge-told c s (ev.Submit session j) sound ids = submit-told c s session j (job-told c s j sound)
+judge-told c s (ev.Revise session j relative) sound ids = revise-told c s session j
 judge-told c s (ev.MinReady session l) sound ids = min_ready-told c s session l
-judge-told c s (ev.LockRequest session r) sound ids = by_role-told s session (lock_request_as s session r) (lock_request_as-told c s session r ids)
+judge-told c s (ev.LockRequest session r) sound ids = by_role-told s session (lock_request_as c s session r) (lock_request_as-told c s session r ids)
 judge-told c s (ev.UnlockRequest session r) sound ids = by_role-told s session (unlock_request_as s session r) (unlock_request_as-told s session r)
 judge-told c s (ev.Accept session r) sound ids = accept-told c s session r
 judge-told c s (ev.Decline session r why) sound ids = decline-told c s session r why

@@ -35,6 +35,7 @@ is_told_done done.Keep = true
 is_told_done done.Remove = true
 is_told_done (done.Ended e) = is_told_ending e
 
+-- no entry is refused for want of room in the journal, since it would have none
 abbrev pub is_told_refusal : Refusal → Bool
 is_told_refusal no.NoSession = true
 is_told_refusal no.Expired = true
@@ -62,9 +63,11 @@ is_told_refusal (no.SemaphoreFull x) = true
 is_told_refusal (no.NotDue n) = true
 is_told_refusal (no.Enough n) = true
 is_told_refusal no.Spent = true
-is_told_refusal no.Full = true
+is_told_refusal no.Full = false
+is_told_refusal (no.TenantShort i c m) = true
+is_told_refusal no.TenantNeverFits = true
 
--- a reply can be told: the requests that it names have three digits, and it tells of no withdrawn job
+-- a reply can be told: the requests that it names have three digits, it tells of no withdrawn job, and the journal had room
 abbrev pub is_told : Reply → Bool
 is_told (reply.Done d) = is_told_done d
 is_told (reply.Refused r) = is_told_refusal r
