@@ -10,3 +10,4 @@ pub mod Found
 pub mod Walks
 pub mod Seen
 pub mod Used
+pub mod Blocking

@@ -27,7 +27,7 @@ use Rattle.np_machine.specs.State.{State}
 use Rattle.np_machine.specs.Tables.{role_of, session_of, request_in, node_in, put_request, all_freed}
 use Rattle.np_machine.specs.Tests.{maker, launcher, janitor, requester, node_at, own_job, after_found}
 use Rattle.np_machine.specs.Reasons.{next_label}
-use Rattle.np_machine.specs.Request.{judge_register, effect_register, judge_submit, submit_for, submitted, effect_submit, judge_min_ready, effect_min_ready, judge_lock_request, effect_lock_request, judge_unlock_request, effect_unlock_request, judge_accept, accepted, effect_accept, judge_decline, declined, effect_decline, judge_fulfil, fulfilled, effect_fulfil, judge_reset, given_back, effect_reset, judge_fail_declined, failed, effect_fail_declined}
+use Rattle.np_machine.specs.Request.{judge_register, effect_register, judge_submit, submit_for, submitted, effect_submit, judge_revise, request_of_job, revised, revise_request, effect_revise, judge_min_ready, effect_min_ready, judge_lock_request, effect_lock_request, judge_unlock_request, effect_unlock_request, judge_accept, accepted, effect_accept, judge_decline, declined, effect_decline, judge_fulfil, fulfilled, effect_fulfil, judge_reset, given_back, effect_reset, judge_fail_declined, failed, effect_fail_declined}
 use Rattle.np_machine.specs.Node.{judge_take_ready, took_ready, effect_take_ready, judge_create, create_for, created, effect_create, judge_start, started, effect_start, one_more_start, judge_done, reported, effect_done, judge_lock_node, effect_lock_node, judge_unlock_node, effect_unlock_node, judge_end_node, node_ended, effect_end_node, judge_mark_deleting, given_up, effect_mark_deleting, judge_gone, effect_gone, judge_free_node, node_freed, effect_free_node, judge_sweep, is_wanted, effect_sweep}
 use Rattle.np_machine.specs.Semaphore.{judge_acquire, effect_acquire, judge_take, take_for, take_from, taken, effect_take, judge_finish, finished, effect_finish, judge_withdraw, withdrawn, effect_withdraw, judge_release, effect_release}
 use Rattle.np_machine.specs.Session.{effect_crash, effect_expire}
@@ -89,10 +89,16 @@ module _ (c : Configuration) (s : State) (session : SessionId) where
       found-in c session (Requester q) s (slice_get c.jobs j.0) (Plan.submit_as s j) (submit_for s j) (λ job _.
       found-too c session (Requester q) s (slice_get s.jobs j.0) _ (submitted s j job) (λ kept. refl) (λ kept _. refl)))
 
+  revise-effect : (j : JobId) (relative : ℕ) → is_ok (judge_revise c s session j) ≡ true → changed c (Plan.plan_revise s session j relative) s ≡ with_act (role_of session s) (effect_revise s j relative)
+  revise-effect j relative ok =
+      makes c s _ session (requester s session) Requester _ (bind-ok (requester s session) _ (bind-ok (own_job c s session j) _ ok)) (requester-role s session) (λ q is.
+      found-in c session (Requester q) s (request_of_job j s) (Plan.revise_to relative) (revise_request s relative) (λ r _.
+      edit-too c session (Requester q) s r (edit.Revise relative) (request_in r s.requests) (revised s relative r) refl (λ k. refl)))
+
   min_ready-effect : (l : LabelId) → is_ok (judge_min_ready c s session l) ≡ true → changed c (Plan.plan_min_ready s session l) s ≡ with_act (role_of session s) (effect_min_ready s session l)
   min_ready-effect l ok = makes c s _ session (launcher s session) Launcher _ (bind-ok (launcher s session) _ ok) (launcher-role s session) (λ p is. rw is refl)
 
-  lock_request-effect : (r : RequestId) → is_ok (judge_lock_request s session r) ≡ true → changed c (Plan.plan_lock_request s session r) s ≡ with_act (role_of session s) (effect_lock_request s session r)
+  lock_request-effect : (r : RequestId) → is_ok (judge_lock_request c s session r) ≡ true → changed c (Plan.plan_lock_request s session r) s ≡ with_act (role_of session s) (effect_lock_request s session r)
   lock_request-effect r ok = makes c s _ session (maker s session) (λ role. role) _ (bind-ok (maker s session) _ ok) (maker-role s session) (λ role is. refl)
 
   unlock_request-effect : (r : RequestId) → is_ok (judge_unlock_request s session r) ≡ true → changed c (Plan.plan_unlock_request s session r) s ≡ with_act (role_of session s) (effect_unlock_request s session r)
@@ -133,18 +139,18 @@ module _ (c : Configuration) (s : State) (session : SessionId) where
 
   -- ## nodes
 
-  take_ready-effect : (r : RequestId) (n : NodeId) → is_ok (judge_take_ready s session r n) ≡ true → changed c (Plan.plan_take_ready s session r n) s ≡ with_act (role_of session s) (effect_take_ready s session r n)
+  take_ready-effect : (r : RequestId) (n : NodeId) → is_ok (judge_take_ready s session r n) ≡ true → changed c (Plan.plan_take_ready c s session r n) s ≡ with_act (role_of session s) (effect_take_ready c s session r n)
   take_ready-effect r n ok =
       makes c s _ session (launcher s session) Launcher _ (bind-ok (launcher s session) _ ok) (launcher-role s session) (λ p is.
-      found-too c session (Launcher p) s (request_in r s.requests) _ (took_ready s session r n) (λ request. refl) (λ request has.
-      ap (λ (rows : List RequestEntry). with_act (Some (Launcher p)) (record (took_ready s session r n request) { requests = rows })) (edit-put r (edit.AddNode n) s.requests request has)))
+      found-too c session (Launcher p) s (request_in r s.requests) _ (took_ready c s session r n) (λ request. refl) (λ request has.
+      ap (λ (rows : List RequestEntry). with_act (Some (Launcher p)) (record (took_ready c s session r n request) { requests = rows })) (edit-put r (edit.AddNode n) s.requests request has)))
 
-  create-effect : (r : RequestId) → is_ok (judge_create c s session r) ≡ true → changed c (Plan.plan_create s session r) s ≡ with_act (role_of session s) (effect_create s session r)
+  create-effect : (r : RequestId) → is_ok (judge_create c s session r) ≡ true → changed c (Plan.plan_create c s session r) s ≡ with_act (role_of session s) (effect_create c s session r)
   create-effect r ok =
       makes c s _ session (launcher s session) Launcher _ (bind-ok (launcher s session) _ ok) (launcher-role s session) (λ p is.
-      rw is (found-in c session (Launcher p) s (request_in r s.requests) (Plan.create_for_next s r p) (create_for s session r p) (λ request has.
-      found-too c session (Launcher p) s (next_label request) _ (created s session r p request) (λ l. refl) (λ l _.
-      ap (λ (rows : List RequestEntry). with_act (Some (Launcher p)) (record (created s session r p request l) { requests = rows })) (edit-put r (edit.AddNode (record { 0 = s.next_node })) s.requests request has)))))
+      rw is (found-in c session (Launcher p) s (request_in r s.requests) (Plan.create_for_next c s r p) (create_for c s session r p) (λ request has.
+      found-too c session (Launcher p) s (next_label request) _ (created c s session r p request) (λ l. refl) (λ l _.
+      ap (λ (rows : List RequestEntry). with_act (Some (Launcher p)) (record (created c s session r p request l) { requests = rows })) (edit-put r (edit.AddNode (record { 0 = s.next_node })) s.requests request has)))))
 
   start-by : (n : NodeId) (p : PoolId) (o : Option NodeRecord) → node_in n s.nodes ≡ o → is_ok (node_at s n) ≡ true → changed c (with_found o (Plan.start_change s session n p)) s ≡ with_act (Some (Launcher p)) (after_found o s (started s n p))
   start-by n p None is ok = absurd (let no = rw is at ok in cc)
@@ -240,6 +246,7 @@ plan-effect c s (ev.Crash session) ok = crash-effect c s session (session_of ses
 plan-effect c s (ev.Expire session) ok = expire-effect c s session (session_of session s) refl
 plan-effect c s (ev.Register session) ok = register-effect c s session ok
 plan-effect c s (ev.Submit session j) ok = submit-effect c s session j ok
+plan-effect c s (ev.Revise session j relative) ok = revise-effect c s session j relative ok
 plan-effect c s (ev.MinReady session l) ok = min_ready-effect c s session l ok
 plan-effect c s (ev.LockRequest session r) ok = lock_request-effect c s session r ok
 plan-effect c s (ev.UnlockRequest session r) ok = unlock_request-effect c s session r ok

@@ -4,7 +4,7 @@ use Rattle.np_text.specs.declared.id.SessionId.{SessionId}
 use Rattle.np_text.specs.declared.id.PoolId.{PoolId}
 use Rattle.np_text.specs.declared.id.RequestId.{RequestId}
 use Rattle.np_text.specs.declared.word.Reason.{Reason}
-use Rattle.np_text.specs.declared.word.Reason.TheVariants.{NoLabel, NeverFits, Spent}
+use Rattle.np_text.specs.declared.word.Reason.TheVariants.{NoLabel, NeverFits, TenantNeverFits, Spent}
 use Rattle.np_record.specs.declared.record.RequestRecord.{RequestRecord}
 use Rattle.np_event.specs.declared.reply.Refusal.{Refusal}
 use Rattle.np_event.specs.declared.reply.Refusal.TheVariants as no
@@ -22,6 +22,7 @@ use Rattle.np_decision.specs.Verdicts.{without_declines}
 in_state_for-asked : (p : PoolId) (k : RequestRecord) (why : Reason) → in_state_for p (new_record (asked_of k)) why ≡ in_state_for p k why
 in_state_for-asked p k (NoLabel l) = refl
 in_state_for-asked p k NeverFits = refl
+in_state_for-asked p k TenantNeverFits = refl
 in_state_for-asked p k (Spent n) = refl
 
 asked_by : (o : Option RequestRecord) (k : RequestRecord) (asked : Asked) → o ≡ Some k → Ok asked ≡ without_declines (found o no.NoRequest) → asked_of k ≡ asked

@@ -1,86 +1,46 @@
--- what a pool uses, one node more
-use Rattle.std.proofs.Common.{◌≡◌, ◌≤◌, ℕ, ◌+◌, ◌*◌, List, [], ◌∷◌, take, map, refl, ap, sym, ◌∙◌, arith, append-nil, Bool, true, false, Option, Some, None}
-use Rattle.std.specs.Prelude.{slice_get, filter, ◌==◌}
+-- what the members that pass a test take together, one member more
+use Rattle.std.proofs.Common.{◌≡◌, ℕ, ◌+◌, List, [], ◌∷◌, ◌++◌, take, map, refl, ap, sym, ◌∙◌, arith, Bool, true, false, Option, Some, None}
+use Rattle.std.specs.Prelude.{slice_get, filter, if◌then◌else◌}
 use Rattle.std.specs.Option.{option_map}
-use Rattle.std.proofs.lemmas.Bool.Decides.{nat_tests}
 use Rattle.std.proofs.lemmas.List.{map-append}
 use Rattle.std.proofs.lemmas.List.Elements.{filter-append}
 use Rattle.np_amount.specs.declared.amount.Amount.{Amount}
-use Rattle.np_amount.specs.Amounts.{plus, total}
-use Rattle.np_amount.proofs.Sums.{total_push}
-use Rattle.np_text.specs.declared.id.PoolId.{PoolId}
-use Rattle.np_site.specs.Configuration.{Configuration}
-use Rattle.np_machine.specs.Entries.{NodeEntry}
-use Rattle.np_machine.specs.Count.{amount_of}
-use Rattle.np_decision.specs.Fits.{AmountFits}
-use Rattle.np_decision.specs.Views.{node_view}
-use Rattle.np_decision.specs.declared.asked.NodeView.{NodeView}
+use Rattle.np_amount.specs.Amounts.{nothing, plus, total}
+use Rattle.np_amount.proofs.Sums.{total-append, plus-comm, nothing-plus}
+use Rattle.np_decision.specs.Fits.{IsFew}
 use Rattle.np_decision.proofs.Walks.{take_there}
 
--- the amount of each of the pool's nodes, up to a place
-abbrev pub used_by : Configuration → PoolId → List NodeEntry → Amount
-used_by c p rows = total (map (λ e. amount_of c p e.kept.label) (filter (λ e. e.kept.pool.0 == p.0) rows))
+plus-nothing : (a : Amount) → plus a nothing ≡ a
+plus-nothing a = plus-comm a nothing ∙ nothing-plus a
 
-one_more : (c : Configuration) (p : PoolId) (rows : List NodeEntry) (e : NodeEntry) (b : Bool) → (e.kept.pool.0 == p.0) ≡ b → filter (λ (x : NodeEntry). x.kept.pool.0 == p.0) (e ∷ []) ≡ (elim b as (λ _. List NodeEntry) [ true ↦ e ∷ [] | false ↦ [] ])
-one_more c p rows e true is = rw is refl
-one_more c p rows e false is = rw is refl
+module _ {X Y : Type 0} (f : X → Amount) (test : X → Bool) (seen : X → Y) (takes : Y → Amount) (same : (x : X) → takes (seen x) ≡ (if test x then f x else nothing)) where
+  alone_by : (x : X) (b : Bool) → test x ≡ b → total (map f (filter test (x ∷ []))) ≡ (if b then f x else nothing)
+  alone_by x true is = rw is (plus-nothing (f x))
+  alone_by x false is = rw is refl
 
-in_by : (c : Configuration) (p : PoolId) (rows : List NodeEntry) (i : ℕ) (v : NodeView) (o : Option NodeEntry) → slice_get rows i ≡ o → option_map node_view o ≡ Some v → (v.kept.pool.0 == p.0) ≡ true → used_by c p (take (i + 1) rows) ≡ plus (used_by c p (take i rows)) (amount_of c p v.kept.label)
-in_by c p rows i v None has seen is = absurd cc
-in_by c p rows i v (Some e) has seen is =
-    let same : node_view e ≡ v = cc in
-    let pool : (e.kept.pool.0 == p.0) ≡ true = ap (λ (x : NodeView). x.kept.pool.0 == p.0) same ∙ is in
-    ap (used_by c p) (take_there rows i e has)
-    ∙ ap (λ (xs : List NodeEntry). total (map (λ (x : NodeEntry). amount_of c p x.kept.label) xs)) (filter-append (λ (x : NodeEntry). x.kept.pool.0 == p.0) (take i rows) (e ∷ []) ∙ rw (one_more c p rows e true pool) refl)
-    ∙ ap total (map-append (λ (x : NodeEntry). amount_of c p x.kept.label) (filter (λ (x : NodeEntry). x.kept.pool.0 == p.0) (take i rows)) (e ∷ []))
-    ∙ total_push (map (λ (x : NodeEntry). amount_of c p x.kept.label) (filter (λ (x : NodeEntry). x.kept.pool.0 == p.0) (take i rows))) (amount_of c p e.kept.label)
-    ∙ ap (λ (x : NodeView). plus (used_by c p (take i rows)) (amount_of c p x.kept.label)) same
+  alone : (x : X) → total (map f (filter test (x ∷ []))) ≡ takes (seen x)
+  alone x = alone_by x (test x) refl ∙ sym (same x)
 
-out_by : (c : Configuration) (p : PoolId) (rows : List NodeEntry) (i : ℕ) (v : NodeView) (o : Option NodeEntry) → slice_get rows i ≡ o → option_map node_view o ≡ Some v → (v.kept.pool.0 == p.0) ≡ false → used_by c p (take (i + 1) rows) ≡ used_by c p (take i rows)
-out_by c p rows i v None has seen is = absurd cc
-out_by c p rows i v (Some e) has seen is =
-    let same : node_view e ≡ v = cc in
-    let pool : (e.kept.pool.0 == p.0) ≡ false = ap (λ (x : NodeView). x.kept.pool.0 == p.0) same ∙ is in
-    ap (used_by c p) (take_there rows i e has)
-    ∙ ap (λ (xs : List NodeEntry). total (map (λ (x : NodeEntry). amount_of c p x.kept.label) xs)) (filter-append (λ (x : NodeEntry). x.kept.pool.0 == p.0) (take i rows) (e ∷ []) ∙ rw (one_more c p rows e false pool) (append-nil (filter (λ (x : NodeEntry). x.kept.pool.0 == p.0) (take i rows))))
+  pushed : (xs : List X) (x : X) → total (map f (filter test (xs ++ x ∷ []))) ≡ plus (total (map f (filter test xs))) (takes (seen x))
+  pushed xs x =
+      ap (λ (ys : List X). total (map f ys)) (filter-append test xs (x ∷ []))
+      ∙ ap total (map-append f (filter test xs) (filter test (x ∷ [])))
+      ∙ total-append (map f (filter test xs)) (map f (filter test (x ∷ [])))
+      ∙ ap (plus (total (map f (filter test xs)))) (alone x)
 
--- so much is at most this for each of so many
-pub record IsFew (sum : Amount) (i : ℕ) : Type 0 where
-  pub instances : sum.instances ≤ i * 1000000
-  pub cores : sum.cores ≤ i * 1000000
-  pub ram : sum.ram ≤ i * 1000000
+  more_by : (xs : List X) (i : ℕ) (y : Y) (o : Option X) → slice_get xs i ≡ o → option_map seen o ≡ Some y → total (map f (filter test (take (i + 1) xs))) ≡ plus (total (map f (filter test (take i xs)))) (takes y)
+  more_by xs i y None has is = absurd cc
+  more_by xs i y (Some x) has is =
+      let here : seen x ≡ y = cc in
+      ap (λ (ys : List X). total (map f (filter test ys))) (take_there xs i x has) ∙ pushed (take i xs) x ∙ ap (λ (z : Y). plus (total (map f (filter test (take i xs)))) (takes z)) here
 
-pub record IsUsed (c : Configuration) (p : PoolId) (rows : List NodeEntry) (i : ℕ) (sum : Amount) : Type 0 where
-  pub all : sum ≡ used_by c p (take i rows)
-  pub few : IsFew sum i
+  pub total_seen : (xs : List X) (i : ℕ) (y : Y) → option_map seen (slice_get xs i) ≡ Some y → total (map f (filter test (take (i + 1) xs))) ≡ plus (total (map f (filter test (take i xs)))) (takes y)
+  total_seen xs i y is = more_by xs i y (slice_get xs i) refl is
 
-pool_is : (a b : ℕ) → a ≡ b → (a == b) ≡ true
-pool_is a b same = grind (arith, nat_tests)
-
-pool_not : (a b : ℕ) → (a ≡ b → ⊥) → (a == b) ≡ false
-pool_not a b other = grind (arith, nat_tests)
-
-pub used-in : (c : Configuration) (p : PoolId) (rows : List NodeEntry) (i : ℕ) (v : NodeView) (sum new : Amount) → IsUsed c p rows i sum → AmountFits (amount_of c p v.kept.label) → option_map node_view (slice_get rows i) ≡ Some v → v.kept.pool.0 ≡ p.0 → new ≡ plus sum (amount_of c p v.kept.label) → IsUsed c p rows (i + 1) new
-used-in c p rows i v sum new used small seen is made =
-    let all : sum ≡ used_by c p (take i rows) = used.all in
-    let few : IsFew sum i = used.few in
-    record {
-      all = made ∙ ap (λ (a : Amount). plus a (amount_of c p v.kept.label)) all ∙ sym (in_by c p rows i v (slice_get rows i) refl seen (pool_is _ _ is));
-      few = rw made (record {
-        instances = omega (arith, few.instances, small.instances);
-        cores = omega (arith, few.cores, small.cores);
-        ram = omega (arith, few.ram, small.ram);
-      });
-    }
-
-pub used-out : (c : Configuration) (p : PoolId) (rows : List NodeEntry) (i : ℕ) (v : NodeView) (sum new : Amount) → IsUsed c p rows i sum → option_map node_view (slice_get rows i) ≡ Some v → (v.kept.pool.0 ≡ p.0 → ⊥) → new ≡ sum → IsUsed c p rows (i + 1) new
-used-out c p rows i v sum new used seen is made =
-    let few : IsFew sum i = used.few in
-    record {
-      all = made ∙ used.all ∙ sym (out_by c p rows i v (slice_get rows i) refl seen (pool_not _ _ is));
-      few = rw made (record {
-        instances = omega (arith, few.instances);
-        cores = omega (arith, few.cores);
-        ram = omega (arith, few.ram);
-      });
-    }
+-- so many more
+pub few-plus : (a b : Amount) (m n k : ℕ) → k ≡ m + n → IsFew a m → IsFew b n → IsFew (plus a b) k
+few-plus a b m n k both one two = record {
+  instances = omega (arith, both, one.instances, two.instances);
+  cores = omega (arith, both, one.cores, two.cores);
+  ram = omega (arith, both, one.ram, two.ram);
+}

@@ -67,7 +67,7 @@ grown c maker (grow.Node kept) s = record s {
 }
 grown c maker (grow.JoinRequest r) s = record s { requests = by_maker maker (λ session rows. put_request_queue r (joined session (request_queue r rows)) rows) s.requests }
 grown c maker (grow.JoinNode n) s = record s { nodes = by_maker maker (λ session rows. put_node_queue n (joined session (node_queue n rows)) rows) s.nodes }
-grown c maker (grow.Allocate n r) s = record s { nodes = by_maker maker (λ session rows. change_first (λ e. e.id.0 == n.0) (allocated r session) rows) s.nodes }
+grown c maker (grow.Allocate n r tenant) s = record s { nodes = by_maker maker (λ session rows. change_first (λ e. e.id.0 == n.0) (allocated r tenant session) rows) s.nodes }
 grown c maker (grow.Handles j) s = record s { handles = all_with_handle j (semaphores_of c j) s.handles }
 grown c maker (grow.Swept n x) s = record s { swept = with_pair n x s.swept }
 
@@ -85,6 +85,7 @@ edited (edit.Decline p why failed) k = record k {
 edited edit.Fulfil k = record k { state = request_state.Fulfilled }
 edited edit.GiveBack k = record k { nodes = []; pool = None; state = request_state.Requested }
 edited edit.Fail k = record k { state = request_state.Failed }
+edited (edit.Revise relative) k = record k { relative_priority = relative }
 
 abbrev pub requests_changed : Option Maker → RequestsChange → List RequestEntry → List RequestEntry
 requests_changed maker requests.Same rows = rows

@@ -1,5 +1,5 @@
 -- the numbers of a state leave room for one more event, and its rows for one more member
-use Rattle.std.specs.Prelude.{◌≡◌, ◌<◌, ◌≤◌, ◌==◌, ℕ, List, [], ◌∷◌, true, false, ◌&&◌, not, Some, length, slice_get}
+use Rattle.std.specs.Prelude.{◌≡◌, ◌<◌, ◌≤◌, ◌*◌, ◌==◌, ℕ, List, [], ◌∷◌, true, false, ◌&&◌, not, Some, length, slice_get}
 use Rattle.std.specs.List.{AllByRecursion, list_any}
 use Rattle.np_text.specs.declared.id.SessionId.{SessionId}
 use Rattle.np_text.specs.declared.id.PoolId.{PoolId}
@@ -54,6 +54,12 @@ pub record AmountFits (a : Amount) : Type 0 where
   pub instances : a.instances ≤ 1000000
   pub cores : a.cores ≤ 1000000
   pub ram : a.ram ≤ 1000000
+
+-- what so many offers take together
+pub record IsFew (sum : Amount) (many : ℕ) : Type 0 where
+  pub instances : sum.instances ≤ many * 1000000
+  pub cores : sum.cores ≤ many * 1000000
+  pub ram : sum.ram ≤ many * 1000000
 
 -- no offer has the label of an earlier one
 abbrev pub AllApart : List Offer → Type 0

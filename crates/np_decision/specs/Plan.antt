@@ -24,11 +24,12 @@ use Rattle.np_event.specs.declared.event.Event.{Event}
 use Rattle.np_event.specs.declared.event.Event.TheVariants as ev
 use Rattle.np_event.specs.declared.event.Outcome.{Outcome}
 use Rattle.np_machine.specs.State.{State}
-use Rattle.np_machine.specs.Tables.{request_in, node_in, session_of}
+use Rattle.np_machine.specs.Tables.{request_in, node_in, session_of, freed}
 use Rattle.np_machine.specs.Tests.{maker, launcher, janitor, requester}
 use Rattle.np_machine.specs.Count.{retries_of}
 use Rattle.np_machine.specs.Reasons.{next_label}
-use Rattle.np_machine.specs.Request.{next_id}
+use Rattle.np_machine.specs.Tenants.{tenant_of_request}
+use Rattle.np_machine.specs.Request.{next_id, request_of_job}
 use Rattle.np_machine.specs.Node.{starts_of, launched, ended_as, is_wanted}
 use Rattle.np_machine.specs.Semaphore.{unended, ending_of}
 use Rattle.np_decision.specs.Readers.{is_last_pool, owner_of}
@@ -126,6 +127,12 @@ submit_as s j job = with_found (slice_get s.jobs j.0) (λ kept.
 abbrev pub plan_submit : Configuration → State → SessionId → JobId → Changes
 plan_submit c s session j = by_requester s session (with_found (slice_get c.jobs j.0) (submit_as s j))
 
+abbrev pub revise_to : ℕ → RequestId → Changes
+revise_to relative r = record same { requests = requests.Edit r (edit.Revise relative) }
+
+abbrev pub plan_revise : State → SessionId → JobId → ℕ → Changes
+plan_revise s session j relative = by_requester s session (with_found (request_of_job j s) (revise_to relative))
+
 -- what a pool asks for to keep a node of the label ready
 abbrev pub asked_to_keep : PoolId → LabelId → Asked
 asked_to_keep p l = record {
@@ -185,14 +192,14 @@ plan_fail_declined s session r = by_janitor s session (record same { requests = 
 
 -- ## nodes
 
-abbrev pub plan_take_ready : State → SessionId → RequestId → NodeId → Changes
-plan_take_ready s session r n =
+abbrev pub plan_take_ready : Configuration → State → SessionId → RequestId → NodeId → Changes
+plan_take_ready c s session r n =
     by_launcher s session (λ p. with_found (request_in r s.requests) (λ request.
-    record same { grows = grow.Allocate n r; requests = requests.Edit r (edit.AddNode n) }))
+    record same { grows = grow.Allocate n r (tenant_of_request c request); requests = requests.Edit r (edit.AddNode n) }))
 
--- a node that nobody has launched yet
-abbrev pub new_node : State → RequestId → PoolId → LabelId → NodeRecord
-new_node s r p l = record {
+-- a node that nobody has launched yet, for the tenant of the request's job
+abbrev pub new_node : Configuration → State → RequestId → PoolId → RequestRecord → LabelId → NodeRecord
+new_node c s r p request l = record {
   allocated_to = Some r;
   attempts = 0;
   in_flight = false;
@@ -202,14 +209,15 @@ new_node s r p l = record {
   since = s.tick;
   start = 0;
   state = node_state.Building;
+  tenant = tenant_of_request c request;
 }
 
-abbrev pub create_for_next : State → RequestId → PoolId → RequestRecord → Changes
-create_for_next s r p request = with_found (next_label request) (λ l.
-    record same { grows = grow.Node (new_node s r p l); requests = requests.Edit r (edit.AddNode (record { 0 = s.next_node })) })
+abbrev pub create_for_next : Configuration → State → RequestId → PoolId → RequestRecord → Changes
+create_for_next c s r p request = with_found (next_label request) (λ l.
+    record same { grows = grow.Node (new_node c s r p request l); requests = requests.Edit r (edit.AddNode (record { 0 = s.next_node })) })
 
-abbrev pub plan_create : State → SessionId → RequestId → Changes
-plan_create s session r = by_launcher s session (λ p. with_found (request_in r s.requests) (create_for_next s r p))
+abbrev pub plan_create : Configuration → State → SessionId → RequestId → Changes
+plan_create c s session r = by_launcher s session (λ p. with_found (request_in r s.requests) (create_for_next c s r p))
 
 -- a start is one more start of the pool, too
 abbrev pub start_change : State → SessionId → NodeId → PoolId → NodeRecord → Changes
@@ -256,7 +264,7 @@ plan_gone s session n = by_janitor s session (record same { nodes = nodes.Remove
 
 abbrev pub plan_free_node : State → SessionId → NodeId → Changes
 plan_free_node s session n =
-    by_janitor s session (with_found (node_in n s.nodes) (λ k. record same { nodes = nodes.Put n (record k { allocated_to = None }) }))
+    by_janitor s session (with_found (node_in n s.nodes) (λ k. record same { nodes = nodes.Put n (freed k) }))
 
 abbrev pub plan_sweep : State → SessionId → NodeId → ℕ → Changes
 plan_sweep s session n x = by_janitor s session (record same { grows = if is_wanted s n x then grow.Nothing else grow.Swept n x })
@@ -310,13 +318,14 @@ plan c s (ev.Crash session) = plan_crash s session
 plan c s (ev.Expire session) = plan_expire s session
 plan c s (ev.Register session) = plan_register s session
 plan c s (ev.Submit session j) = plan_submit c s session j
+plan c s (ev.Revise session j relative) = plan_revise s session j relative
 plan c s (ev.MinReady session l) = plan_min_ready s session l
 plan c s (ev.LockRequest session r) = plan_lock_request s session r
 plan c s (ev.UnlockRequest session r) = plan_unlock_request s session r
 plan c s (ev.Accept session r) = plan_accept s session r
 plan c s (ev.Decline session r why) = plan_decline s session r why
-plan c s (ev.TakeReady session r n) = plan_take_ready s session r n
-plan c s (ev.Create session r) = plan_create s session r
+plan c s (ev.TakeReady session r n) = plan_take_ready c s session r n
+plan c s (ev.Create session r) = plan_create c s session r
 plan c s (ev.Start session n) = plan_start s session n
 plan c s (ev.Done session n attempt o) = plan_done c s session n o
 plan c s (ev.Fulfil session r) = plan_fulfil s session r

@@ -1,5 +1,5 @@
 -- a request's record without its declines, and rows with who holds them
-use Rattle.std.specs.Prelude.{List, [], ◌∷◌, Option, Some, None, if◌then◌else◌}
+use Rattle.std.specs.Prelude.{List, [], ◌∷◌, Bool, true, Option, Some, None}
 use Rattle.np_text.specs.declared.id.SessionId.{SessionId}
 use Rattle.np_record.specs.declared.record.RequestRecord.{RequestRecord}
 use Rattle.np_machine.specs.Entries.{RequestEntry, NodeEntry}
@@ -51,7 +51,7 @@ request_seen v = record { id = v.id; kept = v.kept; queue = held_by v.holder }
 abbrev pub node_seen : NodeView → NodeEntry
 node_seen v = record { id = v.id; kept = v.kept; queue = held_by v.holder }
 
--- the earlier of both
-abbrev pub earlier_view : Option RequestView → RequestView → RequestView
-earlier_view None v = v
-earlier_view (Some best) v = if comes_before (request_seen v) (request_seen best) then v else best
+-- before the best so far, where there is one
+abbrev pub comes_first : Option RequestView → RequestView → Bool
+comes_first None v = true
+comes_first (Some best) v = comes_before (request_seen v) (request_seen best)

@@ -2,7 +2,7 @@
 
 use crate::asked::Asked;
 use np_record::{JobRecord, NodeRecord, NodeRow};
-use np_text::{JobId, NodeId, PoolId, Reason, RequestId, Role, SessionId};
+use np_text::{JobId, NodeId, PoolId, Reason, RequestId, Role, SessionId, TenantId};
 
 /// The session that makes an event, with its role.
 #[derive(Clone, Copy)]
@@ -16,23 +16,46 @@ pub struct Maker {
 pub enum Growth {
     Nothing,
     /// A session of the role begins.
-    Session { role: Role },
+    Session {
+        role: Role,
+    },
     /// The maker registers for the pool.
-    Registration { pool: PoolId },
+    Registration {
+        pool: PoolId,
+    },
     /// A request of the next number, which nobody holds.
-    Request { priority: u16, asked: Asked },
+    Request {
+        priority: u16,
+        asked: Asked,
+    },
     /// A node of the next number, which the maker holds.
-    Node { kept: NodeRecord },
+    Node {
+        kept: NodeRecord,
+    },
     /// The maker joins the request's queue.
-    JoinRequest { request: RequestId },
+    JoinRequest {
+        request: RequestId,
+    },
     /// The maker joins the node's queue.
-    JoinNode { node: NodeId },
-    /// The node is allocated to the request, and the maker joins its queue.
-    Allocate { node: NodeId, request: RequestId },
+    JoinNode {
+        node: NodeId,
+    },
+    /// The node is allocated to the request, for the tenant of its job, and the maker joins its
+    /// queue.
+    Allocate {
+        node: NodeId,
+        request: RequestId,
+        tenant: Option<TenantId>,
+    },
     /// The job takes a handle of each of its semaphores.
-    Handles { job: JobId },
+    Handles {
+        job: JobId,
+    },
     /// The server was swept.
-    Swept { node: NodeId, server: u64 },
+    Swept {
+        node: NodeId,
+        server: u64,
+    },
 }
 
 /// What happens to one request's record.
@@ -58,6 +81,10 @@ pub enum RequestEdit {
     GiveBack,
     /// Failed.
     Fail,
+    /// Another relative priority.
+    Revise {
+        relative: u32,
+    },
 }
 
 /// What happens to the requests.

@@ -5,8 +5,11 @@ ghost use Rattle.np_text.specs.declared.id.LabelId.{LabelId};
 ghost use Rattle.np_amount.specs.Amounts.{fits, plus};
 ghost use Rattle.np_machine.specs.Count.{offers_of, limit_of, retries_of, offer_of, is_offered, amount_of, amount_of_all};
 ghost use Rattle.np_machine.specs.Reasons.{ready_age};
-ghost use Rattle.np_decision.specs.Fits.{AmountFits};
+ghost use Rattle.np_decision.specs.Fits.{AmountFits, IsFew};
+ghost use Rattle.np_decision.specs.Views.{node_seen};
+ghost use Rattle.np_decision.specs.Readers.{amount_at};
 
+use crate::asked::NodeView;
 use np_amount::{Amount, Limit};
 use np_config::Config;
 use np_site::Offer;
@@ -18,7 +21,7 @@ pub(crate) const NOTHING: Amount = Amount {
     ram: 0,
 };
 
-const NO_LIMIT: Limit = Limit {
+pub(crate) const NO_LIMIT: Limit = Limit {
     instances: None,
     cores: None,
     ram: None,
@@ -80,11 +83,25 @@ pub(crate) fn amount(config: &Config, pool: PoolId, label: LabelId) -> Amount
     }
 }
 
+/// What the node takes, where it is the pool's.
+pub(crate) fn amount_at(config: &Config, pool: PoolId, view: &NodeView) -> Amount
+    requires small { (l : LabelId) → AmountFits (amount_of config.now pool l) }
+    ensures amount { result ≡ amount_at config.now pool (node_seen view.now) }
+    ensures few { IsFew result 1 }
+{
+    if view.kept.pool.0 == pool.0 {
+        amount(config, pool, view.kept.label)
+    } else {
+        NOTHING
+    }
+}
+
 /// What the labels that the pool offers take together.
-fn amount_of_all(config: &Config, pool: PoolId, labels: &[LabelId]) -> Amount
+pub(crate) fn amount_of_all(config: &Config, pool: PoolId, labels: &[LabelId]) -> Amount
     requires few { length labels.now < 2 ^ 32 }
     requires small { (l : LabelId) → AmountFits (amount_of config.now pool l) }
-    ensures { result ≡ amount_of_all config.now pool labels.now }
+    ensures all { result ≡ amount_of_all config.now pool labels.now }
+    ensures few { IsFew result (length labels.now) }
 {
     let mut sum = NOTHING;
     for label in labels {

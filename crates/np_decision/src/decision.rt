@@ -13,7 +13,8 @@ use crate::node::{
 };
 use crate::request::{
     decide_accept, decide_decline, decide_fail_declined, decide_fulfil, decide_lock_request,
-    decide_min_ready, decide_register, decide_reset, decide_submit, decide_unlock_request,
+    decide_min_ready, decide_register, decide_reset, decide_revise, decide_submit,
+    decide_unlock_request,
 };
 use crate::semaphore::{
     decide_acquire, decide_finish, decide_release, decide_take, decide_withdraw,
@@ -37,6 +38,11 @@ pub fn decide<L: Look>(look: &L, event: Event) -> Result<Verdict, Refusal>
         Event::Expire { session } => decide_expire(look, session),
         Event::Register { session } => decide_register(look, session),
         Event::Submit { session, job } => decide_submit(look, session, job),
+        Event::Revise {
+            session,
+            job,
+            relative,
+        } => decide_revise(look, session, job, relative),
         Event::MinReady { session, label } => decide_min_ready(look, session, label),
         Event::LockRequest { session, request } => decide_lock_request(look, session, request),
         Event::UnlockRequest { session, request } => decide_unlock_request(look, session, request),

@@ -19,6 +19,7 @@ mod node;
 mod request;
 mod semaphore;
 mod session;
+mod tenant;
 mod tests;
 mod verdict;
 mod walk;
@@ -39,8 +40,13 @@ pub use node::{
 };
 pub use request::{
     decide_accept, decide_decline, decide_fail_declined, decide_fulfil, decide_lock_request,
-    decide_min_ready, decide_register, decide_reset, decide_submit, decide_unlock_request,
+    decide_min_ready, decide_register, decide_reset, decide_revise, decide_submit,
+    decide_unlock_request,
 };
 pub use semaphore::{decide_acquire, decide_finish, decide_release, decide_take, decide_withdraw};
 pub use session::{decide_crash, decide_expire, decide_open, decide_tick};
 pub use verdict::Verdict;
+pub use walk::{
+    asked_of, declines_or_is, is_coming, is_declined_by, is_free_ready, is_live_of, is_marked,
+    is_spent_min_ready, short_label,
+};

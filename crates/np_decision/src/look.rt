@@ -7,26 +7,30 @@ ghost use Rattle.np_site.specs.Configuration.{Configuration};
 ghost use Rattle.np_machine.specs.State.{State};
 ghost use Rattle.np_machine.specs.Tables.{session_of, registered, request_in, request_queue, request_holder, node_in, node_queue, node_holder, ahead_of, is_queued, handles_of, has_handle, role_in};
 ghost use Rattle.np_machine.specs.Count.{count_of};
-ghost use Rattle.np_machine.specs.Order.{first_of};
+ghost use Rattle.np_machine.specs.Tenants.{count_of_tenant};
 ghost use Rattle.np_machine.specs.Reasons.{is_spare, is_paused};
+ghost use Rattle.np_machine.specs.First.{blocking, first_of};
 ghost use Rattle.np_machine.specs.Request.{is_spent_min_ready, ready_count};
 ghost use Rattle.np_machine.specs.Node.{is_swept};
 ghost use Rattle.np_machine.specs.Semaphore.{has_live_session};
 ghost use Rattle.np_decision.specs.Fits.{Fits};
-ghost use Rattle.np_decision.specs.Views.{asked_of, request_view, node_view};
+ghost use Rattle.np_decision.specs.Views.{asked_of, new_record, request_view, node_view};
 ghost use Rattle.np_decision.specs.Readers.{is_declined, undeclined_of, is_last_pool_of, owner_of};
 
 use crate::asked::{Asked, NodeView, RequestView};
-use crate::count::{NOTHING, amount};
+use crate::count::{NOTHING, amount_at};
+use crate::tenant::{amount_for, is_short_of, limited_tenant, rest_for};
 use crate::walk::{
-    asked_of, declines_or_is, earlier, is_candidate, is_coming, is_declined_by, is_free_ready,
-    is_live_of, is_marked, is_spare, is_spent_min_ready, one_if, short_label,
+    asked_of, declines_or_is, is_better, is_coming, is_declined_by, is_free_ready, is_live_of,
+    is_marked, is_spare, is_spent_min_ready, one_if, short_label,
 };
 use np_amount::Amount;
 use np_config::Config;
 use np_machine::{Registration, SessionFacts};
 use np_record::{JobRecord, NodeRecord, RequestRecord, RoleRecord};
-use np_text::{JobId, LabelId, NodeId, PoolId, RequestId, RequesterId, Role, SemId, SessionId};
+use np_text::{
+    JobId, LabelId, NodeId, PoolId, RequestId, RequesterId, Role, SemId, SessionId, TenantId,
+};
 
 /// Reads a state. No call takes memory.
 ///
@@ -243,18 +247,39 @@ pub trait Look {
         false
     }
 
-    /// The first request that the pool's launcher may take up.
+    /// The tenant that has no room now for a request that the pool may serve. What a tenant uses is
+    /// asked only where the tenant has a limit.
+    fn blocking(&self, pool: PoolId, asked: &Asked) -> Option<TenantId>
+        requires { Fits (site self.now) (state self.now) }
+        ensures { result ≡ blocking (site self.now) (state self.now) pool (new_record asked.now) }
+    {
+        let tenant = limited_tenant(self.config(), pool, asked)?;
+        let used = self.used_by(tenant);
+        if is_short_of(self.config(), pool, asked, tenant, used) {
+            Some(tenant)
+        } else {
+            None
+        }
+    }
+
+    /// The first request that the pool's launcher may take up. Whether its tenant has room is asked
+    /// only of a request that comes before the best so far.
     fn first_of(&self, pool: PoolId) -> Option<RequestId>
-        ensures { result ≡ first_of pool (state self.now) }
+        requires { Fits (site self.now) (state self.now) }
+        ensures { result ≡ first_of (site self.now) (state self.now) pool }
     {
         let mut best: Option<RequestView> = None;
         for at in 0..self.requests() {
             let Some(view) = self.request_view(at) else {
                 return None;
             };
-            if is_candidate(pool, &view) {
-                best = Some(earlier(best, view));
+            if !is_better(pool, &best, &view) {
+                continue;
             }
+            if self.blocking(pool, &asked_of(&view.kept)).is_some() {
+                continue;
+            }
+            best = Some(view);
         }
         match best {
             None => None,
@@ -311,11 +336,34 @@ pub trait Look {
             let Some(view) = self.node_view(at) else {
                 return NOTHING;
             };
-            if view.kept.pool.0 == pool.0 {
-                sum = sum.plus(amount(self.config(), pool, view.kept.label));
-            }
+            sum = sum.plus(amount_at(self.config(), pool, &view));
         }
         sum
+    }
+
+    /// What the tenant uses: its nodes, and what its pending requests still wait for.
+    fn used_by(&self, tenant: TenantId) -> Amount
+        requires { Fits (site self.now) (state self.now) }
+        ensures used { result ≡ count_of_tenant (site self.now) (state self.now) tenant }
+        ensures instances { result.instances < 2 ^ 63 }
+        ensures cores { result.cores < 2 ^ 63 }
+        ensures ram { result.ram < 2 ^ 63 }
+    {
+        let mut of_nodes = NOTHING;
+        for at in 0..self.nodes() {
+            let Some(view) = self.node_view(at) else {
+                return NOTHING;
+            };
+            of_nodes = of_nodes.plus(amount_for(self.config(), tenant, &view));
+        }
+        let mut of_requests = NOTHING;
+        for at in 0..self.requests() {
+            let Some(view) = self.request_view(at) else {
+                return NOTHING;
+            };
+            of_requests = of_requests.plus(rest_for(self.config(), tenant, &view));
+        }
+        of_nodes.plus(of_requests)
     }
 
     /// Whether a ready, free and unlocked node of the pool has the label.

@@ -5,15 +5,20 @@ ghost use Rattle.np_machine.specs.Count.{retries_of};
 ghost use Rattle.np_machine.specs.Reasons.{ready_age, is_past, due_tick};
 ghost use Rattle.np_machine.specs.Node.{judge_take_ready, judge_create, starts_of, judge_start, judge_done, state_after_launch, launched, place_reply, judge_lock_node, judge_unlock_node, is_own, judge_end_node, ended_as, may_delete, judge_mark_deleting, judge_gone, standing, judge_free_node, is_server, is_wanted, judge_sweep};
 ghost use Rattle.np_decision.specs.Fits.{Fits};
+ghost use Rattle.np_decision.specs.Views.{new_record};
 ghost use Rattle.np_decision.specs.Plan.{plan_take_ready, new_node, plan_create, plan_start, plan_done, plan_lock_node, plan_unlock_node, end_in, plan_end_node, plan_mark_deleting, plan_gone, plan_free_node, plan_sweep};
+ghost use Rattle.np_decision.specs.Readers.{tenant_of_job};
 ghost use Rattle.np_decision.specs.Verdicts.{answer_of};
+ghost use Rattle.np_decision.specs.declared.changes.Growth.TheVariants.{Allocate};
 
+use crate::asked::Asked;
 use crate::changes::{Changes, Deed, Growth, JobsChange, NodesChange, RequestEdit, RequestsChange};
 use crate::count;
 use crate::look::Look;
 use crate::tests::{
     by_node_holder, by_registrant, by_request_holder, has_room, is_pending_by, janitor, launcher,
-    maker, next_label, node_at, of_pool, request_at, requester, wrong_node, wrong_request,
+    maker, next_label, node_at, of_pool, request_at, requester, tenant_of_job, wrong_node,
+    wrong_request,
 };
 use crate::verdict::{Verdict, made_by};
 use np_event::{Done, Outcome, Refusal};
@@ -22,7 +27,18 @@ use np_text::{
     EndAs, JobId, LabelId, NodeId, NodeState, PoolId, RequestId, RequesterId, Role, SessionId,
 };
 
-/// The launcher gives a ready node to the request.
+/// The node is given to the request, for the tenant of its job.
+fn allocate<L: Look>(look: &L, node: NodeId, request: RequestId, asked: &Asked) -> Growth
+    ensures { result ≡ Allocate node request (tenant_of_job (L.site look.now) asked.now.job) }
+{
+    Growth::Allocate {
+        node,
+        request,
+        tenant: tenant_of_job(look, asked.job),
+    }
+}
+
+/// The launcher gives a ready node to the request, for the tenant of its job.
 pub fn decide_take_ready<L: Look>(
     look: &L,
     session: SessionId,
@@ -31,7 +47,7 @@ pub fn decide_take_ready<L: Look>(
 ) -> Result<Verdict, Refusal>
     ensures answer { answer_of result ≡ judge_take_ready (L.state look.now) session request node }
     ensures changes { IfOk result (λ v. v.changes ≡
-        plan_take_ready (L.state look.now) session request node) }
+        plan_take_ready (L.site look.now) (L.state look.now) session request node) }
 {
     let pool = launcher(look, session)?;
     let asked = request_at(look, request)?;
@@ -62,7 +78,7 @@ pub fn decide_take_ready<L: Look>(
     Ok(Verdict {
         done: Done::Held,
         changes: Changes {
-            grows: Growth::Allocate { node, request },
+            grows: allocate(look, node, request, &asked),
             requests: RequestsChange::Edit {
                 request,
                 edit: RequestEdit::AddNode { node },
@@ -72,9 +88,16 @@ pub fn decide_take_ready<L: Look>(
     })
 }
 
-/// A node that nobody has launched yet.
-fn new_node<L: Look>(look: &L, request: RequestId, pool: PoolId, label: LabelId) -> NodeRecord
-    ensures { result ≡ new_node (L.state look.now) request pool label }
+/// A node that nobody has launched yet, for the tenant of the request's job.
+fn new_node<L: Look>(
+    look: &L,
+    request: RequestId,
+    pool: PoolId,
+    asked: &Asked,
+    label: LabelId,
+) -> NodeRecord
+    ensures { result ≡
+        new_node (L.site look.now) (L.state look.now) request pool (new_record asked.now) label }
 {
     NodeRecord {
         allocated_to: Some(request),
@@ -86,6 +109,7 @@ fn new_node<L: Look>(look: &L, request: RequestId, pool: PoolId, label: LabelId)
         since: look.tick(),
         start: 0,
         state: NodeState::Building,
+        tenant: tenant_of_job(look, asked.job),
     }
 }
 
@@ -99,7 +123,7 @@ pub fn decide_create<L: Look>(
     ensures answer { answer_of result ≡
         judge_create (L.site look.now) (L.state look.now) session request }
     ensures changes { IfOk result (λ v. v.changes ≡
-        plan_create (L.state look.now) session request) }
+        plan_create (L.site look.now) (L.state look.now) session request) }
 {
     let pool = launcher(look, session)?;
     let asked = request_at(look, request)?;
@@ -117,7 +141,7 @@ pub fn decide_create<L: Look>(
         done: Done::Node(node),
         changes: Changes {
             grows: Growth::Node {
-                kept: new_node(look, request, pool, label),
+                kept: new_node(look, request, pool, &asked, label),
             },
             requests: RequestsChange::Edit {
                 request,
@@ -529,6 +553,7 @@ pub fn decide_free_node<L: Look>(
                 node,
                 kept: NodeRecord {
                     allocated_to: None,
+                    tenant: None,
                     ..kept
                 },
             },

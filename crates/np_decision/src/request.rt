@@ -3,12 +3,13 @@
 ghost use Rattle.std.specs.Prelude.{◌≡◌, ◌<◌, ◌≤◌, ◌==◌, length, not, IfOk};
 ghost use Rattle.std.specs.List.{list_any};
 ghost use Rattle.np_text.specs.declared.id.Role.TheVariants.{Launcher, Janitor};
-ghost use Rattle.np_machine.specs.Order.{first_of, is_pinned_away};
+ghost use Rattle.np_machine.specs.Order.{is_pinned_away};
 ghost use Rattle.np_machine.specs.Reasons.{is_spent, is_true};
-ghost use Rattle.np_machine.specs.Request.{judge_register, judge_submit, judge_min_ready, other_than, lock_pending, lock_request_as, judge_lock_request, unlock_request_as, judge_unlock_request, judge_accept, in_state_for, judge_decline, unfilled, judge_fulfil, judge_reset, judge_fail_declined};
+ghost use Rattle.np_machine.specs.First.{first_of};
+ghost use Rattle.np_machine.specs.Request.{judge_register, judge_submit, judge_revise, judge_min_ready, other_than, lock_pending, lock_request_as, judge_lock_request, unlock_request_as, judge_unlock_request, judge_accept, in_state_for, judge_decline, unfilled, judge_fulfil, judge_reset, judge_fail_declined};
 ghost use Rattle.np_decision.specs.Fits.{Fits};
 ghost use Rattle.np_decision.specs.Views.{new_record};
-ghost use Rattle.np_decision.specs.Plan.{plan_register, asked_for, plan_submit, asked_to_keep, plan_min_ready, plan_lock_request, plan_unlock_request, plan_accept, plan_decline, request_after_fulfil, nodes_after_fulfil, plan_fulfil, plan_reset, plan_fail_declined};
+ghost use Rattle.np_decision.specs.Plan.{plan_register, asked_for, plan_submit, plan_revise, asked_to_keep, plan_min_ready, plan_lock_request, plan_unlock_request, plan_accept, plan_decline, request_after_fulfil, nodes_after_fulfil, plan_fulfil, plan_reset, plan_fail_declined};
 ghost use Rattle.np_decision.specs.Places.{lack_at};
 ghost use Rattle.np_decision.specs.Verdicts.{answer_of, min_ready_of};
 
@@ -18,7 +19,8 @@ use crate::look::Look;
 use crate::tests::{
     by_registrant, by_request_holder, first_unoffered, has_room, is_named, is_of_request,
     is_offered, is_pending_by, is_too_much, janitor, job_at, launcher, maker, missing_handles,
-    none_missing, of_requester, record_of, request_at, requester, wrong_job, wrong_request,
+    none_missing, not_blocked, of_requester, record_of, request_at, request_of, requester,
+    tenant_never_fits, wrong_job, wrong_request,
 };
 use crate::verdict::{Verdict, made_by};
 use np_event::{Done, Refusal};
@@ -118,6 +120,42 @@ pub fn decide_submit<L: Look>(look: &L, session: SessionId, job: JobId) -> Resul
     })
 }
 
+/// The requester changes the relative priority of a request that nobody has accepted.
+pub fn decide_revise<L: Look>(
+    look: &L,
+    session: SessionId,
+    job: JobId,
+    relative: u32,
+) -> Result<Verdict, Refusal>
+    ensures answer { answer_of result ≡
+        judge_revise (L.site look.now) (L.state look.now) session job }
+    ensures changes { IfOk result (λ v. v.changes ≡
+        plan_revise (L.state look.now) session job relative) }
+{
+    let owner = requester(look, session)?;
+    let row = job_at(look, job)?;
+    let kept = record_of(look, job)?;
+    of_requester(owner, row)?;
+    if kept.phase != Phase::Asked {
+        return Err(wrong_job(&kept));
+    }
+    let request = request_of(&kept)?;
+    let asked = request_at(look, request)?;
+    if asked.state != RequestState::Requested {
+        return Err(wrong_request(&asked));
+    }
+    Ok(Verdict {
+        done: Done::Plain,
+        changes: Changes {
+            requests: RequestsChange::Edit {
+                request,
+                edit: RequestEdit::Revise { relative },
+            },
+            ..made_by(session, Role::Requester(owner))
+        },
+    })
+}
+
 /// What a pool asks for to keep a node of the label ready.
 fn asked_to_keep(pool: PoolId, label: LabelId) -> Asked
     ensures { result ≡ asked_to_keep pool label }
@@ -188,7 +226,8 @@ pub fn decide_min_ready<L: Look>(
 
 /// The first candidate of the pool, where it is another than this request.
 fn other_than<L: Look>(look: &L, request: RequestId, pool: PoolId) -> Option<RequestId>
-    ensures { result ≡ other_than request (first_of pool (L.state look.now)) }
+    requires { Fits (L.site look.now) (L.state look.now) }
+    ensures { result ≡ other_than request (first_of (L.site look.now) (L.state look.now) pool) }
 {
     let first = look.first_of(pool)?;
     if first.priority == request.priority && first.seq == request.seq {
@@ -203,7 +242,9 @@ fn lock_first<L: Look>(
     session: SessionId,
     request: RequestId,
 ) -> Result<Done, Refusal>
-    ensures { result ≡ lock_request_as (L.state look.now) session request (Launcher pool) }
+    requires { Fits (L.site look.now) (L.state look.now) }
+    ensures { result ≡
+        lock_request_as (L.site look.now) (L.state look.now) session request (Launcher pool) }
 {
     let asked = request_at(look, request)?;
     by_registrant(look, pool, session)?;
@@ -219,6 +260,7 @@ fn lock_first<L: Look>(
     if let Some(holder) = look.request_holder(request) {
         return Err(Refusal::Busy(holder));
     }
+    not_blocked(look, pool, &asked)?;
     if let Some(first) = other_than(look, request, pool) {
         return Err(Refusal::NotFirst(first));
     }
@@ -254,7 +296,8 @@ fn lock_request_as<L: Look>(
     request: RequestId,
     role: Role,
 ) -> Result<Done, Refusal>
-    ensures { result ≡ lock_request_as (L.state look.now) session request role }
+    requires { Fits (L.site look.now) (L.state look.now) }
+    ensures { result ≡ lock_request_as (L.site look.now) (L.state look.now) session request role }
 {
     match role {
         Role::Launcher(pool) => lock_first(look, pool, session, request),
@@ -269,7 +312,9 @@ pub fn decide_lock_request<L: Look>(
     session: SessionId,
     request: RequestId,
 ) -> Result<Verdict, Refusal>
-    ensures answer { answer_of result ≡ judge_lock_request (L.state look.now) session request }
+    requires { Fits (L.site look.now) (L.state look.now) }
+    ensures answer { answer_of result ≡
+        judge_lock_request (L.site look.now) (L.state look.now) session request }
     ensures changes { IfOk result (λ v. v.changes ≡
         plan_lock_request (L.state look.now) session request) }
 {
@@ -378,6 +423,10 @@ pub fn decide_accept<L: Look>(
     if is_too_much(look, pool, asked.labels.items()) {
         return Err(Refusal::NeverFits);
     }
+    if tenant_never_fits(look, pool, &asked) {
+        return Err(Refusal::TenantNeverFits);
+    }
+    not_blocked(look, pool, &asked)?;
     Ok(Verdict {
         done: Done::Plain,
         changes: Changes {
@@ -395,7 +444,9 @@ fn in_state_for(pool: PoolId, asked: &Asked, reason: Reason) -> Result<(), Refus
     ensures { result ≡ in_state_for pool (new_record asked.now) reason }
 {
     let right = match reason {
-        Reason::NoLabel(_) | Reason::NeverFits => asked.state == RequestState::Requested,
+        Reason::NoLabel(_) | Reason::NeverFits | Reason::TenantNeverFits => {
+            asked.state == RequestState::Requested
+        }
         Reason::Spent(_) => is_pending_by(pool, asked),
     };
     if right {
@@ -440,6 +491,7 @@ fn is_true<L: Look>(look: &L, pool: PoolId, asked: &Asked, reason: Reason) -> bo
             let _few = asked.labels.len();
             is_too_much(look, pool, asked.labels.items())
         }
+        Reason::TenantNeverFits => tenant_never_fits(look, pool, asked),
         Reason::Spent(node) => has_node(asked, node) && is_spent(look, node),
     }
 }

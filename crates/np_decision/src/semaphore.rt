@@ -7,13 +7,13 @@ ghost use Rattle.np_machine.specs.Tables.{role_of};
 ghost use Rattle.np_machine.specs.Semaphore.{is_full, first_full, judge_acquire, unheld, unended, judge_take, is_busy_with, has_failed_request, is_finishable, ending_of, may_finish, requester_or_janitor, judge_finish, judge_withdraw, may_release, judge_release};
 ghost use Rattle.np_decision.specs.Fits.{Fits};
 ghost use Rattle.np_decision.specs.Plan.{plan_acquire, plan_take, plan_finish, request_after_withdraw, plan_withdraw, plan_release};
-ghost use Rattle.np_decision.specs.Verdicts.{answer_of, asked_request};
+ghost use Rattle.np_decision.specs.Verdicts.{answer_of};
 
 use crate::changes::{Changes, Growth, HandlesChange, JobsChange, NodesChange, RequestsChange};
 use crate::look::Look;
 use crate::tests::{
     is_named, job_at, maker, missing_handles, none_missing, of_requester, record_of, request_at,
-    requester, wrong_job, wrong_request,
+    request_of, requester, wrong_job, wrong_request,
 };
 use crate::verdict::{Verdict, made_by};
 use crate::walk::is_requester;
@@ -99,16 +99,6 @@ fn unended_marks(nodes: &[NodeId]) -> MarkRow
         });
     }
     row
-}
-
-/// The request of the job.
-fn request_of(job: &JobRecord) -> Result<RequestId, Refusal>
-    ensures { result ≡ asked_request job.now }
-{
-    match job.request {
-        None => Err(Refusal::NoRequest),
-        Some(request) => Ok(request),
-    }
 }
 
 /// The requester takes over the nodes of its fulfilled request.

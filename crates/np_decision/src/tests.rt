@@ -5,22 +5,24 @@ ghost use Rattle.np_amount.specs.Amounts.{fits};
 ghost use Rattle.np_machine.specs.Tables.{is_session_of, is_request};
 ghost use Rattle.np_machine.specs.Order.{is_pool, is_pending_by};
 ghost use Rattle.np_machine.specs.Count.{is_offered, amount_of_all, limit_of, is_short, count_of};
+ghost use Rattle.np_machine.specs.Tenants.{tenant_never_fits};
 ghost use Rattle.np_machine.specs.Reasons.{next_label};
-ghost use Rattle.np_machine.specs.Tests.{maker, launcher, janitor, requester, request_at, node_at, job_at, record_of, of_requester, by_registrant, by_request_holder, by_node_holder, of_pool, wrong_request, wrong_node, wrong_job, none_missing, missing_handles};
+ghost use Rattle.np_machine.specs.Tests.{maker, launcher, janitor, requester, request_at, node_at, job_at, record_of, of_requester, by_registrant, by_request_holder, by_node_holder, of_pool, wrong_request, wrong_node, wrong_job, none_missing, not_blocked, missing_handles};
 ghost use Rattle.np_decision.specs.Fits.{Fits};
 ghost use Rattle.np_decision.specs.Views.{new_record};
-ghost use Rattle.np_decision.specs.Verdicts.{without_declines, row_of_job, has_room};
+ghost use Rattle.np_decision.specs.Readers.{tenant_of_job};
+ghost use Rattle.np_decision.specs.Verdicts.{without_declines, row_of_job, asked_request, has_room};
 
 use crate::asked::Asked;
-use crate::count;
 use crate::look::Look;
+use crate::{count, tenant};
 use np_amount::Amount;
 use np_event::{Found, Refusal};
 use np_record::{JobRecord, NodeRecord};
 use np_site::Job;
 use np_text::{
     JobId, LabelId, NodeId, NodeState, PoolId, RequestId, RequestState, RequesterId, Role,
-    SessionId,
+    SessionId, TenantId,
 };
 
 // The maker.
@@ -110,6 +112,16 @@ pub(crate) fn record_of<L: Look>(look: &L, job: JobId) -> Result<JobRecord, Refu
     match look.job(job) {
         None => Err(Refusal::NoJob),
         Some(kept) => Ok(kept),
+    }
+}
+
+/// The request of the job.
+pub(crate) fn request_of(job: &JobRecord) -> Result<RequestId, Refusal>
+    ensures { result ≡ asked_request job.now }
+{
+    match job.request {
+        None => Err(Refusal::NoRequest),
+        Some(request) => Ok(request),
     }
 }
 
@@ -321,6 +333,39 @@ pub(crate) fn lacks_room<L: Look>(look: &L, pool: PoolId, label: LabelId, used: 
     ensures { result ≡ is_short (L.site look.now) (L.state look.now) pool label }
 {
     count::lacks_room(look.config(), pool, label, used)
+}
+
+/// The tenant of the job, where there is one.
+pub(crate) fn tenant_of_job<L: Look>(look: &L, job: Option<JobId>) -> Option<TenantId>
+    ensures { result ≡ tenant_of_job (L.site look.now) job }
+{
+    tenant::tenant_of_job(look.config(), job)
+}
+
+/// Whether a request that is not pinned passes a limit of its job's tenant, however little that
+/// uses.
+pub(crate) fn tenant_never_fits<L: Look>(look: &L, pool: PoolId, asked: &Asked) -> bool
+    requires { Fits (L.site look.now) (L.state look.now) }
+    ensures { result ≡ tenant_never_fits (L.site look.now) pool (new_record asked.now) }
+{
+    tenant::tenant_never_fits(look.config(), pool, asked)
+}
+
+/// The tenant of the request's job has room for it, at the pool.
+pub(crate) fn not_blocked<L: Look>(look: &L, pool: PoolId, asked: &Asked) -> Result<(), Refusal>
+    requires { Fits (L.site look.now) (L.state look.now) }
+    ensures { result ≡
+        not_blocked (L.site look.now) (L.state look.now) pool (new_record asked.now) }
+{
+    let Some(tenant) = look.blocking(pool, asked) else {
+        return Ok(());
+    };
+    let used = look.used_by(tenant);
+    Err(Refusal::TenantShort {
+        instances: used.instances,
+        cores: used.cores,
+        ram: used.ram,
+    })
 }
 
 /// How many of the job's semaphores it has no handle of.

@@ -1,4 +1,5 @@
-//! What the walks of a reader ask of each row.
+//! What the walks of a reader ask of each row. A representation that walks rows of its own asks the
+//! same.
 
 ghost use Rattle.std.specs.Prelude.{◌≡◌, ◌<◌, ◌≤◌, ◌^◌, ◌&&◌, ◌||◌, ◌==◌, is_none, cond, Some};
 ghost use Rattle.np_text.specs.declared.id.LabelId.{LabelId};
@@ -7,11 +8,12 @@ ghost use Rattle.np_decision.specs.Fits.{AmountFits};
 ghost use Rattle.np_decision.specs.Readers.{short_label};
 ghost use Rattle.np_machine.specs.Kinds.{is_requested, is_pending, is_failed, is_ready};
 ghost use Rattle.np_machine.specs.Tables.{is_marked};
-ghost use Rattle.np_machine.specs.Order.{comes_before, is_pool, is_declined_by, is_pending_by, is_candidate};
+ghost use Rattle.np_machine.specs.Order.{comes_before, is_pool, is_declined_by, is_pending_by};
 ghost use Rattle.np_machine.specs.Reasons.{is_spare};
+ghost use Rattle.np_machine.specs.First.{is_open_to};
 ghost use Rattle.np_machine.specs.Request.{is_min_ready_for};
 ghost use Rattle.np_machine.specs.Semaphore.{is_requesters};
-ghost use Rattle.np_decision.specs.Views.{asked_of, request_seen, node_seen, earlier_view};
+ghost use Rattle.np_decision.specs.Views.{asked_of, request_seen, node_seen, comes_first};
 
 use crate::asked::{Asked, NodeView, RequestView};
 use crate::count::lacks_room;
@@ -22,7 +24,7 @@ use np_record::{Declined, JobRecord, NodeRecord, RequestRecord};
 use np_text::{LabelId, NodeId, NodeState, PoolId, RequestState, RequesterId, Role};
 
 /// The request's record without its declines.
-pub(crate) fn asked_of(kept: &RequestRecord) -> Asked
+pub fn asked_of(kept: &RequestRecord) -> Asked
     ensures { result ≡ asked_of kept.now }
 {
     Asked {
@@ -37,7 +39,7 @@ pub(crate) fn asked_of(kept: &RequestRecord) -> Asked
 }
 
 /// Whether the pool is among the declines.
-pub(crate) fn is_declined_by(pool: PoolId, declined: &[Declined]) -> bool
+pub fn is_declined_by(pool: PoolId, declined: &[Declined]) -> bool
     ensures { result ≡ is_declined_by pool declined.now }
 {
     declined.iter().any(|d| d.pool.0 == pool.0)
@@ -52,9 +54,9 @@ fn names_pool(pool: PoolId, found: Option<PoolId>) -> bool
     }
 }
 
-/// Whether the pool's launcher may take the request up next.
-pub(crate) fn is_candidate(pool: PoolId, view: &RequestView) -> bool
-    ensures { result ≡ is_candidate pool (request_seen view.now) }
+/// Whether the request is requested, unlocked, not declined by the pool and not pinned to another.
+fn is_open_to(pool: PoolId, view: &RequestView) -> bool
+    ensures { result ≡ is_open_to pool (request_seen view.now) }
 {
     let elsewhere = match view.kept.pinned {
         None => false,
@@ -79,18 +81,22 @@ fn comes_before(a: &RequestView, b: &RequestView) -> bool
     a.id.seq < b.id.seq
 }
 
-/// The earlier of both.
-pub(crate) fn earlier(best: Option<RequestView>, view: RequestView) -> RequestView
-    ensures { result ≡ earlier_view best view }
+/// Whether it comes before the best so far.
+fn comes_first(best: &Option<RequestView>, view: &RequestView) -> bool
+    ensures { result ≡ comes_first best.now view.now }
 {
-    let Some(other) = best else {
-        return view;
-    };
-    if comes_before(&view, &other) {
-        view
-    } else {
-        other
+    match best {
+        None => true,
+        Some(other) => comes_before(view, other),
     }
+}
+
+/// Whether the request is open to the pool and comes before the best so far.
+pub(crate) fn is_better(pool: PoolId, best: &Option<RequestView>, view: &RequestView) -> bool
+    ensures { result ≡
+        (is_open_to pool (request_seen view.now) && comes_first best.now view.now) }
+{
+    is_open_to(pool, view) && comes_first(best, view)
 }
 
 fn is_min_ready_for(label: LabelId, request: &RequestRecord) -> bool
@@ -106,7 +112,7 @@ fn is_min_ready_for(label: LabelId, request: &RequestRecord) -> bool
 }
 
 /// Whether it is a failed min-ready request of the pool for the label.
-pub(crate) fn is_spent_min_ready(pool: PoolId, label: LabelId, request: &RequestRecord) -> bool
+pub fn is_spent_min_ready(pool: PoolId, label: LabelId, request: &RequestRecord) -> bool
     ensures { result ≡
         (is_failed request.now.state && is_pool pool request.now.pinned
         && is_min_ready_for label request.now) }
@@ -117,7 +123,7 @@ pub(crate) fn is_spent_min_ready(pool: PoolId, label: LabelId, request: &Request
 }
 
 /// Whether it is a min-ready request for the label that is requested or pending.
-pub(crate) fn is_coming(label: LabelId, request: &RequestRecord) -> bool
+pub fn is_coming(label: LabelId, request: &RequestRecord) -> bool
     ensures { result ≡
         ((is_requested request.now.state || is_pending request.now.state)
         && is_min_ready_for label request.now) }
@@ -127,7 +133,7 @@ pub(crate) fn is_coming(label: LabelId, request: &RequestRecord) -> bool
 }
 
 /// Whether it is a ready node of the label that is allocated to no request.
-pub(crate) fn is_free_ready(label: LabelId, node: &NodeRecord) -> bool
+pub fn is_free_ready(label: LabelId, node: &NodeRecord) -> bool
     ensures { result ≡
         (is_ready node.now.state && is_none node.now.allocated_to
         && (node.now.label.0 == label.0)) }
@@ -153,7 +159,7 @@ fn is_pending_by(pool: PoolId, request: &RequestRecord) -> bool
 }
 
 /// The next label of the request, where the pool serves it and has no room for a node of the label.
-pub(crate) fn short_label(
+pub fn short_label(
     config: &Config,
     pool: PoolId,
     used: Amount,
@@ -185,21 +191,21 @@ pub(crate) fn one_if(holds: bool) -> u32
 }
 
 /// Whether the other pool is among the declines, or is this pool.
-pub(crate) fn declines_or_is(pool: PoolId, other: PoolId, declined: &[Declined]) -> bool
+pub fn declines_or_is(pool: PoolId, other: PoolId, declined: &[Declined]) -> bool
     ensures { result ≡ (is_declined_by other declined.now || (pool.0 == other.0)) }
 {
     is_declined_by(other, declined) || pool.0 == other.0
 }
 
 /// Whether it is a session of the requester that has not expired.
-pub(crate) fn is_live_of(requester: RequesterId, facts: &SessionFacts) -> bool
+pub fn is_live_of(requester: RequesterId, facts: &SessionFacts) -> bool
     ensures { result ≡ (facts.now.live && is_requesters requester (Some facts.now.role)) }
 {
     facts.live && is_requester(requester, Some(facts.role))
 }
 
 /// Whether the job has the node among its nodes.
-pub(crate) fn is_marked(node: NodeId, job: &JobRecord) -> bool
+pub fn is_marked(node: NodeId, job: &JobRecord) -> bool
     ensures { result ≡ is_marked node job.now }
 {
     job.nodes.items().iter().any(|m| m.node.0 == node.0)

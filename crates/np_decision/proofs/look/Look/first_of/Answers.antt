@@ -1,19 +1,28 @@
-use Rattle.std.proofs.Common.{◌≡◌, ◌∙◌, sym, ap, true, false, Option, Some}
-use Rattle.np_machine.specs.Order.{is_candidate}
-use Rattle.np_decision.specs.declared.asked.RequestView.{RequestView}
-use Rattle.np_decision.specs.Views.{request_seen, earlier_view}
-use Rattle.np_decision.proofs.Seen.{first-more}
+use Rattle.std.proofs.Common.{◌≡◌, ◌∙◌, sym, ap, true, false, Option}
+use Rattle.std.specs.Prelude.{is_some}
+use Rattle.np_text.specs.declared.id.TenantId.{TenantId}
+use Rattle.np_machine.specs.First.{blocking}
+use Rattle.np_decision.specs.Views.{new_record}
+use Rattle.np_decision.specs.declared.asked.Asked.{Asked}
+use Rattle.np_decision.proofs.Seen.{best-later, best-blocked, best-found}
 use Rattle.np_decision.proofs.look.Look.first_of.Goals as goal
-use Rattle.np_decision.proofs.look.Look.first_of.Goals.{then-is_candidate, else-is_candidate}
+
+pub loop-at-preserved-then-not-is_better : goal.loop-at-preserved-then-not-is_better
+loop-at-preserved-then-not-is_better g c =
+    best-later (g.Self.Look.site c.args.self.now) (g.Self.Look.state c.args.self.now) c.args.pool (g.Self.Look.state c.args.self.now).requests c.loop-at.at c.in-Some.view c.loop-at.best (sym c.in-Some.ensures) c.loop-at.invariant (sym c.if-not-is_better.ensures)
+
+pub loop-at-preserved-then-is_some : goal.loop-at-preserved-then-is_some
+loop-at-preserved-then-is_some g c =
+    let full : is_some (blocking (g.Self.Look.site c.args.self.now) (g.Self.Look.state c.args.self.now) c.args.pool c.in-Some.view.kept) ≡ true =
+    ap (λ (a : Asked). is_some (blocking (g.Self.Look.site c.args.self.now) (g.Self.Look.state c.args.self.now) c.args.pool (new_record a))) (sym c.asked_of.ensures)
+    ∙ ap (λ (o : Option TenantId). is_some o) (sym c.blocking.ensures)
+    ∙ sym c.if-is_some.ensures in
+    best-blocked (g.Self.Look.site c.args.self.now) (g.Self.Look.state c.args.self.now) c.args.pool (g.Self.Look.state c.args.self.now).requests c.loop-at.at c.in-Some.view c.loop-at.best (sym c.in-Some.ensures) c.loop-at.invariant full
 
 pub loop-at-preserved : goal.loop-at-preserved
 loop-at-preserved g c =
-    elim c.if-is_candidate.branch [
-      | then-is_candidate w ↦
-          let passes : is_candidate c.args.pool (request_seen c.in-Some.view) ≡ true = sym c.is_candidate.ensures ∙ w.if-is_candidate.true in
-          w.best-is ∙ ap Some w.earlier.ensures ∙ ap (λ (o : Option RequestView). Some (earlier_view o c.in-Some.view)) c.loop-at.invariant
-          ∙ sym (first-more c.args.pool (g.Self.Look.state c.args.self.now).requests c.loop-at.at c.in-Some.view true (sym c.in-Some.ensures) passes)
-      | else-is_candidate w ↦
-          let fails : is_candidate c.args.pool (request_seen c.in-Some.view) ≡ false = sym c.is_candidate.ensures ∙ w.if-is_candidate.false in
-          w.best-is ∙ c.loop-at.invariant ∙ sym (first-more c.args.pool (g.Self.Look.state c.args.self.now).requests c.loop-at.at c.in-Some.view false (sym c.in-Some.ensures) fails)
-    ]
+    let free : is_some (blocking (g.Self.Look.site c.args.self.now) (g.Self.Look.state c.args.self.now) c.args.pool c.in-Some.view.kept) ≡ false =
+    ap (λ (a : Asked). is_some (blocking (g.Self.Look.site c.args.self.now) (g.Self.Look.state c.args.self.now) c.args.pool (new_record a))) (sym c.asked_of.ensures)
+    ∙ ap (λ (o : Option TenantId). is_some o) (sym c.blocking.ensures)
+    ∙ sym c.if-is_some.ensures in
+    best-found (g.Self.Look.site c.args.self.now) (g.Self.Look.state c.args.self.now) c.args.pool (g.Self.Look.state c.args.self.now).requests c.loop-at.at c.in-Some.view c.loop-at.best (sym c.in-Some.ensures) c.loop-at.invariant (sym c.if-not-is_better.ensures) free
