@@ -1,8 +1,5 @@
 -- every state that a run leads to fits
-use Rattle.std.proofs.Common.{◌≡◌, ℕ, ◌<◌, ◌≤◌, List, [], ◌∷◌, length, arith, false}
-use Rattle.std.specs.Prelude.{◌==◌}
-use Rattle.std.specs.List.{AllByRecursion}
-use Rattle.std.proofs.lemmas.Bool.Decides.{nat_tests}
+use Rattle.std.proofs.Common.{◌≡◌, ℕ, ◌<◌, ◌≤◌, List, ◌∷◌, length, arith, false}
 use Rattle.np_text.specs.declared.id.PoolId.{PoolId}
 use Rattle.np_text.specs.declared.id.JobId.{JobId}
 use Rattle.np_text.specs.declared.word.Reason.TheVariants.{NeverFits}
@@ -13,11 +10,9 @@ use Rattle.np_record.specs.declared.record.RoleRecord.{RoleRecord}
 use Rattle.np_event.specs.declared.entry.Entry.{Entry}
 use Rattle.np_machine.specs.Entries.{RequestEntry, NodeEntry}
 use Rattle.np_machine.specs.State.{State}
-use Rattle.np_machine.specs.Tables.{same_request}
 use Rattle.np_machine.specs.Order.{is_declined_by}
 use Rattle.np_machine.specs.History.{Runs}
-use Rattle.np_rules.specs.Fits.{most, RoleFits, RequestFits, NodeFits, Fits, IsFitSite}
-use Rattle.np_lists.specs.Rising.{NonePass}
+use Rattle.np_decision.specs.Fits.{most, RoleFits, RequestFits, NodeFits, Fits, IsFitSite}
 use Rattle.np_lists.proofs.Each.{all-weaker}
 use Rattle.np_lists.proofs.Differ.{few}
 use Rattle.np_rules.proofs.Shape.{Deeds, decliner, RequestKept, RequestShape, NodeShape, Shaped}
@@ -81,25 +76,3 @@ shape-fits c s m site bound is = record {
 
 pub Fits-Runs : (c : Configuration) (journal : List Entry) (s : State) → IsFitSite c → Runs c journal s → Fits c s
 Fits-Runs c journal s site runs = shape-fits c s (length journal) site runs.short (shape-Runs c journal s site runs)
-
--- ## new ids
-
-fresh_requests : (c : Configuration) (s : State) (priority : ℕ) (requests : List RequestEntry) → AllByRecursion (RequestFits c s) requests → NonePass (λ e. same_request e.id (record { priority = priority; seq = s.next_request })) requests
-fresh_requests c s priority [] all = tt
-fresh_requests c s priority (e ∷ requests) all =
-    let below : e.id.seq < s.next_request = all.0.id in
-    (grind (arith, nat_tests), fresh_requests c s priority requests all.1)
-
--- no request has the next number
-pub fresh_request : {c : Configuration} {s : State} → Fits c s → (priority : ℕ) → NonePass (λ e. same_request e.id (record { priority = priority; seq = s.next_request })) s.requests
-fresh_request {c} {s} fits priority = fresh_requests c s priority s.requests fits.each_request
-
-fresh_nodes : (s : State) (nodes : List NodeEntry) → AllByRecursion (NodeFits s) nodes → NonePass (λ e. e.id.0 == s.next_node) nodes
-fresh_nodes s [] all = tt
-fresh_nodes s (e ∷ nodes) all =
-    let below : e.id.0 < s.next_node = all.0.id in
-    (grind (arith, nat_tests), fresh_nodes s nodes all.1)
-
--- no node has the next number
-pub fresh_node : {c : Configuration} {s : State} → Fits c s → NonePass (λ e. e.id.0 == s.next_node) s.nodes
-fresh_node {s} fits = fresh_nodes s s.nodes fits.each_node

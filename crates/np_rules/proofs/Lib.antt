@@ -1,7 +1,6 @@
-pub mod CountLemmas
 pub mod Offered
 pub mod TallyLemmas
-pub mod PlaceLemmas
+pub mod Gains
 pub mod Passed
 pub mod Shape
 pub mod Settings
@@ -9,10 +8,14 @@ pub mod Shaping
 pub mod Shapes
 pub mod ShapeRuns
 pub mod FitsRuns
+pub mod Counts
 pub mod Finds
-pub mod OwnerLemmas
+pub mod Planned
+pub mod Inserting
+pub mod Fresh
 pub mod Changing
 pub mod Handles
 pub mod StepLemmas
 pub mod StartLemmas
 pub mod Sites
+mod FirstLemmas

@@ -17,7 +17,7 @@ use Rattle.np_site.specs.Configuration.{Configuration}
 use Rattle.np_site.specs.declared.row.Offer.{Offer}
 use Rattle.np_machine.specs.Entries.{NodeEntry}
 use Rattle.np_machine.specs.Count.{offers_of, amount_of, is_kind, number_of}
-use Rattle.np_rules.specs.Fits.{AmountFits, AllApart, OffersFit}
+use Rattle.np_decision.specs.Fits.{AmountFits, AllApart, OffersFit}
 
 -- what a node of the label takes by these offers
 abbrev amount_by : List Offer → LabelId → Amount

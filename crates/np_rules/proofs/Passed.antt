@@ -1,5 +1,5 @@
 -- what an accepted event says of the state before it
-use Rattle.std.proofs.Common.{◌≡◌, ℕ, true, false, refl, ap, arith, Option, Some, None, Ok}
+use Rattle.std.proofs.Common.{◌≡◌, ℕ, true, false, arith, Some, None, Ok}
 use Rattle.std.specs.Prelude.{not, ◌&&◌}
 use Rattle.std.proofs.lemmas.Bool.Decides.{nat_tests}
 use Rattle.np_text.specs.declared.id.SessionId.{SessionId}
@@ -7,41 +7,23 @@ use Rattle.np_text.specs.declared.id.PoolId.{PoolId}
 use Rattle.np_text.specs.declared.id.NodeId.{NodeId}
 use Rattle.np_text.specs.declared.id.RequestId.{RequestId}
 use Rattle.np_text.specs.declared.id.Role.{Role}
-use Rattle.np_text.specs.declared.id.Role.TheVariants.{Launcher, Janitor, Requester, Reaper}
 use Rattle.np_text.specs.declared.word.Reason.{Reason}
 use Rattle.np_site.specs.Configuration.{Configuration}
 use Rattle.np_record.specs.declared.record.NodeRecord.{NodeRecord}
 use Rattle.np_record.specs.declared.record.RequestRecord.{RequestRecord}
 use Rattle.np_event.specs.declared.reply.Done.{Done}
-use Rattle.np_machine.specs.declared.state.SessionFacts.{SessionFacts}
 use Rattle.np_machine.specs.State.{State}
 use Rattle.np_machine.specs.Kinds.{is_building}
-use Rattle.np_machine.specs.Tables.{role_of, session_of, request_in, node_in}
+use Rattle.np_machine.specs.Tables.{request_in, node_in}
 use Rattle.np_machine.specs.Order.{is_declined_by}
 use Rattle.np_machine.specs.Reasons.{next_label}
-use Rattle.np_machine.specs.Tests.{launcher, as_launcher}
+use Rattle.np_machine.specs.Tests.{launcher}
 use Rattle.np_machine.specs.Request.{judge_decline}
 use Rattle.np_machine.specs.Node.{judge_take_ready, judge_start, judge_done}
 use Rattle.np_machine.specs.Session.{judge_open, is_role}
 
 pub open-role : (c : Configuration) (s : State) (role : Role) (what : Done) → judge_open c s role ≡ Ok what → is_role c role ≡ true
 open-role c s role what is = grind (arith, nat_tests)
-
-launcher_by : (role : Role) (p : PoolId) → as_launcher role ≡ Ok p → role ≡ Launcher p
-launcher_by (Launcher other) p is = cc
-launcher_by (Janitor other) p is = absurd cc
-launcher_by (Requester q) p is = absurd cc
-launcher_by Reaper p is = absurd cc
-
-passed_facts : (s : State) (session : SessionId) (p : PoolId) (facts : SessionFacts) → session_of session s ≡ Some facts → launcher s session ≡ Ok p → as_launcher facts.role ≡ Ok p
-passed_facts s session p facts has is = grind (arith, nat_tests)
-
-role_of_facts : (s : State) (session : SessionId) (p : PoolId) (o : Option SessionFacts) → session_of session s ≡ o → launcher s session ≡ Ok p → role_of session s ≡ Some (Launcher p)
-role_of_facts s session p None has is = absurd (grind (arith, nat_tests))
-role_of_facts s session p (Some facts) has is = rw has (ap Some (launcher_by facts.role p (passed_facts s session p facts has is)))
-
-pub launcher-role : (s : State) (session : SessionId) (p : PoolId) → launcher s session ≡ Ok p → role_of session s ≡ Some (Launcher p)
-launcher-role s session p is = role_of_facts s session p (session_of session s) refl is
 
 pub decline-first : (c : Configuration) (s : State) (session : SessionId) (r : RequestId) (why : Reason) (what : Done) (p : PoolId) (request : RequestRecord) → judge_decline c s session r why ≡ Ok what → launcher s session ≡ Ok p → request_in r s.requests ≡ Some request → is_declined_by p request.declined ≡ false
 decline-first c s session r why what p request is who has = grind (arith, nat_tests)

@@ -11,7 +11,7 @@ use Rattle.np_machine.specs.declared.state.Swept.{Swept}
 use Rattle.np_machine.specs.Entries.{RequestEntry, NodeEntry}
 use Rattle.np_machine.specs.State.{State}
 use Rattle.np_machine.specs.Session.{is_role}
-use Rattle.np_rules.specs.Fits.{JobFits}
+use Rattle.np_decision.specs.Fits.{JobFits}
 use Rattle.np_lists.proofs.Each.{all-weaker}
 use Rattle.np_rules.proofs.Shape.{same, Deeds, RequestShape, NodeShape, Shaped, wider-request, wider-node}
 

@@ -13,7 +13,7 @@ use Rattle.np_machine.specs.State.{State}
 use Rattle.np_machine.specs.Kinds.{is_building}
 use Rattle.np_machine.specs.Count.{retries_of}
 use Rattle.np_machine.specs.Session.{is_role}
-use Rattle.np_rules.specs.Fits.{JobFits}
+use Rattle.np_decision.specs.Fits.{JobFits}
 use Rattle.np_lists.proofs.Differ.{Differ}
 use Rattle.np_lists.proofs.Each.{all-weaker}
 

@@ -11,20 +11,21 @@ use Rattle.np_event.specs.declared.entry.Entry.{Entry}
 use Rattle.np_event.specs.declared.reply.Done.{Done}
 use Rattle.np_machine.specs.Entries.{NodeEntry}
 use Rattle.np_machine.specs.State.{State, start, new_job, no_deeds}
-use Rattle.np_rules.specs.Fits.{JobFits, IsFitSite}
+use Rattle.np_decision.specs.Fits.{JobFits, IsFitSite}
 use Rattle.np_machine.specs.Tables.{session_of, request_in, request_queue, node_in, node_queue, remove_node, is_marked}
 use Rattle.np_lists.specs.Change.{change_first}
 use Rattle.np_machine.specs.Reasons.{next_label}
 use Rattle.np_machine.specs.Tests.{launcher}
-use Rattle.np_machine.specs.Request.{next_id, asked_by, kept_ready_by, registers, submit_for, submitted, kept_ready, accept_by, accepted, decline_by, declined, fulfilled, given_back, failed}
+use Rattle.np_machine.specs.Request.{next_id, asked_by, kept_ready_by, registers, submit_for, submitted, request_of_job, revise_request, revised, kept_ready, accept_by, accepted, decline_by, declined, fulfilled, given_back, failed}
 use Rattle.np_machine.specs.Node.{took_ready, create_by, create_for, created, starts_of, one_more_start, start_by, started, reported, with_mark, node_ended, given_up, node_freed, is_wanted}
 use Rattle.np_machine.specs.Semaphore.{acquired, all_in_use, take_for, take_from, taken, finished, withdrawn, released}
 use Rattle.np_machine.specs.Session.{muted, crashed, expired}
 use Rattle.np_machine.specs.Step.{judge, effect, next, acting}
 use Rattle.np_machine.specs.History.{state_after, Runs}
 use Rattle.np_machine.proofs.Steps.{after_found-keeps, after_given-keeps, next-keeps}
-use Rattle.np_lists.proofs.Each.{all-push, all-map, all-change_first, all-change_at_to, all-remove_first, length-remove_first}
-use Rattle.np_rules.proofs.Passed.{open-role, launcher-role, decline-first, take_ready-room, start-idle, done-flying}
+use Rattle.np_lists.proofs.Each.{all-push, all-map, all-change_first, all-change_at_to, all-remove_first, length-remove_first, length-insert_before}
+use Rattle.np_decision.proofs.Makers.{launcher-role}
+use Rattle.np_rules.proofs.Passed.{open-role, decline-first, take_ready-room, start-idle, done-flying}
 use Rattle.np_rules.proofs.Shape.{up, same, Deeds, wider-deeds, RequestKept, NodeKept, NodeShape, Shaped, wider}
 use Rattle.np_rules.proofs.Settings.{set-tick, set-sessions, set-registrations, set-nodes, set-handles, set-jobs, set-deeds}
 use Rattle.np_rules.proofs.Shaping.{length-joined, length-left, request-queue, node-queue, request-put, request-queued, request-removed, node-put, node-queued, nodes-freed, job-put, job-found, all-in_use, length-in_use, handles-with, handles-without, acted, struck}
@@ -45,12 +46,17 @@ shape-effect c site n s (ev.Expire session) what is old =
     after_found-keeps (Shaped c n (suc n)) (session_of session s) s (expired s session) (wide c site n s old) (λ facts _. expires c site n s old session facts)
 shape-effect c site n s (ev.Register session) what is old =
     after_given-keeps (Shaped c n (suc n)) (launcher s session) s (registers s session) (wide c site n s old) (λ p _.
-    set-registrations c n (suc n) s (wide c site n s old) _ (let few = old.registrations in simp length-append (omega arith)))
+    set-registrations c n (suc n) s (wide c site n s old) _ (let few = old.registrations in rw length-insert_before (omega arith)))
 shape-effect c site n s (ev.Submit session j) what is old =
     after_found-keeps (Shaped c n (suc n)) (slice_get c.jobs j.0) s (submit_for s j) (wide c site n s old) (λ job has.
     after_found-keeps (Shaped c n (suc n)) (slice_get s.jobs j.0) s (submitted s j job) (wide c site n s old) (λ kept there.
     job-put c n (suc n) _ (request-made c site n s old (asked_by (next_id job.priority s) j job) refl refl (record { labels = (site.job_rows j job has).labels; nodes = omega arith; pools = tt; differ = tt })) j _
     (record { nodes = (job-found c n n s old j kept there).nodes })))
+shape-effect c site n s (ev.Revise session j relative) what is old =
+    after_found-keeps (Shaped c n (suc n)) (request_of_job j s) s (revise_request s relative) (wide c site n s old) (λ r _.
+    after_found-keeps (Shaped c n (suc n)) (request_in r s.requests) s (revised s relative r) (wide c site n s old) (λ request has.
+    let kept : RequestKept c request = asked c site n s old r request has in
+    request-put c n (suc n) s (wide c site n s old) r _ (record { labels = kept.labels; nodes = kept.nodes; pools = kept.pools; differ = kept.differ })))
 shape-effect c site n s (ev.MinReady session l) what is old =
     after_given-keeps (Shaped c n (suc n)) (launcher s session) s (kept_ready s l) (wide c site n s old) (λ p _.
     request-made c site n s old (kept_ready_by (next_id 400 s) p l) refl refl (record { labels = omega arith; nodes = omega arith; pools = tt; differ = tt }))
@@ -69,12 +75,12 @@ shape-effect c site n s (ev.Decline session r why) what is old =
     nodes-freed c n (suc n) _ (request-put c n (suc n) s (wide c site n s old) r _
     (with_decline c request p why _ (asked c site n s old r request has) (launcher-pool c n n s session p old (launcher-role s session p who)) (decline-first c s session r why what p request is who has))) r))
 shape-effect c site n s (ev.TakeReady session r number) what is old =
-    after_found-keeps (Shaped c n (suc n)) (request_in r s.requests) s (took_ready s session r number) (wide c site n s old) (λ request has.
+    after_found-keeps (Shaped c n (suc n)) (request_in r s.requests) s (took_ready c s session r number) (wide c site n s old) (λ request has.
     take_ready-shape c site n s old session r number request has (room_by request (next_label request) refl (take_ready-room s session r number what request is has)))
 shape-effect c site n s (ev.Create session r) what is old =
-    after_given-keeps (Shaped c n (suc n)) (launcher s session) s (create_by s session r) (wide c site n s old) (λ p who.
-    after_found-keeps (Shaped c n (suc n)) (request_in r s.requests) s (create_for s session r p) (wide c site n s old) (λ request has.
-    after_found-keeps (Shaped c n (suc n)) (next_label request) s (created s session r p request) (wide c site n s old) (λ l there.
+    after_given-keeps (Shaped c n (suc n)) (launcher s session) s (create_by c s session r) (wide c site n s old) (λ p who.
+    after_found-keeps (Shaped c n (suc n)) (request_in r s.requests) s (create_for c s session r p) (wide c site n s old) (λ request has.
+    after_found-keeps (Shaped c n (suc n)) (next_label request) s (created c s session r p request) (wide c site n s old) (λ l there.
     create-shape c site n s old session r p request l who has there)))
 shape-effect c site n s (ev.Start session number) what is old =
     after_given-keeps (Shaped c n (suc n)) (launcher s session) s (start_by s number) (wide c site n s old) (λ p _.

@@ -30,7 +30,7 @@ use Rattle.np_machine.specs.declared.state.SessionFacts.{SessionFacts}
 use Rattle.np_machine.specs.Entries.{RequestEntry, NodeEntry}
 use Rattle.np_machine.specs.State.{State}
 use Rattle.np_machine.specs.Kinds.{is_building}
-use Rattle.np_rules.specs.Fits.{IsFitSite}
+use Rattle.np_decision.specs.Fits.{IsFitSite}
 use Rattle.np_lists.specs.Change.{change_first}
 use Rattle.np_machine.specs.Tables.{role_of, is_session, request_in, remove_request, node_in, all_freed, put_request, change_session}
 use Rattle.np_machine.specs.Count.{retries_of}
@@ -38,12 +38,13 @@ use Rattle.np_machine.specs.Order.{is_declined_by}
 use Rattle.np_machine.specs.Reasons.{next_label}
 use Rattle.np_machine.specs.Tests.{launcher}
 use Rattle.np_machine.specs.Request.{insert_request, declined_with}
+use Rattle.np_machine.specs.Tenants.{tenant_of_request}
 use Rattle.np_machine.specs.Node.{with_node, allocated, took_ready, made, created, starts_of, launched, ended_as, with_pair}
 use Rattle.np_machine.specs.Session.{is_role, ended, expired, request_left, node_left}
 use Rattle.np_lists.proofs.ChangeLemmas.{length-change_at}
 use Rattle.np_lists.proofs.Each.{all-push, all-at, all-insert_before, all-change_at, all-change_first_to, length-filter_at_most, length-change_first, length-insert_before}
 use Rattle.np_lists.proofs.Differ.{differ-push}
-use Rattle.np_rules.proofs.Passed.{launcher-role}
+use Rattle.np_decision.proofs.Makers.{launcher-role}
 use Rattle.np_rules.proofs.Shape.{up, same, Deeds, decliner, RequestKept, RequestShape, NodeKept, NodeShape, Shaped, wider, wider-node}
 use Rattle.np_rules.proofs.Settings.{set-sessions, set-registrations, set-requests, set-nodes, set-swept, set-next_request, set-next_node}
 use Rattle.np_rules.proofs.Shaping.{length-joined, length-left, request-found, node-found, request-put, request-removed, nodes-freed, length-with_pair, struck}
@@ -170,7 +171,7 @@ module _ (c : Configuration) (site : IsFitSite c) (n : ℕ) (s : State) (old : S
   fulfils r request state true kept = nodes-freed c n (suc n) (record s { requests = remove_request r s.requests }) (request-removed c n (suc n) s wide r) r
   fulfils r request state false kept = request-put c n (suc n) s wide r (record request { state = state }) (record { labels = kept.labels; nodes = kept.nodes; pools = kept.pools; differ = kept.differ })
 
-  pub create-shape : (session : SessionId) (r : RequestId) (p : PoolId) (request : RequestRecord) (l : LabelId) → launcher s session ≡ Ok p → request_in r s.requests ≡ Some request → next_label request ≡ Some l → Shaped c n (suc n) (created s session r p request l)
+  pub create-shape : (session : SessionId) (r : RequestId) (p : PoolId) (request : RequestRecord) (l : LabelId) → launcher s session ≡ Ok p → request_in r s.requests ≡ Some request → next_label request ≡ Some l → Shaped c n (suc n) (created c s session r p request l)
   create-shape session r p request l who has is =
       let room : length request.nodes < length request.labels = slice_get_within request.labels (length request.nodes) l is in
       let retry : 0 < retries_of c p = site.some_retry p (launcher-pool c n n s session p old (launcher-role s session p who)) in
@@ -178,17 +179,17 @@ module _ (c : Configuration) (site : IsFitSite c) (n : ℕ) (s : State) (old : S
       let h1 : Shaped c n (suc n) t1 = request-put c n (suc n) s wide r (with_node request (record { 0 = s.next_node })) (grown c request (record { 0 = s.next_node }) (asked r request has) room) in
       let t2 : State = record t1 { next_node = s.next_node + 1 } in
       let h2 : Shaped c n (suc n) t2 = set-next_node c n (suc n) t1 h1 (s.next_node + 1) (omega arith) (omega (arith, old.next_node)) in
-      set-nodes c n (suc n) t2 h2 (s.nodes ++ made s session r p l ∷ []) (let few = old.nodes in simp length-append (omega arith))
-      (all-push (NodeShape c (suc n) s.tick (s.next_node + 1)) s.nodes (made s session r p l) h2.each_node
+      set-nodes c n (suc n) t2 h2 (s.nodes ++ made c s session r p request l ∷ []) (let few = old.nodes in simp length-append (omega arith))
+      (all-push (NodeShape c (suc n) s.tick (s.next_node + 1)) s.nodes (made c s session r p request l) h2.each_node
       (record { id = omega arith; queue = omega arith; kept = record { since = same s.tick; start = omega arith; idle = λ _. retry; flying = λ e. absurd cc } }))
 
-  pub take_ready-shape : (session : SessionId) (r : RequestId) (number : NodeId) (request : RequestRecord) → request_in r s.requests ≡ Some request → length request.nodes < length request.labels → Shaped c n (suc n) (took_ready s session r number request)
+  pub take_ready-shape : (session : SessionId) (r : RequestId) (number : NodeId) (request : RequestRecord) → request_in r s.requests ≡ Some request → length request.nodes < length request.labels → Shaped c n (suc n) (took_ready c s session r number request)
   take_ready-shape session r number request has room =
       set-nodes c n (suc n) (record s { requests = put_request r (with_node request number) s.requests })
       (request-put c n (suc n) s wide r (with_node request number) (grown c request number (asked r request has) room))
-      (change_first (λ e. e.id.0 == number.0) (allocated r session) s.nodes) (let few = old.nodes in rw length-change_first (omega arith))
+      (change_first (λ e. e.id.0 == number.0) (allocated r (tenant_of_request c request) session) s.nodes) (let few = old.nodes in rw length-change_first (omega arith))
       (all-change_first_to (NodeShape c n s.tick s.next_node) (NodeShape c (suc n) s.tick s.next_node) (wider-node c n (suc n) s.tick s.tick s.next_node s.next_node (up n) (same s.tick) (same s.next_node))
-      (λ e. e.id.0 == number.0) (allocated r session) s.nodes
+      (λ e. e.id.0 == number.0) (allocated r (tenant_of_request c request) session) s.nodes
       (λ e is. record { id = is.id; queue = omega (arith, is.queue, length-joined session e.queue); kept = record { since = is.kept.since; start = omega (arith, is.kept.start); idle = is.kept.idle; flying = is.kept.flying } }) old.each_node)
 
   pub sweeps : (number : NodeId) (x : ℕ) (b : Bool) → Shaped c n (suc n) (record s { swept = cond b s.swept (with_pair number x s.swept) })

@@ -1,7 +1,7 @@
 -- what one change leaves of the form of a state
 use Rattle.std.proofs.Common.{◌≡◌, ℕ, suc, ◌≤◌, List, [], ◌∷◌, ◌++◌, length, refl, ◌∙◌, arith, subst, Bool, true, false, cond, Option, Some, None, length-append}
 use Rattle.std.proofs.lemmas.List.{length-map}
-use Rattle.std.specs.Prelude.{slice_get, not, ◌==◌}
+use Rattle.std.specs.Prelude.{slice_get, not, ◌==◌, nat_lt}
 use Rattle.std.specs.Option.{option_map, option_map_or}
 use Rattle.std.specs.List.{AllByRecursion}
 use Rattle.std.proofs.lemmas.Bool.Decides.{nat_tests}
@@ -20,9 +20,9 @@ use Rattle.np_record.specs.declared.record.RoleRecord.{RoleRecord}
 use Rattle.np_machine.specs.declared.state.Swept.{Swept}
 use Rattle.np_machine.specs.Entries.{RequestEntry, NodeEntry}
 use Rattle.np_machine.specs.State.{State}
-use Rattle.np_rules.specs.Fits.{JobFits}
+use Rattle.np_decision.specs.Fits.{JobFits}
 use Rattle.np_lists.specs.Change.{change_first, change_at, insert_before}
-use Rattle.np_machine.specs.Tables.{same_request, joined, left, is_queued, request_in, request_entry, request_queue, put_request, put_request_queue, remove_request, node_in, node_entry, node_queue, put_node, put_node_queue, all_freed, put_job, is_among, change_launcher, change_janitor, change_requester}
+use Rattle.np_machine.specs.Tables.{is_request, freed, same_request, joined, left, is_queued, request_in, request_entry, request_queue, put_request, put_request_queue, remove_request, node_in, node_entry, node_queue, put_node, put_node_queue, all_freed, put_job, is_among, change_launcher, change_janitor, change_requester}
 use Rattle.np_machine.specs.Semaphore.{with_handle, all_with_handle, without_handle, all_without_handle, all_in_use, in_use}
 use Rattle.np_machine.specs.Node.{with_pair, is_swept, is_pair_after}
 use Rattle.np_machine.specs.Step.{with_act, one_more_act}
@@ -105,9 +105,13 @@ module _ (c : Configuration) (a n : ℕ) (s : State) (old : Shaped c a n s) wher
   nodes-freed r =
       set-nodes c a n s old (all_freed r s.nodes) (let few = old.nodes in rw length-map few)
       (all-map_of s.nodes old.each_node) where
+        freed_as : (e : NodeEntry) (b : Bool) → NodeShape c n s.tick s.next_node e → NodeShape c n s.tick s.next_node (cond b (record e { kept = freed e.kept }) e)
+        freed_as e true is = record { id = is.id; queue = is.queue; kept = record { since = is.kept.since; start = is.kept.start; idle = is.kept.idle; flying = is.kept.flying } }
+        freed_as e false is = is
+
         all-map_of : (nodes : List NodeEntry) → AllByRecursion (NodeShape c n s.tick s.next_node) nodes → AllByRecursion (NodeShape c n s.tick s.next_node) (all_freed r nodes)
         all-map_of [] all = tt
-        all-map_of (e ∷ nodes) all = (record { id = all.0.id; queue = all.0.queue; kept = record { since = all.0.kept.since; start = all.0.kept.start; idle = all.0.kept.idle; flying = all.0.kept.flying } }, all-map_of nodes all.1)
+        all-map_of (e ∷ nodes) all = (freed_as e (is_request r e.kept.allocated_to) all.0, all-map_of nodes all.1)
 
   pub job-put : (j : JobId) (job : JobRecord) → JobFits job → Shaped c a n (record s { jobs = put_job j job s.jobs })
   job-put j job new = set-jobs c a n s old (put_job j job s.jobs) (all-set JobFits s.jobs j.0 job new old.jobs)
@@ -137,19 +141,22 @@ record Room (j : JobId) (n : ℕ) (jobs : List JobId) : Type 0 where
   all : length jobs ≤ suc n
   room : is_among j jobs ≡ false → length jobs ≤ n
 
-among-push : (j : JobId) (jobs : List JobId) → is_among j (jobs ++ j ∷ []) ≡ true
-among-push j [] = grind (arith, nat_tests)
-among-push j (other ∷ jobs) = grind (arith, nat_tests, among-push j jobs)
+among-insert : (p : JobId → Bool) (j : JobId) (jobs : List JobId) → is_among j (insert_before p j jobs) ≡ true
+among-insert p j [] = grind (arith, nat_tests)
+among-insert p j (other ∷ jobs) = by (p other) (among-insert p j jobs) where
+  by : (b : Bool) → is_among j (insert_before p j jobs) ≡ true → is_among j (cond b (j ∷ other ∷ jobs) (other ∷ insert_before p j jobs)) ≡ true
+  by true later = grind (arith, nat_tests)
+  by false later = grind (arith, nat_tests, later)
 
 room-with : (j : JobId) (n : ℕ) (jobs : List JobId) → Room j n jobs → Room j n (with_handle j jobs)
 room-with j n jobs old = by (is_among j jobs) refl where
-  by : (b : Bool) → is_among j jobs ≡ b → Room j n (cond b jobs (jobs ++ j ∷ []))
+  by : (b : Bool) → is_among j jobs ≡ b → Room j n (cond b jobs (insert_before (λ other. nat_lt j.0 other.0) j jobs))
   by true is = old
   by false is =
       let few : length jobs ≤ n = old.room is in
       record {
-        all = simp length-append (omega arith);
-        room = λ out. absurd (let there = among-push j jobs in cc);
+        all = rw length-insert_before (omega arith);
+        room = λ out. absurd (let there = among-insert (λ (other : JobId). nat_lt j.0 other.0) j jobs in cc);
       }
 
 rooms-with : (j : JobId) (n : ℕ) (semaphores : List SemId) (handles : List (List JobId)) → AllByRecursion (Room j n) handles → AllByRecursion (Room j n) (all_with_handle j semaphores handles)

@@ -16,7 +16,7 @@ use Rattle.np_site.specs.Configuration.{Configuration}
 use Rattle.np_lists.specs.EachAfter.{EachAfter}
 use Rattle.np_site.specs.Sound.{StandsByOwner, IsSound, IsLabel, IsProvider, IsOffer, IsPool, IsJob}
 use Rattle.np_machine.specs.Count.{retries_of}
-use Rattle.np_rules.specs.Fits.{AmountFits, AllApart, OffersFit, JobRowFits, IsFitSite}
+use Rattle.np_decision.specs.Fits.{AmountFits, AllApart, OffersFit, JobRowFits, IsFitSite}
 
 -- ## rows by place
 
@@ -117,8 +117,8 @@ age_in : (o : Option Label) → IfSome o (λ x. x.max_ready_age ≤ 1000000) →
 age_in None most = omega arith
 age_in (Some x) most = most
 
-job_row : (labels semaphores : ℕ) (e : List Job) (j : Job) → StandsByOwner (λ (x : Job). x.requester.0) (IsJob labels semaphores) e j → JobRowFits j
-job_row labels semaphores e j stands = record { labels = stands.own.few_labels; semaphores = stands.own.few_taken }
+job_row : (labels semaphores tenants : ℕ) (e : List Job) (j : Job) → StandsByOwner (λ (x : Job). x.requester.0) (IsJob labels semaphores tenants) e j → JobRowFits j
+job_row labels semaphores tenants e j stands = record { labels = stands.own.few_labels; semaphores = stands.own.few_taken }
 
 one_retry : (c : Configuration) → IsSound c → (p : PoolId) → p.0 < length c.pools → 0 < retries_of c p
 one_retry c sound p within =
@@ -138,6 +138,6 @@ sound_fits c sound = record {
   hold_age = sound.max_hold_age;
   offers = λ p. offers_in (slice_get c.pools p.0)
       (row_at (λ (x : Pool). OffersFit x.offers) (StandsByOwner (λ (x : Pool). x.provider) (IsPool (length c.labels))) (pool_offers (length c.labels)) [] c.pools sound.supply.each_pool p.0);
-  job_rows = λ j job is. subst (λ (o : Option Job). IfSome o JobRowFits) is (row_at JobRowFits (StandsByOwner (λ (x : Job). x.requester.0) (IsJob (length c.labels) (length c.semaphores))) (job_row (length c.labels) (length c.semaphores)) [] c.jobs sound.demand.each_job j.0);
+  job_rows = λ j job is. subst (λ (o : Option Job). IfSome o JobRowFits) is (row_at JobRowFits (StandsByOwner (λ (x : Job). x.requester.0) (IsJob (length c.labels) (length c.semaphores) (length c.tenants))) (job_row (length c.labels) (length c.semaphores) (length c.tenants)) [] c.jobs sound.demand.each_job j.0);
   pools = sound.supply.few_pools;
 }

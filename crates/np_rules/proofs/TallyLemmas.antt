@@ -1,10 +1,9 @@
 -- what a change of the nodes leaves of their numbers
-use Rattle.std.proofs.Common.{◌≡◌, ◌≢◌, ℕ, zero, suc, ◌+◌, ◌-◌, ◌*◌, ◌<◌, ◌≤◌, ◌^◌, List, [], ◌∷◌, length, take, get_or, map, cond, refl, ap, sym, ◌∙◌, subst, arith, Bool, true, false, Option, Some, None}
-use Rattle.std.specs.Prelude.{◌==◌, ◌&&◌, nat_lt, find, replicate, slice_get, IfSome}
+use Rattle.std.proofs.Common.{◌≡◌, ◌≢◌, ℕ, ◌+◌, ◌-◌, ◌*◌, ◌<◌, ◌≤◌, ◌^◌, List, [], ◌∷◌, length, map, refl, ap, sym, ◌∙◌, subst, arith, Bool, true, false, Option, Some, None}
+use Rattle.std.specs.Prelude.{◌==◌, ◌&&◌, nat_lt, find, IfSome}
 use Rattle.std.specs.Option.{option_map}
 use Rattle.std.specs.List.{list_any}
 use Rattle.std.proofs.lemmas.Bool.Decides.{nat_tests}
-use Rattle.std.proofs.lemmas.List.Filters.{length-filter_more}
 use Rattle.np_text.specs.declared.id.PoolId.{PoolId}
 use Rattle.np_text.specs.declared.id.LabelId.{LabelId}
 use Rattle.np_text.specs.declared.id.SessionId.{SessionId}
@@ -73,11 +72,6 @@ moved f q m before after numbers own others are p l = by ((q.0 == p.0) && (m.0 =
 pub AreNumbers-same : (before after : PoolId → LabelId → ℕ) (numbers : List ℕ) → ((p : PoolId) (l : LabelId) → after p l ≡ before p l) → AreNumbers before numbers → AreNumbers after numbers
 AreNumbers-same before after numbers same are p l = rw (same p l) (are p l)
 
-length_take : {X : Type 0} (i : ℕ) (xs : List X) → length (take i xs) ≤ length xs
-length_take zero xs = omega arith
-length_take (suc i) [] = omega arith
-length_take (suc i) (x ∷ xs) = omega (arith, length_take i xs)
-
 -- ## the nodes that pass a test, by pool and label
 
 one_more : (o : Option ℕ) (m : ℕ) → m + 1 < 2 ^ 64 → IfSome o (λ n. n ≡ m) → IfSome o (λ n. n + 1 < 2 ^ 64)
@@ -89,7 +83,7 @@ own_kind e = grind (arith, nat_tests)
 
 module _ (test : NodeEntry → Bool) where
   -- the node counts for the pool and the label
-  abbrev counts : PoolId → LabelId → NodeEntry → Bool
+  abbrev pub counts : PoolId → LabelId → NodeEntry → Bool
   counts p l e = test e && is_kind p l e
 
   -- a number changed for a node that may count
@@ -112,11 +106,11 @@ module _ (test : NodeEntry → Bool) where
   took : (o : Option NodeEntry) (before : PoolId → LabelId → ℕ) (numbers : List ℕ) → AreNumbers before numbers → AreNumbers (λ p l. before p l - one_of (counts p l) o) (number_changed (λ n. n - 1) (count_place test o) numbers)
   took o before numbers are = counted (λ n. n - 1) o before (λ p l. before p l - one_of (counts p l) o) numbers (λ p l none. omega (arith, none)) (λ p l one. omega (arith, one)) are
 
-  gave : (o : Option NodeEntry) (before : PoolId → LabelId → ℕ) (numbers : List ℕ) → AreNumbers before numbers → AreNumbers (λ p l. before p l + one_of (counts p l) o) (number_changed (λ n. n + 1) (count_place test o) numbers)
+  pub gave : (o : Option NodeEntry) (before : PoolId → LabelId → ℕ) (numbers : List ℕ) → AreNumbers before numbers → AreNumbers (λ p l. before p l + one_of (counts p l) o) (number_changed (λ n. n + 1) (count_place test o) numbers)
   gave o before numbers are = counted (λ n. n + 1) o before (λ p l. before p l + one_of (counts p l) o) numbers (λ p l none. omega (arith, none)) (λ p l one. omega (arith, one)) are
 
   -- there is room for one more
-  gave-room : (o : Option NodeEntry) (before : PoolId → LabelId → ℕ) (numbers : List ℕ) → AreNumbers before numbers → ((p : PoolId) (l : LabelId) → before p l + one_of (counts p l) o < 2 ^ 64) → IfSome {T = ℕ} (number_at numbers (count_place test o)) (λ n. n + 1 < 2 ^ 64)
+  pub gave-room : (o : Option NodeEntry) (before : PoolId → LabelId → ℕ) (numbers : List ℕ) → AreNumbers before numbers → ((p : PoolId) (l : LabelId) → before p l + one_of (counts p l) o < 2 ^ 64) → IfSome {T = ℕ} (number_at numbers (count_place test o)) (λ n. n + 1 < 2 ^ 64)
   gave-room None before numbers are room = tt
   gave-room (Some e) before numbers are room = by (test e) refl (room e.kept.pool e.kept.label) where
     by : (b : Bool) → test e ≡ b → before e.kept.pool e.kept.label + one_if (counts e.kept.pool e.kept.label e) 0 < 2 ^ 64 → IfSome {T = ℕ} (number_at numbers (count_place test (Some e))) (λ n. n + 1 < 2 ^ 64)
@@ -157,28 +151,6 @@ module _ (test : NodeEntry → Bool) where
         (λ p l. passing-removed (counts p l) t nodes old found)
         (took (Some old) (count_of test nodes) numbers are)
 
-  -- ## counted anew, one node after another
-
-  one_cond : (b : Bool) → cond b 1 0 ≡ one_if b 0
-  one_cond true = refl
-  one_cond false = refl
-
-  one_further : (nodes : List NodeEntry) (i : ℕ) (row : NodeEntry) → i < length nodes → row ≡ get_or nodes i row → (p : PoolId) (l : LabelId) → count_of test (take (i + 1) nodes) p l ≡ count_of test (take i nodes) p l + one_of (counts p l) (Some row)
-  one_further nodes i row within at p l =
-      length-filter_more (counts p l) nodes i row within
-      ∙ ap (λ (e : NodeEntry). count_of test (take i nodes) p l + cond (counts p l e) 1 0) (sym at)
-      ∙ ap (λ (n : ℕ). count_of test (take i nodes) p l + n) (one_cond (counts p l row))
-
-  module _ (nodes : List NodeEntry) (numbers : List ℕ) (i : ℕ) (row : NodeEntry) (within : i < length nodes) (at : row ≡ get_or nodes i row) (are : AreNumbers (count_of test (take i nodes)) numbers) where
-    pub count-more : AreNumbers (count_of test (take (i + 1) nodes)) (number_changed (λ n. n + 1) (count_place test (Some row)) numbers)
-    count-more =
-        AreNumbers-same (λ p l. count_of test (take i nodes) p l + one_of (counts p l) (Some row)) (count_of test (take (i + 1) nodes)) _ (one_further nodes i row within at) (gave (Some row) (count_of test (take i nodes)) numbers are)
-
-    pub count-more_room : length nodes < 2 ^ 64 → IfSome {T = ℕ} (number_at numbers (count_place test (Some row))) (λ n. n + 1 < 2 ^ 64)
-    count-more_room few =
-        gave-room (Some row) (count_of test (take i nodes)) numbers are
-        (λ p l. omega (arith, one_further nodes i row within at p l, length-filter_at_most (counts p l) (take (i + 1) nodes), length_take (i + 1) nodes))
-
 -- ## every node changed
 
 same_kind : (p : PoolId) (l : LabelId) (a b : NodeEntry) → IsSameKind a b → is_kind p l b ≡ is_kind p l a
@@ -188,23 +160,9 @@ same_kind p l a b same = rw (same.pool, same.label) refl
 pub count-mapped : (f : NodeEntry → NodeEntry) (nodes : List NodeEntry) (numbers : List ℕ) → ((e : NodeEntry) → IsSameKind e (f e)) → AreNumbers (count_of is_any nodes) numbers → AreNumbers (count_of is_any (map f nodes)) numbers
 count-mapped f nodes numbers same are = AreNumbers-same (count_of is_any nodes) (count_of is_any (map f nodes)) numbers (λ p l. passing-mapped (is_kind p l) f nodes (λ e. same_kind p l e (f e) (same e))) are
 
--- ## no nodes
-
-zero_at : (count i : ℕ) → IfSome {T = ℕ} (slice_get (replicate count 0) i) (λ n. n ≡ 0)
-zero_at zero i = tt
-zero_at (suc count) zero = refl
-zero_at (suc count) (suc i) = zero_at count i
-
-zero_found : (count : ℕ) (o : Option ℕ) → IfSome {T = ℕ} (number_at (replicate count 0) o) (λ n. n ≡ 0)
-zero_found count None = tt
-zero_found count (Some i) = zero_at count i
-
-pub zeros-are : (count : ℕ) → AreNumbers (λ p l. 0) (replicate count 0)
-zeros-are count p l = zero_found count (tally_place p l)
-
 -- ## a session that stands in no queue
 
-left_none : (session : SessionId) (queue : List SessionId) → is_queued session queue ≡ false → left session queue ≡ queue
+pub left_none : (session : SessionId) (queue : List SessionId) → is_queued session queue ≡ false → left session queue ≡ queue
 left_none session [] none = refl
 left_none session (other ∷ queue) none = by (is_session other session) refl (λ later. left_none session queue later) where
   by : (b : Bool) → is_session other session ≡ b → (is_queued session queue ≡ false → left session queue ≡ queue) → left session (other ∷ queue) ≡ other ∷ queue

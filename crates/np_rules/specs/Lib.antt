@@ -1,7 +1,6 @@
 pub mod Keys
-pub mod Fits
 pub mod Tally
-pub mod Seen
-pub mod Places
-pub mod Undo
+pub mod CanChange
+pub mod TakenBack
+pub mod Keeper
 pub mod Ran

@@ -4,7 +4,9 @@ use Rattle.std.specs.Prelude.{◌≡◌, ℕ, ◌+◌, ◌-◌, ◌*◌, ◌&&�
 use Rattle.np_text.specs.declared.id.PoolId.{PoolId}
 use Rattle.np_text.specs.declared.id.LabelId.{LabelId}
 use Rattle.np_lists.specs.Change.{change_at}
+use Rattle.np_record.specs.declared.record.NodeRecord.{NodeRecord}
 use Rattle.np_machine.specs.Entries.{NodeEntry}
+use Rattle.np_machine.specs.Kinds.{is_ready}
 use Rattle.np_machine.specs.Count.{is_kind}
 use Rattle.np_machine.specs.Reasons.{is_unused}
 
@@ -41,6 +43,14 @@ count_place test (Some e) = if test e then tally_place e.kept.pool e.kept.label 
 -- whatever the node is like
 abbrev pub is_any : NodeEntry → Bool
 is_any e = true
+
+-- where a node of this record is counted as an unused one
+abbrev pub unused_place : NodeRecord → Bool → Bool → Option ℕ
+unused_place k is_free is_unlocked = if is_ready k.state && is_free && is_unlocked then tally_place k.pool k.label else None
+
+-- where a node that changes is counted as an unused one afterwards
+abbrev pub gained_place : Bool → NodeEntry → Option ℕ
+gained_place is_changed after = if is_changed then count_place is_unused (Some after) else None
 
 -- the numbers of the nodes of each pool and label, and of the unused ones among them
 pub record IsTally (nodes : List NodeEntry) (numbers spares : List ℕ) : Type 0 where

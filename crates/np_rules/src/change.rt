@@ -1,15 +1,21 @@
-//! The changes of one request or one node under its lock.
+//! The changes of one request or one node under its lock, and of the handles of semaphores.
+
+pub(crate) mod handles;
 
 ghost use Rattle.np_machine.specs.declared.state.Locked.{Locked};
 ghost use Rattle.np_machine.specs.Entries.{NodeEntry};
 ghost use Rattle.np_machine.specs.Node.{allocated};
 ghost use Rattle.np_machine.specs.Semaphore.{in_use};
-ghost use Rattle.np_machine.specs.Tables.{freed, joined, kept_from, left};
-ghost use Rattle.std.specs.Prelude.{◌≡◌};
+ghost use Rattle.np_machine.specs.Tables.{freed_from, is_request, joined, left};
+ghost use Rattle.np_decision.specs.Changes.{edited};
+ghost use Rattle.np_rules.specs.CanChange.{edited_in_room, has_room};
+ghost use Rattle.std.specs.Prelude.{◌≡◌, true};
 
-use np_machine::{Locked, NodeEntry};
+use np_decision::RequestEdit;
+use np_machine::{Locked, NodeEntry, RequestEntry};
+use np_record::{Declined, NodeRow, RequestRecord};
 use np_table::RowChange;
-use np_text::{NodeState, RequestId, SessionId};
+use np_text::{JOB_LABELS, NodeState, POOLS, RequestId, RequestState, SessionId, TenantId};
 use std::alloc::AllocError;
 use std::convert::Infallible;
 
@@ -17,6 +23,12 @@ use std::convert::Infallible;
 #[derive(Drop)]
 pub struct Put<K> {
     pub kept: K,
+}
+
+/// The request's record is edited, where its rows have room.
+#[derive(Drop)]
+pub struct Edit {
+    pub edit: RequestEdit,
 }
 
 /// The session joins the queue, unless it is there.
@@ -31,10 +43,12 @@ pub struct Leave {
     pub session: SessionId,
 }
 
-/// The node is allocated to the request, and the session joins its queue, unless it is there.
+/// The node is allocated to the request, for the tenant, and the session joins its queue, unless it
+/// is there.
 #[derive(Drop)]
 pub struct Allocate {
     pub request: RequestId,
+    pub tenant: Option<TenantId>,
     pub session: SessionId,
 }
 
@@ -57,6 +71,72 @@ impl<I, K: Copy> RowChange<Locked<I, K>> for Put<K> {
 
     fn make(&self, row: &mut Locked<I, K>) -> Result<(), Infallible> {
         row.kept = self.kept;
+        Ok(())
+    }
+}
+
+/// Whether the record's rows have room for the edit.
+fn has_room(edit: RequestEdit, kept: &RequestRecord) -> bool
+    ensures { result ≡ has_room edit kept.now }
+{
+    match edit {
+        RequestEdit::AddNode { node: _ } => (kept.nodes.len() as usize) < JOB_LABELS,
+        RequestEdit::Decline { .. } => (kept.declined.len() as usize) < POOLS,
+        RequestEdit::Serve { pool: _ }
+        | RequestEdit::Fulfil
+        | RequestEdit::GiveBack
+        | RequestEdit::Fail
+        | RequestEdit::Revise { relative: _ } => true,
+    }
+}
+
+/// The record is edited in place.
+fn edit_record(edit: RequestEdit, kept: &mut RequestRecord)
+    requires { has_room edit kept.old ≡ true }
+    ensures { kept.new ≡ edited edit kept.old }
+{
+    match edit {
+        RequestEdit::Serve { pool } => {
+            kept.pool = Some(pool);
+            kept.state = RequestState::Pending;
+        }
+        RequestEdit::AddNode { node } => {
+            let _room = kept.nodes.push(node);
+        }
+        RequestEdit::Decline {
+            pool,
+            reason,
+            failed,
+        } => {
+            let _room = kept.declined.push(Declined { pool, reason });
+            kept.nodes = NodeRow::new();
+            kept.pool = None;
+            kept.state = if failed {
+                RequestState::Failed
+            } else {
+                RequestState::Requested
+            };
+        }
+        RequestEdit::Fulfil => kept.state = RequestState::Fulfilled,
+        RequestEdit::GiveBack => {
+            kept.nodes = NodeRow::new();
+            kept.pool = None;
+            kept.state = RequestState::Requested;
+        }
+        RequestEdit::Fail => kept.state = RequestState::Failed,
+        RequestEdit::Revise { relative } => kept.relative_priority = relative,
+    }
+}
+
+impl RowChange<RequestEntry> for Edit {
+    type Error = Infallible;
+
+    ghost after = { λ edit row. record row { kept = edited_in_room edit.edit row.kept } };
+
+    fn make(&self, row: &mut RequestEntry) -> Result<(), Infallible> {
+        if has_room(self.edit, &row.kept) {
+            edit_record(self.edit, &mut row.kept);
+        }
         Ok(())
     }
 }
@@ -86,38 +166,36 @@ impl<I, K> RowChange<Locked<I, K>> for Leave {
 impl RowChange<NodeEntry> for Allocate {
     type Error = AllocError;
 
-    ghost after = { λ allocate row. allocated allocate.request allocate.session row };
+    ghost after = { λ allocate row. allocated allocate.request allocate.tenant allocate.session row };
 
     fn make(&self, row: &mut NodeEntry) -> Result<(), AllocError> {
         row.queue.join(self.session)?;
         row.kept.allocated_to = Some(self.request);
+        row.kept.tenant = self.tenant;
         Ok(())
     }
 }
 
-/// The allocation, unless it is to the request.
-fn kept_from(request: RequestId, found: Option<RequestId>) -> Option<RequestId>
-    ensures { result ≡ kept_from request found }
+/// Whether the allocation is to the request.
+pub(crate) fn is_allocated_to(request: RequestId, found: Option<RequestId>) -> bool
+    ensures { result ≡ is_request request found }
 {
     match found {
-        None => None,
-        Some(other) => {
-            if other.priority == request.priority && other.seq == request.seq {
-                None
-            } else {
-                Some(other)
-            }
-        }
+        None => false,
+        Some(other) => other.priority == request.priority && other.seq == request.seq,
     }
 }
 
 impl RowChange<NodeEntry> for Free {
     type Error = Infallible;
 
-    ghost after = { λ free row. freed free.request row };
+    ghost after = { λ free row. freed_from free.request row };
 
     fn make(&self, row: &mut NodeEntry) -> Result<(), Infallible> {
-        row.kept.allocated_to = kept_from(self.request, row.kept.allocated_to);
+        if is_allocated_to(self.request, row.kept.allocated_to) {
+            row.kept.allocated_to = None;
+            row.kept.tenant = None;
+        }
         Ok(())
     }
 }

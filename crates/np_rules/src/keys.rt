@@ -4,11 +4,11 @@ ghost use Rattle.np_machine.specs.Entries.{NodeEntry, RequestEntry};
 ghost use Rattle.np_machine.specs.declared.state.Swept.{Swept};
 ghost use Rattle.np_machine.specs.Order.{is_id_before};
 ghost use Rattle.np_machine.specs.Tables.{same_request};
-ghost use Rattle.np_rules.specs.Keys.{is_node_before, is_pair_before, node_equal, node_one_way, node_some_way, node_transitive, pair_equal, pair_one_way, pair_some_way, pair_transitive, request_equal, request_one_way, request_some_way, request_transitive, same_node, same_pair};
+ghost use Rattle.np_rules.specs.Keys.{is_job_before, job_equal, job_one_way, job_some_way, job_transitive, same_job, is_node_before, is_pair_before, node_equal, node_one_way, node_some_way, node_transitive, pair_equal, pair_one_way, pair_some_way, pair_transitive, request_equal, request_one_way, request_some_way, request_transitive, same_node, same_pair};
 
 use np_machine::{NodeEntry, RequestEntry, Swept};
 use np_table::{KeyTable, Order};
-use np_text::{NodeId, RequestId};
+use np_text::{JobId, NodeId, RequestId};
 
 /// Nodes, by number.
 pub struct ByNode;
@@ -19,10 +19,15 @@ pub struct ByRequest;
 /// Swept pairs, by node and then server.
 pub struct BySwept;
 
+/// Jobs, by number.
+pub struct ByJob;
+
 /// The requests under their locks.
 pub type RequestTable = KeyTable<ByRequest>;
 /// The swept pairs.
 pub type SweptTable = KeyTable<BySwept>;
+/// The jobs with a handle of a semaphore.
+pub type HandleTable = KeyTable<ByJob>;
 
 impl Order for ByNode {
     type Key = NodeId;
@@ -126,4 +131,36 @@ impl Order for BySwept {
     ghost some_way = { pair_some_way };
 
     ghost equal = { pair_equal };
+}
+
+impl Order for ByJob {
+    type Key = JobId;
+
+    type Row = JobId;
+
+    ghost key = { λ job. job };
+
+    ghost before = { is_job_before };
+
+    ghost same = { same_job };
+
+    fn key(job: &JobId) -> JobId {
+        *job
+    }
+
+    fn is_before(first: JobId, second: JobId) -> bool {
+        first.0 < second.0
+    }
+
+    fn is_same(first: JobId, second: JobId) -> bool {
+        first.0 == second.0
+    }
+
+    ghost transitive = { job_transitive };
+
+    ghost one_way = { job_one_way };
+
+    ghost some_way = { job_some_way };
+
+    ghost equal = { job_equal };
 }

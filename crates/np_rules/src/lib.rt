@@ -1,10 +1,10 @@
 //! The machine over vectors.
 //!
-//! np_machine defines what each event is answered and the state that it leaves. `Plain` gives the
-//! definitions' answers and leaves the definitions' states, and its journal always leads to its
-//! state. `Look` reads a state.
+//! np_machine defines what each event is answered and the state that it leaves, and np_decision
+//! decides both for whatever keeps a state. `keeper` keeps it in vectors: `tables` has the lists,
+//! `walk` the readers that ask every row, `grow` makes what may take memory and `settle` what may
+//! not fail. `Plain` adds the journal, which always leads to the state.
 //!
-//! Below them `tables` keeps the lists, `judge` has the tests of each event, and `effect` its changes.
 //! Requests, nodes and swept pairs stand in the order of their keys (`keys`), and one of them is
 //! changed by one of the changes in `change`. `specs` has only what this code needs beside the
 //! definitions.
@@ -12,18 +12,17 @@
 
 mod change;
 mod count;
-mod effect;
-mod judge;
+mod grow;
+mod keeper;
 mod keys;
-mod look;
 mod nodes;
-mod order;
 mod plain;
-mod reason;
 mod roles;
+mod settle;
 mod start;
 mod tables;
 mod tally;
+mod walk;
 
-pub use look::Look;
+pub use np_decision::Look;
 pub use plain::Plain;

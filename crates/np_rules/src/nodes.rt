@@ -3,8 +3,8 @@
 //!
 //! What a pool uses is asked at each node that it makes, and its unused nodes for each request that
 //! waits, so the numbers are kept and not counted anew. A change of one node changes four of them at
-//! most; where a session leaves its queues, or a request's nodes are freed together, all nodes are
-//! walked, and the unused ones counted on the way.
+//! most. Where a session leaves its queues, or a request's nodes are freed together, all nodes are
+//! walked, and a number changes for each node that becomes unused.
 
 ghost use Rattle.std.specs.Prelude.{◌≡◌, ◌==◌, ◌≤◌, ◌<◌, ◌^◌, [], IfOk, OnErr, OnOk, find, length, map, nat_lt, option_copied};
 ghost use Rattle.std.specs.List.{list_any};
@@ -14,17 +14,18 @@ ghost use Rattle.np_machine.specs.Count.{number_of};
 ghost use Rattle.np_machine.specs.Entries.{NodeEntry};
 ghost use Rattle.np_machine.specs.Reasons.{is_spare};
 ghost use Rattle.np_machine.specs.Semaphore.{all_in_use};
-ghost use Rattle.np_machine.specs.Tables.{all_freed, is_queued, left};
+ghost use Rattle.np_machine.specs.Session.{node_left};
+ghost use Rattle.np_machine.specs.Tables.{all_freed, is_queued};
 
 use crate::change::{Free, Leave, TakeOver};
 use crate::keys::ByNode;
-use crate::reason::is_spare;
 use crate::tally::{
-    add_one, kind_place, move_one, number_at, recount, spare_place, take_one, tally_place, zeros,
+    add_one, count_freed, count_left, kind_place, move_one, number_at, spare_place, take_one,
+    tally_place, zeros,
 };
-use np_machine::{NodeEntry, is_in};
+use np_machine::{NodeEntry, holder_of, is_in};
 use np_table::{KeyTable, RowChange, always};
-use np_text::{LABELS, LabelId, NodeId, PoolId, RequestId, SessionId};
+use np_text::{LABELS, LabelId, NodeId, NodeState, PoolId, RequestId, SessionId};
 use std::alloc::{AllocError, Global};
 use std::marker::Model;
 
@@ -54,6 +55,17 @@ fn is_queued_at(session: SessionId, nodes: &[NodeEntry]) -> bool
     ensures { result ≡ list_any (λ e. is_queued session e.queue) nodes.now }
 {
     nodes.iter().any(|e| is_in(e.queue.items(), session))
+}
+
+/// Whether the node is an unused one of the pool and the label.
+fn is_spare(pool: PoolId, label: LabelId, row: &NodeEntry) -> bool
+    ensures { result ≡ is_spare pool label row.now }
+{
+    row.kept.state == NodeState::Ready
+        && row.kept.allocated_to.is_none()
+        && holder_of(row.queue.items()).is_none()
+        && row.kept.pool.0 == pool.0
+        && row.kept.label.0 == label.0
 }
 
 /// How many nodes of the pool and the label there are, counted one by one.
@@ -123,14 +135,17 @@ impl NodeTable {
         change: &C,
     ) -> Result<(), C::Error>
         requires { (row : NodeEntry) → (C.after change.now row).id ≡ row.id }
-        ensures ok { OnOk result (self.new ≡ change_first (λ row. row.id.0 == id.0) (C.after change.now) self.old) }
+        ensures ok { OnOk result (self.new ≡
+            change_first (λ row. row.id.0 == id.0) (C.after change.now) self.old) }
         ensures err { OnErr result (self.new ≡ self.old) }
     {
-        let kind = kind_place(self.table.find(id));
-        let spare = spare_place(self.table.find(id));
+        let found = self.table.find(id);
+        let kind = kind_place(found);
+        let spare = spare_place(found);
         self.table.change(id, change)?;
-        let kind_after = kind_place(self.table.find(id));
-        let spare_after = spare_place(self.table.find(id));
+        let changed = self.table.find(id);
+        let kind_after = kind_place(changed);
+        let spare_after = spare_place(changed);
         self.table.is_countable();
         move_one(&mut self.numbers, kind, kind_after);
         move_one(&mut self.spares, spare, spare_after);
@@ -139,23 +154,23 @@ impl NodeTable {
 
     /// The session leaves every queue.
     pub(crate) fn leave_all(&mut self, session: SessionId)
-        ensures { self.new ≡ map {A = NodeEntry} {B = NodeEntry} (λ row. record row { queue = left session row.queue }) self.old }
+        ensures { self.new ≡ map (node_left session) self.old }
     {
         if !is_queued_at(session, self.table.rows()) {
             return;
         }
-        self.table.change_all(&Leave { session });
         self.table.is_countable();
-        recount(&mut self.spares, self.table.rows());
+        count_left(&mut self.spares, self.table.rows(), session);
+        self.table.change_all(&Leave { session });
     }
 
     /// Every node that is allocated to the request is freed.
     pub(crate) fn free_all(&mut self, request: RequestId)
         ensures { self.new ≡ all_freed request self.old }
     {
-        self.table.change_all(&Free { request });
         self.table.is_countable();
-        recount(&mut self.spares, self.table.rows());
+        count_freed(&mut self.spares, self.table.rows(), request);
+        self.table.change_all(&Free { request });
     }
 
     /// The node and its queue are removed.
@@ -176,7 +191,8 @@ impl NodeTable {
     pub(crate) fn insert(&mut self, row: NodeEntry) -> Result<(), AllocError>
         requires few { length self.old ≤ 262144 }
         requires fresh { NonePass (λ other. other.id.0 == row.id.0) self.old }
-        ensures ok { OnOk result (self.new ≡ insert_before (λ other. nat_lt row.id.0 other.id.0) row self.old) }
+        ensures ok { OnOk result (self.new ≡
+            insert_before (λ other. nat_lt row.id.0 other.id.0) row self.old) }
         ensures err { OnErr result (self.new ≡ self.old) }
     {
         let kind = kind_place(Some(&row));

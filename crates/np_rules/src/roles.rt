@@ -1,20 +1,25 @@
 //! What each role has done, counted.
 
-ghost use Rattle.std.specs.Prelude.{◌≡◌, ◌≤◌, Some, slice_get};
-ghost use Rattle.np_record.specs.declared.record.RoleRecord.{RoleRecord};
+ghost use Rattle.std.specs.Prelude.{◌≡◌, ◌≤◌, Some};
+ghost use Rattle.std.specs.List.{AllByRecursion};
 ghost use Rattle.np_lists.specs.Change.{change_at};
-ghost use Rattle.np_machine.specs.Tables.{role_in, change_role};
+ghost use Rattle.np_machine.specs.Tables.{change_janitor, change_launcher, change_requester, change_role};
+ghost use Rattle.np_decision.specs.Changes.{with_deed};
+ghost use Rattle.np_decision.specs.declared.changes.Deed.TheVariants as deed;
+ghost use Rattle.np_decision.specs.Fits.{RoleFits, most};
+ghost use Rattle.np_rules.specs.CanChange.{RolesFit};
 ghost use Rattle.np_machine.specs.Session.{struck_unless};
 ghost use Rattle.np_machine.specs.Node.{one_more_start};
 ghost use Rattle.np_machine.specs.Step.{one_more_act};
 
 use crate::tables::Tables;
+use np_decision::{Deed, Maker};
 use np_record::RoleRecord;
 use np_text::Role;
 
 /// One more act of the role at a place, where there is one.
 fn add_act(roles: &mut Vec<RoleRecord>, at: usize)
-    requires { (role : RoleRecord) → slice_get roles.old.items at ≡ Some role → role.acts ≤ 262144 }
+    requires { AllByRecursion RoleFits roles.old.items }
     ensures { roles.new.items ≡ change_at at one_more_act roles.old.items }
 {
     if at >= roles.len() {
@@ -26,7 +31,7 @@ fn add_act(roles: &mut Vec<RoleRecord>, at: usize)
 
 /// One more strike, unless it was counted.
 fn struck(role: RoleRecord, counted: bool) -> RoleRecord
-    requires { role.strikes ≤ 262144 }
+    requires { role.strikes ≤ most }
     ensures { result ≡ struck_unless counted role }
 {
     let strikes = if counted {
@@ -39,7 +44,7 @@ fn struck(role: RoleRecord, counted: bool) -> RoleRecord
 
 /// One more strike of the role at a place, where there is one, unless it was counted.
 fn add_strike(roles: &mut Vec<RoleRecord>, at: usize, counted: bool)
-    requires { (role : RoleRecord) → slice_get roles.old.items at ≡ Some role → role.strikes ≤ 262144 }
+    requires { AllByRecursion RoleFits roles.old.items }
     ensures { roles.new.items ≡ change_at at (struck_unless counted) roles.old.items }
 {
     if at >= roles.len() {
@@ -49,22 +54,24 @@ fn add_strike(roles: &mut Vec<RoleRecord>, at: usize, counted: bool)
     *role = struck(*role, counted);
 }
 
-/// One more start of the role at a place, where there is one.
-pub(crate) fn add_start(roles: &mut Vec<RoleRecord>, at: usize)
-    requires { (role : RoleRecord) → slice_get roles.old.items at ≡ Some role → role.starts ≤ 262144 }
-    ensures { roles.new.items ≡ change_at at one_more_start roles.old.items }
+/// One more start and one more act of the role at a place, where there is one.
+fn add_start(roles: &mut Vec<RoleRecord>, at: usize)
+    requires { AllByRecursion RoleFits roles.old.items }
+    ensures { roles.new.items ≡
+        change_at at (λ role. one_more_act (one_more_start role)) roles.old.items }
 {
     if at >= roles.len() {
         return;
     }
     let role = &mut roles[at];
     role.starts += 1;
+    role.acts += 1;
 }
 
 impl Tables {
     /// One more act of the role.
-    pub(crate) fn act(&mut self, role: Role)
-        requires { (deeds : RoleRecord) → role_in role self.old ≡ Some deeds → deeds.acts ≤ 262144 }
+    fn act(&mut self, role: Role)
+        requires { RolesFit self.old }
         ensures { self.new ≡ change_role one_more_act role self.old }
     {
         match role {
@@ -76,8 +83,8 @@ impl Tables {
     }
 
     /// One more strike against the role, unless it was counted.
-    pub(crate) fn strike(&mut self, role: Role, counted: bool)
-        requires { (deeds : RoleRecord) → role_in role self.old ≡ Some deeds → deeds.strikes ≤ 262144 }
+    fn strike(&mut self, role: Role, counted: bool)
+        requires { RolesFit self.old }
         ensures { self.new ≡ change_role (struck_unless counted) role self.old }
     {
         match role {
@@ -87,6 +94,37 @@ impl Tables {
                 add_strike(&mut self.requesters, requester.0 as usize, counted);
             }
             Role::Reaper => {}
+        }
+    }
+
+    /// One more act of the maker's role.
+    fn act_of(&mut self, maker: Option<Maker>)
+        requires { RolesFit self.old }
+        ensures { self.new ≡ record self.old {
+          launchers = with_deed change_launcher maker (Some deed.Acts) self.old.launchers;
+          janitors = with_deed change_janitor maker (Some deed.Acts) self.old.janitors;
+          requesters = with_deed change_requester maker (Some deed.Acts) self.old.requesters;
+        } }
+    {
+        if let Some(maker) = maker {
+            self.act(maker.role);
+        }
+    }
+
+    /// What is counted of the deed.
+    pub(crate) fn count_deed(&mut self, maker: Option<Maker>, deed: Option<Deed>)
+        requires { RolesFit self.old }
+        ensures { self.new ≡ record self.old {
+          launchers = with_deed change_launcher maker deed self.old.launchers;
+          janitors = with_deed change_janitor maker deed self.old.janitors;
+          requesters = with_deed change_requester maker deed self.old.requesters;
+        } }
+    {
+        match deed {
+            None => {}
+            Some(Deed::Acts) => self.act_of(maker),
+            Some(Deed::StartsAndActs { pool }) => add_start(&mut self.launchers, pool.0 as usize),
+            Some(Deed::Strikes { role, counted }) => self.strike(role, counted),
         }
     }
 }

@@ -4,11 +4,10 @@ ghost use Rattle.std.specs.Prelude.{◌≡◌, ◌≤◌, ◌<◌, List, [], len
 ghost use Rattle.np_text.specs.declared.id.JobId.{JobId};
 ghost use Rattle.np_machine.specs.State.{start, new_job, no_deeds};
 
-use crate::keys::{RequestTable, SweptTable};
+use crate::keys::{HandleTable, RequestTable, SweptTable};
 use crate::nodes::NodeTable;
 use crate::tables::Tables;
 use np_config::Config;
-use np_machine::Queue;
 use np_record::{JobRecord, MarkRow, RoleRecord};
 use np_text::{JobId, Phase, PoolId, RequesterId, SemId};
 use std::alloc::{AllocError, Global};
@@ -90,12 +89,12 @@ fn new_jobs(alloc: Global, count: usize) -> Result<Vec<JobRecord>, AllocError>
 }
 
 /// So many semaphores of which nobody has a handle.
-fn no_handles(alloc: Global, count: usize) -> Result<Vec<Queue<JobId>>, AllocError>
+fn no_handles(alloc: Global, count: usize) -> Result<Vec<HandleTable>, AllocError>
     ensures { IfOk result (λ handles. handles.items ≡ replicate {A = List JobId} count []) }
 {
     let mut handles = Vec::new(alloc);
     for _at in 0..count {
-        handles.push(Queue::new(alloc))?;
+        handles.push(HandleTable::new(alloc))?;
     }
     Ok(handles)
 }

@@ -1,19 +1,17 @@
 //! What the plain machine keeps: vectors, seen as the state of the definitions.
 
-ghost use Rattle.std.specs.Prelude.{◌≡◌, ◌+◌, ◌<◌, ◌≤◌, [], length, option_copied, slice_get, OnOk, OnErr, IfOk};
-ghost use Rattle.np_machine.specs.Tables.{session_of, role_of, registered, request_entry, node_entry, is_session_of, is_request, request_holder, node_holder, put_job, put_node, put_request, role_in};
+ghost use Rattle.std.specs.Prelude.{◌≡◌, option_copied, slice_get};
 ghost use Rattle.std.specs.Option.{option_map};
+ghost use Rattle.np_decision.specs.Views.{node_view, request_view};
 ghost use Rattle.np_machine.specs.Node.{is_swept};
-ghost use Rattle.np_machine.specs.Tests.{maker, launcher, janitor, requester, wrong_request, wrong_node};
+ghost use Rattle.np_machine.specs.Tables.{handles_of, has_handle, node_entry, node_holder, registered, request_entry, request_holder, role_in, session_of};
 
-use crate::change::Put;
-use crate::keys::{RequestTable, SweptTable};
+use crate::keys::{HandleTable, RequestTable, SweptTable};
 use crate::nodes::NodeTable;
-use np_event::{Found, Refusal};
-use np_machine::{NodeEntry, Queue, Registration, RequestEntry, SessionFacts, Swept, holder_of};
-use np_record::{JobRecord, NodeRecord, RequestRecord, RoleRecord};
-use np_table::always;
-use np_text::{JobId, NodeId, NodeState, PoolId, RequestId, RequesterId, Role, SessionId};
+use np_decision::{NodeView, RequestView};
+use np_machine::{NodeEntry, Registration, RequestEntry, SessionFacts, Swept, holder_of};
+use np_record::{JobRecord, RoleRecord};
+use np_text::{JobId, NodeId, PoolId, RequestId, Role, SemId, SessionId};
 use std::alloc::Global;
 use std::marker::Model;
 
@@ -26,7 +24,7 @@ pub struct Tables {
     pub(crate) registrations: Vec<Registration>,
     pub(crate) requests: RequestTable,
     pub(crate) nodes: NodeTable,
-    pub(crate) handles: Vec<Queue<JobId>>,
+    pub(crate) handles: Vec<HandleTable>,
     pub(crate) jobs: Vec<JobRecord>,
     pub(crate) launchers: Vec<RoleRecord>,
     pub(crate) janitors: Vec<RoleRecord>,
@@ -58,48 +56,24 @@ impl Model for Tables {
     } };
 }
 
-/// Whether the option names this session.
-pub(crate) fn is_named(session: SessionId, found: Option<SessionId>) -> bool
-    ensures { result ≡ is_session_of session found }
-{
-    match found {
-        None => false,
-        Some(other) => other.0 == session.0,
-    }
-}
-
-/// Whether the option names this request.
-pub(crate) fn is_of_request(request: RequestId, found: Option<RequestId>) -> bool
-    ensures { result ≡ is_request request found }
-{
-    match found {
-        None => false,
-        Some(other) => other.priority == request.priority && other.seq == request.seq,
-    }
-}
-
-/// The refusal that shows a request's state.
-pub(crate) fn wrong_request(request: &RequestRecord) -> Refusal
-    ensures { result ≡ wrong_request request.now }
-{
-    Refusal::WrongState(Found::Request(request.state))
-}
-
-/// The refusal that shows a node's state; a building node with a launch running shows so.
-pub(crate) fn wrong_node(node: &NodeRecord) -> Refusal
-    ensures { result ≡ wrong_node node.now }
-{
-    if node.state == NodeState::Building && node.in_flight {
-        Refusal::WrongState(Found::InFlight)
-    } else {
-        Refusal::WrongState(Found::Node(node.state))
-    }
-}
-
 impl Tables {
     ghost use Rattle.np_machine.specs.State.{State};
 
-    /// What is known of the session; sessions count from 1.
+    /// How many ticks have passed.
+    pub(crate) fn tick(&self) -> u32
+        ensures { result ≡ self.now.tick }
+    {
+        self.tick
+    }
+
+    /// The sessions; the first has number 1.
+    pub(crate) fn sessions(&self) -> &[SessionFacts]
+        ensures { result.now ≡ self.now.sessions }
+    {
+        self.sessions.as_slice()
+    }
+
+    /// What is known of the session.
     pub(crate) fn session(&self, session: SessionId) -> Option<SessionFacts>
         ensures { result ≡ session_of session self.now }
     {
@@ -109,18 +83,28 @@ impl Tables {
         self.sessions.get(session.0 as usize - 1).copied()
     }
 
-    /// How many ticks have passed.
-    pub(crate) fn tick(&self) -> u32
-        ensures { result ≡ self.now.tick }
+    /// The registrations, by pool.
+    pub(crate) fn registrations(&self) -> &[Registration]
+        ensures { result.now ≡ self.now.registrations }
     {
-        self.tick
+        self.registrations.as_slice()
     }
 
-    /// How many sessions were begun.
-    pub(crate) fn count_sessions(&self) -> usize
-        ensures { result ≡ length self.now.sessions }
+    /// Who holds the registration of the pool.
+    pub(crate) fn registered(&self, pool: PoolId) -> Option<SessionId>
+        ensures { result ≡ registered pool self.now.registrations }
     {
-        self.sessions.len()
+        self.registrations
+            .iter()
+            .find(|r| r.pool.0 == pool.0)
+            .map(|r| r.session)
+    }
+
+    /// The requests under their locks, by priority and then sequence.
+    pub(crate) fn requests(&self) -> &[RequestEntry]
+        ensures { result.now ≡ self.now.requests }
+    {
+        self.requests.rows()
     }
 
     /// The request at a place.
@@ -133,6 +117,44 @@ impl Tables {
         }
     }
 
+    /// The request at a place, with its record and who holds it.
+    pub(crate) fn request_view(&self, at: usize) -> Option<RequestView>
+        ensures { result ≡ option_map request_view (slice_get self.now.requests at) }
+    {
+        match self.requests.rows().get(at) {
+            None => None,
+            Some(entry) => Some(RequestView {
+                id: entry.id,
+                kept: entry.kept,
+                holder: holder_of(entry.queue.items()),
+            }),
+        }
+    }
+
+    /// The request with its queue.
+    pub(crate) fn request(&self, request: RequestId) -> Option<&RequestEntry>
+        ensures { option_copied result ≡ request_entry request self.now.requests }
+    {
+        self.requests.find(request)
+    }
+
+    /// Who holds the request.
+    pub(crate) fn request_holder(&self, request: RequestId) -> Option<SessionId>
+        ensures { result ≡ request_holder request self.now.requests }
+    {
+        match self.request(request) {
+            None => None,
+            Some(entry) => holder_of(entry.queue.items()),
+        }
+    }
+
+    /// The nodes under their locks, by number.
+    pub(crate) fn nodes(&self) -> &[NodeEntry]
+        ensures { result.now ≡ self.now.nodes }
+    {
+        self.nodes.rows()
+    }
+
     /// The node at a place.
     pub(crate) fn node_at(&self, at: usize) -> Option<NodeId>
         ensures { result ≡ option_map (λ e. e.id) (slice_get self.now.nodes at) }
@@ -141,6 +163,71 @@ impl Tables {
             None => None,
             Some(entry) => Some(entry.id),
         }
+    }
+
+    /// The node at a place, with its record and who holds it.
+    pub(crate) fn node_view(&self, at: usize) -> Option<NodeView>
+        ensures { result ≡ option_map node_view (slice_get self.now.nodes at) }
+    {
+        match self.nodes.rows().get(at) {
+            None => None,
+            Some(entry) => Some(NodeView {
+                id: entry.id,
+                kept: entry.kept,
+                holder: holder_of(entry.queue.items()),
+            }),
+        }
+    }
+
+    /// The node with its queue.
+    pub(crate) fn node(&self, node: NodeId) -> Option<&NodeEntry>
+        ensures { option_copied result ≡ node_entry node self.now.nodes }
+    {
+        self.nodes.find(node)
+    }
+
+    /// Who holds the node.
+    pub(crate) fn node_holder(&self, node: NodeId) -> Option<SessionId>
+        ensures { result ≡ node_holder node self.now.nodes }
+    {
+        match self.node(node) {
+            None => None,
+            Some(entry) => holder_of(entry.queue.items()),
+        }
+    }
+
+    /// The jobs that have a handle of the semaphore.
+    pub(crate) fn handles(&self, semaphore: SemId) -> &[JobId]
+        ensures { result.now ≡ handles_of semaphore self.now.handles }
+    {
+        match self.handles.get(semaphore.0 as usize) {
+            None => &[],
+            Some(jobs) => jobs.rows(),
+        }
+    }
+
+    /// Whether the job has a handle of the semaphore.
+    pub(crate) fn has_handle(&self, job: JobId, semaphore: SemId) -> bool
+        ensures { result ≡ has_handle job self.now.handles semaphore }
+    {
+        match self.handles.get(semaphore.0 as usize) {
+            None => false,
+            Some(jobs) => jobs.has(job),
+        }
+    }
+
+    /// The jobs, as the machine keeps them.
+    pub(crate) fn jobs(&self) -> &[JobRecord]
+        ensures { result.now ≡ self.now.jobs }
+    {
+        self.jobs.as_slice()
+    }
+
+    /// The job, as the machine keeps it.
+    pub(crate) fn job(&self, job: JobId) -> Option<JobRecord>
+        ensures { result ≡ slice_get self.now.jobs job.0 }
+    {
+        self.jobs.get(job.0 as usize).copied()
     }
 
     /// What the role has done.
@@ -162,132 +249,17 @@ impl Tables {
         self.swept.has(Swept { node, server })
     }
 
-    /// The role of a session.
-    pub(crate) fn role(&self, session: SessionId) -> Option<Role>
-        ensures { result ≡ role_of session self.now }
+    /// The number of the next request.
+    pub(crate) fn next_request(&self) -> u32
+        ensures { result ≡ self.now.next_request }
     {
-        match self.session(session) {
-            None => None,
-            Some(facts) => Some(facts.role),
-        }
+        self.next_request
     }
 
-    /// The role of the session that makes an event.
-    pub(crate) fn maker(&self, session: SessionId) -> Result<Role, Refusal>
-        ensures { result ≡ maker self.now session }
+    /// The number of the next node.
+    pub(crate) fn next_node(&self) -> u32
+        ensures { result ≡ self.now.next_node }
     {
-        let Some(facts) = self.session(session) else {
-            return Err(Refusal::NoSession);
-        };
-        if !facts.live {
-            return Err(Refusal::Expired);
-        }
-        if facts.mute {
-            return Err(Refusal::Crashed);
-        }
-        Ok(facts.role)
-    }
-
-    /// The pool whose launcher makes the event.
-    pub(crate) fn launcher(&self, session: SessionId) -> Result<PoolId, Refusal>
-        ensures { result ≡ launcher self.now session }
-    {
-        match self.maker(session)? {
-            Role::Launcher(pool) => Ok(pool),
-            Role::Janitor(_) | Role::Requester(_) | Role::Reaper => Err(Refusal::WrongRole),
-        }
-    }
-
-    /// The pool whose janitor makes the event.
-    pub(crate) fn janitor(&self, session: SessionId) -> Result<PoolId, Refusal>
-        ensures { result ≡ janitor self.now session }
-    {
-        match self.maker(session)? {
-            Role::Janitor(pool) => Ok(pool),
-            Role::Launcher(_) | Role::Requester(_) | Role::Reaper => Err(Refusal::WrongRole),
-        }
-    }
-
-    /// The requester that makes the event.
-    pub(crate) fn requester(&self, session: SessionId) -> Result<RequesterId, Refusal>
-        ensures { result ≡ requester self.now session }
-    {
-        match self.maker(session)? {
-            Role::Requester(requester) => Ok(requester),
-            Role::Launcher(_) | Role::Janitor(_) | Role::Reaper => Err(Refusal::WrongRole),
-        }
-    }
-
-    /// Who holds the registration of the pool.
-    pub(crate) fn registered(&self, pool: PoolId) -> Option<SessionId>
-        ensures { result ≡ registered pool self.now.registrations }
-    {
-        self.registrations
-            .iter()
-            .find(|r| r.pool.0 == pool.0)
-            .map(|r| r.session)
-    }
-
-    /// The request with its queue.
-    pub(crate) fn request(&self, request: RequestId) -> Option<&RequestEntry>
-        ensures { option_copied result ≡ request_entry request self.now.requests }
-    {
-        self.requests.find(request)
-    }
-
-    /// The node with its queue.
-    pub(crate) fn node(&self, node: NodeId) -> Option<&NodeEntry>
-        ensures { option_copied result ≡ node_entry node self.now.nodes }
-    {
-        self.nodes.find(node)
-    }
-
-    /// The job, as the machine keeps it.
-    pub(crate) fn job(&self, job: JobId) -> Option<JobRecord>
-        ensures { result ≡ slice_get self.now.jobs job.0 }
-    {
-        self.jobs.get(job.0 as usize).copied()
-    }
-
-    /// Another record of a job that is there.
-    pub(crate) fn put_job(&mut self, job: JobId, kept: JobRecord)
-        requires { job.0 < length self.old.jobs }
-        ensures { self.new ≡ record self.old { jobs = put_job job kept self.old.jobs } }
-    {
-        self.jobs[job.0 as usize] = kept;
-    }
-
-    /// Another record of the request.
-    pub(crate) fn put_request(&mut self, request: RequestId, kept: RequestRecord)
-        ensures { self.new ≡ record self.old { requests = put_request request kept self.old.requests } }
-    {
-        always(self.requests.change(request, &Put { kept }));
-    }
-
-    /// Another record of the node.
-    pub(crate) fn put_node(&mut self, node: NodeId, kept: NodeRecord)
-        ensures { self.new ≡ record self.old { nodes = put_node node kept self.old.nodes } }
-    {
-        always(self.nodes.change(node, &Put { kept }));
-    }
-
-    /// Who holds the request.
-    pub(crate) fn request_holder(&self, request: RequestId) -> Option<SessionId>
-        ensures { result ≡ request_holder request self.now.requests }
-    {
-        match self.request(request) {
-            None => None,
-            Some(entry) => holder_of(entry.queue.items()),
-        }
-    }
-
-    /// Who holds the node.
-    pub(crate) fn node_holder(&self, node: NodeId) -> Option<SessionId>
-        ensures { result ≡ node_holder node self.now.nodes }
-    {
-        match self.node(node) {
-            None => None,
-            Some(entry) => holder_of(entry.queue.items()),
-        }
+        self.next_node
     }
 }

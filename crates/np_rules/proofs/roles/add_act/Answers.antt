@@ -4,6 +4,8 @@ use Rattle.std.proofs.lemmas.Option.{slice_get-get_or}
 use Rattle.np_record.specs.declared.record.RoleRecord.{RoleRecord}
 use Rattle.np_machine.specs.Step.{one_more_act}
 use Rattle.np_lists.proofs.ChangeLemmas.{change_at-set, change_at-past}
+use Rattle.np_lists.proofs.Each.{all-at}
+use Rattle.np_decision.specs.Fits.{RoleFits}
 use Rattle.np_rules.proofs.roles.add_act.Goals as goal
 
 pub returns-then-at-len : goal.returns-then-at-len
@@ -13,7 +15,7 @@ pub overflow_add-role : goal.overflow_add-role
 overflow_add-role c =
     let within : c.args.at < length c.args.roles.now.items = omega (arith, c.len.ensures) in
     let there : slice_get c.args.roles.now.items c.args.at ≡ Some c.index_mut-role.result.now = slice_get-get_or c.args.roles.now.items c.args.at c.index_mut-role.result.now within ∙ ap (λ (x : RoleRecord). Some x) (sym c.index_mut-role.ensures.value) in
-    omega (arith, c.requires c.index_mut-role.result.now there)
+    omega (arith, (all-at RoleFits c.args.roles.now.items c.args.at c.index_mut-role.result.now c.requires there).acts)
 
 pub returns : goal.returns
 returns c =

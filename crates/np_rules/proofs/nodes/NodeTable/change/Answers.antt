@@ -10,14 +10,14 @@ use Rattle.np_rules.proofs.nodes.NodeTable.change.Goals as goal
 pub move_one-requires : goal.move_one-requires
 move_one-requires g c =
     let few = rw c.in_ok-change.ensures.ok at c.is_countable.ensures in
-    rw (c.kind_place-kind.ensures, c.find.ensures, c.kind_place-kind_after.ensures, c.find-3.ensures, c.in_ok-change.ensures.ok) (
+    rw (c.kind_place-kind.ensures, c.find-found.ensures, c.kind_place-kind_after.ensures, c.find-changed.ensures, c.in_ok-change.ensures.ok) (
     count-changed_room is_any (λ (row : NodeEntry). row.id.0 == c.args.id.0) c.self.inside.table c.self.inside.numbers.items c.self.invariant.all
     (g.C.RowChange.after c.args.change.now) (λ row. ap (λ (id : NodeId). id.0 == c.args.id.0) (c.requires row)) few)
 
 pub move_one-requires-2 : goal.move_one-requires-2
 move_one-requires-2 g c =
     let few = rw c.in_ok-change.ensures.ok at c.is_countable.ensures in
-    rw (c.spare_place-spare.ensures, c.find-2.ensures, c.spare_place-spare_after.ensures, c.find-4.ensures, c.in_ok-change.ensures.ok) (
+    rw (c.spare_place-spare.ensures, c.find-found.ensures, c.spare_place-spare_after.ensures, c.find-changed.ensures, c.in_ok-change.ensures.ok) (
     count-changed_room is_unused (λ (row : NodeEntry). row.id.0 == c.args.id.0) c.self.inside.table c.self.inside.spares.items c.self.invariant.spare
     (g.C.RowChange.after c.args.change.now) (λ row. ap (λ (id : NodeId). id.0 == c.args.id.0) (c.requires row)) few)
 
@@ -27,13 +27,11 @@ invariant_of-self-2 g c =
       c.move_one.ensures,
       c.move_one-2.ensures,
       c.kind_place-kind.ensures,
-      c.find.ensures,
-      c.kind_place-kind_after.ensures,
-      c.find-3.ensures,
       c.spare_place-spare.ensures,
-      c.find-2.ensures,
+      c.find-found.ensures,
+      c.kind_place-kind_after.ensures,
       c.spare_place-spare_after.ensures,
-      c.find-4.ensures,
+      c.find-changed.ensures,
       c.in_ok-change.ensures.ok,
     ) (record {
       all = count-changed is_any (λ (row : NodeEntry). row.id.0 == c.args.id.0) c.self.inside.table c.self.inside.numbers.items c.self.invariant.all

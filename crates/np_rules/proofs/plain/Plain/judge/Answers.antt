@@ -1,5 +1,5 @@
 use Rattle.np_rules.proofs.FitsRuns.{Fits-Runs}
 use Rattle.np_rules.proofs.plain.Plain.judge.Goals as goal
 
-pub judge-requires-clause-fits : goal.judge-requires-clause-fits
-judge-requires-clause-fits c = Fits-Runs _ _ _ c.self.invariant.site c.self.invariant.runs
+pub decide-requires : goal.decide-requires
+decide-requires c = Fits-Runs _ _ _ c.self.invariant.site c.self.invariant.runs

@@ -1,6 +1,0 @@
-use Rattle.std.proofs.Common.{◌≡◌, take, map}
-use Rattle.np_machine.specs.Semaphore.{unended}
-use Rattle.np_rules.proofs.effect.semaphore.unended_marks.Given as goal
-
-abbrev pub invariant-loop-node : goal.invariant-loop-node
-invariant-loop-node l = l.row ≡ map unended (take l.node-index l.nodes)

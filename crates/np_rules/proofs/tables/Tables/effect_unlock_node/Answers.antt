@@ -1,9 +1,0 @@
-use Rattle.std.proofs.Common.{refl}
-use Rattle.np_machine.specs.Tables.{left}
-use Rattle.np_rules.proofs.Changing.{node-queued}
-use Rattle.np_rules.proofs.tables.Tables.effect_unlock_node.Goals as goal
-
-pub returns : goal.returns
-returns c =
-    let made = rw c.always.ensures at c.change.ensures.ok in
-    rw (← c.self.view_is) (rw (made, node-queued (left c.args.session) c.args.node c.self.inside.nodes) refl)

@@ -1,0 +1,71 @@
+//! The machine's state in vectors.
+
+ghost use Rattle.std.specs.Prelude.{◌≡◌, ◌+◌, ◌<◌, ◌^◌, IfOk};
+ghost use Rattle.np_site.specs.Sound.{IsSound};
+ghost use Rattle.np_machine.specs.State.{start};
+
+mod look;
+
+use crate::tables::Tables;
+use np_config::Config;
+use np_decision::{Changes, StateKeeper};
+use std::alloc::{AllocError, Global};
+use std::marker::Model;
+
+/// A configuration and a state over vectors, and how many entries were recorded.
+#[derive(Drop)]
+pub struct VecKeeper {
+    pub(crate) config: Config,
+    pub(crate) tables: Tables,
+    pub(crate) entries: u32,
+}
+
+impl Model for VecKeeper {
+    ghost use Rattle.np_rules.specs.Keeper.{IsCountable, Kept};
+
+    ghost Value = { Kept };
+
+    ghost view = { λ k. record { configuration = k.config; entries = k.entries; state = k.tables } };
+
+    ghost invariant = { λ k. IsCountable k.tables };
+}
+
+/// Every configuration is sound.
+pub(crate) fn is_sound(config: &Config)
+    ensures { IsSound config.now }
+{
+    config.soundness();
+}
+
+impl VecKeeper {
+    /// The state before the first event.
+    pub(crate) fn new(alloc: Global, config: Config) -> Result<VecKeeper, AllocError>
+        ensures { IfOk result (λ k. k ≡ record { configuration = config; entries = 0; state = start config }) }
+    {
+        is_sound(&config);
+        let tables = Tables::start(alloc, &config)?;
+        Ok(VecKeeper {
+            config,
+            tables,
+            entries: 0,
+        })
+    }
+
+    /// One more entry was recorded.
+    pub(crate) fn count_entry(&mut self)
+        requires { self.old.entries + 1 < 2 ^ 32 }
+        ensures { self.new ≡ record self.old { entries = self.old.entries + 1 } }
+    {
+        self.entries += 1;
+    }
+}
+
+impl StateKeeper for VecKeeper {
+    fn change(&mut self, changes: &Changes) -> Result<(), AllocError> {
+        is_sound(&self.config);
+        self.tables
+            .grow(&self.config, changes.maker, &changes.grows)?;
+        self.tables.settle(&self.config, changes);
+        Ok(())
+    }
+}

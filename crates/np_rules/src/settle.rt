@@ -1,0 +1,229 @@
+//! What may not fail: how each table changes once the tables have grown.
+
+ghost use Rattle.std.specs.Prelude.{◌≡◌, ◌≤◌, None, filter, length, map, not};
+ghost use Rattle.np_lists.specs.Change.{change_at};
+ghost use Rattle.np_machine.specs.Node.{marked, with_mark};
+ghost use Rattle.np_machine.specs.Semaphore.{all_without_handle};
+ghost use Rattle.np_machine.specs.Session.{ended, muted, node_left, request_left};
+ghost use Rattle.np_machine.specs.Tables.{change_session, is_session, put_job};
+ghost use Rattle.np_decision.specs.Changes.{handles_changed, jobs_changed, nodes_changed, nodes_left, registrations_left, requests_changed, requests_left, semaphores_of, sessions_changed, settled};
+ghost use Rattle.np_decision.specs.declared.changes.NodesChange.TheVariants as nodes_change;
+ghost use Rattle.np_decision.specs.declared.changes.RequestsChange.TheVariants as requests_change;
+ghost use Rattle.np_rules.specs.CanChange.{CanSettle, TakesEdit};
+
+use crate::change::handles::drop_handles;
+use crate::change::{Edit, Leave, Put};
+use crate::keys::{HandleTable, RequestTable};
+use crate::nodes::NodeTable;
+use crate::tables::Tables;
+use np_config::Config;
+use np_decision::{
+    Changes, HandlesChange, JobsChange, Maker, NodesChange, RequestEdit, RequestsChange,
+    SessionsChange,
+};
+use np_machine::{Registration, SessionFacts};
+use np_record::{JobRecord, MarkRow, Marked};
+use np_table::always;
+use np_text::{JobId, NodeId, RequestId, SessionId};
+
+/// The request's record is edited.
+fn edit_request(requests: &mut RequestTable, request: RequestId, edit: RequestEdit)
+    requires { TakesEdit (requests_change.Edit request edit) requests.old }
+    ensures { requests.new ≡
+        requests_changed None (requests_change.Edit request edit) requests.old }
+{
+    always(requests.change(request, &Edit { edit }));
+}
+
+/// The maker leaves the request's queue.
+fn leave_request(requests: &mut RequestTable, maker: Option<Maker>, request: RequestId)
+    ensures { requests.new ≡ requests_changed maker (requests_change.Leave request) requests.old }
+{
+    if let Some(maker) = maker {
+        let session = maker.session;
+        always(requests.change(request, &Leave { session }));
+    }
+}
+
+fn settle_requests(requests: &mut RequestTable, maker: Option<Maker>, change: RequestsChange)
+    requires { TakesEdit change requests.old }
+    ensures { requests.new ≡ requests_changed maker change requests.old }
+{
+    match change {
+        RequestsChange::Same => {}
+        RequestsChange::Edit { request, edit } => edit_request(requests, request, edit),
+        RequestsChange::Remove { request } => requests.remove(request),
+        RequestsChange::Leave { request } => leave_request(requests, maker, request),
+    }
+}
+
+/// The maker leaves the node's queue.
+fn leave_node(nodes: &mut NodeTable, maker: Option<Maker>, tick: u32, node: NodeId)
+    ensures { nodes.new ≡ nodes_changed maker tick (nodes_change.Leave node) nodes.old }
+{
+    if let Some(maker) = maker {
+        let session = maker.session;
+        always(nodes.change(node, &Leave { session }));
+    }
+}
+
+fn settle_nodes(nodes: &mut NodeTable, maker: Option<Maker>, tick: u32, change: &NodesChange)
+    ensures { nodes.new ≡ nodes_changed maker tick change.now nodes.old }
+{
+    match change {
+        NodesChange::Same => {}
+        NodesChange::Put { node, kept } => always(nodes.change(*node, &Put { kept: *kept })),
+        NodesChange::Remove { node } => nodes.remove(*node),
+        NodesChange::Leave { node } => leave_node(nodes, maker, tick, *node),
+        NodesChange::FreeAll { request } => nodes.free_all(*request),
+        NodesChange::TakeOver { nodes: numbers } => nodes.take_over_all(numbers.items(), tick),
+    }
+}
+
+/// Another record of the job.
+fn put_job(jobs: &mut Vec<JobRecord>, job: JobId, kept: &JobRecord)
+    ensures { jobs.new.items ≡ put_job job kept.now jobs.old.items }
+{
+    let at = job.0 as usize;
+    if at >= jobs.len() {
+        return;
+    }
+    jobs[at] = *kept;
+}
+
+/// The marks of a job with this node marked ended.
+fn marks_with(node: NodeId, marks: &[Marked]) -> MarkRow
+    requires { length marks.now ≤ 32 }
+    ensures { result ≡ map (marked node) marks.now }
+{
+    let mut row = MarkRow::new();
+    for mark in marks {
+        let _room = row.push(Marked {
+            node: mark.node,
+            ended: mark.ended || mark.node.0 == node.0,
+        });
+    }
+    row
+}
+
+/// The node is marked ended in the job.
+fn mark_ended(jobs: &mut Vec<JobRecord>, job: JobId, node: NodeId)
+    ensures { jobs.new.items ≡ change_at job.0 (with_mark node) jobs.old.items }
+{
+    let at = job.0 as usize;
+    if at >= jobs.len() {
+        return;
+    }
+    let kept = &mut jobs[at];
+    let _most = kept.nodes.len();
+    kept.nodes = marks_with(node, kept.nodes.items());
+}
+
+fn settle_jobs(jobs: &mut Vec<JobRecord>, change: &JobsChange)
+    ensures { jobs.new.items ≡ jobs_changed change.now jobs.old.items }
+{
+    match change {
+        JobsChange::Same => {}
+        JobsChange::Put { job, kept } => put_job(jobs, *job, kept),
+        JobsChange::EndNode { job, node } => mark_ended(jobs, *job, *node),
+    }
+}
+
+fn settle_handles(handles: &mut Vec<HandleTable>, config: &Config, change: HandlesChange)
+    ensures { handles.new.items ≡ handles_changed config.now change handles.old.items }
+{
+    match change {
+        HandlesChange::Same => {}
+        HandlesChange::Release { job } => release(handles, config, job),
+    }
+}
+
+/// The job gives all its handles back.
+fn release(handles: &mut Vec<HandleTable>, config: &Config, job: JobId)
+    ensures { handles.new.items ≡
+        all_without_handle job (semaphores_of config.now job) handles.old.items }
+{
+    if let Some(row) = config.job(job) {
+        drop_handles(handles, row.semaphores.items(), job);
+    }
+}
+
+/// The session is heard no more.
+fn mute(sessions: &mut Vec<SessionFacts>, session: SessionId)
+    ensures { sessions.new.items ≡ change_session session muted sessions.old.items }
+{
+    let at = (session.0 as usize).saturating_sub(1);
+    if at >= sessions.len() {
+        return;
+    }
+    let facts = &mut sessions[at];
+    facts.mute = true;
+}
+
+/// The session has expired.
+fn expire(sessions: &mut Vec<SessionFacts>, session: SessionId)
+    ensures { sessions.new.items ≡ change_session session ended sessions.old.items }
+{
+    let at = (session.0 as usize).saturating_sub(1);
+    if at >= sessions.len() {
+        return;
+    }
+    let facts = &mut sessions[at];
+    facts.live = false;
+}
+
+/// The session's registration goes.
+fn drop_registrations(registrations: &mut Vec<Registration>, session: SessionId)
+    ensures { registrations.new.items ≡
+        filter (λ g. not (is_session g.session session)) registrations.old.items }
+{
+    registrations.retain(|g| g.session.0 != session.0);
+}
+
+impl Tables {
+    /// What changes once the tables have grown.
+    pub(crate) fn settle(&mut self, config: &Config, changes: &Changes)
+        requires { CanSettle changes.now self.old }
+        ensures { self.new ≡ settled config.now changes.now self.old }
+    {
+        settle_requests(&mut self.requests, changes.maker, changes.requests);
+        settle_nodes(&mut self.nodes, changes.maker, self.tick, &changes.nodes);
+        settle_jobs(&mut self.jobs, &changes.jobs);
+        settle_handles(&mut self.handles, config, changes.handles);
+        self.count_deed(changes.maker, changes.deed);
+        self.settle_sessions(changes.sessions);
+        if changes.ticks {
+            self.tick += 1;
+        }
+    }
+
+    /// The session ends, and leaves its registration and every queue.
+    fn end_session(&mut self, session: SessionId)
+        ensures { self.new ≡ record self.old {
+          sessions = change_session session ended self.old.sessions;
+          registrations = filter (λ g. not (is_session g.session session)) self.old.registrations;
+          requests = map (request_left session) self.old.requests;
+          nodes = map (node_left session) self.old.nodes;
+        } }
+    {
+        expire(&mut self.sessions, session);
+        drop_registrations(&mut self.registrations, session);
+        self.requests.change_all(&Leave { session });
+        self.nodes.leave_all(session);
+    }
+
+    fn settle_sessions(&mut self, change: SessionsChange)
+        ensures { self.new ≡ record self.old {
+          sessions = sessions_changed change self.old.sessions;
+          registrations = registrations_left change self.old.registrations;
+          requests = requests_left change self.old.requests;
+          nodes = nodes_left change self.old.nodes;
+        } }
+    {
+        match change {
+            SessionsChange::Same => {}
+            SessionsChange::Mute { session } => mute(&mut self.sessions, session),
+            SessionsChange::End { session } => self.end_session(session),
+        }
+    }
+}

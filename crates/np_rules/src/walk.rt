@@ -1,0 +1,181 @@
+//! The readers that ask every row of a table.
+
+ghost use Rattle.std.specs.Prelude.{◌≡◌, ◌<◌, ◌≤◌, ◌^◌, ◌&&◌, IfSome, length, option_copied};
+ghost use Rattle.std.specs.List.{list_any, position};
+ghost use Rattle.np_text.specs.declared.id.LabelId.{LabelId};
+ghost use Rattle.np_decision.specs.Fits.{AmountFits};
+ghost use Rattle.np_decision.specs.Readers.{is_last_pool, owner_of};
+ghost use Rattle.np_machine.specs.Count.{amount_of, count_of};
+ghost use Rattle.np_machine.specs.First.{is_open_to};
+ghost use Rattle.np_machine.specs.Order.{comes_before};
+ghost use Rattle.np_machine.specs.Reasons.{is_paused, is_stuck};
+ghost use Rattle.np_machine.specs.Request.{is_spent_min_ready, ready_count, undeclined};
+ghost use Rattle.np_machine.specs.Semaphore.{has_live_session};
+ghost use Rattle.np_machine.specs.Tables.{is_marked};
+ghost use Rattle.np_rules.specs.Keeper.{comes_first};
+
+use crate::tables::Tables;
+use np_amount::Amount;
+use np_config::Config;
+use np_decision::{
+    declines_or_is, is_coming, is_declined_by, is_free_ready, is_live_of, is_marked,
+    is_spent_min_ready, short_label,
+};
+use np_machine::{RequestEntry, holder_of};
+use np_record::{JobRecord, RequestRecord};
+use np_text::{JobId, LabelId, NodeId, PoolId, RequestState, RequesterId};
+
+/// By priority, then relative priority, then sequence.
+fn comes_before(a: &RequestEntry, b: &RequestEntry) -> bool
+    ensures { result ≡ comes_before a.now b.now }
+{
+    if a.id.priority != b.id.priority {
+        return a.id.priority < b.id.priority;
+    }
+    if a.kept.relative_priority != b.kept.relative_priority {
+        return a.kept.relative_priority < b.kept.relative_priority;
+    }
+    a.id.seq < b.id.seq
+}
+
+/// Whether the entry comes before the best so far.
+fn comes_first(best: Option<&RequestEntry>, entry: &RequestEntry) -> bool
+    ensures { result ≡ comes_first (option_copied best.entry) entry.now }
+{
+    match best {
+        None => true,
+        Some(other) => comes_before(entry, other),
+    }
+}
+
+/// Whether the request is open to the pool.
+fn is_open_to(pool: PoolId, entry: &RequestEntry) -> bool
+    ensures { result ≡ is_open_to pool entry.now }
+{
+    let elsewhere = match entry.kept.pinned {
+        None => false,
+        Some(other) => other.0 != pool.0,
+    };
+    entry.kept.state == RequestState::Requested
+        && holder_of(entry.queue.items()).is_none()
+        && !is_declined_by(pool, entry.kept.declined.items())
+        && !elsewhere
+}
+
+/// Whether the request is open to the pool and comes before the best so far.
+pub(crate) fn is_better(pool: PoolId, best: Option<&RequestEntry>, entry: &RequestEntry) -> bool
+    ensures { result ≡
+        (is_open_to pool entry.now && comes_first (option_copied best.entry) entry.now) }
+{
+    is_open_to(pool, entry) && comes_first(best, entry)
+}
+
+/// The place of the first job that has the node.
+fn place_with(node: NodeId, jobs: &[JobRecord]) -> Option<usize>
+    ensures place { result ≡ position (is_marked node) jobs.now }
+    ensures within { IfSome result (λ at. at < length jobs.now) }
+{
+    jobs.iter().position(|kept| is_marked(node, kept))
+}
+
+impl Tables {
+    /// How many registered pools have not declined.
+    pub(crate) fn undeclined(&self, request: &RequestRecord) -> usize
+        ensures undeclined { result ≡ undeclined self.now.registrations request.now }
+        ensures few { result ≤ length self.now.registrations }
+    {
+        self.registrations()
+            .iter()
+            .filter(|row| !is_declined_by(row.pool, request.declined.items()))
+            .count()
+    }
+
+    /// Whether every other registered pool has declined.
+    pub(crate) fn is_last_pool(&self, request: &RequestRecord, pool: PoolId) -> bool
+        ensures { result ≡ is_last_pool self.now.registrations request.now pool }
+    {
+        self.registrations().iter().all(|row| declines_or_is(
+            pool,
+            row.pool,
+            request.declined.items(),
+        ))
+    }
+
+    /// Whether a min-ready request of the pool for the label has failed.
+    pub(crate) fn has_spent_min_ready(&self, pool: PoolId, label: LabelId) -> bool
+        ensures { result ≡ list_any (is_spent_min_ready pool label) self.now.requests }
+    {
+        self.requests()
+            .iter()
+            .any(|entry| is_spent_min_ready(pool, label, &entry.kept))
+    }
+
+    /// The free ready nodes of the label in all pools, and those that are coming.
+    pub(crate) fn ready_count(&self, label: LabelId) -> usize
+        requires requests { length self.now.requests ≤ 262144 }
+        requires nodes { length self.now.nodes ≤ 262144 }
+        ensures count { result ≡ ready_count label self.now }
+        ensures few { result ≤ 524288 }
+    {
+        let ready = self
+            .nodes()
+            .iter()
+            .filter(|entry| is_free_ready(label, &entry.kept))
+            .count();
+        let coming = self
+            .requests()
+            .iter()
+            .filter(|entry| is_coming(label, &entry.kept))
+            .count();
+        ready + coming
+    }
+
+    /// Whether the request waits for room in the pool that uses so much.
+    fn is_stuck(&self, config: &Config, pool: PoolId, used: Amount, entry: &RequestEntry) -> bool
+        requires used { used ≡ count_of config.now self.now pool }
+        requires instances { used.instances < 2 ^ 63 }
+        requires cores { used.cores < 2 ^ 63 }
+        requires ram { used.ram < 2 ^ 63 }
+        requires small { (l : LabelId) → AmountFits (amount_of config.now pool l) }
+        ensures { result ≡ is_stuck config.now self.now pool entry.now }
+    {
+        match short_label(config, pool, used, &entry.kept) {
+            None => false,
+            Some(label) => entry.kept.pinned.is_some() || !self.nodes.has_spare(pool, label),
+        }
+    }
+
+    /// Whether a request that is pending by the pool, which uses so much, waits for room.
+    pub(crate) fn is_paused(&self, config: &Config, pool: PoolId, used: Amount) -> bool
+        requires used { used ≡ count_of config.now self.now pool }
+        requires instances { used.instances < 2 ^ 63 }
+        requires cores { used.cores < 2 ^ 63 }
+        requires ram { used.ram < 2 ^ 63 }
+        requires small { (l : LabelId) → AmountFits (amount_of config.now pool l) }
+        ensures { result ≡ is_paused config.now self.now pool }
+    {
+        self.requests()
+            .iter()
+            .any(|entry| self.is_stuck(config, pool, used, entry))
+    }
+
+    /// The first job that has the node.
+    pub(crate) fn owner(&self, node: NodeId) -> Option<JobId>
+        requires { length self.now.jobs < 2 ^ 32 }
+        ensures { result ≡ owner_of node self.now.jobs }
+    {
+        match place_with(node, self.jobs()) {
+            None => None,
+            Some(at) => Some(JobId(at as u32)),
+        }
+    }
+
+    /// Whether a session of the requester has not expired.
+    pub(crate) fn has_live_session(&self, requester: RequesterId) -> bool
+        ensures { result ≡ has_live_session requester self.now }
+    {
+        self.sessions()
+            .iter()
+            .any(|facts| is_live_of(requester, facts))
+    }
+}
