@@ -17,7 +17,7 @@ use Rattle.np_site.specs.declared.row.FaultKind.TheVariants.{Expire, Crash, Stop
 use Rattle.np_lists.specs.EachAfter.{EachAfter}
 use Rattle.np_text.specs.Word.{end_as_word}
 use Rattle.np_site.specs.Word.{fault_kind_word}
-use Rattle.np_config.specs.Canonical.{given_count, placed, role_word}
+use Rattle.np_config.specs.Canonical.{given, given_count, placed, role_word}
 use Rattle.np_report.proofs.WholeData.{is_ascii, put_all, IsWhole, AreWhole, HaveWhole}
 
 -- ## strings
@@ -63,6 +63,11 @@ pub HaveWhole-given : (key : List ℕ) (o : Option ℕ) (ms : Members) (most : �
 HaveWhole-given key None ms most ascii fits is rest = rest
 HaveWhole-given key (Some n) ms most ascii fits is rest = (ascii, omega arith, rest)
 
+-- a value that may be absent
+pub HaveWhole-value : (key : List ℕ) (o : Option Data) (ms : Members) → is_ascii key ≡ true → IfSome o IsWhole → HaveWhole ms → HaveWhole (given key o ms)
+HaveWhole-value key None ms ascii is rest = rest
+HaveWhole-value key (Some d) ms ascii is rest = (ascii, is, rest)
+
 abbrev pool_members : Data → Data → Data → Option ℕ → Option ℕ → Option ℕ → Members
 pool_members starts offers name cores ram servers =
     member (codes "fail-starts") starts (member (codes "labels") offers (given_count (codes "max-cores") cores (given_count (codes "max-ram") ram (given_count (codes "max-servers") servers (member (codes "name") name no_members)))))
@@ -83,6 +88,35 @@ provider_members retries name pools concurrency = member (codes "launch-retries"
 pub put_all-provider_members : (retries name pools : Data) (concurrency : Option ℕ) → put_all no_members (provider_members retries name pools concurrency) ≡ provider_members retries name pools concurrency
 put_all-provider_members retries name pools None = refl
 put_all-provider_members retries name pools (Some x) = refl
+
+abbrev tenant_members : Data → Option ℕ → Option ℕ → Option ℕ → Members
+tenant_members name cores ram servers = given_count (codes "max-cores") cores (given_count (codes "max-ram") ram (given_count (codes "max-servers") servers (member (codes "name") name no_members)))
+
+pub put_all-tenant_members : (name : Data) (cores ram servers : Option ℕ) → put_all no_members (tenant_members name cores ram servers) ≡ tenant_members name cores ram servers
+put_all-tenant_members name None None None = refl
+put_all-tenant_members name None None (Some z) = refl
+put_all-tenant_members name None (Some y) None = refl
+put_all-tenant_members name None (Some y) (Some z) = refl
+put_all-tenant_members name (Some x) None None = refl
+put_all-tenant_members name (Some x) None (Some z) = refl
+put_all-tenant_members name (Some x) (Some y) None = refl
+put_all-tenant_members name (Some x) (Some y) (Some z) = refl
+
+abbrev job_members : Data → Data → Data → Data → Data → Data → Data → Option Data → Members
+job_members end labels name priority relative first semaphores tenant =
+    member (codes "end") end (member (codes "labels") labels (member (codes "name") name (member (codes "priority") priority (member (codes "relative-priority") relative (member (codes "resources-first") first (member (codes "semaphores") semaphores (given (codes "tenant") tenant no_members)))))))
+
+pub put_all-job_members : (end labels name priority relative first semaphores : Data) (tenant : Option Data) → put_all no_members (job_members end labels name priority relative first semaphores tenant) ≡ job_members end labels name priority relative first semaphores tenant
+put_all-job_members end labels name priority relative first semaphores None = refl
+put_all-job_members end labels name priority relative first semaphores (Some x) = refl
+
+abbrev top_members : Data → Data → Data → Data → Data → Data → Option Data → Members
+top_members faults labels age providers requesters semaphores tenants =
+    member (codes "faults") faults (member (codes "labels") labels (member (codes "max-hold-age") age (member (codes "providers") providers (member (codes "requesters") requesters (member (codes "semaphores") semaphores (given (codes "tenants") tenants no_members))))))
+
+pub put_all-top_members : (faults labels age providers requesters semaphores : Data) (tenants : Option Data) → put_all no_members (top_members faults labels age providers requesters semaphores tenants) ≡ top_members faults labels age providers requesters semaphores tenants
+put_all-top_members faults labels age providers requesters semaphores None = refl
+put_all-top_members faults labels age providers requesters semaphores (Some x) = refl
 
 -- ## lists
 

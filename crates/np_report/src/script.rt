@@ -108,9 +108,11 @@ pub fn read_script(alloc: Global, bytes: &[u8]) -> Result<Script, ScriptFault>
         return Err(ScriptFault::NoSeparator);
     };
     let config = read_config(alloc, before)?;
-    let events = read_events(alloc, after)?;
-    Ok(Script {
-        config,
-        events: EventList::new(events),
-    })
+    match read_events(alloc, after) {
+        Err(fault) => Err(fault),
+        Ok(events) => Ok(Script {
+            config,
+            events: EventList::new(events),
+        }),
+    }
 }
