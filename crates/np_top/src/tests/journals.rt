@@ -1,7 +1,10 @@
 //! The worked journals, from their scripts to their whole Texts.
 
 use super::run;
-use np_worked::{FAILURE_JOURNALS, JOB_JOURNALS, Journal, NODE_JOURNALS, REQUEST_JOURNALS};
+use np_worked::{
+    FAILURE_JOURNALS, JOB_JOURNALS, Journal, NODE_JOURNALS, RARE_JOURNALS, REQUEST_JOURNALS,
+    TENANT_JOURNALS,
+};
 use std::alloc::{AllocError, Global};
 use std::process::Abort;
 use std::test::Fail;
@@ -78,4 +81,14 @@ fn nodes_are_launched_and_removed(rt: HostRuntime) -> Result<(), Fail> {
 #[test]
 fn jobs_take_their_nodes_and_end(rt: HostRuntime) -> Result<(), Fail> {
     replay_all(&rt, JOB_JOURNALS)
+}
+
+#[test]
+fn tenants_keep_to_their_limits(rt: HostRuntime) -> Result<(), Fail> {
+    replay_all(&rt, TENANT_JOURNALS)
+}
+
+#[test]
+fn what_seldom_happens_is_told(rt: HostRuntime) -> Result<(), Fail> {
+    replay_all(&rt, RARE_JOURNALS)
 }
