@@ -1,19 +1,15 @@
 -- what a pool uses, and what it may use
-use Rattle.std.specs.Prelude.{ℕ, List, [], Bool, ◌==◌, ◌&&◌, not, Option, None, is_some, length, map, filter, find, slice_get, option_and_then}
+use Rattle.std.specs.Prelude.{ℕ, List, [], Bool, ◌==◌, ◌&&◌, not, Option, is_some, length, map, filter, find, slice_get, option_and_then}
 use Rattle.std.specs.Option.{option_map_or}
 use Rattle.np_amount.specs.declared.amount.Amount.{Amount}
 use Rattle.np_amount.specs.declared.amount.Limit.{Limit}
-use Rattle.np_amount.specs.Amounts.{nothing, plus, fits, total}
+use Rattle.np_amount.specs.Amounts.{no_limit, nothing, plus, fits, total}
 use Rattle.np_text.specs.declared.id.PoolId.{PoolId}
 use Rattle.np_text.specs.declared.id.LabelId.{LabelId}
 use Rattle.np_site.specs.Configuration.{Configuration}
 use Rattle.np_site.specs.declared.row.Offer.{Offer}
 use Rattle.np_machine.specs.Entries.{NodeEntry}
 use Rattle.np_machine.specs.State.{State}
-
--- no limit at all (own)
-abbrev pub no_limit : Limit
-no_limit = record { instances = None; cores = None; ram = None }
 
 -- what the pool offers (Nodepool: a pool's labels)
 abbrev pub offers_of : Configuration → PoolId → List Offer

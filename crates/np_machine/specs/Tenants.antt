@@ -3,14 +3,14 @@ use Rattle.std.specs.Prelude.{ℕ, Bool, false, ◌==◌, ◌&&◌, not, Option,
 use Rattle.std.specs.Option.{option_map, option_map_or}
 use Rattle.np_amount.specs.declared.amount.Amount.{Amount}
 use Rattle.np_amount.specs.declared.amount.Limit.{Limit}
-use Rattle.np_amount.specs.Amounts.{nothing, plus, fits, total}
+use Rattle.np_amount.specs.Amounts.{no_limit, nothing, plus, fits, total}
 use Rattle.np_text.specs.declared.id.PoolId.{PoolId}
 use Rattle.np_text.specs.declared.id.TenantId.{TenantId}
 use Rattle.np_site.specs.Configuration.{Configuration, tenant_of}
 use Rattle.np_record.specs.declared.record.RequestRecord.{RequestRecord}
 use Rattle.np_machine.specs.Entries.{RequestEntry, NodeEntry}
 use Rattle.np_machine.specs.Kinds.{is_pending}
-use Rattle.np_machine.specs.Count.{no_limit, amount_of, amount_of_all}
+use Rattle.np_machine.specs.Count.{amount_of, amount_of_all}
 use Rattle.np_machine.specs.State.{State}
 
 abbrev pub limit_of_tenant : Configuration → TenantId → Limit
