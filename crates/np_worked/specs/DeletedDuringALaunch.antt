@@ -1,5 +1,5 @@
 -- a node that is given up while it is launched is in flight no more
-use Rattle.std.specs.Prelude.{List, [], ◌∷◌, codes}
+use Rattle.std.specs.Prelude.{List, [], ◌∷◌}
 use Rattle.np_text.specs.declared.word.Phase.TheVariants as phase
 use Rattle.np_text.specs.declared.word.NodeState.TheVariants as node_state
 use Rattle.np_site.specs.Configuration.{Configuration}

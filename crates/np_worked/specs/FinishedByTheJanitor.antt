@@ -1,5 +1,5 @@
 -- a janitor ends a job whose requester has no live session, mute or not
-use Rattle.std.specs.Prelude.{List, [], ◌∷◌, codes}
+use Rattle.std.specs.Prelude.{List, [], ◌∷◌}
 use Rattle.np_text.specs.declared.word.Ending.TheVariants as ending
 use Rattle.np_site.specs.Configuration.{Configuration}
 use Rattle.np_event.specs.declared.event.Event.TheVariants as ev

@@ -1,16 +1,19 @@
--- what no machine does: journals and a turn, each against one property
-use Rattle.std.specs.Prelude.{List, [], ◌∷◌, ◌++◌, Some, None, false, take}
+-- what no machine does: journals and turns, each against one property
+use Rattle.std.specs.Prelude.{List, [], ◌∷◌, ◌++◌, Some, None, true, false, take}
 use Rattle.np_text.specs.declared.word.NodeState.{NodeState}
 use Rattle.np_text.specs.declared.word.NodeState.TheVariants as node_state
+use Rattle.np_text.specs.declared.word.RequestState.{RequestState}
+use Rattle.np_text.specs.declared.word.RequestState.TheVariants as request_state
 use Rattle.np_text.specs.declared.word.Reason.TheVariants as reason
+use Rattle.np_record.specs.declared.record.Declined.{Declined}
 use Rattle.np_event.specs.declared.event.Event.TheVariants as ev
 use Rattle.np_event.specs.declared.entry.Entry.{Entry}
 use Rattle.np_event.specs.declared.reply.Done.TheVariants as done
 use Rattle.np_event.specs.declared.reply.Refusal.TheVariants as no
-use Rattle.np_machine.specs.Entries.{NodeEntry}
+use Rattle.np_machine.specs.Entries.{RequestEntry, NodeEntry}
 use Rattle.np_machine.specs.State.{State, start}
 use Rattle.np_machine.specs.Turns.{Turn}
-use Rattle.np_worked.specs.Site.{session, node, label, pool, request, plain_site, line, refused}
+use Rattle.np_worked.specs.Site.{session, node, label, job, pool, request, launcher, plain_site, line, refused}
 use Rattle.np_worked.specs.PlainPath as plain
 
 -- two sessions are told that they hold the same node
@@ -73,4 +76,45 @@ standing_gone = record {
   before = with_held_node node_state.Deleting;
   entry = line (ev.Gone (session 1) (node 0)) done.Plain;
   later = with_held_node node_state.Deleting;
+}
+
+-- a job's request in a state, with its declines, which session 1 holds
+abbrev pub asked_request : RequestState → List Declined → RequestEntry
+asked_request state declined = record {
+  id = request 200 0;
+  kept = record {
+    declined = declined;
+    job = Some (job 0);
+    labels = label 0 ∷ [];
+    nodes = [];
+    pinned = None;
+    pool = None;
+    relative_priority = 0;
+    state = state;
+  };
+  queue = session 1 ∷ [];
+}
+
+-- the machine before the first event, but for that request and the pool's launcher
+abbrev pub with_request : RequestState → List Declined → State
+with_request state declined = record (start plain_site) {
+  sessions = record { role = launcher 0; live = true; mute = false } ∷ [];
+  registrations = record { pool = pool 0; session = session 1 } ∷ [];
+  requests = asked_request state declined ∷ [];
+}
+
+-- a request fails by a decline whose reason is not true
+abbrev pub false_decline : Turn
+false_decline = record {
+  before = with_request request_state.Requested [];
+  entry = line (ev.Decline (session 1) (request 200 0) reason.NeverFits) done.Plain;
+  later = with_request request_state.Failed (record { pool = pool 0; reason = reason.NeverFits } ∷ []);
+}
+
+-- a request is gone after the expiry of who held it
+abbrev pub losing_expiry : Turn
+losing_expiry = record {
+  before = with_request request_state.Requested [];
+  entry = line (ev.Expire (session 1)) done.Plain;
+  later = start plain_site;
 }

@@ -1,6 +1,7 @@
 -- what worked journals are written in: ids, sites and lines
 use Rattle.std.specs.Prelude.{◌≡◌, ℕ, List, [], ◌∷◌, Some, None, false, codes}
 use Rattle.np_amount.specs.declared.amount.Limit.{Limit}
+use Rattle.np_amount.specs.Amounts.{no_limit}
 use Rattle.np_text.specs.declared.id.SessionId.{SessionId}
 use Rattle.np_text.specs.declared.id.PoolId.{PoolId}
 use Rattle.np_text.specs.declared.id.LabelId.{LabelId}
@@ -70,9 +71,6 @@ abbrev pub requester : ℕ → Role
 requester q = Requester (record { 0 = q })
 
 -- ## sites, with the configuration's defaults
-
-abbrev pub no_limit : Limit
-no_limit = record { instances = None; cores = None; ram = None }
 
 -- so many servers at most
 abbrev pub at_most : ℕ → Limit

@@ -58,11 +58,11 @@ pub use journals::{
     FAILURE_JOURNALS, JOB_JOURNALS, NODE_JOURNALS, RARE_JOURNALS, REQUEST_JOURNALS, TENANT_JOURNALS,
 };
 pub use property::{
-    a_failure_needs_its_decline, a_lost_node_is_not_kept, a_lost_session_is_one_strike,
-    a_nodes_age_counts_from_its_last_change, a_removed_node_is_gone,
+    a_failure_needs_its_decline, a_false_reason_is_no_cause, a_lost_node_is_not_kept,
+    a_lost_session_is_one_strike, a_nodes_age_counts_from_its_last_change, a_removed_node_is_gone,
     a_request_is_held_until_its_launcher_expires, a_request_that_was_given_up_has_no_pool,
-    a_reset_may_not_delete_a_node, a_tick_may_not_change_a_node, planned_starts_fail,
-    the_next_in_the_queue_is_the_live_holder, two_holders_are_not_safe,
+    a_reset_may_not_delete_a_node, a_tick_may_not_change_a_node, an_expiry_may_not_lose_a_request,
+    planned_starts_fail, the_next_in_the_queue_is_the_live_holder, two_holders_are_not_safe,
 };
 
 /// From a job's request to its fulfilled node.

@@ -1,18 +1,18 @@
 //! What the properties of journals and the records of a state say. The live holder and the records
 //! are told of worked journals; each other property is refuted of a made-up journal or turn.
 
-ghost use Rattle.std.specs.Prelude.{◌≡◌, None, Some, take};
+ghost use Rattle.std.specs.Prelude.{◌≡◌, None, Some, [], ◌∷◌, take};
 ghost use Rattle.np_event.specs.declared.event.Outcome.TheVariants as outcome;
-ghost use Rattle.np_machine.specs.Caused.{Caused};
+ghost use Rattle.np_machine.specs.Caused.{Caused, CausedFrom};
 ghost use Rattle.np_machine.specs.Fenced.{Fenced, IsFenced};
-ghost use Rattle.np_machine.specs.Kept.{Kept, RemovesNode};
+ghost use Rattle.np_machine.specs.Kept.{Kept, LosesNothing, RemovesNode};
 ghost use Rattle.np_machine.specs.LiveHolder.{IsLiveHolder, IsLiveRequestHolder};
 ghost use Rattle.np_machine.specs.Plan.{outcome_of};
 ghost use Rattle.np_machine.specs.Safe.{OneHolder, Safe};
 ghost use Rattle.np_worked.specs.AgedNode as aged_node;
 ghost use Rattle.np_worked.specs.AgedNode.{pool_after, since_after, strikes_after};
 ghost use Rattle.np_worked.specs.CrashedRequester as crashed_requester;
-ghost use Rattle.np_worked.specs.MadeUp.{deleting_reset, deleting_tick, lost_node, standing_gone, two_holders, unsaid_decline};
+ghost use Rattle.np_worked.specs.MadeUp.{deleting_reset, deleting_tick, false_decline, losing_expiry, lost_node, standing_gone, two_holders, unsaid_decline};
 ghost use Rattle.np_worked.specs.NeverFits as never_fits;
 ghost use Rattle.np_worked.specs.PlainPath as plain_path;
 ghost use Rattle.np_worked.specs.QueueAfterAnExpiry as queue_after_an_expiry;
@@ -48,6 +48,16 @@ pub fn a_lost_node_is_not_kept()
 /// A failed request has no cause where the decline that failed it was not accepted.
 pub fn a_failure_needs_its_decline()
     ensures { Caused never_fits.site unsaid_decline → ⊥ }
+{}
+
+/// Nor where the reason of the decline that failed it is not true.
+pub fn a_false_reason_is_no_cause()
+    ensures { CausedFrom plain_path.site [] (false_decline ∷ []) → ⊥ }
+{}
+
+/// An expiry may not lose a request.
+pub fn an_expiry_may_not_lose_a_request()
+    ensures { LosesNothing losing_expiry → ⊥ }
 {}
 
 /// A tick may not change a node that a session holds.
