@@ -1,0 +1,10 @@
+pub mod Makers
+pub mod Found
+pub mod Edits
+pub mod PlanLaws
+pub mod Tested
+pub mod Shown
+pub mod RequestPremises
+pub mod NodePremises
+pub mod JobPremises
+pub mod PremisesOf

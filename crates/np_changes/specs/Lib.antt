@@ -1,0 +1,6 @@
+pub mod Asked
+pub mod Readers
+pub mod Changes
+pub mod Plan
+pub mod Planned
+pub mod Premises

@@ -1,0 +1,21 @@
+-- which changes a keeper of a state is given
+use Rattle.std.specs.Prelude.{◌≡◌, List, true, is_ok}
+use Rattle.np_site.specs.Configuration.{Configuration}
+use Rattle.np_event.specs.declared.entry.Entry.{Entry}
+use Rattle.np_event.specs.declared.event.Event.{Event}
+use Rattle.np_machine.specs.State.{State}
+use Rattle.np_machine.specs.Step.{judge}
+use Rattle.np_machine.specs.History.{Runs}
+use Rattle.np_changes.specs.Plan.{plan}
+use Rattle.np_changes.specs.declared.changes.Changes.{Changes}
+
+-- a run of the configuration reaches the state
+pub record IsReached (c : Configuration) (s : State) : Type 0 where
+  pub journal : List Entry
+  pub runs : Runs c journal s
+
+-- the changes are the plan of an event that is accepted in the state
+pub record IsPlanned (c : Configuration) (s : State) (changes : Changes) : Type 0 where
+  pub event : Event
+  pub accepted : is_ok (judge c s event) ≡ true
+  pub plan : changes ≡ plan c s event

@@ -1,0 +1,20 @@
+-- what a plan reads of a state beyond the machine's own words
+use Rattle.std.specs.Prelude.{List, Bool, ◌==◌, ◌||◌, Option}
+use Rattle.std.specs.Option.{option_map}
+use Rattle.std.specs.List.{list_all, position}
+use Rattle.np_text.specs.declared.id.PoolId.{PoolId}
+use Rattle.np_text.specs.declared.id.JobId.{JobId}
+use Rattle.np_text.specs.declared.id.NodeId.{NodeId}
+use Rattle.np_record.specs.declared.record.RequestRecord.{RequestRecord}
+use Rattle.np_record.specs.declared.record.JobRecord.{JobRecord}
+use Rattle.np_machine.specs.declared.state.Registration.{Registration}
+use Rattle.np_machine.specs.Tables.{is_marked}
+use Rattle.np_machine.specs.Order.{is_declined_by}
+
+-- every registered pool has declined the request, or is this one
+abbrev pub is_last_pool : List Registration → RequestRecord → PoolId → Bool
+is_last_pool registrations request p = list_all (λ g. is_declined_by g.pool request.declined || (p.0 == g.pool.0)) registrations
+
+-- the first job that has the node
+abbrev pub owner_of : NodeId → List JobRecord → Option JobId
+owner_of n jobs = option_map (λ at. record { 0 = at }) (position (is_marked n) jobs)

@@ -1,0 +1,20 @@
+//! A request as it asks, before any pool declines it.
+
+use np_record::{LabelRow, NodeRow};
+use np_text::{JobId, PoolId, RequestState};
+
+/// A request's record without its declines.
+#[derive(Clone, Copy)]
+pub struct Asked {
+    /// The job that asks, or `None` for a min-ready request.
+    pub job: Option<JobId>,
+    pub labels: LabelRow,
+    /// A node for each of the first labels.
+    pub nodes: NodeRow,
+    /// The one pool that may serve it, or `None` where any may.
+    pub pinned: Option<PoolId>,
+    /// The pool that serves it.
+    pub pool: Option<PoolId>,
+    pub relative_priority: u32,
+    pub state: RequestState,
+}
