@@ -1,0 +1,9 @@
+pub mod Passed
+pub mod Shape
+pub mod Settings
+pub mod Shaping
+pub mod Shapes
+pub mod ShapeRuns
+pub mod FitsRuns
+pub mod Sites
+pub mod Offered
