@@ -1,12 +1,8 @@
-pub mod Makers
-pub mod Edits
-pub mod PlanLaws
 pub mod CountLemmas
 pub mod PlaceLemmas
 pub mod Reasons
 pub mod OwnerLemmas
 pub mod Room
-pub mod Found
 pub mod Walks
 pub mod Seen
 pub mod Used

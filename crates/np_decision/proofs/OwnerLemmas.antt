@@ -11,7 +11,7 @@ use Rattle.np_site.specs.declared.row.Job.{Job}
 use Rattle.np_record.specs.declared.record.JobRecord.{JobRecord}
 use Rattle.np_machine.specs.Tables.{is_marked}
 use Rattle.np_machine.specs.Node.{owner_from}
-use Rattle.np_decision.specs.Readers.{owner_of}
+use Rattle.np_changes.specs.Readers.{owner_of}
 
 -- ## the place of the first that passes, one member more
 

@@ -14,8 +14,8 @@ use Rattle.np_machine.specs.State.{State}
 use Rattle.np_machine.specs.Tables.{request_in}
 use Rattle.np_machine.specs.Tests.{launcher, request_at, by_registrant, by_request_holder}
 use Rattle.np_machine.specs.Request.{in_state_for, judge_decline}
-use Rattle.np_decision.specs.declared.asked.Asked.{Asked}
-use Rattle.np_decision.specs.Views.{asked_of, new_record}
+use Rattle.np_changes.specs.declared.asked.Asked.{Asked}
+use Rattle.np_changes.specs.Asked.{asked_of, new_record}
 use Rattle.np_decision.specs.Verdicts.{without_declines}
 
 -- a reason asks nothing of a request's declines

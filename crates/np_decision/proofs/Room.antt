@@ -10,7 +10,7 @@ use Rattle.np_machine.specs.Entries.{NodeEntry}
 use Rattle.np_machine.specs.State.{State}
 use Rattle.np_machine.specs.Kinds.{is_building}
 use Rattle.np_machine.specs.Tables.{node_entry, node_in}
-use Rattle.np_decision.specs.Fits.{Fits, NodeFits}
+use Rattle.np_fits.specs.Fits.{Fits, NodeFits}
 
 node-fits : (c : Configuration) (s : State) (n : NodeId) (e : NodeEntry) → Fits c s → node_entry n s.nodes ≡ Some e → NodeFits s e
 node-fits c s n e fits is = all-find (NodeFits s) (λ other. other.id.0 == n.0) s.nodes e fits.each_node is

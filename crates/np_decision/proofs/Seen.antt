@@ -25,7 +25,7 @@ use Rattle.np_machine.specs.Count.{count_of, is_short}
 use Rattle.np_machine.specs.Order.{comes_before, is_pending_by}
 use Rattle.np_machine.specs.First.{blocking, is_open_to, is_candidate, earlier, least}
 use Rattle.np_machine.specs.Reasons.{is_spare, is_stuck, next_label}
-use Rattle.np_decision.specs.Fits.{most, Fits, NodeFits}
+use Rattle.np_fits.specs.Fits.{most, Fits, NodeFits}
 use Rattle.np_decision.specs.Views.{request_view, node_view, request_seen, node_seen, comes_first}
 use Rattle.np_decision.specs.declared.asked.RequestView.{RequestView}
 use Rattle.np_decision.specs.Readers.{short_label}

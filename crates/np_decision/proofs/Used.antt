@@ -7,7 +7,7 @@ use Rattle.std.proofs.lemmas.List.Elements.{filter-append}
 use Rattle.np_amount.specs.declared.amount.Amount.{Amount}
 use Rattle.np_amount.specs.Amounts.{nothing, plus, total}
 use Rattle.np_amount.proofs.Sums.{total-append, plus-comm, nothing-plus}
-use Rattle.np_decision.specs.Fits.{IsFew}
+use Rattle.np_fits.specs.Fits.{IsFew}
 use Rattle.np_decision.proofs.Walks.{take_there}
 
 plus-nothing : (a : Amount) → plus a nothing ≡ a

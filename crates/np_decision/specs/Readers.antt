@@ -1,7 +1,6 @@
 -- what readers of a state are asked beyond the machine's own words
-use Rattle.std.specs.Prelude.{ℕ, List, Bool, false, ◌==◌, ◌&&◌, ◌||◌, not, if◌then◌else◌, Option, Some, None, is_some, is_none, option_and_then, slice_get}
+use Rattle.std.specs.Prelude.{ℕ, Bool, false, ◌==◌, ◌&&◌, ◌||◌, not, if◌then◌else◌, Option, Some, None, is_some, is_none, option_and_then, slice_get}
 use Rattle.std.specs.Option.{option_map, option_map_or}
-use Rattle.std.specs.List.{list_all, position}
 use Rattle.np_amount.specs.declared.amount.Amount.{Amount}
 use Rattle.np_amount.specs.declared.amount.Limit.{Limit}
 use Rattle.np_amount.specs.Amounts.{nothing, plus, fits}
@@ -9,29 +8,19 @@ use Rattle.np_site.specs.Configuration.{Configuration}
 use Rattle.np_text.specs.declared.id.PoolId.{PoolId}
 use Rattle.np_text.specs.declared.id.LabelId.{LabelId}
 use Rattle.np_text.specs.declared.id.JobId.{JobId}
-use Rattle.np_text.specs.declared.id.NodeId.{NodeId}
 use Rattle.np_text.specs.declared.id.RequestId.{RequestId}
 use Rattle.np_text.specs.declared.id.TenantId.{TenantId}
 use Rattle.np_record.specs.declared.record.RequestRecord.{RequestRecord}
-use Rattle.np_record.specs.declared.record.JobRecord.{JobRecord}
 use Rattle.np_machine.specs.Entries.{RequestEntry, NodeEntry}
-use Rattle.np_machine.specs.declared.state.Registration.{Registration}
 use Rattle.np_machine.specs.State.{State}
-use Rattle.np_machine.specs.Tables.{request_in, is_marked}
+use Rattle.np_machine.specs.Tables.{request_in}
 use Rattle.np_machine.specs.Count.{amount_of, limit_of}
 use Rattle.np_machine.specs.Tenants.{limit_of_tenant, tenant_of_request, is_tenant, amount_of_node, rest_of_request, is_pending_of}
 use Rattle.np_machine.specs.Reasons.{next_label}
 use Rattle.np_machine.specs.First.{may_fit}
 use Rattle.np_machine.specs.Order.{is_declined_by, is_pending_by}
 use Rattle.np_machine.specs.Request.{undeclined}
-
--- every registered pool has declined the request, or is this one
-abbrev pub is_last_pool : List Registration → RequestRecord → PoolId → Bool
-is_last_pool registrations request p = list_all (λ g. is_declined_by g.pool request.declined || (p.0 == g.pool.0)) registrations
-
--- the first job that has the node
-abbrev pub owner_of : NodeId → List JobRecord → Option JobId
-owner_of n jobs = option_map (λ at. record { 0 = at }) (position (is_marked n) jobs)
+use Rattle.np_changes.specs.Readers.{is_last_pool}
 
 -- whether the pool is among the request's declines
 abbrev pub is_declined : PoolId → RequestId → State → Bool

@@ -1,6 +1,6 @@
--- what a verdict answers, and which changes a keeper is given
+-- what a verdict answers
 use Rattle.std.specs.Borrow.{Bor}
-use Rattle.std.specs.Prelude.{◌≡◌, ℕ, List, Result, Ok, Err, true, is_ok, not, slice_get}
+use Rattle.std.specs.Prelude.{ℕ, Result, Ok, Err, not, slice_get}
 use Rattle.np_text.specs.declared.id.PoolId.{PoolId}
 use Rattle.np_text.specs.declared.id.LabelId.{LabelId}
 use Rattle.np_site.specs.Configuration.{Configuration}
@@ -8,20 +8,14 @@ use Rattle.np_site.specs.declared.row.Job.{Job}
 use Rattle.np_text.specs.declared.id.RequestId.{RequestId}
 use Rattle.np_record.specs.declared.record.RequestRecord.{RequestRecord}
 use Rattle.np_record.specs.declared.record.JobRecord.{JobRecord}
-use Rattle.np_event.specs.declared.entry.Entry.{Entry}
-use Rattle.np_event.specs.declared.event.Event.{Event}
 use Rattle.np_event.specs.declared.reply.Refusal.{Refusal}
 use Rattle.np_event.specs.declared.reply.Refusal.TheVariants as no
 use Rattle.np_machine.specs.State.{State}
 use Rattle.np_lists.specs.Refusals.{◌>>=◌, need, found}
 use Rattle.np_machine.specs.Count.{count_of, is_short}
 use Rattle.np_machine.specs.Tests.{Answer, Check, quota_short}
-use Rattle.np_machine.specs.Step.{judge}
-use Rattle.np_machine.specs.History.{Runs}
-use Rattle.np_decision.specs.Views.{asked_of}
-use Rattle.np_decision.specs.Plan.{plan}
-use Rattle.np_decision.specs.declared.asked.Asked.{Asked}
-use Rattle.np_decision.specs.declared.changes.Changes.{Changes}
+use Rattle.np_changes.specs.Asked.{asked_of}
+use Rattle.np_changes.specs.declared.asked.Asked.{Asked}
 use Rattle.np_decision.specs.declared.verdict.Verdict.{Verdict}
 
 abbrev pub answer_of : Result Verdict Refusal → Answer
@@ -37,17 +31,6 @@ without_declines (Err refusal) = Err refusal
 abbrev pub row_of_job : Result (Bor Job) Refusal → Result Job Refusal
 row_of_job (Ok row) = Ok row.now
 row_of_job (Err refusal) = Err refusal
-
--- a run of the configuration reaches the state
-pub record IsReached (c : Configuration) (s : State) : Type 0 where
-  pub journal : List Entry
-  pub runs : Runs c journal s
-
--- the changes are the plan of an event that is accepted in the state
-pub record IsPlanned (c : Configuration) (s : State) (changes : Changes) : Type 0 where
-  pub event : Event
-  pub accepted : is_ok (judge c s event) ≡ true
-  pub plan : changes ≡ plan c s event
 
 -- the pool has room for one more node of the label
 abbrev pub has_room : Configuration → State → PoolId → LabelId → Check

@@ -1,37 +1,11 @@
--- a request's record without its declines, and rows with who holds them
+-- rows with who holds them
 use Rattle.std.specs.Prelude.{List, [], ◌∷◌, Bool, true, Option, Some, None}
 use Rattle.np_text.specs.declared.id.SessionId.{SessionId}
-use Rattle.np_record.specs.declared.record.RequestRecord.{RequestRecord}
 use Rattle.np_machine.specs.Entries.{RequestEntry, NodeEntry}
 use Rattle.np_machine.specs.Tables.{holder}
 use Rattle.np_machine.specs.Order.{comes_before}
-use Rattle.np_decision.specs.declared.asked.Asked.{Asked}
 use Rattle.np_decision.specs.declared.asked.RequestView.{RequestView}
 use Rattle.np_decision.specs.declared.asked.NodeView.{NodeView}
-
-abbrev pub asked_of : RequestRecord → Asked
-asked_of k = record {
-  job = k.job;
-  labels = k.labels;
-  nodes = k.nodes;
-  pinned = k.pinned;
-  pool = k.pool;
-  relative_priority = k.relative_priority;
-  state = k.state;
-}
-
--- the record of a request that no pool has declined
-abbrev pub new_record : Asked → RequestRecord
-new_record a = record {
-  declined = [];
-  job = a.job;
-  labels = a.labels;
-  nodes = a.nodes;
-  pinned = a.pinned;
-  pool = a.pool;
-  relative_priority = a.relative_priority;
-  state = a.state;
-}
 
 abbrev pub request_view : RequestEntry → RequestView
 request_view e = record { id = e.id; kept = e.kept; holder = holder e.queue }

@@ -5,7 +5,7 @@ ghost use Rattle.np_text.specs.declared.id.LabelId.{LabelId};
 ghost use Rattle.np_amount.specs.Amounts.{fits, plus};
 ghost use Rattle.np_machine.specs.Count.{offers_of, limit_of, retries_of, offer_of, is_offered, amount_of, amount_of_all};
 ghost use Rattle.np_machine.specs.Reasons.{ready_age};
-ghost use Rattle.np_decision.specs.Fits.{AmountFits, IsFew};
+ghost use Rattle.np_fits.specs.Fits.{AmountFits, IsFew};
 ghost use Rattle.np_decision.specs.Views.{node_seen};
 ghost use Rattle.np_decision.specs.Readers.{amount_at};
 

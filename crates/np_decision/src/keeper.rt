@@ -2,13 +2,13 @@
 
 ghost use Rattle.std.specs.Prelude.{◌≡◌, OnOk, OnErr, IfOk};
 ghost use Rattle.np_machine.specs.Step.{judge, next, reply_of};
-ghost use Rattle.np_decision.specs.Changes.{changed};
-ghost use Rattle.np_decision.specs.Fits.{Fits};
-ghost use Rattle.np_decision.specs.Verdicts.{IsReached, IsPlanned};
+ghost use Rattle.np_changes.specs.Changes.{changed};
+ghost use Rattle.np_fits.specs.Fits.{Fits};
+ghost use Rattle.np_changes.specs.Planned.{IsReached, IsPlanned};
 
-use crate::changes::Changes;
 use crate::decision::decide;
 use crate::look::Look;
+use np_changes::Changes;
 use np_event::{Event, Reply};
 use std::alloc::AllocError;
 

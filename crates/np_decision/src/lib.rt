@@ -2,18 +2,15 @@
 //! the state.
 //!
 //! A representation says what can be read of its state (`Look`). The rows, one function for each
-//! event, answer a refusal or a `Verdict`: what the event is answered, and its `Changes` as data.
-//! `specs/Plan` names the changes of each event, `specs/Changes` says what a change does to the
-//! state, and the law in `law` that both together are the machine's step. What keeps a state makes
-//! the changes (`StateKeeper`), and `step` is one step of the machine over it.
+//! event, answer a refusal or a `Verdict`: what the event is answered, and its `Changes`, which are
+//! np_changes' plan of it. What keeps a state makes the changes (`StateKeeper`), and `step` is one
+//! step of the machine over it.
 #![tactic(auto)]
 
 mod asked;
-mod changes;
 mod count;
 mod decision;
 mod keeper;
-mod law;
 mod look;
 mod node;
 mod request;
@@ -24,15 +21,10 @@ mod tests;
 mod verdict;
 mod walk;
 
-pub use asked::{Asked, NodeView, RequestView};
-pub use changes::{
-    Changes, Deed, Growth, HandlesChange, JobsChange, Maker, NodesChange, RequestEdit,
-    RequestsChange, SessionsChange,
-};
+pub use asked::{NodeView, RequestView};
 pub use count::offers;
 pub use decision::decide;
 pub use keeper::{StateKeeper, step};
-pub use law::an_accepted_event_changes_what_is_planned;
 pub use look::Look;
 pub use node::{
     decide_create, decide_done, decide_end_node, decide_free_node, decide_gone, decide_lock_node,
@@ -47,6 +39,6 @@ pub use semaphore::{decide_acquire, decide_finish, decide_release, decide_take, 
 pub use session::{decide_crash, decide_expire, decide_open, decide_tick};
 pub use verdict::Verdict;
 pub use walk::{
-    asked_of, declines_or_is, is_coming, is_declined_by, is_free_ready, is_live_of, is_marked,
-    is_spent_min_ready, short_label,
+    asked_of, comes_before, declines_or_is, is_coming, is_declined_by, is_free_ready, is_live_of,
+    is_marked, is_open_to, is_spent_min_ready, short_label,
 };

@@ -13,11 +13,13 @@ ghost use Rattle.np_machine.specs.First.{blocking, first_of};
 ghost use Rattle.np_machine.specs.Request.{is_spent_min_ready, ready_count};
 ghost use Rattle.np_machine.specs.Node.{is_swept};
 ghost use Rattle.np_machine.specs.Semaphore.{has_live_session};
-ghost use Rattle.np_decision.specs.Fits.{Fits};
-ghost use Rattle.np_decision.specs.Views.{asked_of, new_record, request_view, node_view};
-ghost use Rattle.np_decision.specs.Readers.{is_declined, undeclined_of, is_last_pool_of, owner_of};
+ghost use Rattle.np_fits.specs.Fits.{Fits};
+ghost use Rattle.np_changes.specs.Asked.{asked_of, new_record};
+ghost use Rattle.np_decision.specs.Views.{request_view, node_view};
+ghost use Rattle.np_changes.specs.Readers.{owner_of};
+ghost use Rattle.np_decision.specs.Readers.{is_declined, undeclined_of, is_last_pool_of};
 
-use crate::asked::{Asked, NodeView, RequestView};
+use crate::asked::{NodeView, RequestView};
 use crate::count::{NOTHING, amount_at};
 use crate::tenant::{amount_for, is_short_of, limited_tenant, rest_for};
 use crate::walk::{
@@ -25,6 +27,7 @@ use crate::walk::{
     is_marked, is_spare, is_spent_min_ready, one_if, short_label,
 };
 use np_amount::Amount;
+use np_changes::Asked;
 use np_config::Config;
 use np_machine::{Registration, SessionFacts};
 use np_record::{JobRecord, NodeRecord, RequestRecord, RoleRecord};

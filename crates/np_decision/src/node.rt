@@ -4,15 +4,13 @@ ghost use Rattle.std.specs.Prelude.{◌≡◌, ◌<◌, ◌≤◌, ◌+◌, ◌^
 ghost use Rattle.np_machine.specs.Count.{retries_of};
 ghost use Rattle.np_machine.specs.Reasons.{ready_age, is_past, due_tick};
 ghost use Rattle.np_machine.specs.Node.{judge_take_ready, judge_create, starts_of, judge_start, judge_done, state_after_launch, launched, place_reply, judge_lock_node, judge_unlock_node, is_own, judge_end_node, ended_as, may_delete, judge_mark_deleting, judge_gone, standing, judge_free_node, is_server, is_wanted, judge_sweep};
-ghost use Rattle.np_decision.specs.Fits.{Fits};
-ghost use Rattle.np_decision.specs.Views.{new_record};
-ghost use Rattle.np_decision.specs.Plan.{plan_take_ready, new_node, plan_create, plan_start, plan_done, plan_lock_node, plan_unlock_node, end_in, plan_end_node, plan_mark_deleting, plan_gone, plan_free_node, plan_sweep};
+ghost use Rattle.np_fits.specs.Fits.{Fits};
+ghost use Rattle.np_changes.specs.Asked.{new_record};
+ghost use Rattle.np_changes.specs.Plan.{plan_take_ready, new_node, plan_create, plan_start, plan_done, plan_lock_node, plan_unlock_node, end_in, plan_end_node, plan_mark_deleting, plan_gone, plan_free_node, plan_sweep};
 ghost use Rattle.np_decision.specs.Readers.{tenant_of_job};
 ghost use Rattle.np_decision.specs.Verdicts.{answer_of};
-ghost use Rattle.np_decision.specs.declared.changes.Growth.TheVariants.{Allocate};
+ghost use Rattle.np_changes.specs.declared.changes.Growth.TheVariants.{Allocate};
 
-use crate::asked::Asked;
-use crate::changes::{Changes, Deed, Growth, JobsChange, NodesChange, RequestEdit, RequestsChange};
 use crate::count;
 use crate::look::Look;
 use crate::tests::{
@@ -21,6 +19,9 @@ use crate::tests::{
     wrong_request,
 };
 use crate::verdict::{Verdict, made_by};
+use np_changes::{
+    Asked, Changes, Deed, Growth, JobsChange, NodesChange, RequestEdit, RequestsChange,
+};
 use np_event::{Done, Outcome, Refusal};
 use np_record::NodeRecord;
 use np_text::{

@@ -7,14 +7,12 @@ ghost use Rattle.np_machine.specs.Order.{is_pinned_away};
 ghost use Rattle.np_machine.specs.Reasons.{is_spent, is_true};
 ghost use Rattle.np_machine.specs.First.{first_of};
 ghost use Rattle.np_machine.specs.Request.{judge_register, judge_submit, judge_revise, judge_min_ready, other_than, lock_pending, lock_request_as, judge_lock_request, unlock_request_as, judge_unlock_request, judge_accept, in_state_for, judge_decline, unfilled, judge_fulfil, judge_reset, judge_fail_declined};
-ghost use Rattle.np_decision.specs.Fits.{Fits};
-ghost use Rattle.np_decision.specs.Views.{new_record};
-ghost use Rattle.np_decision.specs.Plan.{plan_register, asked_for, plan_submit, plan_revise, asked_to_keep, plan_min_ready, plan_lock_request, plan_unlock_request, plan_accept, plan_decline, request_after_fulfil, nodes_after_fulfil, plan_fulfil, plan_reset, plan_fail_declined};
+ghost use Rattle.np_fits.specs.Fits.{Fits};
+ghost use Rattle.np_changes.specs.Asked.{new_record};
+ghost use Rattle.np_changes.specs.Plan.{plan_register, asked_for, plan_submit, plan_revise, asked_to_keep, plan_min_ready, plan_lock_request, plan_unlock_request, plan_accept, plan_decline, request_after_fulfil, nodes_after_fulfil, plan_fulfil, plan_reset, plan_fail_declined};
 ghost use Rattle.np_decision.specs.Places.{lack_at};
 ghost use Rattle.np_decision.specs.Verdicts.{answer_of, min_ready_of};
 
-use crate::asked::Asked;
-use crate::changes::{Changes, Growth, JobsChange, NodesChange, RequestEdit, RequestsChange};
 use crate::look::Look;
 use crate::tests::{
     by_registrant, by_request_holder, first_unoffered, has_room, is_named, is_of_request,
@@ -23,6 +21,7 @@ use crate::tests::{
     tenant_never_fits, wrong_job, wrong_request,
 };
 use crate::verdict::{Verdict, made_by};
+use np_changes::{Asked, Changes, Growth, JobsChange, NodesChange, RequestEdit, RequestsChange};
 use np_event::{Done, Refusal};
 use np_record::{JobRecord, LabelRow, NodeRow};
 use np_site::Job;

@@ -5,11 +5,10 @@ ghost use Rattle.std.specs.List.{list_any, list_all};
 ghost use Rattle.np_text.specs.declared.id.SemId.{SemId};
 ghost use Rattle.np_machine.specs.Tables.{role_of};
 ghost use Rattle.np_machine.specs.Semaphore.{is_full, first_full, judge_acquire, unheld, unended, judge_take, is_busy_with, has_failed_request, is_finishable, ending_of, may_finish, requester_or_janitor, judge_finish, judge_withdraw, may_release, judge_release};
-ghost use Rattle.np_decision.specs.Fits.{Fits};
-ghost use Rattle.np_decision.specs.Plan.{plan_acquire, plan_take, plan_finish, request_after_withdraw, plan_withdraw, plan_release};
+ghost use Rattle.np_fits.specs.Fits.{Fits};
+ghost use Rattle.np_changes.specs.Plan.{plan_acquire, plan_take, plan_finish, request_after_withdraw, plan_withdraw, plan_release};
 ghost use Rattle.np_decision.specs.Verdicts.{answer_of};
 
-use crate::changes::{Changes, Growth, HandlesChange, JobsChange, NodesChange, RequestsChange};
 use crate::look::Look;
 use crate::tests::{
     is_named, job_at, maker, missing_handles, none_missing, of_requester, record_of, request_at,
@@ -17,6 +16,7 @@ use crate::tests::{
 };
 use crate::verdict::{Verdict, made_by};
 use crate::walk::is_requester;
+use np_changes::{Changes, Growth, HandlesChange, JobsChange, NodesChange, RequestsChange};
 use np_event::{Done, Refusal};
 use np_record::{JobRecord, MarkRow, Marked, NodeRow};
 use np_site::Job;

@@ -3,13 +3,13 @@
 ghost use Rattle.std.specs.Prelude.{◌≡◌, Ok, IfOk};
 ghost use Rattle.np_event.specs.declared.reply.Done.TheVariants.{Plain};
 ghost use Rattle.np_machine.specs.Session.{is_role, judge_open, judge_crash, judge_expire};
-ghost use Rattle.np_decision.specs.Fits.{Fits};
-ghost use Rattle.np_decision.specs.Plan.{plan_tick, plan_open, plan_crash, plan_expire};
+ghost use Rattle.np_fits.specs.Fits.{Fits};
+ghost use Rattle.np_changes.specs.Plan.{plan_tick, plan_open, plan_crash, plan_expire};
 ghost use Rattle.np_decision.specs.Verdicts.{answer_of};
 
-use crate::changes::{Changes, Deed, Growth, SAME, SessionsChange};
 use crate::look::Look;
 use crate::verdict::Verdict;
+use np_changes::{Changes, Deed, Growth, SAME, SessionsChange};
 use np_event::{Done, Refusal};
 use np_text::{Role, SessionId};
 

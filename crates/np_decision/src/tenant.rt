@@ -8,13 +8,15 @@ ghost use Rattle.np_amount.specs.Amounts.{fits, plus};
 ghost use Rattle.np_machine.specs.Count.{amount_of, amount_of_all};
 ghost use Rattle.np_machine.specs.Tenants.{limit_of_tenant, is_tenant, is_pending_of, passes_tenant, rest_of_request, tenant_never_fits};
 ghost use Rattle.np_machine.specs.First.{may_fit};
-ghost use Rattle.np_decision.specs.Fits.{AmountFits, IsFew};
-ghost use Rattle.np_decision.specs.Views.{new_record, request_seen, node_seen};
+ghost use Rattle.np_fits.specs.Fits.{AmountFits, IsFew};
+ghost use Rattle.np_changes.specs.Asked.{new_record};
+ghost use Rattle.np_decision.specs.Views.{request_seen, node_seen};
 ghost use Rattle.np_decision.specs.Readers.{tenant_of_job, has_limit, limited_tenant, amount_for, rest_for};
 
-use crate::asked::{Asked, NodeView, RequestView};
+use crate::asked::{NodeView, RequestView};
 use crate::count::{NO_LIMIT, NOTHING, amount, amount_of_all, first_unoffered, is_too_much};
 use np_amount::{Amount, Limit};
+use np_changes::Asked;
 use np_config::Config;
 use np_text::{JobId, LabelId, PoolId, RequestState, TenantId};
 

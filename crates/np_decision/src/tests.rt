@@ -8,15 +8,15 @@ ghost use Rattle.np_machine.specs.Count.{is_offered, amount_of_all, limit_of, is
 ghost use Rattle.np_machine.specs.Tenants.{tenant_never_fits};
 ghost use Rattle.np_machine.specs.Reasons.{next_label};
 ghost use Rattle.np_machine.specs.Tests.{maker, launcher, janitor, requester, request_at, node_at, job_at, record_of, of_requester, by_registrant, by_request_holder, by_node_holder, of_pool, wrong_request, wrong_node, wrong_job, none_missing, not_blocked, missing_handles};
-ghost use Rattle.np_decision.specs.Fits.{Fits};
-ghost use Rattle.np_decision.specs.Views.{new_record};
+ghost use Rattle.np_fits.specs.Fits.{Fits};
+ghost use Rattle.np_changes.specs.Asked.{new_record};
 ghost use Rattle.np_decision.specs.Readers.{tenant_of_job};
 ghost use Rattle.np_decision.specs.Verdicts.{without_declines, row_of_job, asked_request, has_room};
 
-use crate::asked::Asked;
 use crate::look::Look;
 use crate::{count, tenant};
 use np_amount::Amount;
+use np_changes::Asked;
 use np_event::{Found, Refusal};
 use np_record::{JobRecord, NodeRecord};
 use np_site::Job;

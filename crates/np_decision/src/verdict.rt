@@ -1,9 +1,9 @@
 //! That an event is accepted.
 
 ghost use Rattle.std.specs.Prelude.{◌≡◌};
-ghost use Rattle.np_decision.specs.Plan.{same, made_by};
+ghost use Rattle.np_changes.specs.Plan.{same, made_by};
 
-use crate::changes::{Changes, Deed, Maker, SAME};
+use np_changes::{Changes, Deed, Maker, SAME};
 use np_event::Done;
 use np_text::{Role, SessionId};
 

@@ -1,27 +1,31 @@
 //! What the walks of a reader ask of each row. A representation that walks rows of its own asks the
 //! same.
 
-ghost use Rattle.std.specs.Prelude.{◌≡◌, ◌<◌, ◌≤◌, ◌^◌, ◌&&◌, ◌||◌, ◌==◌, is_none, cond, Some};
+ghost use Rattle.std.specs.Prelude.{◌≡◌, ◌<◌, ◌≤◌, ◌^◌, ◌&&◌, ◌||◌, ◌==◌, not, is_none, cond, Some, []};
 ghost use Rattle.np_text.specs.declared.id.LabelId.{LabelId};
 ghost use Rattle.np_machine.specs.Count.{amount_of};
-ghost use Rattle.np_decision.specs.Fits.{AmountFits};
+ghost use Rattle.np_fits.specs.Fits.{AmountFits};
 ghost use Rattle.np_decision.specs.Readers.{short_label};
 ghost use Rattle.np_machine.specs.Kinds.{is_requested, is_pending, is_failed, is_ready};
 ghost use Rattle.np_machine.specs.Tables.{is_marked};
-ghost use Rattle.np_machine.specs.Order.{comes_before, is_pool, is_declined_by, is_pending_by};
+ghost use Rattle.np_machine.specs.Order.{comes_before, is_pool, is_pinned_away, is_declined_by, is_pending_by};
 ghost use Rattle.np_machine.specs.Reasons.{is_spare};
 ghost use Rattle.np_machine.specs.First.{is_open_to};
 ghost use Rattle.np_machine.specs.Request.{is_min_ready_for};
 ghost use Rattle.np_machine.specs.Semaphore.{is_requesters};
-ghost use Rattle.np_decision.specs.Views.{asked_of, request_seen, node_seen, comes_first};
+ghost use Rattle.np_changes.specs.Asked.{asked_of};
+ghost use Rattle.np_decision.specs.Views.{request_seen, node_seen, comes_first};
 
-use crate::asked::{Asked, NodeView, RequestView};
+use crate::asked::{NodeView, RequestView};
 use crate::count::lacks_room;
 use np_amount::Amount;
+use np_changes::Asked;
 use np_config::Config;
 use np_machine::SessionFacts;
 use np_record::{Declined, JobRecord, NodeRecord, RequestRecord};
-use np_text::{LabelId, NodeId, NodeState, PoolId, RequestState, RequesterId, Role};
+use np_text::{
+    LabelId, NodeId, NodeState, PoolId, RequestId, RequestState, RequesterId, Role, SessionId,
+};
 
 /// The request's record without its declines.
 pub fn asked_of(kept: &RequestRecord) -> Asked
@@ -54,31 +58,41 @@ fn names_pool(pool: PoolId, found: Option<PoolId>) -> bool
     }
 }
 
-/// Whether the request is requested, unlocked, not declined by the pool and not pinned to another.
-fn is_open_to(pool: PoolId, view: &RequestView) -> bool
-    ensures { result ≡ is_open_to pool (request_seen view.now) }
+/// Whether a request with this record and holder is requested, unlocked, not declined by the pool
+/// and not pinned to another.
+pub fn is_open_to(pool: PoolId, kept: &RequestRecord, holder: Option<SessionId>) -> bool
+    ensures { result ≡
+        (is_requested kept.now.state && is_none holder
+        && not (is_declined_by pool kept.now.declined) && not (is_pinned_away pool kept.now)) }
 {
-    let elsewhere = match view.kept.pinned {
+    let elsewhere = match kept.pinned {
         None => false,
         Some(other) => other.0 != pool.0,
     };
-    view.kept.state == RequestState::Requested
-        && view.holder.is_none()
-        && !is_declined_by(pool, view.kept.declined.items())
+    kept.state == RequestState::Requested
+        && holder.is_none()
+        && !is_declined_by(pool, kept.declined.items())
         && !elsewhere
 }
 
-/// By priority, then relative priority, then sequence.
-fn comes_before(a: &RequestView, b: &RequestView) -> bool
-    ensures { result ≡ comes_before (request_seen a.now) (request_seen b.now) }
+/// Whether the first of two requests, each by its id and its record, comes before the other: by
+/// priority, then relative priority, then sequence.
+pub fn comes_before(
+    id: RequestId,
+    kept: &RequestRecord,
+    other_id: RequestId,
+    other: &RequestRecord,
+) -> bool
+    ensures { result ≡ comes_before (record { id = id; kept = kept.now; queue = [] })
+        (record { id = other_id; kept = other.now; queue = [] }) }
 {
-    if a.id.priority != b.id.priority {
-        return a.id.priority < b.id.priority;
+    if id.priority != other_id.priority {
+        return id.priority < other_id.priority;
     }
-    if a.kept.relative_priority != b.kept.relative_priority {
-        return a.kept.relative_priority < b.kept.relative_priority;
+    if kept.relative_priority != other.relative_priority {
+        return kept.relative_priority < other.relative_priority;
     }
-    a.id.seq < b.id.seq
+    id.seq < other_id.seq
 }
 
 /// Whether it comes before the best so far.
@@ -87,7 +101,7 @@ fn comes_first(best: &Option<RequestView>, view: &RequestView) -> bool
 {
     match best {
         None => true,
-        Some(other) => comes_before(view, other),
+        Some(other) => comes_before(view.id, &view.kept, other.id, &other.kept),
     }
 }
 
@@ -96,7 +110,7 @@ pub(crate) fn is_better(pool: PoolId, best: &Option<RequestView>, view: &Request
     ensures { result ≡
         (is_open_to pool (request_seen view.now) && comes_first best.now view.now) }
 {
-    is_open_to(pool, view) && comes_first(best, view)
+    is_open_to(pool, &view.kept, view.holder) && comes_first(best, view)
 }
 
 fn is_min_ready_for(label: LabelId, request: &RequestRecord) -> bool

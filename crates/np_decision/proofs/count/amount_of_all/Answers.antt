@@ -1,6 +1,6 @@
 use Rattle.std.proofs.Common.{◌≡◌, ◌+◌, sym, ◌∙◌, ap, arith}
 use Rattle.np_amount.specs.declared.amount.Amount.{Amount}
-use Rattle.np_decision.specs.Fits.{AmountFits}
+use Rattle.np_fits.specs.Fits.{AmountFits}
 use Rattle.np_decision.proofs.CountLemmas.{total_more}
 use Rattle.np_decision.proofs.count.amount_of_all.Goals as goal
 

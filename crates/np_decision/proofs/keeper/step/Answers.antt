@@ -1,9 +1,9 @@
 use Rattle.std.proofs.Common.{◌≡◌, ◌∙◌, refl, ap, true}
 use Rattle.std.specs.Prelude.{is_ok}
 use Rattle.np_machine.specs.Step.{judge}
-use Rattle.np_decision.specs.declared.changes.Changes.{Changes}
-use Rattle.np_decision.specs.Changes.{changed}
-use Rattle.np_decision.proofs.PlanLaws.{plan-next}
+use Rattle.np_changes.specs.declared.changes.Changes.{Changes}
+use Rattle.np_changes.specs.Changes.{changed}
+use Rattle.np_changes.proofs.PlanLaws.{plan-next}
 use Rattle.np_decision.proofs.keeper.step.Goals as goal
 
 pub returns-in_ok-change-in-Ok-clause-ok : goal.returns-in_ok-change-in-Ok-clause-ok

@@ -4,7 +4,7 @@ use Rattle.np_amount.specs.Amounts.{plus, fits}
 use Rattle.np_site.specs.Configuration.{Configuration}
 use Rattle.np_machine.specs.Count.{amount_of_all}
 use Rattle.np_machine.specs.Tenants.{limit_of_tenant}
-use Rattle.np_decision.specs.Views.{new_record}
+use Rattle.np_changes.specs.Asked.{new_record}
 use Rattle.np_decision.specs.Readers.{limited_tenant}
 use Rattle.np_decision.proofs.Blocking.{blocks, has_room}
 use Rattle.np_decision.proofs.look.Look.blocking.Goals as goal

@@ -1,5 +1,5 @@
 use Rattle.std.proofs.Common.{◌≡◌, drop}
-use Rattle.np_decision.specs.Readers.{is_last_pool}
+use Rattle.np_changes.specs.Readers.{is_last_pool}
 use Rattle.np_decision.proofs.look.Look.is_last_pool.Given as goal
 
 abbrev pub invariant-loop-at : goal.invariant-loop-at

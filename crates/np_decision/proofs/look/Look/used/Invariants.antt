@@ -2,7 +2,7 @@ use Rattle.std.proofs.Common.{◌≡◌, map, take}
 use Rattle.std.specs.Prelude.{filter, ◌==◌}
 use Rattle.np_amount.specs.Amounts.{total}
 use Rattle.np_machine.specs.Count.{amount_of}
-use Rattle.np_decision.specs.Fits.{IsFew}
+use Rattle.np_fits.specs.Fits.{IsFew}
 use Rattle.np_decision.proofs.look.Look.used.Given as goal
 
 abbrev pub invariant-loop-at : goal.invariant-loop-at
