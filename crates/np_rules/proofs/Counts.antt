@@ -9,19 +9,19 @@ use Rattle.np_lists.proofs.Each.{all-map, all-weaker}
 use Rattle.np_machine.specs.State.{State, start}
 use Rattle.np_machine.specs.Step.{next}
 use Rattle.np_machine.specs.Node.{with_mark}
-use Rattle.np_decision.specs.Changes.{grown, changed, jobs_changed}
-use Rattle.np_decision.specs.Fits.{IsFitSite}
-use Rattle.np_decision.specs.Verdicts.{IsReached, IsPlanned}
-use Rattle.np_decision.specs.declared.changes.Changes.{Changes}
-use Rattle.np_decision.specs.declared.changes.Growth.{Growth}
-use Rattle.np_decision.specs.declared.changes.Growth.TheVariants as grow
-use Rattle.np_decision.specs.declared.changes.JobsChange.{JobsChange}
-use Rattle.np_decision.specs.declared.changes.JobsChange.TheVariants as jobs
-use Rattle.np_decision.specs.declared.changes.Maker.{Maker}
-use Rattle.np_decision.proofs.PlanLaws.{plan-next}
+use Rattle.np_changes.specs.Changes.{grown, changed, jobs_changed}
+use Rattle.np_fits.specs.Fits.{IsFitSite}
+use Rattle.np_changes.specs.Planned.{IsReached, IsPlanned}
+use Rattle.np_changes.specs.declared.changes.Changes.{Changes}
+use Rattle.np_changes.specs.declared.changes.Growth.{Growth}
+use Rattle.np_changes.specs.declared.changes.Growth.TheVariants as grow
+use Rattle.np_changes.specs.declared.changes.JobsChange.{JobsChange}
+use Rattle.np_changes.specs.declared.changes.JobsChange.TheVariants as jobs
+use Rattle.np_changes.specs.declared.changes.Maker.{Maker}
+use Rattle.np_changes.proofs.PlanLaws.{plan-next}
 use Rattle.np_rules.specs.Keeper.{IsCountable}
-use Rattle.np_rules.proofs.Shape.{Shaped}
-use Rattle.np_rules.proofs.ShapeRuns.{shape-Runs, shape-next}
+use Rattle.np_fits.proofs.Shape.{Shaped}
+use Rattle.np_fits.proofs.ShapeRuns.{shape-Runs, shape-next}
 
 length-jobs_changed : (change : JobsChange) (rows : List JobRecord) → length (jobs_changed change rows) ≡ length rows
 length-jobs_changed jobs.Same rows = refl

@@ -8,7 +8,7 @@ use Rattle.np_site.specs.Configuration.{Configuration}
 use Rattle.np_machine.specs.Entries.{RequestEntry, NodeEntry}
 use Rattle.np_machine.specs.State.{State}
 use Rattle.np_machine.specs.Tables.{request_entry, node_entry, same_request}
-use Rattle.np_decision.specs.Fits.{RequestFits, NodeFits, Fits}
+use Rattle.np_fits.specs.Fits.{RequestFits, NodeFits, Fits}
 use Rattle.std.specs.Prelude.{is_ok}
 use Rattle.std.proofs.lemmas.Option.{slice_get_within}
 use Rattle.np_text.specs.declared.id.SessionId.{SessionId}
@@ -21,8 +21,8 @@ use Rattle.np_machine.specs.Tests.{Answer, launcher}
 use Rattle.np_machine.specs.Request.{judge_decline}
 use Rattle.np_machine.specs.Node.{judge_take_ready}
 use Rattle.np_lists.proofs.Each.{all-find}
-use Rattle.np_decision.proofs.Makers.{launcher-role}
-use Rattle.np_rules.proofs.Passed.{decline-first, take_ready-room}
+use Rattle.np_changes.proofs.Makers.{launcher-role}
+use Rattle.np_fits.proofs.Passed.{decline-first, take_ready-room}
 
 pub node-fits : (c : Configuration) (s : State) (n : NodeId) (e : NodeEntry) → Fits c s → node_entry n s.nodes ≡ Some e → NodeFits s e
 node-fits c s n e fits is = all-find (NodeFits s) (λ other. other.id.0 == n.0) s.nodes e fits.each_node is

@@ -1,13 +1,5 @@
-pub mod Offered
 pub mod TallyLemmas
 pub mod Gains
-pub mod Passed
-pub mod Shape
-pub mod Settings
-pub mod Shaping
-pub mod Shapes
-pub mod ShapeRuns
-pub mod FitsRuns
 pub mod Counts
 pub mod Finds
 pub mod Planned
@@ -17,5 +9,4 @@ pub mod Changing
 pub mod Handles
 pub mod StepLemmas
 pub mod StartLemmas
-pub mod Sites
 mod FirstLemmas

@@ -19,15 +19,15 @@ use Rattle.np_machine.specs.Tables.{node_in, request_entry, request_in, session_
 use Rattle.np_machine.specs.Tests.{janitor, launcher, maker, requester}
 use Rattle.np_machine.specs.Reasons.{next_label}
 use Rattle.np_machine.specs.Request.{request_of_job}
-use Rattle.np_decision.specs.Fits.{Fits, NodeFits, RequestFits}
-use Rattle.np_decision.specs.Changes.{grown}
-use Rattle.np_decision.specs.Plan
-use Rattle.np_decision.specs.Plan.{made_by, plan, with_found, with_given}
-use Rattle.np_decision.specs.Verdicts.{IsPlanned}
-use Rattle.np_decision.specs.declared.changes.Changes.{Changes}
-use Rattle.np_decision.specs.declared.changes.Maker.{Maker}
-use Rattle.np_decision.specs.declared.changes.Growth.{Growth}
-use Rattle.np_decision.specs.declared.changes.Growth.TheVariants as grow
+use Rattle.np_fits.specs.Fits.{Fits, NodeFits, RequestFits}
+use Rattle.np_changes.specs.Changes.{grown}
+use Rattle.np_changes.specs.Plan
+use Rattle.np_changes.specs.Plan.{made_by, plan, with_found, with_given}
+use Rattle.np_changes.specs.Planned.{IsPlanned}
+use Rattle.np_changes.specs.declared.changes.Changes.{Changes}
+use Rattle.np_changes.specs.declared.changes.Maker.{Maker}
+use Rattle.np_changes.specs.declared.changes.Growth.{Growth}
+use Rattle.np_changes.specs.declared.changes.Growth.TheVariants as grow
 use Rattle.np_rules.specs.CanChange.{CanGrow, CanSettle, TakesEdit}
 use Rattle.np_rules.proofs.Finds.{decline-room, next-room, take-room}
 

@@ -9,7 +9,7 @@ use Rattle.np_event.specs.declared.reply.Refusal.TheVariants as no
 use Rattle.np_machine.specs.State.{State}
 use Rattle.np_machine.specs.Step.{judge, next, reply_of}
 use Rattle.np_machine.specs.History.{Runs}
-use Rattle.np_decision.specs.Fits.{IsFitSite}
+use Rattle.np_fits.specs.Fits.{IsFitSite}
 
 -- a configuration, the journal that was recorded, and the state that it led to (own)
 pub record Ran : Type 0 where

@@ -7,11 +7,11 @@ ghost use Rattle.np_machine.specs.Entries.{NodeEntry};
 ghost use Rattle.np_machine.specs.Node.{allocated};
 ghost use Rattle.np_machine.specs.Semaphore.{in_use};
 ghost use Rattle.np_machine.specs.Tables.{freed_from, is_request, joined, left};
-ghost use Rattle.np_decision.specs.Changes.{edited};
+ghost use Rattle.np_changes.specs.Changes.{edited};
 ghost use Rattle.np_rules.specs.CanChange.{edited_in_room, has_room};
 ghost use Rattle.std.specs.Prelude.{◌≡◌, true};
 
-use np_decision::RequestEdit;
+use np_changes::RequestEdit;
 use np_machine::{Locked, NodeEntry, RequestEntry};
 use np_record::{Declined, NodeRow, RequestRecord};
 use np_table::RowChange;

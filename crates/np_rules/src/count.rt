@@ -2,7 +2,7 @@
 
 ghost use Rattle.std.specs.Prelude.{◌≡◌, ◌==◌, ◌*◌, ◌≤◌, filter, length, map};
 ghost use Rattle.np_amount.specs.Amounts.{times, total};
-ghost use Rattle.np_decision.specs.Fits.{AmountFits, OffersFit};
+ghost use Rattle.np_fits.specs.Fits.{AmountFits, OffersFit};
 ghost use Rattle.np_machine.specs.Count.{amount_of, offers_of};
 ghost use Rattle.np_text.specs.declared.id.LabelId.{LabelId};
 

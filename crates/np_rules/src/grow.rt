@@ -7,15 +7,15 @@ ghost use Rattle.np_machine.specs.Node.{allocated, with_pair};
 ghost use Rattle.np_machine.specs.Request.{insert_request, next_id, registers};
 ghost use Rattle.np_machine.specs.Semaphore.{all_with_handle};
 ghost use Rattle.np_machine.specs.Tables.{joined, node_queue, put_node_queue, put_request_queue, request_queue};
-ghost use Rattle.np_decision.specs.Changes.{by_maker, grown, semaphores_of};
-ghost use Rattle.np_decision.specs.Views.{new_record};
+ghost use Rattle.np_changes.specs.Changes.{by_maker, grown, semaphores_of};
+ghost use Rattle.np_changes.specs.Asked.{new_record};
 ghost use Rattle.np_rules.specs.CanChange.{CanGrow, TakesNode, TakesRequest};
 
 use crate::change::handles::add_handles;
 use crate::change::{Allocate, Join};
 use crate::tables::Tables;
+use np_changes::{Asked, Growth, Maker};
 use np_config::Config;
-use np_decision::{Asked, Growth, Maker};
 use np_machine::{Locked, Queue, Registration, RequestEntry, SessionFacts, Swept};
 use np_record::{DeclineRow, NodeRecord, RequestRecord};
 use np_text::{JobId, NodeId, PoolId, RequestId, Role, SessionId, TenantId};

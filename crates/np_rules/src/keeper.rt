@@ -7,8 +7,9 @@ ghost use Rattle.np_machine.specs.State.{start};
 mod look;
 
 use crate::tables::Tables;
+use np_changes::Changes;
 use np_config::Config;
-use np_decision::{Changes, StateKeeper};
+use np_decision::StateKeeper;
 use std::alloc::{AllocError, Global};
 use std::marker::Model;
 

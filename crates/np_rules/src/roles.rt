@@ -4,16 +4,16 @@ ghost use Rattle.std.specs.Prelude.{◌≡◌, ◌≤◌, Some};
 ghost use Rattle.std.specs.List.{AllByRecursion};
 ghost use Rattle.np_lists.specs.Change.{change_at};
 ghost use Rattle.np_machine.specs.Tables.{change_janitor, change_launcher, change_requester, change_role};
-ghost use Rattle.np_decision.specs.Changes.{with_deed};
-ghost use Rattle.np_decision.specs.declared.changes.Deed.TheVariants as deed;
-ghost use Rattle.np_decision.specs.Fits.{RoleFits, most};
+ghost use Rattle.np_changes.specs.Changes.{with_deed};
+ghost use Rattle.np_changes.specs.declared.changes.Deed.TheVariants as deed;
+ghost use Rattle.np_fits.specs.Fits.{RoleFits, most};
 ghost use Rattle.np_rules.specs.CanChange.{RolesFit};
 ghost use Rattle.np_machine.specs.Session.{struck_unless};
 ghost use Rattle.np_machine.specs.Node.{one_more_start};
 ghost use Rattle.np_machine.specs.Step.{one_more_act};
 
 use crate::tables::Tables;
-use np_decision::{Deed, Maker};
+use np_changes::{Deed, Maker};
 use np_record::RoleRecord;
 use np_text::Role;
 

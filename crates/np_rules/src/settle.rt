@@ -6,9 +6,9 @@ ghost use Rattle.np_machine.specs.Node.{marked, with_mark};
 ghost use Rattle.np_machine.specs.Semaphore.{all_without_handle};
 ghost use Rattle.np_machine.specs.Session.{ended, muted, node_left, request_left};
 ghost use Rattle.np_machine.specs.Tables.{change_session, is_session, put_job};
-ghost use Rattle.np_decision.specs.Changes.{handles_changed, jobs_changed, nodes_changed, nodes_left, registrations_left, requests_changed, requests_left, semaphores_of, sessions_changed, settled};
-ghost use Rattle.np_decision.specs.declared.changes.NodesChange.TheVariants as nodes_change;
-ghost use Rattle.np_decision.specs.declared.changes.RequestsChange.TheVariants as requests_change;
+ghost use Rattle.np_changes.specs.Changes.{handles_changed, jobs_changed, nodes_changed, nodes_left, registrations_left, requests_changed, requests_left, semaphores_of, sessions_changed, settled};
+ghost use Rattle.np_changes.specs.declared.changes.NodesChange.TheVariants as nodes_change;
+ghost use Rattle.np_changes.specs.declared.changes.RequestsChange.TheVariants as requests_change;
 ghost use Rattle.np_rules.specs.CanChange.{CanSettle, TakesEdit};
 
 use crate::change::handles::drop_handles;
@@ -16,11 +16,11 @@ use crate::change::{Edit, Leave, Put};
 use crate::keys::{HandleTable, RequestTable};
 use crate::nodes::NodeTable;
 use crate::tables::Tables;
-use np_config::Config;
-use np_decision::{
+use np_changes::{
     Changes, HandlesChange, JobsChange, Maker, NodesChange, RequestEdit, RequestsChange,
     SessionsChange,
 };
+use np_config::Config;
 use np_machine::{Registration, SessionFacts};
 use np_record::{JobRecord, MarkRow, Marked};
 use np_table::always;

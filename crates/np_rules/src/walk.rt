@@ -3,11 +3,10 @@
 ghost use Rattle.std.specs.Prelude.{◌≡◌, ◌<◌, ◌≤◌, ◌^◌, ◌&&◌, IfSome, length, option_copied};
 ghost use Rattle.std.specs.List.{list_any, position};
 ghost use Rattle.np_text.specs.declared.id.LabelId.{LabelId};
-ghost use Rattle.np_decision.specs.Fits.{AmountFits};
-ghost use Rattle.np_decision.specs.Readers.{is_last_pool, owner_of};
+ghost use Rattle.np_fits.specs.Fits.{AmountFits};
+ghost use Rattle.np_changes.specs.Readers.{is_last_pool, owner_of};
 ghost use Rattle.np_machine.specs.Count.{amount_of, count_of};
 ghost use Rattle.np_machine.specs.First.{is_open_to};
-ghost use Rattle.np_machine.specs.Order.{comes_before};
 ghost use Rattle.np_machine.specs.Reasons.{is_paused, is_stuck};
 ghost use Rattle.np_machine.specs.Request.{is_spent_min_ready, ready_count, undeclined};
 ghost use Rattle.np_machine.specs.Semaphore.{has_live_session};
@@ -18,25 +17,12 @@ use crate::tables::Tables;
 use np_amount::Amount;
 use np_config::Config;
 use np_decision::{
-    declines_or_is, is_coming, is_declined_by, is_free_ready, is_live_of, is_marked,
-    is_spent_min_ready, short_label,
+    comes_before, declines_or_is, is_coming, is_declined_by, is_free_ready, is_live_of, is_marked,
+    is_open_to, is_spent_min_ready, short_label,
 };
 use np_machine::{RequestEntry, holder_of};
 use np_record::{JobRecord, RequestRecord};
-use np_text::{JobId, LabelId, NodeId, PoolId, RequestState, RequesterId};
-
-/// By priority, then relative priority, then sequence.
-fn comes_before(a: &RequestEntry, b: &RequestEntry) -> bool
-    ensures { result ≡ comes_before a.now b.now }
-{
-    if a.id.priority != b.id.priority {
-        return a.id.priority < b.id.priority;
-    }
-    if a.kept.relative_priority != b.kept.relative_priority {
-        return a.kept.relative_priority < b.kept.relative_priority;
-    }
-    a.id.seq < b.id.seq
-}
+use np_text::{JobId, LabelId, NodeId, PoolId, RequesterId};
 
 /// Whether the entry comes before the best so far.
 fn comes_first(best: Option<&RequestEntry>, entry: &RequestEntry) -> bool
@@ -44,22 +30,8 @@ fn comes_first(best: Option<&RequestEntry>, entry: &RequestEntry) -> bool
 {
     match best {
         None => true,
-        Some(other) => comes_before(entry, other),
+        Some(other) => comes_before(entry.id, &entry.kept, other.id, &other.kept),
     }
-}
-
-/// Whether the request is open to the pool.
-fn is_open_to(pool: PoolId, entry: &RequestEntry) -> bool
-    ensures { result ≡ is_open_to pool entry.now }
-{
-    let elsewhere = match entry.kept.pinned {
-        None => false,
-        Some(other) => other.0 != pool.0,
-    };
-    entry.kept.state == RequestState::Requested
-        && holder_of(entry.queue.items()).is_none()
-        && !is_declined_by(pool, entry.kept.declined.items())
-        && !elsewhere
 }
 
 /// Whether the request is open to the pool and comes before the best so far.
@@ -67,7 +39,7 @@ pub(crate) fn is_better(pool: PoolId, best: Option<&RequestEntry>, entry: &Reque
     ensures { result ≡
         (is_open_to pool entry.now && comes_first (option_copied best.entry) entry.now) }
 {
-    is_open_to(pool, entry) && comes_first(best, entry)
+    is_open_to(pool, &entry.kept, holder_of(entry.queue.items())) && comes_first(best, entry)
 }
 
 /// The place of the first job that has the node.

@@ -5,7 +5,7 @@ use Rattle.np_record.specs.declared.record.RoleRecord.{RoleRecord}
 use Rattle.np_machine.specs.Step.{one_more_act}
 use Rattle.np_lists.proofs.ChangeLemmas.{change_at-set, change_at-past}
 use Rattle.np_lists.proofs.Each.{all-at}
-use Rattle.np_decision.specs.Fits.{RoleFits}
+use Rattle.np_fits.specs.Fits.{RoleFits}
 use Rattle.np_rules.proofs.roles.add_act.Goals as goal
 
 pub returns-then-at-len : goal.returns-then-at-len

@@ -6,7 +6,7 @@ use Rattle.np_machine.specs.Node.{one_more_start}
 use Rattle.np_machine.specs.Step.{one_more_act}
 use Rattle.np_lists.proofs.ChangeLemmas.{change_at-set, change_at-past}
 use Rattle.np_lists.proofs.Each.{all-at}
-use Rattle.np_decision.specs.Fits.{RoleFits}
+use Rattle.np_fits.specs.Fits.{RoleFits}
 use Rattle.np_rules.proofs.roles.add_start.Goals as goal
 
 abbrev started : RoleRecord → RoleRecord

@@ -2,7 +2,7 @@ use Rattle.std.proofs.Common.{◌∙◌, refl}
 use Rattle.np_lists.proofs.ChangeLemmas.{change_first-same}
 use Rattle.np_machine.specs.Entries.{RequestEntry}
 use Rattle.np_machine.specs.Tables.{same_request}
-use Rattle.np_decision.specs.Changes.{edited}
+use Rattle.np_changes.specs.Changes.{edited}
 use Rattle.np_rules.specs.CanChange.{edited_in_room}
 use Rattle.np_rules.proofs.settle.edit_request.Goals as goal
 

@@ -1,9 +1,9 @@
 use Rattle.std.proofs.Common.{sym, subst}
-use Rattle.np_decision.specs.Fits.{Fits}
-use Rattle.np_decision.specs.Verdicts.{IsPlanned, IsReached}
+use Rattle.np_fits.specs.Fits.{Fits}
+use Rattle.np_changes.specs.Planned.{IsPlanned, IsReached}
 use Rattle.np_rules.specs.Keeper.{Kept}
 use Rattle.np_rules.proofs.Planned.{can-grow, can-settle}
-use Rattle.np_rules.proofs.Sites.{sound_fits}
+use Rattle.np_fits.proofs.Sites.{sound_fits}
 use Rattle.np_rules.proofs.Counts.{countable-changed}
 use Rattle.np_rules.proofs.keeper.VecKeeperStateKeeper.change.Goals as goal
 

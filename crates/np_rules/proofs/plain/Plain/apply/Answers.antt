@@ -1,7 +1,7 @@
 -- one more entry with the machine's reply
 use Rattle.std.proofs.Common.{◌≡◌, ◌<◌, ◌++◌, ◌∷◌, [], ◌∙◌, List, length, ap, arith}
 use Rattle.np_event.specs.declared.entry.Entry.{Entry}
-use Rattle.np_rules.proofs.FitsRuns.{Fits-Runs}
+use Rattle.np_fits.proofs.FitsRuns.{Fits-Runs}
 use Rattle.np_rules.proofs.StepLemmas.{IsRun-next}
 use Rattle.np_rules.proofs.plain.Plain.apply.Goals as goal
 

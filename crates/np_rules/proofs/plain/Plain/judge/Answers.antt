@@ -1,4 +1,4 @@
-use Rattle.np_rules.proofs.FitsRuns.{Fits-Runs}
+use Rattle.np_fits.proofs.FitsRuns.{Fits-Runs}
 use Rattle.np_rules.proofs.plain.Plain.judge.Goals as goal
 
 pub decide-requires : goal.decide-requires

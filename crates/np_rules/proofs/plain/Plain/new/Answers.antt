@@ -1,6 +1,6 @@
 use Rattle.std.proofs.Common.{refl}
 use Rattle.np_rules.proofs.StartLemmas.{Runs-start}
-use Rattle.np_rules.proofs.Sites.{sound_fits}
+use Rattle.np_fits.proofs.Sites.{sound_fits}
 use Rattle.np_rules.proofs.plain.Plain.new.Goals as goal
 
 pub invariant_of-result : goal.invariant_of-result

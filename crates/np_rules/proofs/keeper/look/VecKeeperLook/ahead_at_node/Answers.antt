@@ -1,5 +1,5 @@
 use Rattle.std.proofs.Common.{sym, subst, arith}
-use Rattle.np_decision.specs.Fits.{Fits}
+use Rattle.np_fits.specs.Fits.{Fits}
 use Rattle.np_rules.specs.Keeper.{Kept}
 use Rattle.np_rules.proofs.Finds.{node-fits}
 use Rattle.np_rules.proofs.keeper.look.VecKeeperLook.ahead_at_node.Goals as goal

@@ -4,8 +4,8 @@ use Rattle.std.proofs.lemmas.Option.{slice_get_read}
 use Rattle.np_text.specs.declared.id.TenantId.{TenantId}
 use Rattle.np_machine.specs.Entries.{RequestEntry}
 use Rattle.np_machine.specs.First.{blocking}
-use Rattle.np_decision.specs.Views.{new_record}
-use Rattle.np_decision.specs.declared.asked.Asked.{Asked}
+use Rattle.np_changes.specs.Asked.{new_record}
+use Rattle.np_changes.specs.declared.asked.Asked.{Asked}
 use Rattle.np_rules.specs.Keeper.{Kept}
 use Rattle.np_rules.proofs.FirstLemmas.{best-later, best-blocked, best-found}
 use Rattle.np_rules.proofs.keeper.look.VecKeeperLook.first_of.Goals as goal
