@@ -1,0 +1,20 @@
+-- the way through a plan: what holds where nothing changes, and of each thing that is found, holds of the plan
+use Rattle.std.proofs.Common.{◌≡◌, refl, Option, Some, None, Result, Ok, Err}
+use Rattle.np_text.specs.declared.id.SessionId.{SessionId}
+use Rattle.np_text.specs.declared.id.Role.{Role}
+use Rattle.np_event.specs.declared.reply.Refusal.{Refusal}
+use Rattle.np_changes.specs.Plan.{same, with_found, with_given, made_by}
+use Rattle.np_changes.specs.declared.changes.Changes.{Changes}
+
+module _ (P : Changes → Type 0) (nothing : P same) where
+  pub plan-found : {A : Type 0} (o : Option A) (f : A → Changes) → ((a : A) → o ≡ Some a → P (f a)) → P (with_found o f)
+  plan-found None f each = nothing
+  plan-found (Some a) f each = each a refl
+
+  pub plan-given : {A : Type 0} (o : Result A Refusal) (f : A → Changes) → ((a : A) → o ≡ Ok a → P (f a)) → P (with_given o f)
+  plan-given (Ok a) f each = each a refl
+  plan-given (Err why) f each = nothing
+
+-- the same of what a session makes
+pub plan-made : (P : Changes → Type 0) (session : SessionId) (role : Role) → P (made_by session role same) → {A : Type 0} (o : Option A) (f : A → Changes) → ((a : A) → o ≡ Some a → P (made_by session role (f a))) → P (made_by session role (with_found o f))
+plan-made P session role nothing o f each = plan-found (λ ch. P (made_by session role ch)) nothing o f each

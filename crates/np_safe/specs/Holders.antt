@@ -1,0 +1,16 @@
+-- who holds nodes and requests, by a journal and in the state that it leads to
+use Rattle.std.specs.Prelude.{◌≡◌, ◌<◌, true, false, List, is_some}
+use Rattle.np_text.specs.declared.id.SessionId.{SessionId}
+use Rattle.np_text.specs.declared.id.NodeId.{NodeId}
+use Rattle.np_text.specs.declared.id.RequestId.{RequestId}
+use Rattle.np_site.specs.Configuration.{Configuration}
+use Rattle.np_event.specs.declared.entry.Entry.{Entry}
+use Rattle.np_machine.specs.Tables.{is_session_of, request_in, request_holder, node_holder}
+use Rattle.np_machine.specs.LiveHolder.{IsLiveHolder, locks_from}
+use Rattle.np_machine.specs.State.{State}
+
+-- who holds a node by the journal is the first of its queue; a request that a session has locked by it was made before, and where it stands the session is the first of its queue
+pub record HoldersHold (c : Configuration) (journal : List Entry) (s : State) : Type 0 where
+  pub of_node : (session : SessionId) (n : NodeId) → IsLiveHolder c journal session n → is_session_of session (node_holder n s.nodes) ≡ true
+  pub of_request : (session : SessionId) (r : RequestId) → locks_from session r false journal ≡ true
+      → (r.seq < s.next_request) × (is_some (request_in r s.requests) ≡ true → is_session_of session (request_holder r s.requests) ≡ true)
