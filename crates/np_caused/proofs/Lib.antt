@@ -1,0 +1,11 @@
+pub mod TurnLists
+pub mod Members
+pub mod Tells
+pub mod Came
+pub mod Waiters
+pub mod Due
+pub mod Declines
+pub mod Pinned
+pub mod Reported
+pub mod Causes
+pub mod Journals
