@@ -1,0 +1,4 @@
+pub mod Goes
+pub mod Records
+pub mod Made
+pub mod Rightful
