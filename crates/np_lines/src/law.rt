@@ -1,0 +1,16 @@
+//! The law. Its function does nothing: its contract is the law.
+
+ghost use Rattle.std.specs.Prelude.{List};
+ghost use Rattle.std.specs.List.{AllByRecursion};
+ghost use Rattle.np_site.specs.Configuration.{Configuration};
+ghost use Rattle.np_site.specs.Sound.{IsSound};
+ghost use Rattle.np_event.specs.declared.entry.Entry.{Entry};
+ghost use Rattle.np_event.specs.Line.{HasEventLine, HasEntryLine};
+ghost use Rattle.np_machine.specs.State.{State};
+ghost use Rattle.np_machine.specs.History.{Runs};
+
+/// Each entry of a run of a sound configuration has a line where its event has one.
+pub fn each_entry_of_a_run_has_a_line()
+    ensures { (c : Configuration) (journal : List Entry) (s : State) → IsSound c → Runs c journal s →
+        AllByRecursion (λ e. HasEventLine e.event) journal → AllByRecursion HasEntryLine journal }
+{}
