@@ -8,4 +8,5 @@ pub mod Counting
 pub mod FateLines
 pub mod OneRun
 pub mod Playing
+pub mod SafePlay
 pub mod Reading

@@ -1,4 +1,5 @@
 pub mod Script
 pub mod Text
 pub mod Played
+pub mod Safe
 pub mod Summary

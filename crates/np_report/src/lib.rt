@@ -14,7 +14,7 @@ mod print;
 mod script;
 
 pub use ends::summary;
-pub use law::a_text_tells_its_run;
+pub use law::{a_script_plays_safely, a_text_tells_its_run};
 pub use played::play;
 pub use print::text;
 pub use script::{EventList, Script, ScriptFault, read_script};
