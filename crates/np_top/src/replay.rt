@@ -5,6 +5,7 @@ ghost use Rattle.std.specs.List.{AllByRecursion};
 ghost use Rattle.np_event.specs.Line.{HasEventLine};
 ghost use Rattle.np_report.specs.declared.script.Script.{Script};
 ghost use Rattle.np_report.specs.Script.{script_of};
+ghost use Rattle.np_report.specs.Safe.{IsPlayed};
 ghost use Rattle.np_top.specs.Answer.{script_text, most};
 ghost use Rattle.np_top.specs.Causes.{Explains};
 
@@ -59,7 +60,7 @@ fn text_of_script(alloc: Global, script: Script) -> Result<Vec<u8>, NoMemory>
 
 /// The Text that `replay` prints for what the source has left.
 pub(crate) fn replay<S: Source>(alloc: Global, source: &mut S) -> Result<Vec<u8>, Stop>
-    ensures printed { IfOk result (λ text. (script : Script) × (text.items ≡ script_text script)
+    ensures printed { IfOk result (λ text. (script : Script) × (text.items ≡ script_text script) × IsPlayed script
         × IfSome (S.left source.old) (λ came. (length came ≤ most) × (script_of came ≡ Ok script))) }
     ensures end { OnOk result (IfSome (S.left source.old) (λ _. S.left source.new ≡ Some [])) }
     ensures stops { IfErr result (Explains (S.left source.old) (S.faults source.old) (S.faults source.new)) }

@@ -6,6 +6,7 @@ ghost use Rattle.np_io.specs.Counts.{Rose};
 ghost use Rattle.np_json.specs.declared.fault.ConfigFault.{ConfigFault};
 ghost use Rattle.np_report.specs.declared.script.Script.{Script};
 ghost use Rattle.np_report.specs.Script.{Problem, script_of};
+ghost use Rattle.np_report.specs.Safe.{IsPlayed};
 ghost use Rattle.np_report.specs.Script as problem;
 ghost use Rattle.np_top.specs.Answer.{is_command, script_text, status_of, most, config_line, problem_line, usage_line, read_line, long_line, memory_line};
 ghost use Rattle.np_top.specs.Causes.{EndsAs, IsInScript};
@@ -44,7 +45,9 @@ pub fn poolsim<S: Source, K: Sink, E: Sink>(
     err: &mut E,
 ) -> u8
     // The Text of a script was printed, and nothing else; the source's, where it tells what it had left.
+    // The script's journal is a run, and after every step of it what must hold does (`IsPlayed`).
     ensures done { result ≡ 0 → (script : Script) × Appends (K.written out.old) (K.written out.new) (script_text script)
+        × IsPlayed script
         × IfSome (S.left source.old) (λ came. script_of came ≡ Ok script) }
     ensures done_end { result ≡ 0 → IfSome (S.left source.old) (λ _. S.left source.new ≡ Some []) }
     ensures done_quiet { result ≡ 0 → E.written err.new ≡ E.written err.old }
