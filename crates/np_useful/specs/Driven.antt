@@ -1,0 +1,108 @@
+-- when the parties and the simulated cloud drove a journal, and no script did
+use Rattle.std.specs.Prelude.{◌≡◌, ◌&&◌, ◌==◌, ℕ, Bool, true, false, List, [], ◌∷◌, ◌++◌, Some, ◌⊎◌}
+use Rattle.np_text.specs.declared.id.SessionId.{SessionId}
+use Rattle.np_text.specs.declared.id.PoolId.{PoolId}
+use Rattle.np_text.specs.declared.id.NodeId.{NodeId}
+use Rattle.np_text.specs.declared.id.Role.{Role}
+use Rattle.np_text.specs.declared.id.Role.TheVariants.{Janitor}
+use Rattle.np_site.specs.Configuration.{Configuration}
+use Rattle.np_record.specs.declared.record.NodeRecord.{NodeRecord}
+use Rattle.np_event.specs.declared.event.Event.{Event}
+use Rattle.np_event.specs.declared.event.Event.TheVariants as ev
+use Rattle.np_event.specs.declared.event.Outcome.{Outcome}
+use Rattle.np_event.specs.declared.event.Outcome.TheVariants as outcome
+use Rattle.np_event.specs.declared.entry.Entry.{Entry}
+use Rattle.np_event.specs.declared.reply.Reply.TheVariants as reply
+use Rattle.np_event.specs.declared.reply.Done.TheVariants as done
+use Rattle.np_machine.specs.Tables.{is_session, node_in}
+use Rattle.np_machine.specs.LiveHolder.{is_node}
+use Rattle.np_machine.specs.Node.{is_swept}
+use Rattle.np_machine.specs.Plan.{outcome_of}
+use Rattle.np_machine.specs.Turns.{Turn, turns, SomeTurn, EachTurn}
+use Rattle.np_useful.specs.Sessions.{is_current}
+use Rattle.np_useful.specs.Useful.{IsUseful}
+
+-- ## a useful event
+
+-- useful for some role, in the state before it (own)
+pub record IsOfUse (c : Configuration) (t : Turn) : Type 0 where
+  pub role : Role
+  pub useful : IsUseful c t.before role t.entry.event
+
+-- ## a tick
+
+-- time goes on by one (own)
+abbrev pub is_tick : Event → Bool
+is_tick ev.Tick = true
+is_tick _ = false
+
+-- a tick after something else: neither the first entry nor next to another tick (own)
+pub record IsTickBetween (past : List Turn) (t : Turn) : Type 0 where
+  pub event : t.entry.event ≡ ev.Tick
+  pub earlier : List Turn
+  pub previous : Turn
+  pub follows : past ≡ earlier ++ previous ∷ []
+  pub other : is_tick previous.entry.event ≡ false
+
+-- ## a sweep
+
+-- a report on the node, whatever its reply, names this server (own)
+pub record NamesServer (n : NodeId) (x : ℕ) (t : Turn) : Type 0 where
+  pub session : SessionId
+  pub attempt : ℕ
+  pub event : t.entry.event ≡ ev.Done session n attempt (outcome.Launched x)
+
+-- the current session of a janitor removes a server that some report named for the node, and that was not swept yet (Nodepool: cleanup of leaked instances)
+pub record IsSweepOfServer (past : List Turn) (t : Turn) : Type 0 where
+  pub session : SessionId
+  pub pool : PoolId
+  pub number : NodeId
+  pub server : ℕ
+  pub event : t.entry.event ≡ ev.Sweep session number server
+  pub removed : t.entry.reply ≡ reply.Done done.Remove
+  pub current : is_current (Janitor pool) session t.before ≡ true
+  pub named : SomeTurn (NamesServer number server) past
+  pub unswept : is_swept number server t.before.swept ≡ false
+
+-- ## a report of the cloud
+
+-- a start of the session on the node that was answered with this attempt, as the start of this number in the pool, which the node is of (Nodepool: a launch)
+pub record BeginsLaunch (session : SessionId) (n : NodeId) (attempt m : ℕ) (p : PoolId) (t : Turn) : Type 0 where
+  pub event : t.entry.event ≡ ev.Start session n
+  pub started : t.entry.reply ≡ reply.Done (done.Started attempt m)
+  pub node : NodeRecord
+  pub stood : node_in n t.before.nodes ≡ Some node
+  pub of_pool : node.pool.0 ≡ p.0
+
+-- the event is the session's report on this attempt of the node (own)
+abbrev pub is_report_of : SessionId → NodeId → ℕ → Event → Bool
+is_report_of session n attempt (ev.Done by m k o) = is_session by session && is_node n m && (k == attempt)
+is_report_of session n attempt _ = false
+
+-- the first report on a launch that was begun, as planned for its start; its reply may be a refusal, where the session ended during the launch (own)
+pub record IsReportOfLaunch (c : Configuration) (past : List Turn) (t : Turn) : Type 0 where
+  pub session : SessionId
+  pub number : NodeId
+  pub attempt : ℕ
+  pub outcome : Outcome
+  pub event : t.entry.event ≡ ev.Done session number attempt outcome
+  pub start : ℕ
+  pub pool : PoolId
+  pub begun : SomeTurn (BeginsLaunch session number attempt start pool) past
+  pub first : EachTurn (λ u. is_report_of session number attempt u.entry.event ≡ false) past
+  pub planned : outcome_of c pool start ≡ outcome
+
+-- ## the journal
+
+-- the turn is one of these, after the turns of the past (own)
+abbrev pub IsDrivenTurn : Configuration → List Turn → Turn → Type 0
+IsDrivenTurn c past t = IsOfUse c t ⊎ (IsTickBetween past t ⊎ (IsSweepOfServer past t ⊎ IsReportOfLaunch c past t))
+
+-- each of the turns is, after those of the past (own)
+abbrev pub DrivenFrom : Configuration → List Turn → List Turn → Type 0
+DrivenFrom c past [] = Unit {0}
+DrivenFrom c past (t ∷ ts) = IsDrivenTurn c past t × DrivenFrom c (past ++ t ∷ []) ts
+
+-- each entry is one of these, at its place (own)
+abbrev pub Driven : Configuration → List Entry → Type 0
+Driven c journal = DrivenFrom c [] (turns c journal)

@@ -1,0 +1,151 @@
+-- which events are useful for the launcher of a pool: one line per event
+use Rattle.std.specs.Prelude.{ℕ, Bool, true, false, ◌==◌, ◌&&◌, ◌||◌, not, Option, is_ok, is_none, find, slice_get, count_by, nat_lt, option_and_then}
+use Rattle.std.specs.Option.{option_map, option_map_or}
+use Rattle.std.specs.List.{list_any}
+use Rattle.np_text.specs.declared.id.SessionId.{SessionId}
+use Rattle.np_text.specs.declared.id.PoolId.{PoolId}
+use Rattle.np_text.specs.declared.id.NodeId.{NodeId}
+use Rattle.np_text.specs.declared.id.RequestId.{RequestId}
+use Rattle.np_text.specs.declared.id.Role.{Role}
+use Rattle.np_text.specs.declared.id.Role.TheVariants.{Launcher, Janitor, Requester, Reaper}
+use Rattle.np_text.specs.declared.word.Reason.{Reason}
+use Rattle.np_text.specs.declared.word.Reason.TheVariants as reason
+use Rattle.np_site.specs.Configuration.{Configuration}
+use Rattle.np_record.specs.declared.record.RequestRecord.{RequestRecord}
+use Rattle.np_record.specs.declared.record.NodeRecord.{NodeRecord}
+use Rattle.np_event.specs.declared.event.Event.{Event}
+use Rattle.np_event.specs.declared.event.Event.TheVariants as ev
+use Rattle.np_event.specs.declared.event.Outcome.{Outcome}
+use Rattle.np_event.specs.declared.event.Outcome.TheVariants as outcome
+use Rattle.np_machine.specs.Entries.{RequestEntry}
+use Rattle.np_machine.specs.Kinds.{is_requested, is_pending}
+use Rattle.np_machine.specs.Tables.{role_of, is_session_of, registered, holder}
+use Rattle.np_machine.specs.Laws.{same_role}
+use Rattle.np_machine.specs.Order.{is_pending_by, is_declined_by}
+use Rattle.np_machine.specs.Reasons.{first_unoffered, never_fits, is_spent, is_paused}
+use Rattle.np_machine.specs.Tenants.{tenant_never_fits}
+use Rattle.np_machine.specs.First.{may_fit, blocking}
+use Rattle.np_machine.specs.LiveHolder.{is_node}
+use Rattle.np_machine.specs.Plan.{outcome_of}
+use Rattle.np_machine.specs.Step.{judge, maker_of}
+use Rattle.np_machine.specs.State.{State}
+use Rattle.np_useful.specs.Sessions.{may_open}
+use Rattle.np_useful.specs.Rows.{request_is, node_is, is_listed, is_complete, has_failed_node}
+
+-- ## requests that the launcher gives back
+
+-- the launcher can still do something with it: it is requested, the pool has not declined it, and its tenant has room (own)
+abbrev pub is_worth_keeping : Configuration → State → PoolId → RequestRecord → Bool
+is_worth_keeping c s p request =
+    is_requested request.state && not (is_declined_by p request.declined) && is_none (blocking c s p request)
+
+-- neither pending nor worth keeping (own)
+abbrev pub is_done_with : Configuration → State → PoolId → RequestRecord → Bool
+is_done_with c s p request = not (is_pending request.state) && not (is_worth_keeping c s p request)
+
+-- the reason is the first of the pool's for the request: labels in the request's order, the pool's limits, the tenant's, failed nodes in the list's order (own)
+abbrev pub is_first_reason : Configuration → State → PoolId → RequestRecord → Reason → Bool
+is_first_reason c s p request (reason.NoLabel l) = option_map_or (λ first. first.0 == l.0) (first_unoffered c p request) false
+is_first_reason c s p request reason.NeverFits = is_none (first_unoffered c p request) && never_fits c p request
+is_first_reason c s p request reason.TenantNeverFits =
+    is_none (first_unoffered c p request) && not (never_fits c p request) && tenant_never_fits c p request
+is_first_reason c s p request (reason.Spent n) =
+    may_fit c p request && option_map_or (is_node n) (find (λ m. is_spent m s) request.nodes) false
+
+-- ## nodes of the request that the pool serves
+
+-- the node is in the list of a request that the pool serves (Nodepool: pending)
+abbrev pub is_wanted_by : PoolId → State → NodeId → Bool
+is_wanted_by p s n = list_any (λ e. is_pending_by p e.kept && is_listed n e.kept) s.requests
+
+-- and none of that list failed (own)
+abbrev pub is_to_launch : PoolId → State → NodeId → Bool
+is_to_launch p s n = list_any (λ e. is_pending_by p e.kept && is_listed n e.kept && not (has_failed_node s e.kept)) s.requests
+
+-- some ready node may be given to the request (Nodepool: ready nodes are used first)
+abbrev pub may_take_ready : Configuration → State → SessionId → RequestId → Bool
+may_take_ready c s session r = list_any (λ e. is_ok (judge c s (ev.TakeReady session r e.id))) s.nodes
+
+-- the same server, or both failed (own)
+abbrev pub same_outcome : Outcome → Outcome → Bool
+same_outcome (outcome.Launched x) (outcome.Launched y) = x == y
+same_outcome outcome.Failed outcome.Failed = true
+same_outcome _ _ = false
+
+-- the report on the node's last attempt that the simulated cloud makes (own)
+abbrev pub is_as_planned : Configuration → PoolId → ℕ → Outcome → NodeRecord → Bool
+is_as_planned c p attempt o k = (k.attempts == attempt) && same_outcome (outcome_of c p k.start) o
+
+-- ## requests that the launcher takes up
+
+-- pending by the pool, and not complete (Nodepool: a launcher completes one request after another)
+abbrev pub is_under_way : PoolId → RequestEntry → Bool
+is_under_way p e = is_pending_by p e.kept && not (is_complete e.kept)
+
+-- requested, not declined by the pool, and held by the session (own)
+abbrev pub is_in_hand : PoolId → SessionId → RequestEntry → Bool
+is_in_hand p session e = is_requested e.kept.state && not (is_declined_by p e.kept.declined) && is_session_of session (holder e.queue)
+
+-- the provider of the pool, by its place (Nodepool)
+abbrev pub provider_of : Configuration → PoolId → Option ℕ
+provider_of c p = option_map (λ pool. pool.provider) (slice_get c.pools p.0)
+
+-- both pools are of one provider (Nodepool)
+abbrev pub is_sister : Configuration → PoolId → PoolId → Bool
+is_sister c p other = option_map_or (λ a. option_map_or (λ b. b == a) (provider_of c other) false) (provider_of c p) false
+
+-- a launcher of the pool's provider (Nodepool)
+abbrev pub is_sister_launcher : Configuration → PoolId → Role → Bool
+is_sister_launcher c p (Launcher other) = is_sister c p other
+is_sister_launcher c p (Janitor other) = false
+is_sister_launcher c p (Requester q) = false
+is_sister_launcher c p Reaper = false
+
+-- pending in a pool of the provider (Nodepool)
+abbrev pub is_served_near : Configuration → PoolId → RequestEntry → Bool
+is_served_near c p e = is_pending e.kept.state && option_map_or (is_sister c p) e.kept.pool false
+
+-- held by a session of a launcher of the provider, mute or not, in whatever state the request is (own)
+abbrev pub is_held_near : Configuration → State → PoolId → RequestEntry → Bool
+is_held_near c s p e = option_map_or (is_sister_launcher c p) (option_and_then (λ session. role_of session s) (holder e.queue)) false
+
+-- on how many requests the provider's launchers work, each counted once (own)
+abbrev pub requests_near : Configuration → State → PoolId → ℕ
+requests_near c s p = count_by (λ e. is_served_near c p e || is_held_near c s p e) s.requests
+
+-- on how many they may work at the same time (Nodepool: max-concurrency)
+abbrev pub concurrency_of : Configuration → PoolId → Option ℕ
+concurrency_of c p = option_and_then (λ provider. provider.concurrency) (option_and_then (λ place. slice_get c.providers place) (provider_of c p))
+
+-- the provider's launchers may take up one more request (Nodepool: max-concurrency)
+abbrev pub has_turn_left : Configuration → State → PoolId → Bool
+has_turn_left c s p = option_map_or (λ most. nat_lt (requests_near c s p) most) (concurrency_of c p) true
+
+-- ## the rows
+
+-- what a launcher does that holds its pool's registration (Nodepool, in an order of its own)
+abbrev pub registered_row : Configuration → State → PoolId → Event → Bool
+registered_row c s p (ev.UnlockRequest session r) = request_is r s (is_done_with c s p)
+registered_row c s p (ev.UnlockNode session n) = node_is n s (λ k. not k.in_flight) && not (is_wanted_by p s n)
+registered_row c s p (ev.Accept session r) = true
+registered_row c s p (ev.Decline session r why) = request_is r s (λ request. is_first_reason c s p request why)
+registered_row c s p (ev.TakeReady session r n) = request_is r s (λ request. not (has_failed_node s request))
+registered_row c s p (ev.Create session r) =
+    request_is r s (λ request. not (has_failed_node s request)) && not (may_take_ready c s session r)
+registered_row c s p (ev.Start session n) = is_to_launch p s n
+registered_row c s p (ev.Done session n attempt o) = node_is n s (is_as_planned c p attempt o)
+registered_row c s p (ev.Fulfil session r) = true
+registered_row c s p (ev.LockRequest session r) =
+    not (list_any (is_under_way p) s.requests) && not (list_any (is_in_hand p session) s.requests) && has_turn_left c s p
+registered_row c s p (ev.MinReady session l) = not (is_paused c s p)
+registered_row c s p _ = false
+
+-- the event's maker holds the registration of the pool (own)
+abbrev pub is_by_registrant : State → PoolId → Event → Bool
+is_by_registrant s p e = option_map_or (λ session. is_session_of session (registered p s.registrations)) (maker_of e) false
+
+-- it opens its session and registers, and anything else waits for that (Nodepool: launchers register)
+abbrev pub launcher_row : Configuration → State → PoolId → Event → Bool
+launcher_row c s p (ev.OpenSession role) = same_role role (Launcher p) && may_open c role s
+launcher_row c s p (ev.Register session) = true
+launcher_row c s p e = is_by_registrant s p e && registered_row c s p e

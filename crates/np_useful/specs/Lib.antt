@@ -1,0 +1,12 @@
+pub mod Sessions
+pub mod Window
+pub mod Cleanable
+pub mod Rows
+pub mod Launcher
+pub mod Requester
+pub mod Janitor
+pub mod Reaper
+pub mod Useful
+pub mod Settled
+pub mod Driven
+pub mod Examples
