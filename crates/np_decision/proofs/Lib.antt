@@ -1,9 +1,3 @@
-pub mod CountLemmas
 pub mod PlaceLemmas
 pub mod Reasons
-pub mod OwnerLemmas
 pub mod Room
-pub mod Walks
-pub mod Seen
-pub mod Used
-pub mod Blocking

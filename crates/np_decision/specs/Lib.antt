@@ -1,4 +1,2 @@
-pub mod Views
-pub mod Readers
 pub mod Verdicts
 pub mod Places

@@ -6,7 +6,6 @@ ghost use Rattle.np_fits.specs.Fits.{Fits};
 ghost use Rattle.np_changes.specs.Plan.{plan};
 ghost use Rattle.np_decision.specs.Verdicts.{answer_of};
 
-use crate::look::Look;
 use crate::node::{
     decide_create, decide_done, decide_end_node, decide_free_node, decide_gone, decide_lock_node,
     decide_mark_deleting, decide_start, decide_sweep, decide_take_ready, decide_unlock_node,
@@ -22,6 +21,7 @@ use crate::semaphore::{
 use crate::session::{decide_crash, decide_expire, decide_open, decide_tick};
 use crate::verdict::Verdict;
 use np_event::{Event, Refusal};
+use np_look::Look;
 
 /// What the event is answered, and what it changes where it is accepted. It takes no memory, and
 /// costs what the readers cost that its row asks.

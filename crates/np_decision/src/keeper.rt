@@ -7,9 +7,9 @@ ghost use Rattle.np_fits.specs.Fits.{Fits};
 ghost use Rattle.np_changes.specs.Planned.{IsReached, IsPlanned};
 
 use crate::decision::decide;
-use crate::look::Look;
 use np_changes::Changes;
 use np_event::{Event, Reply};
+use np_look::Look;
 use std::alloc::AllocError;
 
 /// Keeps a state.

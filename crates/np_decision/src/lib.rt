@@ -1,31 +1,23 @@
 //! The decision: what each event is answered and what it changes, once for every representation of
 //! the state.
 //!
-//! A representation says what can be read of its state (`Look`). The rows, one function for each
-//! event, answer a refusal or a `Verdict`: what the event is answered, and its `Changes`, which are
-//! np_changes' plan of it. What keeps a state makes the changes (`StateKeeper`), and `step` is one
-//! step of the machine over it.
+//! The rows, one function for each event, read the state through np_look's `Look`. They answer a
+//! refusal or a `Verdict`: what the event is answered, and its `Changes`, which are np_changes'
+//! plan of it. What keeps a state makes the changes (`StateKeeper`), and `step` is one step of the
+//! machine over it.
 #![tactic(auto)]
 
-mod asked;
-mod count;
 mod decision;
 mod keeper;
-mod look;
 mod node;
 mod request;
 mod semaphore;
 mod session;
-mod tenant;
 mod tests;
 mod verdict;
-mod walk;
 
-pub use asked::{NodeView, RequestView};
-pub use count::offers;
 pub use decision::decide;
 pub use keeper::{StateKeeper, step};
-pub use look::Look;
 pub use node::{
     decide_create, decide_done, decide_end_node, decide_free_node, decide_gone, decide_lock_node,
     decide_mark_deleting, decide_start, decide_sweep, decide_take_ready, decide_unlock_node,
@@ -37,8 +29,5 @@ pub use request::{
 };
 pub use semaphore::{decide_acquire, decide_finish, decide_release, decide_take, decide_withdraw};
 pub use session::{decide_crash, decide_expire, decide_open, decide_tick};
+pub use tests::missing_handles;
 pub use verdict::Verdict;
-pub use walk::{
-    asked_of, comes_before, declines_or_is, is_coming, is_declined_by, is_free_ready, is_live_of,
-    is_marked, is_open_to, is_spent_min_ready, short_label,
-};

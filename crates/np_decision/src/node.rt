@@ -7,12 +7,10 @@ ghost use Rattle.np_machine.specs.Node.{judge_take_ready, judge_create, starts_o
 ghost use Rattle.np_fits.specs.Fits.{Fits};
 ghost use Rattle.np_changes.specs.Asked.{new_record};
 ghost use Rattle.np_changes.specs.Plan.{plan_take_ready, new_node, plan_create, plan_start, plan_done, plan_lock_node, plan_unlock_node, end_in, plan_end_node, plan_mark_deleting, plan_gone, plan_free_node, plan_sweep};
-ghost use Rattle.np_decision.specs.Readers.{tenant_of_job};
+ghost use Rattle.np_look.specs.Readers.{tenant_of_job};
 ghost use Rattle.np_decision.specs.Verdicts.{answer_of};
 ghost use Rattle.np_changes.specs.declared.changes.Growth.TheVariants.{Allocate};
 
-use crate::count;
-use crate::look::Look;
 use crate::tests::{
     by_node_holder, by_registrant, by_request_holder, has_room, is_pending_by, janitor, launcher,
     maker, next_label, node_at, of_pool, request_at, requester, tenant_of_job, wrong_node,
@@ -23,6 +21,7 @@ use np_changes::{
     Asked, Changes, Deed, Growth, JobsChange, NodesChange, RequestEdit, RequestsChange,
 };
 use np_event::{Done, Outcome, Refusal};
+use np_look::Look;
 use np_record::NodeRecord;
 use np_text::{
     EndAs, JobId, LabelId, NodeId, NodeState, PoolId, RequestId, RequesterId, Role, SessionId,
@@ -240,7 +239,7 @@ fn launched(retries: u8, tick: u32, outcome: Outcome, node: &NodeRecord) -> Node
 fn retries<L: Look>(look: &L, pool: PoolId) -> u8
     ensures { result ≡ retries_of (L.site look.now) pool }
 {
-    count::retries(look.config(), pool)
+    np_look::retries(look.config(), pool)
 }
 
 /// The launcher says what became of the launch.
@@ -369,7 +368,7 @@ fn end_in(job: Option<JobId>, node: NodeId) -> JobsChange
 }
 
 /// The requester is done with a node of its job.
-#[tactic(auto, using(crate::proofs::OwnerLemmas::owner_at))]
+#[tactic(auto, using(np_look::proofs::OwnerLemmas::owner_at))]
 pub fn decide_end_node<L: Look>(
     look: &L,
     session: SessionId,
@@ -432,7 +431,7 @@ fn max_hold_age<L: Look>(look: &L) -> u32
 fn ready_age<L: Look>(look: &L, label: LabelId) -> u32
     ensures { result ≡ ready_age (L.site look.now) label }
 {
-    count::ready_age(look.config(), label)
+    np_look::ready_age(look.config(), label)
 }
 
 /// Whether a node may go: a ready one where nobody has it and it is old or its pool is paused, a

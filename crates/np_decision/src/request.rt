@@ -13,7 +13,6 @@ ghost use Rattle.np_changes.specs.Plan.{plan_register, asked_for, plan_submit, p
 ghost use Rattle.np_decision.specs.Places.{lack_at};
 ghost use Rattle.np_decision.specs.Verdicts.{answer_of, min_ready_of};
 
-use crate::look::Look;
 use crate::tests::{
     by_registrant, by_request_holder, first_unoffered, has_room, is_named, is_of_request,
     is_offered, is_pending_by, is_too_much, janitor, job_at, launcher, maker, missing_handles,
@@ -23,6 +22,7 @@ use crate::tests::{
 use crate::verdict::{Verdict, made_by};
 use np_changes::{Asked, Changes, Growth, JobsChange, NodesChange, RequestEdit, RequestsChange};
 use np_event::{Done, Refusal};
+use np_look::Look;
 use np_record::{JobRecord, LabelRow, NodeRow};
 use np_site::Job;
 use np_text::{

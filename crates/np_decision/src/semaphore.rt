@@ -9,15 +9,14 @@ ghost use Rattle.np_fits.specs.Fits.{Fits};
 ghost use Rattle.np_changes.specs.Plan.{plan_acquire, plan_take, plan_finish, request_after_withdraw, plan_withdraw, plan_release};
 ghost use Rattle.np_decision.specs.Verdicts.{answer_of};
 
-use crate::look::Look;
 use crate::tests::{
     is_named, job_at, maker, missing_handles, none_missing, of_requester, record_of, request_at,
     request_of, requester, wrong_job, wrong_request,
 };
 use crate::verdict::{Verdict, made_by};
-use crate::walk::is_requester;
 use np_changes::{Changes, Growth, HandlesChange, JobsChange, NodesChange, RequestsChange};
 use np_event::{Done, Refusal};
+use np_look::{Look, is_requester};
 use np_record::{JobRecord, MarkRow, Marked, NodeRow};
 use np_site::Job;
 use np_text::{

@@ -7,10 +7,10 @@ ghost use Rattle.np_fits.specs.Fits.{Fits};
 ghost use Rattle.np_changes.specs.Plan.{plan_tick, plan_open, plan_crash, plan_expire};
 ghost use Rattle.np_decision.specs.Verdicts.{answer_of};
 
-use crate::look::Look;
 use crate::verdict::Verdict;
 use np_changes::{Changes, Deed, Growth, SAME, SessionsChange};
 use np_event::{Done, Refusal};
+use np_look::Look;
 use np_text::{Role, SessionId};
 
 /// Time goes on by one tick.

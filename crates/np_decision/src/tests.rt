@@ -10,14 +10,13 @@ ghost use Rattle.np_machine.specs.Reasons.{next_label};
 ghost use Rattle.np_machine.specs.Tests.{maker, launcher, janitor, requester, request_at, node_at, job_at, record_of, of_requester, by_registrant, by_request_holder, by_node_holder, of_pool, wrong_request, wrong_node, wrong_job, none_missing, not_blocked, missing_handles};
 ghost use Rattle.np_fits.specs.Fits.{Fits};
 ghost use Rattle.np_changes.specs.Asked.{new_record};
-ghost use Rattle.np_decision.specs.Readers.{tenant_of_job};
+ghost use Rattle.np_look.specs.Readers.{tenant_of_job};
 ghost use Rattle.np_decision.specs.Verdicts.{without_declines, row_of_job, asked_request, has_room};
 
-use crate::look::Look;
-use crate::{count, tenant};
 use np_amount::Amount;
 use np_changes::Asked;
 use np_event::{Found, Refusal};
+use np_look::Look;
 use np_record::{JobRecord, NodeRecord};
 use np_site::Job;
 use np_text::{
@@ -286,14 +285,14 @@ pub(crate) fn first_unoffered<L: Look>(
 ) -> Option<LabelId>
     ensures { result ≡ find (λ l. not (is_offered (L.site look.now) pool l)) labels.now }
 {
-    count::first_unoffered(look.config(), pool, labels)
+    np_look::first_unoffered(look.config(), pool, labels)
 }
 
 /// Whether the pool offers the label.
 pub(crate) fn is_offered<L: Look>(look: &L, pool: PoolId, label: LabelId) -> bool
     ensures { result ≡ is_offered (L.site look.now) pool label }
 {
-    count::is_offered(look.config(), pool, label)
+    np_look::is_offered(look.config(), pool, label)
 }
 
 /// Whether the labels together pass a limit of the pool, however empty it is.
@@ -304,7 +303,7 @@ pub(crate) fn is_too_much<L: Look>(look: &L, pool: PoolId, labels: &[LabelId]) -
         not (fits (amount_of_all (L.site look.now) pool labels.now)
         (limit_of (L.site look.now) pool)) }
 {
-    count::is_too_much(look.config(), pool, labels)
+    np_look::is_too_much(look.config(), pool, labels)
 }
 
 /// The pool has room for one more node of the label.
@@ -332,14 +331,14 @@ pub(crate) fn lacks_room<L: Look>(look: &L, pool: PoolId, label: LabelId, used: 
     requires ram { used.ram < 2 ^ 63 }
     ensures { result ≡ is_short (L.site look.now) (L.state look.now) pool label }
 {
-    count::lacks_room(look.config(), pool, label, used)
+    np_look::lacks_room(look.config(), pool, label, used)
 }
 
 /// The tenant of the job, where there is one.
 pub(crate) fn tenant_of_job<L: Look>(look: &L, job: Option<JobId>) -> Option<TenantId>
     ensures { result ≡ tenant_of_job (L.site look.now) job }
 {
-    tenant::tenant_of_job(look.config(), job)
+    np_look::tenant_of_job(look.config(), job)
 }
 
 /// Whether a request that is not pinned passes a limit of its job's tenant, however little that
@@ -348,7 +347,7 @@ pub(crate) fn tenant_never_fits<L: Look>(look: &L, pool: PoolId, asked: &Asked) 
     requires { Fits (L.site look.now) (L.state look.now) }
     ensures { result ≡ tenant_never_fits (L.site look.now) pool (new_record asked.now) }
 {
-    tenant::tenant_never_fits(look.config(), pool, asked)
+    np_look::tenant_never_fits(look.config(), pool, asked)
 }
 
 /// The tenant of the request's job has room for it, at the pool.
@@ -368,8 +367,8 @@ pub(crate) fn not_blocked<L: Look>(look: &L, pool: PoolId, asked: &Asked) -> Res
     })
 }
 
-/// How many of the job's semaphores it has no handle of.
-pub(crate) fn missing_handles<L: Look>(look: &L, id: JobId, job: &Job) -> usize
+/// How many of the job's semaphores it has no handle of. It costs the handles of each.
+pub fn missing_handles<L: Look>(look: &L, id: JobId, job: &Job) -> usize
     ensures missing { result ≡ missing_handles (L.state look.now) id job.now }
     ensures few { result ≤ length job.now.semaphores }
 {

@@ -9,8 +9,8 @@ use Rattle.np_machine.specs.Entries.{RequestEntry}
 use Rattle.np_machine.specs.State.{State}
 use Rattle.np_machine.specs.Order.{comes_before}
 use Rattle.np_machine.specs.First.{blocking, is_open_to, is_candidate, earlier, least}
-use Rattle.np_decision.proofs.Walks.{take_there}
-use Rattle.np_decision.proofs.Seen.{better, better_later, better_full, better_now}
+use Rattle.np_look.proofs.Walks.{take_there}
+use Rattle.np_look.proofs.Seen.{better, better_later, better_full, better_now}
 use Rattle.np_rules.specs.Keeper.{comes_first}
 
 earlier-is : (o : Option RequestEntry) (e : RequestEntry) → earlier o e ≡ (if comes_first o e then Some e else o)

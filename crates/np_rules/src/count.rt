@@ -9,7 +9,7 @@ ghost use Rattle.np_text.specs.declared.id.LabelId.{LabelId};
 use crate::nodes::NodeTable;
 use np_amount::Amount;
 use np_config::Config;
-use np_decision::offers;
+use np_look::offers;
 use np_text::PoolId;
 
 const NOTHING: Amount = Amount {

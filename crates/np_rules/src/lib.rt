@@ -24,5 +24,5 @@ mod tables;
 mod tally;
 mod walk;
 
-pub use np_decision::Look;
+pub use np_look::Look;
 pub use plain::Plain;

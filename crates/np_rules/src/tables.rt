@@ -2,13 +2,13 @@
 
 ghost use Rattle.std.specs.Prelude.{◌≡◌, option_copied, slice_get};
 ghost use Rattle.std.specs.Option.{option_map};
-ghost use Rattle.np_decision.specs.Views.{node_view, request_view};
+ghost use Rattle.np_look.specs.Views.{node_view, request_view};
 ghost use Rattle.np_machine.specs.Node.{is_swept};
 ghost use Rattle.np_machine.specs.Tables.{handles_of, has_handle, node_entry, node_holder, registered, request_entry, request_holder, role_in, session_of};
 
 use crate::keys::{HandleTable, RequestTable, SweptTable};
 use crate::nodes::NodeTable;
-use np_decision::{NodeView, RequestView};
+use np_look::{NodeView, RequestView};
 use np_machine::{NodeEntry, Registration, RequestEntry, SessionFacts, Swept, holder_of};
 use np_record::{JobRecord, RoleRecord};
 use np_text::{JobId, NodeId, PoolId, RequestId, Role, SemId, SessionId};

@@ -16,7 +16,7 @@ ghost use Rattle.np_rules.specs.Keeper.{comes_first};
 use crate::tables::Tables;
 use np_amount::Amount;
 use np_config::Config;
-use np_decision::{
+use np_look::{
     comes_before, declines_or_is, is_coming, is_declined_by, is_free_ready, is_live_of, is_marked,
     is_open_to, is_spent_min_ready, short_label,
 };

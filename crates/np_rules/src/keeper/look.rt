@@ -8,7 +8,7 @@ use crate::walk::is_better;
 use np_amount::Amount;
 use np_changes::Asked;
 use np_config::Config;
-use np_decision::{Look, NodeView, RequestView, asked_of, is_declined_by};
+use np_look::{Look, NodeView, RequestView, asked_of, is_declined_by};
 use np_machine::{Registration, RequestEntry, SessionFacts, count_ahead, is_in};
 use np_record::{JobRecord, NodeRecord, RequestRecord, RoleRecord};
 use np_text::{JobId, LabelId, NodeId, PoolId, RequestId, RequesterId, Role, SemId, SessionId};

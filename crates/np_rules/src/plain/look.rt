@@ -6,7 +6,7 @@ use crate::plain::Plain;
 use np_amount::Amount;
 use np_changes::Asked;
 use np_config::Config;
-use np_decision::{Look, NodeView, RequestView};
+use np_look::{Look, NodeView, RequestView};
 use np_machine::{Registration, SessionFacts};
 use np_record::{JobRecord, NodeRecord, RequestRecord, RoleRecord};
 use np_text::{

@@ -3,7 +3,7 @@ use Rattle.np_amount.specs.declared.amount.Amount.{Amount}
 use Rattle.np_amount.specs.Amounts.{times}
 use Rattle.np_site.specs.declared.row.Offer.{Offer}
 use Rattle.np_machine.specs.Count.{offers_of, number_of}
-use Rattle.np_decision.proofs.CountLemmas.{total_more}
+use Rattle.np_look.proofs.CountLemmas.{total_more}
 use Rattle.np_fits.proofs.Offered.{number_bound, passed_total, used_bound, offer_bound, part_bound}
 use Rattle.np_rules.proofs.count.count.Goals as goal
 

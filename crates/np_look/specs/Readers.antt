@@ -1,0 +1,93 @@
+-- what readers of a state are asked beyond the machine's own words
+use Rattle.std.specs.Prelude.{ℕ, suc, Bool, false, ◌==◌, ◌&&◌, ◌||◌, not, if◌then◌else◌, List, [], ◌∷◌, filter, Option, Some, None, is_some, is_none, option_and_then, slice_get}
+use Rattle.std.specs.Option.{option_map, option_map_or}
+use Rattle.np_amount.specs.declared.amount.Amount.{Amount}
+use Rattle.np_amount.specs.declared.amount.Limit.{Limit}
+use Rattle.np_amount.specs.Amounts.{nothing, plus, fits}
+use Rattle.np_site.specs.Configuration.{Configuration}
+use Rattle.np_text.specs.declared.id.PoolId.{PoolId}
+use Rattle.np_text.specs.declared.id.LabelId.{LabelId}
+use Rattle.np_text.specs.declared.id.JobId.{JobId}
+use Rattle.np_text.specs.declared.id.NodeId.{NodeId}
+use Rattle.np_text.specs.declared.id.RequesterId.{RequesterId}
+use Rattle.np_text.specs.declared.id.RequestId.{RequestId}
+use Rattle.np_text.specs.declared.id.TenantId.{TenantId}
+use Rattle.np_record.specs.declared.record.RequestRecord.{RequestRecord}
+use Rattle.np_record.specs.declared.record.JobRecord.{JobRecord}
+use Rattle.np_machine.specs.Entries.{RequestEntry, NodeEntry}
+use Rattle.np_machine.specs.State.{State}
+use Rattle.np_machine.specs.Tables.{request_in}
+use Rattle.np_machine.specs.Count.{amount_of, limit_of}
+use Rattle.np_machine.specs.Tenants.{limit_of_tenant, tenant_of_request, is_tenant, amount_of_node, rest_of_request, is_pending_of}
+use Rattle.np_machine.specs.Kinds.{is_over}
+use Rattle.np_machine.specs.Reasons.{next_label, is_spare}
+use Rattle.np_machine.specs.First.{may_fit}
+use Rattle.np_machine.specs.Order.{is_declined_by, is_pending_by}
+use Rattle.np_machine.specs.Request.{undeclined}
+use Rattle.np_changes.specs.Readers.{is_last_pool}
+
+-- whether the pool is among the request's declines
+abbrev pub is_declined : PoolId → RequestId → State → Bool
+is_declined p r s = option_map_or (λ request. is_declined_by p request.declined) (request_in r s.requests) false
+
+abbrev pub undeclined_of : RequestId → State → ℕ
+undeclined_of r s = option_map_or (undeclined s.registrations) (request_in r s.requests) 0
+
+abbrev pub is_last_pool_of : PoolId → RequestId → State → Bool
+is_last_pool_of p r s = option_map_or (λ request. is_last_pool s.registrations request p) (request_in r s.requests) false
+
+-- the next label of the request, where the pool serves it and passes a limit with one more node of the label
+abbrev pub short_label : Configuration → PoolId → Amount → RequestRecord → Option LabelId
+short_label c p used request =
+    if is_pending_by p request
+    then option_and_then (λ l. if not (fits (plus used (amount_of c p l)) (limit_of c p)) then Some l else None) (next_label request)
+    else None
+
+-- what the node takes, where it is the pool's
+abbrev pub amount_at : Configuration → PoolId → NodeEntry → Amount
+amount_at c p e = if e.kept.pool.0 == p.0 then amount_of c p e.kept.label else nothing
+
+-- ## tenants
+
+-- the tenant of the job, where there is one
+abbrev pub tenant_of_job : Configuration → Option JobId → Option TenantId
+tenant_of_job c job = option_map (λ row. row.tenant) (option_and_then (λ j. slice_get c.jobs j.0) job)
+
+-- one part of it is limited at least
+abbrev pub has_limit : Limit → Bool
+has_limit limit = is_some limit.instances || is_some limit.cores || is_some limit.ram
+
+-- the tenant of a request that is not pinned, where it has a limit and the pool may serve the request
+abbrev pub limited_tenant : Configuration → PoolId → RequestRecord → Option TenantId
+limited_tenant c p request =
+    option_and_then (λ t. if is_none request.pinned && has_limit (limit_of_tenant c t) && may_fit c p request then Some t else None) (tenant_of_request c request)
+
+-- what the node takes of its pool, where it is the tenant's
+abbrev pub amount_for : Configuration → TenantId → NodeEntry → Amount
+amount_for c t e = if is_tenant t e.kept.tenant then amount_of_node c e else nothing
+
+-- what the request still waits for, where it is pending and the tenant's
+abbrev pub rest_for : Configuration → TenantId → RequestEntry → Amount
+rest_for c t e = if is_pending_of c t e then rest_of_request c e else nothing
+
+-- ## nodes and jobs by their place
+
+-- the nodes of the pool with the label that are ready, free and unlocked, in order: the one at this place
+abbrev pub free_ready_of : PoolId → LabelId → ℕ → State → Option NodeId
+free_ready_of p l at s = option_map (λ e. e.id) (slice_get (filter (is_spare p l) s.nodes) at)
+
+-- a job of the requester that is not over
+abbrev pub is_unfinished_job : Configuration → RequesterId → JobId → JobRecord → Bool
+is_unfinished_job c q j kept = option_map_or (λ row. row.requester.0 == q.0) (slice_get c.jobs j.0) false && not (is_over kept.phase)
+
+-- such jobs among these, the first of which has this number
+abbrev pub unfinished_from : Configuration → RequesterId → ℕ → List JobRecord → List JobId
+unfinished_from c q number [] = []
+unfinished_from c q number (kept ∷ jobs) =
+    if is_unfinished_job c q (record { 0 = number }) kept
+    then record { 0 = number } ∷ unfinished_from c q (suc number) jobs
+    else unfinished_from c q (suc number) jobs
+
+-- the jobs of the requester that are not over, in order: the one at this place
+abbrev pub unfinished_of : Configuration → RequesterId → ℕ → State → Option JobId
+unfinished_of c q at s = slice_get (unfinished_from c q 0 s.jobs) at

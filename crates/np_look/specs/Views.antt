@@ -1,0 +1,31 @@
+-- rows with who holds them
+use Rattle.std.specs.Prelude.{List, [], ◌∷◌, Bool, true, Option, Some, None}
+use Rattle.np_text.specs.declared.id.SessionId.{SessionId}
+use Rattle.np_machine.specs.Entries.{RequestEntry, NodeEntry}
+use Rattle.np_machine.specs.Tables.{holder}
+use Rattle.np_machine.specs.Order.{comes_before}
+use Rattle.np_look.specs.declared.asked.RequestView.{RequestView}
+use Rattle.np_look.specs.declared.asked.NodeView.{NodeView}
+
+abbrev pub request_view : RequestEntry → RequestView
+request_view e = record { id = e.id; kept = e.kept; holder = holder e.queue }
+
+abbrev pub node_view : NodeEntry → NodeView
+node_view e = record { id = e.id; kept = e.kept; holder = holder e.queue }
+
+-- ## rows as their views tell them: the queue but for who waits
+
+abbrev pub held_by : Option SessionId → List SessionId
+held_by None = []
+held_by (Some session) = session ∷ []
+
+abbrev pub request_seen : RequestView → RequestEntry
+request_seen v = record { id = v.id; kept = v.kept; queue = held_by v.holder }
+
+abbrev pub node_seen : NodeView → NodeEntry
+node_seen v = record { id = v.id; kept = v.kept; queue = held_by v.holder }
+
+-- before the best so far, where there is one
+abbrev pub comes_first : Option RequestView → RequestView → Bool
+comes_first None v = true
+comes_first (Some best) v = comes_before (request_seen v) (request_seen best)

@@ -1,0 +1,21 @@
+//! What can be read of a state of the machine, whatever keeps it.
+//!
+//! A representation answers the readers of `Look` that have no body; the others walk by place, and
+//! a representation that keeps a number or an index answers with that. What a walk asks of each row
+//! is here too, and what pools and tenants have by the configuration alone.
+#![tactic(auto)]
+
+mod asked;
+mod count;
+mod look;
+mod tenant;
+mod walk;
+
+pub use asked::{NodeView, RequestView};
+pub use count::{first_unoffered, is_offered, is_too_much, lacks_room, offers, ready_age, retries};
+pub use look::Look;
+pub use tenant::{tenant_never_fits, tenant_of_job};
+pub use walk::{
+    asked_of, comes_before, declines_or_is, is_coming, is_declined_by, is_free_ready, is_live_of,
+    is_marked, is_open_to, is_requester, is_spent_min_ready, short_label,
+};

@@ -1,0 +1,481 @@
+//! What can be read of a machine's state.
+
+ghost use Rattle.std.specs.Prelude.{◌≡◌, ◌<◌, ◌≤◌, ◌^◌, ℕ, length, slice_get};
+ghost use Rattle.std.specs.Option.{option_map};
+ghost use Rattle.std.specs.List.{list_any};
+ghost use Rattle.np_site.specs.Configuration.{Configuration};
+ghost use Rattle.np_machine.specs.State.{State};
+ghost use Rattle.np_machine.specs.Tables.{session_of, registered, request_in, request_queue, request_holder, node_in, node_queue, node_holder, ahead_of, is_queued, handles_of, has_handle, role_in};
+ghost use Rattle.np_machine.specs.Count.{count_of};
+ghost use Rattle.np_machine.specs.Tenants.{count_of_tenant};
+ghost use Rattle.np_machine.specs.Reasons.{is_spare, is_paused};
+ghost use Rattle.np_machine.specs.First.{blocking, first_of};
+ghost use Rattle.np_machine.specs.Request.{is_spent_min_ready, ready_count};
+ghost use Rattle.np_machine.specs.Node.{is_swept};
+ghost use Rattle.np_machine.specs.Semaphore.{has_live_session};
+ghost use Rattle.np_fits.specs.Fits.{Fits};
+ghost use Rattle.np_changes.specs.Asked.{asked_of, new_record};
+ghost use Rattle.np_look.specs.Views.{request_view, node_view};
+ghost use Rattle.np_changes.specs.Readers.{owner_of};
+ghost use Rattle.np_look.specs.Readers.{is_declined, undeclined_of, is_last_pool_of, free_ready_of, unfinished_of};
+
+use crate::asked::{NodeView, RequestView};
+use crate::count::{NOTHING, amount_at};
+use crate::tenant::{amount_for, is_short_of, limited_tenant, rest_for};
+use crate::walk::{
+    asked_of, declines_or_is, is_better, is_coming, is_declined_by, is_free_ready, is_live_of,
+    is_marked, is_spare, is_spent_min_ready, is_unfinished_job, one_if, short_label,
+};
+use np_amount::Amount;
+use np_changes::Asked;
+use np_config::Config;
+use np_machine::{Registration, SessionFacts};
+use np_record::{JobRecord, NodeRecord, RequestRecord, RoleRecord};
+use np_text::{
+    JobId, LabelId, NodeId, PoolId, RequestId, RequesterId, Role, SemId, SessionId, TenantId,
+};
+
+/// Reads a state. No call takes memory.
+///
+/// Each representation answers the readers that have no body here. Those that have one walk by
+/// place; a representation that keeps a number answers with it.
+pub trait Look {
+    /// The configuration.
+    ghost site: { Self → Configuration };
+    /// The state.
+    ghost state: { Self → State };
+    /// How many entries were recorded.
+    ghost recorded: { Self → ℕ };
+
+    /// The configuration.
+    fn config(&self) -> &Config
+        ensures { result.now ≡ site self.now };
+
+    /// How many entries were recorded.
+    fn entries(&self) -> u32
+        ensures { result ≡ recorded self.now };
+
+    /// How many ticks have passed.
+    fn tick(&self) -> u32
+        ensures { result ≡ (state self.now).tick };
+
+    /// What is known of the session, or `None` exactly where it was never begun.
+    fn session(&self, session: SessionId) -> Option<SessionFacts>
+        ensures { result ≡ session_of session (state self.now) };
+
+    /// How many sessions were begun; they count from 1.
+    fn sessions(&self) -> u32
+        ensures { result ≡ length (state self.now).sessions };
+
+    /// The session that is registered for the pool.
+    fn registration(&self, pool: PoolId) -> Option<SessionId>
+        ensures { result ≡ registered pool (state self.now).registrations };
+
+    /// How many registrations there are.
+    fn registrations(&self) -> u32
+        ensures { result ≡ length (state self.now).registrations };
+
+    /// The registration at a place.
+    fn registration_at(&self, at: u32) -> Option<Registration>
+        ensures { result ≡ slice_get (state self.now).registrations at };
+
+    /// How many requests there are.
+    fn requests(&self) -> u32
+        ensures { result ≡ length (state self.now).requests };
+
+    /// The request at a place, by priority and then sequence: the byte order of their texts.
+    fn request_at(&self, at: u32) -> Option<RequestId>
+        ensures { result ≡ option_map (λ e. e.id) (slice_get (state self.now).requests at) };
+
+    /// The request at a place, with its record and who holds it.
+    fn request_view(&self, at: u32) -> Option<RequestView>
+        ensures { result ≡ option_map request_view (slice_get (state self.now).requests at) };
+
+    /// The request's record. It is found by halves.
+    fn request(&self, request: RequestId) -> Option<RequestRecord>
+        ensures { result ≡ request_in request (state self.now).requests };
+
+    /// How many nodes there are.
+    fn nodes(&self) -> u32
+        ensures { result ≡ length (state self.now).nodes };
+
+    /// The node at a place, by number.
+    fn node_at(&self, at: u32) -> Option<NodeId>
+        ensures { result ≡ option_map (λ e. e.id) (slice_get (state self.now).nodes at) };
+
+    /// The node at a place, with its record and who holds it.
+    fn node_view(&self, at: u32) -> Option<NodeView>
+        ensures { result ≡ option_map node_view (slice_get (state self.now).nodes at) };
+
+    /// The node's record. It is found by halves.
+    fn node(&self, node: NodeId) -> Option<NodeRecord>
+        ensures { result ≡ node_in node (state self.now).nodes };
+
+    /// The session at a place of the request's queue; the one at 0 holds it.
+    fn request_queue(&self, request: RequestId, at: u32) -> Option<SessionId>
+        ensures { result ≡ slice_get (request_queue request (state self.now).requests) at };
+
+    /// The session at a place of the node's queue; the one at 0 holds it.
+    fn node_queue(&self, node: NodeId, at: u32) -> Option<SessionId>
+        ensures { result ≡ slice_get (node_queue node (state self.now).nodes) at };
+
+    /// How many jobs have a handle of the semaphore.
+    fn handles(&self, semaphore: SemId) -> u32
+        ensures { result ≡ length (handles_of semaphore (state self.now).handles) };
+
+    /// Whether the job has a handle of the semaphore. Its cost grows with the semaphore's handles.
+    fn has_handle(&self, semaphore: SemId, job: JobId) -> bool
+        ensures { result ≡ has_handle job (state self.now).handles semaphore };
+
+    /// How many jobs there are.
+    fn jobs(&self) -> u32
+        ensures { result ≡ length (state self.now).jobs };
+
+    /// The job's record.
+    fn job(&self, job: JobId) -> Option<JobRecord>
+        ensures { result ≡ slice_get (state self.now).jobs job.0 };
+
+    /// What the role has done, or `None` exactly where it is no role of the configuration.
+    fn role(&self, role: Role) -> Option<RoleRecord>
+        ensures { result ≡ role_in role (state self.now) };
+
+    /// Whether the server of the node was swept. The pair is found by halves.
+    fn swept(&self, node: NodeId, server: u64) -> bool
+        ensures { result ≡ is_swept node server (state self.now).swept };
+
+    /// The number of the next request.
+    fn next_request(&self) -> u32
+        ensures { result ≡ (state self.now).next_request };
+
+    /// The number of the next node.
+    fn next_node(&self) -> u32
+        ensures { result ≡ (state self.now).next_node };
+
+    /// The request's record without its declines.
+    fn asked(&self, request: RequestId) -> Option<Asked>
+        ensures { result ≡ option_map asked_of (request_in request (state self.now).requests) }
+    {
+        match self.request(request) {
+            None => None,
+            Some(kept) => Some(asked_of(&kept)),
+        }
+    }
+
+    /// Whether the pool is among the request's declines.
+    fn is_declined(&self, request: RequestId, pool: PoolId) -> bool
+        ensures { result ≡ is_declined pool request (state self.now) }
+    {
+        match self.request(request) {
+            None => false,
+            Some(kept) => is_declined_by(pool, kept.declined.items()),
+        }
+    }
+
+    /// How many registered pools have not declined the request.
+    fn undeclined(&self, request: RequestId) -> u32
+        ensures { result ≡ undeclined_of request (state self.now) }
+    {
+        let Some(kept) = self.request(request) else {
+            return 0;
+        };
+        let mut count = 0;
+        for at in 0..self.registrations() {
+            let Some(row) = self.registration_at(at) else {
+                return count;
+            };
+            count += one_if(!is_declined_by(row.pool, kept.declined.items()));
+        }
+        count
+    }
+
+    /// Whether every other registered pool has declined the request.
+    fn is_last_pool(&self, request: RequestId, pool: PoolId) -> bool
+        ensures { result ≡ is_last_pool_of pool request (state self.now) }
+    {
+        let Some(kept) = self.request(request) else {
+            return false;
+        };
+        for at in 0..self.registrations() {
+            let Some(row) = self.registration_at(at) else {
+                return true;
+            };
+            if !declines_or_is(pool, row.pool, kept.declined.items()) {
+                return false;
+            }
+        }
+        true
+    }
+
+    /// Who holds the request.
+    fn request_holder(&self, request: RequestId) -> Option<SessionId>
+        ensures { result ≡ request_holder request (state self.now).requests }
+    {
+        self.request_queue(request, 0)
+    }
+
+    /// Who holds the node.
+    fn node_holder(&self, node: NodeId) -> Option<SessionId>
+        ensures { result ≡ node_holder node (state self.now).nodes }
+    {
+        self.node_queue(node, 0)
+    }
+
+    /// How many sessions stand before this one in the node's queue, or in all if it is not there.
+    fn ahead_at_node(&self, session: SessionId, node: NodeId) -> u32
+        requires { Fits (site self.now) (state self.now) }
+        ensures { result ≡ ahead_of session (node_queue node (state self.now).nodes) }
+    {
+        let mut ahead = 0;
+        while let Some(other) = self.node_queue(node, ahead) {
+            if other.0 == session.0 {
+                return ahead;
+            }
+            ahead += 1;
+        }
+        ahead
+    }
+
+    /// Whether the session is in the node's queue.
+    fn waits_at_node(&self, session: SessionId, node: NodeId) -> bool
+        requires { Fits (site self.now) (state self.now) }
+        ensures { result ≡ is_queued session (node_queue node (state self.now).nodes) }
+    {
+        let mut at = 0;
+        while let Some(other) = self.node_queue(node, at) {
+            if other.0 == session.0 {
+                return true;
+            }
+            at += 1;
+        }
+        false
+    }
+
+    /// The tenant that has no room now for a request that the pool may serve. What a tenant uses is
+    /// asked only where the tenant has a limit.
+    fn blocking(&self, pool: PoolId, asked: &Asked) -> Option<TenantId>
+        requires { Fits (site self.now) (state self.now) }
+        ensures { result ≡ blocking (site self.now) (state self.now) pool (new_record asked.now) }
+    {
+        let tenant = limited_tenant(self.config(), pool, asked)?;
+        let used = self.used_by(tenant);
+        if is_short_of(self.config(), pool, asked, tenant, used) {
+            Some(tenant)
+        } else {
+            None
+        }
+    }
+
+    /// The first request that the pool's launcher may take up. Whether its tenant has room is asked
+    /// only of a request that comes before the best so far.
+    fn first_of(&self, pool: PoolId) -> Option<RequestId>
+        requires { Fits (site self.now) (state self.now) }
+        ensures { result ≡ first_of (site self.now) (state self.now) pool }
+    {
+        let mut best: Option<RequestView> = None;
+        for at in 0..self.requests() {
+            let Some(view) = self.request_view(at) else {
+                return None;
+            };
+            if !is_better(pool, &best, &view) {
+                continue;
+            }
+            if self.blocking(pool, &asked_of(&view.kept)).is_some() {
+                continue;
+            }
+            best = Some(view);
+        }
+        match best {
+            None => None,
+            Some(view) => Some(view.id),
+        }
+    }
+
+    /// Whether a min-ready request of the pool for the label has failed.
+    fn has_spent_min_ready(&self, pool: PoolId, label: LabelId) -> bool
+        ensures { result ≡ list_any (is_spent_min_ready pool label) (state self.now).requests }
+    {
+        for at in 0..self.requests() {
+            let Some(view) = self.request_view(at) else {
+                return false;
+            };
+            if is_spent_min_ready(pool, label, &view.kept) {
+                return true;
+            }
+        }
+        false
+    }
+
+    /// The free ready nodes of the label in all pools, and those that are coming.
+    fn ready_count(&self, label: LabelId) -> u32
+        requires { Fits (site self.now) (state self.now) }
+        ensures { result ≡ ready_count label (state self.now) }
+    {
+        let mut count = 0;
+        for at in 0..self.nodes() {
+            let Some(view) = self.node_view(at) else {
+                return 0;
+            };
+            count += one_if(is_free_ready(label, &view.kept));
+        }
+        for at in 0..self.requests() {
+            let Some(view) = self.request_view(at) else {
+                return 0;
+            };
+            count += one_if(is_coming(label, &view.kept));
+        }
+        count
+    }
+
+    /// What the pool uses.
+    fn used(&self, pool: PoolId) -> Amount
+        requires { Fits (site self.now) (state self.now) }
+        ensures used { result ≡ count_of (site self.now) (state self.now) pool }
+        ensures instances { result.instances < 2 ^ 63 }
+        ensures cores { result.cores < 2 ^ 63 }
+        ensures ram { result.ram < 2 ^ 63 }
+    {
+        let mut sum = NOTHING;
+        for at in 0..self.nodes() {
+            let Some(view) = self.node_view(at) else {
+                return NOTHING;
+            };
+            sum = sum.plus(amount_at(self.config(), pool, &view));
+        }
+        sum
+    }
+
+    /// What the tenant uses: its nodes, and what its pending requests still wait for.
+    fn used_by(&self, tenant: TenantId) -> Amount
+        requires { Fits (site self.now) (state self.now) }
+        ensures used { result ≡ count_of_tenant (site self.now) (state self.now) tenant }
+        ensures instances { result.instances < 2 ^ 63 }
+        ensures cores { result.cores < 2 ^ 63 }
+        ensures ram { result.ram < 2 ^ 63 }
+    {
+        let mut of_nodes = NOTHING;
+        for at in 0..self.nodes() {
+            let Some(view) = self.node_view(at) else {
+                return NOTHING;
+            };
+            of_nodes = of_nodes.plus(amount_for(self.config(), tenant, &view));
+        }
+        let mut of_requests = NOTHING;
+        for at in 0..self.requests() {
+            let Some(view) = self.request_view(at) else {
+                return NOTHING;
+            };
+            of_requests = of_requests.plus(rest_for(self.config(), tenant, &view));
+        }
+        of_nodes.plus(of_requests)
+    }
+
+    /// Whether a ready, free and unlocked node of the pool has the label.
+    fn has_spare(&self, pool: PoolId, label: LabelId) -> bool
+        ensures { result ≡ list_any (is_spare pool label) (state self.now).nodes }
+    {
+        for at in 0..self.nodes() {
+            let Some(view) = self.node_view(at) else {
+                return false;
+            };
+            if is_spare(pool, label, &view) {
+                return true;
+            }
+        }
+        false
+    }
+
+    /// The node at a place among the ready, free and unlocked nodes of the pool with the label, in
+    /// order of their numbers. This body asks every node up to that one.
+    fn free_ready(&self, pool: PoolId, label: LabelId, at: u32) -> Option<NodeId>
+        ensures { result ≡ free_ready_of pool label at (state self.now) }
+    {
+        let mut left = at;
+        for place in 0..self.nodes() {
+            let Some(view) = self.node_view(place) else {
+                return None;
+            };
+            if !is_spare(pool, label, &view) {
+                continue;
+            }
+            if left == 0 {
+                return Some(view.id);
+            }
+            left -= 1;
+        }
+        None
+    }
+
+    /// Whether a request that is pending by the pool waits for room.
+    fn is_paused(&self, pool: PoolId) -> bool
+        requires { Fits (site self.now) (state self.now) }
+        ensures { result ≡ is_paused (site self.now) (state self.now) pool }
+    {
+        let used = self.used(pool);
+        for at in 0..self.requests() {
+            let Some(view) = self.request_view(at) else {
+                return false;
+            };
+            let Some(label) = short_label(self.config(), pool, used, &view.kept) else {
+                continue;
+            };
+            if view.kept.pinned.is_some() {
+                return true;
+            }
+            if !self.has_spare(pool, label) {
+                return true;
+            }
+        }
+        false
+    }
+
+    /// The job at a place among those of the requester that are not over, in order of their
+    /// numbers. This body asks every job up to that one.
+    fn unfinished(&self, requester: RequesterId, at: u32) -> Option<JobId>
+        ensures { result ≡ unfinished_of (site self.now) requester at (state self.now) }
+    {
+        let mut left = at;
+        for number in 0..self.jobs() {
+            let Some(kept) = self.job(JobId(number)) else {
+                return None;
+            };
+            if !is_unfinished_job(self.config(), requester, JobId(number), &kept) {
+                continue;
+            }
+            if left == 0 {
+                return Some(JobId(number));
+            }
+            left -= 1;
+        }
+        None
+    }
+
+    /// The first job that has the node.
+    fn owner(&self, node: NodeId) -> Option<JobId>
+        ensures { result ≡ owner_of node (state self.now).jobs }
+    {
+        for at in 0..self.jobs() {
+            let Some(kept) = self.job(JobId(at)) else {
+                return None;
+            };
+            if is_marked(node, &kept) {
+                return Some(JobId(at));
+            }
+        }
+        None
+    }
+
+    /// Whether a session of the requester has not expired.
+    fn has_live_session(&self, requester: RequesterId) -> bool
+        ensures { result ≡ has_live_session requester (state self.now) }
+    {
+        for at in 0..self.sessions() {
+            let Some(facts) = self.session(SessionId(at + 1)) else {
+                return false;
+            };
+            if is_live_of(requester, &facts) {
+                return true;
+            }
+        }
+        false
+    }
+}

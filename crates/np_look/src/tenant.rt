@@ -1,0 +1,199 @@
+//! What tenants may use, and what each node and request takes of it.
+
+ghost use Rattle.std.specs.Prelude.{◌≡◌, ◌<◌, ◌≤◌, ◌^◌, length, drop, not, false};
+ghost use Rattle.std.specs.Option.{option_map_or};
+ghost use Rattle.np_text.specs.declared.id.PoolId.{PoolId};
+ghost use Rattle.np_text.specs.declared.id.LabelId.{LabelId};
+ghost use Rattle.np_amount.specs.Amounts.{fits, plus};
+ghost use Rattle.np_machine.specs.Count.{amount_of, amount_of_all};
+ghost use Rattle.np_machine.specs.Tenants.{limit_of_tenant, is_tenant, is_pending_of, passes_tenant, rest_of_request, tenant_never_fits};
+ghost use Rattle.np_machine.specs.First.{may_fit};
+ghost use Rattle.np_fits.specs.Fits.{AmountFits, IsFew};
+ghost use Rattle.np_changes.specs.Asked.{new_record};
+ghost use Rattle.np_look.specs.Views.{request_seen, node_seen};
+ghost use Rattle.np_look.specs.Readers.{tenant_of_job, has_limit, limited_tenant, amount_for, rest_for};
+
+use crate::asked::{NodeView, RequestView};
+use crate::count::{NO_LIMIT, NOTHING, amount, amount_of_all, first_unoffered, is_too_much};
+use np_amount::{Amount, Limit};
+use np_changes::Asked;
+use np_config::Config;
+use np_text::{JobId, LabelId, PoolId, RequestState, TenantId};
+
+/// The tenant of the job, where there is one.
+pub fn tenant_of_job(config: &Config, job: Option<JobId>) -> Option<TenantId>
+    ensures { result ≡ tenant_of_job config.now job }
+{
+    let job = job?;
+    match config.job(job) {
+        None => None,
+        Some(row) => Some(row.tenant),
+    }
+}
+
+/// What the tenant may use at most.
+fn limit_of_tenant(config: &Config, tenant: TenantId) -> Limit
+    ensures { result ≡ limit_of_tenant config.now tenant }
+{
+    match config.tenant(tenant) {
+        None => NO_LIMIT,
+        Some(row) => row.limit,
+    }
+}
+
+/// Whether one part of it is limited at least.
+fn has_limit(limit: &Limit) -> bool
+    ensures { result ≡ has_limit limit.now }
+{
+    limit.instances.is_some() || limit.cores.is_some() || limit.ram.is_some()
+}
+
+/// Whether the labels together pass a limit of the tenant, however little that uses.
+fn passes_tenant(config: &Config, pool: PoolId, asked: &Asked, tenant: TenantId) -> bool
+    requires small { (l : LabelId) → AmountFits (amount_of config.now pool l) }
+    ensures { result ≡ passes_tenant config.now pool (new_record asked.now) tenant }
+{
+    let _few = asked.labels.len();
+    let all = amount_of_all(config, pool, asked.labels.items());
+    !all.fits(&limit_of_tenant(config, tenant))
+}
+
+/// Whether the labels together pass a limit of the job's tenant, where there is one.
+fn passes_its_tenant(config: &Config, pool: PoolId, asked: &Asked) -> bool
+    requires small { (l : LabelId) → AmountFits (amount_of config.now pool l) }
+    ensures { result ≡
+        option_map_or (passes_tenant config.now pool (new_record asked.now))
+        (tenant_of_job config.now asked.now.job) false }
+{
+    match tenant_of_job(config, asked.job) {
+        None => false,
+        Some(tenant) => passes_tenant(config, pool, asked, tenant),
+    }
+}
+
+/// Whether a request that is not pinned passes a limit of its job's tenant, however little that
+/// uses.
+pub fn tenant_never_fits(config: &Config, pool: PoolId, asked: &Asked) -> bool
+    requires small { (l : LabelId) → AmountFits (amount_of config.now pool l) }
+    ensures { result ≡ tenant_never_fits config.now pool (new_record asked.now) }
+{
+    asked.pinned.is_none() && passes_its_tenant(config, pool, asked)
+}
+
+/// Whether the pool may serve the request, as far as its offers and the limits go.
+fn may_fit(config: &Config, pool: PoolId, asked: &Asked) -> bool
+    requires small { (l : LabelId) → AmountFits (amount_of config.now pool l) }
+    ensures { result ≡ may_fit config.now pool (new_record asked.now) }
+{
+    let _few = asked.labels.len();
+    first_unoffered(config, pool, asked.labels.items()).is_none()
+        && !is_too_much(config, pool, asked.labels.items())
+        && !tenant_never_fits(config, pool, asked)
+}
+
+/// The tenant of a request that is not pinned, where it has a limit and the pool may serve the
+/// request.
+pub fn limited_tenant(config: &Config, pool: PoolId, asked: &Asked) -> Option<TenantId>
+    requires small { (l : LabelId) → AmountFits (amount_of config.now pool l) }
+    ensures { result ≡ limited_tenant config.now pool (new_record asked.now) }
+{
+    let tenant = tenant_of_job(config, asked.job)?;
+    if asked.pinned.is_none()
+        && has_limit(&limit_of_tenant(config, tenant))
+        && may_fit(config, pool, asked)
+    {
+        Some(tenant)
+    } else {
+        None
+    }
+}
+
+/// Whether what the tenant uses and the labels together pass a limit of the tenant.
+pub fn is_short_of(
+    config: &Config,
+    pool: PoolId,
+    asked: &Asked,
+    tenant: TenantId,
+    used: Amount,
+) -> bool
+    requires instances { used.instances < 2 ^ 63 }
+    requires cores { used.cores < 2 ^ 63 }
+    requires ram { used.ram < 2 ^ 63 }
+    requires small { (l : LabelId) → AmountFits (amount_of config.now pool l) }
+    ensures { result ≡
+        not (fits (plus used (amount_of_all config.now pool asked.now.labels))
+        (limit_of_tenant config.now tenant)) }
+{
+    let _few = asked.labels.len();
+    let all = amount_of_all(config, pool, asked.labels.items());
+    !used.plus(all).fits(&limit_of_tenant(config, tenant))
+}
+
+/// Whether the option names this tenant.
+fn is_tenant(tenant: TenantId, found: Option<TenantId>) -> bool
+    ensures { result ≡ is_tenant tenant found }
+{
+    match found {
+        None => false,
+        Some(other) => other.0 == tenant.0,
+    }
+}
+
+/// What the node takes of its pool, where it is the tenant's.
+pub fn amount_for(config: &Config, tenant: TenantId, view: &NodeView) -> Amount
+    requires small { (p : PoolId) (l : LabelId) → AmountFits (amount_of config.now p l) }
+    ensures amount { result ≡ amount_for config.now tenant (node_seen view.now) }
+    ensures few { IsFew result 1 }
+{
+    if is_tenant(tenant, view.kept.tenant) {
+        amount(config, view.kept.pool, view.kept.label)
+    } else {
+        NOTHING
+    }
+}
+
+/// The labels from a place on.
+fn labels_from(labels: &[LabelId], from: usize) -> &[LabelId]
+    ensures { result.now ≡ drop from labels.now }
+{
+    if from < labels.len() {
+        labels.split_at(from).1
+    } else {
+        &[]
+    }
+}
+
+/// What the labels after the request's last node take of the pool that serves it.
+fn rest_of_request(config: &Config, view: &RequestView) -> Amount
+    requires small { (p : PoolId) (l : LabelId) → AmountFits (amount_of config.now p l) }
+    ensures rest { result ≡ rest_of_request config.now (request_seen view.now) }
+    ensures few { IsFew result 32 }
+{
+    let Some(pool) = view.kept.pool else {
+        return NOTHING;
+    };
+    let _few = view.kept.labels.len();
+    let labels = labels_from(view.kept.labels.items(), view.kept.nodes.len() as usize);
+    amount_of_all(config, pool, labels)
+}
+
+/// Whether the request is pending, and its job is of the tenant.
+fn is_pending_of(config: &Config, tenant: TenantId, view: &RequestView) -> bool
+    ensures { result ≡ is_pending_of config.now tenant (request_seen view.now) }
+{
+    view.kept.state == RequestState::Pending
+        && is_tenant(tenant, tenant_of_job(config, view.kept.job))
+}
+
+/// What the request still waits for, where it is pending and the tenant's.
+pub fn rest_for(config: &Config, tenant: TenantId, view: &RequestView) -> Amount
+    requires small { (p : PoolId) (l : LabelId) → AmountFits (amount_of config.now p l) }
+    ensures rest { result ≡ rest_for config.now tenant (request_seen view.now) }
+    ensures few { IsFew result 32 }
+{
+    if is_pending_of(config, tenant, view) {
+        rest_of_request(config, view)
+    } else {
+        NOTHING
+    }
+}

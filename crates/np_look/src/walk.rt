@@ -1,0 +1,252 @@
+//! What the walks of a reader ask of each row. A representation that walks rows of its own asks the
+//! same.
+
+ghost use Rattle.std.specs.Prelude.{◌≡◌, ◌<◌, ◌≤◌, ◌^◌, ◌&&◌, ◌||◌, ◌==◌, not, is_none, cond, Some, []};
+ghost use Rattle.np_text.specs.declared.id.LabelId.{LabelId};
+ghost use Rattle.np_machine.specs.Count.{amount_of};
+ghost use Rattle.np_fits.specs.Fits.{AmountFits};
+ghost use Rattle.np_look.specs.Readers.{short_label, is_unfinished_job};
+ghost use Rattle.np_machine.specs.Kinds.{is_requested, is_pending, is_failed, is_ready};
+ghost use Rattle.np_machine.specs.Tables.{is_marked};
+ghost use Rattle.np_machine.specs.Order.{comes_before, is_pool, is_pinned_away, is_declined_by, is_pending_by};
+ghost use Rattle.np_machine.specs.Reasons.{is_spare};
+ghost use Rattle.np_machine.specs.First.{is_open_to};
+ghost use Rattle.np_machine.specs.Request.{is_min_ready_for};
+ghost use Rattle.np_machine.specs.Semaphore.{is_requesters};
+ghost use Rattle.np_changes.specs.Asked.{asked_of};
+ghost use Rattle.np_look.specs.Views.{request_seen, node_seen, comes_first};
+
+use crate::asked::{NodeView, RequestView};
+use crate::count::lacks_room;
+use np_amount::Amount;
+use np_changes::Asked;
+use np_config::Config;
+use np_machine::SessionFacts;
+use np_record::{Declined, JobRecord, NodeRecord, RequestRecord};
+use np_text::{
+    JobId, LabelId, NodeId, NodeState, Phase, PoolId, RequestId, RequestState, RequesterId, Role,
+    SessionId,
+};
+
+/// The request's record without its declines.
+pub fn asked_of(kept: &RequestRecord) -> Asked
+    ensures { result ≡ asked_of kept.now }
+{
+    Asked {
+        job: kept.job,
+        labels: kept.labels,
+        nodes: kept.nodes,
+        pinned: kept.pinned,
+        pool: kept.pool,
+        relative_priority: kept.relative_priority,
+        state: kept.state,
+    }
+}
+
+/// Whether the pool is among the declines.
+pub fn is_declined_by(pool: PoolId, declined: &[Declined]) -> bool
+    ensures { result ≡ is_declined_by pool declined.now }
+{
+    declined.iter().any(|d| d.pool.0 == pool.0)
+}
+
+fn names_pool(pool: PoolId, found: Option<PoolId>) -> bool
+    ensures { result ≡ is_pool pool found }
+{
+    match found {
+        None => false,
+        Some(other) => other.0 == pool.0,
+    }
+}
+
+/// Whether a request with this record and holder is requested, unlocked, not declined by the pool
+/// and not pinned to another.
+pub fn is_open_to(pool: PoolId, kept: &RequestRecord, holder: Option<SessionId>) -> bool
+    ensures { result ≡
+        (is_requested kept.now.state && is_none holder
+        && not (is_declined_by pool kept.now.declined) && not (is_pinned_away pool kept.now)) }
+{
+    let elsewhere = match kept.pinned {
+        None => false,
+        Some(other) => other.0 != pool.0,
+    };
+    kept.state == RequestState::Requested
+        && holder.is_none()
+        && !is_declined_by(pool, kept.declined.items())
+        && !elsewhere
+}
+
+/// Whether the first of two requests, each by its id and its record, comes before the other: by
+/// priority, then relative priority, then sequence.
+pub fn comes_before(
+    id: RequestId,
+    kept: &RequestRecord,
+    other_id: RequestId,
+    other: &RequestRecord,
+) -> bool
+    ensures { result ≡ comes_before (record { id = id; kept = kept.now; queue = [] })
+        (record { id = other_id; kept = other.now; queue = [] }) }
+{
+    if id.priority != other_id.priority {
+        return id.priority < other_id.priority;
+    }
+    if kept.relative_priority != other.relative_priority {
+        return kept.relative_priority < other.relative_priority;
+    }
+    id.seq < other_id.seq
+}
+
+/// Whether it comes before the best so far.
+fn comes_first(best: &Option<RequestView>, view: &RequestView) -> bool
+    ensures { result ≡ comes_first best.now view.now }
+{
+    match best {
+        None => true,
+        Some(other) => comes_before(view.id, &view.kept, other.id, &other.kept),
+    }
+}
+
+/// Whether the request is open to the pool and comes before the best so far.
+pub fn is_better(pool: PoolId, best: &Option<RequestView>, view: &RequestView) -> bool
+    ensures { result ≡
+        (is_open_to pool (request_seen view.now) && comes_first best.now view.now) }
+{
+    is_open_to(pool, &view.kept, view.holder) && comes_first(best, view)
+}
+
+fn is_min_ready_for(label: LabelId, request: &RequestRecord) -> bool
+    ensures { result ≡ is_min_ready_for label request.now }
+{
+    if request.pinned.is_none() {
+        return false;
+    }
+    match request.labels.at(0) {
+        None => false,
+        Some(other) => other.0 == label.0,
+    }
+}
+
+/// Whether it is a failed min-ready request of the pool for the label.
+pub fn is_spent_min_ready(pool: PoolId, label: LabelId, request: &RequestRecord) -> bool
+    ensures { result ≡
+        (is_failed request.now.state && is_pool pool request.now.pinned
+        && is_min_ready_for label request.now) }
+{
+    request.state == RequestState::Failed
+        && names_pool(pool, request.pinned)
+        && is_min_ready_for(label, request)
+}
+
+/// Whether it is a min-ready request for the label that is requested or pending.
+pub fn is_coming(label: LabelId, request: &RequestRecord) -> bool
+    ensures { result ≡
+        ((is_requested request.now.state || is_pending request.now.state)
+        && is_min_ready_for label request.now) }
+{
+    (request.state == RequestState::Requested || request.state == RequestState::Pending)
+        && is_min_ready_for(label, request)
+}
+
+/// Whether it is a ready node of the label that is allocated to no request.
+pub fn is_free_ready(label: LabelId, node: &NodeRecord) -> bool
+    ensures { result ≡
+        (is_ready node.now.state && is_none node.now.allocated_to
+        && (node.now.label.0 == label.0)) }
+{
+    node.state == NodeState::Ready && node.allocated_to.is_none() && node.label.0 == label.0
+}
+
+/// Whether it is a ready, free and unlocked node of the pool with the label.
+pub fn is_spare(pool: PoolId, label: LabelId, view: &NodeView) -> bool
+    ensures { result ≡ is_spare pool label (node_seen view.now) }
+{
+    view.kept.state == NodeState::Ready
+        && view.kept.allocated_to.is_none()
+        && view.holder.is_none()
+        && view.kept.pool.0 == pool.0
+        && view.kept.label.0 == label.0
+}
+
+fn is_pending_by(pool: PoolId, request: &RequestRecord) -> bool
+    ensures { result ≡ is_pending_by pool request.now }
+{
+    request.state == RequestState::Pending && names_pool(pool, request.pool)
+}
+
+/// The next label of the request, where the pool serves it and has no room for a node of the label.
+pub fn short_label(
+    config: &Config,
+    pool: PoolId,
+    used: Amount,
+    request: &RequestRecord,
+) -> Option<LabelId>
+    requires instances { used.instances < 2 ^ 63 }
+    requires cores { used.cores < 2 ^ 63 }
+    requires ram { used.ram < 2 ^ 63 }
+    requires small { (l : LabelId) → AmountFits (amount_of config.now pool l) }
+    ensures { result ≡ short_label config.now pool used request.now }
+{
+    if !is_pending_by(pool, request) {
+        return None;
+    }
+    let label = request.labels.at(request.nodes.len())?;
+    if lacks_room(config, pool, label, used) {
+        Some(label)
+    } else {
+        None
+    }
+}
+
+/// 1 where it holds.
+pub fn one_if(holds: bool) -> u32
+    ensures one { result ≡ cond holds 1 0 }
+    ensures few { result ≤ 1 }
+{
+    if holds { 1 } else { 0 }
+}
+
+/// Whether the other pool is among the declines, or is this pool.
+pub fn declines_or_is(pool: PoolId, other: PoolId, declined: &[Declined]) -> bool
+    ensures { result ≡ (is_declined_by other declined.now || (pool.0 == other.0)) }
+{
+    is_declined_by(other, declined) || pool.0 == other.0
+}
+
+/// Whether it is a session of the requester that has not expired.
+pub fn is_live_of(requester: RequesterId, facts: &SessionFacts) -> bool
+    ensures { result ≡ (facts.now.live && is_requesters requester (Some facts.now.role)) }
+{
+    facts.live && is_requester(requester, Some(facts.role))
+}
+
+/// Whether the job has the node among its nodes.
+pub fn is_marked(node: NodeId, job: &JobRecord) -> bool
+    ensures { result ≡ is_marked node job.now }
+{
+    job.nodes.items().iter().any(|m| m.node.0 == node.0)
+}
+
+/// Whether the job is the requester's and not over.
+pub fn is_unfinished_job(
+    config: &Config,
+    requester: RequesterId,
+    job: JobId,
+    kept: &JobRecord,
+) -> bool
+    ensures { result ≡ is_unfinished_job config.now requester job kept.now }
+{
+    match config.job(job) {
+        None => false,
+        Some(row) => row.requester.0 == requester.0 && kept.phase != Phase::Over,
+    }
+}
+
+/// Whether the role is this requester.
+pub fn is_requester(requester: RequesterId, role: Option<Role>) -> bool
+    ensures { result ≡ is_requesters requester role }
+{
+    match role {
+        Some(Role::Requester(other)) => other.0 == requester.0,
+        Some(Role::Launcher(_)) | Some(Role::Janitor(_)) | Some(Role::Reaper) | None => false,
+    }
+}
