@@ -1,4 +1,6 @@
 pub mod Counts
 pub mod Bytes
+pub mod Ends
+pub mod Facts
 pub mod Memory
 pub mod Streams

@@ -1,29 +1,37 @@
--- What contracts see of the real streams' adapters: the stream below, and the count of its failures.
-use Rattle.std.specs.Prelude.{ℕ}
+-- What contracts see of the real streams' adapters: the stream below, the count of its failures, and its end.
+use Rattle.std.specs.Prelude.{ℕ, Bool, None}
 use Rattle.np_io.specs.declared.std_source.StdSource.{StdSource}
-use Rattle.np_io.specs.declared.std_out.StdOut.{StdOut}
-use Rattle.np_io.specs.declared.std_err.StdErr.{StdErr}
+use Rattle.np_io.specs.Facts.{SourceFacts, SinkFacts}
+use Rattle.np_io.specs.declared.std_sink.StdSink.{StdSink}
 
 -- the reader that a source stands over (own)
 abbrev pub reader_of : {R : Type 0} → StdSource R → R
 reader_of s = s.reader
 
--- how often a read failed (own)
+-- how many reads failed (own)
 abbrev pub read_faults : {R : Type 0} → StdSource R → ℕ
 read_faults s = s.faults
 
--- the writer that the output stands over (own)
-abbrev pub out_writer_of : {W : Type 0} → StdOut W → W
-out_writer_of s = s.stream.writer
+-- whether the last read that succeeded gave no byte (own)
+abbrev pub read_ended : {R : Type 0} → StdSource R → Bool
+read_ended s = s.ended
 
--- how often a call of the output failed (own)
-abbrev pub out_faults : {W : Type 0} → StdOut W → ℕ
-out_faults s = s.stream.faults
+-- a real source tells no content
+abbrev pub source_facts : {R : Type 0} → StdSource R → SourceFacts
+source_facts s = record { left = None; faults = read_faults s; at_end = read_ended s }
 
--- the writer that the diagnostics stand over (own)
-abbrev pub err_writer_of : {W : Type 0} → StdErr W → W
-err_writer_of s = s.stream.writer
+-- the writer that a sink stands over (own)
+abbrev pub writer_of : {W : Type 0} → StdSink W → W
+writer_of s = s.writer
 
--- how often a call of the diagnostics failed (own)
-abbrev pub err_faults : {W : Type 0} → StdErr W → ℕ
-err_faults s = s.stream.faults
+-- how many calls failed (own)
+abbrev pub write_faults : {W : Type 0} → StdSink W → ℕ
+write_faults s = s.faults
+
+-- whether the writer was flushed after the last byte (own)
+abbrev pub write_finished : {W : Type 0} → StdSink W → Bool
+write_finished s = s.finished
+
+-- a real sink tells no content
+abbrev pub sink_facts : {W : Type 0} → StdSink W → SinkFacts
+sink_facts s = record { written = None; faults = write_faults s; finished = write_finished s }

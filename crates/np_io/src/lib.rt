@@ -1,21 +1,21 @@
 //! Sources and sinks of bytes: a program's input and output, read and written as a whole.
 //!
 //! `Source` and `Sink` are the traits. `MemSource` and `MemSink` keep their bytes in memory and
-//! fail at planned calls; `StdSource`, `StdOut` and `StdErr` stand over the real streams and are
-//! the trusted edge. Read `specs/Counts` and `specs/Bytes` first, then `source`, `sink`, `whole`.
+//! fail at planned calls; `StdSource` and `StdSink` stand over the real streams and are the
+//! trusted edge. Read `specs/Counts`, `specs/Bytes`, `specs/Ends` and `specs/Facts` first, then
+//! `source`, `sink`, `whole`.
 //!
 //! A stream counts its faults, and a fault is answered only where that count rose in the call. The
-//! stream then has its bytes as before: none is lost, and none is added.
+//! stream then has its bytes as before: none is lost, and none is added. A source is at its end
+//! only where a read gave no byte, and a sink is finished only by `finish`, whatever the streams are.
 #![tactic(auto)]
 
 mod calls;
-mod counted_writer;
 mod mem_sink;
 mod mem_source;
 mod sink;
 mod source;
-mod std_err;
-mod std_out;
+mod std_sink;
 mod std_source;
 #[cfg(test)]
 mod tests;
@@ -25,7 +25,6 @@ pub use mem_sink::MemSink;
 pub use mem_source::MemSource;
 pub use sink::{Sink, WriteFailed};
 pub use source::{ReadFailed, Source};
-pub use std_err::StdErr;
-pub use std_out::StdOut;
+pub use std_sink::StdSink;
 pub use std_source::StdSource;
 pub use whole::{ReadAll, read_all, write_all};

@@ -20,6 +20,8 @@ pub struct MemSink {
     /// The most that one write takes. It never changes.
     piece: usize,
     calls: Calls,
+    /// Whether `finish` succeeded, and nothing was written after it.
+    finished: bool,
 }
 
 impl Model for MemSink {
@@ -34,6 +36,7 @@ impl Model for MemSink {
       failing = s.calls.failing.items;
       calls = s.calls.made;
       faults = s.calls.faults;
+      finished = s.finished;
     } };
 
     ghost invariant = { λ s. 0 < s.piece };
@@ -57,6 +60,7 @@ impl MemSink {
             bytes: Vec::new(alloc),
             piece,
             calls: Calls::new(failing),
+            finished: false,
         }
     }
 
@@ -69,9 +73,11 @@ impl MemSink {
 }
 
 impl Sink for MemSink {
-    ghost written = { λ s. Some s.written };
-
-    ghost faults = { λ s. s.faults };
+    ghost facts = { λ s. record {
+      written = Some s.written;
+      faults = s.faults;
+      finished = s.finished;
+    } };
 
     /// Takes as many of the bytes as the piece allows. Beside what was written so far, which moves
     /// now and then as it grows, the cost grows with them and with the plan's length.
@@ -89,6 +95,7 @@ impl Sink for MemSink {
             self.calls.count_fault();
             return Err(WriteFailed);
         }
+        self.finished = false;
         Ok(count)
     }
 
@@ -102,6 +109,7 @@ impl Sink for MemSink {
             self.calls.count_fault();
             return Err(WriteFailed);
         }
+        self.finished = true;
         Ok(())
     }
 }

@@ -19,6 +19,8 @@ pub struct MemSource {
     /// The most that one read gives. It never changes.
     piece: usize,
     calls: Calls,
+    /// Whether the last read that succeeded gave no byte.
+    at_end: bool,
 }
 
 impl Model for MemSource {
@@ -33,6 +35,7 @@ impl Model for MemSource {
       failing = s.calls.failing.items;
       calls = s.calls.made;
       faults = s.calls.faults;
+      at_end = s.at_end;
     } };
 
     ghost invariant = { λ s. (s.place ≤ vec_len s.bytes) × (0 < s.piece) };
@@ -57,14 +60,17 @@ impl MemSource {
             place: 0,
             piece,
             calls: Calls::new(failing),
+            at_end: false,
         }
     }
 }
 
 impl Source for MemSource {
-    ghost left = { λ s. Some s.left };
-
-    ghost faults = { λ s. s.faults };
+    ghost facts = { λ s. record {
+      left = Some s.left;
+      faults = s.faults;
+      at_end = s.at_end;
+    } };
 
     /// Gives as many of the bytes as the piece and the buffer allow. The cost grows with them, and
     /// with the plan's length.
@@ -87,6 +93,7 @@ impl Source for MemSource {
         let end = self.place + count;
         buf[..count].copy_from_slice(&self.bytes[self.place..end]);
         self.place = end;
+        self.at_end = count == 0;
         Ok(count)
     }
 }

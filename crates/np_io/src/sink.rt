@@ -1,8 +1,10 @@
 //! What bytes are written to.
 
-ghost use Rattle.std.specs.Prelude.{◌≡◌, ◌≤◌, ◌<◌, ℕ, List, length, take, Option, IfOk, OnErr};
+ghost use Rattle.std.specs.Prelude.{◌≡◌, ◌≤◌, ◌<◌, ℕ, Bool, List, length, take, Option, IfOk, OnErr};
 ghost use Rattle.np_io.specs.Bytes.{Appends};
 ghost use Rattle.np_io.specs.Counts.{Rose};
+ghost use Rattle.np_io.specs.Ends.{opened_by, finished_by};
+ghost use Rattle.np_io.specs.Facts.{SinkFacts};
 
 /// A call of a sink failed. The sink's count of faults rose, and the call wrote no byte.
 #[derive(Clone, Copy, Debug, PartialEq, Eq)]
@@ -10,11 +12,9 @@ pub struct WriteFailed;
 
 /// Something to write bytes to.
 pub trait Sink {
-    /// The bytes written so far, where the sink tells them.
-    ghost written: { Self → Option (List ℕ) };
-
-    /// How often a call failed. It never falls.
-    ghost faults: { Self → ℕ };
+    /// What is known of the sink: the bytes written so far where it tells them, how many calls
+    /// failed, and whether the output is finished.
+    ghost facts: { Self → SinkFacts };
 
     /// Writes the first of `bytes`, and answers how many: at least one, and fewer than all at any
     /// time.
@@ -23,16 +23,19 @@ pub trait Sink {
         ensures some { IfOk result (λ n. 0 < n) }
         ensures bound { IfOk result (λ n. n ≤ length bytes.now) }
         ensures written { IfOk result (λ n.
-            Appends (written self.old) (written self.new) (take n bytes.now)) }
+            Appends (facts self.old).written (facts self.new).written (take n bytes.now)) }
+        ensures finished { (facts self.new).finished ≡ opened_by (facts self.old).finished result }
 
         // A fault adds no byte.
-        ensures err { OnErr result (written self.new ≡ written self.old) }
-        ensures cause { OnErr result (Rose (faults self.old) (faults self.new)) }
-        ensures later { faults self.old ≤ faults self.new };
+        ensures err { OnErr result ((facts self.new).written ≡ (facts self.old).written) }
+        ensures cause { OnErr result (Rose (facts self.old).faults (facts self.new).faults) }
+        ensures later { (facts self.old).faults ≤ (facts self.new).faults };
 
     /// Ends the output: what was written goes out of every buffer. It changes no byte.
     fn finish(&mut self) -> Result<(), WriteFailed>
-        ensures kept { written self.new ≡ written self.old }
-        ensures cause { OnErr result (Rose (faults self.old) (faults self.new)) }
-        ensures later { faults self.old ≤ faults self.new };
+        ensures kept { (facts self.new).written ≡ (facts self.old).written }
+        ensures finished { (facts self.new).finished
+            ≡ finished_by (facts self.old).finished result }
+        ensures cause { OnErr result (Rose (facts self.old).faults (facts self.new).faults) }
+        ensures later { (facts self.old).faults ≤ (facts self.new).faults };
 }

@@ -3,9 +3,10 @@
 //! No contract says which bytes a real stream gives, so it tells none. What is promised is that
 //! each failure is counted, and that the caller gets what the reader gave.
 
-ghost use Rattle.std.specs.Prelude.{◌≡◌, ◌≤◌, ◌<◌, None, length, is_ok, if◌then◌else◌, IfOk};
+ghost use Rattle.std.specs.Prelude.{◌≡◌, ◌≤◌, ◌<◌, length, is_ok, if◌then◌else◌, IfOk, false};
 ghost use Rattle.std.specs.Io.KnownBytes.{ReadConsumes};
 ghost use Rattle.np_io.specs.Counts.{counted};
+ghost use Rattle.np_io.specs.Ends.{ended_by};
 
 use crate::source::{ReadFailed, Source};
 use std::io::Read;
@@ -16,28 +17,33 @@ use std::io::Read;
 #[derive(Drop)]
 pub struct StdSource<R: Read + Drop> {
     reader: R,
-    /// How often a read failed. It only rises, and stops at `u64::MAX`.
+    /// How many reads failed. It only rises, and stops at `u64::MAX`.
     faults: u64,
+    /// Whether the last read that succeeded gave no byte.
+    ended: bool,
 }
 
 impl<R: Read + Drop> StdSource<R> {
-    ghost use Rattle.np_io.specs.Streams.{reader_of, read_faults};
+    ghost use Rattle.np_io.specs.Streams.{reader_of, read_faults, read_ended};
 
     /// A source over `reader`, which takes from nowhere else.
     pub fn new(reader: R) -> StdSource<R>
         ensures reader { reader_of result ≡ reader }
         ensures faults { read_faults result ≡ 0 }
+        ensures at_end { read_ended result ≡ false }
     {
-        StdSource { reader, faults: 0 }
+        StdSource {
+            reader,
+            faults: 0,
+            ended: false,
+        }
     }
 }
 
 impl<R: Read + Drop> Source for StdSource<R> {
-    ghost use Rattle.np_io.specs.Streams.{reader_of, read_faults};
+    ghost use Rattle.np_io.specs.Streams.{reader_of, read_faults, read_ended, source_facts};
 
-    ghost left = { λ _. None };
-
-    ghost faults = { read_faults };
+    ghost facts = { source_facts };
 
     /// Reads from the reader once.
     fn read(&mut self, buf: &mut [u8]) -> Result<usize, ReadFailed>
@@ -47,10 +53,14 @@ impl<R: Read + Drop> Source for StdSource<R> {
             (R.remaining (reader_of self.new)) result buf.new }
         ensures faults { read_faults self.new
             ≡ (if is_ok result then read_faults self.old else counted (read_faults self.old)) }
+        ensures at_end { read_ended self.new ≡ ended_by (read_ended self.old) result }
         ensures later { read_faults self.old ≤ read_faults self.new }
     {
         match self.reader.read(buf) {
-            Ok(count) => Ok(count),
+            Ok(count) => {
+                self.ended = count == 0;
+                Ok(count)
+            }
             Err(_) => {
                 self.faults = self.faults.saturating_add(1);
                 Err(ReadFailed)

@@ -1,8 +1,9 @@
 //! Reading to the end, and writing all.
 
-ghost use Rattle.std.specs.Prelude.{◌≡◌, ◌+◌, ◌≤◌, ◌<◌, ℕ, List, [], Some, length, take, drop, IfOk, IfSome, OnOk, OnErr, IsErrOf, vec_len};
-ghost use Rattle.np_io.specs.Bytes.{Takes, Appends};
+ghost use Rattle.std.specs.Prelude.{◌≡◌, ◌+◌, ◌≤◌, ◌<◌, ℕ, true, List, [], Some, length, take, drop, IfOk, IfSome, OnOk, OnErr, IsErrOf, vec_len};
+ghost use Rattle.np_io.specs.Bytes.{Takes};
 ghost use Rattle.np_io.specs.Counts.{Rose};
+ghost use Rattle.np_io.specs.Facts.{IsWritten, IsCutShort};
 
 use crate::sink::{Sink, WriteFailed};
 use crate::source::{ReadFailed, Source};
@@ -47,20 +48,23 @@ const PIECE: usize = 65_536;
 /// Beside the bytes themselves it takes one piece of 64 KiB. The time grows with the bytes, and
 /// with the number of reads that bring them.
 pub fn read_all<S: Source>(alloc: Global, source: &mut S, limit: usize) -> Result<Vec<u8>, ReadAll>
-    ensures all { IfOk result (λ bytes. IfSome (S.left source.old) (λ came. bytes.items ≡ came)) }
-    ensures end { OnOk result (IfSome (S.left source.old) (λ _. S.left source.new ≡ Some [])) }
+    ensures all { IfOk result (λ bytes. IfSome (S.facts source.old).left (λ came.
+        bytes.items ≡ came)) }
+    ensures end { OnOk result (IfSome (S.facts source.old).left (λ _.
+        (S.facts source.new).left ≡ Some [])) }
+    ensures at_end { OnOk result ((S.facts source.new).at_end ≡ true) }
     ensures fits { IfOk result (λ bytes. vec_len bytes ≤ limit) }
 
     // One byte past the limit is taken.
-    ensures too_long { IsErrOf result ReadAll.TooLong → IfSome (S.left source.old) (λ came.
-        (limit < length came) × (S.left source.new ≡ Some (drop (limit + 1) came))) }
+    ensures too_long { IsErrOf result ReadAll.TooLong → IfSome (S.facts source.old).left (λ came.
+        (limit < length came) × ((S.facts source.new).left ≡ Some (drop (limit + 1) came))) }
     ensures fault { IsErrOf result ReadAll.ReadFault
-        → Rose (S.faults source.old) (S.faults source.new) }
+        → Rose (S.facts source.old).faults (S.facts source.new).faults }
 
     // Whatever the answer, the bytes were taken from the front.
     ensures taken { (bytes : List ℕ) × (length bytes ≤ limit + 1)
-        × Takes (S.left source.old) (S.left source.new) bytes }
-    ensures later { S.faults source.old ≤ S.faults source.new }
+        × Takes (S.facts source.old).left (S.facts source.new).left bytes }
+    ensures later { (S.facts source.old).faults ≤ (S.facts source.new).faults }
 {
     let mut piece = vec![in alloc; 0u8; PIECE]?;
     let mut bytes = Vec::new(alloc);
@@ -78,16 +82,18 @@ fn read_pieces<S: Source>(
     requires room { 0 < length piece.old }
     requires empty { bytes.old.items ≡ [] }
 
-    ensures all { OnOk result (IfSome (S.left source.old) (λ came. bytes.new.items ≡ came)) }
-    ensures end { OnOk result (IfSome (S.left source.old) (λ _. S.left source.new ≡ Some [])) }
+    ensures all { OnOk result (IfSome (S.facts source.old).left (λ came. bytes.new.items ≡ came)) }
+    ensures end { OnOk result (IfSome (S.facts source.old).left (λ _.
+        (S.facts source.new).left ≡ Some [])) }
+    ensures at_end { OnOk result ((S.facts source.new).at_end ≡ true) }
     ensures fits { OnOk result (vec_len bytes.new ≤ limit) }
-    ensures too_long { IsErrOf result ReadAll.TooLong → IfSome (S.left source.old) (λ came.
-        (limit < length came) × (S.left source.new ≡ Some (drop (limit + 1) came))) }
+    ensures too_long { IsErrOf result ReadAll.TooLong → IfSome (S.facts source.old).left (λ came.
+        (limit < length came) × ((S.facts source.new).left ≡ Some (drop (limit + 1) came))) }
     ensures fault { IsErrOf result ReadAll.ReadFault
-        → Rose (S.faults source.old) (S.faults source.new) }
+        → Rose (S.facts source.old).faults (S.facts source.new).faults }
     ensures taken { (bytes : List ℕ) × (length bytes ≤ limit + 1)
-        × Takes (S.left source.old) (S.left source.new) bytes }
-    ensures later { S.faults source.old ≤ S.faults source.new }
+        × Takes (S.facts source.old).left (S.facts source.new).left bytes }
+    ensures later { (S.facts source.old).faults ≤ (S.facts source.new).faults }
 {
     'pieces: loop {
         let room = limit - bytes.len();
@@ -107,13 +113,11 @@ fn read_pieces<S: Source>(
 ///
 /// The time grows with the bytes, and with the number of writes that take them.
 pub fn write_all<K: Sink>(sink: &mut K, bytes: &[u8]) -> Result<(), WriteFailed>
-    ensures ok { OnOk result (Appends (K.written sink.old) (K.written sink.new) bytes.now) }
+    ensures ok { OnOk result (IsWritten (K.facts sink.old) (K.facts sink.new) bytes.now) }
 
     // The bytes before the fault are out.
-    ensures err { OnErr result ((n : ℕ) × (n ≤ length bytes.now)
-        × Appends (K.written sink.old) (K.written sink.new) (take n bytes.now)) }
-    ensures cause { OnErr result (Rose (K.faults sink.old) (K.faults sink.new)) }
-    ensures later { K.faults sink.old ≤ K.faults sink.new }
+    ensures err { OnErr result (IsCutShort (K.facts sink.old) (K.facts sink.new) bytes.now) }
+    ensures later { (K.facts sink.old).faults ≤ (K.facts sink.new).faults }
 {
     let mut written = 0;
     while written < bytes.len() {

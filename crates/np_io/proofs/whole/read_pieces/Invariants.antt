@@ -6,8 +6,8 @@ use Rattle.np_io.proofs.whole.read_pieces.Given as goal
 abbrev pub invariant-pieces : goal.invariant-pieces
 invariant-pieces g l = record {
   fits : vec_len l.bytes ≤ l.limit;
-  taken : Takes (g.S.Source.left l.fn.source) (g.S.Source.left l.source) l.bytes.items;
-  later : g.S.Source.faults l.fn.source ≤ g.S.Source.faults l.source;
+  taken : Takes (g.S.Source.facts l.fn.source).left (g.S.Source.facts l.source).left l.bytes.items;
+  later : (g.S.Source.facts l.fn.source).faults ≤ (g.S.Source.facts l.source).faults;
 }
 
 -- each turn takes a byte at least
