@@ -9,4 +9,6 @@ pub mod FateLines
 pub mod OneRun
 pub mod Playing
 pub mod SafePlay
-pub mod Reading
+pub mod LinesRead
+pub mod FirstFault
+pub mod Playable

@@ -1,5 +1,6 @@
+pub mod Lines
 pub mod Script
 pub mod Text
 pub mod Played
-pub mod Safe
+pub mod Printed
 pub mod Summary

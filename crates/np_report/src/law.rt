@@ -1,15 +1,20 @@
 //! Laws of the Text. Each function does nothing: its contract is the law.
 
-ghost use Rattle.std.specs.Prelude.{◌≡◌, ◌≤◌, List, length};
+ghost use Rattle.std.specs.Prelude.{◌≡◌, ◌↔◌, ℕ, List, Err};
 ghost use Rattle.std.specs.List.{AllByRecursion};
 ghost use Rattle.np_site.specs.Configuration.{Configuration};
 ghost use Rattle.np_site.specs.Sound.{IsSound};
 ghost use Rattle.np_event.specs.declared.entry.Entry.{Entry};
-ghost use Rattle.np_event.specs.Line.{HasEventLine, HasEntryLine};
+ghost use Rattle.np_event.specs.declared.fault.LineFault.{LineFault};
+ghost use Rattle.np_event.specs.Line.{HasEntryLine};
 ghost use Rattle.np_machine.specs.State.{State};
 ghost use Rattle.np_machine.specs.History.{Runs};
 ghost use Rattle.np_report.specs.declared.script.Script.{Script};
-ghost use Rattle.np_report.specs.Safe.{IsPlayed};
+ghost use Rattle.np_report.specs.declared.lines.LinesFault.TheVariants.{Line};
+ghost use Rattle.np_report.specs.Lines.{IsFirstFault};
+ghost use Rattle.np_report.specs.Played.{played};
+ghost use Rattle.np_report.specs.Printed.{IsPrinted};
+ghost use Rattle.np_report.specs.Script.{IsPlayable, event_said, events_of, most_lines};
 ghost use Rattle.np_report.specs.Text.{text_of};
 
 /// A Text tells its run: two sound configurations, as each `Config` is, and two runs whose entries
@@ -21,9 +26,18 @@ pub fn a_text_tells_its_run()
         text_of c j ≡ text_of d k → (c ≡ d) × (j ≡ k) }
 {}
 
-/// The events of a script, played over its configuration, make a run of the machine, of which all
-/// that `HoldsThroughout` says holds after every step.
+/// What the Text of a script's run shows: that its events are played into a run of the machine, of
+/// which all that `HoldsThroughout` says holds after every step.
 pub fn a_script_plays_safely()
-    ensures { (script : Script) → length script.events ≤ 262144 →
-        AllByRecursion HasEventLine script.events → IsPlayed script }
+    ensures { (script : Script) → IsPlayable script → IsPrinted script.config
+        (played script.config script.events)
+        (text_of script.config (played script.config script.events)) }
+{}
+
+/// Which fault the event lines of a script have: that of line n exactly where each line before it
+/// reads as an event, and it does not.
+pub fn the_first_line_at_fault_is_told()
+    ensures { (lines : List (List ℕ)) (n : ℕ) (fault : LineFault) →
+        (events_of lines ≡ Err (Line n fault))
+        ↔ IsFirstFault event_said most_lines 1 lines n fault }
 {}

@@ -3,10 +3,12 @@
 ghost use Rattle.std.specs.Prelude.{◌≡◌, ◌+◌, ◌≤◌, ◌++◌, ◌∷◌, [], drop, length, OnOk, IfOk};
 ghost use Rattle.std.specs.List.{AllByRecursion};
 ghost use Rattle.np_text.specs.Lines.{line};
+ghost use Rattle.np_site.specs.Sound.{IsSound};
 ghost use Rattle.np_event.specs.Line.{HasEventLine, entry_line};
 ghost use Rattle.np_machine.specs.Fates.{fates};
 ghost use Rattle.np_machine.specs.History.{Runs};
 ghost use Rattle.np_told.specs.Told.{IsToldEntry};
+ghost use Rattle.np_report.specs.Printed.{IsPrinted};
 ghost use Rattle.np_report.specs.Text.{text_of, job_text, entry_lines, fate_lines};
 
 use crate::fate::put_fate;
@@ -70,11 +72,15 @@ fn put_fates<L: Look>(out: &mut Vec<u8>, look: &L) -> Result<(), NoMemory>
     Ok(())
 }
 
-/// The whole Text of a run: the canonical configuration, a line `%%`, a line for each entry, refused
-/// ones too, a line `%%`, and a line for what became of each job, in job order. The time grows with
-/// the length of the Text.
+/// It does nothing: a configuration that can be looked at is sound.
+fn is_sound<L: Look>(look: &L)
+    ensures { IsSound (L.site look.now) }
+{
+    look.config().soundness();
+}
+
 #[tactic(auto, unfolding(crate::specs::Text::text_of))]
-pub fn text<L: Look>(alloc: Global, look: &L, journal: &[Entry]) -> Result<Vec<u8>, NoMemory>
+fn parts<L: Look>(alloc: Global, look: &L, journal: &[Entry]) -> Result<Vec<u8>, NoMemory>
     requires runs { Runs (L.site look.now) journal.now (L.state look.now) }
     requires lines { AllByRecursion (λ e. HasEventLine e.event) journal.now }
     ensures { IfOk result (λ text. text.items ≡ text_of (L.site look.now) journal.now) }
@@ -87,4 +93,19 @@ pub fn text<L: Look>(alloc: Global, look: &L, journal: &[Entry]) -> Result<Vec<u
     out.extend_from_slice(b"%%\n")?;
     put_fates(&mut out, look)?;
     Ok(out)
+}
+
+/// The whole Text of a run: the canonical configuration, a line `%%`, a line for each entry, refused
+/// ones too, a line `%%`, and a line for what became of each job, in job order. The time grows with
+/// the length of the Text.
+pub fn text<L: Look>(alloc: Global, look: &L, journal: &[Entry]) -> Result<Vec<u8>, NoMemory>
+    requires runs { Runs (L.site look.now) journal.now (L.state look.now) }
+    requires lines { AllByRecursion (λ e. HasEventLine e.event) journal.now }
+    ensures { IfOk result (λ text. IsPrinted (L.site look.now) journal.now text.items) }
+{
+    is_sound(look);
+    match parts(alloc, look, journal) {
+        Ok(text) => Ok(text),
+        Err(want) => Err(want),
+    }
 }

@@ -1,9 +1,7 @@
-use Rattle.std.proofs.Common.{subst}
-use Rattle.np_site.specs.Sound.{IsSound}
-use Rattle.np_told.proofs.ToldRuns.{told-Runs}
+use Rattle.np_report.proofs.SafePlay.{printed-Runs}
 use Rattle.np_report.proofs.print.text.Goals as goal
 
-pub put_entries-requires : goal.put_entries-requires
-put_entries-requires g c =
-    told-Runs (g.L.Look.site c.args.look.now) c.args.journal.now (g.L.Look.state c.args.look.now)
-    (subst IsSound c.config-config.ensures c.soundness.ensures) c.requires.runs c.requires.lines
+pub returns-in-Ok : goal.returns-in-Ok
+returns-in-Ok g c =
+    printed-Runs (g.L.Look.site c.args.look.now) c.args.journal.now (g.L.Look.state c.args.look.now) c.in-Ok.text.items
+    c.is_sound.ensures c.requires.runs c.requires.lines c.in-Ok.ensures

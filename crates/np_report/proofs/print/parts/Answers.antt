@@ -1,0 +1,9 @@
+use Rattle.std.proofs.Common.{subst}
+use Rattle.np_site.specs.Sound.{IsSound}
+use Rattle.np_told.proofs.ToldRuns.{told-Runs}
+use Rattle.np_report.proofs.print.parts.Goals as goal
+
+pub put_entries-requires : goal.put_entries-requires
+put_entries-requires g c =
+    told-Runs (g.L.Look.site c.args.look.now) c.args.journal.now (g.L.Look.state c.args.look.now)
+    (subst IsSound c.config-config.ensures c.soundness.ensures) c.requires.runs c.requires.lines
