@@ -1,15 +1,23 @@
 //! The top call: all that the program does, over any source and any sinks.
 //!
-//! Read the clauses of `poolsim` with `specs/Answer` (what is printed, and the lines on err) and
-//! `specs/Causes` (why the work stopped). Nothing is printed on out before all of the input was read
-//! and the whole Text stands in memory.
+//! `specs/Command` says which words are a command. Each command is a public function with a record
+//! of clauses in a file of its own, as `specs/Replay`: it works out an `Ending`, and `tell` writes
+//! that to the sinks (`specs/Told`). `poolsim` reads the words and calls the command. Nothing is
+//! printed on out before all of the input was read and the whole text stands in memory.
 #![tactic(auto)]
 
+mod command;
+mod ending;
+mod input;
 mod lines;
-mod replay;
-mod stop;
+mod replaying;
+mod telling;
 #[cfg(test)]
 mod tests;
 mod top;
 
+pub use command::{Command, command_of};
+pub use ending::Ending;
+pub use replaying::replay;
+pub use telling::tell;
 pub use top::poolsim;

@@ -1,13 +1,11 @@
-//! The lines on err.
+//! The lines that tell a script's fault.
 
-ghost use Rattle.std.specs.Prelude.{◌≡◌, ◌≤◌, ◌⊎◌, ◌++◌, codes, IfOk, OnOk};
-ghost use Rattle.np_io.specs.Bytes.{Appends};
-ghost use Rattle.np_io.specs.Counts.{Rose};
-ghost use Rattle.np_top.specs.Answer.{kind_text, config_line, fault_text, event_line};
+ghost use Rattle.std.specs.Prelude.{◌≡◌, ◌++◌, codes, IfOk, OnOk};
+ghost use Rattle.np_top.specs.Lines.{kind_text, config_line, fault_text, event_line, script_line, script_status};
 
 use np_event::LineFault;
-use np_io::{Sink, write_all};
 use np_json::{ConfigFault, ConfigKind};
+use np_report::{LinesFault, ScriptFault};
 use np_text::{NoMemory, put_number};
 use std::alloc::Global;
 
@@ -28,8 +26,8 @@ fn kind_name(kind: ConfigKind) -> &'static [u8]
 }
 
 /// The line of a configuration's fault.
-#[tactic(auto, unfolding(crate::specs::Answer::config_line))]
-pub(crate) fn line_of_fault(alloc: Global, fault: &ConfigFault) -> Result<Vec<u8>, NoMemory>
+#[tactic(auto, unfolding(crate::specs::Lines::config_line))]
+fn line_of_config(alloc: Global, fault: &ConfigFault) -> Result<Vec<u8>, NoMemory>
     ensures { IfOk result (λ line. line.items ≡ config_line fault.now) }
 {
     let mut line = Vec::from_slice(alloc, b"poolsim: configuration: ")?;
@@ -61,12 +59,8 @@ fn put_fault(line: &mut Vec<u8>, fault: LineFault) -> Result<(), NoMemory>
 }
 
 /// The line of an event line's fault.
-#[tactic(auto, unfolding(crate::specs::Answer::event_line))]
-pub(crate) fn line_of_event(
-    alloc: Global,
-    number: u32,
-    fault: LineFault,
-) -> Result<Vec<u8>, NoMemory>
+#[tactic(auto, unfolding(crate::specs::Lines::event_line))]
+fn line_of_event(alloc: Global, number: u32, fault: LineFault) -> Result<Vec<u8>, NoMemory>
     ensures { IfOk result (λ line. line.items ≡ event_line number (fault_text fault)) }
 {
     let mut line = Vec::from_slice(alloc, b"poolsim: script: line ")?;
@@ -78,8 +72,8 @@ pub(crate) fn line_of_event(
 }
 
 /// The line of an event line that is one too many.
-#[tactic(auto, unfolding(crate::specs::Answer::event_line))]
-pub(crate) fn line_of_too_many(alloc: Global, number: u32) -> Result<Vec<u8>, NoMemory>
+#[tactic(auto, unfolding(crate::specs::Lines::event_line))]
+fn line_of_too_many(alloc: Global, number: u32) -> Result<Vec<u8>, NoMemory>
     ensures { IfOk result (λ line. line.items ≡ event_line number (codes "too-many")) }
 {
     let mut line = Vec::from_slice(alloc, b"poolsim: script: line ")?;
@@ -88,14 +82,29 @@ pub(crate) fn line_of_too_many(alloc: Global, number: u32) -> Result<Vec<u8>, No
     Ok(line)
 }
 
-/// Tells a line on err, and answers the status, or 6 where the write failed.
-pub(crate) fn say<E: Sink>(err: &mut E, line: &[u8], status: u8) -> u8
-    ensures told { ((result ≡ status) × Appends (E.written err.old) (E.written err.new) line.now)
-        ⊎ ((result ≡ 6) × Rose (E.faults err.old) (E.faults err.new)) }
-    ensures later { E.faults err.old ≤ E.faults err.new }
+/// The line of a script's fault. The time and the memory grow with the pointer of a fault of the
+/// configuration.
+pub(crate) fn line_of_script(alloc: Global, fault: &ScriptFault) -> Result<Vec<u8>, NoMemory>
+    ensures { IfOk result (λ line. line.items ≡ script_line fault.now) }
 {
-    match write_all(err, line) {
-        Ok(()) => status,
-        Err(_) => 6,
+    match fault {
+        ScriptFault::Config(fault) => line_of_config(alloc, fault),
+        ScriptFault::NoSeparator => {
+            Ok(Vec::from_slice(alloc, b"poolsim: script: no separator\n")?)
+        }
+        ScriptFault::Lines(LinesFault::Line { line, fault }) => {
+            line_of_event(alloc, *line, *fault)
+        }
+        ScriptFault::Lines(LinesFault::TooMany { line }) => line_of_too_many(alloc, *line),
+    }
+}
+
+/// The status of a script's fault: 3 for one of the configuration, else 4.
+pub(crate) fn status_of_script(fault: &ScriptFault) -> u8
+    ensures { result ≡ script_status fault.now }
+{
+    match fault {
+        ScriptFault::Config(_) => 3,
+        ScriptFault::NoSeparator | ScriptFault::Lines(_) => 4,
     }
 }

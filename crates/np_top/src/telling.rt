@@ -1,0 +1,46 @@
+//! Writing how a command ended.
+
+ghost use Rattle.np_top.specs.Told.{IsSaid, IsShown, IsTold};
+
+use crate::ending::Ending;
+use np_io::{Sink, write_all};
+
+/// Writes a line to err, and answers the status, or 6 where err failed.
+fn say<E: Sink>(err: &mut E, line: &[u8], status: u8) -> u8
+    ensures { IsSaid (E.facts err.old) (E.facts err.new) line.now status result }
+{
+    match write_all(err, line) {
+        Ok(()) => status,
+        Err(_) => 6,
+    }
+}
+
+/// Writes a text to out, and answers the status, or 6 where out failed, of which err then tells.
+fn show<K: Sink, E: Sink>(out: &mut K, err: &mut E, text: &[u8], status: u8) -> u8
+    ensures { IsShown K.facts E.facts out.old out.new err.old err.new text.now status result }
+{
+    match write_all(out, text) {
+        Ok(()) => status,
+        Err(_) => say(err, b"poolsim: write fault\n", 6),
+    }
+}
+
+/// Writes how a command ended, and answers the program's status: a text to out, or a line to err.
+/// Where out fails, a line on err tells that. The status is 6 where out or err failed. It takes no
+/// memory, and time in the length of what is written.
+pub fn tell<K: Sink, E: Sink>(out: &mut K, err: &mut E, ending: &Ending) -> u8
+    ensures { IsTold K.facts E.facts out.old out.new err.old err.new ending.now result }
+{
+    match ending {
+        Ending::Prints { text, status } => show(out, err, text.as_slice(), *status),
+        Ending::Says { line, status } => say(err, line.as_slice(), *status),
+        Ending::NoCommand => say(
+            err,
+            b"poolsim: usage: poolsim replay | run | audit | drill N\n",
+            2,
+        ),
+        Ending::ReadFault => say(err, b"poolsim: read fault\n", 5),
+        Ending::TooLong => say(err, b"poolsim: input is longer than 67108864 bytes\n", 5),
+        Ending::NoMemory => say(err, b"poolsim: out of memory\n", 7),
+    }
+}
