@@ -1,27 +1,39 @@
 //! poolsim over the real streams.
 #![tactic(auto)]
 
-use np_io::{StdErr, StdOut, StdSource};
-use np_top::poolsim;
+use np_io::{StdSink, StdSource};
+use np_top::{Ending, poolsim, tell};
+use std::io::ErrorKind;
 use std::process::ExitCode;
 
-/// The words after the program's name, or none where they cannot be had.
-fn words_of(rt: &HostRuntime) -> Option<Vec<String>> {
-    let args = std::env::args(rt).ok()?;
-    args.skip(1).collect(rt.alloc()).ok()
+/// The words after the program's name, or how the program ends without them: words of which one is
+/// invalid UTF-8 are no command.
+fn words_of(rt: &HostRuntime) -> Result<Vec<String>, Ending> {
+    match std::env::args(rt) {
+        Ok(args) => match args.skip(1).collect(rt.alloc()) {
+            Ok(words) => Ok(words),
+            Err(_) => Err(Ending::NoMemory),
+        },
+        Err(error) => match error.kind() {
+            ErrorKind::OutOfMemory => Err(Ending::NoMemory),
+            _ => Err(Ending::NoCommand),
+        },
+    }
 }
 
 fn main(rt: HostRuntime) -> ExitCode {
-    let words = words_of(&rt).unwrap_or(Vec::new(rt.alloc()));
     let mut source = StdSource::new(rt.stdin());
-    let mut out = StdOut::new(rt.stdout());
-    let mut err = StdErr::new(rt.stderr());
-    let status = poolsim(
-        rt.alloc(),
-        words.as_slice(),
-        &mut source,
-        &mut out,
-        &mut err,
-    );
+    let mut out = StdSink::new(rt.stdout());
+    let mut err = StdSink::new(rt.stderr());
+    let status = match words_of(&rt) {
+        Err(ending) => tell(&mut out, &mut err, &ending),
+        Ok(words) => poolsim(
+            rt.alloc(),
+            words.as_slice(),
+            &mut source,
+            &mut out,
+            &mut err,
+        ),
+    };
     ExitCode::from(status)
 }
