@@ -1,0 +1,9 @@
+pub mod SiblingLemmas
+pub mod RowLemmas
+pub mod FindLemmas
+pub mod RelationLemmas
+pub mod GoesLemmas
+pub mod SeveralLemmas
+pub mod RoomLemmas
+pub mod ClearLemmas
+pub mod ElsewhereLemmas

@@ -1,0 +1,4 @@
+pub mod Views
+pub mod Relations
+pub mod Goes
+pub mod Several

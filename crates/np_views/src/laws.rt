@@ -1,0 +1,116 @@
+//! Laws of what a tree shows. Each function does nothing: its contract is the law.
+
+ghost use Rattle.np_views.specs.Goes.{ChecksGo, CreatesGo, CreatesUnderGo, DeletesGo, SetsGo};
+ghost use Rattle.np_views.specs.Relations.{CreatesAnswer, CreatesShow, CreatesUnderShow, DeletesShow, EndsShow, NothingBelowNothing, PartsChangeNodesAlone, RaisesShow, RowsRise, SeenIsRow, SetsShow};
+ghost use Rattle.np_views.specs.Several.{AnsweredGoes, ChecksLeaveTheTree, ClearsEmpty, ClearsGo, Elsewhere, GoesAfter, GoesAnswered, GoesEmpty, GoesFront, GoesJoined, GoesUnderOneNumber, GoesUnrefused, GoesWhole, PathsAreTheirParts, RoomFalls, RoomGives};
+
+/// The rows of a directory stand in byte order of their names, each name once, and what is seen at a
+/// path is the row of that name.
+pub fn rows_are_what_is_seen()
+    ensures rise { RowsRise }
+    ensures seen { SeenIsRow }
+{}
+
+/// Nothing stands below a path where nothing stands.
+pub fn nothing_stands_below_nothing()
+    ensures { NothingBelowNothing }
+{}
+
+/// An accepted create makes one row more in its directory, and raises its counter where the node is
+/// a sequence node. Everything else stays.
+pub fn creates()
+    ensures answer { CreatesAnswer }
+    ensures shows { CreatesShow }
+    ensures under { CreatesUnderShow }
+{}
+
+/// An accepted set changes the bytes of one row. Everything else stays.
+pub fn sets()
+    ensures { SetsShow }
+{}
+
+/// An accepted delete removes one row. Everything else stays.
+pub fn deletes()
+    ensures { DeletesShow }
+{}
+
+/// The end of a session removes the rows that it owns, in every directory. Everything else stays.
+pub fn ends()
+    ensures { EndsShow }
+{}
+
+/// A counter that is raised is the only change.
+pub fn raises()
+    ensures { RaisesShow }
+{}
+
+/// A part of a call changes neither sessions nor the change number.
+pub fn parts_change_nodes_alone()
+    ensures { PartsChangeNodesAlone }
+{}
+
+/// A create is accepted where the session is live, the directory stands and no session owns it, the
+/// bytes are short enough, its counter is not spent, nothing stands at the path, and there is room.
+pub fn create_goes()
+    ensures create { CreatesGo }
+    ensures under { CreatesUnderGo }
+{}
+
+/// A set of any version is accepted where the node stands, the bytes are short enough and there is room.
+pub fn set_goes()
+    ensures { SetsGo }
+{}
+
+/// A delete of any version is accepted where the node stands below a directory, with nothing below it,
+/// and there is a change number.
+pub fn delete_goes()
+    ensures { DeletesGo }
+{}
+
+/// A check of any version is accepted where the node stands.
+pub fn check_goes()
+    ensures { ChecksGo }
+{}
+
+/// Parts that go: none, one more in front, and more behind.
+pub fn goes_joined()
+    ensures empty { GoesEmpty }
+    ensures front { GoesFront }
+    ensures joined { GoesJoined }
+{}
+
+/// A `multi` of parts that go is refused nowhere, and leaves what they leave under one number; where
+/// all of them are checks it leaves the tree. The parts of a `multi` that is answered go.
+pub fn goes_is_multi()
+    ensures answered { GoesAnswered }
+    ensures after { GoesAfter }
+    ensures unrefused { GoesUnrefused }
+    ensures number { GoesUnderOneNumber }
+    ensures checks { ChecksLeaveTheTree }
+    ensures back { AnsweredGoes }
+{}
+
+/// Parts that go leave the rows of each directory that none of them names as its own, and leave the
+/// nodes whole.
+pub fn elsewhere()
+    ensures rows { Elsewhere }
+    ensures whole { GoesWhole }
+{}
+
+/// Room for one part or more is what a part asks of the numbers, and each part lowers it by one.
+pub fn room_falls_by_one()
+    ensures gives { RoomGives }
+    ensures falls { RoomFalls }
+{}
+
+/// The children of a directory, with nothing below them, can all be deleted in one call, which leaves
+/// the directory empty.
+pub fn clears()
+    ensures goes { ClearsGo }
+    ensures empty { ClearsEmpty }
+{}
+
+/// A path below a directory is told by its directory and its name.
+pub fn paths_are_their_parts()
+    ensures { PathsAreTheirParts }
+{}

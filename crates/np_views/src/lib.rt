@@ -1,0 +1,15 @@
+//! What a tree shows, and how calls change it, for the layers above: no node record appears here.
+//!
+//! `specs/Views` defines the rows of a directory and what is seen at a path. `specs/Relations` says
+//! what each accepted part of a call changes of them, `specs/Goes` from which facts a part is
+//! accepted, and `specs/Several` what several parts in one call leave. Each law is a public function
+//! that does nothing: its contract is the law.
+#![tactic(auto)]
+
+mod laws;
+
+pub use laws::{
+    check_goes, clears, create_goes, creates, delete_goes, deletes, elsewhere, ends, goes_is_multi,
+    goes_joined, nothing_stands_below_nothing, parts_change_nodes_alone, paths_are_their_parts,
+    raises, room_falls_by_one, rows_are_what_is_seen, set_goes, sets,
+};
