@@ -1,0 +1,125 @@
+-- how a queue changes with the tree
+use Rattle.std.proofs.Common.{◌≡◌, ℕ, Bool, true, false, not, cond, List, [], ◌∷◌, ◌++◌, map, Option, Some, None, Result, Ok, Err, refl, sym, ap, ◌∙◌, subst}
+use Rattle.std.specs.Prelude.{IsOk, filter, ◌==◌, slice_get}
+use Rattle.std.specs.Bool.{OnFalse, OnTrue}
+use Rattle.std.specs.List.{AllByRecursion}
+use Rattle.std.specs.Option.{option_map}
+use Rattle.std.proofs.lemmas.Bool.{eqb-true}
+use Rattle.np_lists.specs.Refusals.{◌>>=◌, ◌>>◌}
+use Rattle.np_lists.proofs.Each.{all-filter}
+use Rattle.np_lists.proofs.RisingLemmas.{Rises-filter}
+use Rattle.np_session.specs.Known.{without}
+use Rattle.np_nodes.specs.TreeState.{TreeState}
+use Rattle.np_nodes.specs.After.{after_end}
+use Rattle.np_nodes.specs.Answer.{delete_answer}
+use Rattle.np_nodes.specs.Nodes.{at_path, children_of, is_owner, stat_of}
+use Rattle.np_nodes.specs.declared.kind.Expect.TheVariants.{Any}
+use Rattle.np_nodes.specs.declared.kind.Stat.{Stat}
+use Rattle.np_nodes.specs.declared.node.Node.{Node}
+use Rattle.np_nodes.specs.declared.op.OpDone.TheVariants as done
+use Rattle.np_nodes.specs.declared.refusal.TreeRefusal.{TreeRefusal}
+use Rattle.np_tree.specs.Read.{counter_at, stat_of_child}
+use Rattle.np_tree.specs.Whole.{IsTree}
+use Rattle.np_tree.proofs.StandingLemmas.{children_of-ephemeral}
+use Rattle.np_views.specs.Relations.{is_kept}
+use Rattle.np_views.specs.Views.{Row, row_of, rows_at, seen_of}
+use Rattle.np_views.proofs.GoesLemmas.{unspent-goes}
+use Rattle.np_views.proofs.RelationLemmas.{ends-show}
+use Rattle.np_lock.specs.Calls.{join_answer}
+use Rattle.np_lock.specs.Laws.{EmptiesAreLocks, EndsLeave, PartsJoin, PartsLeave, QueuesAreShown}
+use Rattle.np_lock.specs.Queue.{IsGivenOut, IsLock, IsQueue, Wait, of_others, row_of_wait}
+use Rattle.np_lock.proofs.JoinLemmas.{Joins-accepted, queue-joined}
+use Rattle.np_lock.proofs.LeaveLemmas.{Leaves-path, left-sessions, left_by, of_session}
+use Rattle.np_lock.proofs.WaitLemmas.{queue-waits}
+
+pub queues-are-shown : QueuesAreShown
+queues-are-shown t u dir waits rows counter queue =
+    record { rows = rows ∙ queue.rows; given = subst (λ (o : Option ℕ). AllByRecursion (IsGivenOut o) waits) (sym counter) queue.given; once = queue.once }
+
+pub empties-are-locks : EmptiesAreLocks
+empties-are-locks t dir none = record { rows = none; given = tt; once = tt }
+
+-- ## parts
+
+made-of : (r : Result (List ℕ) TreeRefusal) → IsOk (r >>= (λ made. Ok (done.Created made))) → (made : List ℕ) × (r ≡ Ok made)
+made-of (Ok made) ok = (made, refl)
+made-of (Err refusal) ok = absurd cc
+
+pub parts-join : PartsJoin
+parts-join t s dir is whole lock none ok =
+    let made = made-of (join_answer t s dir) ok in
+    let joins = Joins-accepted t s dir made.0 lock.0 is whole lock.1 none made.1 in
+    ((lock.0 ++ record { number = joins.counter; session = s } ∷ [], joins.queue), queue-joined t s dir lock.0 lock.1 joins)
+
+ok-of : (r : Result (Unit {0}) TreeRefusal) → r ≡ Ok tt → IsOk (r >> Ok done.Deleted)
+ok-of r is = rw is refl
+
+pub parts-leave : PartsLeave
+parts-leave t s dir path is tree lock there change =
+    let leaves = Leaves-path t s dir path is tree lock there in
+    let ok : delete_answer t s path Any ≡ Ok tt = leaves.answer ∙ unspent-goes t change in
+    (ok-of (delete_answer t s path Any) ok, leaves.lock ok, leaves.queue ok)
+
+-- ## the end of a session
+
+kept-then : (s : ℕ) (w : Wait) (waits : List Wait) (b : Bool) → filter (is_kept s) (map row_of_wait waits) ≡ map row_of_wait (left_by s waits) →
+    cond (not b) (row_of_wait w ∷ filter (is_kept s) (map row_of_wait waits)) (filter (is_kept s) (map row_of_wait waits)) ≡ map row_of_wait (cond (not b) (w ∷ left_by s waits) (left_by s waits))
+kept-then s w waits true later = later
+kept-then s w waits false later = ap (λ (rows : List Row). row_of_wait w ∷ rows) later
+
+kept-waits : (s : ℕ) (waits : List Wait) → filter (is_kept s) (map row_of_wait waits) ≡ map row_of_wait (left_by s waits)
+kept-waits s [] = refl
+kept-waits s (w ∷ waits) = kept-then s w waits (w.session == s) (kept-waits s waits)
+
+-- the directory of a wait stands
+there-by : (nodes : List Node) (dir : List ℕ) (w : Wait) (o : Option Node) → at_path nodes dir ≡ o → IsGivenOut (option_map (λ (n : Node). n.facts.counter) o) w → (n : Node) × (at_path nodes dir ≡ Some n)
+there-by nodes dir w None there given = absurd given
+there-by nodes dir w (Some n) there given = (n, there)
+
+-- and no session owns it
+owner-by : (s : ℕ) (o : Option ℕ) (b : Bool) → is_owner s o ≡ b → (o ≡ Some s → ⊥) → is_owner s o ≡ false
+owner-by s None b is other = refl
+owner-by s (Some owner) false is other = is
+owner-by s (Some owner) true is other = absurd (other (ap Some (eqb-true owner s is)))
+
+stays : (t : TreeState) (s : ℕ) (dir : List ℕ) (w : Wait) (waits : List Wait) → IsTree t → IsQueue t dir (w ∷ waits) → counter_at (after_end t s) dir ≡ counter_at t dir
+stays t s dir w waits tree queue =
+    let node = there-by t.nodes dir w (at_path t.nodes dir) refl queue.given.0 in
+    let n : Node = node.0 in
+    let free : is_owner s n.facts.owner ≡ false = owner-by s n.facts.owner (is_owner s n.facts.owner) refl (λ owned.
+    let none : rows_at t dir ≡ [] = ap (map row_of) (children_of-ephemeral t.nodes dir n s tree.whole.stand node.1 owned) in
+    some-rows (sym queue.rows ∙ none)) in
+    (ends-show t s tree.whole).counters dir (seen_of n) (ap (option_map seen_of) node.1) free where
+      some-rows : {r : Row} {rs : List Row} → r ∷ rs ≡ [] → ⊥
+      some-rows e = cc
+
+given-end : (t : TreeState) (s : ℕ) (dir : List ℕ) (waits : List Wait) → IsTree t → IsQueue t dir waits → AllByRecursion (IsGivenOut (counter_at (after_end t s) dir)) (left_by s waits)
+given-end t s dir [] tree queue = tt
+given-end t s dir (w ∷ waits) tree queue =
+    all-filter (IsGivenOut (counter_at (after_end t s) dir)) (λ (v : Wait). not (of_session s v)) (w ∷ waits)
+    (subst (λ (o : Option ℕ). AllByRecursion (IsGivenOut o) (w ∷ waits)) (sym (stays t s dir w waits tree queue)) queue.given)
+
+IsQueue-end : (t : TreeState) (s : ℕ) (dir : List ℕ) (waits : List Wait) → IsTree t → IsQueue t dir waits → IsQueue (after_end t s) dir (left_by s waits)
+IsQueue-end t s dir waits tree queue = record {
+  rows = (ends-show t s tree.whole).rows dir ∙ ap (filter (is_kept s)) queue.rows ∙ kept-waits s waits;
+  given = given-end t s dir waits tree queue;
+  once = Rises-filter of_others (λ (v : Wait). not (of_session s v)) waits queue.once;
+}
+
+pub ends-leave : EndsLeave
+ends-leave t s dir tree lock =
+    let left = IsQueue-end t s dir lock.0 tree lock.1 in
+    ((left_by s lock.0, left), queue-waits (after_end t s) dir (left_by s lock.0) left ∙ left-sessions s lock.0 ∙ sym (ap (λ (q : List ℕ). without q s) (queue-waits t dir lock.0 lock.1)))
+
+-- ## what tests ask
+
+pub ends-lock : (t u : TreeState) (dir : List ℕ) (s : ℕ) (b : Bool) → IsTree t → IsLock t dir → OnTrue b (u ≡ after_end t s) → OnFalse b (u ≡ t) → IsLock u dir
+ends-lock t u dir s true tree lock gone same = subst (λ (v : TreeState). IsLock v dir) (sym gone) (ends-leave t s dir tree lock).0
+ends-lock t u dir s false tree lock gone same = subst (λ (v : TreeState). IsLock v dir) (sym same) lock
+
+free-by : (t : TreeState) (dir : List ℕ) (nodes : List Node) → children_of t.nodes dir ≡ nodes → None ≡ option_map (stat_of t.nodes) (slice_get nodes 0) → IsLock t dir
+free-by t dir [] none is = ([], record { rows = ap (map row_of) none; given = tt; once = tt })
+free-by t dir (n ∷ nodes) some is = absurd cc
+
+pub free-lock : (t : TreeState) (dir : List ℕ) → None ≡ stat_of_child t dir 0 → IsLock t dir
+free-lock t dir is = free-by t dir (children_of t.nodes dir) refl is

@@ -1,0 +1,331 @@
+-- a queue with one session fewer
+use Rattle.std.proofs.Common.{◌≡◌, ℕ, zero, suc, ◌+◌, ◌<◌, ◌≤◌, Bool, true, false, not, cond, List, [], ◌∷◌, ◌++◌, length, get_or, map, Option, Some, None, Ok, Err, refl, sym, ap, ◌∙◌, subst, arith}
+use Rattle.std.specs.Prelude.{filter, find, is_some, nat_lt, slice_get, ◌==◌}
+use Rattle.std.specs.List.{AllByRecursion, position_or_len}
+use Rattle.std.specs.Option.{option_map}
+use Rattle.std.proofs.lemmas.Bool.{eqb-true, ltb-false, ltb-true}
+use Rattle.std.proofs.lemmas.Bool.Decides.{nat_tests}
+use Rattle.std.proofs.lemmas.List.{length-map}
+use Rattle.std.proofs.lemmas.Option.{slice_get-get_or}
+use Rattle.std.proofs.lemmas.List.Folds.{find_at}
+use Rattle.np_text.specs.Number.{ten_digits_of}
+use Rattle.np_lists.specs.Refusals.{need}
+use Rattle.np_lists.specs.Rising.{NonePass, Rises}
+use Rattle.np_lists.proofs.Each.{all-filter, all-find, all-weaker}
+use Rattle.np_lists.proofs.FilterLemmas.{filter-not_none}
+use Rattle.np_lists.proofs.FoundLemmas.{find-passes}
+use Rattle.np_lists.proofs.RisingLemmas.{Rises-filter}
+use Rattle.np_path.specs.Faults.{name_fault}
+use Rattle.np_path.specs.Makes.{Makes}
+use Rattle.np_path.specs.declared.path.Path.{Path}
+use Rattle.np_path.specs.Grammar.{is_element, is_path}
+use Rattle.np_path.specs.Parts.{below, name_of, parent_of}
+use Rattle.np_path.proofs.PathLaws.{HasParts-below}
+use Rattle.np_path.proofs.PartsLemmas.{is_element-numbered, is_path-below}
+use Rattle.np_session.specs.Known.{is_in, without}
+use Rattle.np_nodes.specs.TreeState.{TreeState}
+use Rattle.np_nodes.specs.After.{after_delete}
+use Rattle.np_nodes.specs.Answer.{delete_answer}
+use Rattle.np_nodes.specs.Nodes.{at_path, children_of, is_at}
+use Rattle.np_nodes.specs.Tests.{unspent}
+use Rattle.np_nodes.specs.declared.kind.Expect.TheVariants.{Any}
+use Rattle.np_nodes.specs.declared.node.Node.{Node}
+use Rattle.np_nodes.specs.declared.refusal.TreeFault.{TreeFault}
+use Rattle.np_nodes.specs.declared.refusal.TreeFault.TheVariants.{NoMemory, Refused}
+use Rattle.np_nodes.specs.declared.refusal.TreeRefusal.{TreeRefusal}
+use Rattle.np_nodes.specs.declared.refusal.TreeRefusal.TheVariants as no
+use Rattle.np_nodes.proofs.PlaceLemmas.{bytes_eq-from}
+use Rattle.np_tree.specs.Inners.{Answers}
+use Rattle.np_tree.specs.Read.{child_name, counter_at}
+use Rattle.np_tree.specs.Whole.{IsTree, IsWhole, OwnerLives}
+use Rattle.np_tree.proofs.StandingLemmas.{children_of-ephemeral}
+use Rattle.np_views.specs.Relations.{Deletes}
+use Rattle.np_views.specs.Views.{Row, Seen, find_named, is_named, row_before, row_of, rows_at, seen_at, seen_in, seen_of}
+use Rattle.np_views.proofs.GoesLemmas.{delete-changes}
+use Rattle.np_views.proofs.RelationLemmas.{apart-below, deletes-show, rows-rise, seen-is-row}
+use Rattle.np_views.proofs.SiblingLemmas.{other-name, other-name_back}
+use Rattle.np_lock.specs.Faults.{fault_of}
+use Rattle.np_lock.specs.Calls as calls
+use Rattle.np_lock.specs.Calls.{ahead_in, find_owned, path_in}
+use Rattle.np_lock.specs.Queue.{IsGivenOut, IsLock, IsQueue, Wait, of_others, prefix, queue_at, row_of_wait}
+use Rattle.np_lock.proofs.WaitLemmas.{queue-waits}
+
+abbrev pub of_session : ℕ → Wait → Bool
+of_session session w = w.session == session
+
+abbrev pub name_of_wait : Wait → List ℕ
+name_of_wait w = prefix ++ ten_digits_of w.number
+
+is_element-wait : (w : Wait) → is_element (name_of_wait w) ≡ true
+is_element-wait w = is_element-numbered prefix w.number refl
+
+-- ## the session's wait
+
+found-then : (session : ℕ) (w : Wait) (waits : List Wait) (b : Bool) → find_owned session (map row_of_wait waits) ≡ option_map row_of_wait (find (of_session session) waits) → cond b (Some (row_of_wait w)) (find_owned session (map row_of_wait waits)) ≡ option_map row_of_wait (cond b (Some w) (find (of_session session) waits))
+found-then session w waits true later = refl
+found-then session w waits false later = later
+
+pub found-wait : (session : ℕ) (waits : List Wait) → find_owned session (map row_of_wait waits) ≡ option_map row_of_wait (find (of_session session) waits)
+found-wait session [] = refl
+found-wait session (w ∷ waits) = found-then session w waits (w.session == session) (found-wait session waits)
+
+-- the node of a session in the queue
+pub record IsWait (t : TreeState) (session : ℕ) (dir path : List ℕ) (waits : List Wait) (w : Wait) : Type 0 where
+  pub found : find (of_session session) waits ≡ Some w
+  pub below : path ≡ below dir (name_of_wait w)
+
+wait-by : (t : TreeState) (session : ℕ) (dir path : List ℕ) (waits : List Wait) (o : Option Wait) → find (of_session session) waits ≡ o → option_map (λ (row : Row). below dir row.name) (option_map row_of_wait o) ≡ Some path → (w : Wait) × IsWait t session dir path waits w
+wait-by t session dir path waits None there is = absurd cc
+wait-by t session dir path waits (Some w) there is = (w, record { found = there; below = let e : below dir (name_of_wait w) ≡ path = some_path is in sym e }) where
+  some_path : {x y : List ℕ} → Some x ≡ Some y → x ≡ y
+  some_path e = cc
+
+IsWait-path : (t : TreeState) (session : ℕ) (dir path : List ℕ) (waits : List Wait) → IsQueue t dir waits → path_in t session dir ≡ Some path → (w : Wait) × IsWait t session dir path waits w
+IsWait-path t session dir path waits queue is =
+    wait-by t session dir path waits (find (of_session session) waits) refl
+    (sym (ap (option_map (λ (row : Row). below dir row.name)) (ap (find_owned session) queue.rows ∙ found-wait session waits)) ∙ is)
+
+-- ## names tell the rows apart
+
+-- whatever holds of rows holds of a wait among them
+all-waits : (P : Row → Type 0) (waits : List Wait) → AllByRecursion P (map row_of_wait waits) → AllByRecursion (λ (w : Wait). P (row_of_wait w)) waits
+all-waits P [] all = tt
+all-waits P (w ∷ waits) all = (all.0, all-waits P waits all.1)
+
+some_wait : {x y : Wait} → Some x ≡ Some y → x ≡ y
+some_wait e = cc
+
+-- ## the row of the session's name
+
+named-by : (session : ℕ) (v w : Wait) (waits : List Wait) (b : Bool) → (v.session == session) ≡ b → cond b (Some v) (find (of_session session) waits) ≡ Some w → AllByRecursion (λ row. row_before (row_of_wait v) row ≡ true) (map row_of_wait waits) →
+    (find (of_session session) waits ≡ Some w → find_named (name_of_wait w) (map row_of_wait waits) ≡ Some (row_of_wait w)) → find_named (name_of_wait w) (row_of_wait v ∷ map row_of_wait waits) ≡ Some (row_of_wait w)
+named-by session v w waits true is there first later =
+    let same : v ≡ w = some_wait there in
+    let here : is_named (name_of_wait w) (row_of_wait v) ≡ true = bytes_eq-from (name_of_wait v) (name_of_wait w) (ap name_of_wait same) in
+    rw here (ap (λ (x : Wait). Some (row_of_wait x)) same)
+named-by session v w waits false is there first later =
+    let before = all-find (λ (x : Wait). row_before (row_of_wait v) (row_of_wait x) ≡ true) (of_session session) waits w (all-waits (λ row. row_before (row_of_wait v) row ≡ true) waits first) there in
+    let other : is_named (name_of_wait w) (row_of_wait v) ≡ false = other-name (row_of_wait v) (row_of_wait w) before in
+    rw other (later there)
+
+named-wait : (session : ℕ) (w : Wait) (waits : List Wait) → Rises row_before (map row_of_wait waits) → find (of_session session) waits ≡ Some w → find_named (name_of_wait w) (map row_of_wait waits) ≡ Some (row_of_wait w)
+named-wait session w [] rises there = absurd cc
+named-wait session w (v ∷ waits) rises there = named-by session v w waits (v.session == session) refl there rises.0 (named-wait session w waits rises.1)
+
+-- ## the rows without it
+
+abbrev unnamed : List ℕ → Row → Bool
+unnamed name row = not (is_named name row)
+
+abbrev pub left_by : ℕ → List Wait → List Wait
+left_by session waits = filter (λ (w : Wait). not (of_session session w)) waits
+
+unnamed-all : (name : List ℕ) (rows : List Row) → AllByRecursion (λ row. is_named name row ≡ false) rows → filter (unnamed name) rows ≡ rows
+unnamed-all name rows none = filter-not_none (is_named name) rows none
+
+gone-by : (session : ℕ) (v w : Wait) (waits : List Wait) (b : Bool) → (v.session == session) ≡ b → cond b (Some v) (find (of_session session) waits) ≡ Some w → AllByRecursion (λ row. row_before (row_of_wait v) row ≡ true) (map row_of_wait waits) → AllByRecursion (λ (x : Wait). of_others v x ≡ true) waits →
+    (find (of_session session) waits ≡ Some w → filter (unnamed (name_of_wait w)) (map row_of_wait waits) ≡ map row_of_wait (left_by session waits)) →
+    filter (unnamed (name_of_wait w)) (row_of_wait v ∷ map row_of_wait waits) ≡ map row_of_wait (cond (not b) (v ∷ left_by session waits) (left_by session waits))
+gone-by session v w waits true is there first others later =
+    let same : v ≡ w = some_wait there in
+    let here : is_named (name_of_wait w) (row_of_wait v) ≡ true = bytes_eq-from (name_of_wait v) (name_of_wait w) (ap name_of_wait same) in
+    let owner : v.session ≡ session = eqb-true v.session session is in
+    let apart : AllByRecursion (λ row. is_named (name_of_wait w) row ≡ false) (map row_of_wait waits) =
+    subst (λ (x : Wait). AllByRecursion (λ row. is_named (name_of_wait x) row ≡ false) (map row_of_wait waits)) same
+    (all-weaker (λ row. row_before (row_of_wait v) row ≡ true) (λ row. is_named (name_of_wait v) row ≡ false) (λ row before. other-name_back (row_of_wait v) row before) (map row_of_wait waits) first) in
+    let alone : NonePass (of_session session) waits = all-weaker (λ (x : Wait). of_others v x ≡ true) (λ (x : Wait). of_session session x ≡ false) (λ x other. not-session v x session owner other) waits others in
+    rw here (unnamed-all (name_of_wait w) (map row_of_wait waits) apart ∙ sym (ap (map row_of_wait) (filter-not_none (of_session session) waits alone))) where
+      turned : (a b : ℕ) → not (a == b) ≡ true → (b == a) ≡ false
+      turned a b other = grind (arith, nat_tests)
+
+      not-session : (a x : Wait) (s : ℕ) → a.session ≡ s → of_others a x ≡ true → of_session s x ≡ false
+      not-session a x s owner other = ap (λ (k : ℕ). x.session == k) (sym owner) ∙ turned a.session x.session other
+gone-by session v w waits false is there first others later =
+    let before = all-find (λ (x : Wait). row_before (row_of_wait v) (row_of_wait x) ≡ true) (of_session session) waits w (all-waits (λ row. row_before (row_of_wait v) row ≡ true) waits first) there in
+    let other : is_named (name_of_wait w) (row_of_wait v) ≡ false = other-name (row_of_wait v) (row_of_wait w) before in
+    rw other (ap (λ (rows : List Row). row_of_wait v ∷ rows) (later there))
+
+rows-left : (session : ℕ) (w : Wait) (waits : List Wait) → Rises row_before (map row_of_wait waits) → Rises of_others waits → find (of_session session) waits ≡ Some w → filter (unnamed (name_of_wait w)) (map row_of_wait waits) ≡ map row_of_wait (left_by session waits)
+rows-left session w [] rises once there = absurd cc
+rows-left session w (v ∷ waits) rises once there = gone-by session v w waits (v.session == session) refl there rises.0 once.0 (rows-left session w waits rises.1 once.1)
+
+-- ## the delete
+
+seen-wait : (t : TreeState) (session : ℕ) (dir path : List ℕ) (waits : List Wait) (w : Wait) → is_path dir ≡ true → IsWhole t.nodes → IsQueue t dir waits → IsWait t session dir path waits w → seen_at t path ≡ Some (record { bytes = []; owner = Some session })
+seen-wait t session dir path waits w is whole queue wait =
+    let name = name_of_wait w in
+    let parts = HasParts-below dir name is (is_element-wait w) in
+    let rises = subst (Rises row_before) queue.rows (rows-rise t dir whole) in
+    let owner : w.session ≡ session = eqb-true w.session session (find-passes (of_session session) waits w wait.found) in
+    ap (seen_at t) wait.below
+    ∙ seen-is-row t (below dir name) dir whole (is_path-below dir name is (is_element-wait w)) parts.above
+    ∙ ap (option_map seen_in) (ap (find_named (name_of (below dir name))) queue.rows ∙ ap (λ (n : List ℕ). find_named n (map row_of_wait waits)) parts.last ∙ named-wait session w waits rises wait.found)
+    ∙ ap (λ (s : ℕ). Some (record { bytes = []; owner = Some s })) owner
+
+-- what is known of a session that leaves
+pub record Leaves (t : TreeState) (session : ℕ) (dir path : List ℕ) : Type 0 where
+  pub answer : delete_answer t session path Any ≡ unspent t
+  pub lock : delete_answer t session path Any ≡ Ok tt → IsLock (after_delete t path) dir
+  pub queue : delete_answer t session path Any ≡ Ok tt → queue_at (after_delete t path) dir ≡ without (queue_at t dir) session
+
+owned-node : (o : Option Node) (seen : Seen) (session : ℕ) → option_map seen_of o ≡ Some seen → seen.owner ≡ Some session → (n : Node) × (o ≡ Some n) × (n.facts.owner ≡ Some session)
+owned-node None seen session is owner = absurd cc
+owned-node (Some n) seen session is owner = (n, refl, (let e : seen_of n ≡ seen = some_seen is in ap (λ (s : Seen). s.owner) e ∙ owner)) where
+  some_seen : {x y : Seen} → Some x ≡ Some y → x ≡ y
+  some_seen e = cc
+
+lives-by : (live : List ℕ) (o : Option ℕ) (session : ℕ) → o ≡ Some session → OwnerLives live o → is_in live session ≡ true
+lives-by live None session is lives = absurd cc
+lives-by live (Some s) session is lives = let e : s ≡ session = some_number is in ap (is_in live) (sym e) ∙ lives where
+  some_number : {x y : ℕ} → Some x ≡ Some y → x ≡ y
+  some_number e = cc
+
+left-then : (session : ℕ) (w : Wait) (waits : List Wait) (b : Bool) → map (λ (v : Wait). v.session) (left_by session waits) ≡ without (map (λ (v : Wait). v.session) waits) session →
+    map (λ (v : Wait). v.session) (cond (not b) (w ∷ left_by session waits) (left_by session waits)) ≡ cond (not b) (w.session ∷ without (map (λ (v : Wait). v.session) waits) session) (without (map (λ (v : Wait). v.session) waits) session)
+left-then session w waits true later = later
+left-then session w waits false later = ap (λ (ss : List ℕ). w.session ∷ ss) later
+
+pub left-sessions : (session : ℕ) (waits : List Wait) → map (λ (w : Wait). w.session) (left_by session waits) ≡ without (map (λ (w : Wait). w.session) waits) session
+left-sessions session [] = refl
+left-sessions session (w ∷ waits) = left-then session w waits (w.session == session) (left-sessions session waits)
+
+apart-wait : (dir name : List ℕ) → is_path dir ≡ true → is_element name ≡ true → dir ≡ below dir name → ⊥
+apart-wait dir name is element same = apart-below dir (below dir name) (is_path-below dir name is element) (HasParts-below dir name is element).above (sym same)
+
+IsQueue-deleted : (t u : TreeState) (session : ℕ) (dir path : List ℕ) (waits : List Wait) (w : Wait) → is_path dir ≡ true → IsWhole t.nodes → IsQueue t dir waits → IsWait t session dir path waits w → Deletes dir (name_of_wait w) t u → IsQueue u dir (left_by session waits)
+IsQueue-deleted t u session dir path waits w is whole queue wait deletes =
+    let rises = subst (Rises row_before) queue.rows (rows-rise t dir whole) in
+    let counter = deletes.other_counter dir (apart-wait dir (name_of_wait w) is (is_element-wait w)) in
+    record {
+      rows = deletes.rows ∙ ap (filter (unnamed (name_of_wait w))) queue.rows ∙ rows-left session w waits rises queue.once wait.found;
+      given = subst (λ (o : Option ℕ). AllByRecursion (IsGivenOut o) (left_by session waits)) (sym counter) (all-filter (IsGivenOut (counter_at t dir)) (λ (v : Wait). not (of_session session v)) waits queue.given);
+      once = Rises-filter of_others (λ (v : Wait). not (of_session session v)) waits queue.once;
+    }
+
+pub Leaves-path : (t : TreeState) (session : ℕ) (dir path : List ℕ) → is_path dir ≡ true → IsTree t → IsLock t dir → path_in t session dir ≡ Some path → Leaves t session dir path
+Leaves-path t session dir path is tree lock there =
+    let waits : List Wait = lock.0 in
+    let queue : IsQueue t dir waits = lock.1 in
+    let one = IsWait-path t session dir path waits queue there in
+    let w : Wait = one.0 in
+    let name = name_of_wait w in
+    let parts = HasParts-below dir name is (is_element-wait w) in
+    let proper : is_path path ≡ true = ap is_path one.1.below ∙ is_path-below dir name is (is_element-wait w) in
+    let above : parent_of path ≡ Some dir = ap parent_of one.1.below ∙ parts.above in
+    let last : name_of path ≡ name = ap name_of one.1.below ∙ parts.last in
+    let seen = seen-wait t session dir path waits w is tree.whole queue one.1 in
+    let node = owned-node (at_path t.nodes path) (record { bytes = []; owner = Some session }) session seen refl in
+    let live = lives-by t.live node.0.facts.owner session node.2 (all-find (λ (n : Node). OwnerLives t.live n.facts.owner) (is_at path) t.nodes node.0 tree.owners node.1) in
+    let bare : rows_at t path ≡ [] = ap (map row_of) (children_of-ephemeral t.nodes path node.0 session tree.whole.stand node.1 node.2) in
+    let left = λ (ok : delete_answer t session path Any ≡ Ok tt).
+    IsQueue-deleted t (after_delete t path) session dir path waits w is tree.whole queue one.1
+    (subst (λ (n : List ℕ). Deletes dir n t (after_delete t path)) last (deletes-show t session path dir Any tree.whole proper above ok)) in
+    record {
+      answer = delete-changes t session path dir (record { bytes = []; owner = Some session }) live above seen bare;
+      lock = λ ok. (left_by session waits, left ok);
+      queue = λ ok. queue-waits (after_delete t path) dir (left_by session waits) (left ok) ∙ left-sessions session waits ∙ sym (ap (λ (q : List ℕ). without q session) (queue-waits t dir waits queue));
+    }
+
+-- ## the path by its place
+
+names-by : (nodes : List Node) (waits : List Wait) (at : ℕ) → map row_of nodes ≡ map row_of_wait waits → option_map name_of_wait (slice_get waits at) ≡ option_map (λ (n : Node). name_of n.path) (slice_get nodes at)
+names-by [] [] at same = refl
+names-by [] (w ∷ waits) at same = absurd cc
+names-by (n ∷ nodes) [] at same = absurd cc
+names-by (n ∷ nodes) (w ∷ waits) zero same = let head : row_of n ≡ row_of_wait w = cc in sym (ap (λ (r : Row). Some r.name) head)
+names-by (n ∷ nodes) (w ∷ waits) (suc at) same = let tail : map row_of nodes ≡ map row_of_wait waits = cc in names-by nodes waits at tail
+
+-- the sessions' test is that of the waits
+tests-same : (session : ℕ) (waits : List Wait) → position_or_len (λ s. s == session) (map (λ (w : Wait). w.session) waits) ≡ position_or_len (of_session session) waits
+tests-same session [] = refl
+tests-same session (w ∷ waits) = ap (λ (k : ℕ). cond (not (w.session == session)) (1 + k) 0) (tests-same session waits)
+
+get-past : (waits : List Wait) (k : ℕ) → length waits ≤ k → slice_get waits k ≡ None
+get-past [] k past = refl
+get-past (w ∷ waits) zero past = absurd (omega arith)
+get-past (w ∷ waits) (suc k) past = get-past waits k (omega arith)
+
+place-some : (b : Bool) (k at : ℕ) → cond b (Some k) None ≡ Some at → k ≡ at
+place-some true k at is = cc
+place-some false k at is = absurd cc
+
+place-none : (k n : ℕ) (b : Bool) → nat_lt k n ≡ b → cond b (Some k) None ≡ None → n ≤ k
+place-none k n true is none = absurd cc
+place-none k n false is none = ltb-false k n is
+
+found-at : (session : ℕ) (waits : List Wait) (at : ℕ) → ahead_in (map (λ (w : Wait). w.session) waits) session ≡ Some at → find (of_session session) waits ≡ slice_get waits at
+found-at session waits at is =
+    let place = place-some (nat_lt (position_or_len (λ s. s == session) (map (λ (w : Wait). w.session) waits)) (length (map (λ (w : Wait). w.session) waits))) (position_or_len (λ s. s == session) (map (λ (w : Wait). w.session) waits)) at is in
+    find_at (of_session session) waits ∙ ap (slice_get waits) (sym (tests-same session waits) ∙ place)
+
+found-none : (session : ℕ) (waits : List Wait) → ahead_in (map (λ (w : Wait). w.session) waits) session ≡ None → find (of_session session) waits ≡ None
+found-none session waits is =
+    let past = place-none (position_or_len (λ s. s == session) (map (λ (w : Wait). w.session) waits)) (length (map (λ (w : Wait). w.session) waits)) _ refl is in
+    let same = tests-same session waits in
+    let long = length-map waits (λ (w : Wait). w.session) in
+    find_at (of_session session) waits ∙ get-past waits (position_or_len (of_session session) waits) (omega arith)
+
+path-found : (t : TreeState) (session : ℕ) (dir : List ℕ) (waits : List Wait) → IsQueue t dir waits → path_in t session dir ≡ option_map (λ (row : Row). below dir row.name) (option_map row_of_wait (find (of_session session) waits))
+path-found t session dir waits queue = ap (option_map (λ (row : Row). below dir row.name)) (ap (find_owned session) queue.rows ∙ found-wait session waits)
+
+named-path : (dir : List ℕ) (o : Option Wait) → option_map (λ (row : Row). below dir row.name) (option_map row_of_wait o) ≡ option_map (below dir) (option_map name_of_wait o)
+named-path dir None = refl
+named-path dir (Some w) = refl
+
+pub path-at : (t : TreeState) (session : ℕ) (dir : List ℕ) (at : ℕ) (name : List ℕ) → IsLock t dir → ahead_in (queue_at t dir) session ≡ Some at → child_name t dir at ≡ Some name → path_in t session dir ≡ Some (below dir name)
+path-at t session dir at name lock ahead is =
+    path-found t session dir lock.0 lock.1
+    ∙ ap (λ (o : Option Wait). option_map (λ (row : Row). below dir row.name) (option_map row_of_wait o)) (found-at session lock.0 at (sym (ap (λ (q : List ℕ). ahead_in q session) (queue-waits t dir lock.0 lock.1)) ∙ ahead))
+    ∙ named-path dir (slice_get lock.0 at)
+    ∙ ap (option_map (below dir)) (names-by (children_of t.nodes dir) lock.0 at lock.1.rows ∙ is)
+
+pub path-none : (t : TreeState) (session : ℕ) (dir : List ℕ) → IsLock t dir → ahead_in (queue_at t dir) session ≡ None → path_in t session dir ≡ None
+path-none t session dir lock ahead =
+    path-found t session dir lock.0 lock.1
+    ∙ ap (λ (o : Option Wait). option_map (λ (row : Row). below dir row.name) (option_map row_of_wait o)) (found-none session lock.0 (sym (ap (λ (q : List ℕ). ahead_in q session) (queue-waits t dir lock.0 lock.1)) ∙ ahead))
+
+-- a name in the queue is an element
+element-by : (waits : List Wait) (at : ℕ) (name : List ℕ) → option_map name_of_wait (slice_get waits at) ≡ Some name → is_element name ≡ true
+element-by [] at name is = absurd cc
+element-by (w ∷ waits) zero name is = let same : name_of_wait w ≡ name = cc in ap is_element (sym same) ∙ is_element-wait w
+element-by (w ∷ waits) (suc at) name is = element-by waits at name is
+
+pub is_element-child : (t : TreeState) (dir : List ℕ) (at : ℕ) (name : List ℕ) → IsLock t dir → child_name t dir at ≡ Some name → is_element name ≡ true
+is_element-child t dir at name lock is = element-by lock.0 at name (names-by (children_of t.nodes dir) lock.0 at lock.1.rows ∙ is)
+
+place-within : (k n at : ℕ) (b : Bool) → nat_lt k n ≡ b → cond b (Some k) None ≡ Some at → k < n
+place-within k n at true is there = ltb-true k n is
+place-within k n at false is there = absurd cc
+
+some-by : (dir : List ℕ) (o : Option Wait) (w : Wait) → o ≡ Some w → is_some (option_map (λ (row : Row). below dir row.name) (option_map row_of_wait o)) ≡ true
+some-by dir None w is = absurd cc
+some-by dir (Some v) w is = refl
+
+pub path-some : (t : TreeState) (session : ℕ) (dir : List ℕ) (at : ℕ) → IsLock t dir → ahead_in (queue_at t dir) session ≡ Some at → is_some (path_in t session dir) ≡ true
+path-some t session dir at lock ahead =
+    let waits : List Wait = lock.0 in
+    let is = sym (ap (λ (q : List ℕ). ahead_in q session) (queue-waits t dir waits lock.1)) ∙ ahead in
+    let place = place-some (nat_lt (position_or_len (λ s. s == session) (map (λ (w : Wait). w.session) waits)) (length (map (λ (w : Wait). w.session) waits))) (position_or_len (λ s. s == session) (map (λ (w : Wait). w.session) waits)) at is in
+    let within = place-within (position_or_len (λ s. s == session) (map (λ (w : Wait). w.session) waits)) (length (map (λ (w : Wait). w.session) waits)) at _ refl is in
+    let long = length-map waits (λ (w : Wait). w.session) in
+    let inside : at < length waits = omega arith in
+    let none : Wait = record { number = 0; session = 0 } in
+    ap is_some (path-found t session dir waits lock.1)
+    ∙ some-by dir (find (of_session session) waits) (get_or waits at none) (found-at session waits at is ∙ slice_get-get_or waits at none inside)
+
+-- an element is the name of a child
+pub child-makes : (name text : List ℕ) (path : Path) → is_element name ≡ true → Makes (name_fault name) text (Ok path) → path ≡ text
+child-makes name text path is makes = makes-by (is_element name) is makes where
+  makes-by : (b : Bool) → b ≡ true → Makes (cond b None (Some 0)) text (Ok path) → path ≡ text
+  makes-by true is made = made
+  makes-by false is made = absurd cc
+
+-- the delete is refused for want of a change number alone
+spent-by : (changes : ℕ) (refusal : TreeRefusal) (b : Bool) → nat_lt changes 18_446_744_073_709_551_615 ≡ b → changes ≤ 18_446_744_073_709_551_615 → need b no.ChangesSpent ≡ Err refusal → (refusal ≡ no.ChangesSpent) × (changes ≡ 18_446_744_073_709_551_615)
+spent-by changes refusal true is most refused = absurd cc
+spent-by changes refusal false is most refused = (cc, (let past = ltb-false changes 18_446_744_073_709_551_615 is in omega arith))
+
+pub leave-refused : (t : TreeState) (session : ℕ) (dir path : List ℕ) (f : TreeFault) → IsTree t → Leaves t session dir path → Answers (Err f) (delete_answer t session path Any) → calls.Leaves t.changes (Err (fault_of f))
+leave-refused t session dir path NoMemory tree leaves answer = tt
+leave-refused t session dir path (Refused refusal) tree leaves answer =
+    spent-by t.changes refusal (nat_lt t.changes 18_446_744_073_709_551_615) refl tree.last (sym leaves.answer ∙ answer)

@@ -1,0 +1,5 @@
+pub mod WaitLemmas
+pub mod PlaceLemmas
+pub mod JoinLemmas
+pub mod LeaveLemmas
+pub mod LawLemmas

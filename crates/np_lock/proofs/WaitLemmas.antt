@@ -1,0 +1,88 @@
+-- the rows of a queue, and the sessions in it
+use Rattle.std.proofs.Common.{◌≡◌, ℕ, zero, suc, List, [], ◌∷◌, length, map, Option, Some, None, refl, sym, ap, ◌∙◌}
+use Rattle.std.specs.Prelude.{filter_map, slice_get, option_and_then}
+use Rattle.std.specs.Option.{option_map}
+use Rattle.np_lists.proofs.FoundLemmas.{find-passes}
+use Rattle.np_nodes.specs.TreeState.{TreeState}
+use Rattle.np_nodes.specs.After.{with_next_number}
+use Rattle.np_nodes.specs.Nodes.{at_path, children_of, is_at, stat_of}
+use Rattle.np_nodes.specs.declared.kind.Stat.{Stat}
+use Rattle.np_nodes.specs.declared.node.Node.{Node}
+use Rattle.np_nodes.proofs.PlaceLemmas.{bytes_eq-is}
+use Rattle.np_tree.specs.Read.{stat_at, stat_of_child}
+use Rattle.np_tree.specs.Whole.{IsTree}
+use Rattle.np_views.specs.Views.{Row, row_of}
+use Rattle.np_views.proofs.RelationLemmas.{rows-nothing}
+use Rattle.np_lock.specs.Queue.{IsLock, IsQueue, Wait, queue_at, row_of_wait}
+use Rattle.std.proofs.lemmas.List.{length-map}
+
+-- the sessions of rows
+abbrev pub sessions_of : List Row → List ℕ
+sessions_of rows = filter_map (λ (row : Row). row.owner) rows
+
+pub sessions-waits : (waits : List Wait) → sessions_of (map row_of_wait waits) ≡ map (λ (w : Wait). w.session) waits
+sessions-waits [] = refl
+sessions-waits (w ∷ waits) = ap (λ (ss : List ℕ). w.session ∷ ss) (sessions-waits waits)
+
+pub queue-waits : (t : TreeState) (dir : List ℕ) (waits : List Wait) → IsQueue t dir waits → queue_at t dir ≡ map (λ (w : Wait). w.session) waits
+queue-waits t dir waits is = ap sessions_of is.rows ∙ sessions-waits waits
+
+-- ## a reader
+
+owner-by : (nodes : List Node) (waits : List Wait) (at : ℕ) → map row_of nodes ≡ map row_of_wait waits → slice_get (map (λ (w : Wait). w.session) waits) at ≡ option_and_then (λ (n : Node). n.facts.owner) (slice_get nodes at)
+owner-by [] [] at same = refl
+owner-by [] (w ∷ waits) at same = absurd cc
+owner-by (n ∷ nodes) [] at same = absurd cc
+owner-by (n ∷ nodes) (w ∷ waits) zero same =
+    let head : row_of n ≡ row_of_wait w = cc in
+    sym (ap (λ (r : Row). r.owner) head)
+owner-by (n ∷ nodes) (w ∷ waits) (suc at) same =
+    let tail : map row_of nodes ≡ map row_of_wait waits = cc in
+    owner-by nodes waits at tail
+
+-- the session at a place
+session-at : (t : TreeState) (dir : List ℕ) (at : ℕ) → IsLock t dir → slice_get (queue_at t dir) at ≡ option_and_then (λ (n : Node). n.facts.owner) (slice_get (children_of t.nodes dir) at)
+session-at t dir at lock =
+    ap (λ (q : List ℕ). slice_get q at) (queue-waits t dir lock.0 lock.1) ∙ owner-by (children_of t.nodes dir) lock.0 at lock.1.rows
+
+stat-some : (nodes : List Node) (o : Option Node) (stat : Stat) → Some stat ≡ option_map (stat_of nodes) o → stat.owner ≡ option_and_then (λ (n : Node). n.facts.owner) o
+stat-some nodes None stat is = absurd cc
+stat-some nodes (Some n) stat is = let same : stat ≡ stat_of nodes n = cc in ap (λ (s : Stat). s.owner) same
+
+stat-none : (nodes : List Node) (o : Option Node) → None ≡ option_map (stat_of nodes) o → None ≡ option_and_then (λ (n : Node). n.facts.owner) o
+stat-none nodes None is = refl
+stat-none nodes (Some n) is = absurd cc
+
+pub waiting-some : (t : TreeState) (dir : List ℕ) (at : ℕ) (stat : Stat) → IsLock t dir → Some stat ≡ stat_of_child t dir at → stat.owner ≡ slice_get (queue_at t dir) at
+waiting-some t dir at stat lock is = stat-some t.nodes (slice_get (children_of t.nodes dir) at) stat is ∙ sym (session-at t dir at lock)
+
+pub waiting-none : (t : TreeState) (dir : List ℕ) (at : ℕ) → IsLock t dir → None ≡ stat_of_child t dir at → None ≡ slice_get (queue_at t dir) at
+waiting-none t dir at lock is = stat-none t.nodes (slice_get (children_of t.nodes dir) at) is ∙ sym (session-at t dir at lock)
+
+-- ## how many wait
+
+length-queue : (t : TreeState) (dir : List ℕ) → IsLock t dir → length (queue_at t dir) ≡ length (children_of t.nodes dir)
+length-queue t dir lock =
+    ap length (queue-waits t dir lock.0 lock.1) ∙ length-map lock.0 (λ (w : Wait). w.session) ∙ sym (length-map lock.0 row_of_wait) ∙ sym (ap length lock.1.rows) ∙ length-map (children_of t.nodes dir) row_of
+
+count-by : (nodes : List Node) (dir : List ℕ) (o : Option Node) (stat : Stat) → at_path nodes dir ≡ o → Some stat ≡ option_map (stat_of nodes) o → stat.children ≡ length (children_of nodes dir)
+count-by nodes dir None stat there is = absurd cc
+count-by nodes dir (Some n) stat there is =
+    let same : stat ≡ stat_of nodes n = cc in
+    ap (λ (s : Stat). s.children) same ∙ ap (λ (p : List ℕ). length (children_of nodes p)) (bytes_eq-is n.path dir (find-passes (is_at dir) nodes n there))
+
+pub count-some : (t : TreeState) (dir : List ℕ) (stat : Stat) → IsLock t dir → Some stat ≡ stat_at t dir → stat.children ≡ length (queue_at t dir)
+count-some t dir stat lock is = count-by t.nodes dir (at_path t.nodes dir) stat refl is ∙ sym (length-queue t dir lock)
+
+none-there : (nodes : List Node) (o : Option Node) → None ≡ option_map (stat_of nodes) o → o ≡ None
+none-there nodes None is = refl
+none-there nodes (Some n) is = absurd cc
+
+pub count-none : (t : TreeState) (dir : List ℕ) → IsTree t → None ≡ stat_at t dir → 0 ≡ length (queue_at t dir)
+count-none t dir tree is =
+    sym (ap (λ (rows : List Row). length (sessions_of rows)) (rows-nothing t.nodes dir tree.whole.stand (none-there t.nodes (at_path t.nodes dir) is)))
+
+-- ## a change number
+
+pub IsLock-number : (t : TreeState) (dir : List ℕ) → IsLock t dir → IsLock (with_next_number t) dir
+IsLock-number t dir lock = (lock.0, record { rows = lock.1.rows; given = lock.1.given; once = lock.1.once })

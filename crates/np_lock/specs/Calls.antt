@@ -1,0 +1,123 @@
+-- what each call of a lock answers, and what it makes of the tree
+use Rattle.std.specs.Prelude.{◌≡◌, ⊤, ℕ, zero, suc, ◌<◌, ◌==◌, Bool, true, false, List, [], ◌∷◌, ◌++◌, find, position, slice_get, Option, Some, None, Result, Ok, Err, IsOk, if◌then◌else◌}
+use Rattle.std.specs.Option.{is_none, option_map}
+use Rattle.np_session.specs.Known.{is_in}
+use Rattle.np_path.specs.Parts.{below}
+use Rattle.np_text.specs.declared.memory.NoMemory.{NoMemory}
+use Rattle.np_nodes.specs.TreeState.{TreeState}
+use Rattle.np_nodes.specs.Nodes.{is_owner}
+use Rattle.np_nodes.specs.After.{after_create, after_delete, where_found, with_next_number}
+use Rattle.np_nodes.specs.Answer.{create_answer}
+use Rattle.np_nodes.specs.declared.kind.Mode.TheVariants.{EphemeralSequential}
+use Rattle.np_nodes.specs.declared.kind.Expect.TheVariants.{Any}
+use Rattle.np_nodes.specs.declared.op.Op.{Op}
+use Rattle.np_nodes.specs.declared.op.Op.TheVariants as op
+use Rattle.np_nodes.specs.declared.refusal.TreeRefusal.{TreeRefusal}
+use Rattle.np_nodes.specs.declared.refusal.TreeRefusal.TheVariants as no
+use Rattle.np_views.specs.Views.{Row, rows_at}
+use Rattle.np_lock.specs.Queue.{queue_at, wait_path}
+use Rattle.np_lock.specs.declared.answer.Place.{Place}
+use Rattle.np_lock.specs.declared.answer.Place.TheVariants.{Held, Queued}
+use Rattle.np_lock.specs.declared.answer.Tried.{Tried}
+use Rattle.np_lock.specs.declared.answer.Tried.TheVariants as tried
+use Rattle.np_lock.specs.declared.answer.LockFault.{LockFault}
+use Rattle.np_lock.specs.declared.answer.LockFault.TheVariants as fault
+
+-- ## places
+
+-- the first in the queue holds, and each other one waits for those ahead
+abbrev pub place_with : ℕ → Place
+place_with zero = Held
+place_with (suc n) = Queued (suc n)
+
+-- how many are ahead of a session that is in the queue
+abbrev pub ahead_in : List ℕ → ℕ → Option ℕ
+ahead_in queue session = position (λ s. s == session) queue
+
+-- the first session of a queue
+abbrev pub first_of : List ℕ → Option ℕ
+first_of queue = slice_get queue 0
+
+-- ## a session joins
+
+abbrev pub joined : List ℕ → ℕ → List ℕ
+joined queue session = if is_in queue session then queue else queue ++ session ∷ []
+
+-- what the tree answers to the create of the session's node
+abbrev pub join_answer : TreeState → ℕ → List ℕ → Result (List ℕ) TreeRefusal
+join_answer t session dir = create_answer t session (wait_path dir) [] EphemeralSequential
+
+abbrev pub after_join : TreeState → ℕ → List ℕ → TreeState
+after_join t session dir = with_next_number (after_create t session (wait_path dir) [] EphemeralSequential)
+
+-- the create may be refused, and memory may run out (own)
+abbrev pub Joins : Result (List ℕ) TreeRefusal → Result (Unit {0}) LockFault → Type 0
+Joins made (Ok _) = IsOk made
+Joins made (Err (fault.Refused refusal)) = made ≡ Err refusal
+Joins made (Err fault.NoMemory) = ⊤
+
+-- the place that the session has or gets. Where it has none the create may be refused; memory may run out there alone
+abbrev pub Enqueues : Option ℕ → Result (List ℕ) TreeRefusal → ℕ → Result Place LockFault → Type 0
+Enqueues (Some ahead) made others result = result ≡ Ok (place_with ahead)
+Enqueues None made others (Ok place) = (IsOk made) × (place ≡ place_with others)
+Enqueues None made others (Err (fault.Refused refusal)) = made ≡ Err refusal
+Enqueues None made others (Err fault.NoMemory) = ⊤
+
+abbrev pub after_enqueue : TreeState → ℕ → List ℕ → TreeState
+after_enqueue t session dir = if is_in (queue_at t dir) session then t else after_join t session dir
+
+-- ## a session tries
+
+-- who holds answers; where nobody does, the session joins
+abbrev pub Tries : Option ℕ → Result (List ℕ) TreeRefusal → ℕ → Result Tried LockFault → Type 0
+Tries (Some holder) made session result = result ≡ Ok (if holder == session then tried.Held else tried.Busy holder)
+Tries None made session (Ok answer) = (IsOk made) × (answer ≡ tried.Held)
+Tries None made session (Err (fault.Refused refusal)) = made ≡ Err refusal
+Tries None made session (Err fault.NoMemory) = ⊤
+
+abbrev pub after_try : TreeState → ℕ → List ℕ → TreeState
+after_try t session dir = if is_none (first_of (queue_at t dir)) then after_join t session dir else t
+
+-- the queue of a session that tried
+abbrev pub held_by : List ℕ → ℕ → List ℕ
+held_by [] session = session ∷ []
+held_by (first ∷ others) session = first ∷ others
+
+-- ## a session leaves
+
+abbrev pub find_owned : ℕ → List Row → Option Row
+find_owned session rows = find (λ row. is_owner session row.owner) rows
+
+-- the path of the session's node
+abbrev pub path_in : TreeState → ℕ → List ℕ → Option (List ℕ)
+path_in t session dir = option_map (λ row. below dir row.name) (find_owned session (rows_at t dir))
+
+-- the delete is refused only where no change has a number left
+abbrev pub Leaves : ℕ → Result (Unit {0}) LockFault → Type 0
+Leaves changes (Ok _) = changes < 18_446_744_073_709_551_615
+Leaves changes (Err (fault.Refused refusal)) = (refusal ≡ no.ChangesSpent) × (changes ≡ 18_446_744_073_709_551_615)
+Leaves changes (Err fault.NoMemory) = ⊤
+
+-- whether the session was there. The delete is refused only where no change has a number left
+abbrev pub Releases : Bool → ℕ → Result Bool LockFault → Type 0
+Releases false changes result = result ≡ Ok false
+Releases true changes (Ok was) = (was ≡ true) × (changes < 18_446_744_073_709_551_615)
+Releases true changes (Err (fault.Refused refusal)) = (refusal ≡ no.ChangesSpent) × (changes ≡ 18_446_744_073_709_551_615)
+Releases true changes (Err fault.NoMemory) = ⊤
+
+abbrev pub after_release : TreeState → ℕ → List ℕ → TreeState
+after_release t session dir = where_found (path_in t session dir) t (λ path. with_next_number (after_delete t path))
+
+-- ## parts of a call of several
+
+abbrev pub join_part : List ℕ → Op
+join_part dir = op.Create (wait_path dir) [] EphemeralSequential
+
+abbrev pub leave_part : List ℕ → Op
+leave_part path = op.Delete path Any
+
+-- the part that takes the session out, and none where it is not there; memory may run out where it is
+abbrev pub LeavesBy : Option (List ℕ) → Result (Option Op) NoMemory → Type 0
+LeavesBy None result = result ≡ Ok None
+LeavesBy (Some path) (Ok part) = part ≡ Some (leave_part path)
+LeavesBy (Some path) (Err _) = ⊤

@@ -1,0 +1,4 @@
+pub mod Queue
+pub mod Faults
+pub mod Calls
+pub mod Laws
