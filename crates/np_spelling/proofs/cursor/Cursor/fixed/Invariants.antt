@@ -1,0 +1,6 @@
+use Rattle.std.specs.Prelude.{◌≡◌, drop}
+use Rattle.np_spelling.specs.Reading.{fixed}
+use Rattle.np_spelling.proofs.cursor.Cursor.fixed.Given as goal
+
+abbrev pub invariant-loop-limit : goal.invariant-loop-limit
+invariant-loop-limit l = fixed (drop l.limit-index l.limits) l.value l.self ≡ fixed l.limits 0 l.fn.self

@@ -1,0 +1,17 @@
+use Rattle.np_spelling.specs.Spelling.{SpellsJob, SpellsNode, SpellsRequest, SpellsRole, SpellsSession}
+use Rattle.np_spelling.proofs.Exact.{one_value}
+use Rattle.np_spelling.proofs.JobForm.{job_means, job_read}
+use Rattle.np_spelling.proofs.NodeForm.{node_means, node_read}
+use Rattle.np_spelling.proofs.RequestForm.{request_means, request_read}
+use Rattle.np_spelling.proofs.RoleForm.{role, role_means}
+use Rattle.np_spelling.proofs.SessionForm.{session, session_means}
+use Rattle.np_spelling.proofs.law.a_spelling_has_one_value.Goals as goal
+
+pub returns : goal.returns
+returns c = record {
+  requests = one_value request_read SpellsRequest request_means;
+  nodes = one_value node_read SpellsNode node_means;
+  jobs = one_value job_read SpellsJob job_means;
+  roles = one_value role SpellsRole role_means;
+  sessions = one_value session SpellsSession session_means;
+}
