@@ -1,0 +1,75 @@
+-- an accepted event of a kind: what it names is there, and who made it
+use Rattle.std.proofs.Common.{◌≡◌, Some, None, Ok, refl, arith}
+use Rattle.std.specs.Prelude.{slice_get}
+use Rattle.std.proofs.lemmas.Bool.Decides.{nat_tests}
+use Rattle.np_text.specs.declared.id.SessionId.{SessionId}
+use Rattle.np_text.specs.declared.id.NodeId.{NodeId}
+use Rattle.np_text.specs.declared.id.JobId.{JobId}
+use Rattle.np_text.specs.declared.id.RequestId.{RequestId}
+use Rattle.np_site.specs.Configuration.{Configuration}
+use Rattle.np_event.specs.declared.reply.Done.{Done}
+use Rattle.np_machine.specs.State.{State}
+use Rattle.np_machine.specs.Step.{judge, maker_of}
+use Rattle.np_machine.specs.Tables.{request_in, node_in}
+use Rattle.np_roles.specs.declared.kind.RequestKind.{RequestKind}
+use Rattle.np_roles.specs.declared.kind.RequestKind.TheVariants as of_request
+use Rattle.np_roles.specs.declared.kind.NodeKind.{NodeKind}
+use Rattle.np_roles.specs.declared.kind.NodeKind.TheVariants as of_node
+use Rattle.np_roles.specs.declared.kind.JobKind.{JobKind}
+use Rattle.np_roles.specs.declared.kind.JobKind.TheVariants as of_job
+use Rattle.np_roles.specs.Kinds.{request_event, node_event, job_event}
+
+-- ## who made it
+
+pub request-maker : (kind : RequestKind) (session : SessionId) (r : RequestId) → maker_of (request_event kind session r) ≡ Some session
+request-maker of_request.Lock session r = refl
+request-maker of_request.Unlock session r = refl
+request-maker of_request.Accept session r = refl
+request-maker of_request.Create session r = refl
+request-maker of_request.Fulfil session r = refl
+request-maker of_request.Reset session r = refl
+request-maker of_request.FailDeclined session r = refl
+
+pub node-maker : (kind : NodeKind) (session : SessionId) (n : NodeId) → maker_of (node_event kind session n) ≡ Some session
+node-maker of_node.Lock session n = refl
+node-maker of_node.Unlock session n = refl
+node-maker of_node.Start session n = refl
+node-maker (of_node.End as_what) session n = refl
+node-maker of_node.MarkDeleting session n = refl
+node-maker of_node.Gone session n = refl
+node-maker of_node.Free session n = refl
+
+pub job-maker : (kind : JobKind) (session : SessionId) (j : JobId) → maker_of (job_event kind session j) ≡ Some session
+job-maker of_job.Acquire session j = refl
+job-maker of_job.Submit session j = refl
+job-maker of_job.Take session j = refl
+job-maker of_job.Finish session j = refl
+job-maker of_job.Release session j = refl
+
+-- ## what it names is there
+
+module _ (c : Configuration) (s : State) (session : SessionId) (what : Done) where
+  pub request-there : (kind : RequestKind) (r : RequestId) → judge c s (request_event kind session r) ≡ Ok what → request_in r s.requests ≡ None → ⊥
+  request-there of_request.Lock r is none = grind (arith, nat_tests)
+  request-there of_request.Unlock r is none = grind (arith, nat_tests)
+  request-there of_request.Accept r is none = grind (arith, nat_tests)
+  request-there of_request.Create r is none = grind (arith, nat_tests)
+  request-there of_request.Fulfil r is none = grind (arith, nat_tests)
+  request-there of_request.Reset r is none = grind (arith, nat_tests)
+  request-there of_request.FailDeclined r is none = grind (arith, nat_tests)
+
+  pub node-there : (kind : NodeKind) (n : NodeId) → judge c s (node_event kind session n) ≡ Ok what → node_in n s.nodes ≡ None → ⊥
+  node-there of_node.Lock n is none = grind (arith, nat_tests)
+  node-there of_node.Unlock n is none = grind (arith, nat_tests)
+  node-there of_node.Start n is none = grind (arith, nat_tests)
+  node-there (of_node.End as_what) n is none = grind (arith, nat_tests)
+  node-there of_node.MarkDeleting n is none = grind (arith, nat_tests)
+  node-there of_node.Gone n is none = grind (arith, nat_tests)
+  node-there of_node.Free n is none = grind (arith, nat_tests)
+
+  pub job-there : (kind : JobKind) (j : JobId) → judge c s (job_event kind session j) ≡ Ok what → slice_get s.jobs j.0 ≡ None → ⊥
+  job-there of_job.Acquire j is none = grind (arith, nat_tests)
+  job-there of_job.Submit j is none = grind (arith, nat_tests)
+  job-there of_job.Take j is none = grind (arith, nat_tests)
+  job-there of_job.Finish j is none = grind (arith, nat_tests)
+  job-there of_job.Release j is none = grind (arith, nat_tests)

@@ -1,0 +1,77 @@
+-- a role has one current session at most
+use Rattle.std.proofs.Common.{◌≡◌, ◌<◌, ◌+◌, ◌-◌, ℕ, Bool, true, false, drop, Option, Some, None, refl, ap, arith}
+use Rattle.std.specs.Prelude.{slice_get, ◌&&◌, ◌==◌, not, nat_lt, if◌then◌else◌, is_some}
+use Rattle.std.specs.Option.{option_map_or}
+use Rattle.std.specs.List.{list_any}
+use Rattle.std.proofs.lemmas.Bool.Decides.{nat_tests}
+use Rattle.np_text.specs.declared.id.SessionId.{SessionId}
+use Rattle.np_text.specs.declared.id.Role.{Role}
+use Rattle.np_machine.specs.declared.state.SessionFacts.{SessionFacts}
+use Rattle.np_site.specs.Configuration.{Configuration}
+use Rattle.np_machine.specs.Tables.{session_of}
+use Rattle.np_machine.specs.State.{State}
+use Rattle.np_useful.specs.Sessions.{speaks_for, is_current, has_current, may_open}
+use Rattle.np_roles.specs.Choices.{NamesCurrent}
+use Rattle.np_roles.proofs.Places.{any-there}
+
+pub both : (t u : Bool) → (t && not u) ≡ true → (t ≡ true) × (u ≡ false)
+both true true is = absurd cc
+both true false is = (refl, refl)
+both false u is = absurd cc
+
+-- what a current session is
+pub record Speaks (role : Role) (session : SessionId) (s : State) : Type 0 where
+  pub begun : 0 < session.0
+  pub facts : SessionFacts
+  pub there : slice_get s.sessions (session.0 - 1) ≡ Some facts
+  pub speaks : speaks_for role facts ≡ true
+  pub last : list_any (speaks_for role) (drop session.0 s.sessions) ≡ false
+
+module _ (role : Role) (s : State) where
+  above : (n : ℕ) → (n == 0) ≡ false → 0 < n
+  above n is = grind (arith, nat_tests)
+
+  speaks-by : (session : SessionId) (b : Bool) (o : Option SessionFacts) → (session.0 == 0) ≡ b → slice_get s.sessions (session.0 - 1) ≡ o → (option_map_or (speaks_for role) (if b then None else o) false && not (list_any (speaks_for role) (drop session.0 s.sessions))) ≡ true → Speaks role session s
+  speaks-by session true o zeroth there is = absurd cc
+  speaks-by session false None some there is = absurd cc
+  speaks-by session false (Some facts) some there is =
+      let parts = both (speaks_for role facts) (list_any (speaks_for role) (drop session.0 s.sessions)) is in
+      record { begun = above session.0 some; facts = facts; there = there; speaks = parts.0; last = parts.1 }
+
+  pub current-speaks : (session : SessionId) → is_current role session s ≡ true → Speaks role session s
+  current-speaks session is = speaks-by session (session.0 == 0) (slice_get s.sessions (session.0 - 1)) refl refl is
+
+  pub current-has : (session : SessionId) → is_current role session s ≡ true → has_current role s ≡ true
+  current-has session is =
+      let who = current-speaks session is in
+      any-there (speaks_for role) s.sessions 0 (session.0 - 1) who.facts (omega arith) who.there who.speaks
+
+  not-before : (one other : SessionId) → Speaks role one s → Speaks role other s → one.0 < other.0 → ⊥
+  not-before one other first second before =
+      let again : list_any (speaks_for role) (drop one.0 s.sessions) ≡ true = any-there (speaks_for role) s.sessions one.0 (other.0 - 1) second.facts (omega (arith, before)) second.there second.speaks in
+      let never : list_any (speaks_for role) (drop one.0 s.sessions) ≡ false = first.last in
+      cc
+
+  same-by : (one other : SessionId) (b d : Bool) → nat_lt one.0 other.0 ≡ b → nat_lt other.0 one.0 ≡ d → (one.0 < other.0 → ⊥) → (other.0 < one.0 → ⊥) → one.0 ≡ other.0
+  same-by one other b d less more not-less not-more = grind (arith, nat_tests)
+
+  -- the current session is one
+  pub one-current : (one other : SessionId) → is_current role one s ≡ true → is_current role other s ≡ true → one ≡ other
+  one-current one other first second =
+      let a = current-speaks one first in
+      let b = current-speaks other second in
+      let same : one.0 ≡ other.0 = same-by one other (nat_lt one.0 other.0) (nat_lt other.0 one.0) refl refl (not-before one other a b) (not-before other one b a) in
+      ap (λ (n : ℕ). record { 0 = n }) same
+
+-- ## a session that was begun
+
+pub session-after : (s : State) (at : ℕ) (facts : SessionFacts) → session_of (record { 0 = at + 1 }) s ≡ Some facts → slice_get s.sessions at ≡ Some facts
+session-after s at facts is = grind (arith, nat_tests)
+
+pub session-at : (s : State) (n : ℕ) (facts : SessionFacts) → session_of (record { 0 = n }) s ≡ Some facts → slice_get s.sessions (n - 1) ≡ Some facts
+session-at s n facts is = grind (arith, nat_tests)
+
+-- who has a current session opens none
+pub has-some : (c : Configuration) (role : Role) (s : State) (o : Option SessionId) → NamesCurrent role s o → is_some o ≡ true → false ≡ may_open c role s
+has-some c role s None names some = absurd cc
+has-some c role s (Some session) names some = rw (current-has role s session names) refl

@@ -1,0 +1,82 @@
+-- the opening of a session
+use Rattle.std.proofs.Common.{◌≡◌, ℕ, Bool, true, false, refl, ap, subst, arith}
+use Rattle.std.specs.Prelude.{◌&&◌, ◌==◌, not, is_ok}
+use Rattle.std.proofs.lemmas.Bool.Decides.{nat_tests}
+use Rattle.np_text.specs.declared.id.SessionId.{SessionId}
+use Rattle.np_text.specs.declared.id.Role.{Role}
+use Rattle.np_text.specs.declared.id.Role.TheVariants.{Launcher, Janitor, Requester, Reaper}
+use Rattle.np_site.specs.Configuration.{Configuration}
+use Rattle.np_event.specs.declared.event.Event.TheVariants as ev
+use Rattle.np_machine.specs.Laws.{same_role}
+use Rattle.np_machine.specs.Session.{is_role}
+use Rattle.np_machine.specs.State.{State}
+use Rattle.np_machine.specs.Step.{judge}
+use Rattle.np_useful.specs.Sessions.{is_current, has_current, is_stopped, may_open}
+use Rattle.np_useful.specs.Useful.{IsUseful, row_holds}
+use Rattle.np_roles.specs.Choices.{NoneOpens}
+use Rattle.np_roles.proofs.Currents.{current-has}
+
+and-parts : (t u : Bool) → (t && u) ≡ true → (t ≡ true) × (u ≡ true)
+and-parts true true is = (refl, refl)
+and-parts true false is = absurd cc
+and-parts false u is = absurd cc
+
+equal : (m n : ℕ) → (m == n) ≡ true → m ≡ n
+equal m n is = grind (arith, nat_tests)
+
+itself : (n : ℕ) → (n == n) ≡ true
+itself n = grind (arith, nat_tests)
+
+-- the same role is one role
+pub same-role : (one other : Role) → same_role one other ≡ true → one ≡ other
+same-role (Launcher p) (Launcher q) is = ap (λ (n : ℕ). Launcher (record { 0 = n })) (equal p.0 q.0 is)
+same-role (Launcher p) (Janitor q) is = absurd cc
+same-role (Launcher p) (Requester q) is = absurd cc
+same-role (Launcher p) Reaper is = absurd cc
+same-role (Janitor p) (Launcher q) is = absurd cc
+same-role (Janitor p) (Janitor q) is = ap (λ (n : ℕ). Janitor (record { 0 = n })) (equal p.0 q.0 is)
+same-role (Janitor p) (Requester q) is = absurd cc
+same-role (Janitor p) Reaper is = absurd cc
+same-role (Requester p) (Launcher q) is = absurd cc
+same-role (Requester p) (Janitor q) is = absurd cc
+same-role (Requester p) (Requester q) is = ap (λ (n : ℕ). Requester (record { 0 = n })) (equal p.0 q.0 is)
+same-role (Requester p) Reaper is = absurd cc
+same-role Reaper (Launcher q) is = absurd cc
+same-role Reaper (Janitor q) is = absurd cc
+same-role Reaper (Requester q) is = absurd cc
+same-role Reaper Reaper is = refl
+
+module _ (c : Configuration) (s : State) where
+  -- a row for an opening is the role's own, which may open
+  opened : (role other : Role) → row_holds c s role (ev.OpenSession other) ≡ true → (same_role other role ≡ true) × (may_open c other s ≡ true)
+  opened (Launcher p) other is = and-parts (same_role other (Launcher p)) (may_open c other s) is
+  opened (Janitor p) other is = and-parts (same_role other (Janitor p)) (may_open c other s) is
+  opened (Requester q) other is = and-parts (same_role other (Requester q)) (may_open c other s) is
+  opened Reaper other is = absurd cc
+
+  pub none-opens : (role : Role) → may_open c role s ≡ false → NoneOpens c s role
+  none-opens role is = λ other useful.
+      let parts = opened role other useful.row in
+      let same : other ≡ role = same-role other role parts.0 in
+      let may : may_open c role s ≡ true = subst (λ (r : Role). may_open c r s ≡ true) same parts.1 in
+      cc
+
+  has-no-opening : (has stops : Bool) → has ≡ true → (not has && not stops) ≡ false
+  has-no-opening true stops is = refl
+  has-no-opening false stops is = absurd cc
+
+  -- a role that has a session opens none
+  pub current-opens : (role : Role) (session : SessionId) → is_current role session s ≡ true → NoneOpens c s role
+  current-opens role session is = none-opens role (has-no-opening (has_current role s) (is_stopped c role s) (current-has role s session is))
+
+  row-itself : (role : Role) → is_role c role ≡ true → may_open c role s ≡ true → row_holds c s role (ev.OpenSession role) ≡ true
+  row-itself (Launcher p) is may = rw (itself p.0, may) refl
+  row-itself (Janitor p) is may = rw (itself p.0, may) refl
+  row-itself (Requester q) is may = rw (itself q.0, may) refl
+  row-itself Reaper is may = absurd cc
+
+  opens-accepted : (role : Role) → is_role c role ≡ true → is_ok (judge c s (ev.OpenSession role)) ≡ true
+  opens-accepted role is = rw is refl
+
+  pub may-opens : (role : Role) → is_role c role ≡ true → may_open c role s ≡ true → IsUseful c s role (ev.OpenSession role)
+  may-opens role is may = record { accepted = opens-accepted role is; maker = refl; row = row-itself role is may }

@@ -1,0 +1,98 @@
+-- at which place a search finds, and members from a place on
+use Rattle.std.proofs.Common.{◌≡◌, ◌∙◌, ◌<◌, ◌≤◌, ◌+◌, ◌-◌, ℕ, zero, suc, add-one, Bool, true, false, cond, List, [], ◌∷◌, length, drop, Option, Some, None, refl, sym, ap, arith}
+use Rattle.std.specs.Prelude.{find, filter, slice_get, is_some, ◌||◌, ◌&&◌, ◌==◌}
+use Rattle.std.specs.List.{list_any}
+use Rattle.std.proofs.lemmas.Bool.Decides.{nat_tests}
+
+-- the member stands at a place of the list
+pub record StandsIn {X : Type 0} (x : X) (xs : List X) : Type 0 where
+  pub at : ℕ
+  pub within : at < length xs
+  pub there : slice_get xs at ≡ Some x
+
+place-by : {X : Type 0} (p : X → Bool) (x y : X) (xs : List X) (b : Bool) → (find p xs ≡ Some x → StandsIn x xs) → cond b (Some y) (find p xs) ≡ Some x → StandsIn x (y ∷ xs)
+place-by p x y xs true later there = record { at = 0; within = omega arith; there = there }
+place-by p x y xs false later there =
+    let place = later there in
+    record { at = suc place.at; within = omega (arith, place.within); there = place.there }
+
+pub find-place : {X : Type 0} (p : X → Bool) (xs : List X) (x : X) → find p xs ≡ Some x → StandsIn x xs
+find-place p [] x there = absurd cc
+find-place p (y ∷ xs) x there = place-by p x y xs (p y) (find-place p xs x) there
+
+pub within : {X : Type 0} (xs : List X) (i : ℕ) (x : X) → slice_get xs i ≡ Some x → i < length xs
+within [] i x there = absurd cc
+within (y ∷ xs) zero x there = omega arith
+within (y ∷ xs) (suc i) x there = let later = within xs i x there in omega (arith, later)
+
+or-true : (a b : Bool) → b ≡ true → (a || b) ≡ true
+or-true true b is = refl
+or-true false b is = is
+
+-- one that passes stands behind each place up to its own
+pub any-there : {X : Type 0} (p : X → Bool) (xs : List X) (k i : ℕ) (x : X) → k ≤ i → slice_get xs i ≡ Some x → p x ≡ true → list_any p (drop k xs) ≡ true
+any-there p [] k i x low there passes = absurd cc
+any-there p (y ∷ xs) zero zero x low there passes = let same : y ≡ x = cc in rw (ap p same, passes) refl
+any-there p (y ∷ xs) zero (suc i) x low there passes = or-true (p y) (list_any p xs) (any-there p xs zero i x (omega arith) there passes)
+any-there p (y ∷ xs) (suc k) zero x low there passes = absurd (omega arith)
+any-there p (y ∷ xs) (suc k) (suc i) x low there passes = any-there p xs k i x (omega arith) there passes
+
+-- from a place on: the member there, or one behind it
+pub any-here : {X : Type 0} (p : X → Bool) (xs : List X) (i : ℕ) (x : X) → slice_get xs i ≡ Some x → list_any p (drop i xs) ≡ (p x || list_any p (drop (suc i) xs))
+any-here p [] i x there = absurd cc
+any-here p (y ∷ xs) zero x there = let same : y ≡ x = cc in rw (ap p same) refl
+any-here p (y ∷ xs) (suc i) x there = any-here p xs i x there
+
+pub drop-past : {X : Type 0} (xs : List X) (i : ℕ) → length xs ≤ i → drop i xs ≡ []
+drop-past [] zero past = refl
+drop-past [] (suc i) past = refl
+drop-past (x ∷ xs) zero past = absurd (omega arith)
+drop-past (x ∷ xs) (suc i) past = drop-past xs i (omega arith)
+
+pub some-there : {X : Type 0} (xs : List X) (i : ℕ) → i < length xs → slice_get xs i ≡ None → ⊥
+some-there [] i low none = omega arith
+some-there (x ∷ xs) zero low none = cc
+some-there (x ∷ xs) (suc i) low none = some-there xs i (omega arith) none
+
+pub none-is : {X : Type 0} (o : Option X) → false ≡ is_some o → o ≡ None
+none-is None is = refl
+none-is (Some x) is = absurd cc
+
+-- ## a step of a walk
+
+pub any-later : {X : Type 0} (p : X → Bool) (xs : List X) (i : ℕ) (x : X) → slice_get xs i ≡ Some x → p x ≡ false → list_any p (drop (i + 1) xs) ≡ list_any p (drop i xs)
+any-later p xs i x there fails = rw add-one (sym (any-here p xs i x there ∙ ap (λ (b : Bool). b || list_any p (drop (suc i) xs)) fails))
+
+pub any-before : {X : Type 0} (p : X → Bool) (xs : List X) (n : ℕ) (x : X) → 0 < n → slice_get xs (n - 1) ≡ Some x → p x ≡ false → list_any p (drop n xs) ≡ false → list_any p (drop (n - 1) xs) ≡ false
+any-before p xs n x some there fails none =
+    let back : suc (n - 1) ≡ n = omega (arith, some) in
+    any-here p xs (n - 1) x there ∙ ap (λ (b : Bool). b || list_any p (drop (suc (n - 1)) xs)) fails ∙ ap (λ (m : ℕ). list_any p (drop m xs)) back ∙ none
+
+pub past-all : {X : Type 0} (xs : List X) (i : ℕ) → slice_get xs i ≡ None → drop i xs ≡ []
+past-all [] zero none = refl
+past-all [] (suc i) none = refl
+past-all (x ∷ xs) zero none = absurd cc
+past-all (x ∷ xs) (suc i) none = past-all xs i none
+
+drop-there : {X : Type 0} (xs : List X) (i : ℕ) (x : X) → slice_get xs i ≡ Some x → drop i xs ≡ x ∷ drop (suc i) xs
+drop-there [] i x there = absurd cc
+drop-there {X = X} (y ∷ xs) zero x there = let same : y ≡ x = cc in ap (λ (z : X). z ∷ xs) same
+drop-there (y ∷ xs) (suc i) x there = drop-there xs i x there
+
+module _ {X : Type 0} (p : X → Bool) where
+  -- the one at the place is the first of those that pass
+  pub filter-first : (xs : List X) (i : ℕ) (x : X) → slice_get xs i ≡ Some x → p x ≡ true → slice_get (filter p (drop i xs)) 0 ≡ Some x
+  filter-first xs i x there passes = rw (drop-there xs i x there, passes) refl
+
+  later-by : (x : X) (xs : List X) (left : ℕ) (b : Bool) → p x ≡ b → (b && (left == 0)) ≡ false → slice_get (filter p xs) (left - cond b 1 0) ≡ slice_get (filter p (x ∷ xs)) left
+  later-by x xs left false is other = let less : left - 0 ≡ left = omega arith in rw is (ap (λ (n : ℕ). slice_get (filter p xs) n) less)
+  later-by x xs zero true is other = absurd cc
+  later-by x xs (suc left) true is other = let less : suc left - 1 ≡ left = omega arith in rw is (ap (λ (n : ℕ). slice_get (filter p xs) n) less)
+
+  -- past the one at the place, which is not the one that is looked for
+  pub filter-later : (xs : List X) (i : ℕ) (x : X) (left : ℕ) → slice_get xs i ≡ Some x → (p x && (left == 0)) ≡ false → slice_get (filter p (drop (i + 1) xs)) (left - cond (p x) 1 0) ≡ slice_get (filter p (drop i xs)) left
+  filter-later xs i x left there other = rw (add-one, drop-there xs i x there) (later-by x (drop (suc i) xs) left (p x) refl other)
+
+pub next-parts : (own : Bool) (left : ℕ) → true ≡ (own && (left == 0)) → (own ≡ true) × (left ≡ 0)
+next-parts false left is = absurd cc
+next-parts true left is = (refl, grind (arith, nat_tests))

@@ -1,0 +1,21 @@
+-- the candidates of a kind, by place
+use Rattle.std.specs.Prelude.{ℕ, Option, length, slice_get}
+use Rattle.std.specs.Option.{option_map}
+use Rattle.np_text.specs.declared.id.SessionId.{SessionId}
+use Rattle.np_event.specs.declared.event.Event.{Event}
+use Rattle.np_machine.specs.State.{State}
+use Rattle.np_roles.specs.declared.kind.EventKind.{EventKind}
+use Rattle.np_roles.specs.declared.kind.EventKind.TheVariants as kind_of
+use Rattle.np_roles.specs.Kinds.{request_event, node_event, job_event}
+
+-- how many places the table has that the kind names
+abbrev pub places : State → EventKind → ℕ
+places s (kind_of.Request kind) = length s.requests
+places s (kind_of.Node kind) = length s.nodes
+places s (kind_of.Job kind) = length s.jobs
+
+-- the session's event of the kind that names what stands at the place
+abbrev pub candidate : State → SessionId → EventKind → ℕ → Option Event
+candidate s session (kind_of.Request kind) at = option_map (λ e. request_event kind session e.id) (slice_get s.requests at)
+candidate s session (kind_of.Node kind) at = option_map (λ e. node_event kind session e.id) (slice_get s.nodes at)
+candidate s session (kind_of.Job kind) at = option_map (λ _. job_event kind session (record { 0 = at })) (slice_get s.jobs at)

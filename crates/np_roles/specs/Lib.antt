@@ -1,0 +1,4 @@
+pub mod Kinds
+pub mod Choices
+pub mod Passing
+pub mod Candidates

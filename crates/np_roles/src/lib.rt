@@ -1,0 +1,26 @@
+//! What the choices of all roles share: a role's current session, the planned faults that stop it,
+//! the opening of its session, and the search for its first useful event.
+//!
+//! A role has rows (`Rows`), which say of an event whether it is useful as far as the role goes. The
+//! candidates of a kind of event (`EventKind`) are the events of the current session that name what
+//! stands in the kind's table, place by place. A candidate is tested by the machine's judge and then
+//! by its row, and the first that passes is chosen. `specs/Choices` says what a choice answers: a
+//! useful event (np_useful), or none exactly where there is none.
+#![tactic(auto)]
+
+mod first;
+mod handles;
+mod kind;
+mod of_kind;
+mod rows;
+mod session;
+
+pub use first::{Candidates, first_that_passes};
+pub use handles::has_some_handle;
+pub use kind::{EventKind, JobKind, NodeKind, RequestKind, job_event, node_event, request_event};
+pub use of_kind::{first_of_kind, first_of_kinds};
+pub use rows::{Rows, passes};
+pub use session::{
+    choose_opening, current_session, fault_of, is_same_role, is_spoken_later, is_stopped, may_open,
+    speaks_for, strikes_of,
+};

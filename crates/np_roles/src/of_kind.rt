@@ -1,0 +1,91 @@
+//! The events of a kind as candidates.
+
+ghost use Rattle.std.specs.Prelude.{◌≡◌, true};
+ghost use Rattle.np_fits.specs.Fits.{Fits};
+ghost use Rattle.np_useful.specs.Sessions.{is_current};
+ghost use Rattle.np_roles.specs.Candidates.{places, candidate};
+ghost use Rattle.np_roles.specs.Choices.{ChoosesOf, ChoosesOfAny};
+
+use crate::first::{Candidates, first_that_passes};
+use crate::kind::{EventKind, job_event, node_event, request_event};
+use crate::rows::Rows;
+use np_event::Event;
+use np_look::Look;
+use np_text::{JobId, SessionId};
+
+/// The session's events of the kind, by the places of the kind's table.
+#[derive(Clone, Copy)]
+struct OfKind {
+    session: SessionId,
+    kind: EventKind,
+}
+
+impl Candidates for OfKind {
+    ghost places = { λ of c s. places s of.kind };
+
+    ghost candidate = { λ of c s at. candidate s of.session of.kind at };
+
+    fn places<L: Look>(&self, look: &L) -> u32 {
+        match self.kind {
+            EventKind::Request(_) => look.requests(),
+            EventKind::Node(_) => look.nodes(),
+            EventKind::Job(_) => look.jobs(),
+        }
+    }
+
+    fn candidate<L: Look>(&self, look: &L, at: u32) -> Option<Event> {
+        match self.kind {
+            EventKind::Request(kind) => match look.request_at(at) {
+                None => None,
+                Some(request) => Some(request_event(kind, self.session, request)),
+            },
+            EventKind::Node(kind) => match look.node_at(at) {
+                None => None,
+                Some(node) => Some(node_event(kind, self.session, node)),
+            },
+            EventKind::Job(kind) => match look.job(JobId(at)) {
+                None => None,
+                Some(_) => Some(job_event(kind, self.session, JobId(at))),
+            },
+        }
+    }
+}
+
+/// The first useful event of the kind that the current session may make, in the order of the kind's
+/// table, or `None` exactly where no event of the kind is useful. It tests each candidate up to the
+/// first that passes.
+pub fn first_of_kind<L: Look, R: Rows>(
+    look: &L,
+    rows: &R,
+    session: SessionId,
+    kind: EventKind,
+) -> Option<Event>
+    requires fits { Fits (L.site look.now) (L.state look.now) }
+    requires knows { R.knows rows.now (L.site look.now) (L.state look.now) }
+    requires current { is_current (R.role rows.now) session (L.state look.now) ≡ true }
+    ensures { ChoosesOf (L.site look.now) (L.state look.now) (R.role rows.now) kind result }
+{
+    first_that_passes(look, rows, &OfKind { session, kind })
+}
+
+/// The first useful event of the first of the kinds that has one, or `None` exactly where no event of
+/// any of the kinds is useful. It tests the candidates of kind after kind up to the first that passes.
+pub fn first_of_kinds<L: Look, R: Rows>(
+    look: &L,
+    rows: &R,
+    session: SessionId,
+    kinds: &[EventKind],
+) -> Option<Event>
+    requires fits { Fits (L.site look.now) (L.state look.now) }
+    requires knows { R.knows rows.now (L.site look.now) (L.state look.now) }
+    requires current { is_current (R.role rows.now) session (L.state look.now) ≡ true }
+    ensures { ChoosesOfAny (L.site look.now) (L.state look.now) (R.role rows.now) kinds.now result }
+{
+    for kind in kinds {
+        let found = first_of_kind(look, rows, session, *kind);
+        if found.is_some() {
+            return found;
+        }
+    }
+    None
+}

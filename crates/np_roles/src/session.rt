@@ -1,0 +1,163 @@
+//! Who acts for a role, and whether a session may begin.
+
+ghost use Rattle.std.specs.Prelude.{◌≡◌, ◌&&◌, ◌==◌, true, false, cond, drop, slice_get};
+ghost use Rattle.std.specs.List.{list_any};
+ghost use Rattle.np_machine.specs.Laws.{same_role};
+ghost use Rattle.np_machine.specs.Session.{is_role};
+ghost use Rattle.np_fits.specs.Fits.{Fits};
+ghost use Rattle.np_useful.specs.Sessions.{speaks_for, has_current, faults_of, strikes_of, is_stopped, may_open};
+ghost use Rattle.np_roles.specs.Choices.{NamesCurrent, ChoosesOpening};
+
+use np_config::Config;
+use np_event::Event;
+use np_look::Look;
+use np_machine::SessionFacts;
+use np_site::{Fault, FaultKind};
+use np_text::{Role, SessionId};
+
+/// Whether both are the same role.
+pub fn is_same_role(one: Role, other: Role) -> bool
+    ensures { result ≡ same_role one other }
+{
+    match one {
+        Role::Launcher(pool) => match other {
+            Role::Launcher(of) => pool.0 == of.0,
+            Role::Janitor(_) | Role::Requester(_) | Role::Reaper => false,
+        },
+        Role::Janitor(pool) => match other {
+            Role::Janitor(of) => pool.0 == of.0,
+            Role::Launcher(_) | Role::Requester(_) | Role::Reaper => false,
+        },
+        Role::Requester(requester) => match other {
+            Role::Requester(of) => requester.0 == of.0,
+            Role::Launcher(_) | Role::Janitor(_) | Role::Reaper => false,
+        },
+        Role::Reaper => match other {
+            Role::Reaper => true,
+            Role::Launcher(_) | Role::Janitor(_) | Role::Requester(_) => false,
+        },
+    }
+}
+
+/// Whether it is a live session of the role that is not mute.
+pub fn speaks_for(role: Role, facts: &SessionFacts) -> bool
+    ensures { result ≡ speaks_for role facts.now }
+{
+    is_same_role(facts.role, role) && facts.live && !facts.mute
+}
+
+/// Whether a session that began after this one speaks for the role. It costs as many sessions as
+/// began after it.
+pub fn is_spoken_later<L: Look>(look: &L, role: Role, session: SessionId) -> bool
+    requires { Fits (L.site look.now) (L.state look.now) }
+    ensures { result ≡ list_any (speaks_for role) (drop session.0 (L.state look.now).sessions) }
+{
+    for at in session.0..look.sessions() {
+        let Some(facts) = look.session(SessionId(at + 1)) else {
+            return false;
+        };
+        if speaks_for(role, &facts) {
+            return true;
+        }
+    }
+    false
+}
+
+/// The role's current session, or `None` exactly where it has none. It is looked for from the newest
+/// session on, and costs as many as began after it, or all where there is none.
+pub fn current_session<L: Look>(look: &L, role: Role) -> Option<SessionId>
+    requires { Fits (L.site look.now) (L.state look.now) }
+    ensures { NamesCurrent role (L.state look.now) result }
+{
+    let mut left = look.sessions();
+    while left > 0 {
+        let session = SessionId(left);
+        let Some(facts) = look.session(session) else {
+            return None;
+        };
+        if speaks_for(role, &facts) {
+            return Some(session);
+        }
+        left -= 1;
+    }
+    None
+}
+
+/// How many sessions of the role were lost.
+pub fn strikes_of<L: Look>(look: &L, role: Role) -> u32
+    ensures { result ≡ strikes_of role (L.state look.now) }
+{
+    match look.role(role) {
+        None => 0,
+        Some(deeds) => deeds.strikes,
+    }
+}
+
+/// 1 where it holds.
+fn one_if(holds: bool) -> u32
+    ensures { result ≡ cond holds 1 0 }
+{
+    if holds { 1 } else { 0 }
+}
+
+/// Whether it is the role's own, and no more are to be passed.
+fn is_next(own: bool, left: u32) -> bool
+    ensures { result ≡ (own && (left == 0)) }
+{
+    own && left == 0
+}
+
+/// The role's fault at a place among its faults, in the configuration's order. It costs as many
+/// faults as the configuration has.
+pub fn fault_of(config: &Config, role: Role, place: u32) -> Option<Fault>
+    ensures { result ≡ slice_get (faults_of config.now role) place }
+{
+    config.soundness();
+    let mut left = place;
+    let mut at = 0;
+    while let Some(fault) = config.fault(at) {
+        let own = is_same_role(fault.role, role);
+        if is_next(own, left) {
+            return Some(*fault);
+        }
+        left = left.saturating_sub(one_if(own));
+        at += 1;
+    }
+    None
+}
+
+/// Whether the role stopped for good: the last fault that befell it was a stop. It costs as many
+/// faults as the configuration has.
+pub fn is_stopped<L: Look>(look: &L, role: Role) -> bool
+    ensures { result ≡ is_stopped (L.site look.now) role (L.state look.now) }
+{
+    let strikes = strikes_of(look, role);
+    if strikes == 0 {
+        return false;
+    }
+    match fault_of(look.config(), role, strikes - 1) {
+        None => false,
+        Some(fault) => fault.kind == FaultKind::Stop,
+    }
+}
+
+/// Whether a session of the role may begin: it has no current one, and has not stopped.
+pub fn may_open<L: Look>(look: &L, role: Role) -> bool
+    requires { Fits (L.site look.now) (L.state look.now) }
+    ensures { result ≡ may_open (L.site look.now) role (L.state look.now) }
+{
+    current_session(look, role).is_none() && !is_stopped(look, role)
+}
+
+/// The opening of a session of the role, which has none, or `None` exactly where it stopped.
+pub fn choose_opening<L: Look>(look: &L, role: Role) -> Option<Event>
+    requires fits { Fits (L.site look.now) (L.state look.now) }
+    requires role { is_role (L.site look.now) role ≡ true }
+    requires none { has_current role (L.state look.now) ≡ false }
+    ensures { ChoosesOpening (L.site look.now) (L.state look.now) role result }
+{
+    if is_stopped(look, role) {
+        return None;
+    }
+    Some(Event::OpenSession { role })
+}
