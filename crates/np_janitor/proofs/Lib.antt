@@ -1,0 +1,2 @@
+pub mod Janitors
+pub mod Strikes

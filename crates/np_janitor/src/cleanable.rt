@@ -1,0 +1,98 @@
+//! Which nodes a janitor removes or frees.
+
+ghost use Rattle.std.specs.Prelude.{◌≡◌, ◌&&◌, is_some, is_none};
+ghost use Rattle.np_machine.specs.Node.{standing};
+ghost use Rattle.np_machine.specs.Reasons.{ready_age, is_past, is_old_ready, is_old_hold, is_paused};
+ghost use Rattle.np_fits.specs.Fits.{Fits};
+ghost use Rattle.np_useful.specs.Cleanable.{is_left_over, is_to_go, is_cleanable};
+
+use np_config::Config;
+use np_look::Look;
+use np_record::NodeRecord;
+use np_text::{LabelId, NodeState, PoolId};
+
+/// A pool, with whether it is paused.
+#[derive(Clone, Copy)]
+pub(crate) struct PoolPause {
+    pub(crate) pool: PoolId,
+    pub(crate) paused: bool,
+}
+
+/// Whether a pool is paused. The one whose pause is known costs nothing.
+pub(crate) fn is_paused<L: Look>(look: &L, known: PoolPause, pool: PoolId) -> bool
+    requires fits { Fits (L.site look.now) (L.state look.now) }
+    requires known { known.paused ≡ is_paused (L.site look.now) (L.state look.now) known.pool }
+    ensures { result ≡ is_paused (L.site look.now) (L.state look.now) pool }
+{
+    if pool.0 == known.pool.0 {
+        return known.paused;
+    }
+    look.is_paused(pool)
+}
+
+/// Older than the age allows, where it allows one; 0 is no age.
+fn is_past(age: u32, since: u32, tick: u32) -> bool
+    ensures { result ≡ is_past age since tick }
+{
+    age > 0 && tick.saturating_sub(since) > age
+}
+
+fn ready_age(config: &Config, label: LabelId) -> u32
+    ensures { result ≡ ready_age config.now label }
+{
+    match config.label(label) {
+        None => 0,
+        Some(row) => row.max_ready_age,
+    }
+}
+
+/// Whether it waited longer as ready than its label allows.
+fn is_old_ready<L: Look>(look: &L, kept: &NodeRecord) -> bool
+    ensures { result ≡ is_old_ready (L.site look.now) (L.state look.now) kept.now }
+{
+    is_past(
+        ready_age(look.config(), kept.label),
+        kept.since,
+        look.tick(),
+    )
+}
+
+/// Whether it was held longer than the configuration allows.
+fn is_old_hold<L: Look>(look: &L, kept: &NodeRecord) -> bool
+    ensures { result ≡ is_old_hold (L.site look.now) (L.state look.now) kept.now }
+{
+    is_past(look.config().max_hold_age(), kept.since, look.tick())
+}
+
+/// Whether it is allocated to a request that is not there any more.
+fn is_left_over<L: Look>(look: &L, kept: &NodeRecord) -> bool
+    ensures { result ≡ is_left_over (L.state look.now) kept.now }
+{
+    match kept.allocated_to {
+        None => false,
+        Some(request) => look.asked(request).is_none(),
+    }
+}
+
+/// Whether it is allocated to no request, and old or in a paused pool.
+fn is_to_go<L: Look>(look: &L, known: PoolPause, kept: &NodeRecord) -> bool
+    requires fits { Fits (L.site look.now) (L.state look.now) }
+    requires known { known.paused ≡ is_paused (L.site look.now) (L.state look.now) known.pool }
+    ensures { result ≡ is_to_go (L.site look.now) (L.state look.now) kept.now }
+{
+    kept.allocated_to.is_none() && (is_old_ready(look, kept) || is_paused(look, known, kept.pool))
+}
+
+/// Whether a janitor may remove or free the node where nobody holds it.
+pub(crate) fn is_cleanable<L: Look>(look: &L, known: PoolPause, kept: &NodeRecord) -> bool
+    requires fits { Fits (L.site look.now) (L.state look.now) }
+    requires known { known.paused ≡ is_paused (L.site look.now) (L.state look.now) known.pool }
+    ensures { result ≡ is_cleanable (L.site look.now) (L.state look.now) kept.now }
+{
+    match kept.state {
+        NodeState::Building | NodeState::InUse | NodeState::Used => true,
+        NodeState::Deleting | NodeState::Failed => true,
+        NodeState::Ready => is_left_over(look, kept) || is_to_go(look, known, kept),
+        NodeState::Hold => is_old_hold(look, kept),
+    }
+}

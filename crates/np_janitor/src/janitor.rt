@@ -1,0 +1,178 @@
+//! The janitor of a pool.
+
+ghost use Rattle.std.specs.Prelude.{◌≡◌, ◌&&◌, true, not, is_none};
+ghost use Rattle.np_text.specs.declared.id.Role.TheVariants.{Janitor, Requester};
+ghost use Rattle.np_machine.specs.Kinds.{is_pending};
+ghost use Rattle.np_machine.specs.Order.{is_pending_by};
+ghost use Rattle.np_machine.specs.Reasons.{is_paused};
+ghost use Rattle.np_machine.specs.Session.{is_role};
+ghost use Rattle.np_machine.specs.Tables.{node_holder};
+ghost use Rattle.np_fits.specs.Fits.{Fits};
+ghost use Rattle.np_useful.specs.Cleanable.{is_cleanable};
+ghost use Rattle.np_useful.specs.Rows.{request_is, node_is, job_is, is_node_of, has_some_handle};
+ghost use Rattle.np_useful.specs.Sessions.{is_stopped};
+ghost use Rattle.np_roles.specs.Choices.{Chooses};
+ghost use Rattle.np_janitor.specs.Order.{janitor_order};
+
+use crate::cleanable::{PoolPause, is_cleanable};
+use np_event::Event;
+use np_look::Look;
+use np_roles::{
+    EventKind, JobKind, NodeKind, RequestKind, Rows, choose_opening, current_session,
+    first_of_kinds, has_some_handle, is_same_role, is_stopped, may_open,
+};
+use np_text::{JobId, NodeId, PoolId, RequestId, RequestState, Role};
+
+/// The kinds in the order of the crate's table.
+const ORDER: [EventKind; 11] = [
+    EventKind::Node(NodeKind::Gone),
+    EventKind::Node(NodeKind::Free),
+    EventKind::Node(NodeKind::MarkDeleting),
+    EventKind::Node(NodeKind::Unlock),
+    EventKind::Request(RequestKind::Reset),
+    EventKind::Request(RequestKind::Unlock),
+    EventKind::Request(RequestKind::FailDeclined),
+    EventKind::Job(JobKind::Finish),
+    EventKind::Job(JobKind::Release),
+    EventKind::Request(RequestKind::Lock),
+    EventKind::Node(NodeKind::Lock),
+];
+
+/// Whether the request is there, pending, and the pool serves it.
+fn is_served<L: Look>(look: &L, pool: PoolId, request: RequestId) -> bool
+    ensures { result ≡ request_is request (L.state look.now) (is_pending_by pool) }
+{
+    let Some(asked) = look.asked(request) else {
+        return false;
+    };
+    let own = match asked.pool {
+        None => false,
+        Some(other) => other.0 == pool.0,
+    };
+    asked.state == RequestState::Pending && own
+}
+
+/// Whether the request is there and not pending.
+fn is_given_back<L: Look>(look: &L, request: RequestId) -> bool
+    ensures { result ≡
+        request_is request (L.state look.now) (λ kept. not (is_pending kept.state)) }
+{
+    match look.asked(request) {
+        None => false,
+        Some(asked) => asked.state != RequestState::Pending,
+    }
+}
+
+/// Whether the node is there, and the pool's.
+fn is_of_pool<L: Look>(look: &L, pool: PoolId, node: NodeId) -> bool
+    ensures { result ≡ node_is node (L.state look.now) (is_node_of pool) }
+{
+    match look.node(node) {
+        None => false,
+        Some(kept) => kept.pool.0 == pool.0,
+    }
+}
+
+/// Whether the node is there, of the pool, to be cleaned up, and held by nobody.
+fn is_to_clean<L: Look>(look: &L, known: PoolPause, node: NodeId) -> bool
+    requires fits { Fits (L.site look.now) (L.state look.now) }
+    requires known { known.paused ≡ is_paused (L.site look.now) (L.state look.now) known.pool }
+    ensures { result ≡
+        (node_is node (L.state look.now)
+        (λ k. is_node_of known.pool k && is_cleanable (L.site look.now) (L.state look.now) k)
+        && is_none (node_holder node (L.state look.now).nodes)) }
+{
+    let Some(kept) = look.node(node) else {
+        return false;
+    };
+    kept.pool.0 == known.pool.0
+        && is_cleanable(look, known, &kept)
+        && look.node_holder(node).is_none()
+}
+
+/// Whether the node is there, and not to be cleaned up.
+fn is_clean<L: Look>(look: &L, known: PoolPause, node: NodeId) -> bool
+    requires fits { Fits (L.site look.now) (L.state look.now) }
+    requires known { known.paused ≡ is_paused (L.site look.now) (L.state look.now) known.pool }
+    ensures { result ≡ node_is node (L.state look.now)
+        (λ k. not (is_cleanable (L.site look.now) (L.state look.now) k)) }
+{
+    match look.node(node) {
+        None => false,
+        Some(kept) => !is_cleanable(look, known, &kept),
+    }
+}
+
+/// Whether the job's requester stopped for good.
+fn is_left_alone<L: Look>(look: &L, job: JobId) -> bool
+    ensures { result ≡ job_is job (L.site look.now)
+        (λ row. is_stopped (L.site look.now) (Requester row.requester) (L.state look.now)) }
+{
+    match look.config().job(job) {
+        None => false,
+        Some(row) => is_stopped(look, Role::Requester(row.requester)),
+    }
+}
+
+/// Whether the job is there, and has a handle.
+fn has_handle_left<L: Look>(look: &L, job: JobId) -> bool
+    ensures { result ≡ job_is job (L.site look.now) (has_some_handle (L.state look.now) job) }
+{
+    match look.config().job(job) {
+        None => false,
+        Some(row) => has_some_handle(look, job, row),
+    }
+}
+
+/// The rows of a pool's janitor, who knows whether the pool is paused.
+#[derive(Clone, Copy)]
+struct JanitorRows {
+    known: PoolPause,
+}
+
+impl Rows for JanitorRows {
+    ghost role = { λ rows. Janitor rows.known.pool };
+
+    ghost knows = { λ rows c s. rows.known.paused ≡ is_paused c s rows.known.pool };
+
+    fn holds<L: Look>(&self, look: &L, event: Event) -> bool {
+        let pool = self.known.pool;
+        match event {
+            Event::OpenSession { role } => {
+                is_same_role(role, Role::Janitor(pool)) && may_open(look, role)
+            }
+            Event::LockRequest { request, .. } => is_served(look, pool, request),
+            Event::Reset { request, .. } => is_served(look, pool, request),
+            Event::UnlockRequest { request, .. } => is_given_back(look, request),
+            Event::LockNode { node, .. } => is_to_clean(look, self.known, node),
+            Event::MarkDeleting { node, .. } => is_of_pool(look, pool, node),
+            Event::FreeNode { node, .. } => is_of_pool(look, pool, node),
+            Event::Gone { node, .. } => is_of_pool(look, pool, node),
+            Event::UnlockNode { node, .. } => is_clean(look, self.known, node),
+            Event::FailDeclined { .. } => true,
+            Event::Finish { job, .. } => is_left_alone(look, job),
+            Event::Release { job, .. } => has_handle_left(look, job),
+            _ => false,
+        }
+    }
+}
+
+/// A useful event of the pool's janitor, the first in the order of the crate's table, or `None`
+/// exactly where there is none. Its cost grows with the requests, the nodes and the jobs that there
+/// are, and where the janitor has no session with the sessions; pairs of them are never looked at.
+pub fn choose_janitor<L: Look>(look: &L, pool: PoolId) -> Option<Event>
+    requires fits { Fits (L.site look.now) (L.state look.now) }
+    requires pool { is_role (L.site look.now) (Janitor pool) ≡ true }
+    ensures { Chooses (L.site look.now) (L.state look.now) (Janitor pool) result }
+{
+    let Some(session) = current_session(look, Role::Janitor(pool)) else {
+        return choose_opening(look, Role::Janitor(pool));
+    };
+    let rows = JanitorRows {
+        known: PoolPause {
+            pool,
+            paused: look.is_paused(pool),
+        },
+    };
+    first_of_kinds(look, &rows, session, &ORDER)
+}
