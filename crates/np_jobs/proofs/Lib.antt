@@ -1,0 +1,5 @@
+pub mod WindowLemmas
+pub mod ForLemmas
+pub mod Accepted
+pub mod StepLemmas
+pub mod Made

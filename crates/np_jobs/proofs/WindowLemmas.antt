@@ -1,0 +1,201 @@
+-- the jobs of a requester that are not over, by their place among them
+use Rattle.std.proofs.Common.{◌≡◌, ◌<◌, ℕ, zero, suc, ◌+◌, List, [], ◌∷◌, length, take, drop, refl, sym, ap, subst, ◌∙◌, arith, Option, Some, None, Bool, true, false, cond, ◌≤◌}
+use Rattle.std.specs.Prelude.{slice_get, count_by, nat_lt, ◌&&◌, if◌then◌else◌}
+use Rattle.std.specs.List.{zip}
+use Rattle.std.specs.Option.{option_map_or}
+use Rattle.std.proofs.lemmas.List.Sums.{sum_by-cons}
+use Rattle.std.proofs.lemmas.Bool.Decides.{nat_tests}
+use Rattle.std.proofs.lemmas.Option.{slice_get_within}
+use Rattle.np_text.specs.declared.id.JobId.{JobId}
+use Rattle.np_text.specs.declared.id.RequesterId.{RequesterId}
+use Rattle.np_site.specs.Configuration.{Configuration}
+use Rattle.np_site.specs.declared.row.Job.{Job}
+use Rattle.np_record.specs.declared.record.JobRecord.{JobRecord}
+use Rattle.np_machine.specs.State.{State}
+use Rattle.np_look.specs.Readers.{is_unfinished_job, unfinished_from}
+use Rattle.np_useful.specs.Window.{is_unfinished, jobs_of, window_of, is_in_window}
+
+-- ## the configuration's rows from a number on
+
+some_at : {X : Type 0} (xs : List X) (i : ℕ) (x : X) (rest : List X) → drop i xs ≡ x ∷ rest → slice_get xs i ≡ Some x
+some_at [] zero x rest is = absurd cc
+some_at [] (suc i) x rest is = absurd cc
+some_at (y ∷ xs) zero x rest is = let same : y ≡ x = cc in rw same refl
+some_at (y ∷ xs) (suc i) x rest is = some_at xs i x rest is
+
+next_some : {X : Type 0} (xs : List X) (i : ℕ) (x : X) (rest : List X) → drop i xs ≡ x ∷ rest → drop (suc i) xs ≡ rest
+next_some [] zero x rest is = absurd cc
+next_some [] (suc i) x rest is = absurd cc
+next_some (y ∷ xs) zero x rest is = cc
+next_some (y ∷ xs) (suc i) x rest is = next_some xs i x rest is
+
+none_at : {X : Type 0} (xs : List X) (i : ℕ) → drop i xs ≡ [] → slice_get xs i ≡ None
+none_at [] i is = refl
+none_at (y ∷ xs) zero is = absurd cc
+none_at (y ∷ xs) (suc i) is = none_at xs i is
+
+next_none : {X : Type 0} (xs : List X) (i : ℕ) → drop i xs ≡ [] → drop (suc i) xs ≡ []
+next_none [] i is = refl
+next_none (y ∷ xs) zero is = absurd cc
+next_none (y ∷ xs) (suc i) is = next_none xs i is
+
+-- ## the place of a job
+
+-- the row at place i is the requester's and not over, and so many before it are
+pub record IsPlaced (q : RequesterId) (rows : List (Job × JobRecord)) (i at : ℕ) : Type 0 where
+  pub passes : option_map_or (is_unfinished q) (slice_get rows i) false ≡ true
+  pub count : count_by (is_unfinished q) (take i rows) ≡ at
+
+-- the job's number, from the first number on
+pub record IsFrom (q : RequesterId) (number : ℕ) (rows : List Job) (jobs : List JobRecord) (at : ℕ) (j : JobId) : Type 0 where
+  pub place : ℕ
+  pub number_is : j.0 ≡ number + place
+  pub placed : IsPlaced q (zip rows jobs) place at
+
+and-first : (a b : Bool) → (a && b) ≡ true → a ≡ true
+and-first true b is = refl
+and-first false b is = absurd cc
+
+nothing_placed : {X : Type 0} (q : RequesterId) (i at : ℕ) → IsPlaced q [] i at → X
+nothing_placed q zero at is = absurd (let no : false ≡ true = is.passes in cc)
+nothing_placed q (suc i) at is = absurd (let no : false ≡ true = is.passes in cc)
+
+counted : {X : Type 0} (p : X → Bool) (x : X) (xs : List X) (b : Bool) → p x ≡ b → count_by p (x ∷ xs) ≡ (if b then suc (count_by p xs) else count_by p xs)
+counted p x xs true is =
+    let step : count_by p (x ∷ xs) ≡ cond (p x) 1 0 + count_by p xs = sum_by-cons (λ z. cond (p z) 1 0) x xs in
+    let one : cond {A = ℕ} (p x) 1 0 ≡ 1 = rw is refl in
+    let more : count_by p (x ∷ xs) ≡ suc (count_by p xs) = omega (arith, step, one) in
+    more
+counted p x xs false is =
+    let step : count_by p (x ∷ xs) ≡ cond (p x) 1 0 + count_by p xs = sum_by-cons (λ z. cond (p z) 1 0) x xs in
+    let none : cond {A = ℕ} (p x) 1 0 ≡ 0 = rw is refl in
+    let same : count_by p (x ∷ xs) ≡ count_by p xs = omega (arith, step, none) in
+    same
+
+-- one place on
+one_on : (q : RequesterId) (number : ℕ) (job : Job) (rows : List Job) (kept : JobRecord) (jobs : List JobRecord) (at : ℕ) (j : JobId) → is_unfinished q (job, kept) ≡ false → IsFrom q (suc number) rows jobs at j → IsFrom q number (job ∷ rows) (kept ∷ jobs) at j
+one_on q number job rows kept jobs at j fails later = record {
+  place = suc later.place;
+  number_is = omega (arith, later.number_is);
+  placed = record { passes = later.placed.passes; count = counted (is_unfinished q) (job, kept) (take later.place (zip rows jobs)) false fails ∙ later.placed.count };
+}
+
+one_more : (q : RequesterId) (number : ℕ) (job : Job) (rows : List Job) (kept : JobRecord) (jobs : List JobRecord) (at : ℕ) (j : JobId) → is_unfinished q (job, kept) ≡ true → IsFrom q (suc number) rows jobs at j → IsFrom q number (job ∷ rows) (kept ∷ jobs) (suc at) j
+one_more q number job rows kept jobs at j passes later = record {
+  place = suc later.place;
+  number_is = omega (arith, later.number_is);
+  placed = record { passes = later.placed.passes; count = counted (is_unfinished q) (job, kept) (take later.place (zip rows jobs)) true passes ∙ ap (λ (n : ℕ). suc n) later.placed.count };
+}
+
+module _ (c : Configuration) (q : RequesterId) where
+  -- the job is the requester's and not over, by its row
+  by_row : (number : ℕ) (job : Job) (kept : JobRecord) → slice_get c.jobs number ≡ Some job → is_unfinished_job c q (record { 0 = number }) kept ≡ is_unfinished q (job, kept)
+  by_row number job kept is = rw is refl
+
+  without_row : (number : ℕ) (kept : JobRecord) → slice_get c.jobs number ≡ None → is_unfinished_job c q (record { 0 = number }) kept ≡ false
+  without_row number kept is = rw is refl
+
+  module _ (number : ℕ) (job : Job) (rows : List Job) (kept : JobRecord) (jobs : List JobRecord) (j : JobId) (row : slice_get c.jobs number ≡ Some job) (rest : (at : ℕ) → slice_get (unfinished_from c q (suc number) jobs) at ≡ Some j → IsFrom q (suc number) rows jobs at j) where
+    from_here : (b : Bool) (at : ℕ) → is_unfinished q (job, kept) ≡ b → slice_get (unfinished_from c q number (kept ∷ jobs)) at ≡ Some j → IsFrom q number (job ∷ rows) (kept ∷ jobs) at j
+    from_here true zero passes found =
+        let first : Some (record { 0 = number }) ≡ Some j = rw (by_row number job kept row, passes) at found in
+        let here : number ≡ j.0 = cc in
+        record { place = 0; number_is = omega (arith, here); placed = record { passes = passes; count = refl } }
+    from_here true (suc at) passes found = one_more q number job rows kept jobs at j passes (rest at (rw (by_row number job kept row, passes) at found))
+    from_here false at fails found = one_on q number job rows kept jobs at j fails (rest at (rw (by_row number job kept row, fails) at found))
+
+  -- the one at a place among them is such a job, and so many before it are
+  pub from : (number : ℕ) (rows : List Job) (jobs : List JobRecord) (at : ℕ) (j : JobId) → drop number c.jobs ≡ rows → slice_get (unfinished_from c q number jobs) at ≡ Some j → IsFrom q number rows jobs at j
+  from number rows [] at j is found = absurd cc
+  from number [] (kept ∷ jobs) at j is found =
+      let later = from (suc number) [] jobs at j (next_none c.jobs number is) (rw (without_row number kept (none_at c.jobs number is)) at found) in
+      nothing_placed q later.place at later.placed
+  from number (job ∷ rows) (kept ∷ jobs) at j is found =
+      from_here number job rows kept jobs j (some_at c.jobs number job rows is) (λ later told. from (suc number) rows jobs later j (next_some c.jobs number job rows is) told) (is_unfinished q (job, kept)) at refl found
+
+  -- such a job has a place among them
+  pub record IsAmong (number : ℕ) (jobs : List JobRecord) (j : JobId) : Type 0 where
+    pub at : ℕ
+    pub there : slice_get (unfinished_from c q number jobs) at ≡ Some j
+
+  among-by : (number : ℕ) (first : JobRecord) (jobs : List JobRecord) (j : JobId) (b : Bool) → is_unfinished_job c q (record { 0 = number }) first ≡ b → IsAmong (suc number) jobs j → IsAmong number (first ∷ jobs) j
+  among-by number first jobs j true passes later = record { at = suc later.at; there = rw passes later.there }
+  among-by number first jobs j false fails later = record { at = later.at; there = rw fails later.there }
+
+  pub to : (number : ℕ) (jobs : List JobRecord) (i : ℕ) (kept : JobRecord) (j : JobId) → j.0 ≡ number + i → slice_get jobs i ≡ Some kept → is_unfinished_job c q j kept ≡ true → IsAmong number jobs j
+  to number [] i kept j place there is = absurd cc
+  to number (first ∷ jobs) zero kept j place there is =
+      let same : first ≡ kept = cc in
+      let here : number ≡ j.0 = omega (arith, place) in
+      let id : record { 0 = number } ≡ j = ap (λ (n : ℕ). record { 0 = n }) here in
+      let passes : is_unfinished_job c q (record { 0 = number }) kept ≡ true = subst (λ (x : JobId). is_unfinished_job c q x kept ≡ true) (sym id) is in
+      record { at = 0; there = rw (same, passes) (ap (λ (x : JobId). Some x) id) }
+  to number (first ∷ jobs) (suc i) kept j place there is =
+      among-by number first jobs j (is_unfinished_job c q (record { 0 = number }) first) refl (to (suc number) jobs i kept j (omega (arith, place)) there is)
+
+  few-by : (number : ℕ) (kept : JobRecord) (jobs : List JobRecord) (b : Bool) → is_unfinished_job c q (record { 0 = number }) kept ≡ b → length (unfinished_from c q (suc number) jobs) ≤ length jobs → length (unfinished_from c q number (kept ∷ jobs)) ≤ length (kept ∷ jobs)
+  few-by number kept jobs true passes later = rw passes (omega (arith, later))
+  few-by number kept jobs false fails later = rw fails (omega (arith, later))
+
+  -- no more than jobs
+  pub few : (number : ℕ) (jobs : List JobRecord) → length (unfinished_from c q number jobs) ≤ length jobs
+  few number [] = omega arith
+  few number (kept ∷ jobs) = few-by number kept jobs (is_unfinished_job c q (record { 0 = number }) kept) refl (few (suc number) jobs)
+
+  pub below-jobs : (jobs : List JobRecord) (k : ℕ) (j : JobId) → slice_get (unfinished_from c q 0 jobs) k ≡ Some j → k < length jobs
+  below-jobs jobs k j found = omega (arith, few 0 jobs, slice_get_within (unfinished_from c q 0 jobs) k j found)
+
+-- ## the window
+
+zip-at : {X Y : Type 0} (xs : List X) (ys : List Y) (i : ℕ) (x : X) (y : Y) → slice_get (zip xs ys) i ≡ Some (x, y) → (slice_get xs i ≡ Some x) × (slice_get ys i ≡ Some y)
+zip-at [] ys i x y is = absurd cc
+zip-at (a ∷ xs) [] i x y is = absurd cc
+zip-at {X = X} {Y = Y} (a ∷ xs) (b ∷ ys) zero x y is = let same : (a, b) ≡ (x, y) = cc in (ap (λ (p : X × Y). Some p.0) same, ap (λ (p : X × Y). Some p.1) same)
+zip-at (a ∷ xs) (b ∷ ys) (suc i) x y is = zip-at xs ys i x y is
+
+module _ (c : Configuration) (s : State) (q : RequesterId) where
+  -- the one at a place among them is in the window where the place is
+  pub in-window : (at : ℕ) (j : JobId) → slice_get (unfinished_from c q 0 s.jobs) at ≡ Some j → is_in_window c s q j ≡ nat_lt at (window_of c q)
+  in-window at j found =
+      let is : IsFrom q 0 c.jobs s.jobs at j = from c q 0 c.jobs s.jobs at j refl found in
+      let number : j.0 ≡ is.place = omega (arith, is.number_is) in
+      rw (number, is.placed.passes, is.placed.count) refl
+
+  window_row : (j : JobId) (o : Option (Job × JobRecord)) → slice_get (jobs_of c s) j.0 ≡ o → is_in_window c s q j ≡ true → (kept : JobRecord) × ((slice_get s.jobs j.0 ≡ Some kept) × (is_unfinished_job c q j kept ≡ true))
+  window_row j None there is = absurd (let no : false ≡ true = rw there at is in cc)
+  window_row j (Some pair) there is =
+      let rows = zip-at c.jobs s.jobs j.0 pair.0 pair.1 there in
+      let passes : is_unfinished q pair ≡ true = and-first _ _ (rw there at is) in
+      (pair.1, (rows.1, rw rows.0 passes))
+
+  -- one in the window stands at a place of it
+  pub window-place : (j : JobId) → is_in_window c s q j ≡ true → (at : ℕ) × ((at < window_of c q) × (slice_get (unfinished_from c q 0 s.jobs) at ≡ Some j))
+  window-place j is =
+      let row = window_row j (slice_get (jobs_of c s) j.0) refl is in
+      let place = to c q 0 s.jobs j.0 row.0 j (omega arith) row.1.0 row.1.1 in
+      let within : nat_lt place.at (window_of c q) ≡ true = sym (in-window place.at j place.there) ∙ is in
+      (place.at, (grind (arith, nat_tests), place.there))
+
+  none_by : (j : JobId) (b : Bool) → is_in_window c s q j ≡ b → ((k : ℕ) → k < window_of c q → slice_get (unfinished_from c q 0 s.jobs) k ≡ Some j → ⊥) → is_in_window c s q j ≡ false
+  none_by j false is none = is
+  none_by j true is none = let place = window-place j is in absurd (none place.0 place.1.0 place.1.1)
+
+  -- one that stands at no place of the window is not in it
+  pub none-in-window : (j : JobId) → ((k : ℕ) → k < window_of c q → slice_get (unfinished_from c q 0 s.jobs) k ≡ Some j → ⊥) → is_in_window c s q j ≡ false
+  none-in-window j none = none_by j (is_in_window c s q j) refl none
+
+  -- one that stands at a place of the window is in it
+  pub yes-in-window : (at : ℕ) (found j : JobId) → at < window_of c q → slice_get (unfinished_from c q 0 s.jobs) at ≡ Some found → found.0 ≡ j.0 → is_in_window c s q j ≡ true
+  yes-in-window at found j within there same =
+      let one : found ≡ j = ap (λ (n : ℕ). record { 0 = n }) same in
+      let test : nat_lt at (window_of c q) ≡ true = grind (arith, nat_tests) in
+      in-window at j (there ∙ ap (λ (x : JobId). Some x) one) ∙ test
+
+-- a place where there is one is before the end
+past_end : {X : Type 0} (xs : List X) (i : ℕ) → slice_get xs i ≡ None → length xs ≤ i
+past_end [] i is = omega arith
+past_end (x ∷ xs) zero is = absurd cc
+past_end (x ∷ xs) (suc i) is = omega (arith, past_end xs i is)
+
+pub before-end : {X : Type 0} (xs : List X) (at k : ℕ) (x : X) → slice_get xs at ≡ None → slice_get xs k ≡ Some x → k < at
+before-end xs at k x none some = omega (arith, past_end xs at none, slice_get_within xs k x some)
