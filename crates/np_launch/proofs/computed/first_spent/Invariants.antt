@@ -1,0 +1,8 @@
+use Rattle.std.proofs.Common.{◌≡◌, drop}
+use Rattle.std.specs.Prelude.{find}
+use Rattle.np_machine.specs.Reasons.{is_spent}
+use Rattle.np_launch.proofs.computed.first_spent.Given as goal
+
+abbrev pub invariant-loop-node : goal.invariant-loop-node
+invariant-loop-node g l =
+    find (λ m. is_spent m (g.L.Look.state l.look)) (drop l.node-index l.nodes) ≡ find (λ m. is_spent m (g.L.Look.state l.look)) l.nodes

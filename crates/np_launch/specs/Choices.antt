@@ -1,0 +1,69 @@
+-- the order of a launcher's kinds of events, and what a search among them answers
+use Rattle.std.specs.Prelude.{List, [], ◌∷◌, ℕ, Option, Some, None}
+use Rattle.std.specs.List.{AllByRecursion}
+use Rattle.np_text.specs.declared.id.SessionId.{SessionId}
+use Rattle.np_text.specs.declared.id.PoolId.{PoolId}
+use Rattle.np_text.specs.declared.id.LabelId.{LabelId}
+use Rattle.np_text.specs.declared.id.NodeId.{NodeId}
+use Rattle.np_text.specs.declared.id.RequestId.{RequestId}
+use Rattle.np_text.specs.declared.id.Role.TheVariants.{Launcher}
+use Rattle.np_text.specs.declared.word.Reason.{Reason}
+use Rattle.np_site.specs.Configuration.{Configuration}
+use Rattle.np_event.specs.declared.event.Event.{Event}
+use Rattle.np_event.specs.declared.event.Event.TheVariants as ev
+use Rattle.np_event.specs.declared.event.Outcome.{Outcome}
+use Rattle.np_machine.specs.State.{State}
+use Rattle.np_useful.specs.Useful.{IsUseful}
+use Rattle.np_roles.specs.declared.kind.EventKind.TheVariants.{Request, Node}
+use Rattle.np_roles.specs.declared.kind.RequestKind.TheVariants as of_request
+use Rattle.np_roles.specs.declared.kind.NodeKind.TheVariants as of_node
+use Rattle.np_roles.specs.Choices.{NoneOf}
+use Rattle.np_launch.specs.declared.computed.ComputedKind.{ComputedKind}
+use Rattle.np_launch.specs.declared.computed.ComputedKind.TheVariants as computed
+use Rattle.np_launch.specs.declared.launcher.LaunchKind.{LaunchKind}
+use Rattle.np_launch.specs.declared.launcher.LaunchKind.TheVariants.{Plain, Computed}
+
+-- finish before begin, and free before create (own)
+abbrev pub launcher_order : List LaunchKind
+launcher_order =
+    Computed computed.Register
+    ∷ Computed computed.Done
+    ∷ Plain (Request of_request.Fulfil)
+    ∷ Plain (Node of_node.Unlock)
+    ∷ Plain (Request of_request.Unlock)
+    ∷ Plain (Node of_node.Start)
+    ∷ Computed computed.TakeReady
+    ∷ Plain (Request of_request.Create)
+    ∷ Computed computed.Decline
+    ∷ Plain (Request of_request.Accept)
+    ∷ Plain (Request of_request.Lock)
+    ∷ Computed computed.MinReady
+    ∷ []
+
+-- no event of the kind is useful, whoever makes it and whatever it names (own)
+abbrev pub NoneComputed : Configuration → State → PoolId → ComputedKind → Type 0
+NoneComputed c s p computed.Register = (session : SessionId) → IsUseful c s (Launcher p) (ev.Register session) → ⊥
+NoneComputed c s p computed.Done = (session : SessionId) (n : NodeId) (attempt : ℕ) (o : Outcome) → IsUseful c s (Launcher p) (ev.Done session n attempt o) → ⊥
+NoneComputed c s p computed.TakeReady = (session : SessionId) (r : RequestId) (n : NodeId) → IsUseful c s (Launcher p) (ev.TakeReady session r n) → ⊥
+NoneComputed c s p computed.Decline = (session : SessionId) (r : RequestId) (why : Reason) → IsUseful c s (Launcher p) (ev.Decline session r why) → ⊥
+NoneComputed c s p computed.MinReady = (session : SessionId) (l : LabelId) → IsUseful c s (Launcher p) (ev.MinReady session l) → ⊥
+
+-- a useful event of the kind, or none where there is none (own)
+abbrev pub ChoosesComputed : Configuration → State → PoolId → ComputedKind → Option Event → Type 0
+ChoosesComputed c s p kind None = NoneComputed c s p kind
+ChoosesComputed c s p kind (Some e) = IsUseful c s (Launcher p) e
+
+-- no event of the kind is useful (own)
+abbrev pub NoneLaunched : Configuration → State → PoolId → LaunchKind → Type 0
+NoneLaunched c s p (Plain kind) = NoneOf c s (Launcher p) kind
+NoneLaunched c s p (Computed kind) = NoneComputed c s p kind
+
+-- a useful event of the kind, or none where there is none (own)
+abbrev pub ChoosesLaunched : Configuration → State → PoolId → LaunchKind → Option Event → Type 0
+ChoosesLaunched c s p kind None = NoneLaunched c s p kind
+ChoosesLaunched c s p kind (Some e) = IsUseful c s (Launcher p) e
+
+-- a useful event, or none of any of the kinds (own)
+abbrev pub ChoosesOfAnyKind : Configuration → State → PoolId → List LaunchKind → Option Event → Type 0
+ChoosesOfAnyKind c s p kinds None = AllByRecursion (NoneLaunched c s p) kinds
+ChoosesOfAnyKind c s p kinds (Some e) = IsUseful c s (Launcher p) e

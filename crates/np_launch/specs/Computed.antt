@@ -1,0 +1,121 @@
+-- the events of a launcher that name more than a request, a node or a job, by place
+use Rattle.std.specs.Prelude.{ℕ, Bool, true, false, ◌&&◌, ◌==◌, not, if◌then◌else◌, Option, Some, None, is_some, length, find, slice_get, is_ok, option_and_then}
+use Rattle.std.specs.Option.{option_map, option_map_or}
+use Rattle.np_text.specs.declared.id.SessionId.{SessionId}
+use Rattle.np_text.specs.declared.id.PoolId.{PoolId}
+use Rattle.np_text.specs.declared.id.LabelId.{LabelId}
+use Rattle.np_text.specs.declared.id.NodeId.{NodeId}
+use Rattle.np_text.specs.declared.id.RequestId.{RequestId}
+use Rattle.np_text.specs.declared.id.Role.{Role}
+use Rattle.np_text.specs.declared.id.Role.TheVariants.{Launcher, Janitor, Requester, Reaper}
+use Rattle.np_text.specs.declared.word.Reason.{Reason}
+use Rattle.np_text.specs.declared.word.Reason.TheVariants as reason
+use Rattle.np_site.specs.Configuration.{Configuration}
+use Rattle.np_record.specs.declared.record.RequestRecord.{RequestRecord}
+use Rattle.np_event.specs.declared.event.Event.{Event}
+use Rattle.np_event.specs.declared.event.Event.TheVariants as ev
+use Rattle.np_machine.specs.Entries.{NodeEntry}
+use Rattle.np_machine.specs.Order.{is_pending_by}
+use Rattle.np_machine.specs.Plan.{outcome_of}
+use Rattle.np_machine.specs.Reasons.{next_label, first_unoffered, never_fits, is_spent}
+use Rattle.np_machine.specs.Tables.{session_of, is_session_of}
+use Rattle.np_machine.specs.Tenants.{tenant_never_fits}
+use Rattle.np_machine.specs.State.{State}
+use Rattle.np_machine.specs.Step.{judge}
+use Rattle.np_look.specs.Views.{request_view, node_view}
+use Rattle.np_look.specs.Readers.{free_ready_of}
+use Rattle.np_useful.specs.Rows.{request_is, is_complete}
+use Rattle.np_launch.specs.declared.computed.ComputedKind.{ComputedKind}
+use Rattle.np_launch.specs.declared.computed.ComputedKind.TheVariants as computed
+
+-- ## what is computed
+
+-- the first of these reasons: a label, the pool's limits, the tenant's, a failed node
+abbrev pub reason_of : Option LabelId → Bool → Bool → Option NodeId → Option Reason
+reason_of (Some l) never tenant spent = Some (reason.NoLabel l)
+reason_of None true tenant spent = Some reason.NeverFits
+reason_of None false true spent = Some reason.TenantNeverFits
+reason_of None false false None = None
+reason_of None false false (Some n) = Some (reason.Spent n)
+
+-- the first reason why the pool would decline the request
+abbrev pub first_reason : Configuration → State → PoolId → RequestRecord → Option Reason
+first_reason c s p request =
+    reason_of (first_unoffered c p request) (never_fits c p request) (tenant_never_fits c p request) (find (λ m. is_spent m s) request.nodes)
+
+-- the same reason, of the same label or node
+abbrev pub same_reason : Reason → Reason → Bool
+same_reason (reason.NoLabel l) (reason.NoLabel of) = of.0 == l.0
+same_reason reason.NeverFits reason.NeverFits = true
+same_reason reason.TenantNeverFits reason.TenantNeverFits = true
+same_reason (reason.Spent n) (reason.Spent of) = of.0 == n.0
+same_reason _ _ = false
+
+-- it is the one that was found
+abbrev pub is_reason : Reason → Option Reason → Bool
+is_reason why None = false
+is_reason why (Some other) = same_reason why other
+
+-- the session may give the ready node to the request
+abbrev pub is_takable : Configuration → State → SessionId → RequestId → NodeEntry → Bool
+is_takable c s session r e = is_ok (judge c s (ev.TakeReady session r e.id))
+
+-- the first node that the session may give to the request
+abbrev pub first_takable : Configuration → State → SessionId → RequestId → Option NodeId
+first_takable c s session r = option_map (λ e. e.id) (find (is_takable c s session r) s.nodes)
+
+-- the pool of a launcher
+abbrev pub pool_of_role : Role → Option PoolId
+pool_of_role (Launcher p) = Some p
+pool_of_role (Janitor p) = None
+pool_of_role (Requester q) = None
+pool_of_role Reaper = None
+
+-- the pool of the launcher whose session it is
+abbrev pub pool_of : State → SessionId → Option PoolId
+pool_of s session = option_and_then (λ facts. pool_of_role facts.role) (session_of session s)
+
+-- the pool has a ready, free and unlocked node of the request's next label
+abbrev pub has_free_ready : State → RequestId → PoolId → Bool
+has_free_ready s r p = request_is r s (λ k. option_map_or (λ l. is_some (free_ready_of p l 0 s)) (next_label k) false)
+
+-- so has the pool of the session's launcher
+abbrev pub has_spare : State → SessionId → RequestId → Bool
+has_spare s session r = option_map_or (has_free_ready s r) (pool_of s session) false
+
+-- ## the events, by place
+
+-- the report on the last attempt of the node at a place that the simulated cloud makes
+abbrev pub done_at : Configuration → State → PoolId → SessionId → ℕ → Option Event
+done_at c s p session at =
+    option_map (λ v. ev.Done session v.id v.kept.attempts (outcome_of c p v.kept.start)) (option_map node_view (slice_get s.nodes at))
+
+-- the request at a place, where the pool serves it and it is not complete, with its first ready node
+abbrev pub take_ready_at : Configuration → State → PoolId → SessionId → ℕ → Option Event
+take_ready_at c s p session at =
+    option_and_then (λ v. if is_pending_by p v.kept && not (is_complete v.kept) then option_map (λ n. ev.TakeReady session v.id n) (first_takable c s session v.id) else None) (option_map request_view (slice_get s.requests at))
+
+-- the request at a place, where the session holds it, with its first reason
+abbrev pub decline_at : Configuration → State → PoolId → SessionId → ℕ → Option Event
+decline_at c s p session at =
+    option_and_then (λ v. if is_session_of session v.holder then option_map (λ why. ev.Decline session v.id why) (first_reason c s p v.kept) else None) (option_map request_view (slice_get s.requests at))
+
+-- the label at a place
+abbrev pub min_ready_at : Configuration → SessionId → ℕ → Option Event
+min_ready_at c session at = option_map (λ _. ev.MinReady session (record { 0 = at })) (slice_get c.labels at)
+
+-- how many places the kind has
+abbrev pub computed_places : Configuration → State → ComputedKind → ℕ
+computed_places c s computed.Register = 1
+computed_places c s computed.Done = length s.nodes
+computed_places c s computed.TakeReady = length s.requests
+computed_places c s computed.Decline = length s.requests
+computed_places c s computed.MinReady = length c.labels
+
+-- the session's event of the kind at a place
+abbrev pub computed_at : Configuration → State → PoolId → SessionId → ComputedKind → ℕ → Option Event
+computed_at c s p session computed.Register at = Some (ev.Register session)
+computed_at c s p session computed.Done at = done_at c s p session at
+computed_at c s p session computed.TakeReady at = take_ready_at c s p session at
+computed_at c s p session computed.Decline at = decline_at c s p session at
+computed_at c s p session computed.MinReady at = min_ready_at c session at

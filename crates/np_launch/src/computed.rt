@@ -1,0 +1,320 @@
+//! The events of a launcher that name something computed, as candidates.
+
+ghost use Rattle.std.specs.Prelude.{◌≡◌, ◌&&◌, not, length, find, is_ok};
+ghost use Rattle.np_event.specs.declared.event.Event.TheVariants.{TakeReady};
+ghost use Rattle.np_machine.specs.Reasons.{is_spent};
+ghost use Rattle.np_machine.specs.Step.{judge};
+ghost use Rattle.np_changes.specs.Asked.{new_record};
+ghost use Rattle.np_fits.specs.Fits.{Fits};
+ghost use Rattle.np_useful.specs.Launcher.{may_take_ready, is_first_reason};
+ghost use Rattle.np_useful.specs.Rows.{request_is};
+ghost use Rattle.np_launch.specs.Computed.{same_reason, is_reason, first_reason, pool_of, has_free_ready, has_spare, first_takable, done_at, take_ready_at, decline_at, min_ready_at, computed_places, computed_at};
+
+use crate::request::{is_complete, is_pending_by, is_spent, outcome_of};
+use np_changes::Asked;
+use np_config::Config;
+use np_decision::decide;
+use np_event::Event;
+use np_look::{Look, asked_of, first_unoffered, is_too_much, tenant_never_fits};
+use np_roles::Candidates;
+use np_text::{LabelId, NodeId, PoolId, Reason, RequestId, Role, SessionId};
+
+/// A kind of event of a launcher that names something computed, or a label, or nothing.
+#[derive(Clone, Copy)]
+pub(crate) enum ComputedKind {
+    Register,
+    Done,
+    TakeReady,
+    Decline,
+    MinReady,
+}
+
+/// Whether the session may give the ready node to the request.
+fn is_takable<L: Look>(look: &L, session: SessionId, request: RequestId, node: NodeId) -> bool
+    requires { Fits (L.site look.now) (L.state look.now) }
+    ensures { result ≡
+        is_ok (judge (L.site look.now) (L.state look.now) (TakeReady session request node)) }
+{
+    let event = Event::TakeReady {
+        session,
+        request,
+        node,
+    };
+    decide(look, event).is_ok()
+}
+
+/// The pool of the launcher whose session it is.
+fn pool_of<L: Look>(look: &L, session: SessionId) -> Option<PoolId>
+    ensures { result ≡ pool_of (L.state look.now) session }
+{
+    let Some(facts) = look.session(session) else {
+        return None;
+    };
+    match facts.role {
+        Role::Launcher(pool) => Some(pool),
+        Role::Janitor(_) | Role::Requester(_) | Role::Reaper => None,
+    }
+}
+
+/// Whether the pool has a ready, free and unlocked node of the request's next label.
+fn has_free_ready<L: Look>(look: &L, request: RequestId, pool: PoolId) -> bool
+    ensures { result ≡ has_free_ready (L.state look.now) request pool }
+{
+    let Some(asked) = look.asked(request) else {
+        return false;
+    };
+    match asked.labels.at(asked.nodes.len()) {
+        None => false,
+        Some(label) => look.free_ready(pool, label, 0).is_some(),
+    }
+}
+
+/// Whether the pool of the session's launcher has a ready, free and unlocked node of the request's
+/// next label.
+fn has_spare<L: Look>(look: &L, session: SessionId, request: RequestId) -> bool
+    ensures { result ≡ has_spare (L.state look.now) session request }
+{
+    match pool_of(look, session) {
+        None => false,
+        Some(pool) => has_free_ready(look, request, pool),
+    }
+}
+
+/// The first node that the session may give to the request. It asks every node up to that one, but
+/// only where there is one.
+fn first_takable<L: Look>(look: &L, session: SessionId, request: RequestId) -> Option<NodeId>
+    requires { Fits (L.site look.now) (L.state look.now) }
+    ensures { result ≡ first_takable (L.site look.now) (L.state look.now) session request }
+{
+    if !has_spare(look, session, request) {
+        return None;
+    }
+    for at in 0..look.nodes() {
+        let Some(node) = look.node_at(at) else {
+            return None;
+        };
+        if is_takable(look, session, request, node) {
+            return Some(node);
+        }
+    }
+    None
+}
+
+/// Whether some ready node may be given to the request.
+pub(crate) fn may_take_ready<L: Look>(look: &L, session: SessionId, request: RequestId) -> bool
+    requires { Fits (L.site look.now) (L.state look.now) }
+    ensures { result ≡ may_take_ready (L.site look.now) (L.state look.now) session request }
+{
+    first_takable(look, session, request).is_some()
+}
+
+/// The first of the nodes that failed.
+fn first_spent<L: Look>(look: &L, nodes: &[NodeId]) -> Option<NodeId>
+    ensures { result ≡ find (λ m. is_spent m (L.state look.now)) nodes.now }
+{
+    for node in nodes {
+        if is_spent(look, *node) {
+            return Some(*node);
+        }
+    }
+    None
+}
+
+/// The first reason why the pool would decline the request.
+fn first_reason<L: Look>(look: &L, pool: PoolId, asked: &Asked) -> Option<Reason>
+    requires { Fits (L.site look.now) (L.state look.now) }
+    ensures { result ≡
+        first_reason (L.site look.now) (L.state look.now) pool (new_record asked.now) }
+{
+    let _few = asked.labels.len();
+    if let Some(label) = first_unoffered(look.config(), pool, asked.labels.items()) {
+        return Some(Reason::NoLabel(label));
+    }
+    if is_too_much(look.config(), pool, asked.labels.items()) {
+        return Some(Reason::NeverFits);
+    }
+    if tenant_never_fits(look.config(), pool, asked) {
+        return Some(Reason::TenantNeverFits);
+    }
+    match first_spent(look, asked.nodes.items()) {
+        None => None,
+        Some(node) => Some(Reason::Spent(node)),
+    }
+}
+
+/// Whether the reason is the first of the pool's for the request.
+pub(crate) fn is_first_reason<L: Look>(
+    look: &L,
+    pool: PoolId,
+    request: RequestId,
+    reason: Reason,
+) -> bool
+    requires { Fits (L.site look.now) (L.state look.now) }
+    ensures { result ≡ request_is request (L.state look.now)
+        (λ k. is_first_reason (L.site look.now) (L.state look.now) pool k reason) }
+{
+    match look.asked(request) {
+        None => false,
+        Some(asked) => is_reason(reason, first_reason(look, pool, &asked)),
+    }
+}
+
+/// The report on the last attempt of the node at a place that the simulated cloud makes.
+fn done_at<L: Look>(look: &L, pool: PoolId, session: SessionId, at: u32) -> Option<Event>
+    ensures { result ≡ done_at (L.site look.now) (L.state look.now) pool session at }
+{
+    let Some(view) = look.node_view(at) else {
+        return None;
+    };
+    Some(Event::Done {
+        session,
+        node: view.id,
+        attempt: view.kept.attempts,
+        outcome: outcome_of(look.config(), pool, view.kept.start),
+    })
+}
+
+/// The request at a place, where the pool serves it and it is not complete, with its first ready
+/// node.
+fn take_ready_at<L: Look>(look: &L, pool: PoolId, session: SessionId, at: u32) -> Option<Event>
+    requires { Fits (L.site look.now) (L.state look.now) }
+    ensures { result ≡ take_ready_at (L.site look.now) (L.state look.now) pool session at }
+{
+    let Some(view) = look.request_view(at) else {
+        return None;
+    };
+    if !is_pending_by(pool, &view.kept) || is_complete(&view.kept) {
+        return None;
+    }
+    match first_takable(look, session, view.id) {
+        None => None,
+        Some(node) => Some(Event::TakeReady {
+            session,
+            request: view.id,
+            node,
+        }),
+    }
+}
+
+/// The request at a place, where the session holds it, with its first reason.
+fn decline_at<L: Look>(look: &L, pool: PoolId, session: SessionId, at: u32) -> Option<Event>
+    requires { Fits (L.site look.now) (L.state look.now) }
+    ensures { result ≡ decline_at (L.site look.now) (L.state look.now) pool session at }
+{
+    let Some(view) = look.request_view(at) else {
+        return None;
+    };
+    let held = match view.holder {
+        None => false,
+        Some(other) => other.0 == session.0,
+    };
+    if !held {
+        return None;
+    }
+    match first_reason(look, pool, &asked_of(&view.kept)) {
+        None => None,
+        Some(reason) => Some(Event::Decline {
+            session,
+            request: view.id,
+            reason,
+        }),
+    }
+}
+
+/// Whether the reason is the one that was found.
+fn is_reason(reason: Reason, found: Option<Reason>) -> bool
+    ensures { result ≡ is_reason reason found }
+{
+    match found {
+        None => false,
+        Some(other) => is_same_reason(reason, other),
+    }
+}
+
+/// Whether both are the same reason.
+fn is_same_reason(one: Reason, other: Reason) -> bool
+    ensures { result ≡ same_reason one other }
+{
+    match one {
+        Reason::NoLabel(label) => match other {
+            Reason::NoLabel(of) => of.0 == label.0,
+            Reason::NeverFits | Reason::TenantNeverFits | Reason::Spent(_) => false,
+        },
+        Reason::NeverFits => match other {
+            Reason::NeverFits => true,
+            Reason::NoLabel(_) | Reason::TenantNeverFits | Reason::Spent(_) => false,
+        },
+        Reason::TenantNeverFits => match other {
+            Reason::TenantNeverFits => true,
+            Reason::NoLabel(_) | Reason::NeverFits | Reason::Spent(_) => false,
+        },
+        Reason::Spent(node) => match other {
+            Reason::Spent(of) => of.0 == node.0,
+            Reason::NoLabel(_) | Reason::NeverFits | Reason::TenantNeverFits => false,
+        },
+    }
+}
+
+/// How many labels the configuration has.
+fn label_count(config: &Config) -> u32
+    ensures { result ≡ length config.now.labels }
+{
+    config.soundness();
+    let mut at: u32 = 0;
+    while at < 65536 {
+        if config.label(LabelId(at as u16)).is_none() {
+            return at;
+        }
+        at += 1;
+    }
+    at
+}
+
+/// The session's min-ready for the label at a place.
+fn min_ready_at(config: &Config, session: SessionId, at: u32) -> Option<Event>
+    ensures { result ≡ min_ready_at config.now session at }
+{
+    config.soundness();
+    if at >= 65536 {
+        return None;
+    }
+    let label = LabelId(at as u16);
+    match config.label(label) {
+        None => None,
+        Some(_) => Some(Event::MinReady { session, label }),
+    }
+}
+
+/// The session's events of the kind, by place.
+#[derive(Clone, Copy)]
+pub(crate) struct OfComputed {
+    pub(crate) pool: PoolId,
+    pub(crate) session: SessionId,
+    pub(crate) kind: ComputedKind,
+}
+
+impl Candidates for OfComputed {
+    ghost places = { λ of c s. computed_places c s of.kind };
+
+    ghost candidate = { λ of c s at. computed_at c s of.pool of.session of.kind at };
+
+    fn places<L: Look>(&self, look: &L) -> u32 {
+        match self.kind {
+            ComputedKind::Register => 1,
+            ComputedKind::Done => look.nodes(),
+            ComputedKind::TakeReady | ComputedKind::Decline => look.requests(),
+            ComputedKind::MinReady => label_count(look.config()),
+        }
+    }
+
+    fn candidate<L: Look>(&self, look: &L, at: u32) -> Option<Event> {
+        let session = self.session;
+        match self.kind {
+            ComputedKind::Register => Some(Event::Register { session }),
+            ComputedKind::Done => done_at(look, self.pool, session, at),
+            ComputedKind::TakeReady => take_ready_at(look, self.pool, session, at),
+            ComputedKind::Decline => decline_at(look, self.pool, session, at),
+            ComputedKind::MinReady => min_ready_at(look.config(), session, at),
+        }
+    }
+}

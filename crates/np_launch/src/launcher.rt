@@ -1,0 +1,205 @@
+//! The launcher of a pool.
+
+ghost use Rattle.std.specs.Prelude.{◌≡◌, ◌&&◌, true, not};
+ghost use Rattle.np_text.specs.declared.id.Role.TheVariants.{Launcher};
+ghost use Rattle.np_machine.specs.Session.{is_role};
+ghost use Rattle.np_fits.specs.Fits.{Fits};
+ghost use Rattle.np_useful.specs.Sessions.{is_current};
+ghost use Rattle.np_useful.specs.Launcher.{may_take_ready, is_by_registrant, registered_row};
+ghost use Rattle.np_useful.specs.Rows.{request_is, has_failed_node};
+ghost use Rattle.np_roles.specs.Choices.{Chooses};
+ghost use Rattle.np_launch.specs.Choices.{launcher_order, ChoosesComputed, ChoosesLaunched, ChoosesOfAnyKind};
+
+use crate::computed::{ComputedKind, OfComputed, is_first_reason, may_take_ready};
+use crate::request::is_done_with;
+use crate::requests::is_to_launch;
+use crate::rows::{is_node_done_with, is_planned_report, is_registrant, is_unfailed, may_take_up};
+use np_event::Event;
+use np_look::Look;
+use np_roles::{
+    EventKind, NodeKind, RequestKind, Rows, choose_opening, current_session, first_of_kind,
+    first_that_passes, is_same_role, may_open,
+};
+use np_text::{PoolId, RequestId, Role, SessionId};
+
+/// A kind of event of a launcher.
+#[derive(Clone, Copy)]
+enum LaunchKind {
+    /// Names one request, node or job.
+    Plain(EventKind),
+    Computed(ComputedKind),
+}
+
+/// The kinds in the order of the crate's table.
+const ORDER: [LaunchKind; 12] = [
+    LaunchKind::Computed(ComputedKind::Register),
+    LaunchKind::Computed(ComputedKind::Done),
+    LaunchKind::Plain(EventKind::Request(RequestKind::Fulfil)),
+    LaunchKind::Plain(EventKind::Node(NodeKind::Unlock)),
+    LaunchKind::Plain(EventKind::Request(RequestKind::Unlock)),
+    LaunchKind::Plain(EventKind::Node(NodeKind::Start)),
+    LaunchKind::Computed(ComputedKind::TakeReady),
+    LaunchKind::Plain(EventKind::Request(RequestKind::Create)),
+    LaunchKind::Computed(ComputedKind::Decline),
+    LaunchKind::Plain(EventKind::Request(RequestKind::Accept)),
+    LaunchKind::Plain(EventKind::Request(RequestKind::Lock)),
+    LaunchKind::Computed(ComputedKind::MinReady),
+];
+
+/// Whether a session that holds the registration may make the event, by its row.
+fn is_registered_row<L: Look>(look: &L, pool: PoolId, event: Event) -> bool
+    requires { Fits (L.site look.now) (L.state look.now) }
+    ensures { result ≡ (is_by_registrant (L.state look.now) pool event
+        && registered_row (L.site look.now) (L.state look.now) pool event) }
+{
+    match event {
+        Event::UnlockRequest { session, request } => {
+            is_registrant(look, pool, session) && is_done_with(look, pool, request)
+        }
+        Event::UnlockNode { session, node } => {
+            is_registrant(look, pool, session) && is_node_done_with(look, pool, node)
+        }
+        Event::Accept { session, .. } => is_registrant(look, pool, session),
+        Event::Decline {
+            session,
+            request,
+            reason,
+        } => is_registrant(look, pool, session) && is_first_reason(look, pool, request, reason),
+        Event::TakeReady {
+            session,
+            request,
+            ..
+        } => is_registrant(look, pool, session) && is_unfailed(look, request),
+        Event::Create { session, request } => {
+            is_registrant(look, pool, session) && is_to_create(look, session, request)
+        }
+        Event::Start { session, node } => {
+            is_registrant(look, pool, session) && is_to_launch(look, pool, node)
+        }
+        Event::Done {
+            session,
+            node,
+            attempt,
+            outcome,
+        } => {
+            is_registrant(look, pool, session)
+                && is_planned_report(look, pool, node, attempt, outcome)
+        }
+        Event::Fulfil { session, .. } => is_registrant(look, pool, session),
+        Event::LockRequest { session, .. } => {
+            is_registrant(look, pool, session) && may_take_up(look, pool, session)
+        }
+        Event::MinReady { session, .. } => {
+            is_registrant(look, pool, session) && !look.is_paused(pool)
+        }
+        _ => false,
+    }
+}
+
+/// Whether none of the request's nodes failed, and no ready node may be given to it.
+fn is_to_create<L: Look>(look: &L, session: SessionId, request: RequestId) -> bool
+    requires { Fits (L.site look.now) (L.state look.now) }
+    ensures { result ≡ (request_is request (L.state look.now)
+        (λ k. not (has_failed_node (L.state look.now) k))
+        && not (may_take_ready (L.site look.now) (L.state look.now) session request)) }
+{
+    is_unfailed(look, request) && !may_take_ready(look, session, request)
+}
+
+/// The rows of a pool's launcher.
+#[derive(Clone, Copy)]
+struct LauncherRows {
+    pool: PoolId,
+}
+
+impl Rows for LauncherRows {
+    ghost role = { λ rows. Launcher rows.pool };
+
+    ghost knows = { λ rows c s. Unit {0} };
+
+    fn holds<L: Look>(&self, look: &L, event: Event) -> bool {
+        match event {
+            Event::OpenSession { role } => {
+                is_same_role(role, Role::Launcher(self.pool)) && may_open(look, role)
+            }
+            Event::Register { .. } => true,
+            other => is_registered_row(look, self.pool, other),
+        }
+    }
+}
+
+/// The first useful event of the kind, or `None` exactly where there is none.
+fn first_of_computed<L: Look>(
+    look: &L,
+    rows: &LauncherRows,
+    session: SessionId,
+    kind: ComputedKind,
+) -> Option<Event>
+    requires fits { Fits (L.site look.now) (L.state look.now) }
+    requires current { is_current (Launcher rows.now.pool) session (L.state look.now) ≡ true }
+    ensures { ChoosesComputed (L.site look.now) (L.state look.now) rows.now.pool kind result }
+{
+    let pool = rows.pool;
+    first_that_passes(
+        look,
+        rows,
+        &OfComputed {
+            pool,
+            session,
+            kind,
+        },
+    )
+}
+
+/// The first useful event of the kind, or `None` exactly where there is none.
+fn first_launched<L: Look>(
+    look: &L,
+    rows: &LauncherRows,
+    session: SessionId,
+    kind: LaunchKind,
+) -> Option<Event>
+    requires fits { Fits (L.site look.now) (L.state look.now) }
+    requires current { is_current (Launcher rows.now.pool) session (L.state look.now) ≡ true }
+    ensures { ChoosesLaunched (L.site look.now) (L.state look.now) rows.now.pool kind result }
+{
+    match kind {
+        LaunchKind::Plain(plain) => first_of_kind(look, rows, session, plain),
+        LaunchKind::Computed(computed) => first_of_computed(look, rows, session, computed),
+    }
+}
+
+/// The first useful event of the first of the kinds that has one, or `None` exactly where there is
+/// none.
+fn first_of_any<L: Look>(
+    look: &L,
+    rows: &LauncherRows,
+    session: SessionId,
+    kinds: &[LaunchKind],
+) -> Option<Event>
+    requires fits { Fits (L.site look.now) (L.state look.now) }
+    requires current { is_current (Launcher rows.now.pool) session (L.state look.now) ≡ true }
+    ensures { ChoosesOfAnyKind (L.site look.now) (L.state look.now) rows.now.pool kinds.now result }
+{
+    for kind in kinds {
+        let found = first_launched(look, rows, session, *kind);
+        if found.is_some() {
+            return found;
+        }
+    }
+    None
+}
+
+/// A useful event of the pool's launcher, the first in the order of the crate's table, or `None`
+/// exactly where there is none. Its cost grows with the requests, the nodes and the labels that there
+/// are, and where the launcher has no session with the sessions. For a node that the launcher holds it
+/// may ask all requests, and for a request that the pool serves all nodes up to a ready one.
+pub fn choose_launcher<L: Look>(look: &L, pool: PoolId) -> Option<Event>
+    requires fits { Fits (L.site look.now) (L.state look.now) }
+    requires pool { is_role (L.site look.now) (Launcher pool) ≡ true }
+    ensures { Chooses (L.site look.now) (L.state look.now) (Launcher pool) result }
+{
+    let Some(session) = current_session(look, Role::Launcher(pool)) else {
+        return choose_opening(look, Role::Launcher(pool));
+    };
+    first_of_any(look, &LauncherRows { pool }, session, &ORDER)
+}

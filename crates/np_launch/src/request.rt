@@ -1,0 +1,146 @@
+//! What a launcher asks of one request or node.
+
+ghost use Rattle.std.specs.Prelude.{◌≡◌, ◌==◌, ◌&&◌, not, is_none};
+ghost use Rattle.std.specs.List.{list_any};
+ghost use Rattle.np_machine.specs.Kinds.{is_requested};
+ghost use Rattle.np_machine.specs.Tables.{is_session_of};
+ghost use Rattle.np_machine.specs.Order.{is_pending_by, is_declined_by};
+ghost use Rattle.np_machine.specs.Plan.{fail_starts_of, outcome_of};
+ghost use Rattle.np_machine.specs.Reasons.{is_spent};
+ghost use Rattle.np_useful.specs.Launcher.{same_outcome, is_as_planned, is_done_with};
+ghost use Rattle.np_useful.specs.Rows.{request_is, is_listed, is_complete, has_failed_node};
+ghost use Rattle.np_fits.specs.Fits.{Fits};
+
+use np_config::Config;
+use np_event::Outcome;
+use np_look::{Look, is_declined_by};
+use np_record::{NodeRecord, RequestRecord};
+use np_text::{NodeId, NodeState, PoolId, RequestId, RequestState, SessionId};
+
+/// Whether the request is pending, and this pool serves it.
+pub fn is_pending_by(pool: PoolId, request: &RequestRecord) -> bool
+    ensures { result ≡ is_pending_by pool request.now }
+{
+    let own = match request.pool {
+        None => false,
+        Some(other) => other.0 == pool.0,
+    };
+    request.state == RequestState::Pending && own
+}
+
+/// Whether the node is in the request's list.
+pub fn is_listed(node: NodeId, request: &RequestRecord) -> bool
+    ensures { result ≡ is_listed node request.now }
+{
+    request.nodes.items().iter().any(|m| m.0 == node.0)
+}
+
+/// Whether the request has a node for each of its labels.
+pub fn is_complete(request: &RequestRecord) -> bool
+    ensures { result ≡ is_complete request.now }
+{
+    request.labels.at(request.nodes.len()).is_none()
+}
+
+/// Whether the node is there and failed.
+pub fn is_spent<L: Look>(look: &L, node: NodeId) -> bool
+    ensures { result ≡ is_spent node (L.state look.now) }
+{
+    match look.node(node) {
+        None => false,
+        Some(kept) => kept.state == NodeState::Failed,
+    }
+}
+
+/// Whether a node of the request's list has no launch left.
+pub fn has_failed_node<L: Look>(look: &L, request: &RequestRecord) -> bool
+    ensures { result ≡ has_failed_node (L.state look.now) request.now }
+{
+    request.nodes.items().iter().any(|n| is_spent(look, *n))
+}
+
+/// Whether the request is requested, the pool has not declined it, and the session holds it.
+pub(crate) fn is_in_hand(
+    pool: PoolId,
+    session: SessionId,
+    request: &RequestRecord,
+    holder: Option<SessionId>,
+) -> bool
+    ensures { result ≡
+        (is_requested request.now.state && not (is_declined_by pool request.now.declined)
+        && is_session_of session holder) }
+{
+    let held = match holder {
+        None => false,
+        Some(other) => other.0 == session.0,
+    };
+    request.state == RequestState::Requested
+        && !is_declined_by(pool, request.declined.items())
+        && held
+}
+
+/// Whether the request is there, not pending, and the pool's launcher can do nothing with it.
+pub fn is_done_with<L: Look>(look: &L, pool: PoolId, request: RequestId) -> bool
+    requires { Fits (L.site look.now) (L.state look.now) }
+    ensures { result ≡ request_is request (L.state look.now)
+        (is_done_with (L.site look.now) (L.state look.now) pool) }
+{
+    let Some(asked) = look.asked(request) else {
+        return false;
+    };
+    if asked.state == RequestState::Pending {
+        return false;
+    }
+    asked.state != RequestState::Requested
+        || look.is_declined(request, pool)
+        || look.blocking(pool, &asked).is_some()
+}
+
+/// Whether the pool's start of this number is planned to fail.
+fn is_to_fail(config: &Config, pool: PoolId, start: u32) -> bool
+    ensures { result ≡ list_any (λ k. k == start) (fail_starts_of config.now pool) }
+{
+    match config.pool(pool) {
+        None => false,
+        Some(row) => row.fail_starts.items().iter().any(|k| *k == start),
+    }
+}
+
+/// What the simulated cloud reports of the pool's start of this number.
+pub(crate) fn outcome_of(config: &Config, pool: PoolId, start: u32) -> Outcome
+    ensures { result ≡ outcome_of config.now pool start }
+{
+    if is_to_fail(config, pool, start) {
+        Outcome::Failed
+    } else {
+        Outcome::Launched(start as u64)
+    }
+}
+
+fn is_same_outcome(one: Outcome, other: Outcome) -> bool
+    ensures { result ≡ same_outcome one other }
+{
+    match one {
+        Outcome::Launched(server) => match other {
+            Outcome::Launched(of) => server == of,
+            Outcome::Failed => false,
+        },
+        Outcome::Failed => match other {
+            Outcome::Launched(_) => false,
+            Outcome::Failed => true,
+        },
+    }
+}
+
+/// Whether it is the report on the node's last attempt that the simulated cloud makes.
+pub fn is_as_planned(
+    config: &Config,
+    pool: PoolId,
+    attempt: u8,
+    outcome: Outcome,
+    node: &NodeRecord,
+) -> bool
+    ensures { result ≡ is_as_planned config.now pool attempt outcome node.now }
+{
+    node.attempts == attempt && is_same_outcome(outcome_of(config, pool, node.start), outcome)
+}

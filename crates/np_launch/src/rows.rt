@@ -1,0 +1,82 @@
+//! The conditions of a launcher's rows.
+
+ghost use Rattle.std.specs.Prelude.{◌≡◌, ◌&&◌, not};
+ghost use Rattle.std.specs.List.{list_any};
+ghost use Rattle.np_machine.specs.Tables.{is_session_of, registered};
+ghost use Rattle.np_fits.specs.Fits.{Fits};
+ghost use Rattle.np_useful.specs.Launcher.{is_wanted_by, is_as_planned, is_under_way, is_in_hand, has_turn_left};
+ghost use Rattle.np_useful.specs.Rows.{request_is, node_is, has_failed_node};
+
+use crate::request::{has_failed_node, is_as_planned};
+use crate::requests::{has_request_in_hand, has_request_under_way, has_turn_left, is_wanted_by};
+use np_event::Outcome;
+use np_look::Look;
+use np_text::{NodeId, PoolId, RequestId, SessionId};
+
+/// Whether the session holds the registration of the pool.
+pub fn is_registrant<L: Look>(look: &L, pool: PoolId, session: SessionId) -> bool
+    ensures { result ≡ is_session_of session (registered pool (L.state look.now).registrations) }
+{
+    match look.registration(pool) {
+        None => false,
+        Some(other) => other.0 == session.0,
+    }
+}
+
+/// Whether the launcher is done with the node: no launch of it is running, and no request that the
+/// pool serves wants it. The requests are asked only of a node without a launch.
+pub fn is_node_done_with<L: Look>(look: &L, pool: PoolId, node: NodeId) -> bool
+    ensures { result ≡
+        (node_is node (L.state look.now) (λ k. not k.in_flight)
+        && not (is_wanted_by pool (L.state look.now) node)) }
+{
+    let Some(kept) = look.node(node) else {
+        return false;
+    };
+    if kept.in_flight {
+        return false;
+    }
+    !is_wanted_by(look, pool, node)
+}
+
+/// Whether the request is there, and none of its nodes failed.
+pub fn is_unfailed<L: Look>(look: &L, request: RequestId) -> bool
+    ensures { result ≡ request_is request (L.state look.now)
+        (λ kept. not (has_failed_node (L.state look.now) kept)) }
+{
+    match look.request(request) {
+        None => false,
+        Some(kept) => !has_failed_node(look, &kept),
+    }
+}
+
+/// Whether it is the report on the node's last attempt that the simulated cloud makes.
+pub fn is_planned_report<L: Look>(
+    look: &L,
+    pool: PoolId,
+    node: NodeId,
+    attempt: u8,
+    outcome: Outcome,
+) -> bool
+    ensures { result ≡ node_is node (L.state look.now)
+        (is_as_planned (L.site look.now) pool attempt outcome) }
+{
+    match look.node(node) {
+        None => false,
+        Some(kept) => is_as_planned(look.config(), pool, attempt, outcome, &kept),
+    }
+}
+
+/// Whether the launcher may take up another request: it has none under way and none in hand, and
+/// the launchers of its provider may work on one more.
+pub fn may_take_up<L: Look>(look: &L, pool: PoolId, session: SessionId) -> bool
+    requires { Fits (L.site look.now) (L.state look.now) }
+    ensures { result ≡
+        (not (list_any (is_under_way pool) (L.state look.now).requests)
+        && not (list_any (is_in_hand pool session) (L.state look.now).requests)
+        && has_turn_left (L.site look.now) (L.state look.now) pool) }
+{
+    !has_request_under_way(look, pool)
+        && !has_request_in_hand(look, pool, session)
+        && has_turn_left(look, pool)
+}
