@@ -10,17 +10,21 @@ use Rattle.np_text.specs.declared.id.Role.{Role}
 use Rattle.np_text.specs.declared.id.Role.TheVariants.{Requester}
 use Rattle.np_site.specs.Configuration.{Configuration}
 use Rattle.np_event.specs.declared.event.Event.{Event}
-use Rattle.np_event.specs.declared.event.Event.TheVariants as ev
+use Rattle.np_event.specs.declared.reply.Done.{Done}
 use Rattle.np_machine.specs.declared.state.SessionFacts.{SessionFacts}
 use Rattle.np_machine.specs.Laws.{same_role}
 use Rattle.np_machine.specs.State.{State}
-use Rattle.np_machine.specs.Step.{judge}
+use Rattle.np_machine.specs.Step.{judge, maker_of}
 use Rattle.np_machine.specs.Tests.{maker}
 use Rattle.np_look.specs.Readers.{unfinished_of}
 use Rattle.np_useful.specs.Sessions.{is_current, speaks_for}
 use Rattle.np_useful.specs.Useful.{IsUseful}
 use Rattle.np_roles.specs.Choices.{NoneOf}
 use Rattle.np_roles.specs.Passing.{passes}
+use Rattle.np_roles.specs.Kinds.{job_event}
+use Rattle.np_roles.specs.declared.kind.EventKind.TheVariants as kind_of
+use Rattle.np_roles.specs.declared.kind.JobKind.{JobKind}
+use Rattle.np_roles.specs.declared.kind.JobKind.TheVariants as of_job
 use Rattle.np_roles.proofs.Currents.{one-current, current-speaks}
 use Rattle.np_roles.proofs.Searches.{ok-is, useful-passes}
 use Rattle.np_roles.proofs.Openings.{same-role}
@@ -43,6 +47,13 @@ spoken {q} facts is =
     let parts = three (same_role facts.role (Requester q)) facts.live facts.mute is in
     (parts.1.0, (parts.1.1, same-role facts.role (Requester q) parts.0))
 
+job-maker : (kind : JobKind) (by : SessionId) (j : JobId) → maker_of (job_event kind by j) ≡ Some by
+job-maker of_job.Acquire by j = refl
+job-maker of_job.Submit by j = refl
+job-maker of_job.Take by j = refl
+job-maker of_job.Finish by j = refl
+job-maker of_job.Release by j = refl
+
 module _ (c : Configuration) (s : State) (q : RequesterId) (session : SessionId) (current : is_current (Requester q) session s ≡ true) where
   who : maker s session ≡ Ok (Requester q)
   who =
@@ -63,36 +74,26 @@ module _ (c : Configuration) (s : State) (q : RequesterId) (session : SessionId)
     own : (by : SessionId) → is_current (Requester q) by s ≡ true → by ≡ session
     own by is = one-current (Requester q) s by session is current
 
-    none_finish : (by : SessionId) (j : JobId) → IsUseful c s (Requester q) (ev.Finish by j) → ⊥
-    none_finish by j useful =
-        let same : by ≡ session = own by useful.maker in
-        let here : IsUseful c s (Requester q) (ev.Finish session j) = rw same at useful in
-        let answer = ok-is (judge c s (ev.Finish session j)) here.accepted in
-        apart (ev.Finish session j) (is_passed j (finish-open c s session q who j answer.0 answer.1)).finish here
-
-    none_take : (by : SessionId) (j : JobId) → IsUseful c s (Requester q) (ev.Take by j) → ⊥
-    none_take by j useful =
-        let same : by ≡ session = own by useful.maker in
-        let here : IsUseful c s (Requester q) (ev.Take session j) = rw same at useful in
-        let answer = ok-is (judge c s (ev.Take session j)) here.accepted in
-        apart (ev.Take session j) (is_passed j (take-open c s session q who j answer.0 answer.1)).take here
-
-    none_acquire : (by : SessionId) (j : JobId) → IsUseful c s (Requester q) (ev.Acquire by j) → ⊥
-    none_acquire by j useful =
-        let same : by ≡ session = own by useful.maker in
-        let here : IsUseful c s (Requester q) (ev.Acquire session j) = rw same at useful in
-        let answer = ok-is (judge c s (ev.Acquire session j)) here.accepted in
-        apart (ev.Acquire session j) (is_passed j (acquire-open c s session q who j answer.0 answer.1)).acquire here
-
-    none_submit : (by : SessionId) (j : JobId) → IsUseful c s (Requester q) (ev.Submit by j) → ⊥
-    none_submit by j useful =
-        let same : by ≡ session = own by useful.maker in
-        let here : IsUseful c s (Requester q) (ev.Submit session j) = rw same at useful in
-        let answer = ok-is (judge c s (ev.Submit session j)) here.accepted in
-        apart (ev.Submit session j) (is_passed j (submit-open c s session q who j answer.0 answer.1)).submit here
+    -- no event of the kind is useful, where an accepted one finds the job open and a job that was passed has none that passes
+    none_of : (kind : JobKind) → ((j : JobId) (what : Done) → judge c s (job_event kind session j) ≡ Ok what → IsOpen c s q j) → ((j : JobId) → IsPassed c s q session j → passes c s (Requester q) (job_event kind session j) ≡ false) → NoneOf c s (Requester q) (kind_of.Job kind)
+    none_of kind found fails by j useful =
+        let made : is_current (Requester q) by s ≡ true = rw (job-maker kind by j) at useful.maker in
+        let same : by ≡ session = own by made in
+        let here : IsUseful c s (Requester q) (job_event kind session j) = rw same at useful in
+        let answer = ok-is (judge c s (job_event kind session j)) here.accepted in
+        apart (job_event kind session j) (fails j (is_passed j (found j answer.0 answer.1))) here
 
     pub steps-none : AllByRecursion (NoneOf c s (Requester q)) steps
-    steps-none = (none_finish, (none_take, (none_acquire, (none_submit, tt))))
+    steps-none = (
+      none_of of_job.Finish (finish-open c s session q who) (λ j was. was.finish),
+      (
+        none_of of_job.Take (take-open c s session q who) (λ j was. was.take),
+        (
+          none_of of_job.Acquire (acquire-open c s session q who) (λ j was. was.acquire),
+          (none_of of_job.Submit (submit-open c s session q who) (λ j was. was.submit), tt),
+        ),
+      ),
+    )
 
 -- a job on which nothing was found was passed
 pub step-passed : (c : Configuration) (s : State) (q : RequesterId) (session : SessionId) (j : JobId) (o : Option Event) → is_some o ≡ false → ChoosesStep c s q session j o → IsPassed c s q session j
