@@ -1,0 +1,3 @@
+pub mod OfSite
+pub mod Outside
+pub mod Settles

@@ -1,0 +1,87 @@
+-- a role that is not of the configuration has nothing to do
+use Rattle.std.proofs.Common.{◌≡◌, refl, subst, Bool, true, false, Option, Some, None}
+use Rattle.std.specs.Prelude.{◌&&◌, not, is_ok, is_some}
+use Rattle.np_text.specs.declared.id.SessionId.{SessionId}
+use Rattle.np_text.specs.declared.id.Role.{Role}
+use Rattle.np_text.specs.declared.id.Role.TheVariants.{Launcher, Janitor, Requester, Reaper}
+use Rattle.np_site.specs.Configuration.{Configuration}
+use Rattle.np_event.specs.declared.event.Event.TheVariants as ev
+use Rattle.np_machine.specs.Laws.{same_role}
+use Rattle.np_machine.specs.Session.{is_role}
+use Rattle.np_machine.specs.State.{State}
+use Rattle.np_machine.specs.Step.{judge, maker_of}
+use Rattle.np_changes.specs.Planned.{IsReached}
+use Rattle.np_useful.specs.Sessions.{is_current}
+use Rattle.np_useful.specs.Settled.{takes_part}
+use Rattle.np_useful.specs.Useful.{IsUseful, is_maker_of, row_holds}
+use Rattle.np_roles.proofs.Currents.{current-speaks}
+use Rattle.np_roles.proofs.Openings.{same-role}
+use Rattle.np_choices.specs.Idle.{IsIdle}
+use Rattle.np_choices.proofs.OfSite.{role-at}
+
+first-part : (t u : Bool) → (t && u) ≡ true → t ≡ true
+first-part true u is = refl
+first-part false u is = absurd cc
+
+module _ (c : Configuration) (s : State) where
+  -- neither the reaper nor of the configuration
+  no-role : (role : Role) → takes_part c role ≡ false → is_role c role ≡ true → ⊥
+  no-role (Launcher p) outside is = absurd cc
+  no-role (Janitor p) outside is = absurd cc
+  no-role (Requester q) outside is = absurd cc
+  no-role Reaper outside is = absurd cc
+
+  -- it has no current session
+  current-of : (role : Role) (session : SessionId) → IsReached c s → is_current role session s ≡ true → is_role c role ≡ true
+  current-of role session reached is =
+      let who = current-speaks role s session is in
+      let same : who.facts.role ≡ role = same-role who.facts.role role (first-part (same_role who.facts.role role) _ (first-part _ (not who.facts.mute) who.speaks)) in
+      subst (λ (r : Role). is_role c r ≡ true) same (role-at c s _ who.facts reached who.there)
+
+  made-by : (role : Role) → IsReached c s → takes_part c role ≡ false → (o : Option SessionId) → is_some o ≡ true → is_maker_of role s o ≡ true → ⊥
+  made-by role reached outside None some is = absurd cc
+  made-by role reached outside (Some session) some is = no-role role outside (current-of role session reached is)
+
+  -- a session is opened of roles of the configuration
+  open-of : (other : Role) → is_ok (judge c s (ev.OpenSession other)) ≡ true → is_role c other ≡ true
+  open-of other accepted = by (is_role c other) refl where
+    by : (b : Bool) → is_role c other ≡ b → is_role c other ≡ true
+    by true is = is
+    by false is = absurd (let refused : is_ok (judge c s (ev.OpenSession other)) ≡ false = rw is refl in cc)
+
+  opened : (role other : Role) → takes_part c role ≡ false → row_holds c s role (ev.OpenSession other) ≡ true → other ≡ role
+  opened (Launcher p) other outside is = same-role other (Launcher p) (first-part _ _ is)
+  opened (Janitor p) other outside is = same-role other (Janitor p) (first-part _ _ is)
+  opened (Requester q) other outside is = same-role other (Requester q) (first-part _ _ is)
+  opened Reaper other outside is = absurd cc
+
+  opens : (role other : Role) → takes_part c role ≡ false → IsUseful c s role (ev.OpenSession other) → ⊥
+  opens role other outside useful =
+      let same : other ≡ role = opened role other outside useful.row in
+      no-role role outside (subst (λ (r : Role). is_role c r ≡ true) same (open-of other useful.accepted))
+
+  -- no role but the reaper ticks or ends sessions
+  ticks : (role : Role) → takes_part c role ≡ false → row_holds c s role ev.Tick ≡ true → ⊥
+  ticks (Launcher p) outside is = absurd cc
+  ticks (Janitor p) outside is = absurd cc
+  ticks (Requester q) outside is = absurd cc
+  ticks Reaper outside is = absurd cc
+
+  crashes : (role : Role) (session : SessionId) → takes_part c role ≡ false → row_holds c s role (ev.Crash session) ≡ true → ⊥
+  crashes (Launcher p) session outside is = absurd cc
+  crashes (Janitor p) session outside is = absurd cc
+  crashes (Requester q) session outside is = absurd cc
+  crashes Reaper session outside is = absurd cc
+
+  expires : (role : Role) (session : SessionId) → takes_part c role ≡ false → row_holds c s role (ev.Expire session) ≡ true → ⊥
+  expires (Launcher p) session outside is = absurd cc
+  expires (Janitor p) session outside is = absurd cc
+  expires (Requester q) session outside is = absurd cc
+  expires Reaper session outside is = absurd cc
+
+  pub outside-idle : (role : Role) → IsReached c s → takes_part c role ≡ false → IsIdle c s role
+  outside-idle role reached outside ev.Tick useful = ticks role outside useful.row
+  outside-idle role reached outside (ev.OpenSession other) useful = opens role other outside useful
+  outside-idle role reached outside (ev.Crash session) useful = crashes role session outside useful.row
+  outside-idle role reached outside (ev.Expire session) useful = expires role session outside useful.row
+  outside-idle role reached outside e useful = made-by role reached outside (maker_of e) refl useful.maker

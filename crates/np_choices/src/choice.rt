@@ -1,0 +1,46 @@
+//! The choice of any role.
+
+ghost use Rattle.std.specs.Prelude.{◌≡◌};
+ghost use Rattle.np_changes.specs.Planned.{IsReached};
+ghost use Rattle.np_fits.specs.Fits.{Fits};
+ghost use Rattle.np_roles.specs.Choices.{Chooses};
+ghost use Rattle.np_useful.specs.Settled.{takes_part};
+
+use np_event::Event;
+use np_janitor::{choose_janitor, choose_reaper};
+use np_jobs::choose_requester;
+use np_launch::choose_launcher;
+use np_look::Look;
+use np_text::Role;
+
+/// Whether the role is of the configuration, or the reaper.
+pub fn takes_part<L: Look>(look: &L, role: Role) -> bool
+    ensures { result ≡ takes_part (L.site look.now) role }
+{
+    match role {
+        Role::Launcher(pool) => look.config().pool(pool).is_some(),
+        Role::Janitor(pool) => look.config().pool(pool).is_some(),
+        Role::Requester(requester) => look.config().requester(requester).is_some(),
+        Role::Reaper => true,
+    }
+}
+
+/// A useful event of the role, or `None` exactly where there is none; a role that is not of the
+/// configuration has none. It takes no memory. The cost is that of the role's own choice: it grows
+/// with the requests, the nodes, the jobs, the labels and the sessions that there are. For a node
+/// that a launcher holds it may ask all requests, and for a request all nodes.
+pub fn choose<L: Look>(look: &L, role: Role) -> Option<Event>
+    requires reached { IsReached (L.site look.now) (L.state look.now) }
+    requires fits { Fits (L.site look.now) (L.state look.now) }
+    ensures { Chooses (L.site look.now) (L.state look.now) role result }
+{
+    if !takes_part(look, role) {
+        return None;
+    }
+    match role {
+        Role::Launcher(pool) => choose_launcher(look, pool),
+        Role::Janitor(pool) => choose_janitor(look, pool),
+        Role::Requester(requester) => choose_requester(look, requester),
+        Role::Reaper => choose_reaper(look),
+    }
+}
