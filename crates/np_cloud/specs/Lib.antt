@@ -1,0 +1,5 @@
+pub mod Facts
+pub mod Calls
+pub mod Inventory
+pub mod Sim
+pub mod Script

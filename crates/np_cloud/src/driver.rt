@@ -1,0 +1,72 @@
+//! What launches and removes servers.
+
+ghost use Rattle.std.specs.Prelude.{◌≡◌, Option, IfSome, slice_get};
+ghost use Rattle.np_event.specs.declared.event.Outcome.{Outcome};
+ghost use Rattle.np_cloud.specs.declared.driver.Tag.{Tag};
+ghost use Rattle.np_cloud.specs.Facts.{DriverFacts};
+ghost use Rattle.np_cloud.specs.Calls.{Launches, IsAsPlanned, Removes, KeepsCounts};
+
+use np_event::Outcome;
+use np_text::{NodeId, PoolId};
+
+/// Which launch it is: an attempt of a node, and the start of this number in the pool.
+#[derive(Clone, Copy, Debug, PartialEq, Eq)]
+pub struct Tag {
+    pub pool: PoolId,
+    pub node: NodeId,
+    pub attempt: u8,
+    pub start: u32,
+}
+
+/// A launch, and what became of it.
+#[derive(Clone, Copy, Debug, PartialEq, Eq)]
+pub struct Launch {
+    pub tag: Tag,
+    pub outcome: Outcome,
+}
+
+/// A server, with the launch that made it.
+#[derive(Clone, Copy, Debug, PartialEq, Eq)]
+pub struct Server {
+    pub tag: Tag,
+    pub number: u64,
+}
+
+/// Why there is no server.
+#[derive(Clone, Copy, Debug, PartialEq, Eq)]
+pub enum LaunchFault {
+    /// The driver's count of failed launches rose.
+    Failed,
+    NoMemory,
+}
+
+/// A removal failed. The driver's count of failed removals rose, and its servers are as before.
+#[derive(Clone, Copy, Debug, PartialEq, Eq)]
+pub struct RemoveFailed;
+
+/// Launches and removes servers.
+pub trait Driver {
+    /// What is known of the driver: the launches that it answered and its servers, where it tells
+    /// them, and how many launches and removals failed.
+    ghost facts: { Self → DriverFacts };
+
+    /// What a launch is to be answered, where the driver follows a plan. No call changes it.
+    ghost plan: { Self → Tag → Option Outcome };
+
+    /// Launches a server, and answers its number. The server is then the last of the driver's.
+    fn launch(&mut self, tag: Tag) -> Result<u64, LaunchFault>
+        ensures plan { plan self.new ≡ plan self.old }
+        ensures launch { Launches (facts self.old) tag result (facts self.new) }
+        ensures planned { IsAsPlanned (plan self.old tag) result }
+        ensures counts { KeepsCounts (facts self.old) (facts self.new) };
+
+    /// Removes each server of this number; there may be none.
+    fn remove(&mut self, number: u64) -> Result<(), RemoveFailed>
+        ensures plan { plan self.new ≡ plan self.old }
+        ensures removal { Removes (facts self.old) number result (facts self.new) }
+        ensures counts { KeepsCounts (facts self.old) (facts self.new) };
+
+    /// The server at a place, in the order of their launches, or `None` exactly past the last.
+    fn server(&self, at: u32) -> Option<Server>
+        ensures { IfSome (facts self.now).servers (λ servers. result ≡ slice_get servers at) };
+}

@@ -1,0 +1,22 @@
+//! What is known of every simulated cloud. Each function does nothing: its contract is the law.
+
+ghost use Rattle.std.specs.Prelude.{◌≡◌, ℕ, Err};
+ghost use Rattle.np_cloud.specs.declared.driver.RemoveFailed.{RemoveFailed};
+ghost use Rattle.np_cloud.specs.Calls.{Removes};
+ghost use Rattle.np_cloud.specs.Inventory.{facts_of};
+ghost use Rattle.np_cloud.specs.Sim.{Simulation};
+
+use crate::driver::Driver;
+use crate::sim::SimDriver;
+
+/// A simulated cloud always tells its launches and its servers.
+pub fn a_simulated_cloud_tells_all()
+    ensures { (cloud : Simulation) → ⟦<SimDriver as Driver>⟧.facts cloud ≡ facts_of cloud.told 0 }
+{}
+
+/// No removal of a simulated cloud fails.
+pub fn no_removal_of_a_simulated_cloud_fails()
+    ensures { (cloud later : Simulation) (number : ℕ) (fault : RemoveFailed) →
+        Removes (⟦<SimDriver as Driver>⟧.facts cloud) number (Err fault)
+        (⟦<SimDriver as Driver>⟧.facts later) → ⊥ }
+{}
