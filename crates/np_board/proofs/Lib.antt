@@ -1,0 +1,5 @@
+pub mod ReplyLemmas
+pub mod LegalLemmas
+pub mod SweepLemmas
+pub mod DueLemmas
+pub mod TurnLemmas

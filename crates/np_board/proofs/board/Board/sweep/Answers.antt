@@ -1,0 +1,29 @@
+use Rattle.std.proofs.Common.{sym, inl, inr}
+use Rattle.std.proofs.lemmas.Result.{IfOk-weaker}
+use Rattle.np_text.specs.declared.id.Role.TheVariants.{Janitor}
+use Rattle.np_fits.proofs.FitsRuns.{Fits-Runs}
+use Rattle.np_roles.proofs.Currents.{current-has}
+use Rattle.np_board.specs.Answers.{IsNotKept}
+use Rattle.np_board.proofs.TurnLemmas.{kept-taken, swept-taken, sweep-taken}
+use Rattle.np_board.proofs.board.Board.sweep.Goals as goal
+
+pub current_session-requires : goal.current_session-requires
+current_session-requires c = Fits-Runs _ _ _ c.soundness.ensures.site c.soundness.ensures.runs
+
+pub returns-in_default-clause-turn : goal.returns-in_default-clause-turn
+returns-in_default-clause-turn c =
+    kept-taken c.args.self.now c.args.pool c.args.node c.args.server c.soundness.ensures.runs (inl c.in_default.ensures)
+
+pub returns-then-is_wanted-clause-turn : goal.returns-then-is_wanted-clause-turn
+returns-then-is_wanted-clause-turn c =
+    kept-taken c.args.self.now c.args.pool c.args.node c.args.server c.soundness.ensures.runs (inr (sym c.if-is_wanted.ensures))
+
+pub returns-then-swept-clause-turn : goal.returns-then-swept-clause-turn
+returns-then-swept-clause-turn c =
+    let lost : IsNotKept c.args.pool c.args.node c.args.server c.args.self.now.state = record { current = current-has (Janitor c.args.pool) c.args.self.now.state c.in-Some.session c.in-Some.ensures; unwanted = sym c.if-is_wanted.ensures } in
+    swept-taken c.args.self.now c.args.pool c.args.node c.args.server c.soundness.ensures.runs lost (sym c.if-swept.ensures)
+
+pub returns-clause-turn : goal.returns-clause-turn
+returns-clause-turn c =
+    let lost : IsNotKept c.args.pool c.args.node c.args.server c.args.self.now.state = record { current = current-has (Janitor c.args.pool) c.args.self.now.state c.in-Some.session c.in-Some.ensures; unwanted = sym c.if-is_wanted.ensures } in
+    IfOk-weaker c.record.result _ _ (λ t taken. sweep-taken c.args.self.now c.record.new.self c.args.pool c.in-Some.session c.args.node c.args.server t c.soundness.ensures.runs lost (sym c.if-swept.ensures) c.in-Some.ensures taken) c.record.ensures.turn

@@ -1,0 +1,14 @@
+-- what a turn at a board leaves
+use Rattle.std.specs.Prelude.{◌≡◌, ◌++◌}
+use Rattle.np_desk.specs.Turned.{entries_of}
+use Rattle.np_rules.specs.Ran.{Ran}
+use Rattle.np_board.specs.declared.ask.Ask.{Ask}
+use Rattle.np_board.specs.declared.ask.Turn.{Turn}
+use Rattle.np_board.specs.Answers.{answers}
+use Rattle.np_board.specs.Asks.{recorded}
+
+-- the turn answers the ask after the journal so far; what it recorded is added to the journal, and nothing else is (own)
+pub record IsTaken (old : Ran) (ask : Ask) (t : Turn) (new : Ran) : Type 0 where
+  pub answer : answers old.configuration old.journal ask t
+  pub configuration : new.configuration ≡ old.configuration
+  pub journal : new.journal ≡ old.journal ++ entries_of (recorded ask t)

@@ -1,0 +1,185 @@
+//! The board.
+
+ghost use Rattle.std.specs.Prelude.{◌≡◌, ◌↔◌, [], true, IfOk, OnErr, OnOk, length};
+ghost use Rattle.np_machine.specs.History.{Runs};
+ghost use Rattle.np_machine.specs.State.{start};
+ghost use Rattle.np_fits.specs.Fits.{IsFitSite};
+ghost use Rattle.np_rules.specs.Ran.{answer_of, applied};
+ghost use Rattle.np_useful.specs.Settled.{IsSettled};
+ghost use Rattle.np_board.specs.Answers.{answers_due};
+ghost use Rattle.np_board.specs.Taken.{IsTaken};
+ghost use Rattle.np_board.specs.declared.ask.Ask.TheVariants as asks;
+
+mod look;
+mod object;
+
+use crate::ask::{Ask, Turn};
+use crate::due::{due_node, is_wanted};
+use np_choices::{choose, is_settled};
+use np_config::Config;
+use np_event::{Entry, Event, Reply};
+use np_look::Look;
+use np_roles::current_session;
+use np_rules::Plain;
+use np_text::{JOURNAL_ENTRIES, NoMemory, NodeId, PoolId, Role};
+use std::alloc::Global;
+use std::marker::Model;
+
+/// The machine's state with its journal. It changes by entries of the journal alone.
+#[derive(Drop)]
+pub struct Board {
+    plain: Plain,
+}
+
+impl Model for Board {
+    ghost use Rattle.std.specs.Prelude.{length};
+    ghost use Rattle.np_rules.specs.Ran.{IsRun, Ran};
+
+    ghost Value = { Ran };
+
+    ghost view = { λ b. b.plain };
+
+    ghost invariant = { λ b. IsRun b.plain (length b.plain.journal) };
+}
+
+impl Board {
+    /// The board before the first event.
+    pub fn new(alloc: Global, config: Config) -> Result<Board, NoMemory>
+        ensures { IfOk result (λ b. b ≡ record {
+          configuration = config;
+          journal = [];
+          state = start config;
+        }) }
+    {
+        config.soundness();
+        let plain = Plain::new(alloc, config)?;
+        Ok(Board { plain })
+    }
+
+    /// The journal leads to the state, and the configuration leaves room for every run. The call
+    /// does nothing: a caller's proof takes the facts from it.
+    pub fn soundness(&self)
+        ensures site { IsFitSite self.now.configuration }
+        ensures runs { Runs self.now.configuration self.now.journal self.now.state }
+    {
+        let _plain = &self.plain;
+    }
+
+    /// What was recorded, the first entry first.
+    pub fn journal(&self) -> &[Entry]
+        ensures { result.now ≡ self.now.journal }
+    {
+        self.plain.journal()
+    }
+
+    /// What the event is answered: `Full` where the journal has 262,144 entries. It takes no
+    /// memory.
+    pub fn judge(&self, event: Event) -> Reply
+        ensures { result ≡ answer_of self.now event }
+    {
+        self.plain.judge(event)
+    }
+
+    /// The event happens: its reply is recorded with it, and the state is the one after it. Where
+    /// the reply is `Full`, and where memory is wanted, nothing changes.
+    pub fn apply(&mut self, event: Event) -> Result<Reply, NoMemory>
+        ensures reply { IfOk result (λ r. r ≡ answer_of self.old event) }
+        ensures ok { OnOk result (self.new ≡ applied self.old event) }
+        ensures err { OnErr result (self.new ≡ self.old) }
+        ensures runs { Runs self.new.configuration self.new.journal self.new.state }
+    {
+        let reply = self.plain.apply(event)?;
+        Ok(reply)
+    }
+
+    /// Whether no role has a useful event. It takes no memory, and costs a choice of each role.
+    pub fn settled(&self) -> bool
+        ensures { (result ≡ true) ↔ IsSettled self.now.configuration self.now.state }
+    {
+        self.soundness();
+        is_settled(self)
+    }
+
+    /// Records one useful event of the role: `Did`. `Idle` exactly where the role has none, and
+    /// `Full` exactly where it has one and 262,144 entries stand. After want of memory nothing has
+    /// changed.
+    pub fn act(&mut self, role: Role) -> Result<Turn, NoMemory>
+        ensures turn { IfOk result (λ t. IsTaken self.old (asks.Act role) t self.new) }
+        ensures err { OnErr result (self.new ≡ self.old) }
+    {
+        self.soundness();
+        match choose(self, role) {
+            None => Ok(Turn::Idle),
+            Some(event) => self.record(event),
+        }
+    }
+
+    /// Records the event with its reply: `Did`, or `Full` exactly where 262,144 entries stand.
+    fn record(&mut self, event: Event) -> Result<Turn, NoMemory>
+        ensures turn { IfOk result (λ t. IsTaken self.old (asks.Do event) t self.new) }
+        ensures err { OnErr result (self.new ≡ self.old) }
+    {
+        if self.plain.journal().len() >= JOURNAL_ENTRIES {
+            return Ok(Turn::Full);
+        }
+        let reply = self.plain.apply(event)?;
+        Ok(Turn::Did(Entry { event, reply }))
+    }
+
+    /// A node of the pool that is being deleted and held by the pool's janitor, or `Idle` exactly
+    /// where there is none. It asks the sessions from the newest to the janitor's, and then every
+    /// node up to that one.
+    fn due(&self, pool: PoolId) -> Turn
+        ensures { answers_due self.now.configuration self.now.journal pool result }
+    {
+        self.soundness();
+        let Some(session) = current_session(self, Role::Janitor(pool)) else {
+            return Turn::Idle;
+        };
+        match due_node(self, pool, session) {
+            None => Turn::Idle,
+            Some(view) => Turn::DueNode {
+                node: view.id,
+                server: view.kept.server,
+            },
+        }
+    }
+
+    /// Records that the pool's janitor sweeps the server, unless the server is kept or was swept
+    /// before. It asks the sessions from the newest to the janitor's, and finds the node and the
+    /// pair by halves.
+    fn sweep(&mut self, pool: PoolId, node: NodeId, server: u64) -> Result<Turn, NoMemory>
+        ensures turn { IfOk result
+            (λ t. IsTaken self.old (asks.Sweep pool node server) t self.new) }
+        ensures err { OnErr result (self.new ≡ self.old) }
+    {
+        self.soundness();
+        let Some(session) = current_session(self, Role::Janitor(pool)) else {
+            return Ok(Turn::Idle);
+        };
+        if is_wanted(self, node, server) {
+            return Ok(Turn::Idle);
+        }
+        if self.swept(node, server) {
+            return Ok(Turn::Swept);
+        }
+        self.record(Event::Sweep {
+            session,
+            node,
+            server,
+        })
+    }
+
+    /// The turn goes by its ask.
+    fn take_turn(&mut self, ask: Ask) -> Result<Turn, NoMemory>
+        ensures turn { IfOk result (λ t. IsTaken self.old ask t self.new) }
+        ensures err { OnErr result (self.new ≡ self.old) }
+    {
+        match ask {
+            Ask::Act(role) => self.act(role),
+            Ask::Do(event) => self.record(event),
+            Ask::Due(pool) => Ok(self.due(pool)),
+            Ask::Sweep { pool, node, server } => self.sweep(pool, node, server),
+        }
+    }
+}

@@ -1,0 +1,206 @@
+//! What can be read of the board: what its machine tells.
+
+ghost use Rattle.std.specs.Prelude.{length};
+
+use crate::board::Board;
+use np_amount::Amount;
+use np_changes::Asked;
+use np_config::Config;
+use np_look::{Look, NodeView, RequestView};
+use np_machine::{Registration, SessionFacts};
+use np_record::{JobRecord, NodeRecord, RequestRecord, RoleRecord};
+use np_text::{
+    JobId, LabelId, NodeId, PoolId, RequestId, RequesterId, Role, SemId, SessionId, TenantId,
+};
+
+impl Look for Board {
+    ghost site = { λ b. b.configuration };
+
+    ghost state = { λ b. b.state };
+
+    ghost recorded = { λ b. length b.journal };
+
+    fn config(&self) -> &Config {
+        self.plain.config()
+    }
+
+    fn entries(&self) -> u32 {
+        self.plain.entries()
+    }
+
+    fn tick(&self) -> u32 {
+        self.plain.tick()
+    }
+
+    fn session(&self, session: SessionId) -> Option<SessionFacts> {
+        self.plain.session(session)
+    }
+
+    fn sessions(&self) -> u32 {
+        self.plain.sessions()
+    }
+
+    fn registration(&self, pool: PoolId) -> Option<SessionId> {
+        self.plain.registration(pool)
+    }
+
+    fn registrations(&self) -> u32 {
+        self.plain.registrations()
+    }
+
+    fn registration_at(&self, at: u32) -> Option<Registration> {
+        self.plain.registration_at(at)
+    }
+
+    fn requests(&self) -> u32 {
+        self.plain.requests()
+    }
+
+    fn request_at(&self, at: u32) -> Option<RequestId> {
+        self.plain.request_at(at)
+    }
+
+    fn request_view(&self, at: u32) -> Option<RequestView> {
+        self.plain.request_view(at)
+    }
+
+    fn request(&self, request: RequestId) -> Option<RequestRecord> {
+        self.plain.request(request)
+    }
+
+    fn nodes(&self) -> u32 {
+        self.plain.nodes()
+    }
+
+    fn node_at(&self, at: u32) -> Option<NodeId> {
+        self.plain.node_at(at)
+    }
+
+    fn node_view(&self, at: u32) -> Option<NodeView> {
+        self.plain.node_view(at)
+    }
+
+    fn node(&self, node: NodeId) -> Option<NodeRecord> {
+        self.plain.node(node)
+    }
+
+    fn request_queue(&self, request: RequestId, at: u32) -> Option<SessionId> {
+        self.plain.request_queue(request, at)
+    }
+
+    fn node_queue(&self, node: NodeId, at: u32) -> Option<SessionId> {
+        self.plain.node_queue(node, at)
+    }
+
+    fn handles(&self, semaphore: SemId) -> u32 {
+        self.plain.handles(semaphore)
+    }
+
+    fn has_handle(&self, semaphore: SemId, job: JobId) -> bool {
+        self.plain.has_handle(semaphore, job)
+    }
+
+    fn jobs(&self) -> u32 {
+        self.plain.jobs()
+    }
+
+    fn job(&self, job: JobId) -> Option<JobRecord> {
+        self.plain.job(job)
+    }
+
+    fn role(&self, role: Role) -> Option<RoleRecord> {
+        self.plain.role(role)
+    }
+
+    fn swept(&self, node: NodeId, server: u64) -> bool {
+        self.plain.swept(node, server)
+    }
+
+    fn next_request(&self) -> u32 {
+        self.plain.next_request()
+    }
+
+    fn next_node(&self) -> u32 {
+        self.plain.next_node()
+    }
+
+    fn asked(&self, request: RequestId) -> Option<Asked> {
+        self.plain.asked(request)
+    }
+
+    fn is_declined(&self, request: RequestId, pool: PoolId) -> bool {
+        self.plain.is_declined(request, pool)
+    }
+
+    fn undeclined(&self, request: RequestId) -> u32 {
+        self.plain.undeclined(request)
+    }
+
+    fn is_last_pool(&self, request: RequestId, pool: PoolId) -> bool {
+        self.plain.is_last_pool(request, pool)
+    }
+
+    fn request_holder(&self, request: RequestId) -> Option<SessionId> {
+        self.plain.request_holder(request)
+    }
+
+    fn node_holder(&self, node: NodeId) -> Option<SessionId> {
+        self.plain.node_holder(node)
+    }
+
+    fn ahead_at_node(&self, session: SessionId, node: NodeId) -> u32 {
+        self.plain.ahead_at_node(session, node)
+    }
+
+    fn waits_at_node(&self, session: SessionId, node: NodeId) -> bool {
+        self.plain.waits_at_node(session, node)
+    }
+
+    fn blocking(&self, pool: PoolId, asked: &Asked) -> Option<TenantId> {
+        self.plain.blocking(pool, asked)
+    }
+
+    fn first_of(&self, pool: PoolId) -> Option<RequestId> {
+        self.plain.first_of(pool)
+    }
+
+    fn used_by(&self, tenant: TenantId) -> Amount {
+        self.plain.used_by(tenant)
+    }
+
+    fn has_spent_min_ready(&self, pool: PoolId, label: LabelId) -> bool {
+        self.plain.has_spent_min_ready(pool, label)
+    }
+
+    fn ready_count(&self, label: LabelId) -> u32 {
+        self.plain.ready_count(label)
+    }
+
+    fn used(&self, pool: PoolId) -> Amount {
+        self.plain.used(pool)
+    }
+
+    fn has_spare(&self, pool: PoolId, label: LabelId) -> bool {
+        self.plain.has_spare(pool, label)
+    }
+
+    fn free_ready(&self, pool: PoolId, label: LabelId, at: u32) -> Option<NodeId> {
+        self.plain.free_ready(pool, label, at)
+    }
+
+    fn is_paused(&self, pool: PoolId) -> bool {
+        self.plain.is_paused(pool)
+    }
+
+    fn unfinished(&self, requester: RequesterId, at: u32) -> Option<JobId> {
+        self.plain.unfinished(requester, at)
+    }
+
+    fn owner(&self, node: NodeId) -> Option<JobId> {
+        self.plain.owner(node)
+    }
+
+    fn has_live_session(&self, requester: RequesterId) -> bool {
+        self.plain.has_live_session(requester)
+    }
+}
