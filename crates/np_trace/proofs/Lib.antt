@@ -1,0 +1,9 @@
+pub mod Traces
+pub mod Starts
+pub mod Order
+pub mod Removals
+pub mod Gained
+pub mod Taken
+pub mod Ends
+pub mod Works
+pub mod Leaving

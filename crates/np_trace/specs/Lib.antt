@@ -1,0 +1,5 @@
+pub mod Move
+pub mod Phase
+pub mod Drive
+pub mod Walk
+pub mod Trace
