@@ -1,0 +1,151 @@
+-- What a part of a round did with its driver.
+use Rattle.std.proofs.Common.{◌≡◌, ℕ, ◌≤◌, List, [], ◌∷◌, ◌++◌, sym, refl, ap, ◌∙◌, arith, subst, append_assoc, append-nil}
+use Rattle.std.specs.Prelude.{Option, Some, None, IfSome, Ok, Err}
+use Rattle.std.specs.Option.{option_map}
+use Rattle.np_io.specs.Counts.{Rose}
+use Rattle.np_event.specs.declared.event.Outcome.{Outcome}
+use Rattle.np_event.specs.declared.event.Outcome.TheVariants as outcome
+use Rattle.np_cloud.specs.declared.driver.Tag.{Tag}
+use Rattle.np_cloud.specs.declared.driver.Server.{Server}
+use Rattle.np_cloud.specs.declared.driver.LaunchFault.TheVariants as fault
+use Rattle.np_cloud.specs.Facts.{DriverFacts}
+use Rattle.np_cloud.specs.declared.driver.Launch.{Launch}
+use Rattle.np_cloud.specs.Calls.{Answers, IsAsPlanned, without_number, KeepsCounts}
+use Rattle.np_board.specs.declared.ask.Ask.{Ask}
+use Rattle.np_board.specs.declared.ask.Turn.{Turn}
+use Rattle.np_trace.specs.Move.{Move, asked, launched, removed, launches_of}
+use Rattle.np_trace.specs.Drive.{Driving, servers_after, IsOfServer, SweepsServers, FollowsPlan, Drives, Drove}
+use Rattle.np_worker.specs.Part.{IsOfDriver, RemovalFailed}
+use Rattle.np_trace.proofs.Traces.{launches-append, servers-append, sweeps-append, plan-append}
+
+map_twice : {A : Type 0} (f g h : A → A) → ((x : A) → g (f x) ≡ h x) → (o : Option A) → option_map g (option_map f o) ≡ option_map h o
+map_twice f g h e None = refl
+map_twice f g h e (Some x) = ap (λ y. Some y) (e x)
+
+map_same : {A : Type 0} (f : A → A) → ((x : A) → x ≡ f x) → (o : Option A) → o ≡ option_map f o
+map_same f e None = refl
+map_same f e (Some x) = ap (λ y. Some y) (e x)
+
+swept_both : (ms ns : List Move) (o : Option (List Server)) → IfSome o (λ s. SweepsServers ms s) → IfSome (option_map (servers_after ms) o) (λ s. SweepsServers ns s) → IfSome o (λ s. SweepsServers (ms ++ ns) s)
+swept_both ms ns None h k = h
+swept_both ms ns (Some s) h k = sweeps-append ms ns s h k
+
+swept_none : (o : Option (List Server)) → IfSome o (λ s. Unit {0})
+swept_none None = tt
+swept_none (Some s) = tt
+
+swept_ask : (a : Ask) (o : Option (List Server)) → IfSome o (λ s. IsOfServer a s) → IfSome o (λ s. IsOfServer a s × Unit {0})
+swept_ask a None h = tt
+swept_ask a (Some s) h = (h, tt)
+
+keeps_counts : (a : DriverFacts) → KeepsCounts a a
+keeps_counts a = record { launches = omega arith; removals = omega arith }
+
+pub drives-append : (a b c : Driving) (ms ns : List Move) → Drives ms a b → Drives ns b c → Drives (ms ++ ns) a c
+drives-append a b c ms ns h k = record {
+  answered = k.answered ∙ (ap (option_map (λ (ls : List Launch). ls ++ launches_of ns)) h.answered ∙ map_twice (λ (ls : List Launch). ls ++ launches_of ms) (λ (ls : List Launch). ls ++ launches_of ns) (λ (ls : List Launch). ls ++ launches_of (ms ++ ns)) (λ ls. append_assoc ls (launches_of ms) (launches_of ns) ∙ ap (λ (l : List Launch). ls ++ l) (sym (launches-append ms ns))) a.facts.answered);
+  servers = k.servers ∙ (ap (option_map (servers_after ns)) h.servers ∙ map_twice (servers_after ms) (servers_after ns) (servers_after (ms ++ ns)) (λ s. sym (servers-append ms ns s)) a.facts.servers);
+  swept = swept_both ms ns a.facts.servers h.swept (subst (λ (o : Option (List Server)). IfSome o (λ s. SweepsServers ns s)) h.servers k.swept);
+  planned = plan-append a.plan ms ns h.planned (subst (λ (p : Tag → Option Outcome). FollowsPlan p ns) h.plan k.planned);
+  plan = k.plan ∙ h.plan;
+  counts = let i = h.counts.launches in let j = k.counts.launches in let m = h.counts.removals in let n = k.counts.removals in record { launches = omega arith; removals = omega arith };
+}
+
+pub drove-append : (a b c : Option Driving) (ms ns : List Move) → Drove ms a b → Drove ns b c → Drove (ms ++ ns) a c
+drove-append None None None ms ns h k = tt
+drove-append None None (Some c) ms ns h k = k
+drove-append None (Some b) c ms ns h k = absurd h
+drove-append (Some a) None c ms ns h k = absurd h
+drove-append (Some a) (Some b) None ms ns h k = k
+drove-append (Some a) (Some b) (Some c) ms ns h k = drives-append a b c ms ns h k
+
+pub drives_none : (d : Driving) → Drives [] d d
+drives_none d = record {
+  answered = map_same (λ (ls : List Launch). ls ++ []) (λ ls. sym (append-nil ls)) d.facts.answered;
+  servers = map_same (λ (s : List Server). s) (λ s. refl) d.facts.servers;
+  swept = swept_none d.facts.servers;
+  planned = tt;
+  plan = refl;
+  counts = keeps_counts d.facts;
+}
+
+drives_ask : (d : Driving) (a : Ask) (t : Turn) → IfSome d.facts.servers (λ s. IsOfServer a s) → Drives (asked a t ∷ []) d d
+drives_ask d a t h = record {
+  answered = map_same (λ (ls : List Launch). ls ++ []) (λ ls. sym (append-nil ls)) d.facts.answered;
+  servers = map_same (λ (s : List Server). s) (λ s. refl) d.facts.servers;
+  swept = swept_ask a d.facts.servers h;
+  planned = tt;
+  plan = refl;
+  counts = keeps_counts d.facts;
+}
+
+pub drove_none : (d : Option Driving) → Drove [] d d
+drove_none None = tt
+drove_none (Some d) = drives_none d
+
+pub drove_ask : (d : Option Driving) (a : Ask) (t : Turn) → IsOfDriver a d → Drove (asked a t ∷ []) d d
+drove_ask None a t h = tt
+drove_ask (Some d) a t h = drives_ask d a t h
+
+drives_launched : (a b : Driving) (tag : Tag) (o : Outcome) → Answers a.facts tag o b.facts → IfSome (a.plan tag) (λ planned. planned ≡ o) → b.plan ≡ a.plan → KeepsCounts a.facts b.facts → Drives (launched tag o ∷ []) a b
+drives_launched a b tag o h p e k = record {
+  answered = h.answered;
+  servers = h.servers;
+  swept = swept_none a.facts.servers;
+  planned = (p, tt);
+  plan = e;
+  counts = k;
+}
+
+launched_as_planned : (p : Option Outcome) (x : ℕ) → IsAsPlanned p (Ok x) → IfSome p (λ planned. planned ≡ outcome.Launched x)
+launched_as_planned None x h = tt
+launched_as_planned (Some p) x h = h
+
+failed_as_planned : (p : Option Outcome) → IsAsPlanned p (Err fault.Failed) → IfSome p (λ planned. planned ≡ outcome.Failed)
+failed_as_planned None h = tt
+failed_as_planned (Some p) h = h
+
+pub drives_launch : (a b : Driving) (tag : Tag) (x : ℕ) → Answers a.facts tag (outcome.Launched x) b.facts → IsAsPlanned (a.plan tag) (Ok x) → b.plan ≡ a.plan → KeepsCounts a.facts b.facts → Drives (launched tag (outcome.Launched x) ∷ []) a b
+drives_launch a b tag x h p e k = drives_launched a b tag (outcome.Launched x) h (launched_as_planned (a.plan tag) x p) e k
+
+pub drives_failed : (a b : Driving) (tag : Tag) → Answers a.facts tag outcome.Failed b.facts → IsAsPlanned (a.plan tag) (Err fault.Failed) → b.plan ≡ a.plan → KeepsCounts a.facts b.facts → Drives (launched tag outcome.Failed ∷ []) a b
+drives_failed a b tag h p e k = drives_launched a b tag outcome.Failed h (failed_as_planned (a.plan tag) p) e k
+
+pub drives_removed : (a b : Driving) (x : ℕ) → b.facts.answered ≡ a.facts.answered → b.facts.servers ≡ option_map (without_number x) a.facts.servers → b.plan ≡ a.plan → KeepsCounts a.facts b.facts → Drives (removed x ∷ []) a b
+drives_removed a b x h s e k = record {
+  answered = h ∙ map_same (λ (ls : List Launch). ls ++ []) (λ ls. sym (append-nil ls)) a.facts.answered;
+  servers = s;
+  swept = swept_none a.facts.servers;
+  planned = tt;
+  plan = e;
+  counts = k;
+}
+
+pub drives_kept : (a b : Driving) → b.facts.answered ≡ a.facts.answered → b.facts.servers ≡ a.facts.servers → b.plan ≡ a.plan → KeepsCounts a.facts b.facts → Drives [] a b
+drives_kept a b h s e k = record {
+  answered = h ∙ map_same (λ (ls : List Launch). ls ++ []) (λ ls. sym (append-nil ls)) a.facts.answered;
+  servers = s ∙ map_same (λ (l : List Server). l) (λ l. refl) a.facts.servers;
+  swept = swept_none a.facts.servers;
+  planned = tt;
+  plan = e;
+  counts = k;
+}
+
+rose_before : (a b c : ℕ) → a ≤ b → Rose b c → Rose a c
+rose_before a b c h k = omega arith
+
+pub failed_before : (a b c : Option Driving) (ms : List Move) → Drove ms a b → RemovalFailed b c → RemovalFailed a c
+failed_before None None c ms k h = absurd h
+failed_before None (Some b) c ms k h = absurd k
+failed_before (Some a) None c ms k h = absurd k
+failed_before (Some a) (Some b) None ms k h = absurd h
+failed_before (Some a) (Some b) (Some c) ms k h = rose_before a.facts.remove_faults b.facts.remove_faults c.facts.remove_faults k.counts.removals h
+
+abbrev driving_with : DriverFacts → (Tag → Option Outcome) → Driving
+driving_with facts plan = record { facts = facts; plan = plan }
+
+pub same_driving : (a b : Driving) → a.facts ≡ b.facts → a.plan ≡ b.plan → a ≡ b
+same_driving a b h k = ap (λ (x : DriverFacts). driving_with x a.plan) h ∙ ap (λ (p : Tag → Option Outcome). driving_with b.facts p) k
+
+pub drove_same : (a b : Driving) → b ≡ a → Drove [] (Some a) (Some b)
+drove_same a b h = subst (λ (d : Driving). Drove [] (Some a) (Some d)) (sym h) (drives_none a)

@@ -1,0 +1,30 @@
+-- Rounds, by whose worker it is.
+use Rattle.std.proofs.Common.{◌≡◌, List, sym, subst}
+use Rattle.std.specs.Prelude.{Option, None, Result}
+use Rattle.np_text.specs.declared.id.RequesterId.{RequesterId}
+use Rattle.np_text.specs.declared.id.Role.TheVariants as role
+use Rattle.np_text.specs.declared.memory.NoMemory.{NoMemory}
+use Rattle.np_desk.specs.Pass.{Sight}
+use Rattle.np_event.specs.declared.entry.Entry.{Entry}
+use Rattle.np_event.specs.declared.event.Outcome.{Outcome}
+use Rattle.np_cloud.specs.declared.driver.Tag.{Tag}
+use Rattle.np_cloud.specs.Facts.{DriverFacts}
+use Rattle.np_board.specs.declared.ask.Ask.{Ask}
+use Rattle.np_board.specs.declared.ask.Turn.{Turn}
+use Rattle.np_worker.specs.declared.worker.RoundEnd.{RoundEnd}
+use Rattle.np_worker.specs.declared.worker.Worker.{Worker}
+use Rattle.np_worker.specs.declared.worker.Worker.TheVariants as worker
+use Rattle.np_worker.specs.Part.{Part}
+use Rattle.np_trace.specs.Phase.{acting, first_phase, of_requester, of_reaper}
+use Rattle.np_worker.specs.Round.{EndsAs, work_of, driving_of}
+
+module _ {F : Type 0} {answers : F → List Entry → Ask → Turn → Type 0} {f : F} {D : Type 0} (facts : D → DriverFacts) (plan : D → Tag → Option Outcome) where
+  pub requester_round : (w : Worker D) (q : RequesterId) {v u : Sight Entry} (r : Result RoundEnd NoMemory) → w ≡ worker.Requester q
+      → Part answers f (acting (role.Requester q) 16) v u None None (EndsAs (of_requester q) None None r)
+      → Part answers f (first_phase (work_of w)) v u (driving_of facts plan w) None (EndsAs (work_of w) (driving_of facts plan w) None r)
+  requester_round w q {v} {u} r h p = subst (λ (x : Worker D). Part answers f (first_phase (work_of x)) v u (driving_of facts plan x) None (EndsAs (work_of x) (driving_of facts plan x) None r)) (sym h) p
+
+  pub reaper_round : (w : Worker D) {v u : Sight Entry} (r : Result RoundEnd NoMemory) → w ≡ worker.Reaper
+      → Part answers f (acting role.Reaper 16) v u None None (EndsAs of_reaper None None r)
+      → Part answers f (first_phase (work_of w)) v u (driving_of facts plan w) (driving_of facts plan w) (EndsAs (work_of w) (driving_of facts plan w) (driving_of facts plan w) r)
+  reaper_round w {v} {u} r h p = subst (λ (x : Worker D). Part answers f (first_phase (work_of x)) v u (driving_of facts plan x) (driving_of facts plan x) (EndsAs (work_of x) (driving_of facts plan x) (driving_of facts plan x) r)) (sym h) p

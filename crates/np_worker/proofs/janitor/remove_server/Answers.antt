@@ -1,0 +1,9 @@
+use Rattle.np_trace.specs.Drive.{driving}
+use Rattle.np_worker.proofs.Drives.{drives_removed, drives_kept}
+use Rattle.np_worker.proofs.janitor.remove_server.Goals as goal
+
+pub returns-in-Ok : goal.returns-in-Ok
+returns-in-Ok g c = drives_removed (driving g.D.Driver.facts g.D.Driver.plan c.args.driver.now) (driving g.D.Driver.facts g.D.Driver.plan c.remove.new.self) c.args.number c.in-Ok.ensures.removal.0 c.in-Ok.ensures.removal.1 c.in-Ok.ensures.plan c.in-Ok.ensures.counts
+
+pub returns-in-Err : goal.returns-in-Err
+returns-in-Err g c = (drives_kept (driving g.D.Driver.facts g.D.Driver.plan c.args.driver.now) (driving g.D.Driver.facts g.D.Driver.plan c.remove.new.self) c.in-Err.ensures.removal.0 c.in-Err.ensures.removal.1 c.in-Err.ensures.plan c.in-Err.ensures.counts, c.in-Err.ensures.removal.2)

@@ -1,0 +1,121 @@
+-- a part of a round
+use Rattle.std.specs.Prelude.{◌≡◌, ◌⊎◌, ℕ, ◌+◌, length, List, [], ◌∷◌, All, Contains, Bool, true, false, Option, Some, None, IfSome, Result, Ok, Err}
+use Rattle.std.specs.Option.{option_map}
+use Rattle.np_io.specs.Counts.{Rose}
+use Rattle.np_text.specs.declared.memory.NoMemory.{NoMemory}
+use Rattle.np_desk.specs.Pass.{Sight}
+use Rattle.np_event.specs.declared.entry.Entry.{Entry}
+use Rattle.np_cloud.specs.declared.driver.Server.{Server}
+use Rattle.np_cloud.specs.Calls.{without_number}
+use Rattle.np_text.specs.declared.id.PoolId.{PoolId}
+use Rattle.np_board.specs.declared.ask.Ask.{Ask}
+use Rattle.np_board.specs.declared.ask.Ask.TheVariants as ask
+use Rattle.np_board.specs.declared.ask.Turn.{Turn}
+use Rattle.np_board.specs.declared.ask.Turn.TheVariants as turn
+use Rattle.np_worker.specs.declared.next.Next.{Next}
+use Rattle.np_worker.specs.declared.next.Next.TheVariants as next
+use Rattle.np_trace.specs.Drive.{Driving, Drives, Drove, IsOfServer}
+use Rattle.np_trace.specs.Move.{Move, asked, removed}
+use Rattle.np_trace.specs.Phase.{Phase, Leads, OwesRemoval, after_turn, is_unwanted}
+use Rattle.np_trace.specs.Phase as phase
+use Rattle.np_trace.specs.Walk.{Walk}
+
+-- how many entries a turn made (own)
+abbrev pub entry_count : Turn → ℕ
+entry_count (turn.Did e) = 1
+entry_count _ = 0
+
+-- the entries that were counted are those that one's own places gained (own)
+abbrev pub Counts : ℕ → Sight Entry → ℕ → Sight Entry → Type 0
+Counts n v m w = m + length v.mine ≡ n + length w.mine
+
+-- more removals failed (own)
+abbrev pub RemovalFailed : Option Driving → Option Driving → Type 0
+RemovalFailed (Some before) (Some now) = Rose before.facts.remove_faults now.facts.remove_faults
+RemovalFailed _ _ = ⊥
+
+-- a sweep of the server was not answered that nobody wants it (own)
+abbrev pub WasKept : PoolId → List Move → Server → Type 0
+WasKept pool trace server = (t : Turn)
+    × Contains trace (asked (ask.Sweep pool server.tag.node server.number) t)
+    × (is_unwanted t ≡ false)
+
+-- the worker's servers were all asked about and kept (own)
+abbrev pub AreKept : PoolId → List Move → Option Driving → Type 0
+AreKept pool trace None = Unit {0}
+AreKept pool trace (Some now) = IfSome now.facts.servers (λ servers. All (WasKept pool trace) servers)
+
+module _ {F : Type 0} (answers : F → List Entry → Ask → Turn → Type 0) (f : F) where
+  -- there are moves that may come from this phase on, that saw and made this of the history, and did this with the driver; of them and of the phase that they lead to this holds (own)
+  pub record Part (from : Phase) (v w : Sight Entry) (before now : Option Driving) (Holds : List Move → Phase → Type 0) : Type 0 where
+    pub trace : List Move
+    pub to : Phase
+    pub walked : Walk answers f trace v w
+    pub drove : Drove trace before now
+    pub led : Leads from trace to
+    pub holds : Holds trace to
+
+-- the phase that a part without removals leads to, by how the round goes on (own)
+abbrev pub Goes : Phase → Phase → Result Next NoMemory → List Move → Phase → Type 0
+Goes go idle (Ok next.Go) trace to = to ≡ go
+Goes go idle (Ok next.Idle) trace to = to ≡ idle
+Goes go idle (Ok next.Full) trace to = to ≡ phase.ended
+Goes go idle (Ok next.Failed) trace to = ⊥
+Goes go idle (Err _) trace to = Unit {0}
+
+-- the same with removals, of which one may have failed (own)
+abbrev pub Comes : Phase → Phase → Option Driving → Option Driving → Result Next NoMemory → List Move → Phase → Type 0
+Comes go idle before now (Ok next.Go) trace to = to ≡ go
+Comes go idle before now (Ok next.Idle) trace to = to ≡ idle
+Comes go idle before now (Ok next.Full) trace to = to ≡ phase.ended
+Comes go idle before now (Ok next.Failed) trace to = OwesRemoval to × RemovalFailed before now
+Comes go idle before now (Err _) trace to = Unit {0}
+
+-- what a turn came to in this phase (own)
+abbrev pub Came : Phase → Ask → Result Turn NoMemory → List Move → Phase → Type 0
+Came p ask (Ok t) trace to = (trace ≡ asked ask t ∷ []) × (to ≡ after_turn p ask t)
+Came p ask (Err _) trace to = Unit {0}
+
+-- an ask about a server is about one that the driver has (own)
+abbrev pub IsOfDriver : Ask → Option Driving → Type 0
+IsOfDriver ask None = Unit {0}
+IsOfDriver ask (Some now) = IfSome now.facts.servers (λ servers. IsOfServer ask servers)
+
+-- the server was asked about and kept, or its number was removed (own)
+abbrev pub IsDealtWith : PoolId → Server → Driving → Driving → List Move → Type 0
+IsDealtWith pool server before now trace =
+    (WasKept pool trace server × (now.facts.servers ≡ before.facts.servers))
+    ⊎ (now.facts.servers ≡ option_map (without_number server.number) before.facts.servers)
+
+-- what the sweep of one server came to (own)
+abbrev pub SweepsOne : PoolId → Server → Driving → Driving → Result Next NoMemory → List Move → Phase → Type 0
+SweepsOne pool server before now (Ok next.Go) trace to =
+    (to ≡ phase.sweeps pool) × IsDealtWith pool server before now trace
+SweepsOne pool server before now (Ok next.Idle) trace to = ⊥
+SweepsOne pool server before now (Ok next.Full) trace to = to ≡ phase.ended
+SweepsOne pool server before now (Ok next.Failed) trace to =
+    OwesRemoval to × RemovalFailed (Some before) (Some now)
+SweepsOne pool server before now (Err _) trace to = Unit {0}
+
+-- what a pool's round came to (own)
+abbrev pub SweepsAll : PoolId → Driving → Driving → Result Next NoMemory → List Move → Phase → Type 0
+SweepsAll pool before now (Ok next.Go) trace to = (to ≡ phase.sweeps pool) × AreKept pool trace (Some now)
+SweepsAll pool before now (Ok next.Idle) trace to = (to ≡ phase.sweeps pool) × AreKept pool trace (Some now)
+SweepsAll pool before now (Ok next.Full) trace to = to ≡ phase.ended
+SweepsAll pool before now (Ok next.Failed) trace to =
+    OwesRemoval to × RemovalFailed (Some before) (Some now)
+SweepsAll pool before now (Err _) trace to = Unit {0}
+
+-- whether the journal has no room (own)
+abbrev pub is_full : Next → Bool
+is_full next.Go = false
+is_full next.Idle = false
+is_full next.Full = true
+is_full next.Failed = false
+
+-- what a removal came to (own)
+abbrev pub RemovalEnds : ℕ → Driving → Driving → Next → Type 0
+RemovalEnds x before now next.Go = Drives (removed x ∷ []) before now
+RemovalEnds x before now next.Failed = Drives [] before now × RemovalFailed (Some before) (Some now)
+RemovalEnds x before now next.Idle = ⊥
+RemovalEnds x before now next.Full = ⊥

@@ -1,0 +1,38 @@
+-- what a round came to
+use Rattle.std.specs.Prelude.{◌≡◌, ◌⊎◌, List, MatchBool, Option, Some, None, Result, Ok, Err}
+use Rattle.np_text.specs.declared.memory.NoMemory.{NoMemory}
+use Rattle.np_cloud.specs.declared.driver.Tag.{Tag}
+use Rattle.np_cloud.specs.Facts.{DriverFacts}
+use Rattle.np_event.specs.declared.event.Outcome.{Outcome}
+use Rattle.np_worker.specs.declared.worker.RoundEnd.{RoundEnd}
+use Rattle.np_worker.specs.declared.worker.Worker.{Worker}
+use Rattle.np_worker.specs.declared.worker.Worker.TheVariants as worker
+use Rattle.np_trace.specs.Drive.{Driving, driving}
+use Rattle.np_trace.specs.Move.{Move}
+use Rattle.np_worker.specs.Part.{RemovalFailed, AreKept}
+use Rattle.np_trace.specs.Phase.{Work, of_pool, of_requester, of_reaper, Phase, sweeps, rests, ended, OwesRemoval}
+
+-- a round that was not cut off: all servers were asked about, or a removal failed (own)
+abbrev pub Rests : Work → Option Driving → Option Driving → List Move → Phase → Type 0
+Rests (of_pool pool) before now trace to =
+    ((to ≡ sweeps pool) × AreKept pool trace now) ⊎ (OwesRemoval to × RemovalFailed before now)
+Rests (of_requester q) before now trace to = to ≡ rests
+Rests of_reaper before now trace to = to ≡ rests
+
+-- a round ends where a turn was answered that the journal is full, or with its work done; where no memory was found, anywhere (own)
+abbrev pub EndsAs : Work → Option Driving → Option Driving → Result RoundEnd NoMemory → List Move → Phase → Type 0
+EndsAs work before now (Ok end) trace to =
+    MatchBool end.full (to ≡ ended) (Rests work before now trace to)
+EndsAs work before now (Err _) trace to = Unit {0}
+
+-- whose worker it is (own)
+abbrev pub work_of : {D : Type 0} → Worker D → Work
+work_of (worker.Pool pool driver) = of_pool pool
+work_of (worker.Requester q) = of_requester q
+work_of worker.Reaper = of_reaper
+
+-- what it drives (own)
+abbrev pub driving_of : {D : Type 0} → (D → DriverFacts) → (D → Tag → Option Outcome) → Worker D → Option Driving
+driving_of facts plan (worker.Pool pool driver) = Some (driving facts plan driver)
+driving_of facts plan (worker.Requester q) = None
+driving_of facts plan worker.Reaper = None
