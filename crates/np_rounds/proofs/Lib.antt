@@ -1,0 +1,4 @@
+mod Lists
+mod Fulls
+mod Starts
+mod Backs

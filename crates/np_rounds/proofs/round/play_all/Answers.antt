@@ -1,0 +1,14 @@
+use Rattle.std.proofs.Common.{◌≡◌, length, rules, subst, sym}
+use Rattle.std.specs.Prelude.{slice_index_or}
+use Rattle.np_rounds.specs.Plays.{Plays}
+use Rattle.np_rounds.proofs.Lists.{pairwise_from}
+use Rattle.np_rounds.proofs.round.play_all.Goals as goal
+
+pub returns : goal.returns
+returns g c = let R = Plays g.D.Driver.facts g.D.Driver.plan c.args.desk.now in
+    let len : length c.in_ok-ends.ends.items ≡ length c.args.crews.items = search rules in
+    pairwise_from R c.args.crews.items c.in_ok-ends.ends.items len
+    (λ i x y lt. let job = (c.in_ok-ends.ensures.each i y lt).1 in
+    let call = job.call.met in
+    let plays : R job.job (slice_index_or c.in_ok-ends.ends.items i y) = first_of (assumption call, search rules, cc) in
+    subst (λ z. R z (slice_index_or c.in_ok-ends.ends.items i y)) (sym (job.job_is x)) plays)

@@ -1,0 +1,36 @@
+-- what rounds of all workers leave
+use Rattle.std.specs.Prelude.{◌≡◌, ◌⊎◌, ◌||◌, nat_lt, List, [], ◌∷◌, ◌++◌, Bool, true, false, Result, Ok, Err}
+use Rattle.np_text.specs.declared.memory.NoMemory.{NoMemory}
+use Rattle.np_event.specs.declared.entry.Entry.{Entry}
+use Rattle.np_event.specs.declared.event.Event.TheVariants as ev
+use Rattle.np_worker.specs.declared.worker.RoundEnd.{RoundEnd}
+use Rattle.np_board.specs.declared.ask.Turn.{Turn}
+use Rattle.np_board.specs.declared.ask.Turn.TheVariants as turn
+use Rattle.np_board.specs.Answers.{IsFull}
+use Rattle.np_rounds.specs.declared.round.Together.{Together}
+
+-- with what one more worker's round came to; want of memory of one is that of all (own)
+abbrev pub with_end : Together → Result RoundEnd NoMemory → Result Together NoMemory
+with_end sum (Ok end) = Ok (record { moved = sum.moved || nat_lt 0 end.entries; full = sum.full || end.full })
+with_end sum (Err fault) = Err fault
+
+-- the turn is answered that the journal has no room (own)
+abbrev pub is_full : Turn → Bool
+is_full turn.Full = true
+is_full _ = false
+
+-- the last entry is a tick (own)
+pub record EndsWithTick (journal : List Entry) : Type 0 where
+  pub earlier : List Entry
+  pub last : Entry
+  pub ends : journal ≡ earlier ++ last ∷ []
+  pub tick : last.event ≡ ev.Tick
+
+-- a journal between two rounds: it is empty, or its last entry is a tick (own)
+abbrev pub IsRested : List Entry → Type 0
+IsRested journal = (journal ≡ []) ⊎ EndsWithTick journal
+
+-- what playing at a desk came to: the journal is full, or a round made no entry (own)
+abbrev pub Stops : Bool → List Entry → Type 0
+Stops true journal = IsFull journal
+Stops false journal = IsRested journal

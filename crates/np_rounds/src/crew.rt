@@ -1,0 +1,91 @@
+//! Workers with what they need to take turns at a desk.
+
+ghost use Rattle.std.specs.Prelude.{◌≡◌, length, map, IfOk};
+ghost use Rattle.np_desk.specs.Pass.{IsOf};
+ghost use Rattle.np_rounds.specs.Crews.{plans_of};
+ghost use Rattle.np_rounds.specs.Plays.{Plays};
+
+use np_board::Board;
+use np_cloud::{Driver, Gate};
+use np_config::Config;
+use np_desk::{Desk, OnDesk, Pass};
+use np_text::{NoMemory, PoolId, RequesterId};
+use np_worker::{RoundEnd, Worker};
+use std::alloc::Global;
+use std::sync::Wait;
+
+/// A worker with its pass for a round.
+#[derive(Drop)]
+pub(crate) struct Crew<D> {
+    pub(crate) worker: Worker<D>,
+    pub(crate) pass: Pass<Board>,
+}
+
+/// A crew after a round, with what the round came to.
+#[derive(Drop)]
+pub(crate) struct CrewEnd<D> {
+    pub(crate) crew: Crew<D>,
+    pub(crate) end: Result<RoundEnd, NoMemory>,
+}
+
+/// Lets the crew's worker play a round.
+pub(crate) fn play<R: Wait, D: Driver, G: Gate>(
+    rt: &R,
+    desk: &Desk<Board>,
+    gate: &G,
+    crew: Crew<D>,
+) -> CrewEnd<D>
+    requires own { IsOf crew.pass desk.now }
+    ensures { Plays D.facts D.plan desk.now crew result }
+{
+    let Crew { mut worker, pass } = crew;
+    let mut turns = OnDesk { rt, desk, pass };
+    let end = worker.round(&mut turns, gate);
+    let OnDesk { pass, .. } = turns;
+    CrewEnd {
+        crew: Crew { worker, pass },
+        end,
+    }
+}
+
+/// The workers of the site, in the reverse of the order in which they are given passes: the
+/// reaper's, one for each requester, and one for each pool with its driver, the first pool last.
+pub(crate) fn workers_of<D: Driver + Drop>(
+    alloc: Global,
+    config: &Config,
+    mut drivers: Vec<D>,
+) -> Result<Vec<Worker<D>>, NoMemory>
+    requires drivers { length drivers.items ≡ length config.now.pools }
+    ensures { IfOk result (λ v. plans_of D.plan v.items ≡ map D.plan drivers.items) }
+{
+    config.soundness();
+    let mut workers = Vec::new(alloc);
+    workers.push(Worker::Reaper)?;
+    for id in 0..u16::MAX {
+        if config.requester(RequesterId(id)).is_none() {
+            break;
+        }
+        workers.push(Worker::Requester(RequesterId(id)))?;
+    }
+    while let Some(driver) = drivers.pop() {
+        let pool = PoolId(drivers.len() as u16);
+        workers.push(Worker::Pool { pool, driver })?;
+    }
+    Ok(workers)
+}
+
+/// The drivers of the pools' workers, in the order of the pools.
+pub(crate) fn drivers_of<D: Driver + Drop>(
+    alloc: Global,
+    mut workers: Vec<Worker<D>>,
+) -> Result<Vec<D>, NoMemory>
+    ensures { IfOk result (λ v. map D.plan v.items ≡ plans_of D.plan workers.items) }
+{
+    let mut drivers = Vec::new(alloc);
+    while let Some(worker) = workers.pop() {
+        if let Worker::Pool { driver, .. } = worker {
+            drivers.push(driver)?;
+        }
+    }
+    Ok(drivers)
+}

@@ -1,0 +1,148 @@
+//! One round of all workers.
+
+ghost use Rattle.std.specs.Prelude.{◌≡◌, ◌++◌, All, IfOk, [], ◌∷◌, length, true, false, nat_lt};
+ghost use Rattle.np_desk.specs.History.{StartsWith};
+ghost use Rattle.np_desk.specs.Part.{IsWhole};
+ghost use Rattle.np_desk.specs.Pass.{IsOf};
+ghost use Rattle.np_board.specs.Answers.{IsFull};
+ghost use Rattle.np_rounds.specs.Crews.{zeros, split_pass, AreGiven, plans_of, crew_plans};
+ghost use Rattle.np_rounds.specs.Plays.{Plays, Pairwise, AreBack, end_plans};
+ghost use Rattle.np_rounds.specs.Played.{with_end};
+
+use crate::crew::{Crew, CrewEnd, play};
+use np_board::Board;
+use np_cloud::{Driver, Gate};
+use np_desk::{Desk, Pass};
+use np_text::NoMemory;
+use np_worker::{RoundEnd, Worker};
+use std::alloc::Global;
+use std::sync::Wait;
+use std::thread::{self, Threads};
+
+/// What a round of all workers came to.
+#[derive(Clone, Copy, Debug, PartialEq, Eq)]
+pub(crate) struct Together {
+    /// Whether a worker made an entry.
+    pub(crate) moved: bool,
+    /// Whether a worker's round ended because the journal has no room.
+    pub(crate) full: bool,
+}
+
+/// Gives each worker a pass, the last worker first.
+fn hand_out<D: Driver + Drop>(
+    alloc: Global,
+    desk: &Desk<Board>,
+    pass: &mut Pass<Board>,
+    workers: &mut Vec<Worker<D>>,
+) -> Result<Vec<Crew<D>>, NoMemory>
+    requires own { IsOf pass.old desk.now }
+    requires whole { IsWhole pass.old.part }
+    ensures pass { IfOk result (λ v. pass.new ≡ split_pass (length v.items) pass.old) }
+    ensures given { IfOk result (λ v. AreGiven pass.old 0 v.items) }
+    ensures plans { IfOk result (λ v. crew_plans D.plan v.items ++ plans_of D.plan workers.new.items
+        ≡ plans_of D.plan workers.old.items) }
+    ensures all { IfOk result (λ _. workers.new.items ≡ []) }
+{
+    let mut crews = Vec::new(alloc);
+    while let Some(worker) = workers.pop() {
+        let given = pass.split(desk);
+        crews.push(Crew {
+            worker,
+            pass: given,
+        })?;
+    }
+    Ok(crews)
+}
+
+/// Lets all crews play, in a thread each where one can be made.
+fn play_all<R: Threads + Wait + Sync, D: Driver + Send + Drop, G: Gate + Sync>(
+    rt: &R,
+    desk: &Desk<Board>,
+    gate: &G,
+    crews: Vec<Crew<D>>,
+) -> Result<Vec<CrewEnd<D>>, NoMemory>
+    requires own { All (λ crew. IsOf crew.pass desk.now) crews.items }
+    ensures { IfOk result (λ v. Pairwise (Plays D.facts D.plan desk.now) crews.items v.items) }
+{
+    let ends = thread::map_vec(
+        rt,
+        crews,
+        &|crew: Crew<D>| -> CrewEnd<D>
+            requires { IsOf crew.pass desk.now }
+            ensures { Plays D.facts D.plan desk.entry.now crew result }
+        { play(rt, desk, gate, crew) },
+    )?;
+    Ok(ends)
+}
+
+/// With what one more worker's round came to. Want of memory of one is that of all.
+fn with_end(sum: Together, end: Result<RoundEnd, NoMemory>) -> Result<Together, NoMemory>
+    ensures { result ≡ with_end sum end }
+{
+    let end = end?;
+    Ok(Together {
+        moved: sum.moved || end.entries > 0,
+        full: sum.full || end.full,
+    })
+}
+
+/// Takes the passes back, the last that was given first.
+fn take_back<D: Driver + Drop>(
+    desk: &Desk<Board>,
+    pass: &mut Pass<Board>,
+    workers: &mut Vec<Worker<D>>,
+    mut ends: Vec<CrewEnd<D>>,
+) -> Result<Together, NoMemory>
+    requires own { IsOf pass.old desk.now }
+    requires part { pass.old.part ≡ zeros (length ends.items) ∷ [] }
+    requires back { AreBack desk.now 0 ends.items }
+    ensures own { IsOf pass.new desk.now }
+    ensures whole { IfOk result (λ _. IsWhole pass.new.part) }
+    ensures seen { StartsWith pass.new.seen pass.old.seen }
+    ensures full { IfOk result (λ t. t.full ≡ true → IsFull pass.new.seen) }
+    ensures still { IfOk result (λ t. t.moved ≡ false → pass.new.mine ≡ pass.old.mine) }
+    ensures plans { IfOk result (λ _. plans_of D.plan workers.new.items
+        ≡ end_plans D.plan ends.items ++ plans_of D.plan workers.old.items) }
+{
+    let mut sum = Together {
+        moved: false,
+        full: false,
+    };
+    while let Some(last) = ends.pop() {
+        let CrewEnd { crew, end } = last;
+        let Crew {
+            worker,
+            pass: given,
+        } = crew;
+        pass.join(desk, given);
+        sum = with_end(sum, end)?;
+        workers.push(worker)?;
+    }
+    Ok(sum)
+}
+
+/// Lets each worker play a round, side by side where threads can be made.
+pub(crate) fn play_round<R: Threads + Wait + Sync, D: Driver + Send + Drop, G: Gate + Sync>(
+    rt: &R,
+    alloc: Global,
+    desk: &Desk<Board>,
+    pass: &mut Pass<Board>,
+    workers: &mut Vec<Worker<D>>,
+    gate: &G,
+) -> Result<Together, NoMemory>
+    requires own { IsOf pass.old desk.now }
+    requires whole { IsWhole pass.old.part }
+    ensures own { IfOk result (λ _. IsOf pass.new desk.now) }
+    ensures whole { IfOk result (λ _. IsWhole pass.new.part) }
+    ensures full { IfOk result (λ t. t.full ≡ true → IsFull pass.new.seen) }
+    ensures still { IfOk result (λ t. t.moved ≡ false → pass.new.seen ≡ pass.old.seen) }
+    ensures plans { IfOk result (λ _. plans_of D.plan workers.new.items
+        ≡ plans_of D.plan workers.old.items) }
+{
+    pass.know();
+    let crews = hand_out(alloc, desk, pass, workers)?;
+    let ends = play_all(rt, desk, gate, crews)?;
+    let together = take_back(desk, pass, workers, ends)?;
+    pass.know();
+    Ok(together)
+}

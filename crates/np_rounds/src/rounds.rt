@@ -1,0 +1,144 @@
+//! A site, played to its end.
+
+ghost use Rattle.std.specs.Prelude.{◌≡◌, length, map, IfOk, true, false};
+ghost use Rattle.np_desk.specs.Part.{IsWhole};
+ghost use Rattle.np_desk.specs.Pass.{IsOf};
+ghost use Rattle.np_useful.specs.Settled.{IsSettled};
+ghost use Rattle.np_rounds.specs.Crews.{plans_of};
+ghost use Rattle.np_rounds.specs.Played.{EndsWithTick, IsRested, Stops, is_full};
+
+use crate::crew::{drivers_of, workers_of};
+use crate::round::play_round;
+use np_board::{Ask, Board, Turn};
+use np_cloud::{Driver, Gate};
+use np_config::Config;
+use np_desk::{Desk, Pass};
+use np_event::Event;
+use np_text::NoMemory;
+use np_worker::Worker;
+use std::alloc::Global;
+use std::sync::Wait;
+use std::thread::Threads;
+
+/// What playing a site came to.
+#[derive(Drop)]
+pub struct Ended<D> {
+    /// The board, with the whole journal.
+    pub board: Board,
+    /// Whether the journal had no room for what was to come.
+    pub full: bool,
+    /// The drivers, in the order of the pools.
+    pub drivers: Vec<D>,
+}
+
+/// Whether the turn is answered that the journal has no room.
+fn is_full(turn: Turn) -> bool
+    ensures { result ≡ is_full turn }
+{
+    matches!(turn, Turn::Full)
+}
+
+/// Lets time go on by one tick, and answers whether the journal has no room for that.
+fn tick<R: Wait>(rt: &R, desk: &Desk<Board>, pass: &mut Pass<Board>) -> Result<bool, NoMemory>
+    requires own { IsOf pass.old desk.now }
+    ensures own { IsOf pass.new desk.now }
+    ensures part { pass.new.part ≡ pass.old.part }
+    ensures stops { IfOk result (λ full. Stops full pass.new.seen) }
+{
+    let turn = pass.turn(rt, desk, Ask::Do(Event::Tick))?;
+    Ok(is_full(turn))
+}
+
+/// Plays rounds at the desk, each with an entry followed by a tick, until one makes no entry or the
+/// journal has no room, and answers whether it has none.
+fn play_at<R: Threads + Wait + Sync, D: Driver + Send + Drop, G: Gate + Sync>(
+    rt: &R,
+    alloc: Global,
+    desk: &Desk<Board>,
+    pass: &mut Pass<Board>,
+    workers: &mut Vec<Worker<D>>,
+    gate: &G,
+) -> Result<bool, NoMemory>
+    requires own { IsOf pass.old desk.now }
+    requires whole { IsWhole pass.old.part }
+    requires rested { IsRested pass.old.seen }
+    ensures own { IfOk result (λ _. IsOf pass.new desk.now) }
+    ensures whole { IfOk result (λ _. IsWhole pass.new.part) }
+    ensures stops { IfOk result (λ full. Stops full pass.new.seen) }
+    ensures plans { IfOk result (λ _. plans_of D.plan workers.new.items
+        ≡ plans_of D.plan workers.old.items) }
+{
+    for _ in rt.forever() {
+        let together = play_round(rt, alloc, desk, pass, workers, gate)?;
+        if together.full {
+            return Ok(true);
+        }
+        if !together.moved {
+            return Ok(false);
+        }
+        if tick(rt, desk, pass)? {
+            return Ok(true);
+        }
+    }
+    unreachable!()
+}
+
+/// Plays rounds at a desk over the board, and answers it with whether the journal has no room.
+fn play_board<R: Threads + Wait + Sync, D: Driver + Send + Drop, G: Gate + Sync>(
+    rt: &R,
+    alloc: Global,
+    board: Board,
+    workers: &mut Vec<Worker<D>>,
+    gate: &G,
+) -> Result<(Board, bool), NoMemory>
+    requires rested { IsRested board.journal }
+    ensures configuration { IfOk result (λ r. r.0.configuration ≡ board.configuration) }
+    ensures stops { IfOk result (λ r. Stops r.1 r.0.journal) }
+    ensures plans { IfOk result (λ _. plans_of D.plan workers.new.items
+        ≡ plans_of D.plan workers.old.items) }
+{
+    board.soundness();
+    let Ok((desk, mut pass)) = Desk::set_up(alloc, board) else {
+        return Err(NoMemory);
+    };
+    let full = play_at(rt, alloc, &desk, &mut pass, workers, gate)?;
+    pass.know();
+    Ok((desk.close(pass), full))
+}
+
+/// Plays the site to its end: rounds of all workers, each with an entry followed by a tick. It ends
+/// where a round made no entry and the board is settled, or where the journal has no room. It may
+/// wait for as long as its workers do.
+pub fn run_rounds<R: Threads + Wait + Sync, D: Driver + Send + Drop, G: Gate + Sync>(
+    rt: &R,
+    alloc: Global,
+    config: Config,
+    drivers: Vec<D>,
+    gate: &G,
+) -> Result<Ended<D>, NoMemory>
+    requires drivers { length drivers.items ≡ length config.pools }
+    ensures configuration { IfOk result (λ e. e.board.configuration ≡ config) }
+    ensures settled { IfOk result (λ e. e.full ≡ false →
+        IsSettled config e.board.state × EndsWithTick e.board.journal) }
+    ensures full { IfOk result (λ e. e.full ≡ true → length e.board.journal ≡ 262144) }
+    ensures drivers { IfOk result (λ e. length e.drivers.items ≡ length config.pools) }
+    ensures plans { IfOk result (λ e. map D.plan e.drivers.items ≡ map D.plan drivers.items) }
+{
+    config.soundness();
+    let mut workers = workers_of(alloc, &config, drivers)?;
+    let mut board = Board::new(alloc, config)?;
+    for _ in rt.forever() {
+        let (played, full) = play_board(rt, alloc, board, &mut workers, gate)?;
+        board = played;
+        if full || board.settled() {
+            board.soundness();
+            let drivers = drivers_of(alloc, workers)?;
+            return Ok(Ended {
+                board,
+                full,
+                drivers,
+            });
+        }
+    }
+    unreachable!()
+}
