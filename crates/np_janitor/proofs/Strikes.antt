@@ -22,7 +22,8 @@ use Rattle.np_roles.specs.Choices.{Chooses}
 use Rattle.np_roles.specs.Passing.{passing, IsFirstThatPasses}
 use Rattle.np_roles.proofs.Places.{within}
 use Rattle.np_roles.proofs.Currents.{session-at}
-use Rattle.np_roles.proofs.Searches.{ok-is, passes-useful, useful-passes, passing-is, passing-none}
+use Rattle.np_changes.proofs.Tested.{ok-is}
+use Rattle.np_roles.proofs.Searches.{passes-useful, useful-passes, passing-is, passing-none}
 use Rattle.np_janitor.specs.declared.reaper.SessionKind.{SessionKind}
 use Rattle.np_janitor.specs.declared.reaper.SessionKind.TheVariants as of_session
 use Rattle.np_janitor.specs.Struck.{due_kind, struck_kind, session_event, session_candidate, ChoosesOfSessions}

@@ -26,7 +26,8 @@ use Rattle.np_roles.specs.declared.kind.EventKind.TheVariants as kind_of
 use Rattle.np_roles.specs.declared.kind.JobKind.{JobKind}
 use Rattle.np_roles.specs.declared.kind.JobKind.TheVariants as of_job
 use Rattle.np_roles.proofs.Currents.{one-current, current-speaks}
-use Rattle.np_roles.proofs.Searches.{ok-is, useful-passes}
+use Rattle.np_changes.proofs.Tested.{ok-is}
+use Rattle.np_roles.proofs.Searches.{useful-passes}
 use Rattle.np_roles.proofs.Openings.{same-role}
 use Rattle.np_jobs.specs.Steps.{steps, IsPassed, ChoosesStep}
 use Rattle.np_jobs.proofs.Accepted.{IsOpen, submit-open, acquire-open, take-open, finish-open}

@@ -15,7 +15,9 @@ use Rattle.np_lists.proofs.FoundLemmas.{find-passes}
 use Rattle.np_machine.specs.Entries.{RequestEntry, NodeEntry}
 use Rattle.np_machine.specs.State.{State}
 use Rattle.np_machine.specs.Step.{judge, maker_of}
+use Rattle.np_changes.proofs.Tested.{ok-is}
 use Rattle.np_machine.specs.Tables.{same_request, request_entry, node_entry}
+use Rattle.np_safe.proofs.Lookups.{same_request-is, same_node-is}
 use Rattle.np_useful.specs.Sessions.{is_current}
 use Rattle.np_useful.specs.Useful.{IsUseful, row_holds, is_maker_of}
 use Rattle.np_roles.specs.declared.kind.EventKind.{EventKind}
@@ -33,21 +35,6 @@ use Rattle.np_roles.proofs.Currents.{one-current}
 
 -- ## what was accepted names what stands at a place
 
-pub ok-is : {A E : Type 0} (o : Result A E) → is_ok o ≡ true → (a : A) × (o ≡ Ok a)
-ok-is (Ok a) is = (a, refl)
-ok-is (Err why) is = absurd cc
-
-same-request : (a b : RequestId) → same_request a b ≡ true → a ≡ b
-same-request a b is =
-    let first : a.priority ≡ b.priority = grind (arith, nat_tests) in
-    let second : a.seq ≡ b.seq = grind (arith, nat_tests) in
-    ap (λ (x : ℕ). record { priority = x; seq = a.seq }) first ∙ ap (λ (x : ℕ). record { priority = b.priority; seq = x }) second
-
-same-node : (a b : NodeId) → (a.0 == b.0) ≡ true → a ≡ b
-same-node a b is =
-    let first : a.0 ≡ b.0 = grind (arith, nat_tests) in
-    ap (λ (x : ℕ). record { 0 = x }) first
-
 entry-of : {X Y : Type 0} (f : X → Y) (o : Option X) → (option_map f o ≡ None → ⊥) → (x : X) × (o ≡ Some x)
 entry-of f None there = absurd (there refl)
 entry-of f (Some x) there = (x, refl)
@@ -64,7 +51,7 @@ module _ (c : Configuration) (s : State) (session : SessionId) where
       let answer = ok-is (judge c s (request_event kind session r)) is in
       let entry = entry-of (λ (e : RequestEntry). e.kept) (request_entry r s.requests) (request-there c s session answer.0 kind r answer.1) in
       let place = find-place (λ (e : RequestEntry). same_request e.id r) s.requests entry.0 entry.1 in
-      let same : entry.0.id ≡ r = same-request entry.0.id r (find-passes (λ (e : RequestEntry). same_request e.id r) s.requests entry.0 entry.1) in
+      let same : entry.0.id ≡ r = same_request-is entry.0.id r (find-passes (λ (e : RequestEntry). same_request e.id r) s.requests entry.0 entry.1) in
       record {
         at = place.at;
         within = place.within;
@@ -76,7 +63,7 @@ module _ (c : Configuration) (s : State) (session : SessionId) where
       let answer = ok-is (judge c s (node_event kind session n)) is in
       let entry = entry-of (λ (e : NodeEntry). e.kept) (node_entry n s.nodes) (node-there c s session answer.0 kind n answer.1) in
       let place = find-place (λ (e : NodeEntry). e.id.0 == n.0) s.nodes entry.0 entry.1 in
-      let same : entry.0.id ≡ n = same-node entry.0.id n (find-passes (λ (e : NodeEntry). e.id.0 == n.0) s.nodes entry.0 entry.1) in
+      let same : entry.0.id ≡ n = same_node-is entry.0.id n (find-passes (λ (e : NodeEntry). e.id.0 == n.0) s.nodes entry.0 entry.1) in
       record {
         at = place.at;
         within = place.within;
