@@ -28,7 +28,7 @@ pub fn takes_part<L: Look>(look: &L, role: Role) -> bool
 /// A useful event of the role, or `None` exactly where there is none; a role that is not of the
 /// configuration has none. It takes no memory. The cost is that of the role's own choice: it grows
 /// with the requests, the nodes, the jobs, the labels and the sessions that there are. For a node
-/// that a launcher holds it may ask all requests, and for a request all nodes.
+/// that a launcher may start it may ask all requests, and for a request all nodes.
 pub fn choose<L: Look>(look: &L, role: Role) -> Option<Event>
     requires reached { IsReached (L.site look.now) (L.state look.now) }
     requires fits { Fits (L.site look.now) (L.state look.now) }

@@ -1,3 +1,4 @@
+pub mod Allocated
 pub mod Finds
 pub mod Reasons
 pub mod Spares

@@ -1,7 +1,7 @@
 -- without a spare node none may be given to the request
-use Rattle.std.proofs.Common.{◌≡◌, ◌∙◌, ℕ, zero, suc, Bool, true, false, cond, List, [], ◌∷◌, Option, Some, None, Result, Ok, Err, refl, sym, ap, arith}
-use Rattle.std.specs.Prelude.{◌&&◌, ◌==◌, not, find, filter, slice_get, is_ok, is_some, is_none}
-use Rattle.std.specs.Option.{option_map, option_map_or}
+use Rattle.std.proofs.Common.{◌≡◌, ◌∙◌, ℕ, zero, suc, Bool, true, false, List, [], ◌∷◌, Option, Some, None, Ok, Err, refl, sym, ap, arith}
+use Rattle.std.specs.Prelude.{◌==◌, find, filter, slice_get, is_some}
+use Rattle.std.specs.Option.{option_map}
 use Rattle.std.proofs.lemmas.Bool.Decides.{nat_tests}
 use Rattle.np_text.specs.declared.id.SessionId.{SessionId}
 use Rattle.np_text.specs.declared.id.PoolId.{PoolId}
@@ -18,16 +18,15 @@ use Rattle.np_event.specs.declared.reply.Refusal.{Refusal}
 use Rattle.np_lists.proofs.FoundLemmas.{find-passes}
 use Rattle.np_machine.specs.declared.state.SessionFacts.{SessionFacts}
 use Rattle.np_machine.specs.Entries.{NodeEntry}
-use Rattle.np_machine.specs.Kinds.{is_ready}
 use Rattle.np_machine.specs.Reasons.{next_label, is_spare}
 use Rattle.np_machine.specs.State.{State}
 use Rattle.np_machine.specs.Step.{judge}
-use Rattle.np_machine.specs.Tables.{session_of, request_in, node_entry, holder}
-use Rattle.np_machine.specs.Tests.{launcher, as_launcher}
+use Rattle.np_machine.specs.Tables.{session_of, request_in, node_entry}
+use Rattle.np_machine.specs.Tests.{as_launcher}
 use Rattle.np_look.specs.Readers.{free_ready_of}
 use Rattle.np_roles.proofs.Places.{find-place}
-use Rattle.np_roles.proofs.Searches.{ok-is}
-use Rattle.np_launch.specs.Computed.{is_takable, first_takable, pool_of, has_free_ready, has_spare}
+use Rattle.np_changes.proofs.Tested.{ok-is}
+use Rattle.np_launch.specs.Computed.{is_takable, first_takable, has_free_ready, has_spare}
 
 is-true : (b : Bool) → (b ≡ false → ⊥) → b ≡ true
 is-true true other = refl

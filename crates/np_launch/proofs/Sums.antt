@@ -38,7 +38,8 @@ use Rattle.np_roles.specs.Passing.{passing, IsFirst, IsFirstThatPasses}
 use Rattle.np_roles.proofs.Currents.{current-speaks, one-current}
 use Rattle.np_roles.proofs.Openings.{same-role}
 use Rattle.np_roles.proofs.Places.{find-place, within}
-use Rattle.np_roles.proofs.Searches.{ok-is, passes-useful, useful-passes, passing-is, passing-none}
+use Rattle.np_changes.proofs.Tested.{ok-is}
+use Rattle.np_roles.proofs.Searches.{passes-useful, useful-passes, passing-is, passing-none}
 use Rattle.np_launch.specs.declared.computed.ComputedKind.{ComputedKind}
 use Rattle.np_launch.specs.declared.computed.ComputedKind.TheVariants as computed
 use Rattle.np_launch.specs.Computed.{first_reason, is_takable, first_takable, done_at, take_ready_at, decline_at, computed_places, computed_at}

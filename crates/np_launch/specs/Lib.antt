@@ -1,3 +1,4 @@
+pub mod Allocated
 pub mod Hands
 pub mod Computed
 pub mod Choices

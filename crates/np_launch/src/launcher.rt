@@ -3,6 +3,7 @@
 ghost use Rattle.std.specs.Prelude.{◌≡◌, ◌&&◌, true, not};
 ghost use Rattle.np_text.specs.declared.id.Role.TheVariants.{Launcher};
 ghost use Rattle.np_machine.specs.Session.{is_role};
+ghost use Rattle.np_changes.specs.Planned.{IsReached};
 ghost use Rattle.np_fits.specs.Fits.{Fits};
 ghost use Rattle.np_useful.specs.Sessions.{is_current};
 ghost use Rattle.np_useful.specs.Launcher.{may_take_ready, is_by_registrant, registered_row};
@@ -48,7 +49,8 @@ const ORDER: [LaunchKind; 12] = [
 
 /// Whether a session that holds the registration may make the event, by its row.
 fn is_registered_row<L: Look>(look: &L, pool: PoolId, event: Event) -> bool
-    requires { Fits (L.site look.now) (L.state look.now) }
+    requires reached { IsReached (L.site look.now) (L.state look.now) }
+    requires fits { Fits (L.site look.now) (L.state look.now) }
     ensures { result ≡ (is_by_registrant (L.state look.now) pool event
         && registered_row (L.site look.now) (L.state look.now) pool event) }
 {
@@ -115,7 +117,7 @@ struct LauncherRows {
 impl Rows for LauncherRows {
     ghost role = { λ rows. Launcher rows.pool };
 
-    ghost knows = { λ rows c s. Unit {0} };
+    ghost knows = { λ rows. IsReached };
 
     fn holds<L: Look>(&self, look: &L, event: Event) -> bool {
         match event {
@@ -135,6 +137,7 @@ fn first_of_computed<L: Look>(
     session: SessionId,
     kind: ComputedKind,
 ) -> Option<Event>
+    requires reached { IsReached (L.site look.now) (L.state look.now) }
     requires fits { Fits (L.site look.now) (L.state look.now) }
     requires current { is_current (Launcher rows.now.pool) session (L.state look.now) ≡ true }
     ensures { ChoosesComputed (L.site look.now) (L.state look.now) rows.now.pool kind result }
@@ -158,6 +161,7 @@ fn first_launched<L: Look>(
     session: SessionId,
     kind: LaunchKind,
 ) -> Option<Event>
+    requires reached { IsReached (L.site look.now) (L.state look.now) }
     requires fits { Fits (L.site look.now) (L.state look.now) }
     requires current { is_current (Launcher rows.now.pool) session (L.state look.now) ≡ true }
     ensures { ChoosesLaunched (L.site look.now) (L.state look.now) rows.now.pool kind result }
@@ -176,6 +180,7 @@ fn first_of_any<L: Look>(
     session: SessionId,
     kinds: &[LaunchKind],
 ) -> Option<Event>
+    requires reached { IsReached (L.site look.now) (L.state look.now) }
     requires fits { Fits (L.site look.now) (L.state look.now) }
     requires current { is_current (Launcher rows.now.pool) session (L.state look.now) ≡ true }
     ensures { ChoosesOfAnyKind (L.site look.now) (L.state look.now) rows.now.pool kinds.now result }
@@ -191,9 +196,11 @@ fn first_of_any<L: Look>(
 
 /// A useful event of the pool's launcher, the first in the order of the crate's table, or `None`
 /// exactly where there is none. Its cost grows with the requests, the nodes and the labels that there
-/// are, and where the launcher has no session with the sessions. For a node that the launcher holds it
-/// may ask all requests, and for a request that the pool serves all nodes up to a ready one.
+/// are, and where the launcher has no session with the sessions. For a node that may be started, and
+/// for a request that may be locked, it may ask all requests, and for a request that the pool serves
+/// all nodes up to a ready one.
 pub fn choose_launcher<L: Look>(look: &L, pool: PoolId) -> Option<Event>
+    requires reached { IsReached (L.site look.now) (L.state look.now) }
     requires fits { Fits (L.site look.now) (L.state look.now) }
     requires pool { is_role (L.site look.now) (Launcher pool) ≡ true }
     ensures { Chooses (L.site look.now) (L.state look.now) (Launcher pool) result }

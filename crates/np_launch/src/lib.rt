@@ -25,9 +25,11 @@
 //! name more than a request or a node, and `launcher` the choice.
 //!
 //! Over a state of `r` requests, `n` nodes and `l` labels, a choice tests each request, node and label
-//! a few times. A test of a node that the launcher holds may ask all requests whether one wants it.
-//! Whether the pool has a ready node for a request is asked with one reader; only where it has one
-//! are the nodes up to it looked at.
+//! a few times. Whether a node that the launcher holds is still wanted costs a lookup of the node and
+//! one of the request that it is allocated to: in a state that a run reaches, no other pending request
+//! has it in its list. A test of a node that may be started, or of a request that may be locked, looks
+//! at all requests. Whether the pool has a ready node for a request is asked with one reader; only
+//! where it has one are the nodes up to it looked at.
 #![tactic(auto)]
 
 mod computed;
@@ -41,7 +43,5 @@ pub use launcher::choose_launcher;
 pub use request::{
     has_failed_node, is_as_planned, is_complete, is_done_with, is_listed, is_pending_by, is_spent,
 };
-pub use requests::{
-    has_request_in_hand, has_request_under_way, has_turn_left, is_to_launch, is_wanted_by,
-};
+pub use requests::{has_request_in_hand, has_request_under_way, has_turn_left, is_to_launch};
 pub use rows::{is_node_done_with, is_planned_report, is_registrant, is_unfailed, may_take_up};

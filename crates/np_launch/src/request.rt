@@ -10,6 +10,7 @@ ghost use Rattle.np_machine.specs.Reasons.{is_spent};
 ghost use Rattle.np_useful.specs.Launcher.{same_outcome, is_as_planned, is_done_with};
 ghost use Rattle.np_useful.specs.Rows.{request_is, is_listed, is_complete, has_failed_node};
 ghost use Rattle.np_fits.specs.Fits.{Fits};
+ghost use Rattle.np_launch.specs.Allocated.{has_pending_request};
 
 use np_config::Config;
 use np_event::Outcome;
@@ -26,6 +27,20 @@ pub fn is_pending_by(pool: PoolId, request: &RequestRecord) -> bool
         Some(other) => other.0 == pool.0,
     };
     request.state == RequestState::Pending && own
+}
+
+/// Whether the node is allocated to a request that is pending, and that this pool serves. It costs
+/// one lookup.
+pub(crate) fn has_pending_request<L: Look>(look: &L, pool: PoolId, node: &NodeRecord) -> bool
+    ensures { result ≡ has_pending_request pool (L.state look.now) node.now }
+{
+    let Some(request) = node.allocated_to else {
+        return false;
+    };
+    match look.request(request) {
+        None => false,
+        Some(kept) => is_pending_by(pool, &kept),
+    }
 }
 
 /// Whether the node is in the request's list.

@@ -7,7 +7,7 @@ ghost use Rattle.np_machine.specs.Entries.{RequestEntry};
 ghost use Rattle.np_machine.specs.State.{State};
 ghost use Rattle.np_look.specs.Views.{request_view, request_seen};
 ghost use Rattle.np_fits.specs.Fits.{Fits};
-ghost use Rattle.np_useful.specs.Launcher.{is_wanted_by, is_to_launch, is_under_way, is_in_hand, requests_near, has_turn_left};
+ghost use Rattle.np_useful.specs.Launcher.{is_to_launch, is_under_way, is_in_hand, requests_near, has_turn_left};
 
 use crate::near::{concurrency_of, is_held_near, is_served_near};
 use crate::request::{has_failed_node, is_complete, is_in_hand, is_listed, is_pending_by};
@@ -67,33 +67,6 @@ fn one_if(holds: bool) -> u32
     ensures few { result ≤ 1 }
 {
     if holds { 1 } else { 0 }
-}
-
-#[derive(Clone, Copy)]
-struct Wants {
-    pool: PoolId,
-    node: NodeId,
-}
-
-impl RequestTest for Wants {
-    ghost use Rattle.std.specs.Prelude.{◌&&◌, refl};
-    ghost use Rattle.np_machine.specs.Order.{is_pending_by};
-    ghost use Rattle.np_useful.specs.Rows.{is_listed};
-
-    ghost such = { λ t c s e. is_pending_by t.pool e.kept && is_listed t.node e.kept };
-
-    fn is_such<L: Look>(&self, look: &L, view: &RequestView) -> bool {
-        is_pending_by(self.pool, &view.kept) && is_listed(self.node, &view.kept)
-    }
-
-    ghost seen = { λ t c s e. refl };
-}
-
-/// Whether the node is in the list of a request that the pool serves.
-pub fn is_wanted_by<L: Look>(look: &L, pool: PoolId, node: NodeId) -> bool
-    ensures { result ≡ is_wanted_by pool (L.state look.now) node }
-{
-    is_any(look, &Wants { pool, node })
 }
 
 #[derive(Clone, Copy)]

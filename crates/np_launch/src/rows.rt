@@ -3,12 +3,13 @@
 ghost use Rattle.std.specs.Prelude.{◌≡◌, ◌&&◌, not};
 ghost use Rattle.std.specs.List.{list_any};
 ghost use Rattle.np_machine.specs.Tables.{is_session_of, registered};
+ghost use Rattle.np_changes.specs.Planned.{IsReached};
 ghost use Rattle.np_fits.specs.Fits.{Fits};
 ghost use Rattle.np_useful.specs.Launcher.{is_wanted_by, is_as_planned, is_under_way, is_in_hand, has_turn_left};
 ghost use Rattle.np_useful.specs.Rows.{request_is, node_is, has_failed_node};
 
-use crate::request::{has_failed_node, is_as_planned};
-use crate::requests::{has_request_in_hand, has_request_under_way, has_turn_left, is_wanted_by};
+use crate::request::{has_failed_node, has_pending_request, is_as_planned};
+use crate::requests::{has_request_in_hand, has_request_under_way, has_turn_left};
 use np_event::Outcome;
 use np_look::Look;
 use np_text::{NodeId, PoolId, RequestId, SessionId};
@@ -24,8 +25,10 @@ pub fn is_registrant<L: Look>(look: &L, pool: PoolId, session: SessionId) -> boo
 }
 
 /// Whether the launcher is done with the node: no launch of it is running, and no request that the
-/// pool serves wants it. The requests are asked only of a node without a launch.
+/// pool serves wants it. Such a request is the one that the node is allocated to, so that this costs
+/// a lookup of each, whatever requests there are.
 pub fn is_node_done_with<L: Look>(look: &L, pool: PoolId, node: NodeId) -> bool
+    requires { IsReached (L.site look.now) (L.state look.now) }
     ensures { result ≡
         (node_is node (L.state look.now) (λ k. not k.in_flight)
         && not (is_wanted_by pool (L.state look.now) node)) }
@@ -36,7 +39,7 @@ pub fn is_node_done_with<L: Look>(look: &L, pool: PoolId, node: NodeId) -> bool
     if kept.in_flight {
         return false;
     }
-    !is_wanted_by(look, pool, node)
+    !has_pending_request(look, pool, &kept)
 }
 
 /// Whether the request is there, and none of its nodes failed.
