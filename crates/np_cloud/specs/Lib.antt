@@ -3,3 +3,4 @@ pub mod Calls
 pub mod Inventory
 pub mod Sim
 pub mod Script
+pub mod Clouds

@@ -1,9 +1,11 @@
 //! What is known of every simulated cloud. Each function does nothing: its contract is the law.
 
-ghost use Rattle.std.specs.Prelude.{◌≡◌, ℕ, Err};
+ghost use Rattle.std.specs.Prelude.{◌≡◌, ℕ, List, [], map, All, Some, Err};
+ghost use Rattle.np_site.specs.Configuration.{Configuration};
 ghost use Rattle.np_cloud.specs.declared.driver.RemoveFailed.{RemoveFailed};
 ghost use Rattle.np_cloud.specs.Calls.{Removes};
 ghost use Rattle.np_cloud.specs.Inventory.{facts_of};
+ghost use Rattle.np_cloud.specs.Clouds.{ArePlanned, simulations};
 ghost use Rattle.np_cloud.specs.Sim.{Simulation};
 
 use crate::driver::Driver;
@@ -19,4 +21,17 @@ pub fn no_removal_of_a_simulated_cloud_fails()
     ensures { (cloud later : Simulation) (number : ℕ) (fault : RemoveFailed) →
         Removes (⟦<SimDriver as Driver>⟧.facts cloud) number (Err fault)
         (⟦<SimDriver as Driver>⟧.facts later) → ⊥ }
+{}
+
+/// The simulated clouds of a configuration plan what it does.
+pub fn simulated_clouds_follow_the_configuration()
+    ensures { (c : Configuration) (n : ℕ) →
+        ArePlanned c 0 (map ⟦<SimDriver as Driver>⟧.plan (simulations c n)) }
+{}
+
+/// They tell their servers, of which there are none before the first launch.
+pub fn simulated_clouds_begin_without_servers()
+    ensures { (c : Configuration) (n : ℕ) →
+        All (λ (cloud : Simulation). (⟦<SimDriver as Driver>⟧.facts cloud).servers ≡ Some [])
+        (simulations c n) }
 {}

@@ -7,6 +7,7 @@
 //! Both tell all that they did (`specs/Inventory`).
 #![tactic(auto)]
 
+mod clouds;
 mod driver;
 mod gate;
 mod inventory;
@@ -16,8 +17,12 @@ mod sim;
 #[cfg(test)]
 mod tests;
 
+pub use clouds::simulated_clouds;
 pub use driver::{Driver, Launch, LaunchFault, RemoveFailed, Server, Tag};
 pub use gate::{Gate, OpenGate};
-pub use law::{a_simulated_cloud_tells_all, no_removal_of_a_simulated_cloud_fails};
+pub use law::{
+    a_simulated_cloud_tells_all, no_removal_of_a_simulated_cloud_fails,
+    simulated_clouds_begin_without_servers, simulated_clouds_follow_the_configuration,
+};
 pub use script::ScriptDriver;
 pub use sim::SimDriver;
