@@ -2,7 +2,7 @@
 use Rattle.std.proofs.Common.{List, [], ap, append-nil, append_assoc, arith, length, length-append, refl, subst, suc, sym, ℕ, ◌++◌, ◌+◌, ◌∙◌, ◌∷◌, ◌≡◌}
 use Rattle.std.specs.Prelude.{Option, Some, None, slice_get}
 use Rattle.np_desk.specs.Pass.{Sight}
-use Rattle.np_desk.specs.Turned.{Records}
+use Rattle.np_desk.specs.Turned.{Records, Answered}
 use Rattle.np_desk.specs.Turned as turned
 use Rattle.np_desk.specs.History.{StartsWith}
 use Rattle.np_desk.proofs.HistoryLemmas.{starts_on, starts_more}
@@ -14,7 +14,8 @@ use Rattle.np_trace.specs.Move.{Move, asked, launched, removed, entries_of}
 use Rattle.np_trace.specs.Walk.{Walk}
 use Rattle.np_trace.specs.Trace.{Gains, StandAt}
 
-get_last : (before : List Entry) (e : Entry) (rest : List Entry) → slice_get ((before ++ e ∷ []) ++ rest) (length before) ≡ Some e
+-- an entry stands where it was added, in each history that goes on from there
+pub get_last : (before : List Entry) (e : Entry) (rest : List Entry) → slice_get ((before ++ e ∷ []) ++ rest) (length before) ≡ Some e
 get_last [] e rest = refl
 get_last (b ∷ bs) e rest = get_last bs e rest
 
@@ -36,9 +37,13 @@ pub gains_counted : (v : Sight Entry) (es : List Entry) (w : Sight Entry) → Ga
 gains_counted v es w h = omega (arith, ap length h.1, length-append v.mine h.0, stand_length w.seen h.0 es h.2)
 
 module _ {F : Type 0} (answers : F → List Entry → Ask → Turn → Type 0) (f : F) where
+  -- what a turn saw begins with what was seen before it
+  pub turn_seen : (a : Ask) (t : Turn) (v u : Sight Entry) → Answered answers recorded f v a t u → StartsWith u.seen v.seen
+  turn_seen a t v u h = records_seen (recorded a t) h.0 v u h.3 h.1
+
   pub walk_seen : (ms : List Move) (v w : Sight Entry) → Walk answers f ms v w → StartsWith w.seen v.seen
   walk_seen [] v w h = h.0
-  walk_seen (asked a t ∷ ms) v w h = starts_on w.seen h.0.seen v.seen (walk_seen ms h.0 w h.2) (records_seen (recorded a t) h.1.0 v h.0 h.1.3 h.1.1)
+  walk_seen (asked a t ∷ ms) v w h = starts_on w.seen h.0.seen v.seen (walk_seen ms h.0 w h.2) (turn_seen a t v h.0 h.1)
   walk_seen (launched tag o ∷ ms) v w h = walk_seen ms v w h
   walk_seen (removed x ∷ ms) v w h = walk_seen ms v w h
 

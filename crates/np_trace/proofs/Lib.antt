@@ -1,3 +1,4 @@
+pub mod Steps
 pub mod Traces
 pub mod Starts
 pub mod Order

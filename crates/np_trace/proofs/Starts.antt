@@ -1,11 +1,10 @@
 -- Accepted starts, their launches and the reports of these.
-use Rattle.std.proofs.Common.{◌≡◌, ℕ, zero, suc, List, [], ◌∷◌, ◌++◌, sym, refl, ap, ◌∙◌, subst, append-nil, append_assoc, Bool, true, false, cond}
-use Rattle.std.specs.Prelude.{Option, Some, None, IfSome}
+use Rattle.std.proofs.Common.{◌≡◌, ℕ, List, [], ◌∷◌, ◌++◌, sym, refl, ap, ◌∙◌, subst, append-nil, append_assoc, true}
+use Rattle.std.specs.Prelude.{Option, None, IfSome, map}
 use Rattle.np_text.specs.declared.id.PoolId.{PoolId}
 use Rattle.np_text.specs.declared.id.Role.{Role}
 use Rattle.np_text.specs.declared.id.Role.TheVariants as role
 use Rattle.np_event.specs.declared.event.Outcome.{Outcome}
-use Rattle.std.specs.Prelude.{map}
 use Rattle.np_cloud.specs.declared.driver.Tag.{Tag}
 use Rattle.np_cloud.specs.declared.driver.Launch.{Launch}
 use Rattle.np_board.specs.declared.ask.Ask.{Ask}
@@ -14,104 +13,52 @@ use Rattle.np_board.specs.declared.ask.Turn.{Turn}
 use Rattle.np_board.specs.declared.ask.Turn.TheVariants as turn
 use Rattle.np_trace.specs.declared.start.Start.{Start}
 use Rattle.np_trace.specs.Move.{Move, asked, launched, removed, launches_of}
-use Rattle.np_trace.specs.Phase.{Phase, acts, owes_launch, owes_report, looks, owes_due, sweeps, owes_swept, rests, ended, acting, after_start, after_act, after_report, after_look, after_sweep, server_in, after_turn, MayAsk, Leads, start_of, is_remove}
-use Rattle.np_trace.specs.Trace.{tags_of, start_made, starts_of, tags_launched, owed_tags, IsReported, Reports, AreReported}
+use Rattle.np_trace.specs.Phase.{Phase, owes_launch, owes_report, acting, after_turn, after_launch, after_removal, MayAsk, Leads}
+use Rattle.np_trace.specs.Trace.{tags_of, start_made, starts_of, tags_launched, owed_tags, IsReported, Reports, AreReported, is_idle}
+use Rattle.np_trace.proofs.Steps.{TurnCases, of_turn, of_launch, of_removal, goes_on}
 
-owed-acting : (r : Role) (n : ℕ) → [] ≡ owed_tags (acting r n)
-owed-acting (role.Launcher pool) zero = refl
-owed-acting (role.Janitor pool) zero = refl
-owed-acting (role.Requester q) zero = refl
-owed-acting role.Reaper zero = refl
-owed-acting (role.Launcher pool) (suc n) = refl
-owed-acting (role.Janitor pool) (suc n) = refl
-owed-acting (role.Requester q) (suc n) = refl
-owed-acting role.Reaper (suc n) = refl
+none_full : (a : Ask) → start_made a turn.Full ≡ None
+none_full (ask.Act (role.Launcher pool)) = refl
+none_full (ask.Act r) = refl
+none_full a = refl
 
-owed-start : (pool : PoolId) (n : ℕ) (o : Option Start) → tags_of o ≡ owed_tags (after_start pool n o)
-owed-start pool n None = owed-acting (role.Launcher pool) n
-owed-start pool n (Some s) = refl
+none_idle : (r : Role) (t : Turn) → is_idle t ≡ true → start_made (ask.Act r) t ≡ None
+none_idle (role.Launcher pool) (turn.Did e) i = absurd (cc)
+none_idle (role.Launcher pool) t i = refl
+none_idle r t i = refl
 
-owed-act : (r : Role) (n : ℕ) (t : Turn) → tags_of (start_made (ask.Act r) t) ≡ owed_tags (after_act r n t)
-owed-act (role.Launcher pool) n (turn.Did e) = owed-start pool n (start_of pool e)
-owed-act (role.Janitor pool) n (turn.Did e) = owed-acting (role.Janitor pool) n
-owed-act (role.Requester q) n (turn.Did e) = owed-acting (role.Requester q) n
-owed-act role.Reaper n (turn.Did e) = owed-acting role.Reaper n
-owed-act (role.Launcher pool) n (turn.DueNode node x) = refl
-owed-act (role.Janitor pool) n (turn.DueNode node x) = refl
-owed-act (role.Requester q) n (turn.DueNode node x) = refl
-owed-act role.Reaper n (turn.DueNode node x) = refl
-owed-act (role.Launcher pool) n turn.Swept = refl
-owed-act (role.Janitor pool) n turn.Swept = refl
-owed-act (role.Requester q) n turn.Swept = refl
-owed-act role.Reaper n turn.Swept = refl
-owed-act (role.Launcher pool) n turn.Idle = refl
-owed-act (role.Janitor pool) n turn.Idle = refl
-owed-act (role.Requester q) n turn.Idle = refl
-owed-act role.Reaper n turn.Idle = refl
-owed-act (role.Launcher pool) n turn.Full = refl
-owed-act (role.Janitor pool) n turn.Full = refl
-owed-act (role.Requester q) n turn.Full = refl
-owed-act role.Reaper n turn.Full = refl
+-- ## launches
 
-owed-report : (pool : PoolId) (n : ℕ) (t : Turn) → [] ≡ owed_tags (after_report pool n t)
-owed-report pool n (turn.Did e) = owed-acting (role.Launcher pool) n
-owed-report pool n (turn.DueNode node x) = owed-acting (role.Launcher pool) n
-owed-report pool n turn.Swept = owed-acting (role.Launcher pool) n
-owed-report pool n turn.Idle = owed-acting (role.Launcher pool) n
-owed-report pool n turn.Full = refl
+asks_owe_none : (p : Phase) (a : Ask) → MayAsk p a → owed_tags p ≡ []
+asks_owe_none (owes_launch pool n s) a m = absurd m
+asks_owe_none p a m = refl
 
-owed-look : (pool : PoolId) (n : ℕ) (t : Turn) → [] ≡ owed_tags (after_look pool n t)
-owed-look pool n (turn.Did e) = refl
-owed-look pool n (turn.DueNode node None) = refl
-owed-look pool n (turn.DueNode node (Some x)) = refl
-owed-look pool n turn.Swept = refl
-owed-look pool n turn.Idle = refl
-owed-look pool n turn.Full = refl
+role_owes_none : (r : Role) (n : ℕ) → [] ≡ owed_tags (acting r n)
+role_owes_none r n = goes_on (λ s. [] ≡ owed_tags s) (λ q m. refl) (λ pool m. refl) (λ pool. refl) refl r n
 
-owed-cond : (pool : PoolId) (x : ℕ) (b : Bool) → [] ≡ owed_tags (cond b (owes_swept pool x) (sweeps pool))
-owed-cond pool x true = refl
-owed-cond pool x false = refl
+-- what a phase owes and what a turn starts is owed then
+abbrev Owes : Phase → Ask → Turn → Phase → Type 0
+Owes p a t s = owed_tags p ++ tags_of (start_made a t) ≡ owed_tags s
 
-owed-sweep : (pool : PoolId) (x : ℕ) (t : Turn) → [] ≡ owed_tags (after_sweep pool x t)
-owed-sweep pool x (turn.Did e) = owed-cond pool x (is_remove e.reply)
-owed-sweep pool x (turn.DueNode node y) = refl
-owed-sweep pool x turn.Swept = refl
-owed-sweep pool x turn.Idle = refl
-owed-sweep pool x turn.Full = refl
-
-owed-turn : (p : Phase) (a : Ask) (t : Turn) → MayAsk p a → owed_tags p ++ tags_of (start_made a t) ≡ owed_tags (after_turn p a t)
-owed-turn (acts r n) a t h = ap (λ (b : Ask). tags_of (start_made b t)) h ∙ owed-act r n t
-owed-turn (owes_launch pool n s) a t h = absurd h
-owed-turn (owes_report pool n s o) a t h = ap (λ (b : Ask). tags_of (start_made b t)) h ∙ owed-report pool n t
-owed-turn (looks pool n) a t h = ap (λ (b : Ask). tags_of (start_made b t)) h ∙ owed-look pool n t
-owed-turn (owes_due pool n x) a t h = absurd h
-owed-turn (sweeps pool) a t h = ap (λ (b : Ask). tags_of (start_made b t)) h.2 ∙ owed-sweep pool (server_in a) t
-owed-turn (owes_swept pool x) a t h = absurd h
-owed-turn rests a t h = absurd h
-owed-turn ended a t h = absurd h
+turns_owe : TurnCases Owes
+turns_owe = record {
+  full = λ p a m. ap (λ (l : List Tag). l ++ tags_of (start_made a turn.Full)) (asks_owe_none p a m) ∙ ap tags_of (none_full a);
+  entry = λ r n e k. ap tags_of k ∙ role_owes_none r n;
+  start = λ pool n e s k. ap tags_of k;
+  idle = λ r n t i. ap tags_of (none_idle r t i) ∙ role_owes_none r 0;
+  report = λ pool n s o t. role_owes_none (role.Launcher pool) n;
+  due_server = λ pool n node x. refl;
+  look = λ pool n t. refl;
+  swept_server = λ pool node x t k. refl;
+  sweep = λ pool node x t. refl;
+}
 
 -- the accepted starts are the launches, in this order, but for one that the launch is still owed of
 pub starts_launched : (p q : Phase) (ms : List Move) → Leads p ms q → owed_tags p ++ starts_of ms ≡ tags_launched ms ++ owed_tags q
 starts_launched p q [] h = append-nil (owed_tags p) ∙ ap owed_tags h
-starts_launched p q (asked a t ∷ ms) h = sym (append_assoc (owed_tags p) (tags_of (start_made a t)) (starts_of ms)) ∙ (ap (λ (l : List Tag). l ++ starts_of ms) (owed-turn p a t h.0) ∙ starts_launched (after_turn p a t) q ms h.1)
-starts_launched (owes_launch pool n s) q (launched tag o ∷ ms) h = ap (λ (x : Tag). x ∷ starts_of ms) (sym h.0) ∙ ap (λ (l : List Tag). tag ∷ l) (starts_launched (owes_report pool n s o) q ms h.1)
-starts_launched (acts r n) q (launched tag o ∷ ms) h = absurd h.0
-starts_launched (owes_report pool n s o) q (launched tag x ∷ ms) h = absurd h.0
-starts_launched (looks pool n) q (launched tag o ∷ ms) h = absurd h.0
-starts_launched (owes_due pool n x) q (launched tag o ∷ ms) h = absurd h.0
-starts_launched (sweeps pool) q (launched tag o ∷ ms) h = absurd h.0
-starts_launched (owes_swept pool x) q (launched tag o ∷ ms) h = absurd h.0
-starts_launched rests q (launched tag o ∷ ms) h = absurd h.0
-starts_launched ended q (launched tag o ∷ ms) h = absurd h.0
-starts_launched (owes_due pool n x) q (removed y ∷ ms) h = starts_launched (acts (role.Janitor pool) n) q ms h.1
-starts_launched (owes_swept pool x) q (removed y ∷ ms) h = starts_launched (sweeps pool) q ms h.1
-starts_launched (acts r n) q (removed y ∷ ms) h = absurd h.0
-starts_launched (owes_launch pool n s) q (removed y ∷ ms) h = absurd h.0
-starts_launched (owes_report pool n s o) q (removed y ∷ ms) h = absurd h.0
-starts_launched (looks pool n) q (removed y ∷ ms) h = absurd h.0
-starts_launched (sweeps pool) q (removed y ∷ ms) h = absurd h.0
-starts_launched rests q (removed y ∷ ms) h = absurd h.0
-starts_launched ended q (removed y ∷ ms) h = absurd h.0
+starts_launched p q (asked a t ∷ ms) h = sym (append_assoc (owed_tags p) (tags_of (start_made a t)) (starts_of ms)) ∙ (ap (λ (l : List Tag). l ++ starts_of ms) (of_turn Owes turns_owe p a t h.0) ∙ starts_launched (after_turn p a t) q ms h.1)
+starts_launched p q (launched tag o ∷ ms) h = of_launch (λ u x s. owed_tags u ++ starts_of ms ≡ x ∷ (owed_tags s ++ starts_of ms)) (λ pool n s x. refl) p tag o h.0 ∙ ap (λ (l : List Tag). tag ∷ l) (starts_launched (after_launch p o) q ms h.1)
+starts_launched p q (removed y ∷ ms) h = of_removal (λ u s. owed_tags u ++ starts_of ms ≡ owed_tags s ++ starts_of ms) (λ pool n x. refl) (λ pool x. refl) p y h.0 ∙ starts_launched (after_removal p) q ms h.1
 
 -- ## reports
 
@@ -127,34 +74,31 @@ is_reported pool n s (asked a t ∷ ms) q h = absurd h.0
 is_reported pool n s (launched tag o ∷ ms) q h = (h.0, reports pool n s o ms q h.1)
 is_reported pool n s (removed x ∷ ms) q h = absurd h.0
 
-start_reported : (pool : PoolId) (n : ℕ) (o : Option Start) (ms : List Move) (q : Phase) → Leads (after_start pool n o) ms q → IfSome o (λ s. IsReported s ms q)
-start_reported pool n None ms q h = tt
-start_reported pool n (Some s) ms q h = is_reported pool n s ms q h
+module _ (ms : List Move) (q : Phase) where
+  -- the start, if there is one, is launched and reported in these moves
+  abbrev StartReported : Option Start → Type 0
+  StartReported o = IfSome o (λ s. IsReported s ms q)
 
-act_reported : (r : Role) (n : ℕ) (t : Turn) (ms : List Move) (q : Phase) → Leads (after_act r n t) ms q → IfSome (start_made (ask.Act r) t) (λ s. IsReported s ms q)
-act_reported (role.Launcher pool) n (turn.Did e) ms q h = start_reported pool n (start_of pool e) ms q h
-act_reported (role.Launcher pool) n (turn.DueNode node x) ms q h = tt
-act_reported (role.Launcher pool) n turn.Swept ms q h = tt
-act_reported (role.Launcher pool) n turn.Idle ms q h = tt
-act_reported (role.Launcher pool) n turn.Full ms q h = tt
-act_reported (role.Janitor pool) n t ms q h = tt
-act_reported (role.Requester r) n t ms q h = tt
-act_reported role.Reaper n t ms q h = tt
+  -- so it is with that of a turn, where these moves come next
+  abbrev TurnReported : Phase → Ask → Turn → Phase → Type 0
+  TurnReported p a t s = Leads s ms q → StartReported (start_made a t)
 
-turn_reported : (p : Phase) (a : Ask) (t : Turn) (ms : List Move) (q : Phase) → MayAsk p a → Leads (after_turn p a t) ms q → IfSome (start_made a t) (λ s. IsReported s ms q)
-turn_reported (acts r n) a t ms q m h = subst (λ (b : Ask). IfSome (start_made b t) (λ s. IsReported s ms q)) (sym m) (act_reported r n t ms q h)
-turn_reported (owes_launch pool n s) a t ms q m h = absurd m
-turn_reported (owes_report pool n s o) a t ms q m h = subst (λ (b : Ask). IfSome (start_made b t) (λ s. IsReported s ms q)) (sym m) tt
-turn_reported (looks pool n) a t ms q m h = subst (λ (b : Ask). IfSome (start_made b t) (λ s. IsReported s ms q)) (sym m) tt
-turn_reported (owes_due pool n x) a t ms q m h = absurd m
-turn_reported (sweeps pool) a t ms q m h = subst (λ (b : Ask). IfSome (start_made b t) (λ s. IsReported s ms q)) (sym m.2) tt
-turn_reported (owes_swept pool x) a t ms q m h = absurd m
-turn_reported rests a t ms q m h = absurd m
-turn_reported ended a t ms q m h = absurd m
+  turns_reported : TurnCases TurnReported
+  turns_reported = record {
+    full = λ p a m h. subst StartReported (sym (none_full a)) tt;
+    entry = λ r n e k h. subst StartReported (sym k) tt;
+    start = λ pool n e s k h. subst StartReported (sym k) (is_reported pool n s ms q h);
+    idle = λ r n t i h. subst StartReported (sym (none_idle r t i)) tt;
+    report = λ pool n s o t h. tt;
+    due_server = λ pool n node x h. tt;
+    look = λ pool n t h. tt;
+    swept_server = λ pool node x t k h. tt;
+    sweep = λ pool node x t h. tt;
+  }
 
 pub are_reported : (p q : Phase) (ms : List Move) → Leads p ms q → AreReported ms q
 are_reported p q [] h = tt
-are_reported p q (asked a t ∷ ms) h = (turn_reported p a t ms q h.0 h.1, are_reported (after_turn p a t) q ms h.1)
+are_reported p q (asked a t ∷ ms) h = (of_turn (TurnReported ms q) (turns_reported ms q) p a t h.0 h.1, are_reported (after_turn p a t) q ms h.1)
 are_reported p q (launched tag o ∷ ms) h = are_reported _ q ms h.1
 are_reported p q (removed x ∷ ms) h = are_reported _ q ms h.1
 

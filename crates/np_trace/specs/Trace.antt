@@ -1,11 +1,12 @@
 -- what holds of the moves of every round
-use Rattle.std.specs.Prelude.{◌≡◌, ◌⊎◌, ◌≤◌, ℕ, ◌+◌, List, [], ◌∷◌, ◌++◌, slice_get, Bool, true, false, cond, ◌&&◌, Option, Some, None, IfSome}
+use Rattle.std.specs.Prelude.{◌≡◌, ◌⊎◌, ◌≤◌, ℕ, ◌+◌, List, [], ◌∷◌, ◌++◌, slice_get, Bool, true, false, cond, ◌&&◌, Contains, Option, Some, None, IfSome}
 use Rattle.np_text.specs.declared.id.PoolId.{PoolId}
 use Rattle.np_text.specs.declared.id.Role.TheVariants as role
 use Rattle.np_desk.specs.Pass.{Sight}
 use Rattle.np_event.specs.declared.entry.Entry.{Entry}
 use Rattle.np_event.specs.declared.event.Outcome.{Outcome}
 use Rattle.np_cloud.specs.declared.driver.Tag.{Tag}
+use Rattle.np_cloud.specs.declared.driver.Server.{Server}
 use Rattle.np_board.specs.declared.ask.Ask.{Ask}
 use Rattle.np_board.specs.declared.ask.Ask.TheVariants as ask
 use Rattle.np_board.specs.declared.ask.Turn.{Turn}
@@ -120,6 +121,12 @@ AreNamed (asked a t ∷ removed x ∷ moves) = NamesServer a t x × AreNamed mov
 AreNamed (asked a t ∷ moves) = AreNamed moves
 AreNamed (launched tag o ∷ moves) = AreNamed moves
 AreNamed (removed x ∷ moves) = ⊥
+
+-- a sweep of the server was not answered that nobody wants it (own)
+abbrev pub WasKept : PoolId → List Move → Server → Type 0
+WasKept pool trace server = (t : Turn)
+    × Contains trace (asked (ask.Sweep pool server.tag.node server.number) t)
+    × (is_unwanted t ≡ false)
 
 -- ## what was gained of the history
 

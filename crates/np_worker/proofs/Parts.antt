@@ -21,7 +21,8 @@ use Rattle.np_text.specs.declared.id.PoolId.{PoolId}
 use Rattle.np_worker.specs.declared.next.Next.{Next}
 use Rattle.np_worker.specs.declared.next.Next.TheVariants as next
 use Rattle.np_trace.specs.Drive.{Driving, Drove, IsOfServer}
-use Rattle.np_worker.specs.Part.{Part, Comes, Goes, Counts, entry_count, IsOfDriver, RemovalEnds, SweepsOne, SweepsAll, IsDealtWith, WasKept, is_full}
+use Rattle.np_trace.specs.Trace.{WasKept}
+use Rattle.np_worker.specs.Part.{Part, Comes, Goes, Counts, entry_count, IsOfDriver, RemovalEnds, SweepsOne, SweepsAll, IsDealtWith, is_full}
 use Rattle.np_worker.specs.Round.{EndsAs, Rests}
 use Rattle.np_worker.proofs.Sweeps.{are_kept_after}
 use Rattle.std.specs.Prelude.{Contains, false}

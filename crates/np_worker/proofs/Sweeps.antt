@@ -10,7 +10,8 @@ use Rattle.np_cloud.specs.Calls.{without_number}
 use Rattle.np_board.specs.declared.ask.Ask.TheVariants as ask
 use Rattle.np_trace.specs.Move.{Move, asked}
 use Rattle.np_trace.specs.Drive.{Driving}
-use Rattle.np_worker.specs.Part.{WasKept, AreKept, IsDealtWith}
+use Rattle.np_trace.specs.Trace.{WasKept}
+use Rattle.np_worker.specs.Part.{AreKept, IsDealtWith}
 
 -- the servers from a place on were asked about and kept
 abbrev pub KeptFrom : PoolId → List Move → ℕ → Option (List Server) → Type 0

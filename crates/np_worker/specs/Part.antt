@@ -18,6 +18,7 @@ use Rattle.np_trace.specs.Drive.{Driving, Drives, Drove, IsOfServer}
 use Rattle.np_trace.specs.Move.{Move, asked, removed}
 use Rattle.np_trace.specs.Phase.{Phase, Leads, OwesRemoval, after_turn, is_unwanted}
 use Rattle.np_trace.specs.Phase as phase
+use Rattle.np_trace.specs.Trace.{WasKept}
 use Rattle.np_trace.specs.Walk.{Walk}
 
 -- how many entries a turn made (own)
@@ -33,12 +34,6 @@ Counts n v m w = m + length v.mine ≡ n + length w.mine
 abbrev pub RemovalFailed : Option Driving → Option Driving → Type 0
 RemovalFailed (Some before) (Some now) = Rose before.facts.remove_faults now.facts.remove_faults
 RemovalFailed _ _ = ⊥
-
--- a sweep of the server was not answered that nobody wants it (own)
-abbrev pub WasKept : PoolId → List Move → Server → Type 0
-WasKept pool trace server = (t : Turn)
-    × Contains trace (asked (ask.Sweep pool server.tag.node server.number) t)
-    × (is_unwanted t ≡ false)
 
 -- the worker's servers were all asked about and kept (own)
 abbrev pub AreKept : PoolId → List Move → Option Driving → Type 0
