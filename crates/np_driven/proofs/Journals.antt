@@ -1,142 +1,69 @@
--- Driven journals, turn by turn.
-use Rattle.std.proofs.Common.{◌≡◌, inl, inr, ⊎_elim, ℕ, false, List, [], ◌∷◌, ◌++◌, sym, refl, ap, subst, append_assoc, append-nil}
-use Rattle.std.specs.Prelude.{All}
-use Rattle.std.proofs.lemmas.List.Elements.{All-contains, Contains-append_left}
-use Rattle.np_text.specs.declared.id.SessionId.{SessionId}
-use Rattle.np_text.specs.declared.id.PoolId.{PoolId}
-use Rattle.np_text.specs.declared.id.Role.{Role}
+-- journals that players drove: where they begin, and a tick more
+use Rattle.std.proofs.Common.{◌≡◌, inl, inr, false, List, [], ◌∷◌, ◌++◌, All, Some, sym, subst, append_assoc, append-nil}
+use Rattle.std.proofs.lemmas.List.Elements.{All-nil, All-weaker}
 use Rattle.np_site.specs.Configuration.{Configuration}
 use Rattle.np_event.specs.declared.entry.Entry.{Entry}
 use Rattle.np_event.specs.declared.event.Event.TheVariants as ev
-use Rattle.np_event.specs.declared.event.Outcome.TheVariants as outcome
-use Rattle.np_event.specs.declared.reply.Done.TheVariants as done
-use Rattle.np_event.specs.declared.reply.Reply.TheVariants as reply
-use Rattle.np_cloud.specs.declared.driver.Launch.{Launch}
 use Rattle.np_cloud.specs.declared.driver.Server.{Server}
-use Rattle.np_board.specs.declared.ask.Turn.TheVariants as turn
-use Rattle.np_board.specs.Answers.{answers_act, answers_sweep}
-use Rattle.np_machine.specs.History.{after, state_after}
-use Rattle.np_machine.specs.Plan.{outcome_of}
-use Rattle.np_machine.specs.State.{State, start}
-use Rattle.np_machine.specs.Step.{next}
+use Rattle.np_machine.specs.History.{after}
+use Rattle.np_machine.specs.State.{start}
 use Rattle.np_machine.specs.Turns.{Turn, turns, turns_from, SomeTurn}
-use Rattle.np_useful.specs.Driven.{DrivenFrom, IsDrivenTurn, IsReportOfLaunch, NamesServer, is_tick}
-use Rattle.np_driven.specs.DrivenBy.{IsReportOfAnswer, IsDrivenTurnBy, DrivenFromBy, DrivenBy, WasNamed}
+use Rattle.np_trace.specs.Drive.{Driving}
+use Rattle.np_useful.specs.Driven.{Says, DrivenFrom, DrivenBy, IsDrivenTurn, NamesServer, is_tick}
+use Rattle.np_driven.specs.Players.{Player, drivings_of, AreNumbered, HaveDriven, WasAnswered, WasNamed, AreNamed}
+use Rattle.np_driven.proofs.Places.{turn_after, turns-append, some-left}
 
--- the turn of an entry after a journal
-abbrev pub turn_of : Configuration → State → Entry → Turn
-turn_of c s e = record { before = s; entry = e; later = next c s e.event }
+-- ## what was named
 
 module _ (c : Configuration) where
-  turns-push : (s : State) (journal : List Entry) (e : Entry) → turns_from c s (journal ++ e ∷ []) ≡ turns_from c s journal ++ turn_of c (state_after c s journal) e ∷ []
-  turns-push s [] e = refl
-  turns-push s (d ∷ journal) e = ap (λ (ts : List Turn). turn_of c s d ∷ ts) (turns-push (next c s d.event) journal e)
+  pub named-later : (journal more : List Entry) (server : Server) → WasNamed c journal server → WasNamed c (journal ++ more) server
+  named-later journal more server h =
+      subst (SomeTurn (NamesServer server.tag.node server.number)) (sym (turns-append c (start c) journal more))
+      (some-left c (NamesServer server.tag.node server.number) (turns c journal) (turns_from c (after c journal) more) h)
 
-  module _ (launches : List Launch) where
-    driven-push : (past ts : List Turn) (t : Turn) → DrivenFromBy launches c past ts → IsDrivenTurnBy launches c (past ++ ts) t → DrivenFromBy launches c past (ts ++ t ∷ [])
-    driven-push past [] t h k = (subst (λ (p : List Turn). IsDrivenTurnBy launches c p t) (append-nil past) k, tt)
-    driven-push past (u ∷ ts) t h k = (h.0, driven-push (past ++ u ∷ []) ts t h.1 (subst (λ (p : List Turn). IsDrivenTurnBy launches c p t) (sym (append_assoc past (u ∷ []) ts)) k))
-
-    pub driven-next : (journal : List Entry) (e : Entry) → DrivenBy launches c journal → IsDrivenTurnBy launches c (turns c journal) (turn_of c (after c journal) e) → DrivenBy launches c (journal ++ e ∷ [])
-    driven-next journal e h k = subst (DrivenFromBy launches c []) (sym (turns-push (start c) journal e)) (driven-push [] (turns c journal) (turn_of c (after c journal) e) h k)
-
-  -- ## more launches
-
-  more_report : (launches more : List Launch) (past : List Turn) (t : Turn) → IsReportOfAnswer launches past t → IsReportOfAnswer (launches ++ more) past t
-  more_report launches more past t r = record {
-    session = r.session;
-    number = r.number;
-    attempt = r.attempt;
-    outcome = r.outcome;
-    event = r.event;
-    start = r.start;
-    pool = r.pool;
-    begun = r.begun;
-    first = r.first;
-    answered = Contains-append_left launches more _ r.answered;
+  pub names-later : (journal more : List Entry) (driving : Driving) → AreNamed c journal driving → AreNamed c (journal ++ more) driving
+  names-later journal more driving are = record {
+    servers = are.servers;
+    told = are.told;
+    named = All-weaker (WasNamed c journal) (WasNamed c (journal ++ more)) (named-later journal more) are.servers are.named;
   }
 
-  more_turn : (launches more : List Launch) (past : List Turn) (t : Turn) → IsDrivenTurnBy launches c past t → IsDrivenTurnBy (launches ++ more) c past t
-  more_turn launches more past t h = ⊎_elim (λ u. inl u) (λ g. inr (⊎_elim (λ u. inl u) (λ f. inr (⊎_elim (λ u. inl u) (λ r. inr (more_report launches more past t r)) f)) g)) h
+  -- ## one entry more
 
-  pub driven_more : (launches more : List Launch) (past ts : List Turn) → DrivenFromBy launches c past ts → DrivenFromBy (launches ++ more) c past ts
-  driven_more launches more past [] h = tt
-  driven_more launches more past (t ∷ ts) h = (more_turn launches more past t h.0, driven_more launches more (past ++ t ∷ []) ts h.1)
+  module _ (says : Says) where
+    driven-push : (past ts : List Turn) (t : Turn) → DrivenFrom says c past ts → IsDrivenTurn says c (past ++ ts) t → DrivenFrom says c past (ts ++ t ∷ [])
+    driven-push past [] t h k = (subst (λ (p : List Turn). IsDrivenTurn says c p t) (append-nil past) k, tt)
+    driven-push past (u ∷ ts) t h k = (h.0, driven-push (past ++ u ∷ []) ts t h.1 (subst (λ (p : List Turn). IsDrivenTurn says c p t) (sym (append_assoc past (u ∷ []) ts)) k))
 
-  -- ## as planned
+    pub driven-next : (journal : List Entry) (e : Entry) → DrivenBy says c journal → IsDrivenTurn says c (turns c journal) (turn_after c journal e) → DrivenBy says c (journal ++ e ∷ [])
+    driven-next journal e h k = subst (DrivenFrom says c []) (sym (turns-append c (start c) journal (e ∷ []))) (driven-push [] (turns c journal) (turn_after c journal e) h k)
 
-  abbrev pub AsPlanned : Launch → Type 0
-  AsPlanned l = outcome_of c l.tag.pool l.tag.start ≡ l.outcome
+    -- a tick after an entry that is none
+    pub tick-driven : (journal : List Entry) (d e : Entry) → DrivenBy says c (journal ++ d ∷ []) → is_tick d.event ≡ false → e.event ≡ ev.Tick → DrivenBy says c ((journal ++ d ∷ []) ++ e ∷ [])
+    tick-driven journal d e h other is = driven-next (journal ++ d ∷ []) e h (inr (inl (record {
+      event = is;
+      earlier = turns c journal;
+      previous = turn_after c journal d;
+      follows = turns-append c (start c) journal (d ∷ []);
+      other = other;
+    })))
 
-  planned_report : (launches : List Launch) → All AsPlanned launches → (past : List Turn) (t : Turn) → IsReportOfAnswer launches past t → IsReportOfLaunch c past t
-  planned_report launches all past t r = record {
-    session = r.session;
-    number = r.number;
-    attempt = r.attempt;
-    outcome = r.outcome;
-    event = r.event;
-    start = r.start;
-    pool = r.pool;
-    begun = r.begun;
-    first = r.first;
-    planned = All-contains AsPlanned launches _ all r.answered;
+  pub tick-have-driven : (journal : List Entry) (players : List Player) (d e : Entry) → HaveDriven c (journal ++ d ∷ []) players → is_tick d.event ≡ false → e.event ≡ ev.Tick → HaveDriven c ((journal ++ d ∷ []) ++ e ∷ []) players
+  tick-have-driven journal players d e have other is = record {
+    driven = tick-driven (WasAnswered (drivings_of players)) journal d e have.driven other is;
+    named = All-weaker (AreNamed c (journal ++ d ∷ [])) (AreNamed c ((journal ++ d ∷ []) ++ e ∷ [])) (names-later (journal ++ d ∷ []) (e ∷ [])) (drivings_of players) have.named;
+    numbered = have.numbered;
   }
 
-  planned_turn : (launches : List Launch) → All AsPlanned launches → (past : List Turn) (t : Turn) → IsDrivenTurnBy launches c past t → IsDrivenTurn c past t
-  planned_turn launches all past t h = ⊎_elim (λ u. inl u) (λ g. inr (⊎_elim (λ u. inl u) (λ f. inr (⊎_elim (λ u. inl u) (λ r. inr (planned_report launches all past t r)) f)) g)) h
+  -- ## the start
 
-  pub driven_planned : (launches : List Launch) → All AsPlanned launches → (past ts : List Turn) → DrivenFromBy launches c past ts → DrivenFrom c past ts
-  driven_planned launches all past [] h = tt
-  driven_planned launches all past (t ∷ ts) h = (planned_turn launches all past t h.0, driven_planned launches all (past ++ t ∷ []) ts h.1)
+  no-servers : (driving : Driving) → driving.facts.servers ≡ Some [] → AreNamed c [] driving
+  no-servers driving is = record { servers = []; told = is; named = All-nil (WasNamed c []) }
 
-  -- ## what is driven
-
-  pub act_next : (launches : List Launch) (journal : List Entry) (role : Role) (e : Entry) → answers_act c journal role (turn.Did e) → DrivenBy launches c journal → DrivenBy launches c (journal ++ e ∷ [])
-  act_next launches journal role e h d = driven-next launches journal e d (inl (record { role = role; useful = h.0 }))
-
-  pub tick_next : (launches : List Launch) (journal : List Entry) (d e : Entry) → is_tick d.event ≡ false → e.event ≡ ev.Tick → DrivenBy launches c (journal ++ d ∷ []) → DrivenBy launches c (journal ++ d ∷ [] ++ e ∷ [])
-  tick_next launches journal d e other is h = driven-next launches (journal ++ d ∷ []) e h (inr (inl (record {
-    event = is;
-    earlier = turns c journal;
-    previous = turn_of c (after c journal) d;
-    follows = turns-push (start c) journal d;
-    other = other;
-  })))
-
-  pub sweep_next : (launches : List Launch) (journal : List Entry) (p : PoolId) (server : Server) (e : Entry) → answers_sweep c journal p server.tag.node server.number (turn.Did e) → e.reply ≡ reply.Done done.Remove → WasNamed c journal server → DrivenBy launches c journal → DrivenBy launches c (journal ++ e ∷ [])
-  sweep_next launches journal p server e h is named d = driven-next launches journal e d (inr (inr (inl (record {
-    session = h.2.session;
-    pool = p;
-    number = server.tag.node;
-    server = server.number;
-    event = h.2.event;
-    removed = is;
-    current = h.2.current;
-    named = named;
-    unswept = h.1;
-  }))))
-
-  -- ## what was named
-
-  module _ (P : Turn → Type 0) where
-    some-left : (ts us : List Turn) → SomeTurn P ts → SomeTurn P (ts ++ us)
-    some-left [] us h = absurd h
-    some-left (t ∷ ts) us h = ⊎_elim (λ (p : P t). inl p) (λ (q : SomeTurn P ts). inr (some-left ts us q)) h
-
-    some-last : (ts : List Turn) (t : Turn) → P t → SomeTurn P (ts ++ t ∷ [])
-    some-last [] t h = inl h
-    some-last (u ∷ ts) t h = inr (some-last ts t h)
-
-  turns-append : (s : State) (journal more : List Entry) → turns_from c s (journal ++ more) ≡ turns_from c s journal ++ turns_from c (state_after c s journal) more
-  turns-append s [] more = refl
-  turns-append s (d ∷ journal) more = ap (λ (ts : List Turn). turn_of c s d ∷ ts) (turns-append (next c s d.event) journal more)
-
-  pub named_next : (journal : List Entry) (e : Entry) (session : SessionId) (attempt : ℕ) (server : Server) → e.event ≡ ev.Done session server.tag.node attempt (outcome.Launched server.number) → WasNamed c (journal ++ e ∷ []) server
-  named_next journal e session attempt server is =
-      subst (SomeTurn (NamesServer server.tag.node server.number)) (sym (turns-push (start c) journal e))
-      (some-last (NamesServer server.tag.node server.number) (turns c journal) (turn_of c (after c journal) e) (record { session = session; attempt = attempt; event = is }))
-
-  pub named_later : (journal more : List Entry) (server : Server) → WasNamed c journal server → WasNamed c (journal ++ more) server
-  named_later journal more server h =
-      subst (SomeTurn (NamesServer server.tag.node server.number)) (sym (turns-append (start c) journal more))
-      (some-left (NamesServer server.tag.node server.number) (turns c journal) (turns_from c (after c journal) more) h)
+  -- players whose drivers have no servers yet have driven the empty journal
+  pub start-have-driven : (players : List Player) → AreNumbered 0 players → All (λ (driving : Driving). driving.facts.servers ≡ Some []) (drivings_of players) → HaveDriven c [] players
+  start-have-driven players numbered empty = record {
+    driven = tt;
+    named = All-weaker (λ (driving : Driving). driving.facts.servers ≡ Some []) (AreNamed c []) no-servers (drivings_of players) empty;
+    numbered = numbered;
+  }

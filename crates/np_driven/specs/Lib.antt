@@ -1,1 +1,3 @@
-pub mod DrivenBy
+pub mod Players
+pub mod Round
+pub mod Servers

@@ -1,14 +1,20 @@
-//! Laws on journals that parties drove, whatever their clouds answered. Nothing here runs: each
-//! function states a theorem.
+//! The journals that parties and their clouds drive: laws alone.
 //!
-//! A journal was driven by clouds (`specs/DrivenBy`) where each report is of a launch that a cloud
-//! answered so. Where clouds answer as the configuration plans, it was driven as it is planned.
+//! np_useful says when a journal was driven (`Driven`, and `DrivenBy` over any clouds). Here stands
+//! that rounds of all players drive one. `specs/Players` says who plays and what is known of what
+//! they drive, `specs/Round` what a round of all players is, as lists of moves at one history
+//! (np_trace) and without threads, `specs/Servers` what became of a driver's servers in it. `law`
+//! states that such a round goes on with a driven journal, and why servers left or stayed. np_rounds
+//! plays such rounds over threads.
+//!
+//! A report is the first one for its start, since a node's attempts only rise and its number is not
+//! used again (`proofs/Once`), and since only the pool's own worker acts for its launcher.
 #![tactic(auto)]
 
 mod law;
 
 pub use law::{
-    a_journal_driven_by_the_plan_was_driven, a_journal_stays_driven_by_more_launches,
-    acts_are_driven, an_empty_journal_was_driven, driven_turns_go_on, reports_name_their_servers,
-    sweeps_of_named_servers_are_driven, ticks_after_entries_are_driven,
+    a_round_is_driven, a_tick_after_a_round_is_driven, players_begin_with_the_empty_journal,
+    servers_leave_with_a_cause, servers_stay_where_they_are_kept,
+    what_planned_drivers_drove_was_driven_as_planned,
 };

@@ -1,4 +1,4 @@
--- when the parties and the simulated cloud drove a journal, and no script did
+-- when the parties and their clouds drove a journal, and no script did
 use Rattle.std.specs.Prelude.{◌≡◌, ◌&&◌, ◌==◌, ℕ, Bool, true, false, List, [], ◌∷◌, ◌++◌, Some, ◌⊎◌}
 use Rattle.np_text.specs.declared.id.SessionId.{SessionId}
 use Rattle.np_text.specs.declared.id.PoolId.{PoolId}
@@ -64,7 +64,11 @@ pub record IsSweepOfServer (past : List Turn) (t : Turn) : Type 0 where
   pub named : SomeTurn (NamesServer number server) past
   pub unswept : is_swept number server t.before.swept ≡ false
 
--- ## a report of the cloud
+-- ## a report of a cloud
+
+-- what became of launches: of which pool and node, which attempt of the node, which start of the pool, and its outcome (own)
+abbrev pub Says : Type 1
+Says = PoolId → NodeId → ℕ → ℕ → Outcome → Type 0
 
 -- a start of the session on the node that was answered with this attempt, as the start of this number in the pool, which the node is of (Nodepool: a launch)
 pub record BeginsLaunch (session : SessionId) (n : NodeId) (attempt m : ℕ) (p : PoolId) (t : Turn) : Type 0 where
@@ -79,30 +83,39 @@ abbrev pub is_report_of : SessionId → NodeId → ℕ → Event → Bool
 is_report_of session n attempt (ev.Done by m k o) = is_session by session && is_node n m && (k == attempt)
 is_report_of session n attempt _ = false
 
--- the first report on a launch that was begun, as planned for its start; its reply may be a refusal, where the session ended during the launch (own)
-pub record IsReportOfLaunch (c : Configuration) (past : List Turn) (t : Turn) : Type 0 where
-  pub session : SessionId
-  pub number : NodeId
-  pub attempt : ℕ
-  pub outcome : Outcome
-  pub event : t.entry.event ≡ ev.Done session number attempt outcome
-  pub start : ℕ
-  pub pool : PoolId
-  pub begun : SomeTurn (BeginsLaunch session number attempt start pool) past
-  pub first : EachTurn (λ u. is_report_of session number attempt u.entry.event ≡ false) past
-  pub planned : outcome_of c pool start ≡ outcome
+module _ (says : Says) where
+  -- the first report on a launch that was begun, as it was answered; its reply may be a refusal, where the session ended during the launch (own)
+  pub record IsReportOfLaunch (past : List Turn) (t : Turn) : Type 0 where
+    pub session : SessionId
+    pub number : NodeId
+    pub attempt : ℕ
+    pub outcome : Outcome
+    pub event : t.entry.event ≡ ev.Done session number attempt outcome
+    pub start : ℕ
+    pub pool : PoolId
+    pub begun : SomeTurn (BeginsLaunch session number attempt start pool) past
+    pub first : EachTurn (λ u. is_report_of session number attempt u.entry.event ≡ false) past
+    pub answered : says pool number attempt start outcome
 
--- ## the journal
+  -- ## the journal
 
--- the turn is one of these, after the turns of the past (own)
-abbrev pub IsDrivenTurn : Configuration → List Turn → Turn → Type 0
-IsDrivenTurn c past t = IsOfUse c t ⊎ (IsTickBetween past t ⊎ (IsSweepOfServer past t ⊎ IsReportOfLaunch c past t))
+  -- the turn is one of these, after the turns of the past (own)
+  abbrev pub IsDrivenTurn : Configuration → List Turn → Turn → Type 0
+  IsDrivenTurn c past t = IsOfUse c t ⊎ (IsTickBetween past t ⊎ (IsSweepOfServer past t ⊎ IsReportOfLaunch past t))
 
--- each of the turns is, after those of the past (own)
-abbrev pub DrivenFrom : Configuration → List Turn → List Turn → Type 0
-DrivenFrom c past [] = Unit {0}
-DrivenFrom c past (t ∷ ts) = IsDrivenTurn c past t × DrivenFrom c (past ++ t ∷ []) ts
+  -- each of the turns is, after those of the past (own)
+  abbrev pub DrivenFrom : Configuration → List Turn → List Turn → Type 0
+  DrivenFrom c past [] = Unit {0}
+  DrivenFrom c past (t ∷ ts) = IsDrivenTurn c past t × DrivenFrom c (past ++ t ∷ []) ts
 
--- each entry is one of these, at its place (own)
+  -- each entry is one of these, at its place (own)
+  abbrev pub DrivenBy : Configuration → List Entry → Type 0
+  DrivenBy c journal = DrivenFrom c [] (turns c journal)
+
+-- what is planned for the start (own)
+abbrev pub as_planned : Configuration → Says
+as_planned c pool n attempt start o = outcome_of c pool start ≡ o
+
+-- each launch was answered as it is planned (own)
 abbrev pub Driven : Configuration → List Entry → Type 0
-Driven c journal = DrivenFrom c [] (turns c journal)
+Driven c journal = DrivenBy (as_planned c) c journal

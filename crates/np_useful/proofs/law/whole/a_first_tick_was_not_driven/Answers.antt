@@ -7,7 +7,7 @@ use Rattle.np_machine.specs.State.{start}
 use Rattle.np_machine.specs.Step.{next}
 use Rattle.np_machine.specs.Turns.{Turn}
 use Rattle.np_useful.specs.Useful.{IsUseful}
-use Rattle.np_useful.specs.Driven.{IsDrivenTurn}
+use Rattle.np_useful.specs.Driven.{IsDrivenTurn, as_planned}
 use Rattle.np_worked.specs.PlainPath as plain_path
 use Rattle.np_worked.specs.Site.{line}
 use Rattle.np_useful.proofs.law.whole.a_first_tick_was_not_driven.Goals as goal
@@ -25,7 +25,7 @@ no-end : (earlier : List Turn) (previous : Turn) → [] ≡ earlier ++ previous 
 no-end [] previous follows = absurd cc
 no-end (t ∷ earlier) previous follows = absurd cc
 
-none : IsDrivenTurn plain_path.site [] turn → ⊥
+none : IsDrivenTurn (as_planned plain_path.site) plain_path.site [] turn → ⊥
 none (inl of_use) = useless of_use.role of_use.useful
 none (inr (inl tick)) = no-end tick.earlier tick.previous tick.follows
 none (inr (inr (inl sweep))) = let event = sweep.event in absurd cc

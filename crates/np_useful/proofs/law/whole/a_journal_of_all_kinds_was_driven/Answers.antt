@@ -34,7 +34,7 @@ returns c = (
                         (
                           inl (record { role = janitor 0; useful = record { accepted = refl; maker = refl; row = refl } }),
                           (
-                            inr (inr (inr (record { session = session 1; number = node 0; attempt = 1; outcome = outcome.Launched 1; event = refl; start = 1; pool = pool 0; begun = inr (inr (inr (inr (inr (inr (inr (inl (record { event = refl; started = refl; node = _; stood = refl; of_pool = refl })))))))); first = (refl, (refl, (refl, (refl, (refl, (refl, (refl, (refl, (refl, (refl, (refl, (refl, (refl, tt))))))))))))); planned = refl }))),
+                            inr (inr (inr (record { session = session 1; number = node 0; attempt = 1; outcome = outcome.Launched 1; event = refl; start = 1; pool = pool 0; begun = inr (inr (inr (inr (inr (inr (inr (inl (record { event = refl; started = refl; node = _; stood = refl; of_pool = refl })))))))); first = (refl, (refl, (refl, (refl, (refl, (refl, (refl, (refl, (refl, (refl, (refl, (refl, (refl, tt))))))))))))); answered = refl }))),
                             (
                               inl (record { role = janitor 0; useful = record { accepted = refl; maker = refl; row = refl } }),
                               (

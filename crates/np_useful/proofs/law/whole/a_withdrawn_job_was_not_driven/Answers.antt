@@ -8,7 +8,7 @@ use Rattle.np_machine.specs.Step.{next}
 use Rattle.np_machine.specs.State.{State}
 use Rattle.np_machine.specs.Turns.{Turn}
 use Rattle.np_useful.specs.Useful.{IsUseful}
-use Rattle.np_useful.specs.Driven.{IsDrivenTurn}
+use Rattle.np_useful.specs.Driven.{IsDrivenTurn, as_planned}
 use Rattle.np_useful.specs.Examples.{after_first, moved_window, window_site}
 use Rattle.np_worked.specs.Site.{session, job, line}
 use Rattle.np_useful.proofs.law.whole.a_withdrawn_job_was_not_driven.Goals as goal
@@ -28,7 +28,7 @@ useless (Janitor p) useful = let row = useful.row in absurd cc
 useless (Requester q) useful = let row = useful.row in absurd cc
 useless Reaper useful = let row = useful.row in absurd cc
 
-none : (past : List Turn) → IsDrivenTurn (window_site 1) past turn → ⊥
+none : (past : List Turn) → IsDrivenTurn (as_planned (window_site 1)) (window_site 1) past turn → ⊥
 none past (inl of_use) = useless of_use.role of_use.useful
 none past (inr (inl tick)) = let event = tick.event in absurd cc
 none past (inr (inr (inl sweep))) = let event = sweep.event in absurd cc

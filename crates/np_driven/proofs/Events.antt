@@ -1,0 +1,75 @@
+-- what the events of launches tell
+use Rattle.std.proofs.Common.{◌≡◌, ⊎_elim, ℕ, true, Some, refl, sym, ap, arith}
+use Rattle.std.specs.Prelude.{◌==◌, ◌&&◌}
+use Rattle.std.proofs.lemmas.Bool.{and_parts}
+use Rattle.std.proofs.lemmas.Bool.Decides.{nat_tests}
+use Rattle.np_text.specs.declared.id.SessionId.{SessionId}
+use Rattle.np_text.specs.declared.id.PoolId.{PoolId}
+use Rattle.np_text.specs.declared.id.NodeId.{NodeId}
+use Rattle.np_text.specs.declared.id.Role.{Role}
+use Rattle.np_text.specs.declared.id.Role.TheVariants as role
+use Rattle.np_event.specs.declared.event.Event.{Event}
+use Rattle.np_event.specs.declared.event.Event.TheVariants as ev
+use Rattle.np_event.specs.declared.event.Outcome.{Outcome}
+use Rattle.np_event.specs.declared.reply.Reply.{Reply}
+use Rattle.np_event.specs.declared.reply.Reply.TheVariants as reply
+use Rattle.np_event.specs.declared.reply.Done.TheVariants as done
+use Rattle.np_machine.specs.Tables.{is_session}
+use Rattle.np_machine.specs.LiveHolder.{is_node}
+use Rattle.np_useful.specs.Driven.{is_tick, is_report_of}
+use Rattle.np_board.specs.declared.ask.Ask.TheVariants as ask
+use Rattle.np_trace.specs.declared.start.Start.{Start}
+use Rattle.np_trace.specs.Phase.{Work, of_pool, of_requester, of_reaper, start_in}
+use Rattle.np_trace.specs.Trace.{IsAskOf}
+
+-- the event and the reply of an accepted start
+pub record StartParts (pool : PoolId) (e : Event) (r : Reply) (s : Start) : Type 0 where
+  pub event : e ≡ ev.Start s.session s.tag.node
+  pub reply : r ≡ reply.Done (done.Started s.tag.attempt s.tag.start)
+  pub same_pool : s.tag.pool ≡ pool
+
+pub start-parts : (pool : PoolId) (e : Event) (r : Reply) (s : Start) → start_in pool e r ≡ Some s → StartParts pool e r s
+start-parts pool (ev.Start session n) (reply.Done (done.Started k m)) s is =
+    let same : ◌≡◌ {A = Start} (record { session = session; tag = record { pool = pool; node = n; attempt = k; start = m } }) s = cc in
+    record {
+      event = ap (λ (x : Start). ev.Start x.session x.tag.node) same;
+      reply = ap (λ (x : Start). reply.Done (done.Started x.tag.attempt x.tag.start)) same;
+      same_pool = ap (λ (x : Start). x.tag.pool) (sym same);
+    }
+start-parts pool _ _ s is = absurd cc
+
+equal-numbers : (a b : ℕ) → (a == b) ≡ true → a ≡ b
+equal-numbers a b is = grind (arith, nat_tests)
+
+equal-sessions : (a b : SessionId) → is_session a b ≡ true → a ≡ b
+equal-sessions a b is = ap (λ (n : ℕ). record { 0 = n }) (equal-numbers a.0 b.0 is)
+
+equal-nodes : (n m : NodeId) → is_node n m ≡ true → m ≡ n
+equal-nodes n m is = ap (λ (k : ℕ). record { 0 = k }) (equal-numbers m.0 n.0 is)
+
+-- a report of the attempt is one, with some outcome
+pub report-event : (session : SessionId) (n : NodeId) (attempt : ℕ) (e : Event) → is_report_of session n attempt e ≡ true → (o : Outcome) × (e ≡ ev.Done session n attempt o)
+report-event session n attempt (ev.Done by m k o) is =
+    let parts = and_parts (is_session by session && is_node n m) (k == attempt) is in
+    let both = and_parts (is_session by session) (is_node n m) parts.0 in
+    let one : by ≡ session = equal-sessions by session both.0 in
+    let two : m ≡ n = equal-nodes n m both.1 in
+    let three : k ≡ attempt = equal-numbers k attempt parts.1 in
+    (o, cc)
+report-event session n attempt _ is = absurd cc
+
+pub tick-event : (e : Event) → is_tick e ≡ true → e ≡ ev.Tick
+tick-event ev.Tick is = refl
+tick-event _ is = absurd cc
+
+-- who acts for a launcher is its pool's worker
+pub act-work : (work : Work) (r : Role) (pool : PoolId) → IsAskOf work (ask.Act r) → r ≡ role.Launcher pool → work ≡ of_pool pool
+act-work (of_pool other) r pool own is = ⊎_elim
+    (λ (h : r ≡ role.Launcher other). let same : other ≡ pool = cc in ap of_pool same)
+    (λ (h : r ≡ role.Janitor other). absurd cc) own
+act-work (of_requester q) r pool own is =
+    let other : r ≡ role.Requester q = cc in
+    absurd cc
+act-work of_reaper r pool own is =
+    let other : r ≡ role.Reaper = cc in
+    absurd cc

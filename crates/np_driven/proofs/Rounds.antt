@@ -1,0 +1,154 @@
+-- a round of all players leaves a driven journal
+use Rattle.std.proofs.Common.{◌≡◌, inl, inr, ⊎_elim, ℕ, ◌<◌, ◌≤◌, List, ◌∷◌, ◌++◌, length, map, Bool, false, Contains, refl, sym, subst, arith, ◌∙◌}
+use Rattle.std.proofs.lemmas.Bool.{cases_lt, false_from_ne_true}
+use Rattle.std.proofs.lemmas.List.Elements.{Contains-append_right}
+use Rattle.np_text.specs.declared.id.PoolId.{PoolId}
+use Rattle.np_site.specs.Configuration.{Configuration}
+use Rattle.np_event.specs.declared.entry.Entry.{Entry}
+use Rattle.np_event.specs.declared.event.Event.{Event}
+use Rattle.np_event.specs.declared.event.Event.TheVariants as ev
+use Rattle.np_event.specs.declared.event.Outcome.{Outcome}
+use Rattle.np_desk.specs.History.{AreRising}
+use Rattle.np_machine.specs.History.{Runs, after}
+use Rattle.np_machine.specs.State.{start as start_state}
+use Rattle.np_machine.specs.Turns.{turns, EachTurn, SomeTurn}
+use Rattle.np_useful.specs.Driven.{DrivenBy, IsDrivenTurn, IsSweepOfServer, IsReportOfLaunch, BeginsLaunch, is_tick, is_report_of}
+use Rattle.np_useful.specs.Useful.{IsUseful}
+use Rattle.np_trace.specs.Move.{launches_of}
+use Rattle.np_trace.specs.Phase.{of_pool}
+use Rattle.np_driven.specs.Players.{Player, HaveDriven, drivings_of, AreNumbered, WasAnswered, launch_of}
+use Rattle.np_driven.specs.Round.{PlayerEnd, IsRound}
+use Rattle.np_driven.proofs.Made.{IsActed, IsSwept, IsReported, Follows}
+use Rattle.np_driven.proofs.Splits.{split-outer, length-split, none-between}
+use Rattle.np_driven.proofs.Places.{turn_after, some-from, each-from, driven-at, driven-from, turn-more}
+use Rattle.np_board.proofs.SweepLemmas.{sweep-removes}
+use Rattle.np_driven.proofs.Played.{places_rise, places_new}
+use Rattle.np_driven.proofs.Roles.{useful-tickless}
+use Rattle.np_driven.proofs.Ends.{player_of, player-there, numbered-now, one-end}
+use Rattle.np_driven.proofs.Answers.{answer-kept, answer-new}
+use Rattle.np_driven.proofs.Events.{start-parts, report-event, tick-event}
+use Rattle.np_driven.proofs.New.{NewEntry, new-entry, now-numbered, old-entry}
+use Rattle.np_driven.proofs.First.{BeginsAt, begins, driven-after, made-after}
+
+-- the first of two that follow one another is among them
+follows-there : (mine : List ℕ) (i x : ℕ) → Follows mine i x → Contains mine i
+follows-there mine i x f = subst (λ (places : List ℕ). Contains places i) (sym f.splits) (Contains-append_right f.earlier (i ∷ x ∷ f.later) i (0, omega arith, refl))
+
+none-within : (mine : List ℕ) (i x y end : ℕ) → AreRising 0 mine end → Follows mine i x → Contains mine y → i < y → y < x → ⊥
+none-within mine i x y end rises f there above below =
+    none-between 0 f.earlier i x f.later end y (subst (λ (places : List ℕ). AreRising 0 places end) f.splits rises) (subst (λ (places : List ℕ). Contains places y) f.splits there) above below
+
+pub numbered-after : (c : Configuration) (history later : List Entry) (players now : List Player) (is_cut : Bool) → IsRound c history later players now is_cut → AreNumbered 0 players → AreNumbered 0 now
+numbered-after c history later players now is_cut round are = subst (λ (ps : List Player). AreNumbered 0 ps) round.players_now (numbered-now c history 0 players round.ends round.plays are)
+
+module _ (c : Configuration) (history later : List Entry) (players now : List Player) (is_cut : Bool) (round : IsRound c history later players now is_cut) (runs : Runs c later (after c later)) (have : HaveDriven c history players) where
+  abbrev players-now : List Player
+  players-now = map player_of round.ends
+
+  module _ (before : List Entry) (e : Entry) (rest : List Entry) (is : later ≡ before ++ e ∷ rest) (new : NewEntry c history round.ends before e) (r : IsReported c before e new.player.work new.end.sight.mine (launches_of new.plays.trace)) where
+    start : BeginsAt c later r.start.session r.start.tag.node r.start.tag.attempt r.pool r.earlier r.begin
+    start = begins c later runs r.start.session r.start.tag.node r.start.tag.attempt before e rest is new.player.work new.end.sight.mine (launches_of new.plays.trace) r refl refl refl
+
+    start-new : length history ≤ length r.earlier
+    start-new = places_new c history new.player new.end new.plays (length r.earlier) (follows-there new.end.sight.mine (length r.earlier) (length before) r.next)
+
+    -- the worker of the pool made no entry between the start and the report
+    not-between : (b : List Entry) (u : Entry) (other : NewEntry c history round.ends b u) → other.player.work ≡ of_pool r.pool → length r.earlier < length b → length b < length before → ⊥
+    not-between b u other work above below =
+        let same : other.end ≡ new.end = one-end 0 round.ends (now-numbered c history later players now is_cut round have) other.end new.end other.there new.there r.pool (other.plays.work ∙ work) (new.plays.work ∙ r.own) in
+        none-within new.end.sight.mine (length r.earlier) (length before) (length b) (length new.end.sight.seen)
+        (places_rise c history new.player new.end new.plays) r.next
+        (subst (λ (x : PlayerEnd). Contains x.sight.mine (length b)) same other.mine) above below
+
+    no-report : (b : List Entry) (u : Entry) (more : List Entry) → before ≡ b ++ u ∷ more → (o : Outcome) → u.event ≡ ev.Done r.start.session r.start.tag.node r.start.tag.attempt o → ⊥
+    no-report b u more inner o event =
+        let outer : later ≡ b ++ u ∷ (more ++ e ∷ rest) = split-outer before b more rest e u later is inner in
+        let below = length-split b more u before inner in
+        ⊎_elim
+        (λ (old : length b < length history).
+        let z = old-entry c history later players now is_cut round have b u (more ++ e ∷ rest) outer old in
+        let driven = driven-at c (WasAnswered (drivings_of players)) history b u z.0 have.driven z.1 in
+        let less = driven-after c later runs r.start.session r.start.tag.node r.start.tag.attempt r.pool r.earlier r.begin start b u (more ++ e ∷ rest) outer o event (WasAnswered (drivings_of players)) driven in
+        omega (arith, start-new, less, old))
+        (λ (young : length history ≤ length b).
+        let other = new-entry c history later players now is_cut round have b u (more ++ e ∷ rest) outer young in
+        let made = made-after c later runs r.start.session r.start.tag.node r.start.tag.attempt r.pool r.earlier r.begin start b u (more ++ e ∷ rest) outer o event other.player.work other.end.sight.mine (launches_of other.plays.trace) other.cause in
+        not-between b u other made.0 made.1 below)
+        (cases_lt (length b) (length history))
+
+    first-report : EachTurn (λ u. is_report_of r.start.session r.start.tag.node r.start.tag.attempt u.entry.event ≡ false) (turns c before)
+    first-report = each-from c (λ u. is_report_of r.start.session r.start.tag.node r.start.tag.attempt u.entry.event ≡ false) (start_state c) before
+        (λ b u more inner. false_from_ne_true (is_report_of r.start.session r.start.tag.node r.start.tag.attempt u.event)
+        (λ yes. let h = report-event r.start.session r.start.tag.node r.start.tag.attempt u.event yes in no-report b u more inner h.0 h.1))
+
+    begun-launch : SomeTurn (BeginsLaunch r.start.session r.start.tag.node r.start.tag.attempt r.start.tag.start r.pool) (turns c before)
+    begun-launch =
+        subst (λ (j : List Entry). SomeTurn (BeginsLaunch r.start.session r.start.tag.node r.start.tag.attempt r.start.tag.start r.pool) (turns c j)) (sym r.stood)
+        (some-from c (BeginsLaunch r.start.session r.start.tag.node r.start.tag.attempt r.start.tag.start r.pool) (start_state c) r.earlier r.begin r.rest
+        (record { event = start.event; started = (start-parts r.pool r.begin.event r.begin.reply r.start r.begun).reply; node = start.node; stood = start.stood; of_pool = start.same_pool }))
+
+    was-answered : WasAnswered (drivings_of players-now) r.pool r.start.tag.node r.start.tag.attempt r.start.tag.start r.outcome
+    was-answered =
+        let pool = (start-parts r.pool r.begin.event r.begin.reply r.start r.begun).same_pool in
+        answer-new c history players-now (now-numbered c history later players now is_cut round have) new.player new.end new.plays (player-there round.ends new.end new.there)
+        r.pool (new.plays.work ∙ r.own) r.start.tag.node r.start.tag.attempt r.start.tag.start r.outcome
+        (subst (λ (p : PoolId). Contains (launches_of new.plays.trace) (launch_of p r.start.tag.node r.start.tag.attempt r.start.tag.start r.outcome)) pool r.launched)
+
+    reported-driven : IsReportOfLaunch (WasAnswered (drivings_of players-now)) (turns c before) (turn_after c before e)
+    reported-driven = record {
+      session = r.start.session;
+      number = r.start.tag.node;
+      attempt = r.start.tag.attempt;
+      outcome = r.outcome;
+      event = r.event;
+      start = r.start.tag.start;
+      pool = r.pool;
+      begun = begun-launch;
+      first = first-report;
+      answered = was-answered;
+    }
+
+  swept-driven : (before : List Entry) (e : Entry) → IsSwept c before e → IsSweepOfServer (turns c before) (turn_after c before e)
+  swept-driven before e s = record {
+    session = s.answer.2.session;
+    pool = s.pool;
+    number = s.server.tag.node;
+    server = s.server.number;
+    event = s.answer.2.event;
+    removed = sweep-removes c before s.pool s.server.tag.node s.server.number e s.answer;
+    current = s.answer.2.current;
+    named = s.named;
+    unswept = s.answer.1;
+  }
+
+  new-driven : (before : List Entry) (e : Entry) (rest : List Entry) → later ≡ before ++ e ∷ rest → length history ≤ length before → IsDrivenTurn (WasAnswered (drivings_of players-now)) c (turns c before) (turn_after c before e)
+  new-driven before e rest is young =
+      let new = new-entry c history later players now is_cut round have before e rest is young in
+      ⊎_elim (λ (a : IsActed c before e new.player.work). inl (record { role = a.role; useful = a.answer.0 }))
+      (λ g. inr (inr (⊎_elim (λ (s : IsSwept c before e). inl (swept-driven before e s)) (λ r. inr (reported-driven before e rest is new r)) g)))
+      new.cause
+
+  old-driven : (before : List Entry) (e : Entry) (rest : List Entry) → later ≡ before ++ e ∷ rest → length before < length history → IsDrivenTurn (WasAnswered (drivings_of players-now)) c (turns c before) (turn_after c before e)
+  old-driven before e rest is old =
+      let z = old-entry c history later players now is_cut round have before e rest is old in
+      turn-more c (WasAnswered (drivings_of players)) (WasAnswered (drivings_of players-now)) (answer-kept c history players round.ends round.plays) (turns c before) (turn_after c before e)
+      (driven-at c (WasAnswered (drivings_of players)) history before e z.0 have.driven z.1)
+
+  -- the journal stays driven, by the players as they are now
+  pub round-driven : DrivenBy (WasAnswered (drivings_of now)) c later
+  round-driven = subst (λ (ps : List Player). DrivenBy (WasAnswered (drivings_of ps)) c later) round.players_now
+      (driven-from c (WasAnswered (drivings_of players-now)) later
+      (λ before e rest is. ⊎_elim (old-driven before e rest is) (new-driven before e rest is) (cases_lt (length before) (length history))))
+
+  pub round-numbered : AreNumbered 0 now
+  round-numbered = numbered-after c history later players now is_cut round have.numbered
+
+  -- no tick is among its entries
+  pub round-no-tick : (before : List Entry) (e : Entry) (rest : List Entry) → later ≡ before ++ e ∷ rest → length history ≤ length before → is_tick e.event ≡ false
+  round-no-tick before e rest is young =
+      let new = new-entry c history later players now is_cut round have before e rest is young in
+      false_from_ne_true (is_tick e.event) (λ yes.
+      let tick = tick-event e.event yes in
+      ⊎_elim (λ (a : IsActed c before e new.player.work). useful-tickless c (after c before) a.role (subst (λ (x : Event). IsUseful c (after c before) a.role x) tick a.answer.0))
+      (λ g. ⊎_elim (λ (s : IsSwept c before e). absurd (cc (s.answer.2.event, tick))) (λ r. absurd (cc (r.event, tick))) g)
+      new.cause)

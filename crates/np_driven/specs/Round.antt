@@ -1,0 +1,59 @@
+-- a round of all players, as each of them took its turns at one history
+use Rattle.std.specs.Prelude.{◌≡◌, ℕ, ◌<◌, ◌≤◌, length, map, List, [], ◌∷◌, All, Contains, Bool, false}
+use Rattle.np_site.specs.Configuration.{Configuration}
+use Rattle.np_event.specs.declared.entry.Entry.{Entry}
+use Rattle.np_desk.specs.History.{StartsWith}
+use Rattle.np_desk.specs.Pass.{Sight}
+use Rattle.np_board.specs.Answers.{answers}
+use Rattle.np_trace.specs.Drive.{Drove}
+use Rattle.np_trace.specs.Move.{Move}
+use Rattle.np_trace.specs.Phase.{Phase, Leads, first_phase, owes_report, ended}
+use Rattle.np_trace.specs.Walk.{Walk}
+use Rattle.np_driven.specs.Players.{Player}
+
+-- a player after its round: what it saw and made of the history, and where its moves came to (own)
+pub record PlayerEnd : Type 0 where
+  pub player : Player
+  pub sight : Sight Entry
+  pub phase : Phase
+
+-- nothing of one's own was made of this history yet (own)
+abbrev pub fresh_sight : List Entry → Sight Entry
+fresh_sight history = record { seen = history; mine = [] }
+
+-- the player took the turns of its round, after this history, and had what it had of its driver (own)
+pub record PlaysFrom (c : Configuration) (history : List Entry) (player : Player) (end : PlayerEnd) : Type 0 where
+  pub trace : List Move
+  pub walked : Walk answers c trace (fresh_sight history) end.sight
+  pub drove : Drove trace player.driving end.player.driving
+  pub led : Leads (first_phase player.work) trace end.phase
+  pub work : end.player.work ≡ player.work
+
+-- so did each of them (own)
+abbrev pub EachPlaysFrom : Configuration → List Entry → List Player → List PlayerEnd → Type 0
+EachPlaysFrom c history [] [] = Unit {0}
+EachPlaysFrom c history (player ∷ players) (end ∷ ends) = PlaysFrom c history player end × EachPlaysFrom c history players ends
+EachPlaysFrom c history [] (end ∷ ends) = ⊥
+EachPlaysFrom c history (player ∷ players) [] = ⊥
+
+-- some player made the entry at the place (own)
+pub record IsMade (ends : List PlayerEnd) (x : ℕ) : Type 0 where
+  pub end : PlayerEnd
+  pub there : Contains ends end
+  pub made : Contains end.sight.mine x
+
+-- the round was cut off: the report of a launch is still to come, or a turn was answered that the journal has no room (own)
+abbrev pub IsCutOff : Phase → Type 0
+IsCutOff (owes_report pool n s o) = Unit {0}
+IsCutOff ended = Unit {0}
+IsCutOff _ = ⊥
+
+-- the players played a round, and the history went on by their entries alone. If the round of all was not cut off, none of theirs was (own)
+pub record IsRound (c : Configuration) (history later : List Entry) (players now : List Player) (is_cut : Bool) : Type 0 where
+  pub ends : List PlayerEnd
+  pub plays : EachPlaysFrom c history players ends
+  pub players_now : map (λ (end : PlayerEnd). end.player) ends ≡ now
+  pub goes_on : StartsWith later history
+  pub seen : All (λ (end : PlayerEnd). StartsWith later end.sight.seen) ends
+  pub made : (x : ℕ) → length history ≤ x → x < length later → IsMade ends x
+  pub uncut : is_cut ≡ false → All (λ (end : PlayerEnd). IsCutOff end.phase → ⊥) ends

@@ -1,0 +1,40 @@
+//! The servers of a pool's driver.
+
+ghost use Rattle.std.specs.Prelude.{◌≡◌, ◌⊎◌, List, All, Contains};
+ghost use Rattle.np_text.specs.declared.id.PoolId.{PoolId};
+ghost use Rattle.np_site.specs.Configuration.{Configuration};
+ghost use Rattle.np_event.specs.declared.entry.Entry.{Entry};
+ghost use Rattle.np_cloud.specs.declared.driver.Server.{Server};
+ghost use Rattle.np_trace.specs.Move.{Move};
+ghost use Rattle.np_trace.specs.Phase.{ended, of_pool};
+ghost use Rattle.np_trace.specs.Trace.{WasKept};
+ghost use Rattle.np_driven.specs.Players.{Player};
+ghost use Rattle.np_driven.specs.Round.{PlayerEnd, PlaysFrom};
+ghost use Rattle.np_driven.specs.Servers.{HasServers, IsOfRound, IsOnlyOfItsNumber, IsSweptAfter, LeftWithCause, StaysKept, WasDue};
+
+/// A server that a pool's driver had before the round or launched in it, and that it has no more,
+/// left with a cause. Either a node of the pool was due with a server of its number at some time of
+/// the round, or a server of its number that the driver had in the round was swept, and is swept
+/// after all that was seen. Where no other server of the round has its number, it is itself swept.
+pub fn servers_leave_with_a_cause()
+    ensures cause { (c : Configuration) (history : List Entry) (player : Player) (end : PlayerEnd)
+        (pool : PoolId) (before now : List Server) (plays : PlaysFrom c history player end) →
+        player.work ≡ of_pool pool → HasServers player before → HasServers end.player now →
+        (server : Server) → IsOfRound plays.trace before server → ¬ (Contains now server) →
+        LeftWithCause c history end.sight.seen pool plays.trace before server }
+    ensures own_pair { (c : Configuration) (history seen : List Entry) (pool : PoolId)
+        (trace : List Move) (servers : List Server) (server : Server) →
+        LeftWithCause c history seen pool trace servers server →
+        IsOnlyOfItsNumber trace servers server →
+        WasDue c history seen pool server.number ⊎ IsSweptAfter c seen server }
+{}
+
+/// Servers that a round asked about and kept stay where they are kept: unless the journal was full,
+/// there is for each of them a time of the round at which the board keeps it, and from then on the
+/// round made no entries but sweeps.
+pub fn servers_stay_where_they_are_kept()
+    ensures { (c : Configuration) (history : List Entry) (player : Player) (end : PlayerEnd)
+        (pool : PoolId) (servers : List Server) (plays : PlaysFrom c history player end) →
+        ¬ (end.phase ≡ ended) → All (WasKept pool plays.trace) servers →
+        All (StaysKept c history end.sight pool) servers }
+{}
