@@ -129,7 +129,7 @@ module _ (c : Configuration) where
   full_turn v w a h = subst IsFull (sym h.3.0) (full_answer h.0 a h.2)
 
   -- what is seen of the history only grows
-  grows_turn : (v w : Sight Entry) (a : Ask) (t : Turn) → Answered answers recorded c v a t w → StartsWith w.seen v.seen
+  pub grows_turn : (v w : Sight Entry) (a : Ask) (t : Turn) → Answered answers recorded c v a t w → StartsWith w.seen v.seen
   grows_turn v w a (turn.Did e) h = subst (λ (l : List Entry). StartsWith l v.seen) (sym h.3.0) (starts_more h.0 v.seen (e ∷ []) h.1)
   grows_turn v w a (turn.DueNode n x) h = subst (λ (l : List Entry). StartsWith l v.seen) (sym h.3.0) h.1
   grows_turn v w a turn.Swept h = subst (λ (l : List Entry). StartsWith l v.seen) (sym h.3.0) h.1

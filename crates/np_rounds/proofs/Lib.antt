@@ -1,4 +1,10 @@
 mod Lists
+mod Players
+mod Joined
 mod Fulls
 mod Starts
 mod Backs
+mod Taken
+mod OneRound
+mod Ticks
+mod Driven

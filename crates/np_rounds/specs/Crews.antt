@@ -3,11 +3,13 @@ use Rattle.std.specs.Prelude.{◌≡◌, ℕ, zero, suc, List, [], ◌∷◌, �
 use Rattle.np_event.specs.declared.entry.Entry.{Entry}
 use Rattle.np_event.specs.declared.event.Outcome.{Outcome}
 use Rattle.np_cloud.specs.declared.driver.Tag.{Tag}
+use Rattle.np_cloud.specs.Facts.{DriverFacts}
 use Rattle.np_site.specs.Configuration.{Configuration}
 use Rattle.np_desk.specs.Part.{second_half}
 use Rattle.np_desk.specs.Pass.{PassView}
+use Rattle.np_driven.specs.Players.{Player}
 use Rattle.np_worker.specs.declared.worker.Worker.{Worker}
-use Rattle.np_worker.specs.declared.worker.Worker.TheVariants as worker
+use Rattle.np_worker.specs.Round.{work_of, driving_of}
 use Rattle.np_rounds.specs.declared.crew.Crew.{Crew}
 
 -- ## passes
@@ -30,24 +32,23 @@ abbrev pub AreGiven : {D : Type 0} → PassView Configuration Entry → ℕ → 
 AreGiven p n [] = Unit {0}
 AreGiven p n (crew ∷ crews) = (crew.pass ≡ given_pass n p) × AreGiven p (suc n) crews
 
--- ## drivers
+-- ## players
 
--- what the drivers plan: one plan for each (own)
+-- what a driver plans (own)
 abbrev pub Plan : Type 0
 Plan = Tag → Option Outcome
 
--- the plan of a pool's worker (own)
-abbrev pub plan_of : {D : Type 0} → (D → Plan) → Worker D → List Plan
-plan_of plan (worker.Pool pool driver) = plan driver ∷ []
-plan_of plan (worker.Requester q) = []
-plan_of plan worker.Reaper = []
+module _ {D : Type 0} (facts : D → DriverFacts) (plan : D → Plan) where
+  -- whose the worker is, and what it drives (own)
+  abbrev pub player_of : Worker D → Player
+  player_of worker = record { work = work_of worker; driving = driving_of facts plan worker }
 
--- the plans of the workers, the last worker first (own)
-abbrev pub plans_of : {D : Type 0} → (D → Plan) → List (Worker D) → List Plan
-plans_of plan [] = []
-plans_of plan (worker ∷ workers) = plans_of plan workers ++ plan_of plan worker
+  -- the workers as players, the last worker first (own)
+  abbrev pub players_of : List (Worker D) → List Player
+  players_of [] = []
+  players_of (worker ∷ workers) = players_of workers ++ player_of worker ∷ []
 
--- the plans of the crews' workers, the first crew first (own)
-abbrev pub crew_plans : {D : Type 0} → (D → Plan) → List (Crew D) → List Plan
-crew_plans plan [] = []
-crew_plans plan (crew ∷ crews) = plan_of plan crew.worker ++ crew_plans plan crews
+  -- the crews' workers as players, the first crew first (own)
+  abbrev pub crew_players : List (Crew D) → List Player
+  crew_players [] = []
+  crew_players (crew ∷ crews) = player_of crew.worker ∷ crew_players crews

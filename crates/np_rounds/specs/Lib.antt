@@ -1,3 +1,4 @@
 pub mod Crews
 pub mod Plays
+pub mod Backs
 pub mod Played

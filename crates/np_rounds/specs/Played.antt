@@ -1,13 +1,18 @@
 -- what rounds of all workers leave
-use Rattle.std.specs.Prelude.{◌≡◌, ◌⊎◌, ◌||◌, nat_lt, List, [], ◌∷◌, ◌++◌, Bool, true, false, Result, Ok, Err}
+use Rattle.std.specs.Prelude.{◌≡◌, ◌⊎◌, ◌||◌, nat_lt, List, [], ◌∷◌, ◌++◌, map, Bool, true, false, Result, Ok, Err}
 use Rattle.np_text.specs.declared.memory.NoMemory.{NoMemory}
 use Rattle.np_event.specs.declared.entry.Entry.{Entry}
 use Rattle.np_event.specs.declared.event.Event.TheVariants as ev
+use Rattle.np_site.specs.Configuration.{Configuration}
+use Rattle.np_trace.specs.Drive.{Driving}
+use Rattle.np_useful.specs.Driven.{DrivenBy}
+use Rattle.np_driven.specs.Players.{Player, drivings_of, AreNumbered, WasAnswered, HaveDriven}
 use Rattle.np_worker.specs.declared.worker.RoundEnd.{RoundEnd}
 use Rattle.np_board.specs.declared.ask.Turn.{Turn}
 use Rattle.np_board.specs.declared.ask.Turn.TheVariants as turn
 use Rattle.np_board.specs.Answers.{IsFull}
 use Rattle.np_rounds.specs.declared.round.Together.{Together}
+use Rattle.np_rounds.specs.Crews.{Plan}
 
 -- with what one more worker's round came to; want of memory of one is that of all (own)
 abbrev pub with_end : Together → Result RoundEnd NoMemory → Result Together NoMemory
@@ -34,3 +39,24 @@ IsRested journal = (journal ≡ []) ⊎ EndsWithTick journal
 abbrev pub Stops : Bool → List Entry → Type 0
 Stops true journal = IsFull journal
 Stops false journal = IsRested journal
+
+-- a tick was added, or the journal had no room for it (own)
+abbrev pub Ticks : Bool → List Entry → List Entry → Type 0
+Ticks true old new = new ≡ old
+Ticks false old new = (e : Entry) × (e.event ≡ ev.Tick) × (new ≡ old ++ e ∷ [])
+
+-- ## players
+
+-- what the players' drivers plan, in order (own)
+abbrev pub plans_in : List Player → List Plan
+plans_in players = map (λ (driving : Driving). driving.plan) (drivings_of players)
+
+-- the players drove the journal; nothing is known of the servers that they have (own)
+pub record WereDriven (c : Configuration) (journal : List Entry) (players : List Player) : Type 0 where
+  pub driven : DrivenBy (WasAnswered (drivings_of players)) c journal
+  pub numbered : AreNumbered 0 players
+
+-- the players drove the journal, and each server that they have was named in it where it has room (own)
+abbrev pub IsDriven : Configuration → Bool → List Entry → List Player → Type 0
+IsDriven c true journal players = WereDriven c journal players
+IsDriven c false journal players = HaveDriven c journal players

@@ -2,7 +2,9 @@
 
 ghost use Rattle.std.specs.Prelude.{◌≡◌, length, map, IfOk};
 ghost use Rattle.np_desk.specs.Pass.{IsOf};
-ghost use Rattle.np_rounds.specs.Crews.{plans_of};
+ghost use Rattle.np_trace.specs.Drive.{driving};
+ghost use Rattle.np_driven.specs.Players.{drivings_of, AreNumbered};
+ghost use Rattle.np_rounds.specs.Crews.{players_of};
 ghost use Rattle.np_rounds.specs.Plays.{Plays};
 
 use np_board::Board;
@@ -56,7 +58,9 @@ pub(crate) fn workers_of<D: Driver + Drop>(
     mut drivers: Vec<D>,
 ) -> Result<Vec<Worker<D>>, NoMemory>
     requires drivers { length drivers.items ≡ length config.now.pools }
-    ensures { IfOk result (λ v. plans_of D.plan v.items ≡ map D.plan drivers.items) }
+    ensures numbered { IfOk result (λ v. AreNumbered 0 (players_of D.facts D.plan v.items)) }
+    ensures drivings { IfOk result (λ v. drivings_of (players_of D.facts D.plan v.items)
+        ≡ map (driving D.facts D.plan) drivers.items) }
 {
     config.soundness();
     let mut workers = Vec::new(alloc);
@@ -79,7 +83,8 @@ pub(crate) fn drivers_of<D: Driver + Drop>(
     alloc: Global,
     mut workers: Vec<Worker<D>>,
 ) -> Result<Vec<D>, NoMemory>
-    ensures { IfOk result (λ v. map D.plan v.items ≡ plans_of D.plan workers.items) }
+    ensures { IfOk result (λ v. map (driving D.facts D.plan) v.items
+        ≡ drivings_of (players_of D.facts D.plan workers.items)) }
 {
     let mut drivers = Vec::new(alloc);
     while let Some(worker) = workers.pop() {

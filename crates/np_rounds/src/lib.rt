@@ -6,8 +6,10 @@
 //! board is settled, or where the journal has no room.
 //!
 //! The one pass of a desk is split, a part for each worker, and joined again in the reverse order:
-//! so it is whole after each round, and knows every entry. Read `specs/Crews` for who has which
-//! pass, `specs/Plays` for what a worker's round is, `specs/Played` for what rounds leave.
+//! so it is whole after each round, and knows every entry. A round of all crews is then a round of
+//! np_driven's players, and the journal is one that the workers and their drivers drove. Read
+//! `specs/Crews` for who has which pass, `specs/Plays` for what a worker's round is, `specs/Backs`
+//! for crews that come back, and `specs/Played` for what rounds leave.
 #![tactic(auto)]
 
 mod crew;

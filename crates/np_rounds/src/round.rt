@@ -1,12 +1,14 @@
 //! One round of all workers.
 
-ghost use Rattle.std.specs.Prelude.{◌≡◌, ◌++◌, All, IfOk, [], ◌∷◌, length, true, false, nat_lt};
-ghost use Rattle.np_desk.specs.History.{StartsWith};
+ghost use Rattle.std.specs.Prelude.{◌≡◌, ◌<◌, ◌++◌, All, IfOk, [], ◌∷◌, length, true, false, nat_lt};
 ghost use Rattle.np_desk.specs.Part.{IsWhole};
 ghost use Rattle.np_desk.specs.Pass.{IsOf};
 ghost use Rattle.np_board.specs.Answers.{IsFull};
-ghost use Rattle.np_rounds.specs.Crews.{zeros, split_pass, AreGiven, plans_of, crew_plans};
-ghost use Rattle.np_rounds.specs.Plays.{Plays, Pairwise, AreBack, end_plans};
+ghost use Rattle.np_board.specs.Legal.{is_legal};
+ghost use Rattle.np_driven.specs.Round.{IsRound};
+ghost use Rattle.np_rounds.specs.Crews.{zeros, split_pass, AreGiven, players_of, crew_players};
+ghost use Rattle.np_rounds.specs.Plays.{Plays, Pairwise};
+ghost use Rattle.np_rounds.specs.Backs.{AreBack, TookBack};
 ghost use Rattle.np_rounds.specs.Played.{with_end};
 
 use crate::crew::{Crew, CrewEnd, play};
@@ -39,8 +41,9 @@ fn hand_out<D: Driver + Drop>(
     requires whole { IsWhole pass.old.part }
     ensures pass { IfOk result (λ v. pass.new ≡ split_pass (length v.items) pass.old) }
     ensures given { IfOk result (λ v. AreGiven pass.old 0 v.items) }
-    ensures plans { IfOk result (λ v. crew_plans D.plan v.items ++ plans_of D.plan workers.new.items
-        ≡ plans_of D.plan workers.old.items) }
+    ensures players { IfOk result (λ v. crew_players D.facts D.plan v.items
+        ++ players_of D.facts D.plan workers.new.items
+        ≡ players_of D.facts D.plan workers.old.items) }
     ensures all { IfOk result (λ _. workers.new.items ≡ []) }
 {
     let mut crews = Vec::new(alloc);
@@ -98,11 +101,8 @@ fn take_back<D: Driver + Drop>(
     requires back { AreBack desk.now 0 ends.items }
     ensures own { IsOf pass.new desk.now }
     ensures whole { IfOk result (λ _. IsWhole pass.new.part) }
-    ensures seen { StartsWith pass.new.seen pass.old.seen }
-    ensures full { IfOk result (λ t. t.full ≡ true → IsFull pass.new.seen) }
-    ensures still { IfOk result (λ t. t.moved ≡ false → pass.new.mine ≡ pass.old.mine) }
-    ensures plans { IfOk result (λ _. plans_of D.plan workers.new.items
-        ≡ end_plans D.plan ends.items ++ plans_of D.plan workers.old.items) }
+    ensures took { IfOk result (λ t. TookBack D.facts D.plan pass.old pass.new
+        workers.old.items workers.new.items t ends.items) }
 {
     let mut sum = Together {
         moved: false,
@@ -136,8 +136,12 @@ pub(crate) fn play_round<R: Threads + Wait + Sync, D: Driver + Send + Drop, G: G
     ensures whole { IfOk result (λ _. IsWhole pass.new.part) }
     ensures full { IfOk result (λ t. t.full ≡ true → IsFull pass.new.seen) }
     ensures still { IfOk result (λ t. t.moved ≡ false → pass.new.seen ≡ pass.old.seen) }
-    ensures plans { IfOk result (λ _. plans_of D.plan workers.new.items
-        ≡ plans_of D.plan workers.old.items) }
+    ensures moved { IfOk result (λ t. t.moved ≡ true →
+        length pass.old.seen < length pass.new.seen) }
+    ensures legal { IfOk result (λ _. is_legal desk.now.origin.fixed pass.new.seen ≡ true) }
+    ensures round { IfOk result (λ t. IsRound desk.now.origin.fixed pass.old.seen pass.new.seen
+        (players_of D.facts D.plan workers.old.items)
+        (players_of D.facts D.plan workers.new.items) t.full) }
 {
     pass.know();
     let crews = hand_out(alloc, desk, pass, workers)?;

@@ -1,11 +1,22 @@
 //! A site, played to its end.
 
-ghost use Rattle.std.specs.Prelude.{◌≡◌, length, map, IfOk, true, false};
+ghost use Rattle.std.specs.Prelude.{◌≡◌, [], length, map, All, IfOk, Some, true, false};
 ghost use Rattle.np_desk.specs.Part.{IsWhole};
 ghost use Rattle.np_desk.specs.Pass.{IsOf};
 ghost use Rattle.np_useful.specs.Settled.{IsSettled};
-ghost use Rattle.np_rounds.specs.Crews.{plans_of};
-ghost use Rattle.np_rounds.specs.Played.{EndsWithTick, IsRested, Stops, is_full};
+ghost use Rattle.np_trace.specs.Drive.{driving};
+ghost use Rattle.np_useful.specs.Driven.{DrivenBy};
+ghost use Rattle.np_driven.specs.Players.{WasAnswered, HaveDriven};
+ghost use Rattle.np_rounds.specs.Crews.{players_of};
+ghost use Rattle.np_rounds.specs.Played.{
+  EndsWithTick,
+  IsDriven,
+  IsRested,
+  Stops,
+  Ticks,
+  is_full,
+  plans_in,
+};
 
 use crate::crew::{drivers_of, workers_of};
 use crate::round::play_round;
@@ -41,10 +52,13 @@ fn is_full(turn: Turn) -> bool
 /// Lets time go on by one tick, and answers whether the journal has no room for that.
 fn tick<R: Wait>(rt: &R, desk: &Desk<Board>, pass: &mut Pass<Board>) -> Result<bool, NoMemory>
     requires own { IsOf pass.old desk.now }
+    requires whole { IsWhole pass.old.part }
     ensures own { IsOf pass.new desk.now }
     ensures part { pass.new.part ≡ pass.old.part }
     ensures stops { IfOk result (λ full. Stops full pass.new.seen) }
+    ensures ticks { IfOk result (λ full. Ticks full pass.old.seen pass.new.seen) }
 {
+    pass.know();
     let turn = pass.turn(rt, desk, Ask::Do(Event::Tick))?;
     Ok(is_full(turn))
 }
@@ -65,8 +79,11 @@ fn play_at<R: Threads + Wait + Sync, D: Driver + Send + Drop, G: Gate + Sync>(
     ensures own { IfOk result (λ _. IsOf pass.new desk.now) }
     ensures whole { IfOk result (λ _. IsWhole pass.new.part) }
     ensures stops { IfOk result (λ full. Stops full pass.new.seen) }
-    ensures plans { IfOk result (λ _. plans_of D.plan workers.new.items
-        ≡ plans_of D.plan workers.old.items) }
+    ensures plans { IfOk result (λ _. plans_in (players_of D.facts D.plan workers.new.items)
+        ≡ plans_in (players_of D.facts D.plan workers.old.items)) }
+    ensures driven { IfOk result (λ full. let c = desk.now.origin.fixed in
+        HaveDriven c pass.old.seen (players_of D.facts D.plan workers.old.items) →
+        IsDriven c full pass.new.seen (players_of D.facts D.plan workers.new.items)) }
 {
     for _ in rt.forever() {
         let together = play_round(rt, alloc, desk, pass, workers, gate)?;
@@ -94,8 +111,11 @@ fn play_board<R: Threads + Wait + Sync, D: Driver + Send + Drop, G: Gate + Sync>
     requires rested { IsRested board.journal }
     ensures configuration { IfOk result (λ r. r.0.configuration ≡ board.configuration) }
     ensures stops { IfOk result (λ r. Stops r.1 r.0.journal) }
-    ensures plans { IfOk result (λ _. plans_of D.plan workers.new.items
-        ≡ plans_of D.plan workers.old.items) }
+    ensures plans { IfOk result (λ _. plans_in (players_of D.facts D.plan workers.new.items)
+        ≡ plans_in (players_of D.facts D.plan workers.old.items)) }
+    ensures driven { IfOk result (λ r. let c = board.configuration in
+        HaveDriven c board.journal (players_of D.facts D.plan workers.old.items) →
+        IsDriven c r.1 r.0.journal (players_of D.facts D.plan workers.new.items)) }
 {
     board.soundness();
     let Ok((desk, mut pass)) = Desk::set_up(alloc, board) else {
@@ -123,6 +143,9 @@ pub fn run_rounds<R: Threads + Wait + Sync, D: Driver + Send + Drop, G: Gate + S
     ensures full { IfOk result (λ e. e.full ≡ true → length e.board.journal ≡ 262144) }
     ensures drivers { IfOk result (λ e. length e.drivers.items ≡ length config.pools) }
     ensures plans { IfOk result (λ e. map D.plan e.drivers.items ≡ map D.plan drivers.items) }
+    ensures driven { All (λ (d : D). (D.facts d).servers ≡ Some []) drivers.items →
+        IfOk result (λ e. DrivenBy (WasAnswered (map (driving D.facts D.plan) e.drivers.items))
+        config e.board.journal) }
 {
     config.soundness();
     let mut workers = workers_of(alloc, &config, drivers)?;

@@ -1,31 +1,15 @@
 //! What no clause says: that sites are played to their ends over threads, with ample memory.
 
-ghost use Rattle.std.specs.Prelude.{◌≡◌, length, IfOk};
-
 use crate::run_rounds;
-use np_cloud::{OpenGate, SimDriver};
+use np_cloud::{OpenGate, simulated_clouds};
 use np_config::Config;
 use np_look::Look;
-use np_text::{Ending, JobId, NoMemory, PoolId};
-use std::alloc::Global;
+use np_text::{Ending, JobId};
 use std::test::Fail;
 
 // Two pools of one label, the first of which fails its first start, and two jobs.
 const SITE: &str =
     r#"{"labels":[{"name":"a"}],"providers":[{"name":"c","pools":[{"name":"m","max-servers":1,"fail-starts":[1],"labels":[{"name":"a"}]},{"name":"n","max-servers":1,"labels":[{"name":"a"}]}]}],"requesters":[{"name":"z","jobs":[{"name":"j","labels":["a"]},{"name":"k","labels":["a"]}]}]}"#;
-
-// The simulated clouds of the pools.
-fn simulated_clouds(alloc: Global, config: &Config) -> Result<Vec<SimDriver>, NoMemory>
-    ensures { IfOk result (λ v. length v.items ≡ length config.now.pools) }
-{
-    config.soundness();
-    let mut clouds = Vec::new(alloc);
-    while config.pool(PoolId(clouds.len() as u16)).is_some() {
-        let pool = PoolId(clouds.len() as u16);
-        clouds.push(SimDriver::new(alloc, config, pool)?)?;
-    }
-    Ok(clouds)
-}
 
 #[test]
 fn a_site_is_played_to_its_end(rt: HostRuntime) -> Result<(), Fail> {

@@ -1,9 +1,11 @@
 use Rattle.std.proofs.Common.{◌≡◌, ◌++◌, length, map}
-use Rattle.np_rounds.specs.Crews.{plans_of}
+use Rattle.np_trace.specs.Drive.{driving}
+use Rattle.np_driven.specs.Players.{drivings_of}
+use Rattle.np_rounds.specs.Crews.{players_of}
 use Rattle.np_rounds.proofs.crew.drivers_of.Given as goal
 
 abbrev pub invariant-loop-worker : goal.invariant-loop-worker
-invariant-loop-worker g l = map g.D.Driver.plan l.drivers.items ++ plans_of g.D.Driver.plan l.workers.items ≡ plans_of g.D.Driver.plan l.fn.workers.items
+invariant-loop-worker g l = map (driving g.D.Driver.facts g.D.Driver.plan) l.drivers.items ++ drivings_of (players_of g.D.Driver.facts g.D.Driver.plan l.workers.items) ≡ drivings_of (players_of g.D.Driver.facts g.D.Driver.plan l.fn.workers.items)
 
 abbrev pub decreases-loop-worker : goal.decreases-loop-worker
 decreases-loop-worker g l = length l.workers.items

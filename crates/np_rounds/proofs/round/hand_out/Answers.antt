@@ -5,7 +5,8 @@ use Rattle.np_desk.specs.Part.{first_half, second_half}
 use Rattle.np_desk.specs.Pass.{PassView}
 use Rattle.np_rounds.specs.declared.crew.Crew.{Crew}
 use Rattle.np_rounds.specs.Crews.{split_pass, given_pass, AreGiven}
-use Rattle.np_rounds.proofs.Lists.{given_more, handed}
+use Rattle.np_rounds.proofs.Lists.{given_more}
+use Rattle.np_rounds.proofs.Players.{handed}
 use Rattle.np_rounds.proofs.round.hand_out.Goals as goal
 
 pub loop-worker-preserved : goal.loop-worker-preserved
@@ -20,5 +21,5 @@ loop-worker-preserved g c =
       own = (ap (λ q. q.table) kept ∙ before.own.0, ap (λ q. q.origin) kept ∙ before.own.1);
       pass = kept ∙ (ap (λ (q : PassView Configuration Entry). record q { part = first_half q.part }) before.pass ∙ ap (λ (k : ℕ). split_pass k p) (sym count));
       given = subst (AreGiven p 0) (sym more) (given_more p 0 crews crew before.given (given ∙ ap (λ (k : ℕ). given_pass k p) (omega arith)));
-      plans = handed g.D.Driver.plan crews c.push.new.self.items crew c.loop-worker.workers.items c.pop.new.self.items more c.in-Some.ensures.items ∙ before.plans;
+      players = handed g.D.Driver.facts g.D.Driver.plan crews c.push.new.self.items crew c.loop-worker.workers.items c.pop.new.self.items more c.in-Some.ensures.items ∙ before.players;
     }

@@ -1,6 +1,6 @@
 use Rattle.std.proofs.Common.{◌≡◌, ◌++◌, length}
 use Rattle.np_desk.specs.Pass.{IsOf}
-use Rattle.np_rounds.specs.Crews.{split_pass, AreGiven, plans_of, crew_plans}
+use Rattle.np_rounds.specs.Crews.{split_pass, AreGiven, players_of, crew_players}
 use Rattle.np_rounds.proofs.round.hand_out.Given as goal
 
 abbrev pub invariant-loop-worker : goal.invariant-loop-worker
@@ -8,7 +8,7 @@ invariant-loop-worker g l = record {
   own : IsOf l.pass l.desk;
   pass : l.pass ≡ split_pass (length l.crews.items) l.initial.pass;
   given : AreGiven l.initial.pass 0 l.crews.items;
-  plans : crew_plans g.D.Driver.plan l.crews.items ++ plans_of g.D.Driver.plan l.workers.items ≡ plans_of g.D.Driver.plan l.initial.workers.items;
+  players : crew_players g.D.Driver.facts g.D.Driver.plan l.crews.items ++ players_of g.D.Driver.facts g.D.Driver.plan l.workers.items ≡ players_of g.D.Driver.facts g.D.Driver.plan l.initial.workers.items;
 }
 
 abbrev pub decreases-loop-worker : goal.decreases-loop-worker

@@ -1,14 +1,21 @@
-use Rattle.std.proofs.Common.{◌≡◌, ℕ, [], ◌∷◌, ◌++◌, suc, ◌+◌, length, length-append, ap, ◌∙◌, subst, arith}
-use Rattle.np_desk.specs.History.{merged}
+use Rattle.std.proofs.Common.{◌≡◌, ℕ, List, [], ◌∷◌, ◌++◌, suc, ◌+◌, length, length-append, ap, ◌∙◌, subst, sym, arith, append-nil, append_assoc}
 use Rattle.np_desk.specs.Part.{second_half}
-use Rattle.np_desk.proofs.HistoryLemmas.{starts_on}
-use Rattle.np_board.specs.Answers.{IsFull}
+use Rattle.np_rounds.specs.declared.crew.CrewEnd.{CrewEnd}
 use Rattle.np_rounds.specs.Crews.{zeros}
-use Rattle.np_rounds.specs.Plays.{AreBack}
-use Rattle.np_rounds.proofs.Backs.{with_full, with_still}
-use Rattle.np_rounds.proofs.Fulls.{full_later}
-use Rattle.np_rounds.proofs.Lists.{back_less, taken}
+use Rattle.np_rounds.specs.Backs.{AreBack, TookBack}
+use Rattle.np_rounds.proofs.Lists.{back_less}
+use Rattle.np_rounds.proofs.Taken.{took_none, took_more}
 use Rattle.np_rounds.proofs.round.take_back.Goals as goal
+
+pub loop-last-init : goal.loop-last-init
+loop-last-init g c = record {
+  own = c.requires.own;
+  part = c.requires.part;
+  back = c.requires.back;
+  came = [];
+  all = sym (append-nil c.args.ends.items);
+  took = took_none g.D.Driver.facts g.D.Driver.plan c.args.pass.now c.args.workers.now.items;
+}
 
 pub loop-last-preserved : goal.loop-last-preserved
 loop-last-preserved g c =
@@ -22,12 +29,10 @@ loop-last-preserved g c =
       own = join.own;
       part = join.back (zeros (length rest)) (before.part ∙ ap (λ (n : ℕ). zeros n ∷ []) count) (cut.1.part ∙ ap (λ (n : ℕ). second_half (zeros n ∷ [])) same);
       back = cut.0;
-      seen = starts_on new.seen old.seen _ join.seen before.seen;
-      full = with_full (IsFull last.crew.pass.seen) (IsFull new.seen) c.loop-last.sum c.in_ok-sum.sum last.end c.in_ok-sum.ensures cut.1.full
-          (full_later new.seen last.crew.pass.seen join.told) (λ had. full_later new.seen old.seen join.seen (before.full had));
-      still = λ still. let parts = with_still c.loop-last.sum c.in_ok-sum.sum last.end last.crew.pass.mine c.in_ok-sum.ensures cut.1.entries still in
-          join.mine ∙ (ap (merged old.mine) parts.1 ∙ before.still parts.0);
-      plans = taken g.D.Driver.plan ends rest last c.loop-last.workers.items c.push.new.self.items is c.in_ok-push.ensures.items ∙ before.plans;
+      came = last ∷ before.came;
+      all = before.all ∙ (ap (λ (l : List (CrewEnd g.row.D.Denot)). l ++ before.came) is ∙ append_assoc rest (last ∷ []) before.came);
+      took = took_more g.D.Driver.facts g.D.Driver.plan desk (0 + length rest) c.args.pass.now old new c.args.workers.now.items c.loop-last.workers.items c.push.new.self.items
+          c.loop-last.sum c.in_ok-sum.sum before.came last before.took cut.1 join.seen join.told join.mine c.in_ok-sum.ensures c.in_ok-push.ensures.items;
     }
 
 pub join-requires-clause-other : goal.join-requires-clause-other

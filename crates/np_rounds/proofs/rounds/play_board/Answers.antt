@@ -1,8 +1,11 @@
-use Rattle.std.proofs.Common.{List, subst, sym}
+use Rattle.std.proofs.Common.{List, ◌∙◌, ap, subst, sym}
 use Rattle.np_event.specs.declared.entry.Entry.{Entry}
+use Rattle.np_site.specs.Configuration.{Configuration}
 use Rattle.np_board.proofs.LegalLemmas.{Runs-legal}
-use Rattle.np_rounds.specs.Played.{Stops}
-use Rattle.np_rounds.proofs.Backs.{closed_seen}
+use Rattle.np_driven.specs.Players.{HaveDriven}
+use Rattle.np_rounds.specs.Crews.{players_of}
+use Rattle.np_rounds.specs.Played.{IsDriven, Stops}
+use Rattle.np_rounds.proofs.OneRound.{closed_seen}
 use Rattle.np_rounds.proofs.rounds.play_board.Goals as goal
 
 pub set_up-requires : goal.set_up-requires
@@ -13,3 +16,16 @@ returns-clause-stops g c =
     let is = closed_seen c.in-Ok.desk c.play_at.new.pass c.close.result.journal c.in_ok-full.ensures.own
     (c.know.ensures.whole c.in_ok-full.ensures.whole) c.know.ensures.begins c.close.ensures.history c.close.ensures.mine in
     subst (λ (j : List Entry). Stops c.in_ok-full.full j) (sym is) c.in_ok-full.ensures.stops
+
+pub returns-clause-driven : goal.returns-clause-driven
+returns-clause-driven g c = λ had.
+    let is = closed_seen c.in-Ok.desk c.play_at.new.pass c.close.result.journal c.in_ok-full.ensures.own
+    (c.know.ensures.whole c.in_ok-full.ensures.whole) c.know.ensures.begins c.close.ensures.history c.close.ensures.mine in
+    let site = ap (λ o. o.fixed) c.in-Ok.ensures.desk in
+    let before = players_of g.D.Driver.facts g.D.Driver.plan c.args.workers.now.items in
+    let now = players_of g.D.Driver.facts g.D.Driver.plan c.play_at.new.workers.items in
+    subst (λ (d : Configuration). IsDriven d c.in_ok-full.full c.close.result.journal now) site
+    (subst (λ (j : List Entry). IsDriven c.in-Ok.desk.origin.fixed c.in_ok-full.full j now) (sym is)
+    (c.in_ok-full.ensures.driven
+    (subst (λ (j : List Entry). HaveDriven c.in-Ok.desk.origin.fixed j before) (sym c.in-Ok.ensures.seen.0)
+    (subst (λ (d : Configuration). HaveDriven d c.args.board.journal before) (sym site) had))))

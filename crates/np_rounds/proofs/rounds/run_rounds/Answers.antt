@@ -1,8 +1,37 @@
-use Rattle.std.proofs.Common.{◌∙◌}
-use Rattle.np_rounds.proofs.Lists.{as_many}
+use Rattle.std.proofs.Common.{◌≡◌, ◌∙◌, inl, List, map, ap, sym, subst, true, false}
+use Rattle.np_event.specs.declared.entry.Entry.{Entry}
+use Rattle.np_site.specs.Configuration.{Configuration}
+use Rattle.np_trace.specs.Drive.{Driving, driving}
+use Rattle.np_driven.specs.Players.{HaveDriven}
+use Rattle.np_rounds.specs.Crews.{players_of}
+use Rattle.np_rounds.specs.Played.{IsDriven, Stops}
+use Rattle.np_rounds.proofs.Driven.{driven_start, driven_end}
+use Rattle.np_rounds.proofs.Players.{as_many, plans_of_drivers}
 use Rattle.np_rounds.proofs.Starts.{ended_settled}
 use Rattle.np_rounds.proofs.rounds.run_rounds.Goals as goal
 use Rattle.np_rounds.proofs.rounds.run_rounds.Goals.{then-full-via-then-full, then-full-via-else-full+then-settled}
+
+pub loop-init : goal.loop-init
+loop-init g c =
+    let players = players_of g.D.Driver.facts g.D.Driver.plan c.in_ok-workers.workers.items in record {
+      configuration = ap (λ b. b.configuration) c.in_ok-board.ensures;
+      rested = inl (ap (λ b. b.journal) c.in_ok-board.ensures);
+      plans = ap (map (λ (d : Driving). d.plan)) c.in_ok-workers.ensures.drivings ∙ plans_of_drivers g.D.Driver.facts g.D.Driver.plan c.args.drivers.items;
+      driven = λ none. subst (λ (j : List Entry). HaveDriven c.args.config j players) (sym (ap (λ b. b.journal) c.in_ok-board.ensures))
+          (driven_start g.D.Driver.facts g.D.Driver.plan c.args.config players c.args.drivers.items c.in_ok-workers.ensures.numbered c.in_ok-workers.ensures.drivings none);
+    }
+
+pub loop-preserved : goal.loop-preserved
+loop-preserved g c =
+    let now = players_of g.D.Driver.facts g.D.Driver.plan c.play_board.new.workers.items in let journal = c.in_ok-played.played.journal in record {
+      configuration = c.in_ok-played.ensures.configuration ∙ c.loop.invariant.configuration;
+      rested = subst (λ b. Stops b journal) c.if-full.false c.in_ok-played.ensures.stops;
+      plans = c.in_ok-played.ensures.plans ∙ c.loop.invariant.plans;
+      driven = λ none. subst (λ b. IsDriven c.args.config b journal now) c.if-full.false
+          (subst (λ (d : Configuration). IsDriven d c.in_ok-played.full journal now) c.loop.invariant.configuration
+          (c.in_ok-played.ensures.driven (subst (λ (d : Configuration). HaveDriven d c.loop.board.journal (players_of g.D.Driver.facts g.D.Driver.plan c.loop.workers.items)) (sym c.loop.invariant.configuration)
+          (c.loop.invariant.driven none))));
+    }
 
 pub returns-then-full-clause-settled : goal.returns-then-full-clause-settled
 returns-then-full-clause-settled g c = λ room.
@@ -15,5 +44,16 @@ returns-then-full-clause-settled g c = λ room.
     ]
 
 pub returns-then-full-clause-drivers : goal.returns-then-full-clause-drivers
-returns-then-full-clause-drivers g c = as_many g.D.Driver.plan c.in_ok-drivers.drivers.items c.args.drivers.items
-    (c.in_ok-drivers.ensures ∙ (c.in_ok-played.ensures.plans ∙ c.loop.invariant.plans)) ∙ c.requires.drivers
+returns-then-full-clause-drivers g c = as_many g.D.Driver.facts g.D.Driver.plan c.in_ok-drivers.drivers.items c.args.drivers.items
+    (sym (plans_of_drivers g.D.Driver.facts g.D.Driver.plan c.in_ok-drivers.drivers.items) ∙ (ap (map (λ (d : Driving). d.plan)) c.in_ok-drivers.ensures ∙ (c.in_ok-played.ensures.plans ∙ c.loop.invariant.plans))) ∙ c.requires.drivers
+
+pub returns-then-full-clause-plans : goal.returns-then-full-clause-plans
+returns-then-full-clause-plans g c = sym (plans_of_drivers g.D.Driver.facts g.D.Driver.plan c.in_ok-drivers.drivers.items) ∙ (ap (map (λ (d : Driving). d.plan)) c.in_ok-drivers.ensures ∙ (c.in_ok-played.ensures.plans ∙ c.loop.invariant.plans))
+
+pub returns-then-full-clause-driven : goal.returns-then-full-clause-driven
+returns-then-full-clause-driven g c = λ none.
+    let now = players_of g.D.Driver.facts g.D.Driver.plan c.play_board.new.workers.items in
+    driven_end g.D.Driver.facts g.D.Driver.plan c.args.config c.in_ok-played.full c.in_ok-played.played.journal now c.in_ok-drivers.drivers.items c.in_ok-drivers.ensures
+    (subst (λ (d : Configuration). IsDriven d c.in_ok-played.full c.in_ok-played.played.journal now) c.loop.invariant.configuration
+    (c.in_ok-played.ensures.driven (subst (λ (d : Configuration). HaveDriven d c.loop.board.journal (players_of g.D.Driver.facts g.D.Driver.plan c.loop.workers.items)) (sym c.loop.invariant.configuration)
+    (c.loop.invariant.driven none))))

@@ -1,0 +1,127 @@
+-- Workers as players, in lists that grow and shrink at their end.
+use Rattle.std.proofs.Common.{◌≡◌, ℕ, suc, List, [], ◌∷◌, ◌++◌, length, length-append, refl, sym, ap, ◌∙◌, subst, arith, append_assoc}
+use Rattle.std.specs.Prelude.{map, Bool, Option, Some, None}
+use Rattle.np_cloud.specs.Facts.{DriverFacts}
+use Rattle.np_text.specs.declared.id.PoolId.{PoolId}
+use Rattle.np_text.specs.declared.id.RequesterId.{RequesterId}
+use Rattle.np_trace.specs.Drive.{Driving, Drove, driving}
+use Rattle.np_trace.specs.Move.{Move}
+use Rattle.np_site.specs.Configuration.{Configuration}
+use Rattle.np_event.specs.declared.entry.Entry.{Entry}
+use Rattle.np_driven.specs.Players.{Player, driving_in, drivings_of, AreNumbered}
+use Rattle.np_driven.specs.Round.{PlayerEnd, EachPlaysFrom, IsRound}
+use Rattle.np_worker.specs.Round.{driving_of}
+use Rattle.np_worker.specs.declared.worker.Worker.{Worker}
+use Rattle.np_worker.specs.declared.worker.Worker.TheVariants as worker
+use Rattle.np_rounds.specs.Crews.{Plan, player_of, players_of, crew_players}
+use Rattle.np_rounds.specs.Played.{plans_in}
+use Rattle.np_rounds.specs.declared.crew.Crew.{Crew}
+
+map-push : {A B : Type 0} (f : A → B) (xs : List A) (x : A) → map f (xs ++ x ∷ []) ≡ map f xs ++ f x ∷ []
+map-push f [] x = refl
+map-push f (y ∷ xs) x = ap (λ (l : List _). f y ∷ l) (map-push f xs x)
+
+map-length : {A B : Type 0} (f : A → B) (xs : List A) → length (map f xs) ≡ length xs
+map-length f [] = refl
+map-length f (x ∷ xs) = ap suc (map-length f xs)
+
+module _ {D : Type 0} (facts : D → DriverFacts) (plan : D → Plan) where
+  pub players-push : (workers : List (Worker D)) (w : Worker D) → players_of facts plan (workers ++ w ∷ []) ≡ player_of facts plan w ∷ players_of facts plan workers
+  players-push [] w = refl
+  players-push (v ∷ workers) w = ap (λ (l : List Player). l ++ player_of facts plan v ∷ []) (players-push workers w)
+
+  crew-push : (crews : List (Crew D)) (c : Crew D) → crew_players facts plan (crews ++ c ∷ []) ≡ crew_players facts plan crews ++ player_of facts plan c.worker ∷ []
+  crew-push [] c = refl
+  crew-push (d ∷ crews) c = ap (λ (l : List Player). player_of facts plan d.worker ∷ l) (crew-push crews c)
+
+  -- a worker was given a pass
+  pub handed : (crews crews' : List (Crew D)) (c : Crew D) (ws ws' : List (Worker D)) → crews' ≡ crews ++ c ∷ [] → ws ≡ ws' ++ c.worker ∷ [] → crew_players facts plan crews' ++ players_of facts plan ws' ≡ crew_players facts plan crews ++ players_of facts plan ws
+  handed crews crews' c ws ws' more less =
+      ap (λ (l : List (Crew D)). crew_players facts plan l ++ players_of facts plan ws') more
+      ∙ (ap (λ (l : List Player). l ++ players_of facts plan ws') (crew-push crews c)
+      ∙ (append_assoc (crew_players facts plan crews) (player_of facts plan c.worker ∷ []) (players_of facts plan ws')
+      ∙ ap (λ (l : List Player). crew_players facts plan crews ++ l) (sym (players-push ws' c.worker) ∙ ap (players_of facts plan) (sym less))))
+
+  -- ## drivers
+
+  abbrev all_drivings : List D → List (Worker D) → List Driving
+  all_drivings ds ws = map (driving facts plan) ds ++ drivings_of (players_of facts plan ws)
+
+  pool_pushed : (ws : List (Worker D)) (p : PoolId) (d : D) → drivings_of (players_of facts plan (ws ++ worker.Pool p d ∷ [])) ≡ driving facts plan d ∷ drivings_of (players_of facts plan ws)
+  pool_pushed ws p d = ap drivings_of (players-push ws (worker.Pool p d))
+
+  -- a driver moves from the drivers to a worker, or back
+  moved_over : (ds : List D) (d : D) (p : PoolId) (ws : List (Worker D)) → all_drivings ds (ws ++ worker.Pool p d ∷ []) ≡ all_drivings (ds ++ d ∷ []) ws
+  moved_over ds d p ws =
+      ap (λ (l : List Driving). map (driving facts plan) ds ++ l) (pool_pushed ws p d)
+      ∙ (sym (append_assoc (map (driving facts plan) ds) (driving facts plan d ∷ []) (drivings_of (players_of facts plan ws)))
+      ∙ ap (λ (l : List Driving). l ++ drivings_of (players_of facts plan ws)) (sym (map-push (driving facts plan) ds d)))
+
+  -- a driver found its worker
+  pub placed : (ds ds' : List D) (d : D) (p : PoolId) (ws ws' : List (Worker D)) → ds ≡ ds' ++ d ∷ [] → ws' ≡ ws ++ worker.Pool p d ∷ [] → all_drivings ds' ws' ≡ all_drivings ds ws
+  placed ds ds' d p ws ws' less more =
+      ap (all_drivings ds') more ∙ (moved_over ds' d p ws ∙ ap (λ (l : List D). all_drivings l ws) (sym less))
+
+  -- a worker gave its driver back
+  pub released : (ds ds' : List D) (d : D) (p : PoolId) (ws ws' : List (Worker D)) → ds' ≡ ds ++ d ∷ [] → ws ≡ ws' ++ worker.Pool p d ∷ [] → all_drivings ds' ws' ≡ all_drivings ds ws
+  released ds ds' d p ws ws' more less =
+      ap (λ (l : List D). all_drivings l ws') more ∙ (sym (moved_over ds d p ws') ∙ ap (all_drivings ds) (sym less))
+
+  -- a worker had none
+  pub without : (ws ws' : List (Worker D)) (w : Worker D) → driving_of facts plan w ≡ None → ws ≡ ws' ++ w ∷ [] → drivings_of (players_of facts plan ws') ≡ drivings_of (players_of facts plan ws)
+  without ws ws' w none less = sym (ap (λ (l : List (Worker D)). drivings_of (players_of facts plan l)) less ∙ (ap drivings_of (players-push ws' w) ∙ ap (λ (o : Option Driving). driving_in o ++ drivings_of (players_of facts plan ws')) none))
+
+  -- a worker that is no pool's has none
+  pub no_driver : (w : Worker D) → ((p : PoolId) (d : D) → w ≡ worker.Pool p d → ⊥) → driving_of facts plan w ≡ None
+  no_driver (worker.Pool p d) other = absurd (other p d refl)
+  no_driver (worker.Requester q) other = refl
+  no_driver worker.Reaper other = refl
+
+  -- ## numbers
+
+  -- a driver's worker has the number of its place
+  pub numbered : (ds ds' : List D) (d : D) (p : PoolId) (ws ws' : List (Worker D)) → ds ≡ ds' ++ d ∷ [] → ws' ≡ ws ++ worker.Pool p d ∷ [] → p.0 ≡ length ds' → AreNumbered (length ds) (players_of facts plan ws) → AreNumbered (length ds') (players_of facts plan ws')
+  numbered ds ds' d p ws ws' less more number had =
+      let next : length ds ≡ suc (length ds') = omega (arith, ap length less, length-append ds' (d ∷ [])) in
+      subst (λ (l : List Player). AreNumbered (length ds') l) (sym (ap (players_of facts plan) more ∙ players-push ws (worker.Pool p d)))
+      (number, subst (λ (n : ℕ). AreNumbered n (players_of facts plan ws)) next had)
+
+  -- no worker is a pool's
+  pub record NoPools (ws : List (Worker D)) : Type 0 where
+    pub drivings : drivings_of (players_of facts plan ws) ≡ []
+    pub numbered : (n : ℕ) → AreNumbered n (players_of facts plan ws)
+
+  pub reaper_alone : (ws : List (Worker D)) → ws ≡ worker.Reaper ∷ [] → NoPools ws
+  reaper_alone ws is = subst NoPools (sym is) (record { drivings = refl; numbered = λ n. (tt, tt) })
+
+  pub requester_more : (ws ws' : List (Worker D)) (q : RequesterId) → ws' ≡ ws ++ worker.Requester q ∷ [] → NoPools ws → NoPools ws'
+  requester_more ws ws' q more had =
+      let players : players_of facts plan ws' ≡ player_of facts plan (worker.Requester q) ∷ players_of facts plan ws = ap (players_of facts plan) more ∙ players-push ws (worker.Requester q) in record {
+        drivings = ap drivings_of players ∙ had.drivings;
+        numbered = λ n. subst (AreNumbered n) (sym players) (tt, had.numbered n);
+      }
+
+  -- ## plans
+
+  pub plans_of_drivers : (ds : List D) → map (λ (d : Driving). d.plan) (map (driving facts plan) ds) ≡ map plan ds
+  plans_of_drivers [] = refl
+  plans_of_drivers (d ∷ ds) = ap (λ (l : List Plan). plan d ∷ l) (plans_of_drivers ds)
+
+  pub as_many : (ds es : List D) → map plan ds ≡ map plan es → length ds ≡ length es
+  as_many ds es same = sym (map-length plan ds) ∙ (ap length same ∙ map-length plan es)
+
+-- a round keeps what was planned
+plans_more : (d e : Option Driving) (ds es : List Driving) (trace : List Move) → Drove trace d e → map (λ (x : Driving). x.plan) es ≡ map (λ (x : Driving). x.plan) ds → map (λ (x : Driving). x.plan) (driving_in e ++ es) ≡ map (λ (x : Driving). x.plan) (driving_in d ++ ds)
+plans_more None None ds es trace h same = same
+plans_more None (Some e) ds es trace h same = absurd h
+plans_more (Some d) None ds es trace h same = absurd h
+plans_more (Some d) (Some e) ds es trace h same = ap (λ (x : Plan). x ∷ map (λ (y : Driving). y.plan) es) h.plan ∙ ap (λ (l : List Plan). d.plan ∷ l) same
+
+plans_kept : (c : Configuration) (history : List Entry) (players : List Player) (ends : List PlayerEnd) → EachPlaysFrom c history players ends → plans_in (map (λ (end : PlayerEnd). end.player) ends) ≡ plans_in players
+plans_kept c history [] [] h = refl
+plans_kept c history [] (end ∷ ends) h = absurd h
+plans_kept c history (player ∷ players) [] h = absurd h
+plans_kept c history (player ∷ players) (end ∷ ends) h = plans_more player.driving end.player.driving (drivings_of players) (drivings_of (map (λ (e : PlayerEnd). e.player) ends)) h.0.trace h.0.drove (plans_kept c history players ends h.1)
+
+pub same_plans : (c : Configuration) (history later : List Entry) (players now : List Player) (is_cut : Bool) → IsRound c history later players now is_cut → plans_in now ≡ plans_in players
+same_plans c history later players now is_cut h = ap plans_in (sym h.players_now) ∙ plans_kept c history players h.ends h.plays

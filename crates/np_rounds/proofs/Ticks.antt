@@ -1,0 +1,34 @@
+-- A tick after a round.
+use Rattle.std.proofs.Common.{◌≡◌, inr, List, [], ◌∷◌, ◌++◌, length, length-append, ap, ◌∙◌, arith}
+use Rattle.np_event.specs.declared.entry.Entry.{Entry}
+use Rattle.np_event.specs.declared.event.Event.TheVariants as ev
+use Rattle.np_site.specs.Configuration.{Configuration}
+use Rattle.np_desk.specs.Pass.{PassView, DeskView, Sight, sight_of}
+use Rattle.np_desk.specs.Turned.{Answered}
+use Rattle.np_board.specs.declared.ask.Ask.TheVariants as ask
+use Rattle.np_board.specs.declared.ask.Turn.{Turn}
+use Rattle.np_board.specs.declared.ask.Turn.TheVariants as turn
+use Rattle.np_board.specs.Answers.{answers}
+use Rattle.np_board.specs.Asks.{recorded}
+use Rattle.np_rounds.specs.Played.{is_full, Stops, Ticks}
+use Rattle.np_rounds.proofs.Fulls.{full_turn}
+use Rattle.np_rounds.proofs.Joined.{same_length}
+use Rattle.np_rounds.proofs.OneRound.{Knows, grew, still_seen}
+
+pub tick_stops : (c : Configuration) (v w : Sight Entry) (t : Turn) → Answered answers recorded c v (ask.Do ev.Tick) t w → Stops (is_full t) w.seen
+tick_stops c v w (turn.Did e) h = inr (record { earlier = h.0; last = e; ends = h.3.0; tick = h.2.0 })
+tick_stops c v w (turn.DueNode n x) h = absurd h.2
+tick_stops c v w turn.Swept h = absurd h.2
+tick_stops c v w turn.Idle h = absurd h.2
+tick_stops c v w turn.Full h = full_turn c v w (ask.Do ev.Tick) h
+
+-- beside a whole pass nothing else was added
+pub whole_ticks : (desk : DeskView Configuration Entry) (p r : PassView Configuration Entry) (t : Turn) → Knows desk p r → Answered answers recorded desk.origin.fixed (sight_of p) (ask.Do ev.Tick) t (sight_of r) → Ticks (is_full t) p.seen r.seen
+whole_ticks desk p r (turn.Did e) k h =
+    let long : length h.0 ≡ length p.seen = omega (arith, grew desk p r k, ap length h.3.0, ap length h.3.1, length-append h.0 (e ∷ []), length-append p.mine (length h.0 ∷ [])) in
+    let same : h.0 ≡ p.seen = same_length p.seen h.0 h.1 long in
+    (e, h.2.0, h.3.0 ∙ ap (λ (l : List Entry). l ++ e ∷ []) same)
+whole_ticks desk p r (turn.DueNode n x) k h = absurd h.2
+whole_ticks desk p r turn.Swept k h = absurd h.2
+whole_ticks desk p r turn.Idle k h = absurd h.2
+whole_ticks desk p r turn.Full k h = still_seen desk p r k h.3.1
