@@ -18,20 +18,20 @@ use Rattle.np_top.specs.Replay.{IsReplayed, IsFaulty, EndsReplay, Replays, statu
 -- ## one line
 
 -- a line that was to have another status was not written where the status is neither that nor 6
-not-said : (err err_now : SinkFacts) (line : List ℕ) (wanted status : ℕ) → IsSaid err err_now line wanted status → (status ≡ wanted → ⊥) → (status ≡ 6 → ⊥) → ⊥
+pub not-said : (err err_now : SinkFacts) (line : List ℕ) (wanted status : ℕ) → IsSaid err err_now line wanted status → (status ≡ wanted → ⊥) → (status ≡ 6 → ⊥) → ⊥
 not-said err err_now line wanted status (inl whole) other six = other whole.0
 not-said err err_now line wanted status (inr cut) other six = six cut.0
 
 -- with another status than 6 the line is there
-said-whole : (err err_now : SinkFacts) (line : List ℕ) (wanted status : ℕ) → IsSaid err err_now line wanted status → (status ≡ 6 → ⊥) → (status ≡ wanted) × IsWritten err err_now line
+pub said-whole : (err err_now : SinkFacts) (line : List ℕ) (wanted status : ℕ) → IsSaid err err_now line wanted status → (status ≡ 6 → ⊥) → (status ≡ wanted) × IsWritten err err_now line
 said-whole err err_now line wanted status (inl whole) six = whole
 said-whole err err_now line wanted status (inr cut) six = absurd (six cut.0)
 
-said-six : (err err_now : SinkFacts) (line : List ℕ) (wanted status : ℕ) → IsSaid err err_now line wanted status → status ≡ 6 → (wanted ≡ 6 → ⊥) → Rose err.faults err_now.faults
+pub said-six : (err err_now : SinkFacts) (line : List ℕ) (wanted status : ℕ) → IsSaid err err_now line wanted status → status ≡ 6 → (wanted ≡ 6 → ⊥) → Rose err.faults err_now.faults
 said-six err err_now line wanted status (inl whole) six other = absurd (other (sym whole.0 ∙ six))
 said-six err err_now line wanted status (inr cut) six other = cut.1.failed
 
-write-said : (err err_now : SinkFacts) (status : ℕ) → IsSaid err err_now write_line 6 status → status ≡ 6
+pub write-said : (err err_now : SinkFacts) (status : ℕ) → IsSaid err err_now write_line 6 status → status ≡ 6
 write-said err err_now status (inl whole) = whole.0
 write-said err err_now status (inr cut) = cut.0
 
@@ -61,6 +61,7 @@ done-of : {K E : Type 0} (source source_now : SourceFacts) (k : K → SinkFacts)
     (text : List ℕ) × IsReplayed source source_now text × IsWritten (k out) (k out_now) text × (err_now ≡ err)
 done-of source source_now k e out out_now err err_now status (ending.Prints text wanted) ends (inl whole) zero = (text.items, ends.1, whole.1, whole.2)
 done-of source source_now k e out out_now err err_now status (ending.Prints text wanted) ends (inr cut) zero = absurd (let six = write-said (e err) (e err_now) status cut.1 in cc)
+done-of source source_now k e out out_now err err_now status (ending.Full text) ends told zero = absurd ends
 done-of source source_now k e out out_now err err_now status (ending.Says line wanted) ends told zero =
     absurd (not-said (e err) (e err_now) line.items wanted status told.1 (faulty-other source source_now line.items wanted status 0 ends (λ x. cc) (λ x. cc) zero) (λ six. cc))
 done-of source source_now k e out out_now err err_now status ending.NoCommand ends told zero = absurd ends
@@ -73,6 +74,7 @@ fault-of : {K E : Type 0} (source source_now : SourceFacts) (k : K → SinkFacts
     (line : List ℕ) × IsFaulty source source_now line status × IsWritten (e err) (e err_now) line × (out_now ≡ out)
 fault-of source source_now k e out out_now err err_now status (ending.Prints text wanted) ends (inl whole) four = absurd (is-other status 3 4 0 four (λ x. cc) (λ x. cc) (whole.0 ∙ ends.0))
 fault-of source source_now k e out out_now err err_now status (ending.Prints text wanted) ends (inr cut) four = absurd (is-other status 3 4 6 four (λ x. cc) (λ x. cc) (write-said (e err) (e err_now) status cut.1))
+fault-of source source_now k e out out_now err err_now status (ending.Full text) ends told four = absurd ends
 fault-of source source_now k e out out_now err err_now status (ending.Says line wanted) ends told four =
     let whole = said-whole (e err) (e err_now) line.items wanted status told.1 (is-other status 3 4 6 four (λ x. cc) (λ x. cc)) in
     (line.items, subst (IsFaulty source source_now line.items) (sym whole.0) ends, whole.1, told.0)
@@ -89,6 +91,7 @@ read-of : {K E : Type 0} (source source_now : SourceFacts) (k : K → SinkFacts)
     (out_now ≡ out) × ((Rose source.faults source_now.faults × IsWritten (e err) (e err_now) read_line) ⊎ (IfSome source.left (λ left. most < length left) × IsWritten (e err) (e err_now) long_line))
 read-of source source_now k e out out_now err err_now status (ending.Prints text wanted) ends (inl whole) five = absurd (let zero = whole.0 ∙ ends.0 in cc)
 read-of source source_now k e out out_now err err_now status (ending.Prints text wanted) ends (inr cut) five = absurd (let six = write-said (e err) (e err_now) status cut.1 in cc)
+read-of source source_now k e out out_now err err_now status (ending.Full text) ends told five = absurd ends
 read-of source source_now k e out out_now err err_now status (ending.Says line wanted) ends told five =
     absurd (not-said (e err) (e err_now) line.items wanted status told.1 (faulty-other source source_now line.items wanted status 5 ends (λ x. cc) (λ x. cc) five) (λ six. cc))
 read-of source source_now k e out out_now err err_now status ending.NoCommand ends told five = absurd ends
@@ -101,6 +104,7 @@ write-of : {K E : Type 0} (source source_now : SourceFacts) (k : K → SinkFacts
     Rose (k out).faults (k out_now).faults ⊎ Rose (e err).faults (e err_now).faults
 write-of source source_now k e out out_now err err_now status (ending.Prints text wanted) ends (inl whole) six = absurd (let zero = whole.0 ∙ ends.0 in cc)
 write-of source source_now k e out out_now err err_now status (ending.Prints text wanted) ends (inr cut) six = inl cut.0.failed
+write-of source source_now k e out out_now err err_now status (ending.Full text) ends told six = absurd ends
 write-of source source_now k e out out_now err err_now status (ending.Says line wanted) ends told six =
     inr (said-six (e err) (e err_now) line.items wanted status told.1 six (λ same. is-other (script_status ends.fault) 3 4 6 (fault-status ends.fault) (λ x. cc) (λ x. cc) (sym ends.ends ∙ same)))
 write-of source source_now k e out out_now err err_now status ending.NoCommand ends told six = absurd ends
@@ -113,6 +117,7 @@ memory-of : {K E : Type 0} (source source_now : SourceFacts) (k : K → SinkFact
     IsWritten (e err) (e err_now) memory_line × (out_now ≡ out)
 memory-of source source_now k e out out_now err err_now status (ending.Prints text wanted) ends (inl whole) seven = absurd (let zero = whole.0 ∙ ends.0 in cc)
 memory-of source source_now k e out out_now err err_now status (ending.Prints text wanted) ends (inr cut) seven = absurd (let six = write-said (e err) (e err_now) status cut.1 in cc)
+memory-of source source_now k e out out_now err err_now status (ending.Full text) ends told seven = absurd ends
 memory-of source source_now k e out out_now err err_now status (ending.Says line wanted) ends told seven =
     absurd (not-said (e err) (e err_now) line.items wanted status told.1 (faulty-other source source_now line.items wanted status 7 ends (λ x. cc) (λ x. cc) seven) (λ six. cc))
 memory-of source source_now k e out out_now err err_now status ending.NoCommand ends told seven = absurd ends
@@ -150,6 +155,7 @@ complete-of source source_now k e out out_now err err_now status (ending.Prints 
     inl (whole.0 ∙ ends.0 ∙ sym (status_of-input source source_now left ends.1.came (Ok ends.1.script) is ends.1.input ends.1.read))
 complete-of source source_now k e out out_now err err_now status (ending.Prints text wanted) ends (inr cut) (Some left) is =
     inr (inr (inr (write-said (e err) (e err_now) status cut.1, inl cut.0.failed)))
+complete-of source source_now k e out out_now err err_now status (ending.Full text) ends told (Some left) is = absurd ends
 complete-of source source_now k e out out_now err err_now status (ending.Says line wanted) ends told (Some left) is =
     ends-said (e err) (e err_now) line.items wanted status (status_of left) (Rose source.faults source_now.faults) (Rose (k out).faults (k out_now).faults) told.1
     (λ same. inl (same ∙ ends.ends ∙ sym (status_of-input source source_now left ends.came (Err ends.fault) is ends.input ends.read)))

@@ -19,6 +19,7 @@ pub record IsInput (source source_now : SourceFacts) (came : List ℕ) : Type 0 
 -- why there is no input
 abbrev pub Stops : SourceFacts → SourceFacts → Ending → Type 0
 Stops source source_now (ending.Prints text status) = ⊥
+Stops source source_now (ending.Full text) = ⊥
 Stops source source_now (ending.Says line status) = ⊥
 Stops source source_now ending.NoCommand = ⊥
 Stops source source_now ending.ReadFault = Rose source.faults source_now.faults

@@ -35,6 +35,7 @@ pub record IsFaulty (source source_now : SourceFacts) (line : List ℕ) (status 
 -- how a replay may end, by what came from the source
 abbrev pub EndsReplay : SourceFacts → SourceFacts → Ending → Type 0
 EndsReplay source source_now (ending.Prints text status) = (status ≡ 0) × IsReplayed source source_now text.items
+EndsReplay source source_now (ending.Full text) = ⊥
 EndsReplay source source_now (ending.Says line status) = IsFaulty source source_now line.items status
 EndsReplay source source_now ending.NoCommand = ⊥
 EndsReplay source source_now ending.ReadFault = Stops source source_now ending.ReadFault

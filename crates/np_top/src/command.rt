@@ -8,6 +8,8 @@ ghost use Rattle.np_top.specs.Command.{bare_command, command};
 pub enum Command {
     /// Plays a script of events, and prints the Text of the run.
     Replay,
+    /// Plays a site by threads to its end, and prints the Text of the run.
+    Run,
 }
 
 fn bare_command(word: &str) -> Option<Command>
@@ -15,6 +17,7 @@ fn bare_command(word: &str) -> Option<Command>
 {
     match word {
         "replay" => Some(Command::Replay),
+        "run" => Some(Command::Run),
         _ => None,
     }
 }

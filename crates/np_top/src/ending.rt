@@ -10,6 +10,8 @@ use np_text::NoMemory;
 pub enum Ending {
     /// The text is printed, with this status.
     Prints { text: Vec<u8>, status: u8 },
+    /// The text is printed, and a line on err says that the journal was full.
+    Full { text: Vec<u8> },
     /// Nothing is printed, and this line says why, with this status.
     Says { line: Vec<u8>, status: u8 },
     /// Nothing is printed: the words are no command.

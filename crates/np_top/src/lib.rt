@@ -11,13 +11,16 @@ mod ending;
 mod input;
 mod lines;
 mod replaying;
+mod running;
 mod telling;
 #[cfg(test)]
 mod tests;
 mod top;
+mod typed;
 
 pub use command::{Command, command_of};
 pub use ending::Ending;
 pub use replaying::replay;
+pub use running::run;
 pub use telling::tell;
 pub use top::poolsim;

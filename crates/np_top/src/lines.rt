@@ -27,7 +27,7 @@ fn kind_name(kind: ConfigKind) -> &'static [u8]
 
 /// The line of a configuration's fault.
 #[tactic(auto, unfolding(crate::specs::Lines::config_line))]
-fn line_of_config(alloc: Global, fault: &ConfigFault) -> Result<Vec<u8>, NoMemory>
+pub(crate) fn line_of_config(alloc: Global, fault: &ConfigFault) -> Result<Vec<u8>, NoMemory>
     ensures { IfOk result (λ line. line.items ≡ config_line fault.now) }
 {
     let mut line = Vec::from_slice(alloc, b"poolsim: configuration: ")?;

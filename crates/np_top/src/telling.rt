@@ -1,6 +1,6 @@
 //! Writing how a command ended.
 
-ghost use Rattle.np_top.specs.Told.{IsSaid, IsShown, IsTold};
+ghost use Rattle.np_top.specs.Told.{IsSaid, IsShown, IsShownFull, IsTold, write_line};
 
 use crate::ending::Ending;
 use np_io::{Sink, write_all};
@@ -15,24 +15,43 @@ fn say<E: Sink>(err: &mut E, line: &[u8], status: u8) -> u8
     }
 }
 
+/// Tells on err that out failed, and answers the status 6.
+fn say_write_fault<E: Sink>(err: &mut E) -> u8
+    ensures { IsSaid (E.facts err.old) (E.facts err.new) write_line 6 result }
+{
+    say(err, b"poolsim: write fault\n", 6)
+}
+
 /// Writes a text to out, and answers the status, or 6 where out failed, of which err then tells.
 fn show<K: Sink, E: Sink>(out: &mut K, err: &mut E, text: &[u8], status: u8) -> u8
     ensures { IsShown K.facts E.facts out.old out.new err.old err.new text.now status result }
 {
     match write_all(out, text) {
         Ok(()) => status,
-        Err(_) => say(err, b"poolsim: write fault\n", 6),
+        Err(_) => say_write_fault(err),
     }
 }
 
-/// Writes how a command ended, and answers the program's status: a text to out, or a line to err.
-/// Where out fails, a line on err tells that. The status is 6 where out or err failed. It takes no
-/// memory, and time in the length of what is written.
+/// Writes a text to out, and then to err that the journal was full, with the status 9. Where out
+/// failed, err tells that, with the status 6.
+fn show_full<K: Sink, E: Sink>(out: &mut K, err: &mut E, text: &[u8]) -> u8
+    ensures { IsShownFull K.facts E.facts out.old out.new err.old err.new text.now result }
+{
+    match write_all(out, text) {
+        Ok(()) => say(err, b"poolsim: journal is full\n", 9),
+        Err(_) => say_write_fault(err),
+    }
+}
+
+/// Writes how a command ended, and answers the program's status: a text to out, or a line to err,
+/// or both where the journal was full. Where out fails, a line on err tells that. The status is 6
+/// where out or err failed. It takes no memory, and time in the length of what is written.
 pub fn tell<K: Sink, E: Sink>(out: &mut K, err: &mut E, ending: &Ending) -> u8
     ensures { IsTold K.facts E.facts out.old out.new err.old err.new ending.now result }
 {
     match ending {
         Ending::Prints { text, status } => show(out, err, text.as_slice(), *status),
+        Ending::Full { text } => show_full(out, err, text.as_slice()),
         Ending::Says { line, status } => say(err, line.as_slice(), *status),
         Ending::NoCommand => say(
             err,

@@ -3,13 +3,21 @@
 mod inputs;
 mod journals;
 mod longest;
+mod meeting;
 mod scripts;
+mod sites;
+mod storm;
 mod streams;
+mod usual;
 
 use crate::poolsim;
+use np_cloud::{Gate, OpenGate};
 use np_io::{MemSink, MemSource};
+use np_text::split_sections;
 use std::alloc::{AllocError, Global};
+use std::sync::Wait;
 use std::test::Fail;
+use std::thread::Threads;
 
 // One pool, one label, one job.
 const SITE: &str =
@@ -43,19 +51,56 @@ struct Ran {
     err: MemSink,
 }
 
-/// Runs the words of a line. The source, out and err fail at these calls.
-fn run(
-    alloc: Global,
+/// Runs the words of a line. Launches pass the gate, and the source, out and err fail at these calls.
+fn run_by<R: Threads + Wait + Sync + AllocGlobal, G: Gate + Sync>(
+    rt: &R,
+    gate: &G,
     line: &str,
     input: Vec<u8>,
     failing: (&[u32], &[u32], &[u32]),
 ) -> Result<Ran, AllocError> {
+    let alloc = rt.alloc();
     let words = words_of(alloc, line)?;
     let mut source = MemSource::new(input, plan(alloc, failing.0)?);
     let mut out = MemSink::new(alloc, plan(alloc, failing.1)?);
     let mut err = MemSink::new(alloc, plan(alloc, failing.2)?);
-    let status = poolsim(alloc, words.as_slice(), &mut source, &mut out, &mut err);
+    let words = words.as_slice();
+    let status = poolsim(rt, alloc, words, &mut source, &mut out, &mut err, gate);
     Ok(Ran { status, out, err })
+}
+
+/// Runs the words of a line, with no launch held up.
+fn run<R: Threads + Wait + Sync + AllocGlobal>(
+    rt: &R,
+    line: &str,
+    input: Vec<u8>,
+    failing: (&[u32], &[u32], &[u32]),
+) -> Result<Ran, AllocError> {
+    run_by(rt, &OpenGate, line, input, failing)
+}
+
+/// Plays a site, with no stream that fails.
+fn play<R: Threads + Wait + Sync + AllocGlobal>(rt: &R, site: &str) -> Result<Ran, AllocError> {
+    let none = (&[][..], &[][..], &[][..]);
+    run(rt, "run", site.as_bytes().to_vec(rt.alloc())?, none)
+}
+
+/// The lines of the jobs' fates: what stands behind the last bar of a Text.
+fn fates_of(text: &[u8]) -> Result<&str, Fail> {
+    let (_, rest) = split_sections(text).ok_or("no bar")?;
+    let (_, fates) = split_sections(rest).ok_or("no second bar")?;
+    Ok(std::str::from_utf8(fates).ok().ok_or("no text")?)
+}
+
+/// What each job came to, in a word.
+fn ends_of(alloc: Global, text: &[u8]) -> Result<Vec<&str>, Fail> {
+    let mut ends = Vec::new(alloc);
+    for line in fates_of(text)?.split('\n') {
+        if let Some(end) = line.split(' ').nth(2) {
+            ends.push(end)?;
+        }
+    }
+    Ok(ends)
 }
 
 /// The script over the site, with these event lines.

@@ -1,6 +1,7 @@
 //! poolsim over the real streams.
 #![tactic(auto)]
 
+use np_cloud::OpenGate;
 use np_io::{StdSink, StdSource};
 use np_top::{Ending, poolsim, tell};
 use std::io::ErrorKind;
@@ -28,11 +29,13 @@ fn main(rt: HostRuntime) -> ExitCode {
     let status = match words_of(&rt) {
         Err(ending) => tell(&mut out, &mut err, &ending),
         Ok(words) => poolsim(
+            &rt,
             rt.alloc(),
             words.as_slice(),
             &mut source,
             &mut out,
             &mut err,
+            &OpenGate,
         ),
     };
     ExitCode::from(status)

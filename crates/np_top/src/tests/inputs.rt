@@ -79,12 +79,7 @@ const INPUTS: [(&str, u8, &str); 19] = [
 fn an_input_at_fault_is_told(rt: HostRuntime) -> Result<(), Fail> {
     for (input, status, told) in INPUTS {
         let none = (&[][..], &[][..], &[][..]);
-        let ran = run(
-            rt.alloc(),
-            "replay",
-            input.as_bytes().to_vec(rt.alloc())?,
-            none,
-        )?;
+        let ran = run(&rt, "replay", input.as_bytes().to_vec(rt.alloc())?, none)?;
         assert_eq!(rt; ran.status, status, "{input}");
         assert!(rt; ran.out.bytes().is_empty(), "{input}");
         assert!(rt; ran.err.bytes() == told.as_bytes(), "{input}");
@@ -120,7 +115,7 @@ fn a_list_or_a_name_at_fault_is_told(rt: HostRuntime) -> Result<(), Fail> {
     ];
     for (input, told) in rows {
         let none = (&[][..], &[][..], &[][..]);
-        let ran = run(rt.alloc(), "replay", input, none)?;
+        let ran = run(&rt, "replay", input, none)?;
         assert_eq!(rt; ran.status, 3, "{told}");
         assert!(rt; ran.out.bytes().is_empty(), "{told}");
         assert!(rt; ran.err.bytes() == told.as_bytes(), "{told}");

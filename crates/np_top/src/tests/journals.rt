@@ -7,7 +7,9 @@ use np_worked::{
 };
 use std::alloc::{AllocError, Global};
 use std::process::Abort;
+use std::sync::Wait;
 use std::test::Fail;
+use std::thread::Threads;
 
 /// The script of a journal: its site and its events.
 fn script_of(alloc: Global, journal: &Journal) -> Result<Vec<u8>, Fail> {
@@ -47,10 +49,13 @@ fn text_of(alloc: Global, journal: &Journal) -> Result<String, AllocError> {
 }
 
 /// Replays each script, and compares the whole output.
-fn replay_all(rt: &(impl AllocGlobal + Abort), journals: &[Journal]) -> Result<(), Fail> {
+fn replay_all<R: Threads + Wait + Sync + AllocGlobal + Abort>(
+    rt: &R,
+    journals: &[Journal],
+) -> Result<(), Fail> {
     for journal in journals {
         let none = (&[][..], &[][..], &[][..]);
-        let ran = run(rt.alloc(), "replay", script_of(rt.alloc(), journal)?, none)?;
+        let ran = run(rt, "replay", script_of(rt.alloc(), journal)?, none)?;
         assert_eq!(rt; ran.status, 0, "{}", journal.name);
         assert_eq!(rt;
             std::str::from_utf8(ran.out.bytes()).ok(),

@@ -1,8 +1,10 @@
 //! The longest input that is read, and one byte more.
 
-use crate::poolsim;
-use np_io::{MemSink, MemSource};
+use super::run;
+use std::process::Abort;
+use std::sync::Wait;
 use std::test::Fail;
+use std::thread::Threads;
 
 const LONGEST: usize = 67_108_864;
 
@@ -16,24 +18,27 @@ const SPACES: [(usize, u8, &str); 2] = [
     ),
 ];
 
-#[test]
-fn the_longest_input_is_read(rt: HostRuntime) -> Result<(), Fail> {
+/// Lets the command read so many spaces.
+fn read_spaces<R: Threads + Wait + Sync + AllocGlobal + Abort>(
+    rt: &R,
+    command: &str,
+) -> Result<(), Fail> {
     for (spaces, status, told) in SPACES {
-        let words = vec![in rt.alloc(); String::from_str(rt.alloc(), "replay")?]?;
-        let input = vec![in rt.alloc(); b' '; spaces]?;
-        let mut source = MemSource::new(input, Vec::new(rt.alloc()));
-        let mut out = MemSink::new(rt.alloc(), Vec::new(rt.alloc()));
-        let mut err = MemSink::new(rt.alloc(), Vec::new(rt.alloc()));
-        let came = poolsim(
-            rt.alloc(),
-            words.as_slice(),
-            &mut source,
-            &mut out,
-            &mut err,
-        );
-        assert_eq!(rt; came, status, "{spaces} spaces");
-        assert!(rt; out.bytes().is_empty(), "{spaces} spaces");
-        assert!(rt; err.bytes() == told.as_bytes(), "{spaces} spaces");
+        let none = (&[][..], &[][..], &[][..]);
+        let ran = run(rt, command, vec![in rt.alloc(); b' '; spaces]?, none)?;
+        assert_eq!(rt; ran.status, status, "{spaces} spaces");
+        assert!(rt; ran.out.bytes().is_empty(), "{spaces} spaces");
+        assert!(rt; ran.err.bytes() == told.as_bytes(), "{spaces} spaces");
     }
     Ok(())
+}
+
+#[test]
+fn the_longest_script_is_read(rt: HostRuntime) -> Result<(), Fail> {
+    read_spaces(&rt, "replay")
+}
+
+#[test]
+fn the_longest_configuration_is_read(rt: HostRuntime) -> Result<(), Fail> {
+    read_spaces(&rt, "run")
 }

@@ -6,13 +6,16 @@ use std::test::Fail;
 const USAGE: &str = "poolsim: usage: poolsim replay | run | audit | drill N\n";
 
 // The words, the status and the line on err, over a site without events.
-const WORDS: [(&str, u8, &str); 9] = [
+const WORDS: [(&str, u8, &str); 12] = [
     ("replay", 0, ""),
     ("-- replay", 0, ""),
     ("replay --", 0, ""),
     ("", 2, USAGE),
     ("--", 2, USAGE),
     ("replay replay", 2, USAGE),
+    ("run replay", 2, USAGE),
+    ("run run", 2, USAGE),
+    ("run", 3, "poolsim: configuration: not-json #\n"),
     ("-- -- replay", 2, USAGE),
     ("drill 0", 2, USAGE),
     ("drill 007", 2, USAGE),
@@ -22,7 +25,7 @@ const WORDS: [(&str, u8, &str); 9] = [
 fn words_are_a_command_or_not(rt: HostRuntime) -> Result<(), Fail> {
     for (words, status, told) in WORDS {
         let none = (&[][..], &[][..], &[][..]);
-        let ran = run(rt.alloc(), words, script(rt.alloc(), "")?, none)?;
+        let ran = run(&rt, words, script(rt.alloc(), "")?, none)?;
         assert_eq!(rt; ran.status, status, "{words}");
         let mut printed = String::new(rt.alloc());
         if status == 0 {
@@ -56,7 +59,7 @@ const FAULTS: [(&str, &str); 13] = [
 fn an_event_line_at_fault_is_told(rt: HostRuntime) -> Result<(), Fail> {
     for (lines, told) in FAULTS {
         let none = (&[][..], &[][..], &[][..]);
-        let ran = run(rt.alloc(), "replay", script(rt.alloc(), lines)?, none)?;
+        let ran = run(&rt, "replay", script(rt.alloc(), lines)?, none)?;
         assert_eq!(rt; ran.status, 4, "{lines}");
         assert!(rt; ran.out.bytes().is_empty(), "{lines}");
         let line = format!(in rt.alloc(); "poolsim: script: {told}\n")?;
@@ -68,12 +71,7 @@ fn an_event_line_at_fault_is_told(rt: HostRuntime) -> Result<(), Fail> {
 #[test]
 fn the_last_line_may_lack_its_newline(rt: HostRuntime) -> Result<(), Fail> {
     let none = (&[][..], &[][..], &[][..]);
-    let ran = run(
-        rt.alloc(),
-        "replay",
-        script(rt.alloc(), "tick\ntick")?,
-        none,
-    )?;
+    let ran = run(&rt, "replay", script(rt.alloc(), "tick\ntick")?, none)?;
     let mut printed = String::from_str(rt.alloc(), CANONICAL)?;
     printed.push_str("\n%%\ntick = ok\ntick = ok\n%%\nj0 z/j waiting new\n")?;
     assert_eq!(rt; ran.status, 0);
@@ -95,7 +93,7 @@ fn a_script_has_as_many_lines_as_a_journal(rt: HostRuntime) -> Result<(), Fail> 
             input.extend_from_slice(b"tick\n")?;
         }
         let none = (&[][..], &[][..], &[][..]);
-        let ran = run(rt.alloc(), "replay", input, none)?;
+        let ran = run(&rt, "replay", input, none)?;
         assert_eq!(rt; ran.status, status, "{ticks} lines");
         assert!(rt; ran.err.bytes() == told.as_bytes(), "{ticks} lines");
     }

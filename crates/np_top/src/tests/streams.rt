@@ -2,6 +2,7 @@
 
 use super::{CANONICAL, run, script, words_of};
 use crate::poolsim;
+use np_cloud::OpenGate;
 use np_io::{MemSink, MemSource, StdSource};
 use std::alloc::{AllocError, Global};
 use std::io;
@@ -30,12 +31,7 @@ fn text(alloc: Global) -> Result<String, AllocError> {
 #[test]
 fn a_stream_that_fails_is_told(rt: HostRuntime) -> Result<(), Fail> {
     for (source, out, err, line, status, whole, told) in STREAMS {
-        let ran = run(
-            rt.alloc(),
-            line,
-            script(rt.alloc(), "")?,
-            (source, out, err),
-        )?;
+        let ran = run(&rt, line, script(rt.alloc(), "")?, (source, out, err))?;
         let mut printed = String::new(rt.alloc());
         if whole {
             printed = text(rt.alloc())?;
@@ -54,11 +50,13 @@ fn a_text_is_cut_short_where_out_fails(rt: HostRuntime) -> Result<(), Fail> {
     let mut out = MemSink::in_pieces(rt.alloc(), Vec::from_array(rt.alloc(), [3])?, 5);
     let mut err = MemSink::new(rt.alloc(), Vec::new(rt.alloc()));
     let status = poolsim(
+        &rt,
         rt.alloc(),
         words.as_slice(),
         &mut source,
         &mut out,
         &mut err,
+        &OpenGate,
     );
     assert_eq!(rt; status, 6);
     assert!(rt; out.bytes() == b"{\"faults\":".as_slice());
@@ -94,11 +92,13 @@ fn what_comes_after_the_end_is_no_input(rt: HostRuntime) -> Result<(), Fail> {
     let mut out = MemSink::new(rt.alloc(), Vec::new(rt.alloc()));
     let mut err = MemSink::new(rt.alloc(), Vec::new(rt.alloc()));
     let status = poolsim(
+        &rt,
         rt.alloc(),
         words.as_slice(),
         &mut source,
         &mut out,
         &mut err,
+        &OpenGate,
     );
     assert_eq!(rt; status, 0);
     assert!(rt; out.bytes() == text(rt.alloc())?.as_bytes());

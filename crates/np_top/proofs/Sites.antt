@@ -1,0 +1,69 @@
+-- a site that was played: from what the rounds left to what a run shows
+use Rattle.std.proofs.Common.{◌≡◌, ◌∙◌, refl, sym, ap, subst, true, false, Bool, ℕ, List, [], ◌∷◌, length, map}
+use Rattle.std.specs.Prelude.{All, Option, Some}
+use Rattle.np_site.specs.Configuration.{Configuration}
+use Rattle.np_event.specs.declared.event.Outcome.{Outcome}
+use Rattle.np_event.specs.declared.entry.Entry.{Entry}
+use Rattle.np_machine.specs.Fates.{fates}
+use Rattle.np_machine.specs.History.{Runs, after}
+use Rattle.np_machine.specs.State.{State}
+use Rattle.np_useful.specs.Driven.{Driven, DrivenBy}
+use Rattle.np_useful.specs.Settled.{IsSettled}
+use Rattle.np_cloud.specs.declared.driver.Tag.{Tag}
+use Rattle.np_cloud.specs.Facts.{DriverFacts}
+use Rattle.np_cloud.specs.Sim.{Simulation, simulation_facts, simulation_plan}
+use Rattle.np_cloud.specs.Clouds.{ArePlanned, simulations}
+use Rattle.np_cloud.proofs.CloudLemmas.{simulations-planned, simulations-fresh}
+use Rattle.np_trace.specs.Drive.{Driving, driving}
+use Rattle.np_driven.specs.Players.{WasAnswered}
+use Rattle.np_driven.proofs.Plans.{planned-driven}
+use Rattle.np_report.specs.Printed.{IsPrinted}
+use Rattle.np_rounds.specs.Played.{EndsWithTick}
+use Rattle.np_top.specs.Run.{HasEnded, IsPlayedTo, status_of_fates}
+
+-- ## the clouds
+
+pub fresh : (c : Configuration) (clouds : List Simulation) → clouds ≡ simulations c (length c.pools) → All (λ (cloud : Simulation). (simulation_facts cloud).servers ≡ Some []) clouds
+fresh c clouds are = subst (All (λ (cloud : Simulation). (simulation_facts cloud).servers ≡ Some [])) (sym are) (simulations-fresh c (length c.pools))
+
+plans_of : {D : Type 0} (facts : D → DriverFacts) (plan : D → Tag → Option Outcome) (ds : List D) → map (λ (d : Driving). d.plan) (map (driving facts plan) ds) ≡ map plan ds
+plans_of facts plan [] = refl
+plans_of facts plan (d ∷ ds) = ap (λ (plans : List (Tag → Option Outcome)). plan d ∷ plans) (plans_of facts plan ds)
+
+-- what the clouds answered is what the configuration plans
+pub driven_of : (c : Configuration) (journal : List Entry) (clouds now : List Simulation) → clouds ≡ simulations c (length c.pools) →
+    map simulation_plan now ≡ map simulation_plan clouds → DrivenBy (WasAnswered (map (driving simulation_facts simulation_plan) now)) c journal → Driven c journal
+driven_of c journal clouds now are same driven = planned-driven c (map (driving simulation_facts simulation_plan) now) planned journal driven where
+  plans : map (λ (d : Driving). d.plan) (map (driving simulation_facts simulation_plan) now) ≡ map simulation_plan (simulations c (length c.pools))
+  plans = plans_of simulation_facts simulation_plan now ∙ same ∙ ap (map simulation_plan) are
+
+  planned : ArePlanned c 0 (map (λ (d : Driving). d.plan) (map (driving simulation_facts simulation_plan) now))
+  planned = subst (ArePlanned c 0) (sym plans) (simulations-planned c (length c.pools))
+
+-- ## the journal
+
+module _ (c d : Configuration) (journal : List Entry) (s : State) (same : d ≡ c) (runs : Runs d journal s) where
+  reached : after c journal ≡ s
+  reached = subst (λ (x : Configuration). after x journal ≡ s) same runs.ends
+
+  pub settled_end : IsSettled c s × EndsWithTick journal → HasEnded c journal false
+  settled_end settled = (subst (IsSettled c) (sym reached) settled.0, settled.1)
+
+  pub played_to : (text : List ℕ) (full : Bool) → IsPrinted d journal text → Driven c journal → HasEnded c journal full → IsPlayedTo c journal text full
+  played_to text full printed driven ended = record {
+    printed = subst (λ (x : Configuration). IsPrinted x journal text) same printed;
+    driven = driven;
+    ended = ended;
+  }
+
+  pub status_then : (status : ℕ) → status ≡ status_of_fates (fates s) → status ≡ status_of_fates (fates (after c journal))
+  status_then status is = is ∙ ap (λ (x : State). status_of_fates (fates x)) (sym reached)
+
+-- it is known which of both it was
+pub ended_is : (c : Configuration) (journal : List Entry) (full b : Bool) → full ≡ b → HasEnded c journal full → HasEnded c journal b
+ended_is c journal full b is ended = subst (HasEnded c journal) is ended
+
+-- how the rounds ended
+pub ended_so : (c d : Configuration) (journal : List Entry) (s : State) (full : Bool) → d ≡ c → Runs d journal s → (full ≡ false → IsSettled c s × EndsWithTick journal) → (full ≡ true → length journal ≡ 262144) → HasEnded c journal full
+ended_so c d journal s true same runs settled full = full refl
+ended_so c d journal s false same runs settled full = settled_end c d journal s same runs (settled refl)

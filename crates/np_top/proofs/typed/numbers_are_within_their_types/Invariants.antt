@@ -1,0 +1,8 @@
+use Rattle.std.proofs.Common.{take}
+use Rattle.std.specs.List.{AllByRecursion}
+use Rattle.np_event.specs.declared.entry.Entry.{Entry}
+use Rattle.np_top.specs.Typed.{IsTyped}
+use Rattle.np_top.proofs.typed.numbers_are_within_their_types.Given as goal
+
+abbrev pub invariant-loop-entry : goal.invariant-loop-entry
+invariant-loop-entry l = AllByRecursion (λ (e : Entry). IsTyped e.event) (take l.entry-index l.journal)

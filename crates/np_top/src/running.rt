@@ -1,0 +1,174 @@
+//! The command `run`.
+
+ghost use Rattle.std.specs.Prelude.{◌≡◌, length, IfOk, IfErr};
+ghost use Rattle.std.specs.List.{AllByRecursion};
+ghost use Rattle.np_event.specs.Line.{HasEventLine};
+ghost use Rattle.np_machine.specs.Fates.{fate_of, fates};
+ghost use Rattle.np_useful.specs.Driven.{Driven};
+ghost use Rattle.np_top.specs.Run.{
+  EndsRun,
+  HasCome,
+  HasEnded,
+  IsPlayed,
+  RunsSite,
+  is_waiting,
+  status_of_fates,
+};
+
+use crate::ending::Ending;
+use crate::input::input;
+use crate::lines::line_of_config;
+use crate::telling::tell;
+use crate::typed::numbers_are_within_their_types;
+use np_board::Board;
+use np_cloud::{Gate, simulated_clouds};
+use np_config::Config;
+use np_io::{Sink, Source};
+use np_json::{ConfigFault, ConfigRead};
+use np_look::Look;
+use np_record::JobRecord;
+use np_report::text;
+use np_rounds::{Ended, run_rounds};
+use np_text::{JobId, NoMemory};
+use std::alloc::Global;
+use std::sync::Wait;
+use std::thread::Threads;
+
+/// The configuration that the source has left, or its fault. The bytes are given back.
+fn configuration<S: Source>(
+    alloc: Global,
+    source: &mut S,
+) -> Result<Result<Config, ConfigFault>, Ending>
+    ensures read { IfOk result (λ read.
+        HasCome (S.facts source.old) (S.facts source.new) read) }
+    ensures stops { IfErr result (EndsRun (S.facts source.old) (S.facts source.new)) }
+{
+    let bytes = input(alloc, source)?;
+    match Config::from_json(alloc, bytes.as_slice()) {
+        Ok(config) => Ok(Ok(config)),
+        Err(ConfigRead::Fault(fault)) => Ok(Err(fault)),
+        Err(ConfigRead::NoMemory) => Err(Ending::NoMemory),
+    }
+}
+
+/// Whether the job isn't over.
+fn is_waiting<L: Look>(look: &L, job: &JobRecord) -> bool
+    ensures { result ≡ is_waiting (fate_of (L.state look.now) job.now) }
+{
+    job.ending.is_none()
+}
+
+/// The status of a run that came to its end: 1 where a job's fate is waiting.
+fn status_of<L: Look>(look: &L) -> u8
+    requires jobs { length (L.state look.now).jobs ≡ length (L.site look.now).jobs }
+    ensures { result ≡ status_of_fates (fates (L.state look.now)) }
+{
+    look.config().soundness();
+    let mut at = 0;
+    while let Some(job) = look.job(JobId(at)) {
+        if is_waiting(look, &job) {
+            return 1;
+        }
+        at += 1;
+    }
+    0
+}
+
+/// Plays the site over the simulated clouds, and answers the board, and whether its journal was
+/// full.
+fn play_site<R: Threads + Wait + Sync, G: Gate + Sync>(
+    rt: &R,
+    alloc: Global,
+    config: Config,
+    gate: &G,
+) -> Result<(Board, bool), NoMemory>
+    ensures configuration { IfOk result (λ r. r.0.configuration ≡ config) }
+    ensures lines { IfOk result (λ r. AllByRecursion (λ e. HasEventLine e.event) r.0.journal) }
+    ensures driven { IfOk result (λ r. Driven config r.0.journal) }
+    ensures ended { IfOk result (λ r. HasEnded config r.0.journal r.1) }
+{
+    config.soundness();
+    let clouds = simulated_clouds(alloc, &config)?;
+    let ended = run_rounds(rt, alloc, config, clouds, gate)?;
+    let Ended { board, full, .. } = ended;
+    board.soundness();
+    numbers_are_within_their_types(board.journal());
+    Ok((board, full))
+}
+
+/// Plays the site to its end, and answers how the run ends then.
+fn played<R: Threads + Wait + Sync, G: Gate + Sync>(
+    rt: &R,
+    alloc: Global,
+    config: Config,
+    gate: &G,
+) -> Result<Ending, NoMemory>
+    ensures { IfOk result (IsPlayed config) }
+{
+    let (board, full) = play_site(rt, alloc, config, gate)?;
+    board.soundness();
+    let text = text(alloc, &board, board.journal())?;
+    if full {
+        return Ok(Ending::Full { text });
+    }
+    Ok(Ending::Prints {
+        text,
+        status: status_of(&board),
+    })
+}
+
+/// How a run of what the source has left ends.
+fn ran<R: Threads + Wait + Sync, S: Source, G: Gate + Sync>(
+    rt: &R,
+    alloc: Global,
+    source: &mut S,
+    gate: &G,
+) -> Result<Ending, Ending>
+    ensures ok { IfOk result (EndsRun (S.facts source.old) (S.facts source.new)) }
+    ensures err { IfErr result (EndsRun (S.facts source.old) (S.facts source.new)) }
+{
+    match configuration(alloc, source)? {
+        Ok(config) => Ok(played(rt, alloc, config, gate)?),
+        Err(fault) => {
+            let line = line_of_config(alloc, &fault)?;
+            Ok(Ending::Says { line, status: 3 })
+        }
+    }
+}
+
+/// The same, whichever way it came.
+fn ending_of<R: Threads + Wait + Sync, S: Source, G: Gate + Sync>(
+    rt: &R,
+    alloc: Global,
+    source: &mut S,
+    gate: &G,
+) -> Ending
+    ensures { EndsRun (S.facts source.old) (S.facts source.new) result }
+{
+    match ran(rt, alloc, source, gate) {
+        Ok(ending) => ending,
+        Err(ending) => ending,
+    }
+}
+
+/// Reads a configuration from the source, lets its launchers, janitors, requesters and reaper play
+/// the site in threads to its end, and prints the Text of the journal that they made to out, or says
+/// on err why not. It answers the status: 0 where the site came to its end and no job waits, 1 where
+/// one does, 3 for a fault of the configuration, 5 for a failed source or too long an input, 6 for a
+/// failed sink, 7 where memory ran out. Where the journal was full the Text is printed, a line on
+/// err says so, and the status is 9. The input is read to its end first, then come the configuration,
+/// the rounds, and last the writing. It may wait for as long as the rounds do.
+pub fn run<R: Threads + Wait + Sync, S: Source, K: Sink, E: Sink, G: Gate + Sync>(
+    rt: &R,
+    alloc: Global,
+    source: &mut S,
+    out: &mut K,
+    err: &mut E,
+    gate: &G,
+) -> u8
+    ensures { RunsSite S.facts K.facts E.facts source.old source.new out.old out.new err.old err.new
+        result }
+{
+    let ending = ending_of(rt, alloc, source, gate);
+    tell(out, err, &ending)
+}
