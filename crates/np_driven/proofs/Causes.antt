@@ -30,7 +30,7 @@ follows_later xs ys first second s h = record {
 module _ (c : Configuration) (history : List Entry) (work : Work) where
   -- why the entry came after this history
   abbrev pub Cause : List Entry → Entry → List ℕ → List Launch → Type 0
-  Cause before e mine launches = IsActed c before e work ⊎ (IsSwept c before e ⊎ IsReported c before e work mine launches)
+  Cause before e mine launches = IsActed c before e work ⊎ (IsSwept c before e work ⊎ IsReported c before e work mine launches)
 
   module _ (mine places : List ℕ) (launches more : List Launch) (more_places : StartsWith places mine) (more_launches : StartsWith more launches) where
     reported_later : (before : List Entry) (e : Entry) → IsReported c before e work mine launches → IsReported c before e work places more

@@ -28,7 +28,6 @@ use Rattle.np_driven.proofs.Once.{once, report-later}
 use Rattle.np_driven.proofs.Roles.{role-stays, useful-start, useful-done}
 use Rattle.np_driven.proofs.Events.{start-parts, act-work}
 use Rattle.np_driven.proofs.New.{Cause}
-use Rattle.np_driven.proofs.Runs.{runs-before}
 
 -- an accepted start of the attempt, and where it stands
 pub record BeginsAt (c : Configuration) (later : List Entry) (session : SessionId) (n : NodeId) (k : ℕ) (pool : PoolId) (earlier : List Entry) (begin : Entry) : Type 0 where
@@ -96,8 +95,7 @@ module _ (c : Configuration) (later : List Entry) (runs : Runs c later (after c 
         let useful = useful-done c (after c b) a.role session n k o (subst (λ (x : Event). IsUseful c (after c b) a.role x) event a.answer.0) in
         let same : earlier ++ begin ∷ start.rest ≡ b ++ u ∷ after_u = sym start.stands ∙ is in
         let within = split-within earlier b start.rest (u ∷ after_u) begin same less in
-        let running = runs-before c later b (u ∷ after_u) (after c later) runs is in
-        let stays = role-stays c earlier (begin ∷ within.0) (after c b) session (Launcher pool) (subst (λ (j : List Entry). Runs c j (after c b)) within.1 running) start.role in
+        let stays = role-stays c earlier (begin ∷ within.0) session (Launcher pool) start.role in
         let role : role_of session (after c b) ≡ Some (Launcher pool) = subst (λ (j : List Entry). role_of session (after c j) ≡ Some (Launcher pool)) (sym within.1) stays in
         let equal : Some (Launcher useful.0) ≡ Some (Launcher pool) = sym useful.2 ∙ role in
         let pools : useful.0 ≡ pool = cc in
@@ -117,4 +115,4 @@ module _ (c : Configuration) (later : List Entry) (runs : Runs c later (after c 
 
     pub made-after : (work : Work) (mine : List ℕ) (launches : List Launch) → Cause c b u work mine launches → (work ≡ of_pool pool) × (length earlier < length b)
     made-after work mine launches cause = ⊎_elim (acted-after work)
-        (λ g. ⊎_elim (λ (s : IsSwept c b u). absurd (cc (s.answer.2.event, event))) (reported-after work mine launches) g) cause
+        (λ g. ⊎_elim (λ (s : IsSwept c b u work). absurd (cc (s.answer.2.event, event))) (reported-after work mine launches) g) cause

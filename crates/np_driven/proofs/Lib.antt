@@ -8,7 +8,7 @@ pub mod Steps
 pub mod Walked
 pub mod Servers
 pub mod Played
-pub mod Attempts
+pub mod NodeRecords
 pub mod Starts
 pub mod Once
 pub mod Roles
@@ -17,7 +17,6 @@ pub mod Places
 pub mod Ends
 pub mod Answers
 pub mod Events
-pub mod Runs
 pub mod New
 pub mod First
 pub mod Rounds
@@ -28,3 +27,5 @@ pub mod Swept
 pub mod Leaving
 pub mod Staying
 pub mod Whereabouts
+pub mod Unwanted
+pub mod OfRoles

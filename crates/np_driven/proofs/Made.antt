@@ -29,8 +29,9 @@ module _ (c : Configuration) (before : List Entry) (entry : Entry) where
     pub own : IsAskOf work (ask.Act role)
     pub answer : answers_act c before role (turn.Did entry)
 
-  pub record IsSwept : Type 0 where
+  pub record IsSwept (work : Work) : Type 0 where
     pub pool : PoolId
+    pub own : work ≡ of_pool pool
     pub server : Server
     pub answer : answers_sweep c before pool server.tag.node server.number (turn.Did entry)
     pub named : WasNamed c before server
@@ -57,4 +58,4 @@ pub record Made (c : Configuration) (history : List Entry) (work : Work) (mine :
   pub place : length before ≡ x
   pub stands : StartsWith seen (before ++ entry ∷ [])
   pub new : StartsWith before history
-  pub cause : IsActed c before entry work ⊎ (IsSwept c before entry ⊎ IsReported c before entry work mine launches)
+  pub cause : IsActed c before entry work ⊎ (IsSwept c before entry work ⊎ IsReported c before entry work mine launches)

@@ -1,5 +1,5 @@
 -- Servers that reports named: they stay so, and a launch's server is named by the report of the launch
-use Rattle.std.proofs.Common.{◌≡◌, inl, inr, ⊎_elim, ℕ, List, [], ◌∷◌, ◌++◌, sym, refl, ap, subst}
+use Rattle.std.proofs.Common.{◌≡◌, inl, inr, ℕ, List, [], ◌∷◌, ◌++◌, sym, refl, subst}
 use Rattle.std.specs.Prelude.{All}
 use Rattle.std.proofs.lemmas.List.Elements.{All-push, All-weaker}
 use Rattle.np_text.specs.declared.id.SessionId.{SessionId}
@@ -11,40 +11,26 @@ use Rattle.np_event.specs.declared.event.Outcome.TheVariants as outcome
 use Rattle.np_cloud.specs.declared.driver.Server.{Server}
 use Rattle.np_cloud.specs.Calls.{with_launched}
 use Rattle.np_desk.specs.History.{StartsWith}
-use Rattle.np_machine.specs.History.{after, state_after}
-use Rattle.np_machine.specs.State.{State, start}
-use Rattle.np_machine.specs.Step.{next}
+use Rattle.np_machine.specs.History.{after}
+use Rattle.np_machine.specs.State.{start}
 use Rattle.np_machine.specs.Turns.{Turn, turns, turns_from, SomeTurn}
 use Rattle.np_useful.specs.Driven.{NamesServer}
 use Rattle.np_trace.specs.declared.start.Start.{Start}
 use Rattle.np_trace.specs.Phase.{report_of}
 use Rattle.np_driven.specs.Players.{WasNamed}
-
--- ## turns
-
--- the turn of an entry after a journal
-abbrev pub turn_of : Configuration → State → Entry → Turn
-turn_of c s e = record { before = s; entry = e; later = next c s e.event }
+use Rattle.np_driven.proofs.Places.{turn_of, turns-append, some-left}
 
 module _ (P : Turn → Type 0) where
-  some_left : (ts us : List Turn) → SomeTurn P ts → SomeTurn P (ts ++ us)
-  some_left [] us h = absurd h
-  some_left (t ∷ ts) us h = ⊎_elim (λ (p : P t). inl p) (λ (q : SomeTurn P ts). inr (some_left ts us q)) h
-
   some_last : (ts : List Turn) (t : Turn) → P t → SomeTurn P (ts ++ t ∷ [])
   some_last [] t h = inl h
   some_last (u ∷ ts) t h = inr (some_last ts t h)
 
 module _ (c : Configuration) where
-  pub turns-append : (s : State) (journal more : List Entry) → turns_from c s (journal ++ more) ≡ turns_from c s journal ++ turns_from c (state_after c s journal) more
-  turns-append s [] more = refl
-  turns-append s (d ∷ journal) more = ap (λ (ts : List Turn). turn_of c s d ∷ ts) (turns-append (next c s d.event) journal more)
-
   -- ## names
 
   named_after : (journal more : List Entry) (server : Server) → WasNamed c journal server → WasNamed c (journal ++ more) server
   named_after journal more server h = let P = NamesServer server.tag.node server.number in
-      subst (SomeTurn P) (sym (turns-append (start c) journal more)) (some_left P (turns c journal) (turns_from c (after c journal) more) h)
+      subst (SomeTurn P) (sym (turns-append c (start c) journal more)) (some-left c P (turns c journal) (turns_from c (after c journal) more) h)
 
   pub named_later : (journal later : List Entry) (server : Server) → StartsWith later journal → WasNamed c journal server → WasNamed c later server
   named_later journal later server s h = subst (λ (l : List Entry). WasNamed c l server) (sym s.1) (named_after journal s.0 server h)
@@ -54,7 +40,7 @@ module _ (c : Configuration) where
 
   pub named_next : (journal : List Entry) (e : Entry) (session : SessionId) (attempt : ℕ) (server : Server) → e.event ≡ ev.Done session server.tag.node attempt (outcome.Launched server.number) → WasNamed c (journal ++ e ∷ []) server
   named_next journal e session attempt server is = let P = NamesServer server.tag.node server.number in
-      subst (SomeTurn P) (sym (turns-append (start c) journal (e ∷ [])))
+      subst (SomeTurn P) (sym (turns-append c (start c) journal (e ∷ [])))
       (some_last P (turns c journal) (turn_of c (after c journal) e) (record { session = session; attempt = attempt; event = is }))
 
   -- the report of a launch names the server that it made, if it made one

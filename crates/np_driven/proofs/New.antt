@@ -16,7 +16,7 @@ use Rattle.np_driven.proofs.Ends.{player_of, round-of, numbered-now}
 
 -- why a worker made the entry after the journal
 abbrev pub Cause : Configuration → List Entry → Entry → Work → List ℕ → List Launch → Type 0
-Cause c before e work mine launches = IsActed c before e work ⊎ (IsSwept c before e ⊎ IsReported c before e work mine launches)
+Cause c before e work mine launches = IsActed c before e work ⊎ (IsSwept c before e work ⊎ IsReported c before e work mine launches)
 
 same-cause : (c : Configuration) (stood before : List Entry) (entry e : Entry) (work : Work) (mine : List ℕ) (launches : List Launch) → stood ≡ before → entry ≡ e → Cause c stood entry work mine launches → Cause c before e work mine launches
 same-cause c stood before entry e work mine launches one two cause =

@@ -27,7 +27,7 @@ use Rattle.np_machine.specs.Session.{muted, ended}
 use Rattle.np_machine.specs.Node.{judge_start}
 use Rattle.np_machine.specs.Laws.{same_role}
 use Rattle.np_machine.specs.Step.{judge, next}
-use Rattle.np_machine.specs.History.{state_after, after, Runs}
+use Rattle.np_machine.specs.History.{state_after, after}
 use Rattle.np_changes.specs.Changes.{grown, sessions_changed}
 use Rattle.np_changes.specs.Plan.{plan}
 use Rattle.np_changes.specs.declared.changes.Changes.{Changes}
@@ -41,7 +41,7 @@ use Rattle.np_safe.proofs.Sessions.{facts_in, facts-grown}
 use Rattle.np_useful.specs.Sessions.{speaks_for, is_current}
 use Rattle.np_useful.specs.Launcher.{is_by_registrant}
 use Rattle.np_useful.specs.Useful.{IsUseful}
-use Rattle.np_driven.proofs.Attempts.{state_after-append}
+use Rattle.np_driven.proofs.NodeRecords.{state_after-append}
 
 -- ## a session keeps its role
 
@@ -81,8 +81,8 @@ role-over c s [] session role is = is
 role-over c s (entry ∷ more) session role is = role-over c (next c s entry.event) more session role (role-next c s entry.event session role is)
 
 -- whatever follows in a run
-pub role-stays : (c : Configuration) (journal more : List Entry) (t : State) (session : SessionId) (role : Role) → Runs c (journal ++ more) t → role_of session (after c journal) ≡ Some role → role_of session (after c (journal ++ more)) ≡ Some role
-role-stays c journal more t session role runs is =
+pub role-stays : (c : Configuration) (journal more : List Entry) (session : SessionId) (role : Role) → role_of session (after c journal) ≡ Some role → role_of session (after c (journal ++ more)) ≡ Some role
+role-stays c journal more session role is =
     subst (λ (s : State). role_of session s ≡ Some role) (sym (state_after-append c (start c) journal more)) (role-over c (after c journal) more session role is)
 
 -- ## who makes a useful event

@@ -15,7 +15,7 @@ use Rattle.np_machine.specs.Turns.{turns, EachTurn, SomeTurn}
 use Rattle.np_useful.specs.Driven.{DrivenBy, IsDrivenTurn, IsSweepOfServer, IsReportOfLaunch, BeginsLaunch, is_tick, is_report_of}
 use Rattle.np_useful.specs.Useful.{IsUseful}
 use Rattle.np_trace.specs.Move.{launches_of}
-use Rattle.np_trace.specs.Phase.{of_pool}
+use Rattle.np_trace.specs.Phase.{Work, of_pool}
 use Rattle.np_driven.specs.Players.{Player, HaveDriven, drivings_of, AreNumbered, WasAnswered, launch_of}
 use Rattle.np_driven.specs.Round.{PlayerEnd, IsRound}
 use Rattle.np_driven.proofs.Made.{IsActed, IsSwept, IsReported, Follows}
@@ -108,8 +108,8 @@ module _ (c : Configuration) (history later : List Entry) (players now : List Pl
       answered = was-answered;
     }
 
-  swept-driven : (before : List Entry) (e : Entry) → IsSwept c before e → IsSweepOfServer (turns c before) (turn_after c before e)
-  swept-driven before e s = record {
+  swept-driven : (before : List Entry) (e : Entry) (work : Work) → IsSwept c before e work → IsSweepOfServer (turns c before) (turn_after c before e)
+  swept-driven before e work s = record {
     session = s.answer.2.session;
     pool = s.pool;
     number = s.server.tag.node;
@@ -125,7 +125,7 @@ module _ (c : Configuration) (history later : List Entry) (players now : List Pl
   new-driven before e rest is young =
       let new = new-entry c history later players now is_cut round have before e rest is young in
       ⊎_elim (λ (a : IsActed c before e new.player.work). inl (record { role = a.role; useful = a.answer.0 }))
-      (λ g. inr (inr (⊎_elim (λ (s : IsSwept c before e). inl (swept-driven before e s)) (λ r. inr (reported-driven before e rest is new r)) g)))
+      (λ g. inr (inr (⊎_elim (λ (s : IsSwept c before e new.player.work). inl (swept-driven before e new.player.work s)) (λ r. inr (reported-driven before e rest is new r)) g)))
       new.cause
 
   old-driven : (before : List Entry) (e : Entry) (rest : List Entry) → later ≡ before ++ e ∷ rest → length before < length history → IsDrivenTurn (WasAnswered (drivings_of players-now)) c (turns c before) (turn_after c before e)
@@ -150,5 +150,5 @@ module _ (c : Configuration) (history later : List Entry) (players now : List Pl
       false_from_ne_true (is_tick e.event) (λ yes.
       let tick = tick-event e.event yes in
       ⊎_elim (λ (a : IsActed c before e new.player.work). useful-tickless c (after c before) a.role (subst (λ (x : Event). IsUseful c (after c before) a.role x) tick a.answer.0))
-      (λ g. ⊎_elim (λ (s : IsSwept c before e). absurd (cc (s.answer.2.event, tick))) (λ r. absurd (cc (r.event, tick))) g)
+      (λ g. ⊎_elim (λ (s : IsSwept c before e new.player.work). absurd (cc (s.answer.2.event, tick))) (λ r. absurd (cc (r.event, tick))) g)
       new.cause)

@@ -26,7 +26,7 @@ use Rattle.np_changes.proofs.Tested.{ok-is, on-given, on-found, on-need}
 use Rattle.np_safe.specs.Parts.{IsNumbered}
 use Rattle.np_safe.proofs.Lookups.{node_in-put, node_in-below}
 use Rattle.np_safe.proofs.Replies.{accepted-state}
-use Rattle.np_driven.proofs.Attempts.{IsSpent}
+use Rattle.np_driven.proofs.NodeRecords.{IsSpent}
 
 -- an answer with the reply of what was done
 answer-is : (a : Answer) (what : Done) → reply_of a ≡ reply.Done what → a ≡ Ok what
@@ -84,7 +84,7 @@ begins-spends : (c : Configuration) (s : State) (session : SessionId) (n : NodeI
 begins-spends c s session n k m numbered ok =
     let b : Begins s session n k = begins s session n k m ok in
     let low : n.0 < s.next_node = node_in-below n s.next_node b.node s.nodes numbered.nodes_below b.stands in
-    let later : IsSpent n k (with_act (acting s (ev.Start session n)) (started s n b.pool b.node)) = record { given = low; attempts = λ node is. put-had s session n k (starts_of b.pool s + 1) b node is } in
+    let later : IsSpent n k (with_act (acting s (ev.Start session n)) (started s n b.pool b.node)) = record { given = low; holds = λ node is. put-had s session n k (starts_of b.pool s + 1) b node is } in
     subst (IsSpent n k) (sym (start-leads c s session n k m b ok)) later
 
 -- an accepted start spends the attempt that it is answered with
@@ -96,7 +96,7 @@ start-spends c s e session n k m numbered says event_is reply_is =
 pub start-fresh : (c : Configuration) (s : State) (e : Entry) (session : SessionId) (n : NodeId) (k m : ℕ) → e.reply ≡ reply_of (judge c s e.event) → e.event ≡ ev.Start session n → e.reply ≡ reply.Done (done.Started k m) → IsSpent n k s → ⊥
 start-fresh c s e session n k m says event_is reply_is spent =
     let b : Begins s session n k = begins s session n k m (start-begins c s e session n k m says event_is reply_is) in
-    let many : k ≤ b.node.attempts = spent.attempts b.node b.stands in
+    let many : k ≤ b.node.attempts = spent.holds b.node b.stands in
     let least : b.node.attempts + 1 ≡ k = b.next_one in
     omega arith
 
@@ -114,6 +114,6 @@ done-spends c s session n k o numbered accepted =
     on-need (node.attempts == k) _ _ was.0 attempt_is (λ attempt rest.
     record {
       given = node_in-below n s.next_node node s.nodes numbered.nodes_below stands;
-      attempts = λ other there. (let same : node ≡ other = same_Some node other (sym stands ∙ there) in
+      holds = λ other there. (let same : node ≡ other = same_Some node other (sym stands ∙ there) in
           subst (λ (x : NodeRecord). k ≤ x.attempts) same (let many : node.attempts ≡ k = eqb-true node.attempts k attempt in omega arith));
     }))))))

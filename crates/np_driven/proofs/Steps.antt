@@ -132,9 +132,10 @@ module _ (c : Configuration) (history : List Entry) (work : Work) where
 
     -- ## a server is asked about
 
-    sweep_cause : (pool : PoolId) (n : NodeId) (x : ℕ) (before : List Entry) (e : Entry) → All (WasNamed c v.seen) servers → IsOfServer (ask.Sweep pool n x) servers → StartsWith before v.seen → answers_sweep c before pool n x (turn.Did e) → IsSwept c before e
-    sweep_cause pool n x before e k there s a = record {
+    sweep_cause : (pool : PoolId) (n : NodeId) (x : ℕ) (before : List Entry) (e : Entry) → work ≡ of_pool pool → All (WasNamed c v.seen) servers → IsOfServer (ask.Sweep pool n x) servers → StartsWith before v.seen → answers_sweep c before pool n x (turn.Did e) → IsSwept c before e work
+    sweep_cause pool n x before e h k there s a = record {
       pool = pool;
+      own = h;
       server = there.0;
       answer = subst (λ (y : ℕ). answers_sweep c before pool there.0.tag.node y (turn.Did e)) (sym there.3) (subst (λ (m : NodeId). answers_sweep c before pool m x (turn.Did e)) (sym there.2) a);
       named = named_later c v.seen before there.0 s (All-contains (WasNamed c v.seen) servers there.0 k there.1);
@@ -142,7 +143,7 @@ module _ (c : Configuration) (history : List Entry) (work : Work) where
 
     did_sweep : (pool : PoolId) (n : NodeId) (x : ℕ) (before : List Entry) (e : Entry) → work ≡ of_pool pool → All (WasNamed c v.seen) servers → IsOfServer (ask.Sweep pool n x) servers → Adds before e v u → answers_sweep c before pool n x (turn.Did e) → Stands (after_sweep pool x (turn.Did e)) u launches servers
     did_sweep pool n x before e h k there m a = stands_there (after_sweep pool x (turn.Did e)) u launches servers
-        (added_made c history work before e v u launches m (inr (inl (sweep_cause pool n x before e k there m.0 a))) made)
+        (added_made c history work before e v u launches m (inr (inl (sweep_cause pool n x before e h k there m.0 a))) made)
         (swept_fits c work (is_remove e.reply) pool x u launches servers h (named_added before e m k))
 
     sweep_step : (pool : PoolId) (n : NodeId) (x : ℕ) (t : Turn) → work ≡ of_pool pool → All (WasNamed c v.seen) servers → IsOfServer (ask.Sweep pool n x) servers → Answered answers recorded c v (ask.Sweep pool n x) t u → Stands (after_sweep pool x t) u launches servers

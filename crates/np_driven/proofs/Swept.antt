@@ -24,6 +24,7 @@ use Rattle.np_machine.specs.Step.{judge, effect, acting, with_act, next, reply_o
 use Rattle.np_machine.specs.History.{state_after, after}
 use Rattle.np_machine.proofs.Steps.{after_found-keeps, after_given-keeps, next-keeps}
 use Rattle.np_trace.specs.Phase.{is_remove}
+use Rattle.np_driven.proofs.NodeRecords.{state_after-append}
 
 -- ## a pair more
 
@@ -141,14 +142,10 @@ later-keeps c s (e ∷ journal) =
     let rest : KeepsSwept (next c s e.event) (state_after c (next c s e.event) journal) = later-keeps c (next c s e.event) journal in
     record { keeps = λ n x is. rest.keeps n x (first.keeps n x is) }
 
-state-append : (c : Configuration) (s : State) (journal more : List Entry) → state_after c s (journal ++ more) ≡ state_after c (state_after c s journal) more
-state-append c s [] more = refl
-state-append c s (e ∷ journal) more = state-append c (next c s e.event) journal more
-
 -- what is swept after a history is swept after each that goes on from it
 pub swept-stays : (c : Configuration) (seen before : List Entry) → StartsWith seen before → KeepsSwept (after c before) (after c seen)
 swept-stays c seen before h =
-    subst (KeepsSwept (after c before)) (sym (ap (λ (l : List Entry). after c l) h.1 ∙ state-append c (start c) before h.0))
+    subst (KeepsSwept (after c before)) (sym (ap (λ (l : List Entry). after c l) h.1 ∙ state_after-append c (start c) before h.0))
     (later-keeps c (after c before) h.0)
 
 -- ## what a sweep adds
@@ -168,6 +165,6 @@ sweep-adds c s e session n x is unwanted =
 -- a sweep that is answered `Remove` leaves its pair swept
 pub swept-after : (c : Configuration) (journal : List Entry) (e : Entry) (session : SessionId) (n : NodeId) (x : ℕ) → e.event ≡ ev.Sweep session n x → is_wanted (after c journal) n x ≡ false → e.reply ≡ reply_of (judge c (after c journal) e.event) → is_remove e.reply ≡ true → is_swept n x (after c (journal ++ e ∷ [])).swept ≡ true
 swept-after c journal e session n x is unwanted reply removes =
-    subst (λ (s : State). is_swept n x s.swept ≡ true) (sym (state-append c (start c) journal (e ∷ [])))
+    subst (λ (s : State). is_swept n x s.swept ≡ true) (sym (state_after-append c (start c) journal (e ∷ [])))
     (accepted-next_by (λ (s : State). is_swept n x s.swept ≡ true) c (after c journal) e.event (judge c (after c journal) e.event) refl
     (sym (ap is_remove reply) ∙ removes) (sweep-adds c (after c journal) e.event session n x is unwanted))

@@ -20,7 +20,7 @@ use Rattle.np_trace.proofs.Works.{asks_of}
 use Rattle.np_trace.specs.Trace.{WasKept}
 use Rattle.np_driven.specs.Players.{Player}
 use Rattle.np_driven.specs.Round.{PlayerEnd, PlaysFrom, fresh_sight}
-use Rattle.np_driven.specs.Servers.{HasServers, IsOfRound, IsOnlyOfItsNumber, WasDue, IsSweptAfter, LeftWithCause, StaysKept}
+use Rattle.np_driven.specs.Servers.{HasServers, IsOfRound, IsOnlyOfItsNumber, IsOnlyNodeOfItsNumber, WasDue, IsSweptAfter, LeftWithCause, StaysKept}
 use Rattle.np_desk.proofs.HistoryLemmas.{starts_same}
 use Rattle.np_driven.proofs.Leaving.{round-server_leaves, removed-cause}
 use Rattle.np_driven.proofs.Staying.{kept-stays}
@@ -61,6 +61,10 @@ left-with_cause c history player end pool before now plays work had has server o
 pub own-pair : (c : Configuration) (history seen : List Entry) (pool : PoolId) (trace : List Move) (servers : List Server) (server : Server) → LeftWithCause c history seen pool trace servers server → IsOnlyOfItsNumber trace servers server → WasDue c history seen pool server.number ⊎ IsSweptAfter c seen server
 own-pair c history seen pool trace servers server (inl due) only = inl due
 own-pair c history seen pool trace servers server (inr swept) only = inr (subst (IsSweptAfter c seen) (only swept.server swept.of_round swept.number) swept.swept)
+
+-- with no other node of its number, the due one is its own
+pub own-node : (c : Configuration) (history seen : List Entry) (pool : PoolId) (server : Server) → IsOnlyNodeOfItsNumber c history seen pool server → (due : WasDue c history seen pool server.number) → due.node ≡ server.tag.node
+own-node c history seen pool server only due = only due.before due.of_round due.of_seen due.node due.due.node due.due.stands due.due.of_pool due.due.server
 
 -- ## staying
 

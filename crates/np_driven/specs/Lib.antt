@@ -1,3 +1,4 @@
 pub mod Players
 pub mod Round
+pub mod Makers
 pub mod Servers

@@ -1,21 +1,25 @@
 -- what became of a driver's servers in a round
-use Rattle.std.specs.Prelude.{◌≡◌, ◌⊎◌, ◌≤◌, ℕ, true, List, length, slice_get, Contains, Some}
+use Rattle.std.specs.Prelude.{◌≡◌, ◌⊎◌, ◌≤◌, ℕ, true, false, List, length, slice_get, Contains, Some}
 use Rattle.np_text.specs.declared.id.SessionId.{SessionId}
 use Rattle.np_text.specs.declared.id.PoolId.{PoolId}
 use Rattle.np_text.specs.declared.id.NodeId.{NodeId}
+use Rattle.np_text.specs.declared.id.Role.TheVariants.{Janitor}
 use Rattle.np_site.specs.Configuration.{Configuration}
+use Rattle.np_record.specs.declared.record.NodeRecord.{NodeRecord}
 use Rattle.np_event.specs.declared.event.Event.TheVariants as event
 use Rattle.np_event.specs.declared.event.Outcome.TheVariants as outcome
 use Rattle.np_event.specs.declared.entry.Entry.{Entry}
 use Rattle.np_cloud.specs.declared.driver.Server.{Server}
 use Rattle.np_machine.specs.History.{after}
-use Rattle.np_machine.specs.Node.{is_swept}
+use Rattle.np_machine.specs.Node.{is_swept, is_wanted}
+use Rattle.np_machine.specs.Tables.{node_in}
+use Rattle.np_useful.specs.Sessions.{has_current}
 use Rattle.np_desk.specs.History.{StartsWith}
 use Rattle.np_desk.specs.Pass.{Sight}
 use Rattle.np_board.specs.Answers.{IsDue, IsKept}
 use Rattle.np_trace.specs.Drive.{Driving}
 use Rattle.np_trace.specs.Move.{Move, launches_of}
-use Rattle.np_driven.specs.Players.{Player}
+use Rattle.np_driven.specs.Players.{Player, WasNamed}
 
 -- ## which servers
 
@@ -38,6 +42,12 @@ IsOfRound trace servers server = Contains servers server ⊎ WasLaunched trace s
 abbrev pub IsOnlyOfItsNumber : List Move → List Server → Server → Type 0
 IsOnlyOfItsNumber trace servers server =
     (other : Server) → IsOfRound trace servers other → other.number ≡ server.number → other ≡ server
+
+-- at no time of the round has another node of the pool a server of this number (own)
+abbrev pub IsOnlyNodeOfItsNumber : Configuration → List Entry → List Entry → PoolId → Server → Type 0
+IsOnlyNodeOfItsNumber c history seen pool server =
+    (before : List Entry) → StartsWith before history → StartsWith seen before → (n : NodeId) (node : NodeRecord)
+    → node_in n (after c before).nodes ≡ Some node → node.pool.0 ≡ pool.0 → node.server ≡ Some server.number → n ≡ server.tag.node
 
 -- ## servers that left
 
@@ -83,3 +93,17 @@ pub record StaysKept (c : Configuration) (history : List Entry) (sight : Sight E
   pub of_seen : StartsWith sight.seen before
   pub kept : IsKept pool server.tag.node server.number (after c before)
   pub rest : (x : ℕ) → Contains sight.mine x → length before ≤ x → IsSweepAt sight.seen x
+
+-- ## servers that nobody wants
+
+-- at some time of the history the server had been named, and no record wanted it (own)
+pub record WasUnwanted (c : Configuration) (history : List Entry) (server : Server) : Type 0 where
+  pub before : List Entry
+  pub of_history : StartsWith history before
+  pub named : WasNamed c before server
+  pub unwanted : is_wanted (after c before) server.tag.node server.number ≡ false
+
+-- the pool's janitor has a session at each time of the round (own)
+abbrev pub KeepsJanitor : Configuration → List Entry → List Entry → PoolId → Type 0
+KeepsJanitor c history seen pool =
+    (before : List Entry) → StartsWith before history → StartsWith seen before → has_current (Janitor pool) (after c before) ≡ true

@@ -5,17 +5,20 @@ ghost use Rattle.np_text.specs.declared.id.PoolId.{PoolId};
 ghost use Rattle.np_site.specs.Configuration.{Configuration};
 ghost use Rattle.np_event.specs.declared.entry.Entry.{Entry};
 ghost use Rattle.np_cloud.specs.declared.driver.Server.{Server};
+ghost use Rattle.np_useful.specs.Driven.{DrivenBy};
+ghost use Rattle.np_trace.specs.Drive.{Driving};
 ghost use Rattle.np_trace.specs.Move.{Move};
 ghost use Rattle.np_trace.specs.Phase.{ended, of_pool};
 ghost use Rattle.np_trace.specs.Trace.{WasKept};
-ghost use Rattle.np_driven.specs.Players.{Player};
+ghost use Rattle.np_driven.specs.Players.{Player, WasAnswered};
 ghost use Rattle.np_driven.specs.Round.{PlayerEnd, PlaysFrom};
-ghost use Rattle.np_driven.specs.Servers.{HasServers, IsOfRound, IsOnlyOfItsNumber, IsSweptAfter, LeftWithCause, StaysKept, WasDue};
+ghost use Rattle.np_driven.specs.Servers.{HasServers, IsOfRound, IsOnlyNodeOfItsNumber, IsOnlyOfItsNumber, IsSweptAfter, KeepsJanitor, LeftWithCause, StaysKept, WasDue, WasUnwanted};
 
 /// A server that a pool's driver had before the round or launched in it, and that it has no more,
 /// left with a cause. Either a node of the pool was due with a server of its number at some time of
 /// the round, or a server of its number that the driver had in the round was swept, and is swept
-/// after all that was seen. Where no other server of the round has its number, it is itself swept.
+/// after all that was seen. Where no other server of the round has its number, it is itself swept;
+/// where no other node of the pool has it, the node is its own.
 pub fn servers_leave_with_a_cause()
     ensures cause { (c : Configuration) (history : List Entry) (player : Player) (end : PlayerEnd)
         (pool : PoolId) (before now : List Server) (plays : PlaysFrom c history player end) →
@@ -27,6 +30,9 @@ pub fn servers_leave_with_a_cause()
         LeftWithCause c history seen pool trace servers server →
         IsOnlyOfItsNumber trace servers server →
         WasDue c history seen pool server.number ⊎ IsSweptAfter c seen server }
+    ensures own_node { (c : Configuration) (history seen : List Entry) (pool : PoolId)
+        (server : Server) → IsOnlyNodeOfItsNumber c history seen pool server →
+        (due : WasDue c history seen pool server.number) → due.node ≡ server.tag.node }
 {}
 
 /// Servers that a round asked about and kept stay where they are kept: unless the journal was full,
@@ -37,4 +43,18 @@ pub fn servers_stay_where_they_are_kept()
         (pool : PoolId) (servers : List Server) (plays : PlaysFrom c history player end) →
         ¬ (end.phase ≡ ended) → All (WasKept pool plays.trace) servers →
         All (StaysKept c history end.sight pool) servers }
+{}
+
+/// A server that nobody wants goes: where it was named, and no record wanted it at some time before
+/// the round, it is not among the servers that a round of its pool asked about and kept, unless the
+/// pool had no janitor at some time of the round. So a server whose removal failed after its sweep is
+/// gone after the next such round.
+pub fn unwanted_servers_go_in_a_whole_round()
+    ensures { (c : Configuration) (drivings : List Driving) (history : List Entry)
+        (player : Player) (end : PlayerEnd) (pool : PoolId) (servers : List Server)
+        (plays : PlaysFrom c history player end) →
+        DrivenBy (WasAnswered drivings) c history →
+        ¬ (end.phase ≡ ended) → All (WasKept pool plays.trace) servers →
+        KeepsJanitor c history end.sight.seen pool →
+        (server : Server) → WasUnwanted c history server → ¬ (Contains servers server) }
 {}
