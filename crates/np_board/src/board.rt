@@ -4,6 +4,7 @@ ghost use Rattle.std.specs.Prelude.{◌≡◌, ◌↔◌, [], true, IfOk, OnErr,
 ghost use Rattle.np_machine.specs.History.{Runs};
 ghost use Rattle.np_machine.specs.State.{start};
 ghost use Rattle.np_fits.specs.Fits.{IsFitSite};
+ghost use Rattle.np_index.specs.Index.{IsIndexOf};
 ghost use Rattle.np_rules.specs.Ran.{answer_of, applied};
 ghost use Rattle.np_useful.specs.Settled.{IsSettled};
 ghost use Rattle.np_board.specs.Answers.{answers_due};
@@ -18,6 +19,7 @@ use crate::due::{due_node, is_wanted};
 use np_choices::{choose, is_settled};
 use np_config::Config;
 use np_event::{Entry, Event, Reply};
+use np_index::Index;
 use np_look::Look;
 use np_roles::current_session;
 use np_rules::Plain;
@@ -25,21 +27,25 @@ use np_text::{JOURNAL_ENTRIES, NoMemory, NodeId, PoolId, Role};
 use std::alloc::Global;
 use std::marker::Model;
 
-/// The machine's state with its journal. It changes by entries of the journal alone.
+/// The machine's state with its journal. It changes by entries of the journal alone, and keeps an
+/// index beside its state, by which readers are answered.
 #[derive(Drop)]
 pub struct Board {
     plain: Plain,
+    index: Index,
 }
 
 impl Model for Board {
     ghost use Rattle.std.specs.Prelude.{length};
+    ghost use Rattle.np_index.specs.Index.{IsIndexOf};
     ghost use Rattle.np_rules.specs.Ran.{IsRun, Ran};
 
     ghost Value = { Ran };
 
     ghost view = { λ b. b.plain };
 
-    ghost invariant = { λ b. IsRun b.plain (length b.plain.journal) };
+    ghost invariant = { λ b. IsRun b.plain (length b.plain.journal)
+        × IsIndexOf b.plain.configuration b.plain.state b.index };
 }
 
 impl Board {
@@ -53,7 +59,8 @@ impl Board {
     {
         config.soundness();
         let plain = Plain::new(alloc, config)?;
-        Ok(Board { plain })
+        let index = Index::rebuild(alloc, &plain)?;
+        Ok(Board { plain, index })
     }
 
     /// The journal leads to the state, and the configuration leaves room for every run. The call
@@ -70,6 +77,13 @@ impl Board {
         ensures { result.now ≡ self.now.journal }
     {
         self.plain.journal()
+    }
+
+    /// The index of the state. It takes no memory.
+    pub fn index(&self) -> &Index
+        ensures { IsIndexOf self.now.configuration self.now.state result.now }
+    {
+        &self.index
     }
 
     /// What the event is answered: `Full` where the journal has 262,144 entries. It takes no
@@ -89,6 +103,7 @@ impl Board {
         ensures runs { Runs self.new.configuration self.new.journal self.new.state }
     {
         let reply = self.plain.apply(event)?;
+        self.index.note(&self.plain, Entry { event, reply });
         Ok(reply)
     }
 
@@ -122,7 +137,7 @@ impl Board {
         if self.plain.journal().len() >= JOURNAL_ENTRIES {
             return Ok(Turn::Full);
         }
-        let reply = self.plain.apply(event)?;
+        let reply = self.apply(event)?;
         Ok(Turn::Did(Entry { event, reply }))
     }
 

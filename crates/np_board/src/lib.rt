@@ -2,9 +2,10 @@
 //!
 //! A turn (`Turn`) answers an ask (`Ask`) after the journal so far; `specs/Answers` says which
 //! answers an ask may have, and `specs/Taken` what a turn leaves. `Board` has `Look` for its
-//! readers, and `SeqObject` for threads that share it at a desk (np_desk). There the journal is the
-//! history, and `specs/Legal` tests that its replies are the machine's; the laws in `law` say what
-//! follows from that test and from an answer.
+//! readers, some of which it answers by the index (np_index) that it keeps beside the state, and
+//! `SeqObject` for threads that share it at a desk (np_desk). There the journal is the history, and
+//! `specs/Legal` tests that its replies are the machine's; the laws in `law` say what follows from
+//! that test and from an answer.
 #![tactic(auto)]
 
 mod ask;

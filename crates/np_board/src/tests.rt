@@ -1,5 +1,5 @@
 //! What no clause says: that calls succeed with ample memory, on a job from its request to the end
-//! of its server.
+//! of its server, and on one that is withdrawn.
 
 ghost use Rattle.std.specs.Prelude.{IfOk};
 
@@ -7,14 +7,19 @@ use crate::{Ask, Board, Turn};
 use np_config::Config;
 use np_desk::{Alone, Turns};
 use np_event::{Done, Entry, Event, Outcome, Reply};
+use np_index::Index;
 use np_look::Look;
-use np_text::{NoMemory, NodeId, PoolId, RequesterId, Role};
+use np_text::{JobId, NoMemory, NodeId, PoolId, RequesterId, Role, SessionId};
 use std::alloc::Global;
 use std::test::Fail;
 
 // One pool, one label, one job.
 const SITE: &str =
     r#"{"labels":[{"name":"a"}],"providers":[{"name":"c","pools":[{"name":"m","labels":[{"name":"a"}]}]}],"requesters":[{"name":"z","jobs":[{"name":"j","labels":["a"]}]}]}"#;
+
+// The same, with two jobs.
+const SITE_OF_TWO: &str =
+    r#"{"labels":[{"name":"a"}],"providers":[{"name":"c","pools":[{"name":"m","labels":[{"name":"a"}]}]}],"requesters":[{"name":"z","jobs":[{"name":"j","labels":["a"]},{"name":"k","labels":["a"]}]}]}"#;
 
 const LAUNCHER: Role = Role::Launcher(PoolId(0));
 
@@ -29,11 +34,61 @@ const SWEEP: Ask = Ask::Sweep {
     server: 1,
 };
 
-fn new_board(alloc: Global) -> Result<Board, NoMemory> {
-    let Ok(config) = Config::from_json(alloc, SITE.as_bytes()) else {
+// Entries of the one requester, each with its first and its second job that is not over then.
+const STEPS: [(Event, Option<JobId>, Option<JobId>); 4] = [
+    (
+        Event::OpenSession { role: REQUESTER },
+        Some(JobId(0)),
+        Some(JobId(1)),
+    ),
+    (
+        Event::Submit {
+            session: SessionId(1),
+            job: JobId(0),
+        },
+        Some(JobId(0)),
+        Some(JobId(1)),
+    ),
+    (
+        Event::Withdraw {
+            session: SessionId(1),
+            job: JobId(0),
+        },
+        Some(JobId(1)),
+        None,
+    ),
+    (
+        Event::Withdraw {
+            session: SessionId(1),
+            job: JobId(1),
+        },
+        None,
+        None,
+    ),
+];
+
+fn new_board(alloc: Global, site: &str) -> Result<Board, NoMemory> {
+    let Ok(config) = Config::from_json(alloc, site.as_bytes()) else {
         return Err(NoMemory);
     };
     Board::new(alloc, config)
+}
+
+// The requester's jobs that are not over are these two, by the board's index and by a new one.
+fn has_unfinished(
+    alloc: Global,
+    board: &Board,
+    first: Option<JobId>,
+    second: Option<JobId>,
+) -> Result<bool, NoMemory> {
+    let made = Index::rebuild(alloc, board)?;
+    let requester = RequesterId(0);
+    Ok(
+        board.index().unfinished(requester, 0) == first
+            && board.index().unfinished(requester, 1) == second
+            && made.unfinished(requester, 0) == first
+            && made.unfinished(requester, 1) == second,
+    )
 }
 
 // A start launches the server of its number.
@@ -95,7 +150,7 @@ fn act_until_due<T: Turns<Ask = Ask, Entry = Entry, Turn = Turn>>(
 
 #[test]
 fn a_job_is_served_and_its_server_swept(rt: HostRuntime) -> Result<(), Fail> {
-    let Ok(board) = new_board(rt.alloc()) else {
+    let Ok(board) = new_board(rt.alloc(), SITE) else {
         return Err(Fail::from("no board"));
     };
     board.soundness();
@@ -113,6 +168,11 @@ fn a_job_is_served_and_its_server_swept(rt: HostRuntime) -> Result<(), Fail> {
     };
     assert_eq!(rt; act_until_due(&mut alone), Ok(due));
     assert!(rt; !alone.object.settled());
+    assert_eq!(rt;
+        has_unfinished(rt.alloc(), &alone.object, None, None),
+        Ok(true),
+        "served"
+    );
     assert!(rt; act_all(&mut alone, JANITOR).is_ok());
     assert_eq!(rt; alone.turn(Ask::Due(PoolId(0))), Ok(Turn::Idle));
     let Ok(Turn::Did(entry)) = alone.turn(SWEEP) else {
@@ -126,5 +186,21 @@ fn a_job_is_served_and_its_server_swept(rt: HostRuntime) -> Result<(), Fail> {
     assert!(rt; board.settled());
     assert_eq!(rt; board.journal().len(), board.entries() as usize);
     assert_eq!(rt; board.judge(Event::Tick), Reply::Done(Done::Plain));
+    Ok(())
+}
+
+#[test]
+fn a_withdrawn_job_is_listed_no_more(rt: HostRuntime) -> Result<(), Fail> {
+    let Ok(mut board) = new_board(rt.alloc(), SITE_OF_TWO) else {
+        return Err(Fail::from("no board"));
+    };
+    for (event, first, second) in STEPS {
+        assert!(rt; board.apply(event).is_ok(), "{event:?}");
+        assert_eq!(rt;
+            has_unfinished(rt.alloc(), &board, first, second),
+            Ok(true),
+            "{event:?}"
+        );
+    }
     Ok(())
 }

@@ -1,4 +1,4 @@
-//! What can be read of the board: what its machine tells.
+//! What can be read of the board: what its machine tells, and what its index has.
 
 ghost use Rattle.std.specs.Prelude.{length};
 
@@ -193,7 +193,7 @@ impl Look for Board {
     }
 
     fn unfinished(&self, requester: RequesterId, at: u32) -> Option<JobId> {
-        self.plain.unfinished(requester, at)
+        self.index.unfinished(requester, at)
     }
 
     fn owner(&self, node: NodeId) -> Option<JobId> {
