@@ -1,11 +1,11 @@
 -- Places of several passes together, and how long histories are.
-use Rattle.std.proofs.Common.{◌≡◌, ◌⊎◌, inl, inr, ⊎_elim, ℕ, zero, suc, ◌+◌, ◌<◌, ◌≤◌, List, [], ◌∷◌, ◌++◌, length, length-append, drop, refl, sym, ap, ◌∙◌, subst, arith, append-nil, Bool, true, false, cond, eqb, eq-eqb, ne_eqb}
-use Rattle.std.specs.Prelude.{Contains, slice_index_or, nat_lt}
+use Rattle.std.proofs.Common.{◌≡◌, ◌⊎◌, inl, inr, ℕ, suc, ◌+◌, ◌<◌, ◌≤◌, List, [], ◌∷◌, ◌++◌, length, length-append, drop, refl, sym, ap, ◌∙◌, arith, append-nil, Bool, true, false, cond, eqb, eq-eqb, ne_eqb}
+use Rattle.std.specs.Prelude.{Contains, nat_lt}
 use mathlib.Core.Logic.{dite}
 use native.Mathlib.Decide.{dec_le, ℕ_discrete}
 use Rattle.np_desk.specs.History.{StartsWith, places, added, AreRising, with_place, merged}
 use Rattle.np_desk.specs.Share.{times}
-use Rattle.np_desk.proofs.HistoryLemmas.{drop-all, length-rest, times_merged}
+use Rattle.np_desk.proofs.HistoryLemmas.{length-rest, times_merged}
 
 -- ## lists
 

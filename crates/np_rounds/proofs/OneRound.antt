@@ -1,12 +1,12 @@
 -- A round of all crews is a round of their players.
-use Rattle.std.proofs.Common.{◌≡◌, ◌⊎◌, inl, inr, ⊎_elim, ℕ, suc, ◌+◌, ◌<◌, ◌≤◌, List, [], ◌∷◌, ◌++◌, length, refl, sym, ap, ◌∙◌, subst, arith, append-nil, Bool, true, false}
-use Rattle.std.specs.Prelude.{All, Contains, map, Option, IfSome, MatchBool, Result, Ok, Err}
+use Rattle.std.proofs.Common.{◌≡◌, ◌⊎◌, inl, inr, ⊎_elim, ℕ, suc, ◌+◌, ◌<◌, List, [], ◌∷◌, ◌++◌, length, refl, sym, ap, ◌∙◌, subst, arith, append-nil, Bool, true, false}
+use Rattle.std.specs.Prelude.{All, map, Option, IfSome, MatchBool, Result}
 use Rattle.std.proofs.lemmas.List.Elements.{All-nil, All-cons, All-head, All-tail}
 use Rattle.np_text.specs.declared.memory.NoMemory.{NoMemory}
 use Rattle.np_event.specs.declared.entry.Entry.{Entry}
 use Rattle.np_site.specs.Configuration.{Configuration}
 use Rattle.np_cloud.specs.Facts.{DriverFacts}
-use Rattle.np_desk.specs.History.{StartsWith, added, AreRising, merged}
+use Rattle.np_desk.specs.History.{StartsWith, added, AreRising}
 use Rattle.np_desk.specs.Pass.{PassView, DeskView, IsOf, Sight, sight_of}
 use Rattle.np_desk.specs.Share.{times}
 use Rattle.np_desk.specs.declared.view.Origin.{Origin}
@@ -20,7 +20,6 @@ use Rattle.np_driven.specs.Players.{Player}
 use Rattle.np_driven.specs.Round.{PlayerEnd, PlaysFrom, EachPlaysFrom, IsMade, IsCutOff, IsRound}
 use Rattle.np_worker.specs.declared.worker.RoundEnd.{RoundEnd}
 use Rattle.np_worker.specs.declared.worker.Worker.{Worker}
-use Rattle.np_worker.specs.Part.{RemovalFailed}
 use Rattle.np_worker.specs.Round.{EndsAs, Rests, work_of, driving_of}
 use Rattle.np_rounds.specs.declared.crew.Crew.{Crew}
 use Rattle.np_rounds.specs.declared.crew.CrewEnd.{CrewEnd}

@@ -1,6 +1,6 @@
 -- Crews that come back one after another.
-use Rattle.std.proofs.Common.{◌≡◌, ◌⊎◌, inl, inr, ⊎_elim, ℕ, ◌+◌, ◌<◌, List, [], ◌∷◌, ◌++◌, length, refl, sym, ap, ◌∙◌, subst, arith, append-nil, Bool, true, false}
-use Rattle.std.specs.Prelude.{All, Result, Ok, Err, IfOk, ◌||◌, nat_lt}
+use Rattle.std.proofs.Common.{◌≡◌, ◌⊎◌, inl, inr, ⊎_elim, ℕ, ◌+◌, ◌<◌, List, [], ◌∷◌, ◌++◌, length, refl, sym, ap, ◌∙◌, subst, arith, Bool, true, false}
+use Rattle.std.specs.Prelude.{Result, Ok, Err, IfOk, ◌||◌, nat_lt}
 use Rattle.std.proofs.lemmas.Bool.Decides.{nat_tests}
 use Rattle.std.proofs.lemmas.List.Elements.{All-nil, All-cons, All-weaker}
 use Rattle.np_text.specs.declared.memory.NoMemory.{NoMemory}
@@ -17,7 +17,7 @@ use Rattle.np_worker.specs.declared.worker.RoundEnd.{RoundEnd}
 use Rattle.np_rounds.specs.declared.crew.CrewEnd.{CrewEnd}
 use Rattle.np_rounds.specs.declared.round.Together.{Together}
 use Rattle.np_rounds.specs.Crews.{Plan, player_of, players_of}
-use Rattle.np_rounds.specs.Backs.{IsBack, IsUncut, TookBack, end_players}
+use Rattle.np_rounds.specs.Backs.{IsBack, IsUncut, TookBack}
 use Rattle.np_rounds.specs.Played.{with_end}
 use Rattle.np_rounds.proofs.Fulls.{full_later}
 use Rattle.np_rounds.proofs.Joined.{no_more, length_merged}

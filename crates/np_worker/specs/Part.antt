@@ -1,5 +1,5 @@
 -- a part of a round
-use Rattle.std.specs.Prelude.{◌≡◌, ◌⊎◌, ℕ, ◌+◌, length, List, [], ◌∷◌, All, Contains, Bool, true, false, Option, Some, None, IfSome, Result, Ok, Err}
+use Rattle.std.specs.Prelude.{◌≡◌, ◌⊎◌, ℕ, ◌+◌, length, List, [], ◌∷◌, All, Bool, true, false, Option, Some, None, IfSome, Result, Ok, Err}
 use Rattle.std.specs.Option.{option_map}
 use Rattle.np_io.specs.Counts.{Rose}
 use Rattle.np_text.specs.declared.memory.NoMemory.{NoMemory}
@@ -9,14 +9,13 @@ use Rattle.np_cloud.specs.declared.driver.Server.{Server}
 use Rattle.np_cloud.specs.Calls.{without_number}
 use Rattle.np_text.specs.declared.id.PoolId.{PoolId}
 use Rattle.np_board.specs.declared.ask.Ask.{Ask}
-use Rattle.np_board.specs.declared.ask.Ask.TheVariants as ask
 use Rattle.np_board.specs.declared.ask.Turn.{Turn}
 use Rattle.np_board.specs.declared.ask.Turn.TheVariants as turn
 use Rattle.np_worker.specs.declared.next.Next.{Next}
 use Rattle.np_worker.specs.declared.next.Next.TheVariants as next
 use Rattle.np_trace.specs.Drive.{Driving, Drives, Drove, IsOfServer}
 use Rattle.np_trace.specs.Move.{Move, asked, removed}
-use Rattle.np_trace.specs.Phase.{Phase, Leads, OwesRemoval, after_turn, is_unwanted}
+use Rattle.np_trace.specs.Phase.{Phase, Leads, OwesRemoval, after_turn}
 use Rattle.np_trace.specs.Phase as phase
 use Rattle.np_trace.specs.Trace.{WasKept}
 use Rattle.np_trace.specs.Walk.{Walk}

@@ -1,5 +1,5 @@
 use Rattle.std.proofs.Common.{◌≡◌, [], ◌∷◌, rules, length, length-append, ap, ◌∙◌, arith}
-use Rattle.np_rounds.proofs.Players.{reaper_alone, requester_more, placed, numbered}
+use Rattle.np_rounds.proofs.Players.{requester_more, placed, numbered}
 use Rattle.np_rounds.proofs.crew.workers_of.Goals as goal
 
 pub loop-id-preserved : goal.loop-id-preserved

@@ -2,7 +2,7 @@ use Rattle.std.proofs.Common.{◌≡◌, ℕ, List, [], ◌∷◌, ◌++◌, suc
 use Rattle.np_desk.specs.Part.{second_half}
 use Rattle.np_rounds.specs.declared.crew.CrewEnd.{CrewEnd}
 use Rattle.np_rounds.specs.Crews.{zeros}
-use Rattle.np_rounds.specs.Backs.{AreBack, TookBack}
+use Rattle.np_rounds.specs.Backs.{AreBack}
 use Rattle.np_rounds.proofs.Lists.{back_less}
 use Rattle.np_rounds.proofs.Taken.{took_none, took_more}
 use Rattle.np_rounds.proofs.round.take_back.Goals as goal

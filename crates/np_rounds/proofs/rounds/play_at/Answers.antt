@@ -1,4 +1,4 @@
-use Rattle.std.proofs.Common.{◌≡◌, ◌∙◌, true, false, subst}
+use Rattle.std.proofs.Common.{◌∙◌, true, false, subst}
 use Rattle.np_board.proofs.LegalLemmas.{legal-Runs}
 use Rattle.np_rounds.specs.Crews.{players_of}
 use Rattle.np_rounds.specs.Played.{IsDriven, Stops, Ticks}

@@ -1,4 +1,4 @@
-use Rattle.std.proofs.Common.{List, ◌∙◌, ap, subst, sym}
+use Rattle.std.proofs.Common.{List, ap, subst, sym}
 use Rattle.np_event.specs.declared.entry.Entry.{Entry}
 use Rattle.np_site.specs.Configuration.{Configuration}
 use Rattle.np_board.proofs.LegalLemmas.{Runs-legal}
