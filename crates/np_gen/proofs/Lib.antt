@@ -1,0 +1,5 @@
+pub mod Draws
+pub mod JobNames
+pub mod Grouped
+pub mod SoundSite
+pub mod LargeJobs

@@ -1,0 +1,6 @@
+use Rattle.std.proofs.Common.{◌≡◌}
+use Rattle.np_gen.specs.Draw.{after_draws}
+use Rattle.np_gen.proofs.draw.after_draws.Given as goal
+
+abbrev pub invariant-loop : goal.invariant-loop
+invariant-loop l = l.current ≡ after_draws l.counter l.state
