@@ -1,0 +1,3 @@
+pub mod Entries
+pub mod Agreement
+pub mod Audit
