@@ -11,9 +11,9 @@ use Rattle.np_machine.specs.Fates.{Fate}
 use Rattle.np_top.specs.declared.ending.Ending.{Ending}
 use Rattle.np_top.specs.declared.ending.Ending.TheVariants as ending
 use Rattle.np_top.specs.Input.{IsInput, most}
-use Rattle.np_top.specs.Told.{IsSaid, IsTold, EndsSo, read_line, long_line, memory_line, full_line}
+use Rattle.np_top.specs.Told.{IsTold, EndsSo, read_line, long_line, memory_line, full_line}
 use Rattle.np_top.specs.Run.{IsRun, IsNoSite, EndsRun, RunsSite, IsStatusBy, IsStatusIf, IsStatusOf, fates_of_run, some_waits, status_of_fates}
-use Rattle.np_top.proofs.Statuses.{not-said, said-whole, said-six, write-said}
+use Rattle.np_top.proofs.Statuses.{not-said, said-whole, said-six, write-said, ends-said}
 
 -- ## the fates' status
 
@@ -151,10 +151,6 @@ module _ {K E : Type 0} (source source_now : SourceFacts) (k : K → SinkFacts) 
       let many : nat_lt most (length left) ≡ true = grind (arith, nat_tests) in
       subst (λ (b : Bool). IsStatusIf b left status) (sym many) five
 
-  ends-said : (line : List ℕ) (wanted : ℕ) (right P Q : Type 0) → IsSaid (e err) (e err_now) line wanted status → (status ≡ wanted → EndsSo right status P (Q ⊎ Rose (e err).faults (e err_now).faults)) → EndsSo right status P (Q ⊎ Rose (e err).faults (e err_now).faults)
-  ends-said line wanted right P Q (inl whole) ends = ends whole.0
-  ends-said line wanted right P Q (inr cut) ends = inr (inr (inr (cut.0, inr cut.1.failed)))
-
   complete-of : (end : Ending) → EndsRun source source_now end → IsTold k e out out_now err err_now end status → (left : Option (List ℕ)) → source.left ≡ left →
       IfSome left (λ came. EndsSo (IsStatusOf came status) status (Rose source.faults source_now.faults) (Rose (k out).faults (k out_now).faults ⊎ Rose (e err).faults (e err_now).faults))
   complete-of end ends told None is = tt
@@ -162,22 +158,22 @@ module _ {K E : Type 0} (source source_now : SourceFacts) (k : K → SinkFacts) 
       inl (status-by left ends.0.came (Ok ends.0.config) is ends.0.input ends.0.read (few-by (fates_of_run ends.0) (some_waits (fates_of_run ends.0)) refl (whole.0 ∙ ends.1)))
   complete-of (ending.Prints text wanted) ends (inr cut) (Some left) is = inr (inr (inr (write-said (e err) (e err_now) status cut.1, inl cut.0.failed)))
   complete-of (ending.Full text) ends (inl whole) (Some left) is =
-      ends-said full_line 9 (IsStatusOf left status) (Rose source.faults source_now.faults) (Rose (k out).faults (k out_now).faults) whole.1
+      ends-said (e err) (e err_now) full_line 9 status (IsStatusOf left status) (Rose source.faults source_now.faults) (Rose (k out).faults (k out_now).faults) whole.1
       (λ nine. inl (status-by left ends.came (Ok ends.config) is ends.input ends.read (inr (inr nine))))
   complete-of (ending.Full text) ends (inr cut) (Some left) is = inr (inr (inr (write-said (e err) (e err_now) status cut.1, inl cut.0.failed)))
   complete-of (ending.Says line wanted) ends told (Some left) is =
-      ends-said line.items wanted (IsStatusOf left status) (Rose source.faults source_now.faults) (Rose (k out).faults (k out_now).faults) told.1
+      ends-said (e err) (e err_now) line.items wanted status (IsStatusOf left status) (Rose source.faults source_now.faults) (Rose (k out).faults (k out_now).faults) told.1
       (λ same. inl (status-by left ends.1.came (Err ends.1.fault) is ends.1.input ends.1.read (same ∙ ends.0)))
   complete-of ending.NoCommand ends told (Some left) is = absurd ends
   complete-of ending.ReadFault ends told (Some left) is =
-      ends-said read_line 5 (IsStatusOf left status) (Rose source.faults source_now.faults) (Rose (k out).faults (k out_now).faults) told.1
+      ends-said (e err) (e err_now) read_line 5 status (IsStatusOf left status) (Rose source.faults source_now.faults) (Rose (k out).faults (k out_now).faults) told.1
       (λ same. inr (inr (inl (same, ends))))
   complete-of ending.TooLong ends told (Some left) is =
       let long : most < length left = subst (λ (o : Option (List ℕ)). IfSome o (λ l. most < length l)) is ends in
-      ends-said long_line 5 (IsStatusOf left status) (Rose source.faults source_now.faults) (Rose (k out).faults (k out_now).faults) told.1
+      ends-said (e err) (e err_now) long_line 5 status (IsStatusOf left status) (Rose source.faults source_now.faults) (Rose (k out).faults (k out_now).faults) told.1
       (λ same. inl (status-long left long same))
   complete-of ending.NoMemory ends told (Some left) is =
-      ends-said memory_line 7 (IsStatusOf left status) (Rose source.faults source_now.faults) (Rose (k out).faults (k out_now).faults) told.1
+      ends-said (e err) (e err_now) memory_line 7 status (IsStatusOf left status) (Rose source.faults source_now.faults) (Rose (k out).faults (k out_now).faults) told.1
       (λ same. inr (inl same))
 
 -- an ending that the streams show is a run

@@ -12,7 +12,7 @@ use Rattle.np_top.specs.declared.ending.Ending.{Ending}
 use Rattle.np_top.specs.declared.ending.Ending.TheVariants as ending
 use Rattle.np_top.specs.Input.{IsInput, most}
 use Rattle.np_top.specs.Lines.{script_status}
-use Rattle.np_top.specs.Told.{IsSaid, IsTold, EndsAs, write_line, read_line, long_line, memory_line}
+use Rattle.np_top.specs.Told.{IsSaid, IsTold, EndsSo, EndsAs, write_line, read_line, long_line, memory_line}
 use Rattle.np_top.specs.Replay.{IsReplayed, IsFaulty, EndsReplay, Replays, status_of, status_by}
 
 -- ## one line
@@ -34,6 +34,11 @@ said-six err err_now line wanted status (inr cut) six other = cut.1.failed
 pub write-said : (err err_now : SinkFacts) (status : ℕ) → IsSaid err err_now write_line 6 status → status ≡ 6
 write-said err err_now status (inl whole) = whole.0
 write-said err err_now status (inr cut) = cut.0
+
+-- a line that was to have its status has it, unless err failed
+pub ends-said : (err err_now : SinkFacts) (line : List ℕ) (wanted status : ℕ) (right P Q : Type 0) → IsSaid err err_now line wanted status → (status ≡ wanted → EndsSo right status P (Q ⊎ Rose err.faults err_now.faults)) → EndsSo right status P (Q ⊎ Rose err.faults err_now.faults)
+ends-said err err_now line wanted status right P Q (inl whole) ends = ends whole.0
+ends-said err err_now line wanted status right P Q (inr cut) ends = inr (inr (inr (cut.0, inr cut.1.failed)))
 
 -- ## a fault's status
 
@@ -143,10 +148,6 @@ status_of-input source source_now left came r is input read =
     let same : came ≡ left = subst (λ (o : Option (List ℕ)). IfSome o (λ l. came ≡ l)) is input.all in
     ap status_of (sym same) ∙ status_of-read came r input.fits read
 
-ends-said : (err err_now : SinkFacts) (line : List ℕ) (wanted status right : ℕ) (P Q : Type 0) → IsSaid err err_now line wanted status → (status ≡ wanted → EndsAs right status P (Q ⊎ Rose err.faults err_now.faults)) → EndsAs right status P (Q ⊎ Rose err.faults err_now.faults)
-ends-said err err_now line wanted status right P Q (inl whole) ends = ends whole.0
-ends-said err err_now line wanted status right P Q (inr cut) ends = inr (inr (inr (cut.0, inr cut.1.failed)))
-
 complete-of : {K E : Type 0} (source source_now : SourceFacts) (k : K → SinkFacts) (e : E → SinkFacts) (out out_now : K) (err err_now : E) (status : ℕ) (end : Ending) →
     EndsReplay source source_now end → IsTold k e out out_now err err_now end status → (left : Option (List ℕ)) → source.left ≡ left →
     IfSome left (λ came. EndsAs (status_of came) status (Rose source.faults source_now.faults) (Rose (k out).faults (k out_now).faults ⊎ Rose (e err).faults (e err_now).faults))
@@ -157,18 +158,18 @@ complete-of source source_now k e out out_now err err_now status (ending.Prints 
     inr (inr (inr (write-said (e err) (e err_now) status cut.1, inl cut.0.failed)))
 complete-of source source_now k e out out_now err err_now status (ending.Full text) ends told (Some left) is = absurd ends
 complete-of source source_now k e out out_now err err_now status (ending.Says line wanted) ends told (Some left) is =
-    ends-said (e err) (e err_now) line.items wanted status (status_of left) (Rose source.faults source_now.faults) (Rose (k out).faults (k out_now).faults) told.1
+    ends-said (e err) (e err_now) line.items wanted status (status ≡ status_of left) (Rose source.faults source_now.faults) (Rose (k out).faults (k out_now).faults) told.1
     (λ same. inl (same ∙ ends.ends ∙ sym (status_of-input source source_now left ends.came (Err ends.fault) is ends.input ends.read)))
 complete-of source source_now k e out out_now err err_now status ending.NoCommand ends told (Some left) is = absurd ends
 complete-of source source_now k e out out_now err err_now status ending.ReadFault ends told (Some left) is =
-    ends-said (e err) (e err_now) read_line 5 status (status_of left) (Rose source.faults source_now.faults) (Rose (k out).faults (k out_now).faults) told.1
+    ends-said (e err) (e err_now) read_line 5 status (status ≡ status_of left) (Rose source.faults source_now.faults) (Rose (k out).faults (k out_now).faults) told.1
     (λ same. inr (inr (inl (same, ends))))
 complete-of source source_now k e out out_now err err_now status ending.TooLong ends told (Some left) is =
     let long : most < length left = subst (λ (o : Option (List ℕ)). IfSome o (λ l. most < length l)) is ends in
-    ends-said (e err) (e err_now) long_line 5 status (status_of left) (Rose source.faults source_now.faults) (Rose (k out).faults (k out_now).faults) told.1
+    ends-said (e err) (e err_now) long_line 5 status (status ≡ status_of left) (Rose source.faults source_now.faults) (Rose (k out).faults (k out_now).faults) told.1
     (λ same. inl (same ∙ sym (status_of-long left long)))
 complete-of source source_now k e out out_now err err_now status ending.NoMemory ends told (Some left) is =
-    ends-said (e err) (e err_now) memory_line 7 status (status_of left) (Rose source.faults source_now.faults) (Rose (k out).faults (k out_now).faults) told.1
+    ends-said (e err) (e err_now) memory_line 7 status (status ≡ status_of left) (Rose source.faults source_now.faults) (Rose (k out).faults (k out_now).faults) told.1
     (λ same. inr (inl same))
 
 -- an ending that the streams show is a replay

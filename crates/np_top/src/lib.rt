@@ -6,10 +6,13 @@
 //! printed on out before all of the input was read and the whole text stands in memory.
 #![tactic(auto)]
 
+mod auditing;
 mod command;
+mod drilling;
 mod ending;
 mod input;
 mod lines;
+mod playing;
 mod replaying;
 mod running;
 mod telling;
@@ -18,7 +21,9 @@ mod tests;
 mod top;
 mod typed;
 
+pub use auditing::audit;
 pub use command::{Command, command_of};
+pub use drilling::drill;
 pub use ending::Ending;
 pub use replaying::replay;
 pub use running::run;

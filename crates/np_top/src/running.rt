@@ -1,14 +1,10 @@
 //! The command `run`.
 
 ghost use Rattle.std.specs.Prelude.{◌≡◌, length, IfOk, IfErr};
-ghost use Rattle.std.specs.List.{AllByRecursion};
-ghost use Rattle.np_event.specs.Line.{HasEventLine};
 ghost use Rattle.np_machine.specs.Fates.{fate_of, fates};
-ghost use Rattle.np_useful.specs.Driven.{Driven};
 ghost use Rattle.np_top.specs.Run.{
   EndsRun,
   HasCome,
-  HasEnded,
   IsPlayed,
   RunsSite,
   is_waiting,
@@ -18,17 +14,15 @@ ghost use Rattle.np_top.specs.Run.{
 use crate::ending::Ending;
 use crate::input::input;
 use crate::lines::line_of_config;
+use crate::playing::play_site;
 use crate::telling::tell;
-use crate::typed::numbers_are_within_their_types;
-use np_board::Board;
-use np_cloud::{Gate, simulated_clouds};
+use np_cloud::Gate;
 use np_config::Config;
 use np_io::{Sink, Source};
 use np_json::{ConfigFault, ConfigRead};
 use np_look::Look;
 use np_record::JobRecord;
 use np_report::text;
-use np_rounds::{Ended, run_rounds};
 use np_text::{JobId, NoMemory};
 use std::alloc::Global;
 use std::sync::Wait;
@@ -72,28 +66,6 @@ fn status_of<L: Look>(look: &L) -> u8
         at += 1;
     }
     0
-}
-
-/// Plays the site over the simulated clouds, and answers the board, and whether its journal was
-/// full.
-fn play_site<R: Threads + Wait + Sync, G: Gate + Sync>(
-    rt: &R,
-    alloc: Global,
-    config: Config,
-    gate: &G,
-) -> Result<(Board, bool), NoMemory>
-    ensures configuration { IfOk result (λ r. r.0.configuration ≡ config) }
-    ensures lines { IfOk result (λ r. AllByRecursion (λ e. HasEventLine e.event) r.0.journal) }
-    ensures driven { IfOk result (λ r. Driven config r.0.journal) }
-    ensures ended { IfOk result (λ r. HasEnded config r.0.journal r.1) }
-{
-    config.soundness();
-    let clouds = simulated_clouds(alloc, &config)?;
-    let ended = run_rounds(rt, alloc, config, clouds, gate)?;
-    let Ended { board, full, .. } = ended;
-    board.soundness();
-    numbers_are_within_their_types(board.journal());
-    Ok((board, full))
 }
 
 /// Plays the site to its end, and answers how the run ends then.

@@ -1,5 +1,7 @@
 //! What no clause says: that calls succeed with ample memory; and worked inputs.
 
+mod audits;
+mod drills;
 mod inputs;
 mod journals;
 mod longest;
@@ -15,6 +17,7 @@ use np_cloud::{Gate, OpenGate};
 use np_io::{MemSink, MemSource};
 use np_text::split_sections;
 use std::alloc::{AllocError, Global};
+use std::process::Abort;
 use std::sync::Wait;
 use std::test::Fail;
 use std::thread::Threads;
@@ -83,6 +86,19 @@ fn run<R: Threads + Wait + Sync + AllocGlobal>(
 fn play<R: Threads + Wait + Sync + AllocGlobal>(rt: &R, site: &str) -> Result<Ran, AllocError> {
     let none = (&[][..], &[][..], &[][..]);
     run(rt, "run", site.as_bytes().to_vec(rt.alloc())?, none)
+}
+
+/// Audits what a run printed: it is the Text of a run.
+fn audit_printed<R: Threads + Wait + Sync + AllocGlobal + Abort>(
+    rt: &R,
+    printed: &[u8],
+) -> Result<(), Fail> {
+    let none = (&[][..], &[][..], &[][..]);
+    let audit = run(rt, "audit", printed.to_vec(rt.alloc())?, none)?;
+    assert_eq!(rt; audit.status, 0);
+    assert!(rt; audit.out.bytes() == b"yes\n".as_slice());
+    assert!(rt; audit.err.bytes().is_empty());
+    Ok(())
 }
 
 /// The lines of the jobs' fates: what stands behind the last bar of a Text.

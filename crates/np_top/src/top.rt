@@ -1,14 +1,18 @@
 //! The top call.
 
-ghost use Rattle.std.specs.Prelude.{◌≡◌, Some, None, map, string_bytes};
+ghost use Rattle.std.specs.Prelude.{◌≡◌, ℕ, Some, None, map, string_bytes};
 ghost use Rattle.np_top.specs.declared.command.Command.TheVariants as the;
 ghost use Rattle.np_top.specs.declared.ending.Ending.TheVariants as ending;
 ghost use Rattle.np_top.specs.Command.{command};
 ghost use Rattle.np_top.specs.Told.{IsTold};
 ghost use Rattle.np_top.specs.Replay.{Replays};
 ghost use Rattle.np_top.specs.Run.{RunsSite};
+ghost use Rattle.np_top.specs.Audit.{Audits};
+ghost use Rattle.np_top.specs.Drill.{Drills};
 
+use crate::auditing::audit;
 use crate::command::{Command, command_of};
+use crate::drilling::drill;
 use crate::ending::Ending;
 use crate::replaying::replay;
 use crate::running::run;
@@ -20,7 +24,7 @@ use std::sync::Wait;
 use std::thread::Threads;
 
 /// All that the program does, and its status. Words that are no command have the status 2, and
-/// nothing is read then; each command says its own statuses.
+/// nothing is read then; each command says its own statuses. A drill reads nothing either.
 pub fn poolsim<R: Threads + Wait + Sync, S: Source, K: Sink, E: Sink, G: Gate + Sync>(
     rt: &R,
     alloc: Global,
@@ -38,10 +42,18 @@ pub fn poolsim<R: Threads + Wait + Sync, S: Source, K: Sink, E: Sink, G: Gate + 
     ensures run { command (map string_bytes words.now) ≡ Some the.Run →
         RunsSite S.facts K.facts E.facts source.old source.new out.old out.new err.old err.new
         result }
+    ensures audit { command (map string_bytes words.now) ≡ Some the.Audit →
+        Audits S.facts K.facts E.facts source.old source.new out.old out.new err.old err.new
+        result }
+    ensures drill { (jobs : ℕ) → command (map string_bytes words.now) ≡ Some (the.Drill jobs) →
+        (source.new ≡ source.old)
+        × Drills K.facts E.facts jobs out.old out.new err.old err.new result }
 {
     match command_of(words) {
         None => tell(out, err, &Ending::NoCommand),
         Some(Command::Replay) => replay(alloc, source, out, err),
         Some(Command::Run) => run(rt, alloc, source, out, err, gate),
+        Some(Command::Audit) => audit(alloc, source, out, err),
+        Some(Command::Drill { jobs }) => drill(rt, alloc, jobs, out, err, gate),
     }
 }

@@ -32,7 +32,7 @@ fn put_line(text: &mut String, line: &str) -> Result<(), AllocError> {
 }
 
 /// The Text of a journal.
-fn text_of(alloc: Global, journal: &Journal) -> Result<String, AllocError> {
+pub(super) fn text_of(alloc: Global, journal: &Journal) -> Result<String, AllocError> {
     let mut text = String::new(alloc);
     put_line(&mut text, journal.canonical)?;
     put_line(&mut text, "%%")?;

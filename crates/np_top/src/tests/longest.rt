@@ -8,22 +8,16 @@ use std::thread::Threads;
 
 const LONGEST: usize = 67_108_864;
 
-// How many spaces come, the status and the line on err.
-const SPACES: [(usize, u8, &str); 2] = [
-    (LONGEST, 3, "poolsim: configuration: not-json #\n"),
-    (
-        LONGEST + 1,
-        5,
-        "poolsim: input is longer than 67108864 bytes\n",
-    ),
-];
+const TOO_LONG: &str = "poolsim: input is longer than 67108864 bytes\n";
 
-/// Lets the command read so many spaces.
+/// Lets the command read as many spaces, which it answers with this status and line, and one more.
 fn read_spaces<R: Threads + Wait + Sync + AllocGlobal + Abort>(
     rt: &R,
     command: &str,
+    status: u8,
+    told: &str,
 ) -> Result<(), Fail> {
-    for (spaces, status, told) in SPACES {
+    for (spaces, status, told) in [(LONGEST, status, told), (LONGEST + 1, 5, TOO_LONG)] {
         let none = (&[][..], &[][..], &[][..]);
         let ran = run(rt, command, vec![in rt.alloc(); b' '; spaces]?, none)?;
         assert_eq!(rt; ran.status, status, "{spaces} spaces");
@@ -35,10 +29,15 @@ fn read_spaces<R: Threads + Wait + Sync + AllocGlobal + Abort>(
 
 #[test]
 fn the_longest_script_is_read(rt: HostRuntime) -> Result<(), Fail> {
-    read_spaces(&rt, "replay")
+    read_spaces(&rt, "replay", 3, "poolsim: configuration: not-json #\n")
 }
 
 #[test]
 fn the_longest_configuration_is_read(rt: HostRuntime) -> Result<(), Fail> {
-    read_spaces(&rt, "run")
+    read_spaces(&rt, "run", 3, "poolsim: configuration: not-json #\n")
+}
+
+#[test]
+fn the_longest_text_is_read(rt: HostRuntime) -> Result<(), Fail> {
+    read_spaces(&rt, "audit", 8, "poolsim: audit: line 1\n")
 }

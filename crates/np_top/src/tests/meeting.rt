@@ -1,6 +1,6 @@
 //! Launches of two pools side by side.
 
-use super::run_by;
+use super::{audit_printed, run_by};
 use np_cloud::Gate;
 use np_text::PoolId;
 use std::sync::atomic::{AtomicU64, Ordering};
@@ -55,5 +55,5 @@ fn launches_run_side_by_side(rt: HostRuntime) -> Result<(), Fail> {
     assert_eq!(rt; gate.in_vain.load(Ordering::SeqCst), 0);
     assert_eq!(rt; gate.first.load(Ordering::SeqCst), 1);
     assert_eq!(rt; gate.second.load(Ordering::SeqCst), 1);
-    Ok(())
+    audit_printed(&rt, ran.out.bytes())
 }

@@ -6,7 +6,7 @@ use std::test::Fail;
 const USAGE: &str = "poolsim: usage: poolsim replay | run | audit | drill N\n";
 
 // The words, the status and the line on err, over a site without events.
-const WORDS: [(&str, u8, &str); 12] = [
+const WORDS: [(&str, u8, &str); 22] = [
     ("replay", 0, ""),
     ("-- replay", 0, ""),
     ("replay --", 0, ""),
@@ -17,8 +17,18 @@ const WORDS: [(&str, u8, &str); 12] = [
     ("run run", 2, USAGE),
     ("run", 3, "poolsim: configuration: not-json #\n"),
     ("-- -- replay", 2, USAGE),
+    ("-- -- run", 2, USAGE),
+    ("audit", 8, "poolsim: audit: line 1\n"),
+    ("audit audit", 2, USAGE),
+    ("drill", 2, USAGE),
+    ("drill --", 2, USAGE),
     ("drill 0", 2, USAGE),
     ("drill 007", 2, USAGE),
+    ("drill +5", 2, USAGE),
+    ("drill 4001", 2, USAGE),
+    ("drill 5 6", 2, USAGE),
+    ("drill -- -- 5", 2, USAGE),
+    ("5 drill", 2, USAGE),
 ];
 
 #[test]

@@ -1,6 +1,6 @@
 //! Small sites, played to their ends.
 
-use super::{fates_of, play, run};
+use super::{audit_printed, fates_of, play, run};
 use std::test::Fail;
 
 // One pool, one label, and nobody who asks for it.
@@ -101,4 +101,17 @@ fn a_configuration_at_fault_is_told(rt: HostRuntime) -> Result<(), Fail> {
         assert!(rt; ran.err.bytes() == told.as_bytes(), "{site}");
     }
     Ok(())
+}
+
+// Four labels of which nodes are kept ready and removed when they are old: there is always one that
+// is removed or made.
+const AGEING: &str =
+    r#"{"labels":[{"name":"a","min-ready":1,"max-ready-age":1},{"name":"b","min-ready":2,"max-ready-age":2},{"name":"c","min-ready":3,"max-ready-age":1},{"name":"d","min-ready":1,"max-ready-age":2}],"providers":[{"name":"c","pools":[{"name":"m","labels":[{"name":"a"},{"name":"b"},{"name":"c"},{"name":"d"}]}]}]}"#;
+
+#[test]
+fn an_ageing_site_fills_its_journal(rt: HostRuntime) -> Result<(), Fail> {
+    let ran = play(&rt, AGEING)?;
+    assert_eq!(rt; ran.status, 9);
+    assert!(rt; ran.err.bytes() == b"poolsim: journal is full\n".as_slice());
+    audit_printed(&rt, ran.out.bytes())
 }

@@ -11,7 +11,7 @@ use std::test::Fail;
 
 // The failing calls of the source, of out and of err, the words, the status, whether the Text is on
 // out, and the line on err. The second call of a sink finishes it.
-const STREAMS: [(&[u32], &[u32], &[u32], &str, u8, bool, &str); 7] = [
+const STREAMS: [(&[u32], &[u32], &[u32], &str, u8, bool, &str); 10] = [
     (&[1], &[], &[], "replay", 5, false, "poolsim: read fault\n"),
     (&[2], &[], &[], "replay", 5, false, "poolsim: read fault\n"),
     (&[], &[1], &[], "replay", 6, false, "poolsim: write fault\n"),
@@ -19,6 +19,17 @@ const STREAMS: [(&[u32], &[u32], &[u32], &str, u8, bool, &str); 7] = [
     (&[], &[1], &[1], "replay", 6, false, ""),
     (&[], &[], &[1], "", 6, false, ""),
     (&[1], &[], &[2], "replay", 6, false, "poolsim: read fault\n"),
+    (&[2], &[], &[], "audit", 5, false, "poolsim: read fault\n"),
+    (&[], &[], &[1], "audit", 6, false, ""),
+    (
+        &[],
+        &[1],
+        &[],
+        "drill 1",
+        6,
+        false,
+        "poolsim: write fault\n",
+    ),
 ];
 
 /// The Text of the site without events.

@@ -1,6 +1,6 @@
 //! A usual site: many labels, pools and jobs, semaphores, and some faults.
 
-use super::{ends_of, play};
+use super::{audit_printed, ends_of, play};
 use std::alloc::{AllocError, Global};
 use std::test::Fail;
 
@@ -83,5 +83,5 @@ fn a_usual_site_is_played(rt: HostRuntime) -> Result<(), Fail> {
     for end in ends {
         assert!(rt; end == "served" || end == "lost", "{end}");
     }
-    Ok(())
+    audit_printed(&rt, ran.out.bytes())
 }

@@ -7,7 +7,7 @@ use Rattle.np_driven.specs.Players.{WasAnswered}
 use Rattle.np_top.specs.Typed.{IsTyped}
 use Rattle.np_top.proofs.DrivenLines.{driven_lines}
 use Rattle.np_top.proofs.Sites.{fresh, driven_of, ended_so}
-use Rattle.np_top.proofs.running.play_site.Goals as goal
+use Rattle.np_top.proofs.playing.play_site.Goals as goal
 
 pub returns-clause-lines : goal.returns-clause-lines
 returns-clause-lines g c =

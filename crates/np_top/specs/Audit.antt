@@ -1,0 +1,85 @@
+-- what the command `audit` does
+use Rattle.std.specs.Prelude.{◌≡◌, ◌<◌, ◌⊎◌, ℕ, Bool, true, false, List, ◌++◌, codes, decimal, IfSome, length, nat_lt}
+use Rattle.np_io.specs.Counts.{Rose}
+use Rattle.np_io.specs.Facts.{SourceFacts, SinkFacts, IsWritten}
+use Rattle.np_text.specs.Lines.{line}
+use Rattle.np_audit.specs.Audit.{IsAText, IsNoText}
+use Rattle.np_top.specs.declared.ending.Ending.{Ending}
+use Rattle.np_top.specs.declared.ending.Ending.TheVariants as ending
+use Rattle.np_top.specs.Input.{IsInput, Stops, most}
+use Rattle.np_top.specs.Told.{IsTold, EndsSo, read_line, long_line, memory_line}
+
+-- ## the lines
+
+-- what is printed for the Text of a run
+abbrev pub yes_line : List ℕ
+yes_line = line (codes "yes")
+
+-- the line for an input that is no such Text, with the number of the first of its lines that shows it
+unfoldable pub no_line : ℕ → List ℕ
+no_line n = line (codes "poolsim: audit: line " ++ decimal n)
+
+-- ## how an audit may end
+
+-- the input is the Text of a run
+pub record InputIsText (source source_now : SourceFacts) : Type 0 where
+  pub came : List ℕ
+  pub input : IsInput source source_now came
+  pub text : IsAText came
+
+-- the input is no such Text, and the line names the first of its lines that shows it
+pub record InputIsNoText (source source_now : SourceFacts) (line : List ℕ) : Type 0 where
+  pub came : List ℕ
+  pub number : ℕ
+  pub input : IsInput source source_now came
+  pub none : IsNoText came number
+  pub told : line ≡ no_line number
+
+-- how an audit may end, by what came from the source
+abbrev pub EndsAudit : SourceFacts → SourceFacts → Ending → Type 0
+EndsAudit source source_now (ending.Prints text status) = (status ≡ 0) × (text.items ≡ yes_line) × InputIsText source source_now
+EndsAudit source source_now (ending.Full text) = ⊥
+EndsAudit source source_now (ending.Says line status) = (status ≡ 8) × InputIsNoText source source_now line.items
+EndsAudit source source_now ending.NoCommand = ⊥
+EndsAudit source source_now ending.ReadFault = Stops source source_now ending.ReadFault
+EndsAudit source source_now ending.TooLong = Stops source source_now ending.TooLong
+EndsAudit source source_now ending.NoMemory = Unit {0}
+
+-- ## the status that belongs to an input
+
+-- 0 where it is the Text of a run, else 8
+abbrev pub IsAuditStatus : List ℕ → ℕ → Type 0
+IsAuditStatus came status =
+    ((status ≡ 0) × IsAText came) ⊎ ((status ≡ 8) × ((n : ℕ) × IsNoText came n))
+
+-- 5 where it is too long, else by the Text
+abbrev pub IsAuditStatusIf : Bool → List ℕ → ℕ → Type 0
+IsAuditStatusIf true came status = status ≡ 5
+IsAuditStatusIf false came status = IsAuditStatus came status
+
+abbrev pub IsAuditStatusOf : List ℕ → ℕ → Type 0
+IsAuditStatusOf came status = IsAuditStatusIf (nat_lt most (length came)) came status
+
+-- ## what the streams and the status show
+
+pub record Audits {S K E : Type 0} (s : S → SourceFacts) (k : K → SinkFacts) (e : E → SinkFacts) (source source_now : S) (out out_now : K) (err err_now : E) (status : ℕ) : Type 0 where
+  -- the audit ended so, and out, err and the status show it
+  pub ending : Ending
+  pub ends : EndsAudit (s source) (s source_now) ending
+  pub told : IsTold k e out out_now err err_now ending status
+  -- status 0: the input is the Text of a run, `yes` is on out, and nothing on err
+  pub yes : status ≡ 0 → InputIsText (s source) (s source_now) × IsWritten (k out) (k out_now) yes_line × (err_now ≡ err)
+  -- status 8: the input is no such Text, the number of its first line at fault is on err, and nothing on out
+  pub no : status ≡ 8 → (line : List ℕ) × InputIsNoText (s source) (s source_now) line × IsWritten (e err) (e err_now) line × (out_now ≡ out)
+  -- status 5: a read failed, or too many bytes came; err tells which
+  pub read : status ≡ 5 → (out_now ≡ out)
+      × ((Rose (s source).faults (s source_now).faults × IsWritten (e err) (e err_now) read_line)
+      ⊎ (IfSome (s source).left (λ left. most < length left) × IsWritten (e err) (e err_now) long_line))
+  -- status 6: out or err failed, and `told` says which, and what is on both
+  pub write : status ≡ 6 → Rose (k out).faults (k out_now).faults ⊎ Rose (e err).faults (e err_now).faults
+  -- status 7: memory ran out
+  pub memory : status ≡ 7 → IsWritten (e err) (e err_now) memory_line × (out_now ≡ out)
+  -- the status is the input's, unless a stream failed or memory ran out
+  pub complete : IfSome (s source).left (λ left. EndsSo (IsAuditStatusOf left status) status
+      (Rose (s source).faults (s source_now).faults)
+      (Rose (k out).faults (k out_now).faults ⊎ Rose (e err).faults (e err_now).faults))

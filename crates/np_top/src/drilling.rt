@@ -1,0 +1,73 @@
+//! The command `drill`.
+
+ghost use Rattle.std.specs.Prelude.{◌≤◌, IfOk};
+ghost use Rattle.np_gen.specs.Site.{drill_site};
+ghost use Rattle.np_top.specs.Drill.{Drills, EndsDrill};
+
+use crate::ending::Ending;
+use crate::playing::play_site;
+use crate::telling::tell;
+use np_cloud::Gate;
+use np_io::Sink;
+use np_report::summary;
+use np_text::NoMemory;
+use std::alloc::Global;
+use std::sync::Wait;
+use std::thread::Threads;
+
+/// Plays the generated site to its end, and answers how the drill ends then.
+fn play_drill<R: Threads + Wait + Sync, G: Gate + Sync>(
+    rt: &R,
+    alloc: Global,
+    jobs: u32,
+    gate: &G,
+) -> Result<Ending, NoMemory>
+    requires jobs { (1 ≤ jobs) × (jobs ≤ 4000) }
+    ensures { IfOk result (EndsDrill (drill_site jobs)) }
+{
+    let config = np_gen::drill(alloc, jobs)?;
+    config.soundness();
+    let (board, full) = play_site(rt, alloc, config, gate)?;
+    board.soundness();
+    let text = summary(alloc, &board)?;
+    if full {
+        return Ok(Ending::Full { text });
+    }
+    Ok(Ending::Prints { text, status: 0 })
+}
+
+/// The same, whichever way it came.
+fn ending_of<R: Threads + Wait + Sync, G: Gate + Sync>(
+    rt: &R,
+    alloc: Global,
+    jobs: u32,
+    gate: &G,
+) -> Ending
+    requires jobs { (1 ≤ jobs) × (jobs ≤ 4000) }
+    ensures { EndsDrill (drill_site jobs) result }
+{
+    match play_drill(rt, alloc, jobs, gate) {
+        Ok(ending) => ending,
+        Err(_) => Ending::NoMemory,
+    }
+}
+
+/// Makes the site of this number of jobs, lets its launchers, janitors, requesters and reaper play it
+/// in threads to its end, and prints how many jobs came to which end to out. It answers the status:
+/// 0 where the site came to its end, 6 for a failed sink, 7 where memory ran out. Where the journal
+/// was full the summary is printed, a line on err says so, and the status is 9. It may wait for as
+/// long as the rounds do.
+pub fn drill<R: Threads + Wait + Sync, K: Sink, E: Sink, G: Gate + Sync>(
+    rt: &R,
+    alloc: Global,
+    jobs: u32,
+    out: &mut K,
+    err: &mut E,
+    gate: &G,
+) -> u8
+    requires jobs { (1 ≤ jobs) × (jobs ≤ 4000) }
+    ensures { Drills K.facts E.facts jobs out.old out.new err.old err.new result }
+{
+    let ending = ending_of(rt, alloc, jobs, gate);
+    tell(out, err, &ending)
+}
