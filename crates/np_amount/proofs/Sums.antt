@@ -14,7 +14,7 @@ use Rattle.np_amount.specs.Amounts.{no_limit, nothing, plus, minus, times, is_wi
 abbrev amount_of : ℕ → ℕ → ℕ → Amount
 amount_of i c r = record { instances = i; cores = c; ram = r }
 
--- amounts with equal parts are one
+-- amounts with equal parts are equal
 pub same_amount : (a b : Amount) → a.instances ≡ b.instances → a.cores ≡ b.cores → a.ram ≡ b.ram → a ≡ b
 same_amount a b instances cores ram =
     ap (λ n. amount_of n a.cores a.ram) instances ∙ ap (λ n. amount_of b.instances n a.ram) cores ∙ ap (λ n. amount_of b.instances b.cores n) ram
@@ -46,7 +46,7 @@ IsAtMost-part a b = record { instances = omega arith; cores = omega arith; ram =
 pub IsAtMost-plus : (a b c d : Amount) → IsAtMost a b → IsAtMost c d → IsAtMost (plus a c) (plus b d)
 IsAtMost-plus a b c d one two = record { instances = omega arith; cores = omega arith; ram = omega arith }
 
--- less is within what more is within
+-- a number that is at most one within a limit is within it too
 is_within-less : (limit : Option ℕ) (a b : ℕ) → a ≤ b → is_within limit b ≡ true → is_within limit a ≡ true
 is_within-less None a b less within = refl
 is_within-less (Some most) a b less within = grind (arith, nat_tests)
@@ -89,7 +89,7 @@ total-remove xs i d within =
     (omega (arith, total-cores xs, total-cores (remove xs i), sum_by-remove (λ (a : Amount). a.cores) xs i d within))
     (omega (arith, total-ram xs, total-ram (remove xs i), sum_by-remove (λ (a : Amount). a.ram) xs i d within))
 
--- one member more of a list of what its members take
+-- the total of what members take, with one member more
 pub total_more : {X : Type 0} (f : X → Amount) (xs : List X) (i : ℕ) (d : X) → i < length xs → total (map f (take (i + 1) xs)) ≡ plus (total (map f (take i xs))) (f (get_or xs i d))
 total_more f xs i d within =
     ap (λ ys. total (map f ys)) (take_more xs i d within)
@@ -122,7 +122,7 @@ pub total-nothing : {X : Type 0} (xs : List X) → total (map (λ x. nothing) xs
 total-nothing [] = refl
 total-nothing (x ∷ xs) = nothing-plus _ ∙ total-nothing xs
 
--- ## So much for each of n
+-- ## The same for each of n
 
 pub times-suc : (n : ℕ) (a : Amount) → times (suc n) a ≡ plus a (times n a)
 times-suc n a = same_amount _ _ (omega (arith, suc-mul n a.instances)) (omega (arith, suc-mul n a.cores)) (omega (arith, suc-mul n a.ram))
@@ -141,7 +141,7 @@ IsAtMost-times m n a b few most = record {
   ram = mul-le m a.ram n b.ram few most.ram;
 }
 
--- the members that pass a test take no more than as much for each member
+-- the members that pass a test take together at most `most` for each member
 pub total-filter_at_most : {X : Type 0} (f : X → Amount) (most : Amount) → ((x : X) → IsAtMost (f x) most) → (test : X → Bool) (xs : List X)
     → IsAtMost (total (map f (filter test xs))) (times (length xs) most)
 total-filter_at_most f most each test [] = record { instances = omega arith; cores = omega arith; ram = omega arith }

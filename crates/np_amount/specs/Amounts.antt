@@ -3,7 +3,7 @@ use Rattle.std.specs.Prelude.{ℕ, ◌+◌, ◌-◌, ◌*◌, ◌≤◌, List, [
 use Rattle.np_amount.specs.declared.amount.Amount.{Amount}
 use Rattle.np_amount.specs.declared.amount.Limit.{Limit}
 
--- no node's amount (own)
+-- the amount of no node (own)
 abbrev pub nothing : Amount
 nothing = record { instances = 0; cores = 0; ram = 0 }
 
@@ -11,7 +11,7 @@ nothing = record { instances = 0; cores = 0; ram = 0 }
 abbrev pub no_limit : Limit
 no_limit = record { instances = None; cores = None; ram = None }
 
--- both together, part by part (own)
+-- the sum of both, part by part (own)
 abbrev pub plus : Amount → Amount → Amount
 plus a b = record { instances = a.instances + b.instances; cores = a.cores + b.cores; ram = a.ram + b.ram }
 
@@ -19,7 +19,7 @@ plus a b = record { instances = a.instances + b.instances; cores = a.cores + b.c
 abbrev pub minus : Amount → Amount → Amount
 minus a b = record { instances = a.instances - b.instances; cores = a.cores - b.cores; ram = a.ram - b.ram }
 
--- as much for each of n (own)
+-- the same amount n times (own)
 abbrev pub times : ℕ → Amount → Amount
 times n a = record { instances = n * a.instances; cores = n * a.cores; ram = n * a.ram }
 
@@ -29,7 +29,7 @@ pub record IsAtMost (a b : Amount) : Type 0 where
   pub cores : a.cores ≤ b.cores
   pub ram : a.ram ≤ b.ram
 
--- at most the limit, where there is one (own)
+-- at most the limit, if there is one (own)
 abbrev pub is_within : Option ℕ → ℕ → Bool
 is_within None used = true
 is_within (Some most) used = nat_le used most
@@ -38,7 +38,7 @@ is_within (Some most) used = nat_le used most
 abbrev pub fits : Amount → Limit → Bool
 fits a limit = is_within limit.instances a.instances && is_within limit.cores a.cores && is_within limit.ram a.ram
 
--- the amounts of a list together (own)
+-- the sum of the amounts of a list (own)
 abbrev pub total : List Amount → Amount
 total [] = nothing
 total (a ∷ amounts) = plus a (total amounts)

@@ -37,7 +37,7 @@ impl Amount {
         ram: 0,
     };
 
-    /// Both together.
+    /// The sum of both.
     pub fn plus(self, other: Amount) -> Amount
         requires instances { self.instances + other.instances < 2 ^ 64 }
         requires cores { self.cores + other.cores < 2 ^ 64 }
@@ -65,7 +65,7 @@ impl Amount {
         }
     }
 
-    /// What `n` nodes take that take this amount each.
+    /// What `n` nodes take if each takes this amount.
     pub fn times(self, n: u64) -> Amount
         requires instances { n * self.instances < 2 ^ 64 }
         requires cores { n * self.cores < 2 ^ 64 }
@@ -79,7 +79,7 @@ impl Amount {
         }
     }
 
-    /// Whether each part is at most its limit, where that is there.
+    /// Whether each part is at most its limit, if it has one.
     pub fn fits(&self, limit: &Limit) -> bool
         ensures { result ≡ fits self.now limit.now }
     {

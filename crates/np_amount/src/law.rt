@@ -1,4 +1,4 @@
-//! What always holds of sums of amounts, for the crates above to cite. The functions do nothing.
+//! What is always true of sums of amounts, for the crates above to cite. The functions do nothing.
 
 ghost use Rattle.std.specs.Prelude.{◌≡◌, ◌+◌, ◌<◌, ◌≤◌, ℕ, true, List, ◌++◌, [], ◌∷◌, All, length, replicate, map, remove, insert, slice_set, slice_index_or, sum_by};
 ghost use Rattle.np_amount.specs.Amounts.{no_limit, nothing, plus, minus, times, fits, total, IsAtMost};
@@ -15,7 +15,7 @@ pub fn amounts_add_up()
     ensures constant { Amount.NOTHING ≡ nothing }
 {}
 
-/// `times` is the sum of as many: one more adds one more, and more of a larger amount is more.
+/// `times` is a repeated sum: one more adds one more, and more of a larger amount is more.
 pub fn times_are_sums()
     ensures sum { (n : ℕ) (a : Amount) → times n a ≡ total (replicate n a) }
     ensures more { (n : ℕ) (a : Amount) → times (n + 1) a ≡ plus a (times n a) }
@@ -23,7 +23,7 @@ pub fn times_are_sums()
         IsAtMost (times m a) (times n b) }
 {}
 
-/// A smaller amount fits wherever a larger one does, and each amount fits where nothing is limited.
+/// A smaller amount fits if a larger one does, and each amount fits if nothing is limited.
 pub fn smaller_amounts_fit()
     ensures unlimited { (a : Amount) → fits a no_limit ≡ true }
     ensures constant { Limit.NO_LIMIT ≡ no_limit }
@@ -36,7 +36,7 @@ pub fn smaller_amounts_fit()
         IsAtMost (plus a c) (plus b d) }
 {}
 
-/// What a total becomes where its list changes.
+/// What a total becomes if its list changes.
 pub fn totals_follow_their_list()
     ensures append { (xs ys : List Amount) → total (xs ++ ys) ≡ plus (total xs) (total ys) }
     ensures push { (xs : List Amount) (y : Amount) → total (xs ++ y ∷ []) ≡ plus (total xs) y }

@@ -1,8 +1,8 @@
 //! Amounts of test machines and the limits of a pool.
 //!
 //! A quota is a rule, a limit its number, and a count what is used: an amount that is compared with
-//! the limit. `specs/Amounts` has the words for sums of amounts over a list, and the functions of
-//! `law` what always holds of them; `proofs/Sums` has the same facts as lemmas.
+//! the limit. `specs/Amounts` defines sums of amounts over a list, and the functions of `law` state
+//! what is always true of them; `proofs/Sums` has the same facts as lemmas.
 #![tactic(auto)]
 
 mod amount;

@@ -11,7 +11,7 @@ use Rattle.np_text.proofs.SpellingLemmas.{both_true}
 use Rattle.np_audit.specs.Agreement.{common_lines, newline_count, newlines}
 use Rattle.np_audit.proofs.LineParts.{line-some}
 
--- the lines that both texts begin with, and what each has behind them
+-- the lines that both texts begin with, and what each has after them
 pub record Common (x y : List ℕ) (count : ℕ) : Type 0 where
   pub lines : List (List ℕ)
   pub left : List ℕ

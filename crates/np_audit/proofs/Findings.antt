@@ -81,7 +81,7 @@ text_played-lines c bytes rest (a ∷ lines) read plain split begins =
     let P : Configuration → Type 0 = λ x. (r : List ℕ) × (text_played x bytes ≡ flat_map line (a ∷ lines) ++ r) in
     subst P same (text_played-begins d text.journal p.runs.replies p.runs.short (entries_of_a_run d text.journal whole p) (a ∷ lines) bytes rest begins.rest plain split p.is)
 
--- ## where the first line is read
+-- ## if the first line is read
 
 yes_so : (c : Configuration) (text same bytes : List ℕ) → IsPrinted c (entries_played c bytes) text → text ≡ same → IsAText same
 yes_so c text same bytes printed is = record {
@@ -90,7 +90,7 @@ yes_so c text same bytes printed is = record {
   printed = subst (λ (t : List ℕ). IsPrinted c (entries_played c bytes) t) is printed;
 }
 
--- the next whole line of the bytes does not go on as a Text does
+-- the next whole line of the bytes does not continue as a Text does
 no_longer : (c : Configuration) (text bytes : List ℕ) (n : ℕ) → reads (first_line bytes) ≡ Ok c → text ≡ text_played c bytes → (both : Common text bytes n) → (next later : List ℕ) → is_line next ≡ true →
     both.right ≡ line next ++ later → BeginsAText (flat_map line both.lines ++ line next) → ⊥
 no_longer c text bytes n read is both next later plain here begins =
@@ -136,7 +136,7 @@ finding-so c bytes rest text shown finding read printed behind is found =
     let same : IsSo (finding_of text bytes) bytes = finding_of-so c text bytes read own in
     subst (λ (f : Finding). IsSo f bytes) (sym (found ∙ ap (λ (t : List ℕ). finding_of t bytes) is)) same
 
--- ## where it is not read
+-- ## if it is not read
 
 pub unread_so : (bytes : List ℕ) (fault : ConfigFault) → reads (first_line bytes) ≡ Err fault → BeginsAText [] → IsNoText bytes 1
 unread_so bytes fault unread some = record {

@@ -6,7 +6,7 @@ use Rattle.np_text.specs.Lines.{is_line, line, line_length}
 use Rattle.np_text.proofs.SpellingLemmas.{both_true}
 use Rattle.np_audit.specs.Entries.{first_line, later_lines}
 
--- the length of a line that stands first
+-- the length of a line that comes first
 line_length-line : (bytes rest : List ℕ) → is_line bytes ≡ true → line_length (bytes ++ 10 ∷ rest) ≡ length bytes
 line_length-line [] rest plain = refl
 line_length-line (b ∷ bs) rest plain =
@@ -27,7 +27,7 @@ later_lines-line bytes rest plain =
     ∙ ap (drop (length bytes + 1)) (sym (append_assoc bytes (10 ∷ []) rest))
     ∙ drop_at (bytes ++ 10 ∷ []) rest (length bytes + 1) (length_push bytes 10)
 
--- two texts that are one begin with one line
+-- two equal texts begin with the same line
 pub line-injective : (a b x y : List ℕ) → is_line a ≡ true → is_line b ≡ true → line a ++ x ≡ line b ++ y → (a ≡ b) × (x ≡ y)
 line-injective a b x y plain_a plain_b same = (
   sym (first_line-line a x plain_a) ∙ ap first_line same ∙ first_line-line b y plain_b,

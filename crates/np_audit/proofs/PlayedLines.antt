@@ -48,7 +48,7 @@ played_lines-entry c s room e journal lines is has =
     ap (λ (events : List Event). played_from c s (take (suc room) events)) (events_told-entry e lines has)
     ∙ ap (λ (x : Entry). x ∷ played_lines c (next c s e.event) room lines) head
 
--- behind the last entry stands the bar
+-- the bar comes after the last entry
 played_lines-bar : (c : Configuration) (s : State) (room : ℕ) (lines : List (List ℕ)) → played_lines c s room (bar ∷ lines) ≡ []
 played_lines-bar c s room lines =
     ap (λ (events : List Event). played_from c s (take room events)) (events_told-bar lines) ∙ ap (played_from c s) (take-nil room)
@@ -88,7 +88,7 @@ shows-entry c s room l e lines more journal is has same later = cases later
     )
     cases (inr all) = inr (whole ∙ ap (λ (entries : List Entry). e ∷ entries) all)
 
--- lines that begin a journal's lines and the bar behind them
+-- lines that begin a journal's lines and the bar after them
 pub shows-lines : (c : Configuration) (s : State) (room : ℕ) (journal : List Entry) (lines more : List (List ℕ)) (r behind : List ℕ) → length journal ≤ room → replayed c s journal ≡ journal →
     AllByRecursion HasEntryLine journal → list_all is_line lines ≡ true → flat_map line lines ++ r ≡ entry_lines journal ++ (line bar ++ behind) →
     Shows (played_from c s (take room (events_told (lines ++ more)))) lines journal

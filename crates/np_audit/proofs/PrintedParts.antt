@@ -33,7 +33,7 @@ is_line-canonical c = is_line-compact_text (configuration_data c)
 abbrev pub fates_part : Configuration → List Entry → List ℕ
 fates_part c journal = line bar ++ fate_lines c 0 c.jobs (fates (after c journal))
 
--- what stands behind the first bar
+-- what comes after the first bar
 abbrev pub run_part : Configuration → List Entry → List ℕ
 run_part c journal = entry_lines journal ++ fates_part c journal
 

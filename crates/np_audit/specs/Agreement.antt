@@ -19,6 +19,6 @@ common_lines [] other = 0
 common_lines (b ∷ text) [] = 0
 common_lines (b ∷ text) (d ∷ other) = if b == d then newline_count b + common_lines text other else 0
 
--- the bytes are this text, or else leave it behind the lines that both begin with
+-- the bytes are this text, or differ from it after the lines that both begin with
 abbrev pub finding_of : List ℕ → List ℕ → Finding
 finding_of text bytes = if bytes_eq text bytes then Yes else No (common_lines text bytes + 1)

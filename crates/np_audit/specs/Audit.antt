@@ -1,4 +1,5 @@
--- whether bytes are the Text of a run, and else which of their lines is the first that a Text cannot have
+-- whether bytes are the Text of a run, and otherwise which of their lines is the first that a Text
+-- cannot have
 use Rattle.std.specs.Prelude.{◌≡◌, ℕ, ◌+◌, true, List, ◌++◌, length}
 use Rattle.std.specs.List.{flat_map, list_all}
 use Rattle.np_text.specs.Lines.{is_line, line}
@@ -19,7 +20,9 @@ pub record BeginsAText (bytes : List ℕ) : Type 0 where
   pub rest : List ℕ
   pub whole : IsAText (bytes ++ rest)
 
--- the bytes are no Text. They are whole lines and a rest: a Text begins with these lines, but none begins with these and the next whole line of the rest, if it has one. The line's number is that of the line behind them
+-- the bytes are no Text. They are whole lines and a rest: a Text begins with these lines, but none
+-- begins with these and the next whole line of the rest, if it has one. The number is that of the
+-- line after these lines
 pub record IsNoText (bytes : List ℕ) (number : ℕ) : Type 0 where
   pub none : ¬ (IsAText bytes)
   pub lines : List (List ℕ)
@@ -30,7 +33,7 @@ pub record IsNoText (bytes : List ℕ) (number : ℕ) : Type 0 where
   pub ends : (next later : List ℕ) → is_line next ≡ true → rest ≡ line next ++ later → ¬ (BeginsAText (flat_map line lines ++ line next))
   pub count : number ≡ length lines + 1
 
--- what is found of the bytes is so
+-- what is found of the bytes is true
 abbrev pub IsSo : Finding → List ℕ → Type 0
 IsSo Yes bytes = IsAText bytes
 IsSo (No number) bytes = IsNoText bytes number

@@ -9,7 +9,7 @@ use Rattle.np_event.specs.Line.{entry_in}
 abbrev pub first_line : List ℕ → List ℕ
 first_line text = take (line_length text) text
 
--- what stands behind the first line and its newline
+-- what comes after the first line and its newline
 abbrev pub later_lines : List ℕ → List ℕ
 later_lines text = drop (line_length text + 1) text
 

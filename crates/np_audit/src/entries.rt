@@ -8,7 +8,7 @@ use np_lists::Items;
 use np_text::{JOURNAL_ENTRIES, NoMemory, line_at};
 use std::alloc::Global;
 
-/// The first line, without its newline, and what stands behind it. The time grows with the line.
+/// The first line, without its newline, and what comes after it. The time grows with the line.
 pub(crate) fn split_line(text: &[u8]) -> (&[u8], &[u8])
     ensures line { result.0.now ≡ first_line text.now }
     ensures later { result.1.now ≡ later_lines text.now }

@@ -23,11 +23,11 @@ pub enum Finding {
     /// They are the Text of a run.
     Yes,
     /// They are no such Text. The line, from 1, is the first that is wrong: some Text begins with
-    /// the lines before it, but none goes on with it, or it lacks its newline, or it is missing.
+    /// the lines before it, but none continues with it, or it lacks its newline, or it is missing.
     No { line: u32 },
 }
 
-/// It does nothing: a Text begins with no bytes, as there is one.
+/// It does nothing: as there is a Text, one begins with no bytes.
 fn there_is_a_text()
     ensures { BeginsAText [] }
 {
@@ -44,7 +44,7 @@ fn read_config(alloc: Global, bytes: &[u8]) -> Result<Result<Config, ConfigFault
     }
 }
 
-/// The Text of the run whose entries stand behind the first line of `rest`.
+/// The Text of the run whose entries come after the first line of `rest`.
 fn text_behind(alloc: Global, config: Config, rest: &[u8]) -> Result<Vec<u8>, NoMemory>
     requires { IsSound config }
     ensures { IfOk result (λ text.
@@ -67,9 +67,9 @@ fn compare(text: &[u8], bytes: &[u8]) -> Finding
     }
 }
 
-/// Whether the bytes are the Text of a run of the machine, or else which of their lines is the
-/// first that is wrong. The memory grows with the bytes and with the run's state; the time is that
-/// of playing the run.
+/// Whether the bytes are the Text of a run of the machine, and otherwise which of their lines is
+/// the first that is wrong. The memory grows with the bytes and with the run's state; the time is
+/// that of playing the run.
 pub fn audit(alloc: Global, bytes: &[u8]) -> Result<Finding, NoMemory>
     ensures { IfOk result (λ finding. IsSo finding bytes.now) }
 {

@@ -42,7 +42,7 @@ apart a b less = grind (arith, nat_tests)
 same-number : (a : ℕ) → (a == a) ≡ true
 same-number a = grind (arith, nat_tests)
 
--- nodes stand by number, so that a node is found at its place
+-- nodes are in the order of their numbers, so a node is found at its place
 found-at : (xs : List NodeEntry) (i : ℕ) (e : NodeEntry) → Rises (λ (a b : NodeEntry). nat_lt a.id.0 b.id.0) xs → slice_get xs i ≡ Some e → node_entry e.id xs ≡ Some e
 found-at [] i e rises there = absurd cc
 found-at (x ∷ xs) zero e rises there =

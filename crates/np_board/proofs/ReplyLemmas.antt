@@ -1,4 +1,4 @@
--- the numbers of a reply tell it
+-- the numbers of a reply determine it
 use Rattle.std.proofs.Common.{◌≡◌, ◌∙◌, ℕ, true, List, [], ◌∷◌, get_or, drop, refl, sym, ap}
 use Rattle.std.proofs.lemmas.Slice.Eq.{bytes_eq-Decides}
 use Rattle.np_text.specs.declared.word.Ending.{Ending}
@@ -19,7 +19,7 @@ use Rattle.np_event.specs.declared.reply.Reply.{Reply}
 use Rattle.np_event.specs.declared.reply.Reply.TheVariants as reply
 use Rattle.np_board.specs.Replies.{ending_number, request_state_number, node_state_number, phase_number, found_numbers, done_numbers, refusal_numbers, reply_numbers, is_same_reply}
 
--- ## what the numbers tell
+-- ## what the numbers determine
 
 abbrev ending_from : ℕ → Ending
 ending_from n = get_or (ending.Served ∷ ending.Lost ∷ ending.Failed ∷ ending.Withdrawn ∷ []) n ending.Served
@@ -66,7 +66,7 @@ refusal_from ns =
 abbrev reply_from : List ℕ → Reply
 reply_from ns = get_or (reply.Done (done_from (drop 1 ns)) ∷ reply.Refused (refusal_from (drop 1 ns)) ∷ []) (get_or ns 0 0) (reply.Done done.Plain)
 
--- ## each is told again
+-- ## each is read back
 
 ending-again : (e : Ending) → ending_from (ending_number e) ≡ e
 ending-again ending.Served = refl

@@ -67,7 +67,7 @@ pub record IsDue (p : PoolId) (s : State) (n : NodeId) (x : Option ℕ) : Type 0
   pub holder : node_holder n s.nodes ≡ Some session
   pub current : is_current (Janitor p) session s ≡ true
 
--- one that is due, or none is (own)
+-- a node that is due, or none is (own)
 abbrev pub answers_due : Configuration → List Entry → PoolId → Turn → Type 0
 answers_due c journal p (turn.Did e) = ⊥
 answers_due c journal p (turn.DueNode n x) = IsDue p (after c journal) n x
@@ -81,7 +81,7 @@ answers_due c journal p turn.Full = ⊥
 abbrev pub IsKept : PoolId → NodeId → ℕ → State → Type 0
 IsKept p n x s = (has_current (Janitor p) s ≡ false) ⊎ (is_wanted s n x ≡ true)
 
--- it is not: the pool's janitor has a session, and no record wants the server (own)
+-- it is not kept: the pool's janitor has a session, and no record wants the server (own)
 pub record IsNotKept (p : PoolId) (n : NodeId) (x : ℕ) (s : State) : Type 0 where
   pub current : has_current (Janitor p) s ≡ true
   pub unwanted : is_wanted s n x ≡ false

@@ -6,7 +6,7 @@ use Rattle.np_machine.specs.State.{State, start}
 use Rattle.np_machine.specs.Step.{judge, next, reply_of}
 use Rattle.np_board.specs.Replies.{is_same_reply}
 
--- from the state on the machine gives the journal's replies, one by one (own)
+-- from this state on, the machine gives the journal's replies, one by one (own)
 abbrev pub has_replies : Configuration → State → List Entry → Bool
 has_replies c s [] = true
 has_replies c s (e ∷ journal) = is_same_reply e.reply (reply_of (judge c s e.event)) && has_replies c (next c s e.event) journal

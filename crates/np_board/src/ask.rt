@@ -6,15 +6,14 @@ use np_text::{NodeId, PoolId, Role};
 /// What a party asks in a turn.
 #[derive(Clone, Copy, Debug, PartialEq, Eq)]
 pub enum Ask {
-    /// That the role does what is useful, if anything is.
+    /// The role makes a useful event, if it has one.
     Act(Role),
-    /// That the event happens.
+    /// The event happens.
     Do(Event),
     /// Which node of the pool is being deleted and held by the pool's janitor, so that its server
-    /// is to be removed.
+    /// has to be removed.
     Due(PoolId),
-    /// Whether the server that was launched for the node is still wanted, as the pool's janitor
-    /// asks.
+    /// Whether the server that was launched for the node is still wanted. The pool's janitor asks.
     Sweep {
         pool: PoolId,
         node: NodeId,
@@ -22,7 +21,7 @@ pub enum Ask {
     },
 }
 
-/// What a turn is answered.
+/// What a turn answers.
 #[derive(Clone, Copy, Debug, PartialEq, Eq)]
 pub enum Turn {
     /// What was recorded.

@@ -28,7 +28,7 @@ use std::alloc::Global;
 use std::marker::Model;
 
 /// The machine's state with its journal. It changes by entries of the journal alone, and keeps an
-/// index beside its state, by which readers are answered.
+/// index beside its state, with which it answers readers.
 #[derive(Drop)]
 pub struct Board {
     plain: Plain,
@@ -86,16 +86,15 @@ impl Board {
         &self.index
     }
 
-    /// What the event is answered: `Full` where the journal has 262,144 entries. It takes no
-    /// memory.
+    /// The reply to the event: `Full` if the journal has 262,144 entries. It takes no memory.
     pub fn judge(&self, event: Event) -> Reply
         ensures { result ≡ answer_of self.now event }
     {
         self.plain.judge(event)
     }
 
-    /// The event happens: its reply is recorded with it, and the state is the one after it. Where
-    /// the reply is `Full`, and where memory is wanted, nothing changes.
+    /// The event happens: its reply is recorded with it, and the state is the one after it. If the
+    /// reply is `Full`, or memory runs out, nothing changes.
     pub fn apply(&mut self, event: Event) -> Result<Reply, NoMemory>
         ensures reply { IfOk result (λ r. r ≡ answer_of self.old event) }
         ensures ok { OnOk result (self.new ≡ applied self.old event) }
@@ -115,9 +114,9 @@ impl Board {
         is_settled(self)
     }
 
-    /// Records one useful event of the role: `Did`. `Idle` exactly where the role has none, and
-    /// `Full` exactly where it has one and 262,144 entries stand. After want of memory nothing has
-    /// changed.
+    /// Records one useful event of the role: `Did`. `Idle` if and only if the role has none, and
+    /// `Full` if and only if it has one and there are 262,144 entries. If memory runs out, nothing
+    /// changes.
     pub fn act(&mut self, role: Role) -> Result<Turn, NoMemory>
         ensures turn { IfOk result (λ t. IsTaken self.old (asks.Act role) t self.new) }
         ensures err { OnErr result (self.new ≡ self.old) }
@@ -129,7 +128,7 @@ impl Board {
         }
     }
 
-    /// Records the event with its reply: `Did`, or `Full` exactly where 262,144 entries stand.
+    /// Records the event with its reply: `Did`, or `Full` if and only if there are 262,144 entries.
     fn record(&mut self, event: Event) -> Result<Turn, NoMemory>
         ensures turn { IfOk result (λ t. IsTaken self.old (asks.Do event) t self.new) }
         ensures err { OnErr result (self.new ≡ self.old) }
@@ -141,9 +140,9 @@ impl Board {
         Ok(Turn::Did(Entry { event, reply }))
     }
 
-    /// A node of the pool that is being deleted and held by the pool's janitor, or `Idle` exactly
-    /// where there is none. It asks the sessions from the newest to the janitor's, and then every
-    /// node up to that one.
+    /// A node of the pool that is being deleted and held by the pool's janitor, or `Idle` if and
+    /// only if there is none. It scans the sessions from the newest to the janitor's, and then
+    /// every node up to that one.
     fn due(&self, pool: PoolId) -> Turn
         ensures { answers_due self.now.configuration self.now.journal pool result }
     {
@@ -161,8 +160,8 @@ impl Board {
     }
 
     /// Records that the pool's janitor sweeps the server, unless the server is kept or was swept
-    /// before. It asks the sessions from the newest to the janitor's, and finds the node and the
-    /// pair by halves.
+    /// before. It scans the sessions from the newest to the janitor's, and finds the node and the
+    /// pair by binary search.
     fn sweep(&mut self, pool: PoolId, node: NodeId, server: u64) -> Result<Turn, NoMemory>
         ensures turn { IfOk result
             (λ t. IsTaken self.old (asks.Sweep pool node server) t self.new) }
@@ -185,7 +184,7 @@ impl Board {
         })
     }
 
-    /// The turn goes by its ask.
+    /// Takes the turn that the ask names.
     fn take_turn(&mut self, ask: Ask) -> Result<Turn, NoMemory>
         ensures turn { IfOk result (λ t. IsTaken self.old ask t self.new) }
         ensures err { OnErr result (self.new ≡ self.old) }

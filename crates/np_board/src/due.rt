@@ -29,8 +29,8 @@ fn is_due(pool: PoolId, session: SessionId, view: &NodeView) -> bool
         && is_session_of(session, view.holder)
 }
 
-/// The first node of the pool that is being deleted and held by the session. It asks every node up
-/// to that one, or all where there is none.
+/// The first node of the pool that is being deleted and held by the session. It scans every node up
+/// to that one, or all if there is none.
 pub(crate) fn due_node<L: Look>(look: &L, pool: PoolId, session: SessionId) -> Option<NodeView>
     ensures { result ≡ option_map node_view (find (is_due pool session) (L.state look.now).nodes) }
 {
@@ -54,7 +54,7 @@ fn is_server(server: u64, found: Option<u64>) -> bool
     }
 }
 
-/// Whether the node is there, and building or with this server.
+/// Whether the node is there, and is building or has this server.
 pub(crate) fn is_wanted<L: Look>(look: &L, node: NodeId, server: u64) -> bool
     ensures { result ≡ is_wanted (L.state look.now) node server }
 {

@@ -22,19 +22,19 @@ ghost use Rattle.np_board.specs.Answers.{IsReplied, answers, answers_sweep};
 ghost use Rattle.np_board.specs.Asks.{recorded};
 ghost use Rattle.np_board.specs.Legal.{is_legal};
 
-/// A legal journal is one that the machine gives.
+/// A legal journal is one that the machine makes.
 pub fn a_legal_journal_runs()
     ensures { (c : Configuration) (journal : List Entry) → is_legal c journal ≡ true →
         Runs c journal (after c journal) }
 {}
 
-/// A journal that the machine gives is legal.
+/// A journal that the machine makes is legal.
 pub fn a_journal_that_runs_is_legal()
     ensures { (c : Configuration) (journal : List Entry) (s : State) → Runs c journal s →
         is_legal c journal ≡ true }
 {}
 
-/// What a legal journal begins with is legal.
+/// A beginning of a legal journal is legal.
 pub fn a_beginning_of_a_legal_journal_is_legal()
     ensures { (c : Configuration) (journal rest : List Entry) →
         is_legal c (journal ++ rest) ≡ true → is_legal c journal ≡ true }
@@ -62,8 +62,8 @@ pub fn a_turn_records_the_machines_reply()
         answers c journal ask t → recorded ask t ≡ Some e → IsReplied c journal e }
 {}
 
-/// A sweep by the pool's current janitor is answered `Keep` where the server is wanted, else
-/// `Remove`: so the answers to an ask to sweep are the machine's.
+/// A sweep by the pool's current janitor is answered `Keep` if the server is wanted, otherwise
+/// `Remove`; so the answers to an ask to sweep are the machine's.
 pub fn a_sweep_keeps_what_is_wanted()
     ensures { (c : Configuration) (s : State) (p : PoolId) (session : SessionId) (n : NodeId)
         (x : ℕ) → is_current (Janitor p) session s ≡ true →

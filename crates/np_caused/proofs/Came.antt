@@ -1,4 +1,4 @@
--- how a request that is found after an event stood before it
+-- how a request that is found after an event was before it
 use Rattle.std.proofs.Common.{◌≡◌, ◌∙◌, sym, ℕ, ◌<◌, List, [], refl, ap, subst, Option, Some, None, Bool, true, false, ◌⊎◌, inl, inr}
 use Rattle.std.specs.List.{AllByRecursion}
 use Rattle.std.proofs.lemmas.Option.{none-some, same_Some}

@@ -1,4 +1,4 @@
--- a turn that turns a request failed has its cause
+-- a turn that makes a request fail has its cause
 use Rattle.std.proofs.Common.{◌≡◌, ◌∙◌, sym, ℕ, ◌<◌, List, [], ◌∷◌, ◌++◌, refl, ap, arith, subst, length, Option, Some, None, Bool, true, false, ◌⊎◌, inl, inr}
 use Rattle.std.specs.Prelude.{◌==◌, ◌||◌, not, if◌then◌else◌, is_some, is_none, Contains}
 use Rattle.std.specs.Option.{option_map_or}
@@ -120,7 +120,7 @@ new-open c s ch priority asked (inr asks) = ap (λ (a : Asked). is_failed a.stat
 
 module _ (c : Configuration) (past : List Turn) (t : Turn) (ch : Changes) (old : Invariant c t.before) (due : IsDue c past t.before) (premises : Premises c t.before ch) (tells : Tells c t.before t.entry.event ch)
     (leads : changed c ch t.before ≡ t.later) (made : DeclinesMade c (past ++ t ∷ []) t.later) where
-  -- an edit of a request leaves the registrations
+  -- an edit of a request leaves the registrations as they are
   same-registrations : (r : RequestId) (how : RequestEdit) → ch.grows ≡ grow.Nothing → ch.requests ≡ requests.Edit r how → t.later.registrations ≡ t.before.registrations
   same-registrations r how size at =
       sym (ap (λ (x : State). x.registrations) leads)
@@ -155,7 +155,7 @@ module _ (c : Configuration) (past : List Turn) (t : Turn) (ch : Changes) (old :
           let none : q.declined ≡ [] = (due.pinned r q p stood pinned).0.undeclined (requested-open q.state requested) in
           absurd (none-declined t.before.registrations some (subst (λ (xs : List Declined). all_declined t.before.registrations xs ≡ true) none all))
 
-  -- a pinned request's own pool declines it for a node alone whose launches are spent
+  -- a pinned request's own pool declines it only for a node whose launches are used up
   spent-cause : (r : RequestId) (q now : RequestRecord) (p : PoolId) (why : Reason) → request_in r t.before.requests ≡ Some q → q.pinned ≡ Some p → now.pinned ≡ Some p → IsPinned c q p → IsDecline t.before t.entry.event r p why
       → is_true c t.before p q why ≡ true → (is_requested q.state || is_pending_by p q) ≡ true → LaunchesSpent c (past ++ t ∷ []) t r now
   spent-cause r q now p (reason.NoLabel l) stood pinned pinned_now is decline holds stands =

@@ -1,4 +1,4 @@
--- after one turn more each decline in a standing request's list was made by a turn of the past
+-- after one more turn, each decline in the list of an existing request was made by a past turn
 use Rattle.std.proofs.Common.{◌≡◌, ◌∙◌, sym, List, [], ◌∷◌, ◌++◌, subst, Some, Bool, true, ◌⊎◌, inl, inr}
 use Rattle.std.specs.Prelude.{Contains}
 use Rattle.std.proofs.lemmas.List.Elements.{Contains-push_cases}

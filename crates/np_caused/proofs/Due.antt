@@ -24,7 +24,7 @@ use Rattle.np_machine.specs.Caused.{IsTrueDecline, ReportsFailure, reports_on}
 
 -- ## declines
 
--- each decline in a standing request's list was made by a turn of the past
+-- each decline in the list of an existing request was made by a past turn
 abbrev pub DeclinesMade : Configuration → List Turn → State → Type 0
 DeclinesMade c past s = (r : RequestId) (q : RequestRecord) → request_in r s.requests ≡ Some q → (d : Declined) → Contains q.declined d → SomeTurn (IsTrueDecline c r d.pool d.reason) past
 
@@ -36,7 +36,8 @@ pub record IsOwn (s : State) (p : PoolId) (session : SessionId) : Type 0 where
   pub begun : session_of session s ≡ Some facts
   pub own : (l : PoolId) → facts.role ≡ Launcher l → l ≡ p
 
--- a request that is pinned to the pool asks for one label, which the pool offers and has room for where it is empty; nobody has declined it while it is not failed, and no other pool serves it
+-- a request that is pinned to the pool asks for one label, which the pool offers and has room for
+-- when it is empty; nobody has declined it while it is not failed, and no other pool serves it
 pub record IsPinned (c : Configuration) (q : RequestRecord) (p : PoolId) : Type 0 where
   pub label : LabelId
   pub labels : q.labels ≡ label ∷ []
@@ -45,7 +46,7 @@ pub record IsPinned (c : Configuration) (q : RequestRecord) (p : PoolId) : Type 
   pub undeclined : is_failed q.state ≡ false → q.declined ≡ []
   pub served : (l : PoolId) → q.pool ≡ Some l → l ≡ p
 
--- each pinned request is so, and no launcher of another pool waits at it
+-- each pinned request is like this, and no launcher of another pool waits at it
 abbrev pub PinnedStand : Configuration → State → Type 0
 PinnedStand c s = (r : RequestId) (q : RequestRecord) (p : PoolId) → request_in r s.requests ≡ Some q → q.pinned ≡ Some p → IsPinned c q p × AllByRecursion (IsOwn s p) (request_queue r s.requests)
 
@@ -56,13 +57,14 @@ abbrev pub flights : Bool → ℕ
 flights true = 1
 flights false = 0
 
--- of a building node each attempt but the running one was reported, and of a failed one as many as the provider allows; each report was of a failure
+-- each attempt of a building node except the running one was reported, and of a failed node as many
+-- as the provider allows; each report was of a failure
 abbrev pub IsCounted : Configuration → List Turn → NodeId → NodeRecord → Type 0
 IsCounted c past n k =
     (is_building k.state ≡ true → (reports_on n past + flights k.in_flight ≡ k.attempts) × EachTurn (ReportsFailure n) past)
     × (is_failed_node k.state ≡ true → (reports_on n past ≡ retries_of c k.pool) × EachTurn (ReportsFailure n) past)
 
--- each node that stands is counted so, and nobody reported on a later one
+-- each node that exists is counted like this, and nobody reported on a later one
 pub record ReportsCounted (c : Configuration) (past : List Turn) (s : State) : Type 0 where
   pub later : (n : NodeId) → s.next_node ≤ n.0 → reports_on n past ≡ 0
   pub each : (n : NodeId) (k : NodeRecord) → node_in n s.nodes ≡ Some k → IsCounted c past n k

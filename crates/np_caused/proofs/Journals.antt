@@ -1,4 +1,5 @@
--- over a journal: what is due goes on with each turn, and each turn that turns a request failed has its cause
+-- over a journal: what is due stays due with each turn, and each turn that makes a request fail has
+-- its cause
 use Rattle.std.proofs.Common.{◌≡◌, ◌∙◌, sym, List, [], ◌∷◌, ◌++◌, refl, subst, Bool, true, false, Some, Ok, Err}
 use Rattle.std.specs.Prelude.{is_ok}
 use Rattle.std.proofs.lemmas.Bool.{false≢true, both_ways, and_right}

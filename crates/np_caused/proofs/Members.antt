@@ -35,7 +35,7 @@ any-member p xs any = let found = Any-from_list_any p xs any in (found.1, (found
 pub all-member : {X : Type 0} (p : X → Bool) (xs : List X) (x : X) → list_all p xs ≡ true → Contains xs x → p x ≡ true
 all-member p xs x all among = All-contains (λ y. p y ≡ true) xs x (AllPass-from_list_all p xs all) among
 
--- where none is counted that fails, all pass
+-- if none of those that fail is counted, all pass
 pub all-counted : {X : Type 0} (p : X → Bool) (xs : List X) → count_by (λ x. not (p x)) xs ≡ 0 → list_all p xs ≡ true
 all-counted p [] none = refl
 all-counted {X} p (x ∷ xs) none =
@@ -59,7 +59,7 @@ some-rows (x ∷ xs) is = omega arith
 pub all-undeclined : (rows : List Registration) (request : RequestRecord) → undeclined rows request ≡ 0 → all_declined rows request.declined ≡ true
 all-undeclined rows request none = all-counted (λ (g : Registration). is_declined_by g.pool request.declined) rows none
 
--- somebody is registered, who has not declined what nobody has
+-- if somebody is registered, not all have declined what nobody has
 pub none-declined : (rows : List Registration) → 0 < length rows → all_declined rows [] ≡ true → ⊥
 none-declined [] some all = omega (arith, some)
 none-declined (g ∷ rows) some all = false≢true all

@@ -101,7 +101,7 @@ failed-too false is out = absurd cc
 
 -- ## one edit
 
--- who holds is the first that waits
+-- the holder is the first that waits
 holder-waits : (session : SessionId) (o : Option SessionId) → is_session_of session o ≡ true → o ≡ Some session
 holder-waits session None is = absurd cc
 holder-waits session (Some other) is = ap (λ (x : SessionId). Some x) (session-is other session is)
@@ -168,7 +168,7 @@ module _ (c : Configuration) (s : State) (ch : Changes) (premises : Premises c s
 
 -- ## a new request
 
--- a label for which the pool has room fits where the pool is empty
+-- a label for which the pool has room fits when the pool is empty
 fits-empty : (c : Configuration) (s : State) (p : PoolId) (l : LabelId) → is_short c s p l ≡ false → fits (plus (amount_of c p l) nothing) (limit_of c p) ≡ true
 fits-empty c s p l room =
     fits-less (plus (amount_of c p l) nothing) (plus (count_of c s p) (amount_of c p l)) (limit_of c p) (record { instances = omega arith; cores = omega arith; ram = omega arith })
@@ -191,7 +191,7 @@ new-pinned c s ch priority asked p (inr asks) pinned =
 
 -- ## all of it
 
--- the edit leaves what the request is pinned to
+-- the edit does not change what the request is pinned to
 same-pin : (how : RequestEdit) (q : RequestRecord) → (edited how q).pinned ≡ q.pinned
 same-pin (edit.Serve p) q = refl
 same-pin (edit.AddNode n) q = refl
@@ -217,7 +217,7 @@ module _ (c : Configuration) (s : State) (e : Event) (ch : Changes) (numbered : 
             sym (same_pool p l (not-false (p.0 == l.0) near)));
       }
 
-  -- the queue of a pinned request that stood
+  -- the queue of a pinned request that was there before
   queue-own : (r : RequestId) (q : RequestRecord) (p : PoolId) → request_in r s.requests ≡ Some q → q.pinned ≡ Some p → AllByRecursion (IsOwn s p) (request_queue r s.requests) → AllByRecursion (IsOwn (changed c ch s) p) (request_queue r (changed c ch s).requests)
   queue-own r q p stood pinned waits =
       all-weaker (IsOwn s p) (IsOwn (changed c ch s) p) (λ session own. own-stays c s ch p session own) (request_queue r (changed c ch s).requests)

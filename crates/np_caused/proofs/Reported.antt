@@ -1,4 +1,4 @@
--- after one turn more the reports on each node are as many as its record says, and all of failures
+-- after one more turn, the reports on each node are as many as its record says, and all of failures
 use Rattle.std.proofs.Common.{◌≡◌, ◌∙◌, sym, ℕ, ◌+◌, ◌<◌, ◌≤◌, List, [], ◌∷◌, ◌++◌, refl, ap, arith, subst, Option, Some, None, Bool, true, false, cond, ◌⊎◌, inl, inr}
 use Rattle.std.specs.Prelude.{◌==◌, not, nat_lt}
 use Rattle.std.specs.List.{list_any}
@@ -84,7 +84,7 @@ module _ (c : Configuration) (past : List Turn) (t : Turn) where
       (λ builds. (omega (arith, many, flying), (old.0 building).1), λ failed. absurd (building-not_failed k.state building failed)) in
       other-counted n (record k { attempts = k.attempts + 1; in_flight = true; start = first }) other begun
 
-  -- a launch has failed: the node has failed where it was the last that is allowed
+  -- a launch has failed: the node has failed if it was the last launch that is allowed
   failure-counted : (n : NodeId) (k : NodeRecord) → reports_on n (past ++ t ∷ []) ≡ k.attempts → EachTurn (ReportsFailure n) (past ++ t ∷ []) → is_building k.state ≡ true → (b : Bool) → (k.attempts == retries_of c k.pool) ≡ b
       → IsCounted c (past ++ t ∷ []) n (record k { in_flight = false; state = cond b node_state.Failed k.state })
   failure-counted n k many each building true last =
@@ -121,7 +121,7 @@ module _ (c : Configuration) (past : List Turn) (t : Turn) where
 abbrev AllCounted : Configuration → List Turn → List NodeEntry → Type 0
 AllCounted c turns rows = (n : NodeId) (k : NodeRecord) → node_in n rows ≡ Some k → IsCounted c turns n k
 
--- of a record that was mapped
+-- the same for a record that was mapped
 mapped-counted : (c : Configuration) (turns : List Turn) (n : NodeId) (f : NodeRecord → NodeRecord) (o : Option NodeRecord) (k : NodeRecord) → option_map f o ≡ Some k → ((old : NodeRecord) → o ≡ Some old → IsCounted c turns n (f old)) → IsCounted c turns n k
 mapped-counted c turns n f None k is each = absurd (none-some k is)
 mapped-counted c turns n f (Some old) k is each = subst (λ (x : NodeRecord). IsCounted c turns n x) (same_Some (f old) k is) (each old refl)
@@ -165,7 +165,7 @@ module _ (c : Configuration) (past : List Turn) (s : State) (numbered : IsNumber
   counted-grown maker (grow.Handles j) fresh old n k is = old n k is
   counted-grown maker (grow.Swept m x) fresh old n k is = old n k is
 
--- where another change is made, or another node's record is put
+-- if another change is made, or another node's record is put
 put-other : (n m : NodeId) (kept other : NodeRecord) → (n.0 == m.0) ≡ false → nodes.Put n kept ≡ nodes.Put m other → ⊥
 put-other n m kept other apart is =
     let same : n ≡ m = cc in
@@ -215,7 +215,7 @@ new-is c s ch kept at premise = by premise.gains.from where
 
 module _ (c : Configuration) (past : List Turn) (t : Turn) (ch : Changes) (numbered : IsNumbered t.before) (runs : RunsWhileBuilding t.before) (premises : Premises c t.before ch) (tells : Tells c t.before t.entry.event ch)
     (told : (n : NodeId) → is_report_on n t.entry.event ≡ true → IsTold t.before ch n) (accepted : IsAccepted t) (old : ReportsCounted c past t.before) where
-  -- where the event does not report on the node
+  -- if the event does not report on the node
   quiet-on : (n : NodeId) → (IsTold t.before ch n → ⊥) → reports n t ≡ false
   quiet-on n none = by (is_report_on n t.entry.event) refl where
     by : (b : Bool) → is_report_on n t.entry.event ≡ b → reports n t ≡ false

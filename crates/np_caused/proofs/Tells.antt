@@ -1,4 +1,5 @@
--- what an event is, by what it changes: which declines, which puts a node's record, and which joins a request's queue
+-- what an event is, according to its changes: which declines, which puts a node's record, and which
+-- joins a request's queue
 use Rattle.std.proofs.Common.{◌≡◌, ◌∙◌, sym, ◌⊎◌, inl, inr, ℕ, ◌+◌, refl, ap, arith, subst, Option, Some, None, Result, Ok, Err, Bool, true, false}
 use Rattle.std.specs.Prelude.{◌&&◌, ◌||◌, not, if◌then◌else◌, is_some, slice_get}
 use Rattle.std.proofs.lemmas.Bool.{false≢true}
@@ -58,7 +59,7 @@ pub record IsDecline (s : State) (e : Event) (r : RequestId) (p : PoolId) (why :
   pub event : e ≡ ev.Decline session r why
   pub of_pool : role_of session s ≡ Some (Launcher p)
 
--- who joins the request's queue is no launcher of another pool than the request's own
+-- a session that joins the request's queue is no launcher of a pool other than the request's own
 pub record IsLock (s : State) (ch : Changes) (r : RequestId) : Type 0 where
   pub session : SessionId
   pub role : Role
@@ -90,7 +91,7 @@ pub record IsPast (kept : NodeRecord) : Type 0 where
   pub building : is_building kept.state ≡ false
   pub failed : is_failed_node kept.state ≡ false
 
--- what an event is that puts a node's record
+-- what an event can be that puts a node's record
 abbrev pub PutBy : Configuration → State → Event → NodeId → NodeRecord → Type 0
 PutBy c s e n kept = IsStart s e n kept ⊎ (IsReport c s e n kept ⊎ IsPast kept)
 
@@ -172,7 +173,7 @@ module _ (c : Configuration) (s : State) (e : Event) where
   made-found-tells : {A : Type 0} (session : SessionId) (role : Role) (o : Option A) (f : A → Changes) → ((a : A) → o ≡ Some a → Tells c s e (made_by session role (f a))) → Tells c s e (made_by session role (with_found o f))
   made-found-tells session role o f each = plan-made (Tells c s e) session role (calm (made_by session role same) (quiet (made_by session role same) refl refl refl)) o f each
 
-  -- a node's record is put, and nothing else is told
+  -- a node's record is put, with no decline and nobody joining a request's queue
   put-tells : (ch : Changes) (n : NodeId) (kept : NodeRecord) → is_decline ch.requests ≡ false → is_join ch.grows ≡ false → ch.nodes ≡ nodes.Put n kept → PutBy c s e n kept → Tells c s e ch
   put-tells ch n kept no_decline no_join puts put = record {
     declines = λ r p why failed at. absurd (false≢true (sym no_decline ∙ ap (λ (x : RequestsChange). is_decline x) at));
@@ -331,7 +332,7 @@ plan-tells c s (ev.Sweep session n x) what ok = calm c s (ev.Sweep session n x) 
 
 -- ## reports
 
--- a report puts the record of its node, which stands
+-- a report puts the record of its node, which exists
 pub record IsTold (s : State) (ch : Changes) (n : NodeId) : Type 0 where
   pub node : NodeRecord
   pub stands : node_in n s.nodes ≡ Some node

@@ -39,7 +39,7 @@ no-report true true rest all both none is accepted = omega (arith, both, none)
 no-report true false rest all both none is accepted = false≢true accepted
 no-report false b rest all both none is accepted = false≢true is
 
--- where there is no report, all that there are said that the launch failed
+-- if there is no report, every report said that the launch failed
 pub none-failed : (n : NodeId) (ts : List Turn) → reports_on n ts ≡ 0 → EachTurn (ReportsFailure n) ts
 none-failed n [] none = tt
 none-failed n (t ∷ ts) none =

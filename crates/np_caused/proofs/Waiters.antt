@@ -1,4 +1,4 @@
--- who waits at a request after an event: who did, and the maker where it joins
+-- who waits at a request after an event: those who did before, and the maker if it joins
 use Rattle.std.proofs.Common.{◌≡◌, ◌∙◌, sym, ℕ, ◌<◌, List, [], refl, ap, subst, Option, Some, None, Bool, true, false, cond}
 use Rattle.std.specs.List.{AllByRecursion}
 use Rattle.np_text.specs.declared.id.SessionId.{SessionId}
@@ -29,7 +29,7 @@ use Rattle.np_safe.proofs.NextNumbers.{same-seq}
 use Rattle.np_safe.proofs.LiveQueues.{all-joined, all-left}
 
 module _ (P : SessionId → Type 0) where
-  -- the members of the queue that is found, where they are such
+  -- the members of the queue that is found, if they meet the condition
   same-queue : (queue later : List SessionId) → later ≡ queue → AllByRecursion P queue → AllByRecursion P later
   same-queue queue later same all = subst (λ (xs : List SessionId). AllByRecursion P xs) (sym same) all
 
@@ -43,7 +43,7 @@ module _ (P : SessionId → Type 0) where
     by None none = same-queue [] _ (request_queue-nowhere r (put_request_queue x queue rows) (request_in-queue x r queue rows ∙ none)) tt
     by (Some q) is = same-queue _ _ (request_queue-queue x r queue q rows is) (choose (same_request x r) refl)
 
-  -- the queue of the request, where another id may name it
+  -- the queue of the request, under another id that may name it
   queue-of : (x r : RequestId) (rows : List RequestEntry) → x ≡ r → AllByRecursion P (request_queue r rows) → AllByRecursion P (request_queue x rows)
   queue-of x r rows same all = subst (λ (y : RequestId). AllByRecursion P (request_queue y rows)) (sym same) all
 

@@ -8,9 +8,9 @@ ghost use Rattle.np_machine.specs.History.{Runs};
 ghost use Rattle.np_machine.specs.Caused.{Caused};
 ghost use Rattle.np_safe.specs.Steps.{AfterEveryStep};
 
-/// Each turn of a run that turns a request failed has its cause, at it or before it: every pool that
-/// is registered then has declined the request, each for a reason that was true at its own place; or
-/// the request is pinned, and its pool declines it with a node whose launches are used up.
+/// Each turn of a run that makes a request fail has its cause, at it or before it: every pool that
+/// is registered then has declined the request, each for a reason that was true at its own place;
+/// or the request is pinned, and its pool declines it with a node whose launches are used up.
 pub fn a_request_failed_only_with_its_cause()
     ensures { (c : Configuration) (journal : List Entry) (s : State) → Runs c journal s →
         Caused c journal }

@@ -1,8 +1,9 @@
-//! That a request failed only with its cause: laws over every run and every step of it.
+//! A request fails only with its cause: laws over every run and every step of it.
 //!
-//! `Caused` is np_machine's. `proofs/Due` says what holds of the past turns and the state after them:
-//! that each decline was made, how a pinned request stands, and how many reports each node had. A
-//! file of `proofs` keeps each of them, and `proofs/Causes` finds the cause of a turn by them.
+//! `Caused` is np_machine's. `proofs/Due` says what holds for the past turns and the state after
+//! them: that each decline was made, how a pinned request is, and how many reports each node had. A
+//! file of `proofs` shows that each of them is kept, and `proofs/Causes` finds the cause of a turn
+//! by them.
 #![tactic(auto)]
 
 mod law;

@@ -41,7 +41,7 @@ none_is : (o : Option RequestEntry) → option_map (λ (x : RequestEntry). x.kep
 none_is None has = refl
 none_is (Some x) has = absurd cc
 
--- where none is found, nothing changes
+-- if none is found, nothing changes
 pub edit-absent : (r : RequestId) (edit : RequestEdit) (rows : List RequestEntry) → request_in r rows ≡ None → requests_changed None (requests.Edit r edit) rows ≡ rows
 edit-absent r edit rows none = change_first-absent (λ (e : RequestEntry). same_request e.id r) (λ e. record e { kept = edited edit e.kept }) rows (none_is (request_entry r rows) none)
 

@@ -14,7 +14,7 @@ use Rattle.np_machine.specs.declared.state.SessionFacts.{SessionFacts}
 use Rattle.np_machine.specs.Tables.{role_of, session_of}
 use Rattle.np_machine.specs.Tests.{maker, launcher, janitor, requester, as_launcher, as_janitor, as_requester}
 
--- an accepted row found what it asked for first
+-- an accepted row found what it looked for first
 pub bind-ok : {A B E : Type 0} (o : Result A E) (f : A → Result B E) → is_ok (o >>= f) ≡ true → is_ok o ≡ true
 bind-ok (Ok a) f is = refl
 bind-ok (Err why) f is = absurd cc

@@ -37,7 +37,7 @@ use Rattle.np_changes.specs.Premises.{Gains, GrowthPremise, JobsPremise, Premise
 use Rattle.np_changes.proofs.Tested.{on-found, on-vacant, on-check, on-need, on-not, on-both}
 use Rattle.np_changes.proofs.Shown.{maker-heard, launcher-heard, janitor-heard, requester-heard, works-on, given-too, at-found, at-found_by}
 
--- what may be given up is not deleting, and where it is ready it is allocated to no request
+-- what may be given up is not deleting, and if it is ready it is allocated to no request
 may-delete : (c : Configuration) (s : State) (k : NodeRecord) (state : NodeState) → may_delete c s k state ≡ Ok tt → record { not_deleting : is_deleting state ≡ false; not_given : is_ready state ≡ true → k.allocated_to ≡ None }
 may-delete c s k node_state.Building is = record { not_deleting = refl; not_given = λ ready. absurd cc }
 may-delete c s k node_state.Ready is = on-vacant k.allocated_to _ _ tt is (λ free _. record { not_deleting = refl; not_given = λ ready. free })

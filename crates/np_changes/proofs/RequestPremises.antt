@@ -42,7 +42,7 @@ use Rattle.np_changes.specs.Premises.{IsUnlocked, AsksForJob, LeavesRequest, Pre
 use Rattle.np_changes.proofs.Tested.{on-found, on-vacant, on-check, on-need, on-not, needed}
 use Rattle.np_changes.proofs.Shown.{maker-heard, launcher-heard, janitor-heard, requester-heard, works-on, on-own_job, given-too, at-given, at-found, at-found_by}
 
--- the reason tells in which state the request is declined
+-- the reason determines in which state the request is declined
 open-for : (p : PoolId) (request : RequestRecord) (why : Reason) → in_state_for p request why ≡ Ok tt → (is_requested request.state || is_pending_by p request) ≡ true
 open-for p request (reason.NoLabel l) is = let requested = needed (is_requested request.state) _ is in rw requested refl
 open-for p request reason.NeverFits is = let requested = needed (is_requested request.state) _ is in rw requested refl

@@ -57,7 +57,7 @@ on-own_job c s session j rest b is each =
 -- ## what a plan looks up
 
 module _ (c : Configuration) (s : State) where
-  -- where the event was accepted, its maker was found
+  -- if the event was accepted, its maker was found
   pub given-too : {A B : Type 0} (o : Result A Refusal) (rest : A → Result B Refusal) (f : A → Changes) (b : B) → (o >>= rest) ≡ Ok b → ((a : A) → o ≡ Ok a → rest a ≡ Ok b → Premises c s (f a)) → Premises c s (with_given o f)
   given-too (Ok a) rest f b is each = each a refl is
   given-too (Err why) rest f b is each = absurd cc

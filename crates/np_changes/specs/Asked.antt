@@ -3,7 +3,7 @@ use Rattle.std.specs.Prelude.{[]}
 use Rattle.np_record.specs.declared.record.RequestRecord.{RequestRecord}
 use Rattle.np_changes.specs.declared.asked.Asked.{Asked}
 
--- the record, but for its declines
+-- the record, except for its declines
 abbrev pub asked_of : RequestRecord → Asked
 asked_of k = record {
   job = k.job;

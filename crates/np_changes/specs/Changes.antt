@@ -117,7 +117,7 @@ with_deed change maker (Some deed.Acts) rows = option_map_or (λ m. change one_m
 with_deed change maker (Some (deed.StartsAndActs p)) rows = change (λ role. one_more_act (one_more_start role)) (Launcher p) rows
 with_deed change maker (Some (deed.Strikes role counted)) rows = change (struck_unless counted) role rows
 
--- a session is heard no more, or ends and leaves its registration and every queue
+-- a session makes no more events, or ends and leaves its registration and every queue
 
 abbrev pub sessions_changed : SessionsChange → List SessionFacts → List SessionFacts
 sessions_changed sessions.Same rows = rows

@@ -105,7 +105,7 @@ plan_expire s session = with_found (session_of session s) (λ facts. record same
 abbrev pub plan_register : State → SessionId → Changes
 plan_register s session = by_launcher s session (λ p. record same { grows = grow.Registration p })
 
--- what a job asks for
+-- what a job requests
 abbrev pub asked_for : JobId → Job → Asked
 asked_for j job = record {
   job = Some j;
@@ -133,7 +133,7 @@ revise_to relative r = record same { requests = requests.Edit r (edit.Revise rel
 abbrev pub plan_revise : State → SessionId → JobId → ℕ → Changes
 plan_revise s session j relative = by_requester s session (with_found (request_of_job j s) (revise_to relative))
 
--- what a pool asks for to keep a node of the label ready
+-- what a pool requests to keep a node of the label ready
 abbrev pub asked_to_keep : PoolId → LabelId → Asked
 asked_to_keep p l = record {
   job = None;
@@ -293,7 +293,7 @@ plan_finish s session j =
     by_any s session (with_found (slice_get s.jobs j.0) (λ kept.
     record same { jobs = jobs.Put j (record kept { ending = Some (ending_of kept); phase = phase.Over }) }))
 
--- the request goes, where there is one
+-- the request goes, if there is one
 abbrev pub request_after_withdraw : Option RequestId → RequestsChange
 request_after_withdraw None = requests.Same
 request_after_withdraw (Some r) = requests.Remove r

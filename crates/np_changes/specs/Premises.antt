@@ -115,7 +115,7 @@ pub record Gains (c : Configuration) (s : State) (ch : Changes) (r : RequestId) 
 
 -- ## what grows
 
--- a job that nobody has begun asks
+-- a job that nobody has begun makes a request
 pub record AsksForJob (c : Configuration) (s : State) (ch : Changes) (priority : ℕ) (asked : Asked) : Type 0 where
   pub number : JobId
   pub job : Job
@@ -127,7 +127,7 @@ pub record AsksForJob (c : Configuration) (s : State) (ch : Changes) (priority :
   pub asks : asked ≡ asked_for number job
   pub puts : ch.jobs ≡ jobs.Put number (record kept { phase = phase.Asked; request = Some (next_id job.priority s) })
 
--- the launcher asks for a node to keep ready, of a label that its pool offers and has room for
+-- the launcher requests a node to keep ready, of a label that its pool offers and has room for
 pub record AsksToKeep (c : Configuration) (s : State) (ch : Changes) (priority : ℕ) (asked : Asked) : Type 0 where
   pub pool : PoolId
   pub label : LabelId
@@ -184,7 +184,7 @@ GrowthPremise c s ch (grow.Allocate n r tenant) = Gains c s ch r n
 GrowthPremise c s ch (grow.Handles j) = HasRoom c s j
 GrowthPremise c s ch (grow.Swept n x) = Unit {0}
 
--- ## what happens to requests; nothing grows beside it but a node that a request gets
+-- ## what happens to requests; nothing grows beside it except a node that a request gets
 
 -- requested, and the pool may serve it and has room for its tenant
 pub record MayServe (c : Configuration) (s : State) (ch : Changes) (r : RequestId) (p : PoolId) : Type 0 where
@@ -210,7 +210,7 @@ pub record MayDecline (c : Configuration) (s : State) (ch : Changes) (r : Reques
   pub holds_true : is_true c s p request why ≡ true
   pub fails : failed ≡ (is_some request.pinned || is_last_pool s.registrations request p)
 
--- a job's request, pending by the pool, has a node as it wants it for each label
+-- a job's request, pending by the pool, has the node that it needs for each label
 pub record MayFulfil (s : State) (ch : Changes) (r : RequestId) : Type 0 where
   pub same_size : ch.grows ≡ grow.Nothing
   pub pool : PoolId
@@ -402,7 +402,7 @@ pub record FinishesJob (c : Configuration) (s : State) (ch : Changes) (j : JobId
   pub finishable : is_finishable s job kept ≡ true
   pub record_after : later ≡ record kept { ending = Some (ending_of kept); phase = phase.Over }
 
--- a job's record changes in one of four ways: it asks, takes nodes over, ends, or is given up
+-- a job's record changes in one of four ways: it asks, takes over nodes, ends, or is given up
 pub record PutsJob (c : Configuration) (s : State) (ch : Changes) (j : JobId) (later : JobRecord) : Type 0 where
   pub kept : JobRecord
   pub stands : slice_get s.jobs j.0 ≡ Some kept
@@ -433,7 +433,7 @@ abbrev pub HandlesPremise : State → HandlesChange → Type 0
 HandlesPremise s handles.Same = Unit {0}
 HandlesPremise s (handles.Release j) = ReleasesJob s j
 
--- the session was begun and has not ended; nothing else happens than that it ends
+-- the session was begun and has not ended; nothing else happens except that it ends
 pub record EndsSession (s : State) (ch : Changes) (session : SessionId) : Type 0 where
   pub same_size : ch.grows ≡ grow.Nothing
   pub same_requests : ch.requests ≡ requests.Same

@@ -152,7 +152,7 @@ pub enum Deed {
 #[derive(Clone, Copy)]
 pub enum SessionsChange {
     Same,
-    /// It is heard no more.
+    /// It makes no more events.
     Mute { session: SessionId },
     /// It ends, and leaves its registration and every queue.
     End { session: SessionId },

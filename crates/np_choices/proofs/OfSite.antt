@@ -1,4 +1,4 @@
--- each session of a run is of a role of the configuration
+-- each session of a run belongs to a role of the configuration
 use Rattle.std.proofs.Common.{◌≡◌, ◌∙◌, ap, ℕ, zero, suc, List, [], ◌∷◌, ◌++◌, refl, subst, Bool, true, false, Option, Some, None, cond}
 use Rattle.std.specs.Prelude.{◌==◌, ◌-◌, is_ok, slice_get}
 use Rattle.std.specs.List.{AllByRecursion}
@@ -26,7 +26,7 @@ use Rattle.np_changes.specs.declared.changes.SessionsChange.TheVariants as sessi
 use Rattle.np_changes.proofs.PlanLaws.{plan-next}
 use Rattle.np_changes.proofs.PremisesOf.{premises}
 
--- each of the sessions is of a role of the configuration
+-- each of the sessions belongs to a role of the configuration
 abbrev pub AreOfSite : Configuration → List SessionFacts → Type 0
 AreOfSite c rows = AllByRecursion (λ f. is_role c f.role ≡ true) rows
 

@@ -1,4 +1,4 @@
--- a role that is not of the configuration has nothing to do
+-- a role that is not in the configuration has nothing to do
 use Rattle.std.proofs.Common.{◌≡◌, refl, subst, Bool, true, false, Option, Some, None}
 use Rattle.std.specs.Prelude.{◌&&◌, not, is_ok, is_some}
 use Rattle.np_text.specs.declared.id.SessionId.{SessionId}
@@ -24,7 +24,7 @@ first-part true u is = refl
 first-part false u is = absurd cc
 
 module _ (c : Configuration) (s : State) where
-  -- neither the reaper nor of the configuration
+  -- a role that is neither the reaper nor in the configuration
   no-role : (role : Role) → takes_part c role ≡ false → is_role c role ≡ true → ⊥
   no-role (Launcher p) outside is = absurd cc
   no-role (Janitor p) outside is = absurd cc
@@ -42,7 +42,7 @@ module _ (c : Configuration) (s : State) where
   made-by role reached outside None some is = absurd cc
   made-by role reached outside (Some session) some is = no-role role outside (current-of role session reached is)
 
-  -- a session is opened of roles of the configuration
+  -- sessions are opened for roles of the configuration
   open-of : (other : Role) → is_ok (judge c s (ev.OpenSession other)) ≡ true → is_role c other ≡ true
   open-of other accepted = by (is_role c other) refl where
     by : (b : Bool) → is_role c other ≡ b → is_role c other ≡ true
@@ -60,7 +60,7 @@ module _ (c : Configuration) (s : State) where
       let same : other ≡ role = opened role other outside useful.row in
       no-role role outside (subst (λ (r : Role). is_role c r ≡ true) same (open-of other useful.accepted))
 
-  -- no role but the reaper ticks or ends sessions
+  -- only the reaper ticks or ends sessions
   ticks : (role : Role) → takes_part c role ≡ false → row_holds c s role ev.Tick ≡ true → ⊥
   ticks (Launcher p) outside is = absurd cc
   ticks (Janitor p) outside is = absurd cc

@@ -19,7 +19,7 @@ there xs i None is some = absurd cc
 there xs i (Some x) is some = within xs i x is
 
 module _ (c : Configuration) (s : State) where
-  -- a choice of none is a role that is idle
+  -- a choice returns none if and only if the role is idle
   pub none-idle : (role : Role) (o : Option Event) (none : Bool) → Chooses c s role o → is_some o ≡ not none → (none ≡ true) ↔ IsIdle c s role
   none-idle role None true chosen is = (λ yes. chosen, λ idle. refl)
   none-idle role None false chosen is = absurd cc
@@ -38,7 +38,7 @@ module _ (c : Configuration) (s : State) where
       requesters q.0 (omega (arith, sound.few_requesters)) e useful
   all-idle sound pools requesters reaper Reaper e part useful = reaper e useful
 
-  -- one of the configuration by what is known of it, any other in every state of a run
+  -- a role of the configuration by what is known of it, any other in every state of a run
   role-idle : (role : Role) (b : Bool) → takes_part c role ≡ b → IsReached c s → IsSettled c s → IsIdle c s role
   role-idle role true part reached settled e useful = settled role e part useful
   role-idle role false outside reached settled e useful = outside-idle c s role reached outside e useful

@@ -13,7 +13,7 @@ use np_launch::choose_launcher;
 use np_look::Look;
 use np_text::Role;
 
-/// Whether the role is of the configuration, or the reaper.
+/// Whether the role is in the configuration, or is the reaper.
 pub fn takes_part<L: Look>(look: &L, role: Role) -> bool
     ensures { result ≡ takes_part (L.site look.now) role }
 {
@@ -25,10 +25,10 @@ pub fn takes_part<L: Look>(look: &L, role: Role) -> bool
     }
 }
 
-/// A useful event of the role, or `None` exactly where there is none; a role that is not of the
+/// A useful event of the role, or `None` if and only if there is none; a role that is not in the
 /// configuration has none. It takes no memory. The cost is that of the role's own choice: it grows
-/// with the requests, the nodes, the jobs, the labels and the sessions that there are. For a node
-/// that a launcher may start it may ask all requests, and for a request all nodes.
+/// with the number of requests, nodes, jobs, labels and sessions. For a node that a launcher may
+/// start it may scan all requests, and for a request all nodes.
 pub fn choose<L: Look>(look: &L, role: Role) -> Option<Event>
     requires reached { IsReached (L.site look.now) (L.state look.now) }
     requires fits { Fits (L.site look.now) (L.state look.now) }

@@ -1,9 +1,9 @@
 //! What any role does next, whatever keeps the state, and whether nothing is left to do.
 //!
-//! `choose` answers a useful event of a role (np_useful), or none exactly where there is none. A role
-//! that is not of the configuration has none, since each session of a run is of a role of the
-//! configuration (`law`). `is_settled` says whether no role has a useful event: a run that went on by
-//! choices has then come to its end. No call takes memory.
+//! `choose` returns a useful event of a role (np_useful), or none if and only if there is none. A
+//! role that is not in the configuration has none, since each session of a run belongs to a role of
+//! the configuration (`law`). `is_settled` says whether no role has a useful event: a run that
+//! proceeds by choices has then ended. No call takes memory.
 #![tactic(auto)]
 
 mod choice;

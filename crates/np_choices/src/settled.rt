@@ -56,7 +56,7 @@ fn are_requesters_idle<L: Look>(look: &L) -> bool
     true
 }
 
-/// Whether no role has a useful event. It takes no memory. It costs a choice of every role, up to
+/// Whether no role has a useful event. It takes no memory. It costs one choice for each role, up to
 /// the first that has one: launchers and janitors by pool, then requesters, then the reaper.
 pub fn is_settled<L: Look>(look: &L) -> bool
     requires reached { IsReached (L.site look.now) (L.state look.now) }

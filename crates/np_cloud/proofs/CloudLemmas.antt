@@ -50,7 +50,7 @@ module _ (c : Configuration) where
       ∙ (ap (λ (y : Simulation). simulations c (length clouds) ++ y ∷ []) (is ∙ ap (λ (n : ℕ). simulation_of c (record { 0 = n })) at)
       ∙ sym (ap (simulations c) many)))
 
-  -- another cloud leaves no more than there are pools
+  -- with one more cloud there are still no more clouds than pools
   pub few-push : {X Y : Type 0} (f : Y → X) (pools : List X) (o : Option Y) (k : ℕ) (clouds now : List Simulation) (x : Simulation) → slice_get pools k ≡ option_map f o → is_some o ≡ true → k ≡ length clouds → now ≡ clouds ++ x ∷ [] → length now ≤ length pools
   few-push f pools None k clouds now x at some same grown = absurd cc
   few-push f pools (Some y) k clouds now x at some same grown =

@@ -23,12 +23,13 @@ abbrev pub with_launched : Tag → Outcome → List Server → List Server
 with_launched tag (outcome.Launched x) servers = servers ++ record { tag = tag; number = x } ∷ []
 with_launched tag outcome.Failed servers = servers
 
--- the launch was answered: it is the last of those, and its server is there (own)
+-- the launch was answered: it is the last that was, and its server is there (own)
 pub record Answers (before : DriverFacts) (tag : Tag) (o : Outcome) (now : DriverFacts) : Type 0 where
   pub answered : now.answered ≡ option_map (with_launch tag o) before.answered
   pub servers : now.servers ≡ option_map (with_launched tag o) before.servers
 
--- a launch answers a server, fails where the count of failed launches rose, or finds no memory and changes nothing (own)
+-- a launch returns a server, fails and raises the count of failed launches, or runs out of memory
+-- and changes nothing (own)
 abbrev pub Launches : DriverFacts → Tag → Result ℕ LaunchFault → DriverFacts → Type 0
 Launches before tag (Ok x) now = Answers before tag (outcome.Launched x) now
 Launches before tag (Err fault.Failed) now = Answers before tag outcome.Failed now × Rose before.launch_faults now.launch_faults
@@ -47,7 +48,8 @@ IsAsPlanned (Some planned) (Err fault.NoMemory) = Unit {0}
 abbrev pub without_number : ℕ → List Server → List Server
 without_number x servers = filter (λ server. not (server.number == x)) servers
 
--- a removal takes out each server of the number, or fails where the count of failed removals rose, and leaves all; the launches that were answered stay (own)
+-- a removal takes out each server of the number, or fails, raises the count of failed removals and
+-- leaves all servers; the launches that were answered stay (own)
 abbrev pub Removes : DriverFacts → ℕ → Result (Unit {0}) RemoveFailed → DriverFacts → Type 0
 Removes before x (Ok _) now = (now.answered ≡ before.answered) × (now.servers ≡ option_map (without_number x) before.servers)
 Removes before x (Err _) now = (now.answered ≡ before.answered) × (now.servers ≡ before.servers) × Rose before.remove_faults now.remove_faults

@@ -1,4 +1,4 @@
--- what a driver in memory tells, and what a launch and a removal make of it
+-- what a driver in memory reports, and how a launch and a removal change it
 use Rattle.std.specs.Prelude.{◌≡◌, ℕ, List, [], Some, Result, Ok, Err}
 use Rattle.np_io.specs.Counts.{counted}
 use Rattle.np_event.specs.declared.event.Outcome.{Outcome}
@@ -11,9 +11,9 @@ use Rattle.np_cloud.specs.declared.driver.LaunchFault.TheVariants as fault
 use Rattle.np_cloud.specs.Facts.{DriverFacts}
 use Rattle.np_cloud.specs.Calls.{with_launch, with_launched, without_number}
 
--- what a driver in memory tells (own)
+-- what a driver in memory reports (own)
 pub record Told : Type 0 where
-  -- the launches that were answered a server's number or failed, in order
+  -- the launches that returned a server's number or failed, in order
   pub answered : List Launch
   -- the servers, in the order of their launches
   pub servers : List Server
@@ -24,7 +24,7 @@ pub record Told : Type 0 where
 abbrev pub told_nothing : Told
 told_nothing = record { answered = []; servers = []; launch_faults = 0 }
 
--- the facts of a driver that tells all this, and of whose removals so many failed (own)
+-- the facts of a driver that reports all this, with this many failed removals (own)
 abbrev pub facts_of : Told → ℕ → DriverFacts
 facts_of told remove_faults = record {
   answered = Some told.answered;
@@ -50,7 +50,8 @@ after_launch told tag o = record {
 abbrev pub after_removal : Told → ℕ → Told
 after_removal told x = record told { servers = without_number x told.servers }
 
--- a launch has this outcome, which is answered and kept, or finds no memory and changes nothing (own)
+-- a launch has this outcome, which is returned and kept, or it runs out of memory and changes
+-- nothing (own)
 abbrev pub HasOutcome : Outcome → Told → Tag → Result ℕ LaunchFault → Told → Type 0
 HasOutcome o before tag (Ok x) now = (o ≡ outcome.Launched x) × (now ≡ after_launch before tag o)
 HasOutcome o before tag (Err fault.Failed) now = (o ≡ outcome.Failed) × (now ≡ after_launch before tag o)

@@ -8,7 +8,7 @@ use Rattle.np_cloud.specs.Inventory.{Told, told_nothing, facts_of, after_removal
 
 -- a driver that answers from a list (own)
 pub record Script : Type 0 where
-  -- what the launches are answered, in order: a server's number, or that the launch fails
+  -- the answers to the launches, in order: a server's number, or that the launch fails
   pub answers : List (Option ℕ)
   -- the numbers of the removals that fail, counted from 1
   pub failing : List ℕ
@@ -29,7 +29,7 @@ outcome_at (Some (Some x)) = outcome.Launched x
 outcome_at (Some None) = outcome.Failed
 outcome_at None = outcome.Failed
 
--- the next launch has the answer at the place of as many launches as were answered (own)
+-- the next launch gets the answer whose place is the number of launches answered so far (own)
 abbrev pub next_outcome : Script → Outcome
 next_outcome script = outcome_at (slice_get script.answers (length script.told.answered))
 
@@ -42,6 +42,6 @@ abbrev pub after_failed_removal : Script → Script
 after_failed_removal script =
     record script { removals = counted script.removals; remove_faults = counted script.remove_faults }
 
--- it tells all (own)
+-- it reports everything (own)
 abbrev pub script_facts : Script → DriverFacts
 script_facts script = facts_of script.told script.remove_faults

@@ -16,7 +16,7 @@ pub record Simulation : Type 0 where
   pub fail_starts : List ℕ
   pub told : Told
 
--- before the first launch: the starts fail that the pool plans (own)
+-- before the first launch: the starts that the pool plans to fail do (own)
 abbrev pub simulation_of : Configuration → PoolId → Simulation
 simulation_of c p = record { fail_starts = fail_starts_of c p; told = told_nothing }
 
@@ -24,7 +24,7 @@ simulation_of c p = record { fail_starts = fail_starts_of c p; told = told_nothi
 abbrev pub simulated_outcome : Simulation → ℕ → Outcome
 simulated_outcome cloud m = if list_any (λ k. k == m) cloud.fail_starts then outcome.Failed else outcome.Launched m
 
--- it tells all, and none of its removals fails (own)
+-- it reports everything, and none of its removals fails (own)
 abbrev pub simulation_facts : Simulation → DriverFacts
 simulation_facts cloud = facts_of cloud.told 0
 

@@ -46,14 +46,14 @@ pub struct RemoveFailed;
 
 /// Launches and removes servers.
 pub trait Driver {
-    /// What is known of the driver: the launches that it answered and its servers, where it tells
+    /// What is known of the driver: the launches that it answered and its servers, if it reports
     /// them, and how many launches and removals failed.
     ghost facts: { Self → DriverFacts };
 
-    /// What a launch is to be answered, where the driver follows a plan. No call changes it.
+    /// The answer planned for a launch, if the driver follows a plan. No call changes it.
     ghost plan: { Self → Tag → Option Outcome };
 
-    /// Launches a server, and answers its number. The server is then the last of the driver's.
+    /// Launches a server, and returns its number. The server is then the last of the driver's.
     fn launch(&mut self, tag: Tag) -> Result<u64, LaunchFault>
         ensures plan { plan self.new ≡ plan self.old }
         ensures launch { Launches (facts self.old) tag result (facts self.new) }
@@ -66,7 +66,8 @@ pub trait Driver {
         ensures removal { Removes (facts self.old) number result (facts self.new) }
         ensures counts { KeepsCounts (facts self.old) (facts self.new) };
 
-    /// The server at a place, in the order of their launches, or `None` exactly past the last.
+    /// The server at a place, in the order of their launches: `None` if and only if it is past the
+    /// last.
     fn server(&self, at: u32) -> Option<Server>
         ensures { IfSome (facts self.now).servers (λ servers. result ≡ slice_get servers at) };
 }

@@ -1,4 +1,4 @@
-//! What a driver in memory tells.
+//! What a driver in memory reports.
 
 ghost use Rattle.std.specs.Prelude.{◌≡◌, ◌≤◌, length, slice_get};
 ghost use Rattle.np_cloud.specs.Calls.{without_number};
@@ -46,7 +46,7 @@ impl Inventory {
         }
     }
 
-    /// Keeps a launch with this outcome, and answers it.
+    /// Keeps a launch with this outcome, and returns it.
     pub fn answer(&mut self, tag: Tag, outcome: Outcome) -> Result<u64, LaunchFault>
         ensures outcome { HasOutcome outcome self.old tag result self.new }
         ensures later { self.old.launch_faults ≤ self.new.launch_faults }
@@ -81,7 +81,7 @@ impl Inventory {
         drop_servers(&mut self.servers, number);
     }
 
-    /// The server at a place, or `None` exactly past the last.
+    /// The server at a place: `None` if and only if it is past the last.
     pub fn server(&self, at: u32) -> Option<Server>
         ensures { result ≡ slice_get self.now.servers at }
     {

@@ -11,7 +11,7 @@ ghost use Rattle.np_cloud.specs.Sim.{Simulation};
 use crate::driver::Driver;
 use crate::sim::SimDriver;
 
-/// A simulated cloud always tells its launches and its servers.
+/// A simulated cloud always reports its launches and its servers.
 pub fn a_simulated_cloud_tells_all()
     ensures { (cloud : Simulation) → ⟦<SimDriver as Driver>⟧.facts cloud ≡ facts_of cloud.told 0 }
 {}
@@ -29,7 +29,7 @@ pub fn simulated_clouds_follow_the_configuration()
         ArePlanned c 0 (map ⟦<SimDriver as Driver>⟧.plan (simulations c n)) }
 {}
 
-/// They tell their servers, of which there are none before the first launch.
+/// They report their servers, of which there are none before the first launch.
 pub fn simulated_clouds_begin_without_servers()
     ensures { (c : Configuration) (n : ℕ) →
         All (λ (cloud : Simulation). (⟦<SimDriver as Driver>⟧.facts cloud).servers ≡ Some [])

@@ -2,9 +2,9 @@
 //!
 //! A driver (`Driver`) launches and removes the servers of one pool. What contracts know of it is
 //! one record (`specs/Facts`): the launches that it answered, its servers, and how many calls
-//! failed; `specs/Calls` says what a call makes of that. `SimDriver` is the simulated cloud, which
-//! fails the starts that the configuration plans; `ScriptDriver` answers from a list, for tests.
-//! Both tell all that they did (`specs/Inventory`).
+//! failed; `specs/Calls` says how a call changes that record. `SimDriver` is the simulated cloud,
+//! which fails the starts that the configuration plans; `ScriptDriver` answers from a list, for
+//! tests. Both report all that they did (`specs/Inventory`).
 #![tactic(auto)]
 
 mod clouds;

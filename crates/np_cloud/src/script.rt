@@ -23,7 +23,7 @@ fn is_planned(failing: &[u32], number: u64) -> bool
 /// `Script`.
 #[derive(Drop)]
 pub struct ScriptDriver {
-    /// What the launches are answered. It never changes.
+    /// The answers to the launches. They never change.
     answers: Vec<Option<u64>>,
     /// The numbers of the removals that fail, counted from 1. It never changes.
     failing: Vec<u32>,
@@ -49,7 +49,7 @@ impl Model for ScriptDriver {
 }
 
 impl ScriptDriver {
-    /// A driver whose launches are answered `answers` in order: a server's number, or that the
+    /// A driver that answers its launches from `answers` in order: a server's number, or that the
     /// launch fails; past their end every launch fails. The removals with the numbers in
     /// `failing_removals`, counted from 1, fail too. It takes no memory.
     pub fn new(alloc: Global, answers: Vec<Option<u64>>, failing_removals: Vec<u32>) -> ScriptDriver
@@ -64,7 +64,7 @@ impl ScriptDriver {
         }
     }
 
-    /// What the next launch is answered.
+    /// The answer to the next launch.
     fn next_outcome(&self) -> Outcome
         ensures { result ≡ next_outcome self.now }
     {
@@ -81,8 +81,8 @@ impl Driver for ScriptDriver {
 
     ghost plan = { λ _ _. None };
 
-    /// Its cost does not grow, beside what was launched so far, which moves now and then as it
-    /// grows.
+    /// Takes constant time, except that the list of what was launched so far moves now and then as
+    /// it grows.
     fn launch(&mut self, tag: Tag) -> Result<u64, LaunchFault>
         ensures outcome { HasOutcome (next_outcome self.old) self.old.told tag result
             self.new.told }
@@ -109,7 +109,7 @@ impl Driver for ScriptDriver {
         Ok(())
     }
 
-    /// Its cost does not grow.
+    /// Takes constant time.
     fn server(&self, at: u32) -> Option<Server>
         ensures { result ≡ slice_get self.now.told.servers at }
     {

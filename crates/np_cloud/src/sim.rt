@@ -75,8 +75,8 @@ impl Driver for SimDriver {
 
     ghost plan = { simulation_plan };
 
-    /// The cost grows with the starts that the pool plans to fail, beside what was launched so far,
-    /// which moves now and then as it grows.
+    /// The cost grows with the starts that the pool plans to fail. Besides, the list of what was
+    /// launched so far moves now and then as it grows.
     fn launch(&mut self, tag: Tag) -> Result<u64, LaunchFault>
         ensures fixed { self.new.fail_starts ≡ self.old.fail_starts }
         ensures outcome { HasOutcome (simulated_outcome self.old tag.start) self.old.told tag result
@@ -96,7 +96,7 @@ impl Driver for SimDriver {
         Ok(())
     }
 
-    /// Its cost does not grow.
+    /// Takes constant time.
     fn server(&self, at: u32) -> Option<Server>
         ensures { result ≡ slice_get self.now.told.servers at }
     {

@@ -33,7 +33,7 @@ use Rattle.np_config.specs.Canonical.{count, list_data, offer_data, pool_data}
 use Rattle.np_config.proofs.Members.{keys-limit, get-limit_other, get-servers, get-cores, get-ram}
 use Rattle.np_config.proofs.Again.{most_test, items_len-of, list_again, limit_again, offer_again, start_again}
 
--- a list that holds so many rows, each of which is read into a state
+-- a list of this many rows, each of which is read into a state
 module _ {S T : Type 0} (read : ReadsItem S) (shown : T → Data) (Fit : S → T → Type 0) (after : S → T → S)
     (again : (at : List ℕ) (s : S) (x : T) → Fit s x → read at s (shown x) ≡ Ok (after s x)) where
   abbrev pub all_after : S → List T → S

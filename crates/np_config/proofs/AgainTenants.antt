@@ -34,7 +34,7 @@ tenant_again at e t is =
     let limit = limit_again at (tenant_data t) t.limit is.limit (get-servers t.limit last refl) (get-cores t.limit last refl) (get-ram t.limit last refl) in
     rw (keys, name, is.name.named, is.name.new, is.listed, limit) refl
 
--- the tenants of a configuration, which are absent where there are none
+-- the tenants of a configuration, which are absent if there are none
 pub tenants_again : (at : List ℕ) (ts : List Tenant) → EachAfter IsTenant [] ts → length ts ≤ TENANTS → option_map_or (list_at tenant_at at (at_most TENANTS) []) (list_if_any tenant_data ts) (ok []) ≡ Ok ts
 tenants_again at ts each few = by ts each few (length ts == 0) refl
   where

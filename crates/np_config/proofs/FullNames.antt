@@ -41,7 +41,7 @@ and_assoc : (a b c : Bool) → (a && (b && c)) ≡ ((a && b) && c)
 and_assoc true b c = refl
 and_assoc false b c = refl
 
--- two texts before a slash, and what stands behind it, are compared each with each
+-- two texts before a slash, and what follows it, are compared part by part
 pub bytes_eq-slash : (p q m n : List ℕ) → plain p → plain q → bytes_eq (p ++ 47 ∷ m) (q ++ 47 ∷ n) ≡ (bytes_eq p q && bytes_eq m n)
 bytes_eq-slash [] [] m n no_slash none = refl
 bytes_eq-slash [] (b ∷ q) m n no_slash none =
@@ -128,7 +128,7 @@ module _ (ps : List Provider) (good : EachAfter IsProvider [] ps) where
     subst (λ (es : List (List ℕ)). EachAfter IsUnused es (map (pool_name ps) xs)) (map-append (pool_name ps) e (x ∷ [])) (each_unused labels (e ++ x ∷ []) xs (All-tail (λ (p : Pool). p.provider < length ps) x xs owned) each.1),
   )
 
--- no two pools have one full name
+-- no two pools have the same full name
 pub pool_names-unused : (labels : ℕ) (ps : List Provider) (pools : List Pool) → AreProviders labels ps pools → EachAfter IsUnused [] (pool_names ps pools)
 pool_names-unused labels ps pools are = each_unused ps are.each_provider labels [] pools are.owned are.each_pool
 

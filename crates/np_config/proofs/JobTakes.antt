@@ -234,7 +234,7 @@ requester_row-takes at name d q e =
     let window = whole_or-takes at (codes "window") 1 WINDOW 20 d w.0 (omega arith) (omega arith) w.1 in
     subst (λ (x : Requester). (x.name ≡ name) × (1 ≤ x.window) × (x.window ≤ WINDOW)) (same_ok (made_requester name w.0) q w.2) (refl, window.0, window.1)
 
--- so many requesters, with their jobs
+-- this many requesters, with their jobs
 abbrev pub Demands : ℕ → ℕ → ℕ → ℕ → Requesters → Type 0
 Demands labels semaphores tenants n s = AreRequesters labels semaphores tenants s.requesters s.jobs × (length s.requesters ≡ n)
 

@@ -33,12 +33,12 @@ module _ (k l : List ℕ) where
   get-other None ms apart = refl
   get-other (Some d) ms apart = passed (slice_cmp nat_cmp k l) (get_member k ms) (Some d) apart
 
--- the member that may be absent, where no other has its key
+-- the member that may be absent, if no other has its key
 pub get-given : (k : List ℕ) (o : Option Data) (ms : Members) → is_eq (slice_cmp nat_cmp k k) ≡ true → get_member k ms ≡ None → get_member k (given k o ms) ≡ o
 get-given k None ms same none = none
 get-given k (Some d) ms same none = reached (slice_cmp nat_cmp k k) (get_member k ms) (Some d) same
 
--- it adds no key beside its own
+-- it adds no key except its own
 pub keys-given : (keys : List (List ℕ)) (k : List ℕ) (o : Option Data) (ms : Members) → list_any (bytes_eq k) keys ≡ true → only_keys keys (given k o ms) ≡ only_keys keys ms
 keys-given keys k None ms known = refl
 keys-given keys k (Some d) ms known = rw known refl
@@ -56,7 +56,7 @@ module _ (k : List ℕ) (d : Data) where
       by Equal is rest = reached (slice_cmp nat_cmp k l) (get_member k ms) (Some d) (ap is_eq is)
       by Greater is rest = passed (slice_cmp nat_cmp k l) (get_member k (put k d ms)) (Some e) (ap is_eq is) ∙ rest
 
-  -- another key finds what it found, where the key was absent
+  -- another key finds what it found, if the key was absent
   pub get-put_other : (j : List ℕ) (ms : Members) → other j k → get_member k ms ≡ None → get_member j (put k d ms) ≡ get_member j ms
   get-put_other j no_members apart absent = passed (slice_cmp nat_cmp j k) None (Some d) apart
   get-put_other j (member l e ms) apart absent = by (slice_cmp nat_cmp k l) absent (get-put_other j ms apart)
@@ -79,7 +79,7 @@ module _ (k : List ℕ) (d : Data) where
 
 -- ## Members in byte order
 
--- members behind members
+-- members after members
 abbrev pub then : Members → Members → Members
 then no_members ns = ns
 then (member k d ms) ns = member k d (then ms ns)
@@ -132,7 +132,7 @@ behind-then k (member l e ms) ns one two =
     let parts = both (is_gt (slice_cmp nat_cmp k l)) (is_behind k ms) one in
     rw (parts.0, behind-then k ms ns parts.1 two) refl
 
--- one more behind members that were put behind others
+-- one more after members that were put after others
 put_given-then : (k : List ℕ) (o : Option Data) (ms ns : Members) → is_behind k ms ≡ true → is_behind k ns ≡ true → put_given k o (then ms ns) ≡ then ms (then ns (given k o no_members))
 put_given-then k o ms ns one two = put_given-behind k o (then ms ns) (behind-then k ms ns one two) ∙ then-then ms ns (given k o no_members)
 
@@ -160,7 +160,7 @@ module _ (l : Limit) where
       behind-given k (codes "max-cores") cores (given (codes "max-ram") ram (given (codes "max-servers") servers ms)) one
       (behind-given k (codes "max-ram") ram (given (codes "max-servers") servers ms) two (behind-given k (codes "max-servers") servers ms three rest))
 
-  -- a limit put behind members
+  -- a limit put after members
   pub put_limit-behind : (ms : Members) → is_behind (codes "max-cores") ms ≡ true → is_behind (codes "max-ram") ms ≡ true → is_behind (codes "max-servers") ms ≡ true → put_limit l ms ≡ then ms (given_limit l no_members)
   put_limit-behind ms one two three =
       let c = given (codes "max-cores") cores no_members in
@@ -210,7 +210,7 @@ module _ (l : Limit) where
 
 -- ## What the code puts
 
--- a limit and a name behind members
+-- a limit and a name after members
 limit_and_name : (base : Members) (name : Data) (l : Limit) → is_behind (codes "max-cores") base ≡ true → is_behind (codes "max-ram") base ≡ true → is_behind (codes "max-servers") base ≡ true → is_behind (codes "name") base ≡ true
     → put (codes "name") name (put_limit l base) ≡ then base (given_limit l (member (codes "name") name no_members))
 limit_and_name base name l cores ram servers named =

@@ -52,7 +52,7 @@ limit_at-takes at d l e =
       ram = up_to POOL_RAM z.0 (whole_maybe-takes at (codes "max-ram") 0 POOL_RAM d z.0 z.1);
     })
 
--- the rest of a pool, beside its name
+-- the rest of a pool, without its name
 record IsRest (labels provider : ℕ) (name : List ℕ) (p : Pool) : Type 0 where
   same_name : p.name ≡ name
   same_provider : p.provider ≡ provider
@@ -85,7 +85,7 @@ pool_row-takes labels at provider name d p e =
       few_starts = good_starts.1;
     })
 
--- so many pools of the provider at a place
+-- this many pools of the provider at a place
 record ArePools (labels provider n : ℕ) (s : PoolsOf) : Type 0 where
   same_provider : s.provider ≡ provider
   rows : Rows (IsPool labels) n s.pools
@@ -150,11 +150,11 @@ provider_row-takes at name d p e =
     subst (IsProviderRest name) (same_ok (made_provider name r.0 c.0) p c.2)
     (record { same_name = refl; some_try = tries.0; retries = tries.1; concurrency = whole_maybe-takes at (codes "max-concurrency") 1 CONCURRENCY d c.0 c.1 })
 
--- so many providers, with their pools
+-- this many providers, with their pools
 abbrev pub Supply : ℕ → ℕ → Providers → Type 0
 Supply labels n s = AreProviders labels s.providers s.pools × (length s.providers ≡ n)
 
--- one provider more, with its pools
+-- one more provider, with its pools
 supply-more : (labels : ℕ) (providers : List Provider) (pools own : List Pool) (p : Provider) → AreProviders labels providers pools → IsProvider providers p → AreOwn labels (length providers) (length pools) own
     → AreProviders labels (providers ++ p ∷ []) (pools ++ own)
 supply-more labels providers pools own p old next mine =

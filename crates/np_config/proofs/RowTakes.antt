@@ -30,7 +30,7 @@ use Rattle.np_lists.specs.EachAfter.{EachAfter}
 use Rattle.np_site.specs.Sound.{HasNewName, IsLabel, IsSem, IsOffer, IsStart}
 use Rattle.np_lists.proofs.EachAfterLemmas.{EachAfter-push}
 
--- so many rows, each of which may stand
+-- this many rows, each of which is sound
 abbrev pub Rows : {T : Type 0} → (List T → T → Type 0) → ℕ → List T → Type 0
 Rows P n xs = EachAfter P [] xs × (length xs ≡ n)
 
@@ -170,7 +170,7 @@ starts_at-takes at d t e =
 
 -- ## Rows that each stand by themselves
 
--- so many rows
+-- this many rows
 abbrev pub RowsAlone : {T : Type 0} → (T → Type 0) → ℕ → List T → Type 0
 RowsAlone Q n xs = All Q xs × (length xs ≡ n)
 

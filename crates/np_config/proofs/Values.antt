@@ -9,14 +9,14 @@ use Rattle.np_config.specs.Canonical.{placed}
 use Rattle.std.proofs.lemmas.List.Elements.{filter-append}
 
 module _ {T : Type 0} (shown : T → Data) where
-  -- one row more
+  -- one more row
   pub values_more : (rows : List T) (vs next : List Value) (i : ℕ) (x : T) (v : Value) → i < length rows → x ≡ get_or rows i x → view v ≡ shown x → next ≡ vs ++ v ∷ []
       → map view vs ≡ map shown (take i rows) → map view next ≡ map shown (take (i + 1) rows)
   values_more rows vs next i x v within at is new so_far =
       let longer : take (i + 1) rows ≡ take i rows ++ x ∷ [] = take_more rows i x within ∙ ap (λ y. take i rows ++ y ∷ []) (sym at) in
       rw (new, map-append, longer, map-append, so_far, is)
 
-  -- one row more, which passes the test
+  -- one more row, which passes the test
   pub passes_more : (p : T → Bool) (rows : List T) (vs next : List Value) (i : ℕ) (x : T) (v : Value) → i < length rows → x ≡ get_or rows i x → p x ≡ true → view v ≡ shown x → next ≡ vs ++ v ∷ []
       → map view vs ≡ map shown (filter p (take i rows)) → map view next ≡ map shown (filter p (take (i + 1) rows))
   passes_more p rows vs next i x v within at passes is new so_far =
@@ -25,7 +25,7 @@ module _ {T : Type 0} (shown : T → Data) where
       let kept : filter p (take (i + 1) rows) ≡ filter p (take i rows) ++ x ∷ [] = ap (filter p) longer ∙ filter-append p (take i rows) (x ∷ []) ∙ ap (λ ys. filter p (take i rows) ++ ys) last in
       rw (new, map-append, kept, map-append, so_far, is)
 
-  -- one row more, which fails it
+  -- one more row, which fails it
   pub fails_more : (p : T → Bool) (rows : List T) (vs : List Value) (i : ℕ) (x : T) → i < length rows → x ≡ get_or rows i x → p x ≡ false
       → map view vs ≡ map shown (filter p (take i rows)) → map view vs ≡ map shown (filter p (take (i + 1) rows))
   fails_more p rows vs i x within at fails so_far =
@@ -40,7 +40,7 @@ placed-push shown k (y ∷ xs) x =
     let more : k + 1 + length xs ≡ k + suc (length xs) = omega arith in
     ap (λ ds. shown k y ∷ ds) (placed-push shown (k + 1) xs x ∙ ap (λ n. placed shown (k + 1) xs ++ shown n x ∷ []) more)
 
--- one row more, with its place
+-- one more row, with its place
 pub placed_more : {T : Type 0} (shown : ℕ → T → Data) (rows : List T) (vs next : List Value) (i : ℕ) (x : T) (v : Value) → i < length rows → x ≡ get_or rows i x → view v ≡ shown i x → next ≡ vs ++ v ∷ []
     → map view vs ≡ placed shown 0 (take i rows) → map view next ≡ placed shown 0 (take (i + 1) rows)
 placed_more shown rows vs next i x v within at is new so_far =

@@ -1,4 +1,4 @@
--- a configuration that was read may stand
+-- a configuration that was read is sound
 use Rattle.std.proofs.Common.{◌≡◌, ℕ, ◌+◌, ◌<◌, ◌≤◌, Bool, true, false, cond, List, [], ◌∷◌, ◌++◌, codes, map, length, Option, Some, None, Result, Ok, Err, IfOk, refl, sym, ap, ◌∙◌, subst, arith}
 use Rattle.std.specs.Prelude.{position, All, ◌^◌}
 use Rattle.std.specs.Option.{option_map}
@@ -117,7 +117,7 @@ providers-take labels d t e =
     let count : length t.providers ≡ r.0 = r.3.1 in
     (r.0, r.3, omega (arith, r.2), omega (arith, r.1))
 
--- no two pools that were read have one full name, and they are few
+-- no two pools that were read have the same full name, and they are few
 pub providers-unused : (labels : List Label) (d : Data) (t : Providers) → providers_at labels d ≡ Ok t → EachAfter IsUnused [] (pool_names t.providers t.pools)
 providers-unused labels d t e = pool_names-unused (length labels) t.providers t.pools (providers-take labels d t e).1.0
 
@@ -216,14 +216,14 @@ configuration-takes d c e =
     let ss = bind-ok (semaphores_at d) (r5 ls.0 a.0 s.0) c s.2 in
     rest-takes d c ls.0 ls.1 a.0 a.1 s.0 s.1 ss.0 ss.1 ss.2
 
--- what bytes are read as may stand
+-- what bytes are read as is sound
 pub reads-takes : (bytes : List ℕ) (c : Configuration) → reads bytes ≡ Ok c → IsSound c
 unfolding reads
 reads-takes bytes c e = let d = found-ok (parsed bytes) (fault NotJson []) configuration_at c e in configuration-takes d.0 c d.2
 
 pub ruleset read_soundly = (reads-takes)
 
--- what was read without a fault, as the code answers it
+-- what was read without a fault, as the code returns it
 pub gives_ok : {X : Type 0} (P : X → Type 0) (result : Result X ConfigRead) (read : Result X ConfigFault) → ((x : X) → read ≡ Ok x → P x) → Gives (λ x. x) result read → IfOk result P
 gives_ok P (Ok x) read says gives = says x gives
 gives_ok P (Err e) read says gives = tt

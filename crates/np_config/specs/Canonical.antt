@@ -1,4 +1,5 @@
--- the one text of a configuration: compact JSON, keys in byte order, every default written but no tenants and a job's tenant `default`, an absent limit left absent (own)
+-- the one text of a configuration: compact JSON, keys in byte order, every default written except
+-- an empty list of tenants and a job's tenant `default`, an absent limit left absent (own)
 use Rattle.std.specs.Prelude.{ℕ, ◌+◌, ◌==◌, List, [], ◌∷◌, codes, length, map, filter, slice_get, Bool, Option, Some, None, if◌then◌else◌}
 use Rattle.std.specs.Option.{option_map, option_map_or}
 use Rattle.serde_json.specs.Data.{Data, number, unsigned, boolean, string, array, object, Members, no_members, member}
@@ -47,7 +48,7 @@ given_limit l ms = given_count (codes "max-cores") l.cores (given_count (codes "
 abbrev pub list_data : {T : Type 0} → (T → Data) → List T → Data
 list_data shown xs = array (items_of (map shown xs))
 
--- such a list, where it has any row
+-- such a list, if it has any row
 abbrev pub list_if_any : {T : Type 0} → (T → Data) → List T → Option Data
 list_if_any shown xs = if length xs == 0 then None else Some (list_data shown xs)
 
@@ -102,7 +103,7 @@ semaphore_data s = object (member (codes "max") (count s.max) (member (codes "na
 abbrev pub tenant_data : Tenant → Data
 tenant_data t = object (given_limit t.limit (member (codes "name") (string t.name) no_members))
 
--- the tenant of a job, where it isn't the default one
+-- the tenant of a job, if it isn't the default one
 abbrev pub job_tenant : Configuration → TenantId → Option Data
 job_tenant c t = if t.0 == 0 then None else Some (string (tenant_name c t))
 

@@ -1,4 +1,4 @@
--- what an absent key stands for (defaults own; `launch-retries` and `max` have Nodepool's and Zuul's)
+-- what an absent key means (defaults own)
 use Rattle.std.specs.Prelude.{◌≡◌, ℕ, List, [], ◌∷◌, codes, false, None, Result}
 use Rattle.std.specs.List.{AllByRecursion}
 use Rattle.serde_json.specs.Data.{Data, boolean, string, array, object, no_items, Members, put}
@@ -6,7 +6,7 @@ use Rattle.serde_json.specs.Find.{get}
 use Rattle.np_json.specs.declared.fault.ConfigFault.{ConfigFault}
 use Rattle.np_config.specs.Canonical.{count}
 
--- a key, and the value that stands for it where it is absent
+-- a key, and the value that it has if it is absent
 pub record Default : Type 0 where
   pub key : List ℕ
   pub value : Data

@@ -21,7 +21,7 @@ use Rattle.np_config.specs.Keys.{fault_keys}
 use Rattle.np_config.specs.Names.{pool_named, requester_named}
 use Rattle.np_config.specs.Requesters.{word_value}
 
--- a word with a meaning, which has to be there
+-- a word with a meaning, which must be there
 unfoldable pub required_word : {A : Type 0} → (List ℕ → Option A) → List ℕ → List ℕ → Data → Result A ConfigFault
 required_word meaning at key d = required at key d >>= word_value meaning (below at key)
 

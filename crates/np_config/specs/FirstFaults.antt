@@ -93,7 +93,7 @@ faulty_tenants =
     ∷ faulty (with_top (codes "'requesters':[{'name':'z','jobs':[{'name':'j','labels':['a'],'tenant':'t'}]}]")) UnknownName (codes "/requesters/0/jobs/0/tenant")
     ∷ []
 
--- planned faults: a pool goes by the names of its provider and its own
+-- planned faults: a pool is named by the names of its provider and its own
 abbrev pub faulty_faults : List Faulty
 faulty_faults =
     faulty (with_top (codes "'faults':[{'role':'reaper'}]")) UnknownName (codes "/faults/0/role")

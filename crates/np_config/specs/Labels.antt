@@ -17,14 +17,14 @@ label_row at name d = do
   max_ready_age ← whole_or at (codes "max-ready-age") 0 AGE 0 d
   Ok (record { name = name; min_ready = min_ready; max_ready_age = max_ready_age })
 
--- a label beside those before it (Nodepool: `min-ready`, `max-ready-age`; ranges and defaults own)
+-- a label, given those before it (Nodepool: `min-ready`, `max-ready-age`; ranges and defaults own)
 unfoldable pub label_at : ReadsItem (List Label)
 label_at at earlier d = do
   name ← named_at (λ (l : Label). l.name) label_keys at earlier d
   label ← label_row at name d
   Ok (earlier ++ label ∷ [])
 
--- a semaphore beside those before it (Zuul: `max`; range and default own)
+-- a semaphore, given those before it (Zuul: `max`; range and default own)
 unfoldable pub semaphore_at : ReadsItem (List Sem)
 semaphore_at at earlier d = do
   name ← named_at (λ (s : Sem). s.name) semaphore_keys at earlier d

@@ -27,7 +27,7 @@ use Rattle.np_config.specs.Names.{label_named}
 unfoldable pub label_for : List Label → List ℕ → List ℕ → Result LabelId ConfigFault
 label_for labels at text = found (label_named labels text) (fault UnknownName at) >>= λ n. Ok (record { 0 = n })
 
--- the label whose name stands at a place
+-- the label whose name is at a place
 unfoldable pub label_value : List Label → List ℕ → Data → Result LabelId ConfigFault
 label_value labels at d = text_value at d >>= label_for labels at
 
@@ -46,7 +46,7 @@ offer_amount at d = do
   ram ← whole_or at (codes "ram") 0 NODE_RAM 1024 d
   Ok (record { instances = 1; cores = cores; ram = ram })
 
--- an offer beside those of its pool before it (Nodepool: the labels of a pool; ranges and defaults own)
+-- an offer, given those of its pool before it (Nodepool: a pool's labels; ranges and defaults own)
 unfoldable pub offer_at : List Label → ReadsItem (List Offer)
 offer_at labels at earlier d = do
   object_at at offer_keys d
@@ -85,7 +85,7 @@ pool_row labels at provider name d = do
   starts ← starts_at at d
   Ok (record { provider = provider; name = name; limit = limit; offers = offers; fail_starts = starts })
 
--- a pool beside those of its provider before it (Nodepool)
+-- a pool, given those of its provider before it (Nodepool)
 unfoldable pub pool_at : List Label → ReadsItem PoolsOf
 pool_at labels at s d = do
   name ← named_at (λ (p : Pool). p.name) pool_keys at s.pools d
@@ -99,11 +99,11 @@ provider_row at name d = do
   concurrency ← whole_maybe at (codes "max-concurrency") 1 CONCURRENCY d
   Ok (record { name = name; retries = retries; concurrency = concurrency })
 
--- the pools of a provider, after so many of earlier providers
+-- the pools of a provider, after this many of earlier providers
 unfoldable pub pools_at : List Label → List ℕ → ℕ → ℕ → Data → Result PoolsOf ConfigFault
 pools_at labels at earlier provider d = list_required (pool_at labels) at (codes "pools") (behind earlier (one_to POOLS)) (record { provider = provider; pools = [] }) d
 
--- a provider beside those before it, with its pools (Nodepool)
+-- a provider, given those before it, with its pools (Nodepool)
 unfoldable pub provider_at : List Label → ReadsItem Providers
 provider_at labels at s d = do
   name ← named_at (λ (p : Provider). p.name) provider_keys at s.providers d

@@ -1,11 +1,11 @@
--- how the code puts members that may be absent; no definition of the text stands on this
+-- how the code puts members that may be absent; no definition of the text depends on this
 use Rattle.std.specs.Prelude.{ℕ, List, codes, Option, Some, None}
 use Rattle.std.specs.Option.{option_map}
 use Rattle.serde_json.specs.Data.{Data, Members, put}
 use Rattle.np_amount.specs.declared.amount.Limit.{Limit}
 use Rattle.np_config.specs.Canonical.{count}
 
--- the members, with the value at a key where there is one
+-- the members, with the value at a key if there is one
 abbrev pub put_given : List ℕ → Option Data → Members → Members
 put_given key None ms = ms
 put_given key (Some d) ms = put key d ms

@@ -31,7 +31,7 @@ use Rattle.np_config.specs.Names.{label_named, semaphore_named, tenant_id, tenan
 use Rattle.np_config.specs.Keys.{requester_keys, job_keys}
 use Rattle.np_config.specs.Providers.{label_value}
 
--- one label that a job asks for
+-- one label that a job requests
 unfoldable pub wanted_at : List Label → ReadsItem (List LabelId)
 wanted_at labels at earlier d = label_value labels at d >>= λ label. Ok (earlier ++ label ∷ [])
 
@@ -59,11 +59,11 @@ meaning_of meaning at word = found (meaning word) (fault UnknownName at)
 unfoldable pub word_value : {A : Type 0} → (List ℕ → Option A) → List ℕ → Data → Result A ConfigFault
 word_value meaning at d = text_value at d >>= meaning_of meaning at
 
--- a word with a meaning, or what stands for it where it is absent
+-- a word with a meaning, or its default if it is absent
 abbrev pub word_or : {A : Type 0} → (List ℕ → Option A) → List ℕ → List ℕ → A → Data → Result A ConfigFault
 word_or meaning at key absent d = option_map_or (word_value meaning (below at key)) (get key d) (Ok absent)
 
--- the labels that a job asks for
+-- the labels that a job requests
 unfoldable pub wants_at : List Label → List ℕ → Data → Result (List LabelId) ConfigFault
 wants_at labels at d = list_required (wanted_at labels) at (codes "labels") (one_to JOB_LABELS) [] d
 
@@ -71,7 +71,7 @@ wants_at labels at d = list_required (wanted_at labels) at (codes "labels") (one
 unfoldable pub takes_at : List Sem → List ℕ → Data → Result (List SemId) ConfigFault
 takes_at semaphores at d = list_maybe (taken_at semaphores) at (codes "semaphores") (at_most JOB_SEMAPHORES) [] d
 
--- what a job asks for, and when: its labels, its priority and its relative priority
+-- what a job requests, and when: its labels, its priority and its relative priority
 unfoldable pub demand_at : List Label → List ℕ → Data → Result Demand ConfigFault
 demand_at labels at d = do
   wanted ← wants_at labels at d
@@ -79,7 +79,8 @@ demand_at labels at d = do
   relative ← whole_or at (codes "relative-priority") 0 RELATIVE_PRIORITY 0 d
   Ok (record { labels = wanted; priority = priority; relative_priority = relative })
 
--- the rest of a job of a requester (Zuul: `resources-first` on a semaphore, here on the job; defaults own)
+-- the rest of a job of a requester (Zuul: `resources-first` on a semaphore, here on the job;
+-- defaults own)
 unfoldable pub job_row : List Sem → List Tenant → List ℕ → RequesterId → List ℕ → Demand → Data → Result Job ConfigFault
 job_row semaphores tenants at requester name demand d = do
   taken ← takes_at semaphores at d
@@ -88,7 +89,7 @@ job_row semaphores tenants at requester name demand d = do
   tenant ← word_or (tenant_named tenants) at (codes "tenant") (tenant_id 0) d
   Ok (record { requester = requester; name = name; labels = demand.labels; priority = demand.priority; relative_priority = demand.relative_priority; semaphores = taken; resources_first = first; end = end; tenant = tenant })
 
--- a job beside those of its requester before it (own)
+-- a job, given those of its requester before it (own)
 unfoldable pub job_at : List Label → List Sem → List Tenant → ReadsItem JobsOf
 job_at labels semaphores tenants at s d = do
   name ← named_at (λ (j : Job). j.name) job_keys at s.jobs d
@@ -96,17 +97,17 @@ job_at labels semaphores tenants at s d = do
   job ← job_row semaphores tenants at s.requester name demand d
   Ok (record s { jobs = s.jobs ++ job ∷ [] })
 
--- the jobs of a requester, after so many of earlier requesters
+-- the jobs of a requester, after this many of earlier requesters
 unfoldable pub jobs_at : List Label → List Sem → List Tenant → List ℕ → ℕ → RequesterId → Data → Result JobsOf ConfigFault
 jobs_at labels semaphores tenants at earlier requester d = list_maybe (job_at labels semaphores tenants) at (codes "jobs") (behind earlier (at_most JOBS)) (record { requester = requester; jobs = [] }) d
 
--- the rest of a requester (own)
+-- the rest of a requester (Zuul: `window`; range and default own)
 unfoldable pub requester_row : List ℕ → List ℕ → Data → Result Requester ConfigFault
 requester_row at name d = do
   window ← whole_or at (codes "window") 1 WINDOW 20 d
   Ok (record { name = name; window = window })
 
--- a requester beside those before it, with its jobs (own)
+-- a requester, given those before it, with its jobs (own)
 unfoldable pub requester_at : List Label → List Sem → List Tenant → ReadsItem Requesters
 requester_at labels semaphores tenants at s d = do
   name ← named_at (λ (q : Requester). q.name) requester_keys at s.requesters d

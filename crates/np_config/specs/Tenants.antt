@@ -13,7 +13,7 @@ use Rattle.np_site.specs.Configuration.{default_name}
 use Rattle.np_config.specs.Keys.{tenant_keys}
 use Rattle.np_config.specs.Providers.{limit_at}
 
--- a tenant beside those before it; the name of the default one counts as taken
+-- a tenant, given those before it; the name of the default one counts as taken
 unfoldable pub tenant_at : ReadsItem (List Tenant)
 tenant_at at earlier d = do
   name ← named_at (λ (t : Tenant). t.name) tenant_keys at earlier d

@@ -59,7 +59,7 @@ configuration_at d = do
   faults ← faults_at (pool_names s.providers s.pools) r.requesters d
   Ok (configuration labels s.providers s.pools semaphores tenants r.requesters r.jobs faults age)
 
--- the JSON value that bytes are, where they are UTF-8
+-- the JSON value that bytes are, if they are UTF-8
 abbrev pub parsed : List ℕ → Option Data
 parsed bytes = if is_utf8 bytes then read bytes else None
 

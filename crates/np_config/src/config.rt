@@ -64,7 +64,7 @@ impl Config {
         config_of(alloc, bytes)
     }
 
-    /// The configuration with these tables, of which each id is a place. It takes memory for the
+    /// The configuration with these tables, in which each id is a place. It takes memory for the
     /// tenant `default`, which is not listed.
     pub fn of_parts(
         alloc: Global,
@@ -106,8 +106,9 @@ impl Config {
     }
 
     /// The one text of the configuration: compact JSON, keys in byte order, every default written
-    /// but no tenants and a job's tenant `default`. Reading it gives the same configuration. The cost
-    /// grows with the length of the text, and with the number of jobs times that of requesters.
+    /// except an empty list of tenants and a job's tenant `default`. Reading it returns the same
+    /// configuration. The cost grows with the length of the text, and with the number of jobs times
+    /// that of requesters.
     pub fn to_json(&self, alloc: Global) -> Result<Vec<u8>, NoMemory>
         ensures text { IfOk result (λ b. b.items ≡ canonical self.now) }
         ensures again { IfOk result (λ b. reads b.items ≡ Ok self.now) }
@@ -116,36 +117,36 @@ impl Config {
         Ok(config_value(alloc, self)?.to_vec(alloc)?)
     }
 
-    /// The label, or `None` exactly past the end of the table.
+    /// The label, or `None` if the id is past the end of the table.
     pub fn label(&self, id: LabelId) -> Option<&Label>
         ensures { option_copied result ≡ slice_get self.now.labels id.0 }
     {
         self.labels.get(id.0 as usize)
     }
 
-    /// The provider at this place, or `None` exactly past the end of the table.
+    /// The provider at this place, or `None` if the place is past the end of the table.
     pub fn provider(&self, at: u16) -> Option<&Provider>
         ensures { option_copied result ≡ slice_get self.now.providers at }
     {
         self.providers.get(at as usize)
     }
 
-    /// The pool, or `None` exactly past the end of the table.
+    /// The pool, or `None` if the id is past the end of the table.
     pub fn pool(&self, id: PoolId) -> Option<&Pool>
         ensures { option_copied result ≡ slice_get self.now.pools id.0 }
     {
         self.pools.get(id.0 as usize)
     }
 
-    /// The semaphore, or `None` exactly past the end of the table.
+    /// The semaphore, or `None` if the id is past the end of the table.
     pub fn semaphore(&self, id: SemId) -> Option<&Sem>
         ensures { option_copied result ≡ slice_get self.now.semaphores id.0 }
     {
         self.semaphores.get(id.0 as usize)
     }
 
-    /// The tenant, or `None` exactly past the last one; 0 is the tenant `default`, and those that
-    /// are listed count from 1.
+    /// The tenant, or `None` if the id is past the last one; 0 is the tenant `default`, and those
+    /// that are listed count from 1.
     pub fn tenant(&self, id: TenantId) -> Option<&Tenant>
         ensures { option_copied result ≡ tenant_of self.now id }
     {
@@ -155,21 +156,21 @@ impl Config {
         self.tenants.get((id.0 - 1) as usize)
     }
 
-    /// The requester, or `None` exactly past the end of the table.
+    /// The requester, or `None` if the id is past the end of the table.
     pub fn requester(&self, id: RequesterId) -> Option<&Requester>
         ensures { option_copied result ≡ slice_get self.now.requesters id.0 }
     {
         self.requesters.get(id.0 as usize)
     }
 
-    /// The job, or `None` exactly past the end of the table.
+    /// The job, or `None` if the id is past the end of the table.
     pub fn job(&self, id: JobId) -> Option<&Job>
         ensures { option_copied result ≡ slice_get self.now.jobs id.0 }
     {
         self.jobs.get(id.0 as usize)
     }
 
-    /// The planned fault at this place, or `None` exactly past the end of the table.
+    /// The planned fault at this place, or `None` if the place is past the end of the table.
     pub fn fault(&self, at: u32) -> Option<&Fault>
         ensures { option_copied result ≡ slice_get self.now.faults at }
     {

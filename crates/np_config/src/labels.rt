@@ -9,7 +9,7 @@ use np_text::{AGE, HANDLES, MIN_READY};
 use serde_json::Value;
 use std::alloc::Global;
 
-/// What rows are read with that refer to nothing.
+/// The context of rows that refer to nothing.
 pub(crate) struct Alone;
 
 ghost use Rattle.serde_json.specs.View.{view};

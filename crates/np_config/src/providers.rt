@@ -38,7 +38,7 @@ fn label_for(
     Ok(LabelId(at))
 }
 
-/// The label whose name stands at the place.
+/// The label whose name is at the place.
 #[tactic(auto, using(np_json::proofs::Binds::exits), unfolding(crate::specs::Providers::label_value))]
 pub(crate) fn label_of(
     alloc: Global,
@@ -144,7 +144,7 @@ impl Rows<Alone> for NumberList {
     }
 }
 
-/// The pools of the provider at a place, as far as they were read.
+/// The pools of the provider at a place that were read so far.
 #[derive(Drop)]
 pub(crate) struct PoolsOf {
     pub provider: u16,
@@ -266,7 +266,7 @@ impl Rows<Labels> for PoolsOf {
     }
 }
 
-/// Providers with the pools of all of them, as far as they were read.
+/// The providers that were read so far, with the pools of all of them.
 #[derive(Drop)]
 pub(crate) struct Providers {
     pub providers: Table<Provider>,

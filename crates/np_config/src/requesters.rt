@@ -94,7 +94,7 @@ fn priority_of(word: &str) -> Option<u16>
     }
 }
 
-/// What a word means, where it means something.
+/// What a word means, if it means something.
 pub(crate) fn meaning<T: Drop>(
     alloc: Global,
     place: Place<'_>,
@@ -177,7 +177,7 @@ fn takes_of(alloc: Global, known: &Known, at: &[u8], value: &Value) -> Result<Se
     Ok(SemList::new(taken.into_rows()))
 }
 
-/// What a job asks for, and when.
+/// What a job requests, and when.
 #[derive(Drop)]
 pub(crate) struct Demand {
     pub labels: LabelList,
@@ -239,7 +239,7 @@ fn job_row(
     })
 }
 
-/// The jobs of the requester at a place, as far as they were read.
+/// The jobs of the requester at a place that were read so far.
 #[derive(Drop)]
 pub(crate) struct JobsOf {
     pub requester: RequesterId,
@@ -298,7 +298,7 @@ fn jobs_of(
     rows_maybe(alloc, known, at, "jobs", length, value, none)
 }
 
-/// Requesters with the jobs of all of them, as far as they were read.
+/// The requesters that were read so far, with the jobs of all of them.
 #[derive(Drop)]
 pub(crate) struct Requesters {
     pub requesters: Table<Requester>,

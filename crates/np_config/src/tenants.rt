@@ -85,7 +85,7 @@ fn tenant_word(
     meaning(alloc, place, tenant_named(&known.tenants, word.as_bytes()))
 }
 
-/// The tenant that a job names, or else the default one.
+/// The tenant that a job names, or the default one if it names none.
 pub(crate) fn tenant_of(
     alloc: Global,
     known: &Known,

@@ -38,7 +38,7 @@ pub(crate) fn full_name(
     Ok(name)
 }
 
-/// The full names of pools, of which no two are equal.
+/// The full names of pools, no two of which are equal.
 fn names_of_pools(
     alloc: Global,
     providers: &[Provider],

@@ -18,7 +18,7 @@ use Rattle.np_changes.specs.declared.asked.Asked.{Asked}
 use Rattle.np_changes.specs.Asked.{asked_of, new_record}
 use Rattle.np_decision.specs.Verdicts.{without_declines}
 
--- a reason asks nothing of a request's declines
+-- a reason does not depend on a request's declines
 in_state_for-asked : (p : PoolId) (k : RequestRecord) (why : Reason) → in_state_for p (new_record (asked_of k)) why ≡ in_state_for p k why
 in_state_for-asked p k (NoLabel l) = refl
 in_state_for-asked p k NeverFits = refl

@@ -9,7 +9,7 @@ use Rattle.np_machine.specs.Entries.{NodeEntry}
 use Rattle.np_machine.specs.Tables.{node_entry}
 use Rattle.np_machine.specs.Request.{is_filled}
 
--- 1 where there is a label and no node as fulfil wants it
+-- 1 if there is a label and no node as fulfil needs it
 abbrev pub lack_at : PoolId → SessionId → RequestId → List NodeEntry → Option LabelId → Option NodeId → ℕ
 lack_at p session r nodes None number = 0
 lack_at p session r nodes (Some l) None = 1

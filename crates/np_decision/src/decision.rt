@@ -23,8 +23,8 @@ use crate::verdict::Verdict;
 use np_event::{Event, Refusal};
 use np_look::Look;
 
-/// What the event is answered, and what it changes where it is accepted. It takes no memory, and
-/// costs what the readers cost that its row asks.
+/// The answer to the event, and what it changes if it is accepted. It takes no memory, and costs
+/// what the readers cost that its row calls.
 pub fn decide<L: Look>(look: &L, event: Event) -> Result<Verdict, Refusal>
     requires { Fits (L.site look.now) (L.state look.now) }
     ensures answer { answer_of result ≡ judge (L.site look.now) (L.state look.now) event }

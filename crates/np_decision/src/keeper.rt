@@ -14,7 +14,7 @@ use std::alloc::AllocError;
 
 /// Keeps a state.
 pub trait StateKeeper: Look {
-    /// The changes of an accepted event happen. Where memory is wanted, nothing changes.
+    /// Makes the changes of an accepted event. If memory runs out, nothing changes.
     fn change(&mut self, changes: &Changes) -> Result<(), AllocError>
         // A run of the configuration reaches the state, whose numbers leave room.
         requires reached { IsReached (Self.site self.old) (Self.state self.old) }
@@ -27,8 +27,8 @@ pub trait StateKeeper: Look {
         ensures err { OnErr result (Self.state self.new ≡ Self.state self.old) };
 }
 
-/// One step of the machine, whatever keeps the state: the event's reply, and where it is accepted
-/// its changes. Where memory is wanted, nothing changes.
+/// One step of the machine, whatever keeps the state: the event's reply, and its changes if it is
+/// accepted. If memory runs out, nothing changes.
 pub fn step<K: StateKeeper>(keeper: &mut K, event: Event) -> Result<Reply, AllocError>
     requires reached { IsReached (K.site keeper.old) (K.state keeper.old) }
     requires fits { Fits (K.site keeper.old) (K.state keeper.old) }

@@ -1,9 +1,9 @@
-//! The decision: what each event is answered and what it changes, once for every representation of
-//! the state.
+//! The decision: the answer to each event and what it changes, once for every representation of the
+//! state.
 //!
-//! The rows, one function for each event, read the state through np_look's `Look`. They answer a
-//! refusal or a `Verdict`: what the event is answered, and its `Changes`, which are np_changes'
-//! plan of it. What keeps a state makes the changes (`StateKeeper`), and `step` is one step of the
+//! The rows, one function for each event, read the state through np_look's `Look`. They return a
+//! refusal or a `Verdict`: the answer to the event, and its `Changes`, which are np_changes' plan
+//! of it. A `StateKeeper` keeps a state and makes the changes, and `step` is one step of the
 //! machine over it.
 #![tactic(auto)]
 

@@ -215,7 +215,7 @@ fn state_after_launch(retries: u8, node: &NodeRecord, outcome: Outcome) -> NodeS
     }
 }
 
-/// The node after what became of its launch.
+/// The node after the outcome of its launch.
 fn launched(retries: u8, tick: u32, outcome: Outcome, node: &NodeRecord) -> NodeRecord
     ensures { result ≡ launched retries tick outcome node.now }
 {
@@ -242,7 +242,7 @@ fn retries<L: Look>(look: &L, pool: PoolId) -> u8
     np_look::retries(look.config(), pool)
 }
 
-/// The launcher says what became of the launch.
+/// The launcher reports the outcome of the launch.
 pub fn decide_done<L: Look>(
     look: &L,
     session: SessionId,
@@ -276,7 +276,7 @@ pub fn decide_done<L: Look>(
     })
 }
 
-/// First in the queue, or how many stand before.
+/// First in the queue, or how many are before.
 fn place_reply(ahead: u32) -> Done
     ensures { result ≡ place_reply ahead }
 {
@@ -357,7 +357,7 @@ fn is_own<L: Look>(look: &L, requester: RequesterId, job: Option<JobId>) -> bool
     }
 }
 
-/// The node is marked ended in the job, where there is one.
+/// The node is marked ended in the job, if there is one.
 fn end_in(job: Option<JobId>, node: NodeId) -> JobsChange
     ensures { result ≡ end_in job node }
 {
@@ -407,7 +407,7 @@ pub fn decide_end_node<L: Look>(
     })
 }
 
-/// Older than the age allows, where it allows one; 0 is no age.
+/// Whether it is older than the age, if there is one; 0 is no age.
 fn is_past(age: u32, since: u32, tick: u32) -> bool
     ensures { result ≡ is_past age since tick }
 {
@@ -434,8 +434,8 @@ fn ready_age<L: Look>(look: &L, label: LabelId) -> u32
     np_look::ready_age(look.config(), label)
 }
 
-/// Whether a node may go: a ready one where nobody has it and it is old or its pool is paused, a
-/// held one where it is old, any other at once.
+/// Whether a node may be given up: a ready one if nobody has it and it is old or its pool is
+/// paused, a held one if it is old, any other at once.
 fn may_delete<L: Look>(look: &L, node: &NodeRecord) -> Result<(), Refusal>
     requires fits { Fits (L.site look.now) (L.state look.now) }
     requires since { node.now.since ≤ 262144 }
@@ -516,7 +516,7 @@ pub fn decide_gone<L: Look>(look: &L, session: SessionId, node: NodeId) -> Resul
     })
 }
 
-/// The request, where it is there.
+/// The request, if it is there.
 fn standing<L: Look>(look: &L, found: Option<RequestId>) -> Option<RequestId>
     ensures { result ≡ standing (L.state look.now) found }
 {

@@ -76,7 +76,7 @@ fn asked_for(job: JobId, row: &Job) -> Asked
     }
 }
 
-/// The requester asks for the nodes of its job.
+/// The requester requests the nodes of its job.
 pub fn decide_submit<L: Look>(look: &L, session: SessionId, job: JobId) -> Result<Verdict, Refusal>
     requires { Fits (L.site look.now) (L.state look.now) }
     ensures answer { answer_of result ≡
@@ -155,7 +155,7 @@ pub fn decide_revise<L: Look>(
     })
 }
 
-/// What a pool asks for to keep a node of the label ready.
+/// What a pool requests to keep a node of the label ready.
 fn asked_to_keep(pool: PoolId, label: LabelId) -> Asked
     ensures { result ≡ asked_to_keep pool label }
 {
@@ -182,7 +182,7 @@ fn min_ready<L: Look>(look: &L, label: LabelId) -> Result<u32, Refusal>
     }
 }
 
-/// The launcher asks for a node of a label that is to be kept ready.
+/// The launcher requests a node of a label that must be kept ready.
 pub fn decide_min_ready<L: Look>(
     look: &L,
     session: SessionId,
@@ -223,7 +223,7 @@ pub fn decide_min_ready<L: Look>(
     })
 }
 
-/// The first candidate of the pool, where it is another than this request.
+/// The first candidate of the pool, if it is not this request.
 fn other_than<L: Look>(look: &L, request: RequestId, pool: PoolId) -> Option<RequestId>
     requires { Fits (L.site look.now) (L.state look.now) }
     ensures { result ≡ other_than request (first_of (L.site look.now) (L.state look.now) pool) }
@@ -372,7 +372,7 @@ fn unlock_request_as<L: Look>(
     }
 }
 
-/// The maker gives the lock back; a launcher not while its pool serves the request.
+/// The maker releases the lock; a launcher may not while its pool serves the request.
 pub fn decide_unlock_request<L: Look>(
     look: &L,
     session: SessionId,
@@ -438,7 +438,7 @@ pub fn decide_accept<L: Look>(
     })
 }
 
-/// A pool gives up with a failed node while it serves the request, and else before it took it.
+/// A pool declines for a failed node while it serves the request, otherwise before it accepts it.
 fn in_state_for(pool: PoolId, asked: &Asked, reason: Reason) -> Result<(), Refusal>
     ensures { result ≡ in_state_for pool (new_record asked.now) reason }
 {
@@ -495,7 +495,7 @@ fn is_true<L: Look>(look: &L, pool: PoolId, asked: &Asked, reason: Reason) -> bo
     }
 }
 
-/// The launcher hands the request on to the other pools; it fails where none is left.
+/// The launcher leaves the request to the other pools; it fails if none is left.
 pub fn decide_decline<L: Look>(
     look: &L,
     session: SessionId,
@@ -537,7 +537,7 @@ pub fn decide_decline<L: Look>(
     })
 }
 
-/// 1 where there is a label and no node for it.
+/// 1 if there is a label and no node for it.
 fn lack<L: Look>(
     look: &L,
     pool: PoolId,
@@ -566,7 +566,7 @@ fn lack<L: Look>(
     if filled { 0 } else { 1 }
 }
 
-/// How many places of the labels have no node as `fulfil` wants it.
+/// How many places of the labels have no node as `fulfil` needs it.
 fn unfilled<L: Look>(
     look: &L,
     pool: PoolId,
@@ -615,8 +615,8 @@ fn nodes_after_fulfil(request: RequestId, pinned: bool) -> NodesChange
     }
 }
 
-/// The launcher hands all the request's nodes over at once; a min-ready request goes, and its node
-/// is free.
+/// The launcher hands all the request's nodes over at once; a min-ready request is removed, and its
+/// node is free.
 pub fn decide_fulfil<L: Look>(
     look: &L,
     session: SessionId,

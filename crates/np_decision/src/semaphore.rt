@@ -24,7 +24,7 @@ use np_text::{
     SessionId,
 };
 
-/// As many jobs have a handle as may.
+/// Whether as many jobs have a handle as may.
 fn is_full<L: Look>(look: &L, semaphore: SemId) -> bool
     ensures { result ≡ is_full (L.site look.now) (L.state look.now) semaphore }
 {
@@ -203,7 +203,7 @@ fn requester_or_janitor(role: Role) -> Result<(), Refusal>
     }
 }
 
-/// The requester its own job, the janitor one that was left alone.
+/// A requester may finish its own job, a janitor one that was left alone.
 fn may_finish<L: Look>(look: &L, job: &Job, role: Role) -> Result<(), Refusal>
     ensures { result ≡ may_finish (L.state look.now) job.now role }
 {
@@ -235,7 +235,7 @@ fn ending_of(kept: &JobRecord) -> Ending
     }
 }
 
-/// The job is over; a janitor finishes it where its requester has no session left.
+/// The job is over; a janitor finishes it if its requester has no session left.
 pub fn decide_finish<L: Look>(look: &L, session: SessionId, job: JobId) -> Result<Verdict, Refusal>
     ensures answer { answer_of result ≡
         judge_finish (L.site look.now) (L.state look.now) session job }
@@ -266,7 +266,7 @@ pub fn decide_finish<L: Look>(look: &L, session: SessionId, job: JobId) -> Resul
     })
 }
 
-/// The request goes, where there is one.
+/// The request is removed, if there is one.
 fn request_after_withdraw(request: Option<RequestId>) -> RequestsChange
     ensures { result ≡ request_after_withdraw request }
 {
@@ -310,7 +310,7 @@ pub fn decide_withdraw<L: Look>(
     })
 }
 
-/// The requester its own job, any janitor.
+/// A requester may release the handles of its own job, a janitor those of any job.
 fn may_release(job: &Job, role: Role) -> Result<(), Refusal>
     ensures { result ≡ may_release job.now role }
 {

@@ -13,7 +13,7 @@ use np_event::{Done, Refusal};
 use np_look::Look;
 use np_text::{Role, SessionId};
 
-/// Time goes on by one tick.
+/// Time advances by one tick.
 pub fn decide_tick() -> Result<Verdict, Refusal>
     ensures answer { answer_of result ≡ Ok Plain }
     ensures changes { IfOk result (λ v. v.changes ≡ plan_tick) }
@@ -57,7 +57,7 @@ pub fn decide_open<L: Look>(look: &L, role: Role) -> Result<Verdict, Refusal>
     })
 }
 
-/// The party stops, and its session is heard no more.
+/// The party stops, and its session is mute from then on.
 pub fn decide_crash<L: Look>(look: &L, session: SessionId) -> Result<Verdict, Refusal>
     ensures answer { answer_of result ≡ judge_crash (L.state look.now) session }
     ensures changes { IfOk result (λ v. v.changes ≡ plan_crash (L.state look.now) session) }

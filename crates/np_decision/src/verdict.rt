@@ -1,4 +1,4 @@
-//! That an event is accepted.
+//! The verdict on an event that is accepted.
 
 ghost use Rattle.std.specs.Prelude.{◌≡◌};
 ghost use Rattle.np_changes.specs.Plan.{same, made_by};
@@ -7,7 +7,7 @@ use np_changes::{Changes, Deed, Maker, SAME};
 use np_event::Done;
 use np_text::{Role, SessionId};
 
-/// That the event is accepted: what it is answered, and what it changes.
+/// The event is accepted: the answer to it, and what it changes.
 #[derive(Clone, Copy)]
 pub struct Verdict {
     pub done: Done,

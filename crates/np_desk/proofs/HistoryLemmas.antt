@@ -74,7 +74,7 @@ none_below : (k a n : ℕ) (xs : List ℕ) → k < a → AreRising a xs n → ti
 none_below k a n [] lt h = refl
 none_below k a n (x ∷ xs) lt h = omega (arith, none_here k x (λ e. omega (arith, h.0)), none_below k (suc x) n xs (omega (arith, h.0)) h.2)
 
--- no place stands twice in a rising list
+-- a rising list has no place twice
 pub once : (a n : ℕ) (xs : List ℕ) → AreRising a xs n → (k : ℕ) → times k xs ≤ 1
 once a n [] h k = omega arith
 once a n (x ∷ xs) h k = dite (ℕ_discrete k x)
@@ -117,7 +117,7 @@ same_places a b n (x ∷ xs) (y ∷ ys) h k same =
     let tails : xs ≡ ys = same_places (suc x) (suc y) n xs ys h.2 k.2 (λ j. omega (arith, same j, ap (λ (z : ℕ). one_if (eqb j z)) e)) in
     ap (λ (z : ℕ). z ∷ xs) e ∙ ap (λ (zs : List ℕ). y ∷ zs) tails
 
--- where every place is one's own, a turn adds its entry's place
+-- if every place is one's own, a turn adds the place of its entry
 alone_records : {E : Type 0} (entry : Option E) (old new : List E) → new ≡ old ++ entries_of entry → Records entry old (whole_sight old) (whole_sight new)
 alone_records None old new e = let same = e ∙ append-nil old in (same, ap (places 0) same)
 alone_records (Some x) old new e = (e, ap (places 0) e ∙ (places-append 0 old (x ∷ []) ∙ ap (λ (k : ℕ). places 0 old ++ k ∷ []) (zero-add (length old))))

@@ -124,7 +124,7 @@ joined_halves w = subst
     (λ (b : Bool). cond (cond b true false) (with_word w (cond b [] ((false ∷ w) ∷ []))) ((true ∷ w) ∷ (false ∷ w) ∷ []) ≡ w ∷ [])
     (sym (same_self w)) (with_none w)
 
--- what a split cut in two, a join puts together again
+-- a join puts the halves of a split together again
 pub joined_back : (w : List Bool) (part other new : List (List Bool)) → new ≡ joined part other → part ≡ first_half (w ∷ []) → other ≡ second_half (w ∷ []) → new ≡ w ∷ []
 joined_back w part other new is left right = is ∙ ((λ i. joined (left i) (right i)) ∙ joined_halves w)
 

@@ -132,7 +132,7 @@ module _ {M F E : Type 0} (legal : F → List E → Bool) where
     begins = subst (λ (z : Me M (SeatView F E)). IfSome z.0.origin (λ o. StartsWith z.0.seen o.history)) (sym t.1) (begins_on m.0.origin t.0 m.0.seen t.2 p.begins);
   }
 
-  -- a seat of which a half was given away, and the seat that has the half
+  -- a seat that gave away half of its part, and the seat that has that half
   pub left_rests : (m n : Me M (SeatView F E)) → IsPass legal m → n ≡ (left_half m.0, m.1) → IsPass legal n
   left_rests m n p is = subst (IsPass legal) (sym is) record {
     idle = p.idle;

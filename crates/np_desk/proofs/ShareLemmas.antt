@@ -28,7 +28,8 @@ module _ {A : Type 0} where
   all_zero g h [] each none = refl
   all_zero g h (x ∷ xs) each none = omega (arith, each 0 x refl (omega arith), all_zero g h xs (λ j u e. each (suc j) u e) (omega arith))
 
-  -- where one has all the weight by h, and what has none by h has none by g, it has all by g
+  -- if one member has all the weight by h, and each member with no weight by h has none by g, that
+  -- member has all the weight by g
   pub all_one's : (g h : A → ℕ) (l : List A) (i : ℕ) (v : A) → get_elem? l i ≡ some v → ((j : ℕ) (u : A) → get_elem? l j ≡ some u → h u ≡ 0 → g u ≡ 0) → total h l ≡ h v → total g l ≡ g v
   all_one's g h [] i v e each all = absurd (some-ne-none v (sym e))
   all_one's g h (x ∷ xs) zero v e each all = let same = some-injective x v e in omega (arith, ap g same, ap h same, all_zero g h xs (λ j u e. each (suc j) u e) (omega (arith, ap h same)))

@@ -31,13 +31,13 @@ number (Waits t) = t
 number (Has t) = t
 
 module _ {E : Type 0} where
-  -- what the other seats stand for, after one drew a ticket
+  -- what the stages of the other seats say, after one drew a ticket
   stands_drawn : (next now id : ℕ) (drawer : ℕ → ℕ) (log : List E) (seat : ℕ) (seen : List E) (s : Stage) → Stands next now drawer log seat seen s → Stands (suc next) now (λ t. cond (eqb t next) id (drawer t)) log seat seen s
   stands_drawn next now id drawer log seat seen Idle h = tt
   stands_drawn next now id drawer log seat seen (Waits t) h = (h.0, omega (arith, h.1), ap (λ b. cond b id (drawer t)) (ne_eqb t next (λ e. omega (arith, h.1))) ∙ h.2)
   stands_drawn next now id drawer log seat seen (Has t) h = (h.0, omega (arith, h.1), ap (λ b. cond b id (drawer t)) (ne_eqb t next (λ e. omega (arith, h.1))) ∙ h.2, h.3)
 
-  -- after the ticket that is served was another's, and the next one is served
+  -- the same, after another seat's ticket was served and the next one is
   stands_called : (next now id : ℕ) (drawer : ℕ → ℕ) (log more : List E) (seat : ℕ) (seen : List E) (s : Stage) → drawer now ≡ id → seat ≢ id → Stands next now drawer log seat seen s → Stands next (suc now) drawer (log ++ more) seat seen s
   stands_called next now id drawer log more seat seen Idle mine other h = tt
   stands_called next now id drawer log more seat seen (Waits t) mine other h =

@@ -6,7 +6,7 @@ use Rattle.np_desk.specs.Pass.{DeskView, PassView, IsOf}
 abbrev pub is_legal : ℕ → List ℕ → Bool
 is_legal limit history = nat_lt (length history) (suc limit)
 
--- the new count, or none where the limit is reached
+-- the new count, or none if the limit is reached
 abbrev pub Answers : ℕ → List ℕ → ℕ → Option ℕ → Type 0
 Answers limit history ask turn = MatchOption turn (limit ≤ length history)
     (λ n. (n ≡ length history + 1) × (n ≤ limit))
@@ -15,7 +15,7 @@ abbrev pub recorded : ℕ → Option ℕ → Option ℕ
 recorded ask None = None
 recorded ask (Some n) = Some ask
 
--- what is left of the whole after so many splits
+-- what is left of the whole after this many splits
 abbrev pub zeros : ℕ → List Bool
 zeros zero = []
 zeros (suc n) = false ∷ zeros n

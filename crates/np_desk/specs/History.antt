@@ -5,7 +5,7 @@ use Rattle.std.specs.Prelude.{◌≡◌, ℕ, ◌<◌, ◌≤◌, List, [], ◌�
 abbrev pub StartsWith : {E : Type 0} → List E → List E → Type 0
 StartsWith {E} history seen = (rest : List E) × (history ≡ seen ++ rest)
 
--- the places of these entries, the first of which stands at n
+-- the places of these entries, the first of which is at n
 abbrev pub places : {E : Type 0} → ℕ → List E → List ℕ
 places n [] = []
 places n (e ∷ es) = n ∷ places (suc n) es
@@ -14,7 +14,7 @@ places n (e ∷ es) = n ∷ places (suc n) es
 abbrev pub added : {E : Type 0} → List E → List E → List ℕ
 added first history = places (length first) (drop (length first) history)
 
--- the places rise, so that none is there twice. They are at least `from`, and below `end`
+-- the places rise, so none occurs twice; they are at least `from`, and below `end`
 abbrev pub AreRising : ℕ → List ℕ → ℕ → Type 0
 AreRising from [] end = Unit {0}
 AreRising from (x ∷ xs) end = (from ≤ x) × (x < end) × AreRising (suc x) xs end

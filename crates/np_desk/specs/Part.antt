@@ -30,7 +30,7 @@ abbrev pub without : List Bool → List (List Bool) → List (List Bool)
 without w [] = []
 without w (v ∷ vs) = cond (is_same v w) vs (v ∷ without w vs)
 
--- one word more. Where the other half of the same word is there, both are replaced by that word
+-- one word more; if the other half of the same word is there, both are replaced by that word
 abbrev pub with_word : List Bool → List (List Bool) → List (List Bool)
 with_word [] ws = [] ∷ ws
 with_word (b ∷ w) ws = cond (has_word (not b ∷ w) ws)

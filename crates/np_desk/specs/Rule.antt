@@ -4,9 +4,9 @@
 -- There is one legal history, of which each seat has seen a beginning.
 -- Each ticket below the next was drawn by one seat. The object is at home and has that history, or
 -- it is out with the one seat that drew the ticket that is served.
--- Each place that was added since the set-up is one seat's, once. The parts of the seats are one
--- whole, and a seat with no part has no place and no ticket: beside a whole pass nobody has the
--- object.
+-- Each place that was added since the set-up belongs to one seat, once. The parts of the seats are
+-- one whole, and a seat with no part has no place and no ticket: while one pass is whole, nobody
+-- else has the object.
 use Rattle.std.specs.Prelude.{◌≡◌, ◌⊎◌, ℕ, ◌^◌, ◌<◌, ◌≤◌, List, [], ◌∷◌, length, drop, Bool, true, IfSome}
 use mathlib.Core.Option.{Option, some}
 use lib.ListN.{get_elem?}

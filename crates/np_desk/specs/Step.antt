@@ -1,4 +1,4 @@
--- What each kind of step on the table tells its seat, and how views are cut and joined.
+-- What a seat learns from each kind of step on the table, and how views are split and joined.
 use Rattle.std.specs.Prelude.{◌≡◌, ◌≢◌, ℕ, ◌<◌, List, [], ◌∷◌, ◌++◌, length, drop, Bool, true, Some, None, IfSome}
 use Rattle.std.specs.Prelude as std
 use Rattle.atomic_table.specs.Table.{Me, Step}
@@ -93,7 +93,7 @@ module _ {F E : Type 0} (legal : F → List E → Bool) where
     pub begins : IfSome me.0.origin (λ o. StartsWith me.0.seen o.history)
 
 module _ {M F E : Type 0} where
-  -- the seat drew the number that was found as its ticket, where that is the one expected
+  -- if the number that was found is the one expected, the seat drew it as its ticket
   abbrev pub drew : Step M → Me M (SeatView F E) → ℕ → Me M (SeatView F E) → Type 0
   drew st m r n = (r ≡ st.first → n ≡ (at_stage m.0 (Waits r), m.1)) × (r ≢ st.first → n ≡ m)
 
@@ -101,7 +101,7 @@ module _ {M F E : Type 0} (history : M → List E) (fixed : M → F) (legal : F 
   abbrev pub IsLawful : F → M → Type 0
   IsLawful f x = (fixed x ≡ f) × (legal f (history x) ≡ true)
 
-  -- the seat has the object alone, which is lawful, and its history is so
+  -- only the seat has the object, which is lawful, and the history satisfies this
   abbrev pub HasObject : F → Me M (SeatView F E) → (List E → Type 0) → Type 0
   HasObject f m so = (x : M) × (m.1 ≡ (0, x) ∷ []) × IsLawful f x × so (history x)
 
@@ -112,7 +112,7 @@ module _ {M F E : Type 0} (history : M → List E) (fixed : M → F) (legal : F 
       × StartsWith (history x) m.0.seen
       × IfSome m.0.origin (λ o. IsLawful o.fixed x)
 
-  -- where the ticket is served, the object was taken
+  -- if the ticket is served, the object was taken
   abbrev pub looked : Step M → Me M (SeatView F E) → ℕ → Me M (SeatView F E) → Type 0
   looked st m r n = (t : ℕ) → m.0.stage ≡ Waits t → (r ≢ t → n ≡ m) × (r ≡ t → Took m t n)
 

@@ -1,4 +1,4 @@
--- What a turn is answered, and what it leaves.
+-- What a turn answers, and what it leaves.
 use Rattle.std.specs.Prelude.{◌≡◌, List, [], ◌∷◌, ◌++◌, length, Option, MatchOption, Some, None, Result, Ok, Err}
 use Rattle.np_desk.specs.History.{StartsWith}
 use Rattle.np_desk.specs.Pass.{Sight}

@@ -7,7 +7,7 @@ use crate::object::SeqObject;
 use crate::turns::Turns;
 use np_text::NoMemory;
 
-/// An object of which every place is one's own.
+/// An object in whose history every place is one's own.
 #[derive(Drop)]
 pub struct Alone<M: SeqObject> {
     pub object: M,

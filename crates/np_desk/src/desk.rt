@@ -31,7 +31,7 @@ impl<M: SeqObject> Model for Desk<M> {
     ghost invariant = { λ d. IsDesk d.table.shared.table_id };
 }
 
-/// No memory was found. The object comes back.
+/// Memory ran out. The object comes back.
 #[derive(Drop)]
 pub struct SetUpFailed<M> {
     pub object: M,

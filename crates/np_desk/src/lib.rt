@@ -1,11 +1,11 @@
 //! The desk at which threads take turns: a ticketed lock round an object that keeps a history.
 //!
-//! What the threads share is one legal history. Each of them has a `Pass`, which knows how much of
-//! it has been seen and which places in it are its own. Read `object` and `specs/Turned` for what a
-//! turn is, `specs/Pass` and `specs/Part` for what a pass is, docs/DESK.md for the rule in words.
+//! The threads share one legal history. Each of them has a `Pass`, which knows how much of it has
+//! been seen and which places in it are its own. Read `object` and `specs/Turned` for what a turn
+//! is, `specs/Pass` and `specs/Part` for what a pass is, and docs/DESK.md for the rule in words.
 //!
-//! The rule of the table below the desk is in `specs/Rule`, each step of a turn in `step`. No call
-//! but a turn waits, and no call but `set_up` and the object's own turn takes memory.
+//! The rule of the table below the desk is in `specs/Rule`, each step of a turn in `step`. Only a
+//! turn may wait, and only `set_up` and the object's own turn take memory.
 #![tactic(auto)]
 
 mod alone;

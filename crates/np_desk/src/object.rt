@@ -11,7 +11,7 @@ pub trait SeqObject {
     /// What may be asked in a turn.
     type Ask: Copy;
 
-    /// What stands in the history.
+    /// What is in the history.
     type Entry: Copy;
 
     /// What a turn answers.
@@ -35,7 +35,7 @@ pub trait SeqObject {
     /// The entry that a turn recorded, if any.
     ghost recorded: { Self.Ask → Self.Turn → Option Self.Entry };
 
-    /// Takes a turn. After want of memory nothing of it is in the history.
+    /// Takes a turn. If memory runs out, nothing of it is in the history.
     fn turn(&mut self, ask: Self::Ask) -> Result<Self::Turn, NoMemory>
         requires legal { legal (fixed self.old) (history self.old) ≡ true }
         ensures fixed { fixed self.new ≡ fixed self.old }

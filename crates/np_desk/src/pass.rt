@@ -33,8 +33,8 @@ impl<M: SeqObject> Model for Pass<M> {
 }
 
 impl<M: SeqObject> Pass<M> {
-    /// Hands out what holds of every pass: what it has seen is legal and begins with the history of
-    /// the set-up, its places rise within it, and where it is whole they are all that were added.
+    /// Guarantees what is true of every pass: what it has seen is legal and begins with the history
+    /// of the set-up, its places rise within that, and if it is whole they are all that were added.
     pub fn know(&self)
         ensures rising { AreRising 0 self.now.mine (length self.now.seen) }
         ensures legal { IfSome self.now.origin (λ o. M.legal o.fixed self.now.seen ≡ true) }
@@ -46,7 +46,7 @@ impl<M: SeqObject> Pass<M> {
     }
 
     /// Takes a turn at the object: draws a ticket, waits until it is served, asks, and calls the
-    /// next ticket, also after want of memory. Wakes all threads that wait at the desk.
+    /// next ticket, even if memory ran out. Wakes all threads that wait at the desk.
     pub fn turn<R: Wait>(
         &mut self,
         rt: &R,
@@ -80,8 +80,8 @@ impl<M: SeqObject> Pass<M> {
         Pass { seat }
     }
 
-    /// Takes in another pass: this one has then seen what both saw, and made what both made. Where
-    /// the other has the half that this one gave away last, the part is as before that split.
+    /// Takes in another pass: this one has then seen what both saw, and made what both made. If the
+    /// other has the half that this one gave away last, the part is as before that split.
     pub fn join(&mut self, desk: &Desk<M>, other: Pass<M>)
         requires own { IsOf self.old desk.now }
         requires other { IsOf other desk.now }
@@ -100,8 +100,8 @@ impl<M: SeqObject> Pass<M> {
         desk.table.shared.load::<Learn<M>>(&mut self.seat, 0);
     }
 
-    /// Sees what another pass has seen. Each keeps its places, and a half of the other's part comes
-    /// over.
+    /// Sees what another pass has seen. Each keeps its places, and this one gets half of the
+    /// other's part.
     pub fn meet(&mut self, desk: &Desk<M>, other: &mut Pass<M>)
         requires own { IsOf self.old desk.now }
         requires other { IsOf other.old desk.now }

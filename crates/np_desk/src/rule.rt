@@ -1,4 +1,4 @@
-//! The rule of the desk's table, and what each kind of step tells.
+//! The rule of the desk's table, and what is learned from each kind of step.
 
 ghost use Rattle.np_desk.specs.Rule.{Kept};
 ghost use Rattle.np_desk.specs.Pass.{origin_of};
@@ -28,7 +28,7 @@ impl<M, F, E> Play<M, SeatView<F, E>> for Draw {
     ghost then = { drew };
 }
 
-/// The ticket that is served is looked at, and the object is taken where it is the seat's.
+/// The ticket that is served is read, and the object is taken if the ticket is the seat's.
 pub struct Look<M> {
     object: PhantomData<M>,
 }

@@ -16,7 +16,7 @@ use std::snapshot::Snapshot;
 use std::sync::Wait;
 use std::thread::yield_now;
 
-/// Draws a ticket. Where all 2^64 - 1 were drawn it waits for ever.
+/// Draws a ticket. If all 2^64 - 1 were drawn, it waits forever.
 pub fn draw<M: SeqObject, R: Wait>(
     rt: &R,
     table: &Shared<M, SeatView<M::Fixed, M::Entry>, Snapshot<M>, Law<M>>,

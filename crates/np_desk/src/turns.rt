@@ -12,7 +12,7 @@ pub trait Turns {
     /// What may be asked in a turn.
     type Ask: Copy;
 
-    /// What stands in the history.
+    /// What is in the history.
     type Entry: Copy;
 
     /// What a turn answers.
@@ -21,7 +21,7 @@ pub trait Turns {
     /// What no turn changes. It is for clauses alone.
     type Fixed;
 
-    /// That turns can be taken: the parts of this value belong together.
+    /// Turns can be taken: the parts of this value belong together.
     ghost ready: { Self → Type 0 };
 
     /// What no turn changes.
@@ -30,7 +30,7 @@ pub trait Turns {
     /// The history so far as it was seen, and the places in it that were made through this value.
     ghost sight: { Self → Sight Self.Entry };
 
-    /// The desk, and the part of the right to take turns at it. None where there is no desk.
+    /// The desk, and the part of the right to take turns at it. None if there is no desk.
     ghost place: { Self → Option (Place Self.Fixed Self.Entry) };
 
     /// The turn is an answer to the ask after the history.
@@ -39,7 +39,7 @@ pub trait Turns {
     /// The entry that a turn recorded, if any.
     ghost recorded: { Self.Ask → Self.Turn → Option Self.Entry };
 
-    /// Takes a turn. After want of memory nothing of it is in the history.
+    /// Takes a turn. If memory runs out, nothing of it is in the history.
     fn turn(&mut self, ask: Self::Ask) -> Result<Self::Turn, NoMemory>
         requires ready { ready self.old }
         ensures ready { ready self.new }

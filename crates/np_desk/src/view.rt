@@ -7,7 +7,7 @@ use std::collections::LinkedList;
 pub struct Origin<F, E> {
     /// What no turn changes.
     pub fixed: F,
-    /// The history that stood then.
+    /// The history at that time.
     pub history: LinkedList<E>,
 }
 
@@ -20,7 +20,7 @@ pub enum Stage {
 }
 
 pub struct SeatView<F, E> {
-    /// None where the seat was joined to another.
+    /// None if the seat was joined to another.
     pub origin: Option<Origin<F, E>>,
     pub seen: LinkedList<E>,
     /// The places that it made.

@@ -10,7 +10,7 @@ use Rattle.np_cloud.specs.declared.driver.Launch.{Launch}
 use Rattle.np_trace.specs.Move.{Move, asked, launched, removed, launches_of}
 use Rattle.np_trace.specs.Drive.{Driving, FollowsPlan, Drives}
 
--- the driver answered this, where it tells its answers
+-- the driver answered this, if it reports its answers
 abbrev pub HasAnswered : Driving → Launch → Type 0
 HasAnswered driving l = IfSome driving.facts.answered (λ launches. Contains launches l)
 
@@ -26,7 +26,7 @@ joins_some : (more : List Launch) (l : Launch) (o : Option (List Launch)) → Co
 joins_some more l None h = tt
 joins_some more l (Some launches) h = Contains-append_right launches more l h
 
--- what a driver answered it answered for good
+-- what a driver once answered stays answered
 pub answer_stays : (moves : List Move) (before now : Driving) → Drives moves before now → (l : Launch) → HasAnswered before l → HasAnswered now l
 answer_stays moves before now d l h = subst (λ (o : Option (List Launch)). IfSome o (λ launches. Contains launches l)) (sym d.answered) (stays_some (launches_of moves) l before.facts.answered h)
 

@@ -19,7 +19,7 @@ use Rattle.np_driven.proofs.Ends.{player_of}
 
 -- ## what was answered before
 
--- the driver that stands at the place now was this before
+-- the driver that is at the place now was this before
 record DrivesOn (drivings : List Driving) (k : ℕ) (before : Driving) : Type 0 where
   now : Driving
   stands : slice_get drivings k ≡ Some now
@@ -77,7 +77,7 @@ planned-new plan (launched tag o ∷ moves) l follows there = ⊎_elim
     (λ (later : Contains (launches_of moves) l). planned-new plan moves l follows.1 later)
     (member-cases (record { tag = tag; outcome = o }) (launches_of moves) l there)
 
--- the driver of the pool stands at the pool's place
+-- the driver of the pool is at the pool's place
 record DrivesPool (players : List Player) (n : ℕ) (player : Player) (pool : PoolId) : Type 0 where
   place : ℕ
   driving : Driving

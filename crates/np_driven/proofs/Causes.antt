@@ -68,7 +68,7 @@ module _ (c : Configuration) (history : List Entry) (work : Work) where
     pub new : StartsWith v.seen history
     pub made : (x : ℕ) → Contains v.mine x → Made c history work v.mine launches v.seen x
 
-  -- no entry more is one's own
+  -- no further entry is one's own
   pub quiet_made : (v u : Sight Entry) (launches more : List Launch) → Unturned v u → StartsWith more launches → HasMade v launches → HasMade u more
   quiet_made v u launches more s l h = record {
     new = starts_on u.seen v.seen history s.0 h.new;
@@ -88,7 +88,7 @@ module _ (c : Configuration) (history : List Entry) (work : Work) where
   made_before : (before : List Entry) (e : Entry) (v u : Sight Entry) (launches : List Launch) → Adds before e v u → HasMade v launches → (x : ℕ) → Contains v.mine x → Made c history work u.mine launches u.seen x
   made_before before e v u launches s h x k = made_later v.mine u.mine launches launches (length before ∷ [], s.2) (starts_equal launches launches refl) v.seen u.seen x (adds_seen before e v u s) (h.made x k)
 
-  -- an entry more is, with its cause
+  -- one more entry is, with its cause
   pub added_made : (before : List Entry) (e : Entry) (v u : Sight Entry) (launches : List Launch) → Adds before e v u → Cause before e u.mine launches → HasMade v launches → HasMade u launches
   added_made before e v u launches s k h = record {
     new = starts_on u.seen v.seen history (adds_seen before e v u s) h.new;

@@ -1,4 +1,4 @@
--- what the events of launches tell
+-- what the events of launches say
 use Rattle.std.proofs.Common.{◌≡◌, ⊎_elim, ℕ, true, Some, refl, sym, ap, arith}
 use Rattle.std.specs.Prelude.{◌==◌, ◌&&◌}
 use Rattle.std.proofs.lemmas.Bool.{and_parts}

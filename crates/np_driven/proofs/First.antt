@@ -29,7 +29,7 @@ use Rattle.np_driven.proofs.Roles.{role-stays, useful-start, useful-done}
 use Rattle.np_driven.proofs.Events.{start-parts, act-work}
 use Rattle.np_driven.proofs.New.{Cause}
 
--- an accepted start of the attempt, and where it stands
+-- an accepted start of the attempt, and where it is
 pub record BeginsAt (c : Configuration) (later : List Entry) (session : SessionId) (n : NodeId) (k : ℕ) (pool : PoolId) (earlier : List Entry) (begin : Entry) : Type 0 where
   pub rest : List Entry
   pub stands : later ≡ earlier ++ begin ∷ rest
@@ -61,11 +61,11 @@ module _ (c : Configuration) (later : List Entry) (runs : Runs c later (after c 
       }
 
   module _ (pool : PoolId) (earlier : List Entry) (begin : Entry) (start : BeginsAt c later session n k pool earlier begin) (b : List Entry) (u : Entry) (after_u : List Entry) (is : later ≡ b ++ u ∷ after_u) (o : Outcome) (event : u.event ≡ ev.Done session n k o) where
-    -- an accepted report stands after the start
+    -- an accepted report comes after the start
     pub after-accepted : is_ok (judge c (after c b) u.event) ≡ true → length earlier < length b
     after-accepted accepted = report-later c later (after c later) runs earlier begin start.rest b u after_u start.stands is session session n k start.first o start.event start.reply event accepted
 
-    -- so does one whose start stands before it
+    -- so does one whose start comes before it
     pub after-begun : (x y : List Entry) (w : Entry) → b ≡ x ++ w ∷ y → (by : SessionId) (m : ℕ) → w.event ≡ ev.Start by n → w.reply ≡ reply.Done (done.Started k m) → (earlier ≡ x) × (length earlier < length b)
     after-begun x y w inner by m started answered =
         let outer = split-outer b x y after_u u w later is inner in

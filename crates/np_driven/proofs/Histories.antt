@@ -51,7 +51,7 @@ rising_least a n xs h x k = All-contains (λ y. a ≤ y) xs x (All-from_recursio
 
 -- ## walks
 
--- the places of one's own rise from this one on, in a history that is at least so long
+-- the places of one's own rise from this one on, in a history that is at least that long
 abbrev pub Rises : ℕ → Sight Entry → Type 0
 Rises n v = (n ≤ length v.seen) × AreRising n v.mine (length v.seen)
 

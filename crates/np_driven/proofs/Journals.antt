@@ -38,7 +38,7 @@ module _ (c : Configuration) where
     pub driven-next : (journal : List Entry) (e : Entry) → DrivenBy says c journal → IsDrivenTurn says c (turns c journal) (turn_after c journal e) → DrivenBy says c (journal ++ e ∷ [])
     driven-next journal e h k = subst (DrivenFrom says c []) (sym (turns-append c (start c) journal (e ∷ []))) (driven-push [] (turns c journal) (turn_after c journal e) h k)
 
-    -- a tick after an entry that is none
+    -- a tick after an entry that is not a tick
     pub tick-driven : (journal : List Entry) (d e : Entry) → DrivenBy says c (journal ++ d ∷ []) → is_tick d.event ≡ false → e.event ≡ ev.Tick → DrivenBy says c ((journal ++ d ∷ []) ++ e ∷ [])
     tick-driven journal d e h other is = driven-next (journal ++ d ∷ []) e h (inr (inl (record {
       event = is;

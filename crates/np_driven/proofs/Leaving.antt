@@ -65,7 +65,7 @@ launched-stays (asked a t ∷ ms) now s h = launched-stays ms now s h
 launched-stays (launched tag o ∷ ms) now s h = launch-leaves tag o ms now s (launched-stays ms (with_launched tag o now) s) h.0 h.1 h.2
 launched-stays (removed x ∷ ms) now s h = elim (launched-stays ms (without_number x now) s h) [ inl k ↦ inl k | inr k ↦ inr (inr k) ]
 
--- so it is with each server of the round
+-- the same for each server of the round
 pub round-server_leaves : (ms : List Move) (now : List Server) (s : Server) → IsOfRound ms now s → (Contains (servers_after ms now) s) ⊎ WasRemoved s.number ms
 round-server_leaves ms now s (inl h) = stays_or_goes ms now s h
 round-server_leaves ms now s (inr h) = launched-stays ms now s h
@@ -96,7 +96,7 @@ module _ (c : Configuration) (pool : PoolId) (history : List Entry) (w : Sight E
   fewer-of_round : (x : ℕ) (now : List Server) → AreOfRound now → AreOfRound (without_number x now)
   fewer-of_round x now own = λ s h. own s (filtered-member (λ (server : Server). not (server.number == x)) now s h)
 
-  -- after an answer that nobody wants the server it is swept
+  -- after the answer that nobody wants the server, it is swept
   unwanted-swept : (before : List Entry) (p : PoolId) (n : NodeId) (x : ℕ) (t : Turn) (v u : Sight Entry) → answers_sweep c before p n x t → is_unwanted t ≡ true → Records (recorded (ask.Sweep p n x) t) before v u → is_swept n x (after c u.seen).swept ≡ true
   unwanted-swept before p n x (turn.Did e) v u h unwanted r =
       subst (λ (l : List Entry). is_swept n x (after c l).swept ≡ true) (sym r.0) (swept-after c before e h.2.session n x h.2.event h.0.unwanted h.3.reply unwanted)

@@ -51,7 +51,7 @@ module _ (c : Configuration) (before : List Entry) (entry : Entry) where
     pub next : Follows mine (length earlier) (length before)
     pub launched : Contains launches (record { tag = start.tag; outcome = outcome })
 
--- the entry at the place, after what it stood, and why
+-- the entry at the place, what came before it, and why it was made
 pub record Made (c : Configuration) (history : List Entry) (work : Work) (mine : List ℕ) (launches : List Launch) (seen : List Entry) (x : ℕ) : Type 0 where
   pub before : List Entry
   pub entry : Entry

@@ -22,7 +22,7 @@ same-cause : (c : Configuration) (stood before : List Entry) (entry e : Entry) (
 same-cause c stood before entry e work mine launches one two cause =
     subst₂ (λ (b : List Entry) (d : Entry). Cause c b d work mine launches) one two cause
 
--- whose end it is that the entry after the journal is of, and why it was made
+-- which end the entry after the journal belongs to, and why it was made
 pub record NewEntry (c : Configuration) (history : List Entry) (ends : List PlayerEnd) (before : List Entry) (e : Entry) : Type 0 where
   pub end : PlayerEnd
   pub there : Contains ends end
@@ -32,7 +32,7 @@ pub record NewEntry (c : Configuration) (history : List Entry) (ends : List Play
   pub named : All (AreNamed c history) (driving_in player.driving)
   pub cause : Cause c before e player.work end.sight.mine (launches_of plays.trace)
 
--- the entry of the place that was made is the one that stands there
+-- the entry that was made at the place is the one that is there
 same-entry : (later seen before rest stood r1 r2 : List Entry) (e entry : Entry) → later ≡ seen ++ r1 → seen ≡ (stood ++ entry ∷ []) ++ r2 → later ≡ before ++ e ∷ rest → length stood ≡ length before → (stood ≡ before) × (entry ≡ e)
 same-entry later seen before rest stood r1 r2 e entry one two three long =
     let a : (stood ++ entry ∷ []) ++ (r2 ++ r1) ≡ stood ++ (entry ∷ (r2 ++ r1)) = append_assoc stood (entry ∷ []) (r2 ++ r1) in

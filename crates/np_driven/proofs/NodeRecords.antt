@@ -47,13 +47,13 @@ pub record IsSteady (P : NodeRecord → Type 0) : Type 0 where
   pub taken_over : (tick : ℕ) (node : NodeRecord) → P node → P (used_from tick node)
   pub put : (c : Configuration) (s : State) (ch : Changes) (n : NodeId) (node kept : NodeRecord) → (node.in_flight ≡ true → is_building node.state ≡ true) → Way c s ch n node kept → P node → P kept
 
--- the number of the node was given before, and where the node stands its record is such (own)
+-- the number of the node was given before, and if the node exists its record is such (own)
 pub record IsGiven (n : NodeId) (P : NodeRecord → Type 0) (s : State) : Type 0 where
   pub given : n.0 < s.next_node
   pub holds : (node : NodeRecord) → node_in n s.nodes ≡ Some node → P node
 
 module _ (n : NodeId) (P : NodeRecord → Type 0) (steady : IsSteady P) where
-  -- where the node stands among these its record is such
+  -- if the node is among these, its record is such
   abbrev HoldsIn : List NodeEntry → Type 0
   HoldsIn rows = (node : NodeRecord) → node_in n rows ≡ Some node → P node
 
@@ -168,7 +168,7 @@ given-stays n P steady c journal more old = subst (IsGiven n P) (sym (state_afte
 
 -- ## attempts
 
--- so many launches of the node were begun: where it stands it has had as many attempts (own)
+-- this many launches of the node were begun: if it exists, it has had as many attempts (own)
 abbrev pub IsSpent : NodeId → ℕ → State → Type 0
 IsSpent n k s = IsGiven n (λ node. k ≤ node.attempts) s
 

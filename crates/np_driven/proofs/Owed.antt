@@ -49,14 +49,14 @@ pub record HasBegun (c : Configuration) (pool : PoolId) (s : Start) (v : Sight E
   pub act : answers_act c earlier (role.Launcher pool) (turn.Did begin)
   pub last : v.mine ≡ places ++ length earlier ∷ []
 
--- each of the servers was named, but the launch's, if it made one
+-- each of the servers was named, except the launch's, if it made one
 pub record AreNamedBut (c : Configuration) (s : Start) (o : Outcome) (journal : List Entry) (servers : List Server) : Type 0 where
   pub others : List Server
   pub all : servers ≡ with_launched s.tag o others
   pub named : All (WasNamed c journal) others
 
 module _ (c : Configuration) (work : Work) where
-  -- the worker may be in the phase, where it saw this and had these launches and servers
+  -- the worker may be in the phase, if it saw this and had these launches and servers
   abbrev pub Fits : Phase → Sight Entry → List Launch → List Server → Type 0
   Fits (acts r n) v launches servers = (work ≡ work_of r) × All (WasNamed c v.seen) servers
   Fits (owes_launch pool n s) v launches servers = (work ≡ of_pool pool) × HasBegun c pool s v × All (WasNamed c v.seen) servers

@@ -60,7 +60,7 @@ module _ (c : Configuration) (history : List Entry) (player : Player) (end : Pla
 
   -- ## the driver
 
-  -- what was had of the driver, where there is one
+  -- what the driver did, if there is one
   pub drives : (before now : Driving) → player.driving ≡ Some before → end.player.driving ≡ Some now → Drives p.trace before now
   drives before now h k = subst (λ (o : Option Driving). Drove p.trace (Some before) o) k (subst (λ (o : Option Driving). Drove p.trace o end.player.driving) h p.drove)
 

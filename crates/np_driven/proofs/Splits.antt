@@ -6,7 +6,7 @@ use Rattle.np_desk.specs.History.{AreRising}
 -- ## splits
 
 module _ {A : Type 0} where
-  -- what stands before a member, the member, and what follows it are known by the place
+  -- the place of a member determines what comes before it, the member, and what follows it
   pub same-split : (a b x y : List A) (d e : A) → a ++ d ∷ x ≡ b ++ e ∷ y → length a ≡ length b → (a ≡ b) × (d ≡ e) × (x ≡ y)
   same-split [] [] x y d e is long = (refl, cc, cc)
   same-split [] (v ∷ b) x y d e is long = absurd (omega arith)
@@ -18,7 +18,7 @@ module _ {A : Type 0} where
       let rest = same-split a b x y d e tail short in
       (cc (head, rest.0), rest.1, rest.2)
 
-  -- a member that stands early enough is one of the list's beginning
+  -- a member that comes early enough is in the beginning of the list
   pub split-within : (a b x y : List A) (d : A) → a ++ d ∷ x ≡ b ++ y → length a < length b → (z : List A) × (b ≡ a ++ d ∷ z)
   split-within a [] x y d is less = absurd (omega arith)
   split-within [] (v ∷ b) x y d is less = (b, cc)

@@ -35,7 +35,7 @@ answer-is (Err why) what is = absurd cc
 
 -- ## a start
 
--- the node stands and has had one attempt less than the one that begins
+-- the node exists, and has had one attempt less than the one that begins
 record Begins (s : State) (session : SessionId) (n : NodeId) (k : ℕ) : Type 0 where
   pool : PoolId
   node : NodeRecord
@@ -70,7 +70,7 @@ start-leads c s session n k m b ok =
     ∙ ap (λ (t : State). with_act (acting s (ev.Start session n)) t)
     (ap (λ (o : Result PoolId Refusal). after_given o s (start_by s n)) b.who ∙ ap (λ (o : Option NodeRecord). after_found o s (started s n b.pool)) b.stands)
 
--- the node's record that is put has had so many attempts
+-- the node's record that is put has had this many attempts
 put-had : (s : State) (session : SessionId) (n : NodeId) (k first : ℕ) (b : Begins s session n k) (node : NodeRecord) →
     node_in n (put_node n (record b.node { attempts = b.node.attempts + 1; in_flight = true; start = first }) s.nodes) ≡ Some node → k ≤ node.attempts
 put-had s session n k first b node is =

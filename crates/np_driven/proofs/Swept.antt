@@ -142,7 +142,7 @@ later-keeps c s (e ∷ journal) =
     let rest : KeepsSwept (next c s e.event) (state_after c (next c s e.event) journal) = later-keeps c (next c s e.event) journal in
     record { keeps = λ n x is. rest.keeps n x (first.keeps n x is) }
 
--- what is swept after a history is swept after each that goes on from it
+-- what is swept after a history is swept after each that continues it
 pub swept-stays : (c : Configuration) (seen before : List Entry) → StartsWith seen before → KeepsSwept (after c before) (after c seen)
 swept-stays c seen before h =
     subst (KeepsSwept (after c before)) (sym (ap (λ (l : List Entry). after c l) h.1 ∙ state_after-append c (start c) before h.0))

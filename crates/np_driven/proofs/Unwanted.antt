@@ -39,9 +39,9 @@ use Rattle.np_driven.proofs.Places.{turn_after, some-place, driven-at}
 use Rattle.np_driven.proofs.Starts.{done-spends}
 use Rattle.np_driven.proofs.Whereabouts.{kept-stay}
 
--- ## a record that does not want a server goes on so
+-- ## a record that does not want a server stays so
 
--- the record has not this server, and none is being launched for it
+-- the record does not have this server, and none is being launched for it
 abbrev Leaves : ℕ → NodeRecord → Type 0
 Leaves x node = (is_building node.state || is_server x node.server) ≡ false
 

@@ -79,7 +79,8 @@ module _ (c : Configuration) (history : List Entry) (work : Work) where
 
   -- ## the round
 
-  -- it made what it made with cause, and came to a phase that fits what was seen, its launches and the servers that are left
+  -- each entry it made has its cause, and it came to a phase that fits what was seen, its launches
+  -- and the servers that are left
   pub walk_stands : (ms : List Move) (p q : Phase) (v w : Sight Entry) (launches : List Launch) (servers : List Server) → Stands c history work p v launches servers → Walk answers c ms v w → Leads p ms q → ((pool : PoolId) → work ≡ of_pool pool → SweepsServers ms servers)
       → Stands c history work q w (launches ++ launches_of ms) (servers_after ms servers)
   walk_stands [] p q v w launches servers h k l s = subst (λ (ls : List Launch). Stands c history work q w ls servers) (sym (append-nil launches))

@@ -1,4 +1,4 @@
--- of which role the entries of a round are
+-- which role the entries of a round are of
 use Rattle.std.specs.Prelude.{◌≡◌, ◌++◌, ◌∷◌, [], ℕ, List, length, Some}
 use Rattle.np_text.specs.declared.id.SessionId.{SessionId}
 use Rattle.np_text.specs.declared.id.Role.{Role}

@@ -28,7 +28,7 @@ abbrev pub drivings_of : List Player → List Driving
 drivings_of [] = []
 drivings_of (player ∷ players) = driving_in player.driving ++ drivings_of players
 
--- a pool's worker is that of the pool of this number and has a driver; another has none (own)
+-- a pool's worker is that of the pool of this number and has a driver; any other has none (own)
 abbrev pub IsNumbered : ℕ → Work → Option Driving → Type 0
 IsNumbered n (of_pool pool) (Some driving) = pool.0 ≡ n
 IsNumbered n (of_pool pool) None = ⊥
@@ -42,7 +42,8 @@ next_number n (of_pool pool) = suc n
 next_number n (of_requester q) = n
 next_number n of_reaper = n
 
--- the pools' workers stand in the order of the pools, the first of them that of the pool of this number (own)
+-- the pools' workers are in the order of the pools, the first of them that of the pool of this
+-- number (own)
 abbrev pub AreNumbered : ℕ → List Player → Type 0
 AreNumbered n [] = Unit {0}
 AreNumbered n (player ∷ players) = IsNumbered n player.work player.driving × AreNumbered (next_number n player.work) players
@@ -52,7 +53,8 @@ AreNumbered n (player ∷ players) = IsNumbered n player.work player.driving × 
 abbrev pub launch_of : PoolId → NodeId → ℕ → ℕ → Outcome → Launch
 launch_of pool n attempt start o = record { tag = record { pool = pool; node = n; attempt = attempt; start = start }; outcome = o }
 
--- the pool's driver answered this to the launch, where it tells its answers, and as it planned to, where it plans (own)
+-- the pool's driver answered this to the launch, if it reports its answers, and as it planned to,
+-- if it plans (own)
 pub record WasAnswered (drivings : List Driving) (pool : PoolId) (n : NodeId) (attempt start : ℕ) (o : Outcome) : Type 0 where
   pub driving : Driving
   pub of_pool : slice_get drivings pool.0 ≡ Some driving
@@ -65,7 +67,7 @@ pub record WasAnswered (drivings : List Driving) (pool : PoolId) (n : NodeId) (a
 abbrev pub WasNamed : Configuration → List Entry → Server → Type 0
 WasNamed c journal server = SomeTurn (NamesServer server.tag.node server.number) (turns c journal)
 
--- the driver tells its servers, and each of them was named (own)
+-- the driver reports its servers, and each of them was named (own)
 pub record AreNamed (c : Configuration) (journal : List Entry) (driving : Driving) : Type 0 where
   pub servers : List Server
   pub told : driving.facts.servers ≡ Some servers

@@ -11,7 +11,8 @@ use Rattle.np_trace.specs.Phase.{Phase, Leads, first_phase, owes_report, ended}
 use Rattle.np_trace.specs.Walk.{Walk}
 use Rattle.np_driven.specs.Players.{Player}
 
--- a player after its round: what it saw and made of the history, and where its moves came to (own)
+-- a player after its round: what it saw and made of the history, and the phase that its moves led
+-- to (own)
 pub record PlayerEnd : Type 0 where
   pub player : Player
   pub sight : Sight Entry
@@ -21,7 +22,8 @@ pub record PlayerEnd : Type 0 where
 abbrev pub fresh_sight : List Entry → Sight Entry
 fresh_sight history = record { seen = history; mine = [] }
 
--- the player took the turns of its round, after this history, and had what it had of its driver (own)
+-- the player took the turns of its round, after this history, and its driver did what the moves say
+-- (own)
 pub record PlaysFrom (c : Configuration) (history : List Entry) (player : Player) (end : PlayerEnd) : Type 0 where
   pub trace : List Move
   pub walked : Walk answers c trace (fresh_sight history) end.sight
@@ -42,13 +44,15 @@ pub record IsMade (ends : List PlayerEnd) (x : ℕ) : Type 0 where
   pub there : Contains ends end
   pub made : Contains end.sight.mine x
 
--- the round was cut off: the report of a launch is still to come, or a turn was answered that the journal has no room (own)
+-- the round was cut off: the report of a launch is still to come, or a turn found no room in the
+-- journal (own)
 abbrev pub IsCutOff : Phase → Type 0
 IsCutOff (owes_report pool n s o) = Unit {0}
 IsCutOff ended = Unit {0}
 IsCutOff _ = ⊥
 
--- the players played a round, and the history went on by their entries alone. If the round of all was not cut off, none of theirs was (own)
+-- the players played a round, and only their entries were added to the history. If the round of all
+-- was not cut off, none of theirs was (own)
 pub record IsRound (c : Configuration) (history later : List Entry) (players now : List Player) (is_cut : Bool) : Type 0 where
   pub ends : List PlayerEnd
   pub plays : EachPlaysFrom c history players ends

@@ -23,13 +23,13 @@ use Rattle.np_driven.specs.Players.{Player, WasNamed}
 
 -- ## which servers
 
--- the player's driver tells its servers, and these are all that it has (own)
+-- the player's driver reports its servers, and these are all that it has (own)
 pub record HasServers (player : Player) (servers : List Server) : Type 0 where
   pub driving : Driving
   pub drives : player.driving ≡ Some driving
   pub told : driving.facts.servers ≡ Some servers
 
--- a launch of the round was answered this server (own)
+-- a launch of the round returned this server (own)
 abbrev pub WasLaunched : List Move → Server → Type 0
 WasLaunched trace server = Contains (launches_of trace)
     (record { tag = server.tag; outcome = outcome.Launched server.number })

@@ -1,10 +1,10 @@
 //! The journals that parties and their clouds drive: laws alone.
 //!
-//! np_useful says when a journal was driven (`Driven`, and `DrivenBy` over any clouds). Here stands
-//! that rounds of all players drive one. `specs/Players` says who plays and what is known of what
-//! they drive, `specs/Round` what a round of all players is, as lists of moves at one history
-//! (np_trace) and without threads, `specs/Servers` what became of a driver's servers in it,
-//! `specs/Makers` of which role its entries are. `law` states that such a round goes on with a driven
+//! np_useful says when a journal was driven (`Driven`, and `DrivenBy` over any clouds). The laws
+//! here say that rounds of all players drive one. `specs/Players` says who plays and what is known
+//! of what they drive, `specs/Round` what a round of all players is, as lists of moves at one
+//! history (np_trace) and without threads, `specs/Servers` what became of a driver's servers in it,
+//! `specs/Makers` which role its entries are of. `law` states that such a round continues a driven
 //! journal, that each entry is of its maker's role, and why servers left or stayed. np_rounds plays
 //! such rounds over threads.
 //!

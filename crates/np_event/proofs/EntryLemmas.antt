@@ -88,7 +88,7 @@ entry_in-line e has =
     ∙ ap (λ o. entry_from o (reply_in (words_of (reply_line e.reply)))) (event_in-words e.event has.event)
     ∙ ap (entry_from (Ok e.event)) (reply_in-words e.reply has.reply)
 
--- what is known of an entry that a line tells
+-- what is known of an entry that is read from a line
 pub record IsTold (line : List ℕ) (e : Entry) : Type 0 where
   pub has : HasEntryLine e
   pub says : entry_line e ≡ line

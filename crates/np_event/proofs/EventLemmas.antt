@@ -102,7 +102,7 @@ event_in-words e has =
     ∙ ap (with_fields F) (row_fields-texts (event_row F).kinds f has.words)
     ∙ ap Ok (event_again e has.role)
 
--- what the reading of a line tells
+-- what is known if a line was read
 fields_told : (F : EventForm) (o : Result Fields LineFault) (e : Event) → with_fields F o ≡ Ok e → (f : Fields) × (o ≡ Ok f) × (event_of F f ≡ e)
 fields_told F (Ok f) e answer = (f, refl, cc)
 fields_told F (Err fault) e answer = absurd (cc)
@@ -210,7 +210,7 @@ unknown_chosen rest None None answer = refl
 unknown_chosen rest None (Some H) answer = absurd (late_known rest H (event_row H).decided_at answer)
 unknown_chosen rest (Some A) headed answer = absurd (form_known A (row_fields (event_row A).kinds rest) (row_known (event_row A).kinds rest) answer)
 
--- the first word names no event exactly where it is the first word of no form
+-- the first word names no event if and only if it is the first word of no form
 pub unknown-unheaded : (first : List ℕ) (rest : List (List ℕ)) → event_in (first ∷ rest) ≡ Err UnknownEvent → (F : EventForm) → (event_row F).head ≡ first → ⊥
 unfolding event_in
 unknown-unheaded first rest answer F same =

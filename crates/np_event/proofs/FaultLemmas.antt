@@ -97,14 +97,14 @@ with_fields-fault : (F : EventForm) (o : Result Fields LineFault) (fault : LineF
 with_fields-fault F (Ok f) fault = (λ answer. absurd (cc), λ answer. absurd (cc))
 with_fields-fault F (Err other) fault = (λ answer. cc, λ answer. cc)
 
--- what holds of a fixed word holds of the word that stands in its place
+-- what holds of a fixed word holds of the word at its place
 at_fixed : (P : List ℕ → Type 0) (text fixed : List ℕ) (behind : Bool) → (bytes_eq text fixed && behind) ≡ true → P fixed → P text
 at_fixed P text fixed behind stands holds = subst P (sym (same_bytes text fixed (both_true (bytes_eq text fixed) behind stands).0)) holds
 
 abbrev Agrees : EventForm → List (List ℕ) → Type 0
 Agrees F rest = find (is_agreed (event_row F).head rest) event_forms ≡ Some F
 
--- the form whose first word and fixed words stand in a line is the line's
+-- a line's form is the one whose first word and fixed words it has
 agreed_form : (F : EventForm) (rest : List (List ℕ)) → stand (event_row F).kinds rest ≡ true → Agrees F rest
 unfolding event_forms
 agreed_form form.Tick rest stands = refl
@@ -230,7 +230,7 @@ undecided-count F rest decided none =
     let one = one_count F decided in
     (λ answer is. count.0 (same.0 (sym judged ∙ answer)) (is ∙ sym one), λ other. judged ∙ same.1 (count.1 (λ is. other (is ∙ one))))
 
--- `open` alone has forms of one count that a word tells apart
+-- only `open` has forms of one count that a word distinguishes
 no_role : (rest : List (List ℕ)) → IsOfNoForm (codes "open") rest → length rest ≡ 2 → row_fields (event_row form.OpenLauncher).kinds rest ≡ Err (BadArgument 2)
 no_role [] none count = absurd (omega arith)
 no_role (w ∷ []) none count = absurd (omega arith)

@@ -156,7 +156,7 @@ same_bytes xs ys same = (bytes_eq-Decides xs ys).0 same
 pub bytes_eq-refl : (xs : List ℕ) → bytes_eq xs xs ≡ true
 bytes_eq-refl xs = (bytes_eq-Decides xs xs).1 refl
 
--- an ending that is told is no withdrawn job's
+-- an ending that a reply reports is no withdrawn job's
 told_ending-told : (o : Option Ending) (e : Ending) → told_ending o ≡ Some e → (o ≡ Some e) × (e ≢ ending.Withdrawn)
 told_ending-told None e answer = absurd (cc)
 told_ending-told (Some ending.Served) e answer = (answer, λ withdrawn. cc)
@@ -170,7 +170,7 @@ told_ending-other ending.Lost other = refl
 told_ending-other ending.Failed other = refl
 told_ending-other ending.Withdrawn other = absurd (other refl)
 
--- what the first of two tells, and what a value of another type tells
+-- what follows from a value of the first of two, and from a value of another type
 or-told : {A : Type 0} (o p : Option A) (x : A) (P : Type 0) → (o ≡ Some x → P) → (p ≡ Some x → P) → option_or o p ≡ Some x → P
 or-told None p x P first second is = second is
 or-told (Some y) p x P first second is = first is
@@ -237,7 +237,7 @@ with_field-told kind.Found text f g answer = said kind.Found text f _ (found_of 
 
 -- ## Saying a word
 
--- the fields that a line tells
+-- the fields that a line says
 abbrev pub told_fields : Fields → Fields
 told_fields f = record f { found = told_found f.found }
 
@@ -284,7 +284,7 @@ with_field-text kind.End f g has = ap (option_map (λ e. record g { end = e })) 
 with_field-text kind.Ending f g has = ap (λ o. option_map (λ e. record g { ending = e }) (told_ending o)) (ending_words.reads_back f.ending) ∙ ap (option_map (λ e. record g { ending = e })) (told_ending-other f.ending has)
 with_field-text kind.Found f g has = ap (option_map (λ s. record g { found = s })) (found_of-text f.found)
 
--- ## A word fits where some value is said so
+-- ## A word fits if some value has it
 
 pub with_field-unsaid : (k : Kind) (text : List ℕ) (f : Fields) → with_field k text f ≡ None → (g : Fields) → HasWord k g → field_text k g ≡ text → ⊥
 with_field-unsaid k text f none g has says =

@@ -123,7 +123,7 @@ fields_told : (set : Fields → Reply) (o : Result Fields LineFault) (r : Reply)
 fields_told set (Ok f) r answer = (f, refl, some_injective (set f) r answer)
 fields_told set (Err fault) r answer = absurd (cc)
 
--- what is known of a reply that words tell
+-- what is known of a reply that is read from words
 pub record Tells (words : List (List ℕ)) (r : Reply) : Type 0 where
   pub has : HasReplyLine r
   pub says : words_of (reply_line r) ≡ words
@@ -176,7 +176,7 @@ pub inside-reply_line : (r : Reply) → HasReplyLine r → list_all is_inside (r
 inside-reply_line (reply.Done d) has = inside-row_line (done_row d) (done_fields d) (done_plain d) has
 inside-reply_line (reply.Refused r) has = inside-row_line (refusal_row r) (refusal_fields r) (refusal_plain r) has
 
--- what a line tells has the same line
+-- a reply, as its line is read, has the same line
 pub reply_line-told : (r : Reply) → reply_line (told r) ≡ reply_line r
 reply_line-told (reply.Refused (no.WrongState (found.Node node.Failed))) = refl
 reply_line-told r = refl

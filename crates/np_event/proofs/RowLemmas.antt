@@ -9,7 +9,7 @@ use Rattle.np_event.specs.declared.kind.Kind.{Kind}
 use Rattle.np_event.specs.declared.kind.Kind.TheVariants as kind
 use Rattle.np_event.specs.Reading.{fields_from}
 
--- where the words run out
+-- if the words run out
 pub fields_from-no_word : (place : ℕ) (kinds : List Kind) (at : ℕ) (words : List (List ℕ)) (f : Fields) → at < length kinds → slice_get words 0 ≡ None
     → fields_from place (drop at kinds) words f ≡ Err WrongCount
 fields_from-no_word place kinds at words f within none =

@@ -127,7 +127,7 @@ no_spaces (x ∷ xs) plain =
     let parts = both_true (is_plain x) (list_all is_plain xs) plain in
     All-cons (λ b. is_space b ≡ false) x xs (not_space x parts.0) (no_spaces xs parts.1)
 
--- the words of a row's line are its head and what is said behind it
+-- the words of a row's line are its head and what follows it
 pub words_of-spaced : (head : List ℕ) (kinds : List Kind) (f : Fields) → list_all is_plain head ≡ true → HaveWords kinds f
     → words_of (head ++ flat_map (λ k. 32 ∷ field_text k f) kinds) ≡ head ∷ map (λ k. field_text k f) kinds
 words_of-spaced head [] f plain has = ap words_of (append-nil head) ∙ slice_split_none is_space head (no_spaces head plain)

@@ -15,7 +15,7 @@ use Rattle.np_event.specs.declared.kind.Fixed.TheVariants as fixed
 use Rattle.np_event.specs.declared.kind.Kind.TheVariants as kind
 use Rattle.np_event.specs.Row.{Row, row, decided, blank}
 
--- the first word, and what stands behind it
+-- the first word, and what follows it
 abbrev pub event_row : EventForm → Row
 event_row form.Tick = row (codes "tick") []
 event_row form.OpenLauncher = row (codes "open") (kind.Fixed (fixed.Role role_kind.Launcher) ∷ kind.Pool ∷ [])
@@ -136,6 +136,6 @@ event_parts (ev.FailDeclined s r) = (form.FailDeclined, record blank { session =
 event_parts (ev.Sweep s n x) = (form.Sweep, record blank { session = s; node = n; server = x })
 event_parts (ev.OpenSession role.Reaper) = (form.Tick, blank)
 
--- all forms; where no form with a line's first word agrees with it, the first of them is taken
+-- all forms; if no form with a line's first word agrees with it, the first of them is taken
 unfoldable pub event_forms : List EventForm
 event_forms = EVENT_FORMS

@@ -1,4 +1,4 @@
--- Which fault a line has, told by the lines that there are.
+-- Which fault a line has, defined by the lines that exist.
 use Rattle.std.specs.Prelude.{◌≡◌, ℕ, zero, suc, false, List, [], ◌∷◌}
 use Rattle.np_event.specs.declared.event_form.EventForm.{EventForm}
 use Rattle.np_event.specs.declared.kind.Fields.{Fields}
@@ -18,6 +18,6 @@ IsFirstUnfit (kind ∷ kinds) (text ∷ rest) (suc place) = Says kind text × Is
 IsFirstUnfit (kind ∷ kinds) [] place = ⊥
 IsFirstUnfit [] rest place = ⊥
 
--- the fixed words of no form that begins with this word stand in the rest of the line
+-- the rest of the line has the fixed words of no form that begins with this word
 abbrev pub IsOfNoForm : List ℕ → List (List ℕ) → Type 0
 IsOfNoForm first rest = (form : EventForm) → (event_row form).head ≡ first → stand (event_row form).kinds rest ≡ false

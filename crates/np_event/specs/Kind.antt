@@ -1,4 +1,4 @@
--- What may stand at a place of a line, and its one spelling (own).
+-- What may be at a place of a line, and its one spelling (own).
 use Rattle.std.specs.Prelude.{◌≢◌, ℕ, ◌^◌, ◌<◌, ◌≤◌, ◌==◌, if◌then◌else◌, List, [], ◌∷◌, codes, Option, Some, None}
 use Rattle.std.specs.Fmt.{decimal}
 use Rattle.std.specs.Option.{option_map, option_or}
@@ -20,7 +20,7 @@ use Rattle.np_event.specs.declared.reply.Found.TheVariants as found
 
 -- ## Words of a few spellings
 
--- the words that tell the forms of an event apart
+-- the words that distinguish the forms of an event
 abbrev pub fixed_text : Fixed → List ℕ
 fixed_text (fixed.Role kind) = role_kind_word kind
 fixed_text (fixed.Reason kind) = reason_kind_word kind
@@ -41,7 +41,7 @@ in_flight_of text = if bytes_eq text (codes "in-flight") then Some found.InFligh
 unfoldable pub found_of : List ℕ → Option Found
 found_of text = option_or (option_or (option_or (option_map found.Request (request_state_of text)) (in_flight_of text)) (option_map found.Node (node_state_of text))) (option_map found.Job (phase_of text))
 
--- an ending that a reply may tell: of no withdrawn job
+-- an ending that a reply may report: not that of a withdrawn job
 abbrev pub told_ending : Option Ending → Option Ending
 told_ending (Some ending.Withdrawn) = None
 told_ending ending = ending
@@ -52,14 +52,14 @@ told_ending ending = ending
 abbrev pub lettered : ℕ → ℕ → List ℕ
 lettered letter n = letter ∷ decimal n
 
--- the number behind this letter, where it is at most max
+-- the number after this letter, if it is at most max
 abbrev pub number_behind : ℕ → ℕ → List ℕ → Option ℕ
 number_behind letter max [] = None
 number_behind letter max (c ∷ cs) = if c == letter then number_of max cs else None
 
 -- ## Kinds
 
--- how a line says what stands at a place
+-- how a line says what is at a place
 abbrev pub field_text : Kind → Fields → List ℕ
 field_text (kind.Fixed word) f = fixed_text word
 field_text kind.Session f = lettered 115 f.session.0
@@ -103,7 +103,7 @@ HasWord kind.End f = Unit {0}
 HasWord kind.Ending f = f.ending ≢ ending.Withdrawn
 HasWord kind.Found f = Unit {0}
 
--- the fields with what this word says, where it fits its place
+-- the fields with what this word says, if it fits its place
 abbrev pub with_field : Kind → List ℕ → Fields → Option Fields
 with_field (kind.Fixed word) text f = if bytes_eq text (fixed_text word) then Some f else None
 with_field kind.Session text f = option_map (λ n. record f { session = record { 0 = n } }) (number_behind 115 NUMBER text)

@@ -43,16 +43,19 @@ pub record HasEventLine (e : Event) : Type 0 where
 abbrev pub is_headed : List ℕ → EventForm → Bool
 is_headed first form = bytes_eq first (event_row form).head
 
--- the form's first word and its fixed words stand in the line
+-- the line has the form's first word and its fixed words
 abbrev pub is_agreed : List ℕ → List (List ℕ) → EventForm → Bool
 is_agreed first rest form = is_headed first form && stand (event_row form).kinds rest
 
--- no form of this first word agrees. Where a later word chooses the form, too few words reach it, or it is unknown there; else the forms have one count, and the first of them is taken, so that the count and then the words are judged by it
+-- no form of this first word agrees. If a later word chooses the form, too few words reach it, or
+-- it is unknown there; otherwise the forms have one count, and the first of them is taken, so that
+-- the count and then the words are judged by it
 abbrev pub undecided : EventForm → List (List ℕ) → Option ℕ → Result EventForm LineFault
 undecided form rest None = Ok form
 undecided form rest (Some place) = if nat_le place (length rest) then Err (BadArgument (place + 1)) else Err WrongCount
 
--- the first form that agrees; else the first that begins so, if it may be taken; else no event has this name
+-- the first form that agrees; otherwise the first that begins so, if it may be taken; otherwise no
+-- event has this name
 abbrev pub chosen : List (List ℕ) → Option EventForm → Option EventForm → Result EventForm LineFault
 chosen rest (Some agreed) headed = Ok agreed
 chosen rest None (Some headed) = undecided headed rest (event_row headed).decided_at
@@ -67,7 +70,7 @@ abbrev pub with_fields : EventForm → Result Fields LineFault → Result Event 
 with_fields form (Ok f) = Ok (event_of form f)
 with_fields form (Err fault) = Err fault
 
--- the event of the words behind the first, by their form
+-- the event of the words after the first, by their form
 abbrev pub with_form : List (List ℕ) → Result EventForm LineFault → Result Event LineFault
 with_form rest (Ok form) = with_fields form (row_fields (event_row form).kinds rest)
 with_form rest (Err fault) = Err fault
@@ -83,7 +86,7 @@ event_in (first ∷ rest) = with_form rest (event_form_of first rest)
 abbrev pub done_line : Done → List ℕ
 done_line d = row_line (done_row d) (done_fields d)
 
--- what stands behind the word `refused`
+-- what follows the word `refused`
 abbrev pub refusal_line : Refusal → List ℕ
 refusal_line r = row_line (refusal_row r) (refusal_fields r)
 
@@ -92,7 +95,7 @@ abbrev pub reply_line : Reply → List ℕ
 reply_line (reply.Done d) = done_line d
 reply_line (reply.Refused r) = codes "refused " ++ refusal_line r
 
--- a reply has a line: its requests have three digits, and it tells of no withdrawn job
+-- a reply has a line: its requests have three digits, and it reports no withdrawn job
 abbrev pub HasReplyLine : Reply → Type 0
 HasReplyLine (reply.Done d) = HaveWords (done_row d).kinds (done_fields d)
 HasReplyLine (reply.Refused r) = HaveWords (refusal_row r).kinds (refusal_fields r)
@@ -105,17 +108,17 @@ is_headed_done first form = bytes_eq first (done_row form).head
 abbrev pub is_headed_refusal : List ℕ → Refusal → Bool
 is_headed_refusal first form = bytes_eq first (refusal_row form).head
 
--- the reply of a done form and the words behind its first
+-- the reply of a done form and the words after its first
 abbrev pub done_with : List (List ℕ) → Option Done → Option Reply
 done_with rest None = None
 done_with rest (Some form) = option_map (λ f. reply.Done (done_of form f)) (result_ok (row_fields (done_row form).kinds rest))
 
--- the reply of a refusal's form and the words behind its first
+-- the reply of a refusal's form and the words after its first
 abbrev pub refusal_with : List (List ℕ) → Option Refusal → Option Reply
 refusal_with rest None = None
 refusal_with rest (Some form) = option_map (λ f. reply.Refused (refusal_of form f)) (result_ok (row_fields (refusal_row form).kinds rest))
 
--- the refusal of the words behind `refused`
+-- the refusal of the words after `refused`
 abbrev pub refusal_in : List (List ℕ) → Option Reply
 refusal_in [] = None
 refusal_in (first ∷ rest) = refusal_with rest (find (is_headed_refusal first) refusal_forms)
@@ -125,7 +128,8 @@ unfoldable pub reply_in : List (List ℕ) → Option Reply
 reply_in [] = None
 reply_in (first ∷ rest) = if bytes_eq first (codes "refused") then refusal_in rest else done_with rest (find (is_headed_done first) done_forms)
 
--- the reply that a line tells: a failed node and a failed request have one word, and it tells of the request
+-- the reply as its line is read: a failed node and a failed request share one word, which is read
+-- as the request's
 abbrev pub told : Reply → Reply
 told (reply.Refused (no.WrongState found)) = reply.Refused (no.WrongState (told_found found))
 told other = other
@@ -136,28 +140,28 @@ told other = other
 abbrev pub entry_line : Entry → List ℕ
 entry_line e = event_line e.event ++ codes " = " ++ reply_line e.reply
 
--- the entry that a line tells
+-- the entry as its line is read
 abbrev pub told_entry : Entry → Entry
 told_entry e = record { event = e.event; reply = told e.reply }
 
--- an entry has a line where its event and its reply have one
+-- an entry has a line if its event and its reply have one
 pub record HasEntryLine (e : Entry) : Type 0 where
   pub event : HasEventLine e.event
   pub reply : HasReplyLine e.reply
 
--- ` = ` stands here
+-- ` = ` is here
 abbrev pub begins_reply : List ℕ → Bool
 begins_reply [] = false
 begins_reply (a ∷ []) = false
 begins_reply (a ∷ b ∷ []) = false
 begins_reply (a ∷ b ∷ c ∷ rest) = (a == 32) && (b == 61) && (c == 32)
 
--- what stands before and behind the first ` = `
+-- what comes before and after the first ` = `
 unfoldable pub sides_of : List ℕ → Option (List ℕ × List ℕ)
 sides_of [] = None
 sides_of (b ∷ bs) = if begins_reply (b ∷ bs) then Some ([], drop 3 (b ∷ bs)) else behind (b ∷ []) (sides_of bs)
 
--- the entry of an event and a reply, where both were read
+-- the entry of an event and a reply, if both were read
 abbrev pub entry_from : Result Event LineFault → Option Reply → Option Entry
 entry_from (Ok event) (Some reply) = Some (record { event = event; reply = reply })
 entry_from (Ok event) None = None

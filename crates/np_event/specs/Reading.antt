@@ -10,23 +10,24 @@ use Rattle.np_event.specs.declared.kind.Kind.TheVariants as kind
 use Rattle.np_event.specs.Kind.{HasWord, field_text, fixed_text, with_field}
 use Rattle.np_event.specs.Row.{Row, blank}
 
--- a fixed word stands at its place; other kinds are not asked
+-- a fixed word is at its place; other kinds are not checked
 abbrev pub stands : Kind → Option (List ℕ) → Bool
 stands (kind.Fixed word) (Some text) = bytes_eq text (fixed_text word)
 stands (kind.Fixed word) None = false
 stands other text = true
 
--- all fixed words stand at their places
+-- all fixed words are at their places
 abbrev pub stand : List Kind → List (List ℕ) → Bool
 stand [] words = true
 stand (kind ∷ kinds) words = stands kind (slice_get words 0) && stand kinds (drop 1 words)
 
--- the fields with what the word at a place says: nothing where there is no word, else the fields where it fits
+-- the fields with what the word at a place says: nothing if there is no word, otherwise the fields
+-- if it fits
 abbrev pub field_at : Kind → Option (List ℕ) → Fields → Option (Option Fields)
 field_at kind None f = None
 field_at kind (Some text) f = Some (with_field kind text f)
 
--- what is answered at a place: the count is wrong, the word does not fit, or the reading goes on
+-- the answer at a place: the count is wrong, the word does not fit, or reading continues
 abbrev pub fitting : (Fields → Result Fields LineFault) → ℕ → Option (Option Fields) → Result Fields LineFault
 fitting next place None = Err WrongCount
 fitting next place (Some None) = Err (BadArgument place)

@@ -1,5 +1,5 @@
--- The forms of replies, one row for each. A refusal's row stands behind the word `refused` (own).
--- A reply stands for its form too: its values do not count there.
+-- The forms of replies, one row for each. A refusal's row comes after the word `refused` (own).
+-- A reply also represents its form: its values do not count there.
 use Rattle.std.specs.Prelude.{List, [], ◌∷◌, codes}
 use Rattle.np_text.specs.declared.word.RequestState.TheVariants as request
 use Rattle.np_text.specs.declared.word.NodeState.TheVariants as node
@@ -16,7 +16,7 @@ use Rattle.np_event.specs.Row.{Row, row, blank}
 
 -- ## Done
 
--- the first word, and what stands behind it
+-- the first word, and what follows it
 abbrev pub done_row : Done → Row
 done_row done.Plain = row (codes "ok") []
 done_row (done.Session s) = row (codes "session") (kind.Session ∷ [])
@@ -55,7 +55,7 @@ done_forms = DONE_FORMS
 
 -- ## Refused
 
--- the first word behind `refused`, and what stands behind it
+-- the first word after `refused`, and what follows it
 abbrev pub refusal_row : Refusal → Row
 refusal_row no.NoSession = row (codes "no-session") []
 refusal_row no.Expired = row (codes "expired") []
@@ -125,9 +125,9 @@ refusal_fields form = blank
 unfoldable pub refusal_forms : List Refusal
 refusal_forms = REFUSAL_FORMS
 
--- ## What a line tells
+-- ## What a line says
 
--- a failed node and a failed request have one word, and it tells of the request
+-- a failed node and a failed request share one word, which is read as the request's
 abbrev pub told_found : Found → Found
 told_found (found.Node node.Failed) = found.Request request.Failed
 told_found found = found

@@ -1,4 +1,4 @@
--- A form of a line: its first word, and what stands behind it.
+-- A form of a line: its first word, and what follows it.
 use Rattle.std.specs.Prelude.{ℕ, List, Option, Some, None}
 use Rattle.np_text.specs.declared.word.EndAs.TheVariants as end
 use Rattle.np_text.specs.declared.word.Ending.TheVariants as ending
@@ -11,7 +11,8 @@ use Rattle.np_event.specs.declared.reply.Found.TheVariants as found
 pub record Row : Type 0 where
   pub head : List ℕ
   pub kinds : List Kind
-  -- which of the words behind the first chooses among the forms of this first word, where these have different counts of words
+  -- which of the words after the first chooses among the forms of this first word, if these have
+  -- different counts of words
   pub decided_at : Option ℕ
 
 -- the row of a first word and of kinds, which no later word chooses

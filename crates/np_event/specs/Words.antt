@@ -10,7 +10,7 @@ is_space b = b == 32
 abbrev pub words_of : List ℕ → List (List ℕ)
 words_of line = slice_split is_space line
 
--- the words of the rest of a line, where there is a rest
+-- the words of the rest of a line, if there is a rest
 abbrev pub left_of : Option (List ℕ) → List (List ℕ)
 left_of None = []
 left_of (Some rest) = words_of rest

@@ -10,8 +10,8 @@ pub enum Outcome {
     Failed,
 }
 
-/// One event of the machine. All but `Tick`, `OpenSession`, `Crash` and `Expire` have a maker, the
-/// session that they name first.
+/// One event of the machine. All except `Tick`, `OpenSession`, `Crash` and `Expire` have a maker,
+/// the session that they name first.
 #[derive(Clone, Copy, Debug, PartialEq, Eq)]
 pub enum Event {
     Tick,

@@ -57,7 +57,7 @@ pub(crate) enum EventForm {
 
 use EventForm as Form;
 
-/// All forms, as the lines of the table stand.
+/// All forms, in the order of the table's lines.
 pub(crate) const EVENT_FORMS: [EventForm; 37] = [
     Form::Tick,
     Form::OpenLauncher,
@@ -98,7 +98,7 @@ pub(crate) const EVENT_FORMS: [EventForm; 37] = [
     Form::Sweep,
 ];
 
-/// The first word, and what stands behind it.
+/// The first word, and what follows it.
 pub(crate) fn event_row(form: EventForm) -> Row
     ensures head { result.head.now ≡ (event_row form).head }
     ensures kinds { result.kinds.now ≡ (event_row form).kinds }

@@ -1,4 +1,4 @@
-//! What stands at a place of a line, read and written.
+//! What is at a place of a line, read and written.
 ghost use Rattle.std.specs.Prelude.{◌≡◌, ℕ, ◌≤◌, ◌↔◌, ◌++◌, IsTrue, IfSome, OnOk, OnErr};
 ghost use Rattle.std.specs.Io.{StartsWith};
 ghost use Rattle.std.specs.Option.{option_map};
@@ -36,7 +36,7 @@ fn found_text(found: Found) -> &'static str
     }
 }
 
-/// No reply tells of a withdrawn job.
+/// No reply reports a withdrawn job.
 fn read_ending(text: &[u8]) -> Option<Ending>
     ensures { result ≡ told_ending (ending_of text.now) }
 {
@@ -125,7 +125,7 @@ fn put_behind(out: &mut Vec<u8>, letter: u8, n: u64) -> Result<(), NoMemory>
     put_number(out, n)
 }
 
-/// The fields with what a word says, where it fits its place.
+/// The fields with what a word says, if it fits its place.
 pub(crate) fn with_field(kind: Kind, text: &[u8], fields: Fields) -> Option<Fields>
     ensures { result ≡ with_field kind text.now fields }
 {
@@ -158,7 +158,7 @@ pub(crate) fn with_field(kind: Kind, text: &[u8], fields: Fields) -> Option<Fiel
     Some(more)
 }
 
-/// Appends what a line says at a place. After want of memory a part of it may stand.
+/// Appends what a line says at a place. If memory runs out, a part of it may have been appended.
 pub(crate) fn put_field(out: &mut Vec<u8>, kind: Kind, fields: &Fields) -> Result<(), NoMemory>
     requires { HasWord kind fields.now }
     ensures ok { OnOk result (out.new.items ≡ out.old.items ++ field_text kind fields.now) }

@@ -1,4 +1,4 @@
-//! What may stand at a place of a line.
+//! What may be at a place of a line.
 
 use crate::reply::Found;
 use np_text::{
@@ -6,7 +6,7 @@ use np_text::{
     RequesterId, RoleKind, SemId, SessionId,
 };
 
-/// A word behind the first that has one spelling, and tells the forms of an event apart.
+/// A word after the first that has one spelling and distinguishes the forms of an event.
 #[derive(Clone, Copy)]
 pub(crate) enum Fixed {
     Role(RoleKind),
@@ -15,7 +15,7 @@ pub(crate) enum Fixed {
     Failed,
 }
 
-/// What stands at a place of a line. A line has each kind at most once.
+/// What is at a place of a line. A line has each kind at most once.
 #[derive(Clone, Copy)]
 pub(crate) enum Kind {
     Fixed(Fixed),
@@ -46,7 +46,7 @@ pub(crate) enum Kind {
     Instances,
     Cores,
     Ram,
-    /// What a node is left as.
+    /// The state in which a node is left.
     End,
     /// How a job ended.
     Ending,

@@ -17,8 +17,8 @@ ghost use Rattle.np_event.specs.Line.{HasEntryLine, HasEventLine, entry_in, entr
 ghost use Rattle.np_event.specs.Reading.{stand};
 ghost use Rattle.np_event.specs.Words.{words_of};
 
-/// An event that has a line has one, and no two events share it: the line reads as the event, and
-/// no other line does.
+/// An event that has a line has exactly one, and no two events share one: the line reads as the
+/// event, and no other line does.
 pub fn an_event_has_one_line()
     ensures reads_back { (e : Event) → HasEventLine e → event_in (words_of (event_line e)) ≡ Ok e }
     ensures spelled { (line : List ℕ) (e : Event) → event_in (words_of line) ≡ Ok e →
@@ -27,8 +27,8 @@ pub fn an_event_has_one_line()
         event_line a ≡ event_line b → a ≡ b }
 {}
 
-/// An entry that has a line has one, and it tells the entry: all of it, but that a failed node
-/// looks like a failed request. No two entries share a line, but for that.
+/// An entry that has a line has exactly one, and the line determines the entry, except that a
+/// failed node looks like a failed request. Except for that, no two entries share a line.
 pub fn an_entry_has_one_line()
     ensures reads_back { (e : Entry) → HasEntryLine e →
         entry_in (entry_line e) ≡ Some (told_entry e) }
@@ -47,8 +47,8 @@ pub fn a_line_is_one_line()
     ensures no_bar { (e : Entry) → HasEntryLine e → bytes_eq (entry_line e) bar ≡ false }
 {}
 
-/// The first word names no event exactly where no form begins with it, and a word does not fit its
-/// place exactly where no value is said so.
+/// The first word names no event if and only if no form begins with it, and a word does not fit its
+/// place if and only if no value of its kind has that word.
 pub fn faults_are_told_by_the_lines()
     ensures unknown { (first : List ℕ) (rest : List (List ℕ)) →
         (event_in (first ∷ rest) ≡ Err UnknownEvent)
@@ -57,10 +57,10 @@ pub fn faults_are_told_by_the_lines()
         (with_field kind text f ≡ None) ↔ ¬ (Says kind text) }
 {}
 
-/// Where the first word and the fixed words of a form stand in a line, that form judges it. The
-/// count of words comes first: any other count than the form's is the fault, whatever the words
-/// are. Then the first word from the left that says no value of its kind is named, by its number in
-/// the line, which counts from 1.
+/// If a line has the first word and the fixed words of a form, that form judges it. The count of
+/// words comes first: any other count than the form's is the fault, whatever the words are. Then
+/// the first word from the left that says no value of its kind is named, by its number in the line,
+/// which counts from 1.
 pub fn a_line_is_judged_by_its_form()
     ensures count { (form : EventForm) (rest : List (List ℕ)) →
         stand (event_row form).kinds rest ≡ true →
@@ -74,8 +74,8 @@ pub fn a_line_is_judged_by_its_form()
         × IsFirstUnfit (event_row form).kinds rest place)) }
 {}
 
-/// Where a form begins with the first word, but the fixed words of no such form stand in the line,
-/// the fixed word is missing or unknown.
+/// If a form begins with the first word, but the line has the fixed words of no such form, the
+/// fixed word is missing or unknown.
 pub fn a_fixed_word_decides_the_form()
     // The forms have different counts, and one word decides which is the line's: it is judged before
     // the count.

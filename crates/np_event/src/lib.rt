@@ -1,12 +1,12 @@
 //! Events, replies and entries, and the one line that each has.
 //!
-//! `event_form` and `reply_form` are the tables: one row for each shape of a line, its first word and
-//! the kinds of word behind it. `kind` and `field` say what stands at a place, `row` reads and writes
-//! by a row, and `line` does so with whole lines. Read `specs/EventForm`, `specs/Kind` and
-//! `specs/Line`, and then `law`, which says too what a fault means.
+//! `event_form` and `reply_form` are the tables: one row for each shape of a line, with its first
+//! word and the kinds of word after it. `kind` and `field` say what may be at a place, `row` reads
+//! and writes by a row, and `line` reads and writes whole lines. Read `specs/EventForm`,
+//! `specs/Kind` and `specs/Line`, and then `law`, which also says what a fault means.
 //!
-//! A line tells its event wholly. It tells its entry but for one word: `failed` is a request's state
-//! and a node's, and is read as the request's.
+//! A line determines its event. It determines its entry except for one word: `failed` is a state of
+//! a request and of a node, and is read as the request's.
 #![tactic(auto)]
 
 mod entry;

@@ -113,11 +113,11 @@ fn row_fields(kinds: &[Kind], rest: Option<&[u8]>) -> Result<Fields, LineFault>
     }
 }
 
-/// The event of a line, where the line is its one spelling, and else the first fault.
+/// The event of a line, if the line is its one spelling, and otherwise the first fault.
 ///
 /// The first word decides the form; for `decline` and `done` the fourth or fifth word does too, and
-/// is judged with it. Then the count of words is judged, and then each word from the left. Takes no
-/// memory, and time in the line's length.
+/// is judged with it. Then the count of words is judged, and then each word from the left. It takes
+/// no memory, and its time grows with the line's length.
 #[tactic(auto, unfolding(crate::specs::Line::event_in))]
 pub fn read_event(line: &[u8]) -> Result<Event, LineFault>
     ensures answer { result ≡ event_in (words_of line.now) }
@@ -192,7 +192,7 @@ fn begins_reply(text: &[u8]) -> bool
     matches!(text, [b' ', b'=', b' ', ..])
 }
 
-/// What stands before and behind the first ` = `.
+/// What comes before and after the first ` = `.
 #[tactic(auto, using(crate::proofs::SideLemmas::siding))]
 fn sides_of(line: &[u8]) -> Option<(&[u8], &[u8])>
     ensures { option_map (λ sides. (sides.0.now, sides.1.now)) result ≡ sides_of line.now }
@@ -206,10 +206,10 @@ fn sides_of(line: &[u8]) -> Option<(&[u8], &[u8])>
     None
 }
 
-/// The entry of a line that [`put_entry`] writes, and `None` for all else. Takes no memory, and
-/// time in the line's length.
+/// The entry of a line that [`put_entry`] writes, and `None` for any other line. It takes no
+/// memory, and its time grows with the line's length.
 ///
-/// A failed node and a failed request have one word, and it is read as the request's.
+/// A failed node and a failed request share one word, which is read as the request's.
 #[tactic(auto, unfolding(crate::specs::Line::entry_in))]
 pub fn read_entry(line: &[u8]) -> Option<Entry>
     ensures answer { result ≡ entry_in line.now }
@@ -272,8 +272,8 @@ fn opens_no_reaper(event: Event) -> bool
     }
 }
 
-/// Whether an event has a line: a reaper's session has none, nor a request whose priority has not
-/// three digits, nor a relative priority above the largest of a job.
+/// Whether an event has a line: a reaper's session has none, nor has a request whose priority is
+/// not of three digits, nor a relative priority above the largest of a job.
 pub fn event_has_line(event: Event) -> bool
     ensures { IsTrue result ↔ HasEventLine event }
 {

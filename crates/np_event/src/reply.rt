@@ -4,7 +4,7 @@ use np_text::{
     Ending, LabelId, NodeId, NodeState, Phase, RequestId, RequestState, SemId, SessionId,
 };
 
-/// What an accepted event is answered.
+/// The answer to an accepted event.
 #[derive(Clone, Copy, Debug, PartialEq, Eq)]
 pub enum Done {
     Plain,
@@ -18,7 +18,7 @@ pub enum Done {
     Started { attempt: u8, start: u32 },
     /// The maker is first in the queue.
     Held,
-    /// How many stand before the maker in the queue.
+    /// How many sessions are before the maker in the queue.
     Queued { ahead: u32 },
     /// The server is still wanted.
     Keep,
@@ -38,7 +38,7 @@ pub enum Found {
     Job(Phase),
 }
 
-/// A no, by the first test that failed.
+/// A refusal, by the first test that failed.
 #[derive(Clone, Copy, Debug, PartialEq, Eq)]
 pub enum Refusal {
     NoSession,
@@ -64,7 +64,7 @@ pub enum Refusal {
     /// The label.
     NoLabel(LabelId),
     NeverFits,
-    /// The pool's count now.
+    /// The pool's current count.
     QuotaShort {
         instances: u64,
         cores: u64,
@@ -85,7 +85,7 @@ pub enum Refusal {
     Spent,
     /// The journal has no room. Never recorded.
     Full,
-    /// The count now of the job's tenant.
+    /// The current count of the job's tenant.
     TenantShort {
         instances: u64,
         cores: u64,

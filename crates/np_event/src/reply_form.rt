@@ -1,6 +1,6 @@
-//! The forms of replies, one row for each; a refusal's row stands behind the word `refused`. A new
+//! The forms of replies, one row for each; a refusal's row comes after the word `refused`. A new
 //! refusal is one more row in each table here, and one in each table of `specs/ReplyForm`.
-//! A reply stands for its form too: the tables go by the variant, and its values do not count.
+//! A reply also represents its form: the tables go by the variant and ignore its values.
 ghost use Rattle.std.specs.Prelude.{◌≡◌, ◌≤◌, length};
 ghost use Rattle.np_event.specs.Row.{blank};
 ghost use Rattle.np_event.specs.ReplyForm.{done_of, done_fields, done_row, refusal_fields, refusal_of, refusal_row};
@@ -68,7 +68,7 @@ pub(crate) const REFUSAL_FORMS: [Refusal; 29] = [
     Refusal::TenantNeverFits,
 ];
 
-/// The first word, and what stands behind it. It goes by the reply's form alone.
+/// The first word, and what follows it. It depends on the reply's form alone.
 pub(crate) fn done_row(form: Done) -> Row
     ensures head { result.head.now ≡ (done_row form).head }
     ensures kinds { result.kinds.now ≡ (done_row form).kinds }
@@ -128,7 +128,7 @@ pub(crate) fn done_fields(done: Done) -> Fields
     }
 }
 
-/// The first word behind `refused`, and what stands behind it. It goes by the refusal's form alone.
+/// The first word after `refused`, and what follows it. It depends on the refusal's form alone.
 pub(crate) fn refusal_row(form: Refusal) -> Row
     ensures head { result.head.now ≡ (refusal_row form).head }
     ensures kinds { result.kinds.now ≡ (refusal_row form).kinds }

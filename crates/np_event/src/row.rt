@@ -1,4 +1,4 @@
-//! A form's row: lines are read and written by it.
+//! A form's row, by which lines are read and written.
 ghost use Rattle.std.specs.Prelude.{◌≡◌, ◌≤◌, ◌↔◌, ◌++◌, ◌∷◌, length, IsTrue, OnOk, OnErr};
 ghost use Rattle.std.specs.Io.{StartsWith};
 ghost use Rattle.std.specs.List.{flat_map};
@@ -14,18 +14,18 @@ use crate::kind::{BLANK, Fields, Kind};
 use crate::words::next_word;
 use np_text::NoMemory;
 
-/// A form of a line: its first word, and what stands behind it.
+/// A form of a line: its first word, and what follows it.
 #[derive(Clone, Copy)]
 pub(crate) struct Row {
     pub head: &'static [u8],
     pub kinds: &'static [Kind],
-    /// Which of the words behind the first chooses among the forms of this first word, where these
-    /// have different counts of words.
+    /// Which of the words after the first chooses among the forms of this first word, if these have
+    /// different counts of words.
     pub decided_at: Option<u32>,
 }
 
 impl Row {
-    /// A row that no word behind the first chooses.
+    /// A row that no word after the first chooses.
     pub(crate) fn of(head: &'static [u8], kinds: &'static [Kind]) -> Row
         ensures { result ≡ record { head = head.entry; kinds = kinds.entry; decided_at = None } }
     {
@@ -48,7 +48,7 @@ impl Row {
     }
 }
 
-/// Whether a fixed word stands at its place. Other kinds are not asked.
+/// Whether a fixed word is at its place. Other kinds are not checked.
 fn stands(kind: Kind, text: Option<&[u8]>) -> bool
     ensures { result ≡ stands kind (option_copied text.entry) }
 {
@@ -59,7 +59,7 @@ fn stands(kind: Kind, text: Option<&[u8]>) -> bool
     }
 }
 
-/// Whether all fixed words stand at their places.
+/// Whether all fixed words are at their places.
 pub(crate) fn stand(kinds: &[Kind], words: Option<&[u8]>) -> bool
     ensures { result ≡ stand kinds.now (left_of (option_copied words.entry)) }
 {
@@ -74,7 +74,7 @@ pub(crate) fn stand(kinds: &[Kind], words: Option<&[u8]>) -> bool
     true
 }
 
-/// The fields that the words behind the first one say.
+/// The fields that the words after the first one say.
 pub(crate) fn read_fields(kinds: &[Kind], words: Option<&[u8]>) -> Result<Fields, LineFault>
     requires { length kinds.now ≤ 16 }
     ensures { result ≡ fields_from 2 kinds.now (left_of (option_copied words.entry)) blank }

@@ -9,7 +9,7 @@ fn first_space(text: &[u8]) -> Option<usize>
     text.iter().position(|byte| *byte == b' ')
 }
 
-/// The first word, and the rest of the line where there is one.
+/// The first word, and the rest of the line if there is one.
 pub(crate) fn split_word(text: &[u8]) -> (&[u8], Option<&[u8]>)
     ensures { words_of text.now ≡ result.0.now ∷ left_of (option_copied result.1) }
 {
@@ -22,7 +22,7 @@ pub(crate) fn split_word(text: &[u8]) -> (&[u8], Option<&[u8]>)
     }
 }
 
-/// The next word of the rest of a line, and the rest behind it.
+/// The next word of the rest of a line, and the rest after it.
 pub(crate) fn next_word(rest: Option<&[u8]>) -> (Option<&[u8]>, Option<&[u8]>)
     ensures word { option_copied result.0 ≡ slice_get (left_of (option_copied rest.entry)) 0 }
     ensures rest { left_of (option_copied result.1) ≡ drop 1 (left_of (option_copied rest.entry)) }

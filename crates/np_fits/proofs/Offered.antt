@@ -1,4 +1,4 @@
--- what a pool uses, summed over its offers in place of its nodes
+-- what a pool uses, summed over its offers instead of its nodes
 use Rattle.std.proofs.Common.{◌≡◌, ◌<◌, ◌≤◌, ℕ, zero, suc, ◌*◌, List, [], ◌∷◌, length, get_or, take, map, Bool, true, false, refl, sym, ◌∙◌, ap, subst, arith}
 use Rattle.std.specs.Prelude.{◌==◌, find, filter}
 use Rattle.std.specs.List.{list_any}
@@ -19,29 +19,29 @@ use Rattle.np_machine.specs.Entries.{NodeEntry}
 use Rattle.np_machine.specs.Count.{offers_of, amount_of, is_kind, number_of}
 use Rattle.np_fits.specs.Fits.{AmountFits, AllApart, OffersFit}
 
--- what a node of the label takes by these offers
+-- what a node of the label takes according to these offers
 abbrev amount_by : List Offer → LabelId → Amount
 amount_by offers l = option_map_or (λ o. o.amount) (find (λ o. o.label.0 == l.0) offers) nothing
 
--- what the pool's nodes take by these offers
+-- what the pool's nodes take according to these offers
 abbrev used_by : List Offer → PoolId → List NodeEntry → Amount
 used_by offers p nodes = total (map (λ e. amount_by offers e.kept.label) (filter (λ e. e.kept.pool.0 == p.0) nodes))
 
--- so many times the most that an offer can take
+-- `n` times the most that an offer can take
 abbrev pub most_of : ℕ → Amount
 most_of n = record { instances = n * 1000000; cores = n * 1000000; ram = n * 1000000 }
 
 -- ## numbers
 
--- no more nodes are of the pool and the label than there are
+-- the nodes of the pool and the label are at most all nodes
 pub number_bound : (p : PoolId) (l : LabelId) (nodes : List NodeEntry) → number_of p l nodes ≤ length nodes
 number_bound p l nodes = omega (arith, length-filter (is_kind p l) nodes, count_by-le-length (is_kind p l) nodes)
 
--- as much for one more
+-- one time more adds the amount once
 times-suc : (n : ℕ) (a : Amount) → times (suc n) a ≡ plus a (times n a)
 times-suc n a = same_amount _ _ (omega (arith, suc-mul n a.instances)) (omega (arith, suc-mul n a.cores)) (omega (arith, suc-mul n a.ram))
 
--- no more than for the most nodes, each with the most that an offer can take
+-- at most the amount for the most nodes, each with the most that an offer can take
 times_bound : (n most : ℕ) (a : Amount) → n ≤ most → AmountFits a → IsAtMost (times n a) (most_of most)
 times_bound n most a few fits = record {
   instances = mul-le n a.instances most 1000000 few fits.instances;
@@ -59,12 +59,12 @@ no_offer (o ∷ offers) l k same none =
     let rest : list_any (λ x. x.label.0 == l) offers ≡ false = grind (arith, nat_tests) in
     rw other (no_offer offers l k same rest)
 
--- a node more, of the pool and the offer's label, of another label, or of another pool
+-- one more node: of the pool and the offer's label, of another label, or of another pool
 module _ (o : Offer) (offers : List Offer) (p : PoolId) (alone : list_any (λ x. x.label.0 == o.label.0) offers ≡ false) where
   abbrev Splits : List NodeEntry → Type 0
   Splits nodes = used_by (o ∷ offers) p nodes ≡ plus (times (number_of p o.label nodes) o.amount) (used_by offers p nodes)
 
-  -- what the offers take, what the others take, and how many are of the label, one node later
+  -- what the offers take, what the others take, and how many are of the label, after one more node
   splits-by : (e : NodeEntry) (nodes : List NodeEntry) (first second : Amount) (n : ℕ) → used_by (o ∷ offers) p (e ∷ nodes) ≡ plus first (used_by (o ∷ offers) p nodes) →
       used_by offers p (e ∷ nodes) ≡ plus second (used_by offers p nodes) → number_of p o.label (e ∷ nodes) ≡ n → plus first (times (number_of p o.label nodes) o.amount) ≡ plus (times n o.amount) second →
       Splits nodes → Splits (e ∷ nodes)
@@ -96,7 +96,7 @@ module _ (o : Offer) (offers : List Offer) (p : PoolId) (alone : list_any (λ x.
 
 -- ## all offers
 
--- without offers nothing is taken
+-- nothing is taken if there are no offers
 no_offers : (nodes : List NodeEntry) → total (map (λ e. amount_by [] e.kept.label) nodes) ≡ nothing
 no_offers [] = refl
 no_offers (e ∷ nodes) = nothing-plus _ ∙ no_offers nodes
@@ -106,19 +106,19 @@ total_by : (offers : List Offer) (p : PoolId) (nodes : List NodeEntry) → AllAp
 total_by [] p nodes apart = sym (no_offers (filter (λ e. e.kept.pool.0 == p.0) nodes))
 total_by (o ∷ offers) p nodes apart = ap (plus (times (number_of p o.label nodes) o.amount)) (total_by offers p nodes apart.1) ∙ sym (splits o offers p apart.0 nodes)
 
--- what a pool's nodes take is for each of its offers so much for each node of its label
+-- what a pool's nodes take is the sum, over its offers, of the amount for each node of the label
 pub offered_total : (c : Configuration) (p : PoolId) → OffersFit (offers_of c p) → (nodes : List NodeEntry) →
     total (map (λ o. times (number_of p o.label nodes) o.amount) (offers_of c p)) ≡ total (map (λ e. amount_of c p e.kept.label) (filter (λ e. e.kept.pool.0 == p.0) nodes))
 offered_total c p fit nodes = total_by (offers_of c p) p nodes fit.apart
 
--- so over all of the offers that a loop has passed
+-- the same for a loop that has passed all of the offers
 pub passed_total : (c : Configuration) (p : PoolId) → OffersFit (offers_of c p) → (nodes : List NodeEntry) (i : ℕ) → length (offers_of c p) ≤ i →
     total (map (λ o. times (number_of p o.label nodes) o.amount) (take i (offers_of c p))) ≡ total (map (λ e. amount_of c p e.kept.label) (filter (λ e. e.kept.pool.0 == p.0) nodes))
 passed_total c p fit nodes i all = ap (λ (offers : List Offer). total (map (λ o. times (number_of p o.label nodes) o.amount) offers)) (take_all i (offers_of c p) all) ∙ offered_total c p fit nodes
 
 -- ## bounds
 
--- a total over the nodes that pass, where none takes more than an offer can
+-- a total over the nodes that pass, if none takes more than an offer can
 total_bound : (f : NodeEntry → Amount) → ((e : NodeEntry) → AmountFits (f e)) → (test : NodeEntry → Bool) (nodes : List NodeEntry) → IsAtMost (total (map f (filter test nodes))) (most_of (length nodes))
 total_bound f small test [] = record { instances = omega arith; cores = omega arith; ram = omega arith }
 total_bound f small test (e ∷ nodes) = by (test e) refl (small e) (total_bound f small test nodes) where
@@ -126,12 +126,12 @@ total_bound f small test (e ∷ nodes) = by (test e) refl (small e) (total_bound
   by true is one rest = rw is (record { instances = omega arith; cores = omega arith; ram = omega arith })
   by false is one rest = rw is (record { instances = omega arith; cores = omega arith; ram = omega arith })
 
--- what a pool's nodes take is no more than as many as all nodes may take
+-- a pool's nodes take at most what all nodes can take
 pub used_bound : (c : Configuration) (p : PoolId) → ((l : LabelId) → AmountFits (amount_of c p l)) → (nodes : List NodeEntry) →
     IsAtMost (total (map (λ e. amount_of c p e.kept.label) (filter (λ e. e.kept.pool.0 == p.0) nodes))) (most_of (length nodes))
 used_bound c p small nodes = total_bound (λ e. amount_of c p e.kept.label) (λ e. small e.kept.label) (λ e. e.kept.pool.0 == p.0) nodes
 
--- an offer at a place has another label, where none has this one
+-- an offer at a place has another label, if none has this one
 other_at : (l : ℕ) (offers : List Offer) (i : ℕ) (d : Offer) → list_any (λ o. o.label.0 == l) offers ≡ false → i < length offers → (l == (get_or offers i d).label.0) ≡ false
 other_at l [] i d none within = absurd (omega arith)
 other_at l (o ∷ offers) zero d none within = grind (arith, nat_tests)

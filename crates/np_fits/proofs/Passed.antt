@@ -1,4 +1,4 @@
--- what an accepted event says of the state before it
+-- what an accepted event implies for the state before it
 use Rattle.std.proofs.Common.{◌≡◌, ℕ, true, false, arith, Some, None, Ok}
 use Rattle.std.specs.Prelude.{not, ◌&&◌}
 use Rattle.std.proofs.lemmas.Bool.Decides.{nat_tests}

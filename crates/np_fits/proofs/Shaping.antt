@@ -136,7 +136,7 @@ length-in_use tick (k ∷ numbers) nodes = length-in_use tick numbers (change_fi
 
 -- ## handles
 
--- one job more at most, and none more where it is there
+-- at most one more job, and no more if it is there already
 record Room (j : JobId) (n : ℕ) (jobs : List JobId) : Type 0 where
   all : length jobs ≤ suc n
   room : is_among j jobs ≡ false → length jobs ≤ n
@@ -219,7 +219,7 @@ struck_by : (a n : ℕ) (counted : Bool) (deeds : RoleRecord) → Deeds a n deed
 struck_by a n true deeds old = record { acts = old.acts; starts = omega (arith, old.starts); strikes = omega (arith, old.strikes) }
 struck_by a n false deeds old = record { acts = old.acts; starts = omega (arith, old.starts); strikes = omega (arith, old.strikes) }
 
--- a strike more at most; the roles' records before it have the lower bound
+-- at most one more strike; the roles' records before it have the lower bound
 pub struck : (c : Configuration) (a n : ℕ) (counted : Bool) (role : Role) (launchers janitors requesters : List RoleRecord) → AllByRecursion (Deeds a n) launchers → AllByRecursion (Deeds a n) janitors → AllByRecursion (Deeds a n) requesters → (s : State) → Shaped c a (suc n) s → Shaped c a (suc n) (record s {
   launchers = change_launcher (struck_unless counted) role launchers;
   janitors = change_janitor (struck_unless counted) role janitors;

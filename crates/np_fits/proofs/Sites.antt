@@ -20,7 +20,7 @@ use Rattle.np_fits.specs.Fits.{AmountFits, AllApart, OffersFit, JobRowFits, IsFi
 
 -- ## rows by place
 
--- what each row says holds of the one at a place
+-- what each row implies holds for the one at a place
 row_at : {T : Type 0} (Q : T → Type 0) (P : List T → T → Type 0) → ((e : List T) (x : T) → P e x → Q x) → (earlier xs : List T) → EachAfter P earlier xs → (i : ℕ) → IfSome (slice_get xs i) Q
 row_at Q P says earlier [] each i = tt
 row_at Q P says earlier (x ∷ xs) each zero = says earlier x each.0
@@ -41,7 +41,7 @@ found_by : {T : Type 0} (Q : T → Type 0) (x : T) (rest : Option T) (passes : B
 found_by Q x rest true here later = here
 found_by Q x rest false here later = later
 
--- what each row says holds of the first that passes
+-- what each row implies holds for the first that passes
 row_found : {T : Type 0} (Q : T → Type 0) (P : List T → T → Type 0) → ((e : List T) (x : T) → P e x → Q x) → (test : T → Bool) (earlier xs : List T) → EachAfter P earlier xs → IfSome (find test xs) Q
 row_found Q P says test earlier [] each = tt
 row_found Q P says test earlier (x ∷ xs) each = found_by Q x (find test xs) (test x) (says earlier x each.0) (row_found Q P says test (earlier ++ x ∷ []) xs each.1)
@@ -62,7 +62,7 @@ one_more k e o none =
     let both = either_fails (list_any (λ x. k == x.label.0) e) (list_any (λ x. k == x.label.0) (o ∷ [])) (sym (list_any-append (λ x. k == x.label.0) e (o ∷ [])) ∙ none) in
     (both.0, (either_fails (k == o.label.0) false both.1).0)
 
--- where an earlier offer has the label, none of the others has it
+-- if an earlier offer has the label, none of the others has it
 later_offers : (labels l : ℕ) (e offers : List Offer) → ((k : ℕ) → list_any (λ x. k == x.label.0) e ≡ false → (k == l) ≡ false) → EachAfter (IsOffer labels) e offers → list_any (λ x. x.label.0 == l) offers ≡ false
 later_offers labels l e [] there each = refl
 later_offers labels l e (o ∷ offers) there each =
@@ -70,7 +70,7 @@ later_offers labels l e (o ∷ offers) there each =
     let rest : list_any (λ x. x.label.0 == l) offers ≡ false = later_offers labels l (e ++ o ∷ []) offers (λ k none. there k (one_more k e o none).0) each.1 in
     rw (first, rest) refl
 
--- an offer's label is that of no later one, since each later one has a new label
+-- no later offer has an offer's label, since each later one has a new label
 all_apart : (labels : ℕ) (e offers : List Offer) → EachAfter (IsOffer labels) e offers → AllApart offers
 all_apart labels e [] each = tt
 all_apart labels e (o ∷ offers) each =

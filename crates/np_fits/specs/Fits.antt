@@ -21,7 +21,7 @@ use Rattle.np_machine.specs.Reasons.{ready_age}
 use Rattle.np_machine.specs.Tables.{role_of}
 use Rattle.np_machine.specs.State.{State}
 
--- no number passes that of a full journal's entries
+-- no number exceeds the number of entries of a full journal
 abbrev pub most : ℕ
 most = 262144
 
@@ -35,7 +35,7 @@ pub record RequestFits (c : Configuration) (s : State) (e : RequestEntry) : Type
   pub queue : length e.queue ≤ most
   pub labels : length e.kept.labels ≤ 32
   pub nodes : length e.kept.nodes ≤ length e.kept.labels
-  -- where a pool has not declined, there is room for its decline
+  -- if a pool has not declined, there is room for its decline
   pub declined : (p : PoolId) → p.0 < length c.pools → is_declined_by p e.kept.declined ≡ false → length e.kept.declined < 64
 
 pub record NodeFits (s : State) (e : NodeEntry) : Type 0 where
@@ -43,7 +43,7 @@ pub record NodeFits (s : State) (e : NodeEntry) : Type 0 where
   pub queue : length e.queue ≤ most
   pub since : e.kept.since ≤ s.tick
   pub start : e.kept.start ≤ most
-  -- a node that may be started again has attempts left, of 16 at most
+  -- a node that may be started again has attempts left, at most 16
   pub attempts : (is_building e.kept.state && not e.kept.in_flight) ≡ true → e.kept.attempts < 16
 
 pub record JobFits (job : JobRecord) : Type 0 where
@@ -55,7 +55,7 @@ pub record AmountFits (a : Amount) : Type 0 where
   pub cores : a.cores ≤ 1000000
   pub ram : a.ram ≤ 1000000
 
--- what so many offers take together
+-- an amount that `many` offers can take together
 pub record IsFew (sum : Amount) (many : ℕ) : Type 0 where
   pub instances : sum.instances ≤ many * 1000000
   pub cores : sum.cores ≤ many * 1000000
@@ -66,7 +66,7 @@ abbrev pub AllApart : List Offer → Type 0
 AllApart [] = Unit {0}
 AllApart (o ∷ offers) = (list_any (λ other. other.label.0 == o.label.0) offers ≡ false) × AllApart offers
 
--- a pool's offers, as the configuration bounds them: not too many, and each of a label of its own
+-- a pool's offers, as the configuration bounds them: not too many, and each with its own label
 pub record OffersFit (offers : List Offer) : Type 0 where
   pub few : length offers ≤ 256
   pub apart : AllApart offers
@@ -104,11 +104,11 @@ pub record Fits (c : Configuration) (s : State) : Type 0 where
   pub offers : (p : PoolId) → OffersFit (offers_of c p)
   pub job_rows : (j : JobId) (job : Job) → slice_get c.jobs j.0 ≡ Some job → JobRowFits job
 
--- what a configuration has to be so that each state that a run leads to fits
+-- what a configuration must be so that each state that a run leads to fits
 pub record IsFitSite (c : Configuration) : Type 0 where
   pub amounts : (p : PoolId) (l : LabelId) → AmountFits (amount_of c p l)
   pub retries : (p : PoolId) → retries_of c p ≤ 16
-  -- a node of each pool may be launched once at least
+  -- a node of each pool may be launched at least once
   pub some_retry : (p : PoolId) → p.0 < length c.pools → 0 < retries_of c p
   pub ready_ages : (l : LabelId) → ready_age c l ≤ 1000000
   pub hold_age : c.max_hold_age ≤ 1000000

@@ -22,7 +22,7 @@ drawn_labels-more k s = rw add-one (drawn_labels-suc k s)
 
 pub ruleset draws = (after_draws-more, drawn_labels-more)
 
--- before the first job, after another one, and behind the last
+-- before the first job, after one more, and after the last
 pub jobs_of-first : (q n : ℕ) (rows : List Job) → rows ++ jobs_of q (jobs_from (n - 0) 0 n) ≡ rows ++ jobs_of q (drawn_jobs n)
 jobs_of-first q n rows = let all : n - 0 ≡ n = omega arith in ap (λ (k : ℕ). rows ++ jobs_of q (jobs_from k 0 n)) all
 

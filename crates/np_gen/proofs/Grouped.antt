@@ -40,7 +40,7 @@ module _ {T : Type 0} (owner : T → ℕ) where
       sum (y ∷ ys) = grind (arith, nat_tests, sum ys)
 
 module _ {T : Type 0} (owner : T → ℕ) (P : List T → T → Type 0) where
-  -- the rows of a next owner, after those of the owners before it
+  -- the rows of the next owner, after those of the owners before it
   next_group : (k : ℕ) (old xs : List T) → All (λ y. owner y < k) old → EachAfter P [] (group owner k xs)
       → EachAfter (StandsByOwner owner P) [] old → EachAfter (StandsByOwner owner P) [] (old ++ group owner k xs)
   next_group k old xs less each before =

@@ -1,4 +1,4 @@
--- names of jobs: each is a name, and no two jobs have the same
+-- names of jobs: each is a name, and no two jobs have the same one
 use Rattle.std.proofs.Common.{◌≡◌, ℕ, ◌+◌, ◌<◌, ◌≤◌, Bool, true, false, List, [], ◌∷◌, length, refl, ap, ◌∙◌, arith}
 use Rattle.std.specs.Prelude.{nat_le, drop}
 use Rattle.std.specs.Char.{is_ascii_digit}

@@ -29,7 +29,7 @@ module _ {T : Type 0} (owner : T → ℕ) where
       let here : owner x < 4 = All-head (λ (y : T). owner y < 4) x xs owned in
       grind (arith, nat_tests, all_grouped xs (All-tail (λ (y : T). owner y < 4) x xs owned))
 
-  -- the groups have as many rows that pass a test as all rows have
+  -- as many rows pass a test in the groups as in all rows
   length-filter_groups : (p : T → Bool) (xs : List T) → All (λ y. owner y < 4) xs → length (filter p (groups owner xs)) ≡ length (filter p xs)
   length-filter_groups p xs owned =
       let same : (k : ℕ) → filter p (group owner k xs) ≡ group owner k (filter p xs) = λ k. commute p (λ y. owner y == k) xs in

@@ -134,7 +134,7 @@ length-jobs_from : (k i s : ℕ) → length (jobs_from k i s) ≡ k
 length-jobs_from zero i s = refl
 length-jobs_from (suc k) i s = omega (arith, length-jobs_from k (i + 1) (after_job i s))
 
--- ## what there is to give
+-- ## the supply
 
 label_stands : (earlier : List Label) (name : List ℕ) → is_name_text name ≡ true → list_any (λ (row : Label). bytes_eq name row.name) earlier ≡ false → IsLabel earlier (drill_label name)
 label_stands earlier name named new = record { name = record { named = named; new = new }; min_ready = lit≤ tt; max_ready_age = lit≤ tt }
@@ -252,7 +252,7 @@ semaphores_stand = (
   (semaphore_stands (record { name = codes "deploy"; max = 1 } ∷ []) (codes "stage") 2 (lit≤ tt) (lit≤ tt) refl refl, tt),
 )
 
--- ## who asks for it
+-- ## the requesters
 
 requester_stands : (earlier : List Requester) (name : List ℕ) → is_name_text name ≡ true → list_any (λ (row : Requester). bytes_eq name row.name) earlier ≡ false → IsRequester earlier (drill_requester name)
 requester_stands earlier name named new = record { name = record { named = named; new = new }; some = lit≤ tt; window = lit≤ tt }

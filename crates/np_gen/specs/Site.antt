@@ -15,7 +15,7 @@ use Rattle.np_site.specs.declared.row.Job.{Job}
 use Rattle.np_site.specs.Configuration.{Configuration}
 use Rattle.np_gen.specs.Draw.{next_state, draw, after_draws}
 
--- ## what there is to give
+-- ## the supply
 
 -- a label of which no node is kept ready, and none is removed for its age
 abbrev pub drill_label : List ℕ → Label
@@ -71,7 +71,7 @@ deploy = record { 0 = 0 }
 abbrev pub stage : SemId
 stage = record { 0 = 1 }
 
--- ## who asks for it
+-- ## the requesters
 
 -- a requester that works on eight jobs at the same time
 abbrev pub drill_requester : List ℕ → Requester
@@ -87,7 +87,7 @@ drill_requesters = drill_requester (codes "z0") ∷ drill_requester (codes "z1")
 abbrev pub is_large : ℕ → Bool
 is_large i = i % 10 == 9
 
--- how many labels another job asks for, by its first draw: one to three
+-- how many labels any other job asks for, by its first draw: one to three
 abbrev pub label_count : ℕ → ℕ
 label_count s = draw s % 3 + 1
 
@@ -104,15 +104,16 @@ job_labels i s = if is_large i then replicate 9 (label_at 0) else drawn_labels (
 abbrev pub drawn_priority : ℕ → ℕ
 drawn_priority d = if d % 3 == 0 then 100 else (if d % 3 == 1 then 200 else 300)
 
--- a large job has the normal priority, another one its drawn priority
+-- a large job has the normal priority, any other its drawn priority
 abbrev pub job_priority : ℕ → ℕ → ℕ
 job_priority i s = if is_large i then 200 else drawn_priority (draw (after_draws (label_count s + 1) s))
 
--- `deploy` for one value in eight, `stage` for another, and no semaphore for all else, by the draw after the priority
+-- `deploy` for one value in eight, `stage` for another, and no semaphore for the others, by the
+-- draw after the priority
 abbrev pub drawn_semaphores : ℕ → List SemId
 drawn_semaphores d = if d % 8 == 0 then deploy ∷ [] else (if d % 8 == 1 then stage ∷ [] else [])
 
--- a large job takes no semaphore, another one its drawn semaphores
+-- a large job takes no semaphore, any other its drawn semaphores
 abbrev pub job_semaphores : ℕ → ℕ → List SemId
 job_semaphores i s = if is_large i then [] else drawn_semaphores (draw (after_draws (label_count s + 2) s))
 
@@ -120,7 +121,7 @@ job_semaphores i s = if is_large i then [] else drawn_semaphores (draw (after_dr
 abbrev pub job_name : ℕ → List ℕ
 job_name i = codes "j" ++ decimal i
 
--- the job of a number; what is not drawn has its default
+-- the job with a number; what is not drawn has its default
 abbrev pub drill_job : ℕ → ℕ → Job
 drill_job i s = record {
   requester = record { 0 = i % 4 };

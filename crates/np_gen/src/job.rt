@@ -20,7 +20,7 @@ fn is_large(number: u32) -> bool
     number % 10 == 9
 }
 
-/// How many labels a job asks for, where it is not large.
+/// How many labels a job asks for if it is not large.
 fn label_count(state: u64) -> u64
     ensures { result ≡ label_count state }
 {
@@ -98,7 +98,7 @@ fn job_name(alloc: Global, number: u32) -> Result<Name, NoMemory>
     Ok(Name::new(name))
 }
 
-/// The job of a number, drawn at a state.
+/// The job with a number, drawn at a state.
 fn drill_job(alloc: Global, number: u32, state: u64) -> Result<Job, NoMemory>
     ensures { IfOk result (λ job. job ≡ drill_job number state) }
 {
@@ -125,7 +125,7 @@ fn after_job(number: u32, state: u64) -> u64
     after_draws(label_count(state) + 3, state)
 }
 
-/// Adds the job at the end where it is one of this requester.
+/// Adds the job at the end if it belongs to this requester.
 fn put_job_of(
     alloc: Global,
     requester: u32,

@@ -40,7 +40,7 @@ fn all_jobs(alloc: Global, jobs: u32) -> Result<Vec<Job>, NoMemory>
     Ok(rows)
 }
 
-/// The drill site with 1 to 4,000 jobs, which is the same each time that it is made. Running out of
+/// The drill site with 1 to 4,000 jobs, which is the same each time it is made. Running out of
 /// memory is the only error. The cost grows with the number of jobs.
 pub fn drill(alloc: Global, jobs: u32) -> Result<Config, NoMemory>
     requires { (1 ≤ jobs) × (jobs ≤ 4000) }

@@ -1,4 +1,4 @@
-//! What there is to give: labels, providers with their pools, and semaphores.
+//! The supply: labels, providers with their pools, and semaphores.
 
 ghost use Rattle.std.specs.Prelude.{◌≡◌, IfOk};
 ghost use Rattle.np_gen.specs.Site.{drill_label, drill_labels, drill_provider, drill_providers, drill_offer, drill_pool, drill_pools, drill_semaphores};

@@ -39,7 +39,7 @@ still s t is = record { same = ap overs is }
 itself : (s : State) → SameOver s s
 itself s = record { same = refl }
 
--- a job whose phase is over as it was
+-- a job that is over if and only if it was over before
 put-same : (jobs : List JobRecord) (i : ℕ) (kept put : JobRecord) → slice_get jobs i ≡ Some kept → is_over put.phase ≡ is_over kept.phase → overs (slice_set jobs i put) ≡ overs jobs
 put-same [] i kept put there as_it_was = refl
 put-same (first ∷ jobs) zero kept put there as_it_was = let here : first ≡ kept = cc in rw (as_it_was, here) refl
@@ -64,7 +64,7 @@ asked-open phase.Asked is = refl
 asked-open phase.Using is = absurd cc
 asked-open phase.Over is = absurd cc
 
--- a job that is not over goes on
+-- a job that is not over continues
 goes-on : (s t : State) (j : JobId) (kept put : JobRecord) → slice_get s.jobs j.0 ≡ Some kept → false ≡ is_over kept.phase → is_over put.phase ≡ false → t.jobs ≡ slice_set s.jobs j.0 put → SameOver s t
 goes-on s t j kept put stands unfinished later puts =
     record { same = ap overs puts ∙ put-same s.jobs j.0 kept put stands (later ∙ unfinished) }
@@ -132,7 +132,7 @@ effect-same c s (ev.FreeNode session n) what ok none = after_found-keeps (SameOv
 effect-same c s (ev.FailDeclined session r) what ok none = after_found-keeps (SameOver s) (request_in r s.requests) s (failed s r) (itself s) (λ request _. still s _ refl)
 effect-same c s (ev.Sweep session n x) what ok none = still s _ refl
 
--- where an event ends no job, the same jobs are over
+-- if an event ends no job, the same jobs are over
 pub later-same : (c : Configuration) (s t : State) (e : Event) → job_ended_by e ≡ None → IsLaterBy c s e t → overs t.jobs ≡ overs s.jobs
 later-same c s t e none (inr stays) = ap (λ (x : State). overs x.jobs) stays
 later-same c s t e none (inl is) =
@@ -142,7 +142,7 @@ later-same c s t e none (inl is) =
 
 -- ## an event that may end a job
 
--- the same jobs are over, or this one besides
+-- the same jobs are over, or this one as well
 pub record EndsOne (j : JobId) (s t : State) : Type 0 where
   pub either : (overs t.jobs ≡ overs s.jobs) ⊎ (overs t.jobs ≡ slice_set (overs s.jobs) j.0 true)
 
@@ -183,20 +183,20 @@ ended-at [] i = refl
 ended-at (kept ∷ jobs) zero = refl
 ended-at (kept ∷ jobs) (suc i) = ended-at jobs i
 
--- over already
+-- the job was over already
 set-again : (bs : List Bool) (i : ℕ) → option_map_or (λ over. over) (slice_get bs i) false ≡ true → slice_set bs i true ≡ bs
 set-again [] i is = refl
 set-again (b ∷ bs) zero is = rw is refl
 set-again (b ∷ bs) (suc i) is = ap (λ (rest : List Bool). b ∷ rest) (set-again bs i is)
 
--- not there
+-- the job does not exist
 set-past : (bs : List Bool) (i : ℕ) → option_map_or (λ over. over) (slice_get (slice_set bs i true) i) false ≡ false → slice_set bs i true ≡ bs
 set-past [] i is = refl
 set-past (b ∷ bs) zero is = absurd cc
 set-past (b ∷ bs) (suc i) is = ap (λ (rest : List Bool). b ∷ rest) (set-past bs i is)
 
 module _ (c : Configuration) (s t : State) (e : Event) (j : JobId) (is : job_ended_by e ≡ Some j) (step : IsLaterBy c s e t) where
-  -- it is over besides those that were
+  -- the job is over, in addition to those that were
   pub later-over : has_ended t j ≡ true → overs t.jobs ≡ slice_set (overs s.jobs) j.0 true
   later-over over = by (later-ends c s t e j is step).either where
     by : (overs t.jobs ≡ overs s.jobs) ⊎ (overs t.jobs ≡ slice_set (overs s.jobs) j.0 true) → overs t.jobs ≡ slice_set (overs s.jobs) j.0 true
@@ -205,7 +205,7 @@ module _ (c : Configuration) (s t : State) (e : Event) (j : JobId) (is : job_end
         sym (set-again (overs t.jobs) j.0 there) ∙ ap (λ (bs : List Bool). slice_set bs j.0 true) same
     by (inr set) = set
 
-  -- it is not, and nothing is over that was not
+  -- the job is not over, and no job is over that was not
   pub later-open : has_ended t j ≡ false → overs t.jobs ≡ overs s.jobs
   later-open open_is = by (later-ends c s t e j is step).either where
     by : (overs t.jobs ≡ overs s.jobs) ⊎ (overs t.jobs ≡ slice_set (overs s.jobs) j.0 true) → overs t.jobs ≡ overs s.jobs

@@ -1,4 +1,4 @@
--- the jobs of a requester that are not over, told by which jobs are over
+-- the jobs of a requester that are not over, determined by which jobs are over
 use Rattle.std.proofs.Common.{◌≡◌, ◌∙◌, ℕ, zero, suc, ◌+◌, ◌<◌, ◌≤◌, Bool, true, false, cond, List, [], ◌∷◌, ◌++◌, length, map, refl, sym, ap, arith}
 use Rattle.std.specs.Prelude.{◌==◌, ◌&&◌, not, slice_get, slice_set}
 use Rattle.std.specs.Option.{option_map_or}
@@ -20,7 +20,7 @@ overs jobs = map (λ kept. is_over kept.phase) jobs
 abbrev pub job_id : ℕ → JobId
 job_id n = record { 0 = n }
 
--- the job of this number is the requester's
+-- the job with this number is the requester's
 abbrev pub is_own : Configuration → RequesterId → ℕ → Bool
 is_own c q n = option_map_or (λ row. row.requester.0 == q.0) (slice_get c.jobs n) false
 
@@ -31,7 +31,7 @@ apart_too : (n m : ℕ) → m < n → (n == m) ≡ false
 apart_too n m less = grind (arith, nat_tests)
 
 module _ (c : Configuration) (q : RequesterId) where
-  -- the requester's jobs among these that are not over, the first of which has this number
+  -- the requester's jobs that are not over among these jobs, of which the first has this number
   abbrev pub open_from : ℕ → List Bool → List JobId
   open_from n [] = []
   open_from n (over ∷ rest) = cond (is_own c q n && not over) (job_id n ∷ open_from (suc n) rest) (open_from (suc n) rest)
@@ -66,7 +66,7 @@ module _ (c : Configuration) (q : RequesterId) where
     by false true = gone
     by false false = gone
 
-  -- where a job of this number is over, it is not among them any more
+  -- if the job with this number is over, it is no longer among them
   pub open-over : (n k m : ℕ) (bs : List Bool) → m ≡ n + k → remove_first (λ other. same_job other (job_id m)) (open_from n bs) ≡ open_from n (slice_set bs k true)
   open-over n k m [] is = refl
   open-over n zero m (over ∷ rest) is = over-here n m over rest (omega arith)
@@ -76,7 +76,7 @@ module _ (c : Configuration) (q : RequesterId) where
     by true later = rw (apart n m (omega arith)) (ap (λ (jobs : List JobId). job_id n ∷ jobs) later)
     by false later = later
 
-  -- where it is not the requester's, nothing changes
+  -- if the job is not the requester's, nothing changes
   pub open-other : (n k m : ℕ) (bs : List Bool) → m ≡ n + k → is_own c q m ≡ false → open_from n (slice_set bs k true) ≡ open_from n bs
   open-other n k m [] is other = refl
   open-other n zero m (over ∷ rest) is other =

@@ -48,7 +48,7 @@ here-list q r f lists within is =
     let same : r.0 ≡ q.0 = eqb-true r.0 q.0 is in
     subst (λ (i : ℕ). unwrap_or (slice_get (change_at r.0 f lists) i) [] ≡ f (unwrap_or (slice_get lists i) [])) same (within-by r.0 f lists within)
 
--- the list of a requester, by a change that adds nothing where there is none
+-- the list of a requester, by a change that adds nothing if there is no list
 here-list_or : (q r : RequesterId) (f : List JobId → List JobId) (lists : List (List JobId)) → f [] ≡ [] → (r.0 == q.0) ≡ true → list_of q (change_at r.0 f lists) ≡ f (list_of q lists)
 here-list_or q r f lists none is =
     let same : r.0 ≡ q.0 = eqb-true r.0 q.0 is in
@@ -116,7 +116,7 @@ module _ (c : Configuration) (s : State) (number : ℕ) (lists : List (List JobI
         let here : row.requester.0 < length c.requesters = subst (λ (j : Job). j.requester.0 < length c.requesters) same owned in
         omega (arith, here, made.many)
 
-    -- a job that goes to its requester
+    -- a job that is added to its requester's list
     pub made-more : (later : List (List JobId)) → later ≡ change_at row.requester.0 (λ jobs. jobs ++ job_id number ∷ []) lists → has_ended s (job_id number) ≡ false → IsMadeTo c s (number + 1) later
     made-more later added is = record {
       many = ap length added ∙ length-change_at row.requester.0 (λ jobs. jobs ++ job_id number ∷ []) lists ∙ made.many;
@@ -141,7 +141,7 @@ module _ (c : Configuration) (s : State) (number : ℕ) (lists : List (List JobI
 -- ## after an entry
 
 module _ (c : Configuration) (s t : State) (lists : List (List JobId)) (old : AreUnfinished c s lists) where
-  -- where the same jobs are over
+  -- if the same jobs are over
   noted-same : overs t.jobs ≡ overs s.jobs → AreUnfinished c t lists
   noted-same same = record {
     each = λ q.
@@ -153,7 +153,7 @@ module _ (c : Configuration) (s t : State) (lists : List (List JobId)) (old : Ar
   noted-none e none step = noted-same (later-same c s t e none step)
 
   module _ (e : Event) (j : JobId) (is : job_ended_by e ≡ Some j) (step : IsLaterBy c s e t) where
-    -- its job goes on
+    -- the event's job continues
     pub noted-open : has_ended t j ≡ false → AreUnfinished c t lists
     noted-open open_is = noted-same (later-open c s t e j is step open_is)
 
@@ -169,7 +169,7 @@ module _ (c : Configuration) (s t : State) (lists : List (List JobId)) (old : Ar
     pub noted-unowned : has_ended t j ≡ true → slice_get c.jobs j.0 ≡ None → AreUnfinished c t lists
     noted-unowned over none = record { each = λ q. unchanged q over (rw none refl) }
 
-    -- its job is over, and goes from its requester's list
+    -- the event's job is over, and is removed from its requester's list
     pub noted-over : (row : Job) (later : List (List JobId)) → slice_get c.jobs j.0 ≡ Some row → has_ended t j ≡ true → later ≡ change_at row.requester.0 (remove_first (λ other. same_job other j)) lists → AreUnfinished c t later
     noted-over row later is_row over removed = record { each = λ q. ap (λ (ls : List (List JobId)). list_of q ls) removed ∙ by q (row.requester.0 == q.0) refl } where
       by : (q : RequesterId) (b : Bool) → (row.requester.0 == q.0) ≡ b → list_of q (change_at row.requester.0 (remove_first (λ other. same_job other j)) lists) ≡ unfinished_from c q 0 t.jobs

@@ -1,4 +1,4 @@
--- what an index has, and when it is that of a state
+-- what an index has, and when it is the index of a state
 use Rattle.std.specs.Prelude.{◌≡◌, List, [], slice_get, unwrap_or}
 use Rattle.np_text.specs.declared.id.JobId.{JobId}
 use Rattle.np_text.specs.declared.id.RequesterId.{RequesterId}
@@ -11,11 +11,11 @@ pub record IndexParts : Type 0 where
   -- for each requester its jobs that are not over
   pub unfinished : List (List JobId)
 
--- the requester's list; a requester that is not there has no jobs
+-- the requester's list; a requester that does not exist has no jobs
 abbrev pub list_of : RequesterId → List (List JobId) → List JobId
 list_of q lists = unwrap_or (slice_get lists q.0) []
 
--- the list of each requester is its jobs that are not over, in job order
+-- the list of each requester has its jobs that are not over, in job order
 pub record AreUnfinished (c : Configuration) (s : State) (lists : List (List JobId)) : Type 0 where
   pub each : (q : RequesterId) → list_of q lists ≡ unfinished_from c q 0 s.jobs
 

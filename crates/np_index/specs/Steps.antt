@@ -1,4 +1,4 @@
--- what an event may change of what an index has
+-- what an event may change in an index
 use Rattle.std.specs.Prelude.{◌≡◌, ◌⊎◌, Bool, false, Option, Some, None, slice_get}
 use Rattle.std.specs.Option.{option_map_or}
 use Rattle.np_text.specs.declared.id.JobId.{JobId}
@@ -9,7 +9,7 @@ use Rattle.np_machine.specs.Kinds.{is_over}
 use Rattle.np_machine.specs.State.{State}
 use Rattle.np_machine.specs.Step.{next}
 
--- the event happened, or the state stayed as it was, as where the journal is full
+-- the event happened, or the state stayed as it was, for example because the journal is full
 abbrev pub IsLaterBy : Configuration → State → Event → State → Type 0
 IsLaterBy c s e later = (later ≡ next c s e) ⊎ (later ≡ s)
 
@@ -19,6 +19,6 @@ job_ended_by (ev.Finish session j) = Some j
 job_ended_by (ev.Withdraw session j) = Some j
 job_ended_by _ = None
 
--- the job is there and over
+-- the job exists and is over
 abbrev pub has_ended : State → JobId → Bool
 has_ended s j = option_map_or (λ kept. is_over kept.phase) (slice_get s.jobs j.0) false

@@ -15,7 +15,7 @@ use np_text::{JobId, NoMemory, RequesterId};
 use std::alloc::Global;
 use std::marker::Model;
 
-/// What a board keeps beside its state, so that readers need not search the state.
+/// What a board keeps next to its state, so that readers need not search the state.
 #[derive(Drop)]
 pub struct Index {
     unfinished: Vec<JobTable>,
@@ -30,7 +30,7 @@ impl Model for Index {
 }
 
 impl Index {
-    /// The index of the state. It looks once at each job; one that is not over also costs a binary
+    /// The index of the state. It reads each job once; a job that is not over also costs a binary
     /// search among those of its requester.
     pub fn rebuild<L: Look>(alloc: Global, look: &L) -> Result<Index, NoMemory>
         ensures { IfOk result (λ index. IsIndexOf (L.site look.now) (L.state look.now) index) }
@@ -40,8 +40,8 @@ impl Index {
     }
 
     /// The index of a state becomes that of the state after an entry. It takes no memory. Only an
-    /// entry that ends a job costs more than a look at its event: a binary search among the jobs of
-    /// its requester that are not over, and a move of those behind it.
+    /// entry that ends a job costs more than reading its event: a binary search among the jobs of
+    /// its requester that are not over, and a move of those after it.
     pub fn note<L: Look>(&mut self, after: &L, entry: Entry)
         ensures { (s : State) → IsIndexOf (L.site after.now) s self.old
             → IsLaterBy (L.site after.now) s entry.event (L.state after.now)

@@ -27,7 +27,7 @@ pub(crate) fn no_jobs(alloc: Global, config: &Config) -> Result<Vec<JobTable>, A
     Ok(lists)
 }
 
-/// The job comes last.
+/// Adds the job at the end.
 fn add_last(jobs: &mut JobTable, job: JobId) -> Result<(), AllocError>
     requires { AllByRecursion (λ other. other.0 < job.0) jobs.old }
     ensures { OnOk result (jobs.new ≡ jobs.old ++ job ∷ []) }
@@ -36,7 +36,7 @@ fn add_last(jobs: &mut JobTable, job: JobId) -> Result<(), AllocError>
     Ok(())
 }
 
-/// The job comes last among those of the requester.
+/// Adds the job at the end of the requester's jobs.
 pub(crate) fn push_job(
     lists: &mut Vec<JobTable>,
     requester: RequesterId,
@@ -55,7 +55,7 @@ pub(crate) fn push_job(
     Ok(())
 }
 
-/// The job goes from those of the requester, where it is among them.
+/// Removes the job from the requester's jobs, if it is among them.
 pub(crate) fn drop_job(lists: &mut Vec<JobTable>, requester: RequesterId, job: JobId)
     ensures { lists.new.items ≡
         change_at requester.0 (remove_first (λ other. same_job other job)) lists.old.items }

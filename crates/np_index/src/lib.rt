@@ -1,8 +1,8 @@
-//! What a board keeps beside its state, so that its readers need not search the state.
+//! What a board keeps next to its state, so that its readers need not search the state.
 //!
-//! `Index::rebuild` makes the index of any state, and `Index::note` takes it from a state to the one
-//! after an entry; `specs/Index` says when it is the index of a state. Each part answers a reader of
-//! `Look` (np_look) with a lookup:
+//! `Index::rebuild` makes the index of any state, and `Index::note` updates it from a state to the
+//! one after an entry; `specs/Index` says when it is the index of a state. Each part answers a
+//! reader of `Look` (np_look) with a lookup:
 //!
 //! | part | reader |
 //! |---|---|

@@ -23,7 +23,7 @@ fn job_ended_by(event: Event) -> Option<JobId>
     }
 }
 
-/// Whether the job is there and over.
+/// Whether the job exists and is over.
 fn has_ended<L: Look>(look: &L, job: JobId) -> bool
     ensures { result ≡ has_ended (L.state look.now) job }
 {
@@ -33,7 +33,7 @@ fn has_ended<L: Look>(look: &L, job: JobId) -> bool
     }
 }
 
-/// The jobs of each requester that are not over, by one walk over all jobs.
+/// The jobs of each requester that are not over, by one scan of all jobs.
 pub(crate) fn list_unfinished<L: Look>(alloc: Global, look: &L) -> Result<Vec<JobTable>, AllocError>
     ensures { IfOk result
         (λ lists. AreUnfinished (L.site look.now) (L.state look.now) lists.items) }

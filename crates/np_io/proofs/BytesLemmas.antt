@@ -30,7 +30,7 @@ Appends-next a b c bytes at n p q =
     subst (Appends a c) (sym (take-add at n bytes))
     (Appends-trans a b c (take at bytes) (take n (drop at bytes)) p next)
 
--- two calls that take `limit + 1` bytes together show that so many came
+-- if two calls together take `limit + 1` bytes, the source had more than `limit`
 pub Takes-too_long : (a b c : Option (List ℕ)) (limit : ℕ) (xs ys : List ℕ)
     → Takes a b xs → Takes b c ys → length xs + length ys ≡ limit + 1
     → IfSome a (λ came. (limit < length came) × (c ≡ Some (drop (limit + 1) came)))

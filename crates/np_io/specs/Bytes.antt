@@ -1,5 +1,5 @@
 -- What a call does to the bytes that a source has left, and to those that a sink has written.
--- `None` is a stream that tells no content, and it goes on telling none.
+-- `None` is a stream of unknown content, which stays unknown.
 use Rattle.std.specs.Prelude.{◌≡◌, ℕ, List, ◌++◌, Option}
 use Rattle.std.specs.Option.{option_map}
 

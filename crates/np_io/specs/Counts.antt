@@ -5,6 +5,6 @@ use Rattle.std.specs.Prelude.{ℕ, ◌+◌, ◌-◌, ◌^◌, ◌≤◌, min}
 abbrev pub counted : ℕ → ℕ
 counted before = min (before + 1) (2 ^ 64 - 1)
 
--- a count rose; one that stands at the end of `u64` is taken as risen (own)
+-- a count rose; one at the end of `u64` is taken as risen (own)
 abbrev pub Rose : ℕ → ℕ → Type 0
 Rose before now = counted before ≤ now

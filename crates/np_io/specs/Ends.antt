@@ -1,7 +1,7 @@
 -- The end of what is read, and of what is written.
 use Rattle.std.specs.Prelude.{ℕ, ◌==◌, Bool, true, false, Result, Ok, Err}
 
--- whether a source is at its end after a read: exactly where the read gave no byte (own)
+-- whether a source is at its end after a read: if and only if the read returned no byte (own)
 abbrev pub ended_by : {E : Type 0} → Bool → Result ℕ E → Bool
 ended_by before (Ok n) = n == 0
 ended_by before (Err fault) = before

@@ -6,7 +6,7 @@ use Rattle.np_io.specs.Counts.{counted}
 pub record Input : Type 0 where
   -- the bytes still to come
   pub left : List ℕ
-  -- the most that one read gives
+  -- the most bytes that one read returns
   pub piece : ℕ
   -- the numbers of the calls that fail, counted from 1
   pub failing : List ℕ
@@ -14,14 +14,14 @@ pub record Input : Type 0 where
   pub calls : ℕ
   -- how many of them failed
   pub faults : ℕ
-  -- the last read that succeeded gave no byte
+  -- the last read that succeeded returned no byte
   pub at_end : Bool
 
 -- a sink in memory (own)
 pub record Output : Type 0 where
   -- the bytes written so far
   pub written : List ℕ
-  -- the most that one write takes
+  -- the most bytes that one write takes
   pub piece : ℕ
   -- the numbers of the calls that fail, counted from 1, `finish` among them
   pub failing : List ℕ

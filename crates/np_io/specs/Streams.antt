@@ -4,7 +4,7 @@ use Rattle.np_io.specs.declared.std_source.StdSource.{StdSource}
 use Rattle.np_io.specs.Facts.{SourceFacts, SinkFacts}
 use Rattle.np_io.specs.declared.std_sink.StdSink.{StdSink}
 
--- the reader that a source stands over (own)
+-- the reader under a source (own)
 abbrev pub reader_of : {R : Type 0} → StdSource R → R
 reader_of s = s.reader
 
@@ -12,15 +12,15 @@ reader_of s = s.reader
 abbrev pub read_faults : {R : Type 0} → StdSource R → ℕ
 read_faults s = s.faults
 
--- whether the last read that succeeded gave no byte (own)
+-- whether the last read that succeeded returned no byte (own)
 abbrev pub read_ended : {R : Type 0} → StdSource R → Bool
 read_ended s = s.ended
 
--- a real source tells no content
+-- the content of a real source is unknown
 abbrev pub source_facts : {R : Type 0} → StdSource R → SourceFacts
 source_facts s = record { left = None; faults = read_faults s; at_end = read_ended s }
 
--- the writer that a sink stands over (own)
+-- the writer under a sink (own)
 abbrev pub writer_of : {W : Type 0} → StdSink W → W
 writer_of s = s.writer
 
@@ -32,6 +32,6 @@ write_faults s = s.faults
 abbrev pub write_finished : {W : Type 0} → StdSink W → Bool
 write_finished s = s.finished
 
--- a real sink tells no content
+-- the content of a real sink is unknown
 abbrev pub sink_facts : {W : Type 0} → StdSink W → SinkFacts
 sink_facts s = record { written = None; faults = write_faults s; finished = write_finished s }

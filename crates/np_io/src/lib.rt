@@ -1,13 +1,13 @@
 //! Sources and sinks of bytes: a program's input and output, read and written as a whole.
 //!
 //! `Source` and `Sink` are the traits. `MemSource` and `MemSink` keep their bytes in memory and
-//! fail at planned calls; `StdSource` and `StdSink` stand over the real streams and are the
+//! fail at planned calls; `StdSource` and `StdSink` are adapters over the real streams, and the
 //! trusted edge. Read `specs/Counts`, `specs/Bytes`, `specs/Ends` and `specs/Facts` first, then
 //! `source`, `sink`, `whole`.
 //!
-//! A stream counts its faults, and a fault is answered only where that count rose in the call. The
-//! stream then has its bytes as before: none is lost, and none is added. A source is at its end
-//! only where a read gave no byte, and a sink is finished only by `finish`, whatever the streams are.
+//! A stream counts its faults, and a fault is answered only if that count rose in the call. The
+//! stream then has its bytes as before: none is lost and none is added. A source is at its end only
+//! if a read returned no byte, and a sink is finished only by `finish`, whatever the stream is.
 #![tactic(auto)]
 
 mod calls;

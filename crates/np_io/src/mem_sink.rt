@@ -12,8 +12,8 @@ use std::marker::Model;
 /// Memory to write to, with a plan of the calls that fail.
 ///
 /// Contracts see it as an `Output`. The calls of `write` and of `finish` are counted together, from
-/// 1, those that fail too. It reserves nothing ahead: a write that finds no memory fails, and is
-/// counted as a fault like a planned one.
+/// 1, also those that fail. It reserves nothing ahead: a write that runs out of memory fails, and
+/// is counted as a fault like a planned one.
 #[derive(Drop)]
 pub struct MemSink {
     bytes: Vec<u8>,
@@ -43,15 +43,15 @@ impl Model for MemSink {
 }
 
 impl MemSink {
-    /// An empty sink, which fails at the calls with the numbers in `failing`. A write takes all
-    /// that it is given.
+    /// An empty sink, which fails at the calls with the numbers in `failing`. A write takes all the
+    /// bytes that it gets.
     pub fn new(alloc: Global, failing: Vec<u32>) -> MemSink
         ensures { result ≡ empty_output failing.items usize.MAX }
     {
         MemSink::in_pieces(alloc, failing, usize::MAX)
     }
 
-    /// The same, where a write takes at most `piece` bytes.
+    /// The same, but a write takes at most `piece` bytes.
     pub fn in_pieces(alloc: Global, failing: Vec<u32>, piece: usize) -> MemSink
         requires { 0 < piece }
         ensures { result ≡ empty_output failing.items piece }
@@ -79,8 +79,8 @@ impl Sink for MemSink {
       finished = s.finished;
     } };
 
-    /// Takes as many of the bytes as the piece allows. Beside what was written so far, which moves
-    /// now and then as it grows, the cost grows with them and with the plan's length.
+    /// Takes as many of the bytes as the piece allows. The cost grows with them and with the plan's
+    /// length. What was written so far is also moved now and then, as it grows.
     fn write(&mut self, bytes: &[u8]) -> Result<usize, WriteFailed>
         requires { 0 < length bytes.now }
         ensures planned { Contains self.old.failing (counted self.old.calls) → IsErr result }

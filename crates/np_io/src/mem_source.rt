@@ -10,16 +10,16 @@ use std::marker::Model;
 
 /// Bytes in memory to read from, with a plan of the calls that fail.
 ///
-/// Contracts see it as an `Input`. The calls of `read` are counted from 1, those that fail too.
+/// Contracts see it as an `Input`. The calls of `read` are counted from 1, also those that fail.
 #[derive(Drop)]
 pub struct MemSource {
     bytes: Vec<u8>,
     /// How many of the bytes were read. It only rises.
     place: usize,
-    /// The most that one read gives. It never changes.
+    /// The most bytes that one read returns. It never changes.
     piece: usize,
     calls: Calls,
-    /// Whether the last read that succeeded gave no byte.
+    /// Whether the last read that succeeded returned no byte.
     at_end: bool,
 }
 
@@ -42,15 +42,15 @@ impl Model for MemSource {
 }
 
 impl MemSource {
-    /// A source of `bytes`, which fails at the calls with the numbers in `failing`. A read gives as
-    /// many bytes as its buffer has room for.
+    /// A source of `bytes`, which fails at the calls with the numbers in `failing`. A read returns
+    /// as many bytes as its buffer has room for.
     pub fn new(bytes: Vec<u8>, failing: Vec<u32>) -> MemSource
         ensures { result ≡ input_of bytes.items failing.items usize.MAX }
     {
         MemSource::in_pieces(bytes, failing, usize::MAX)
     }
 
-    /// The same, where a read gives at most `piece` bytes.
+    /// The same, but a read returns at most `piece` bytes.
     pub fn in_pieces(bytes: Vec<u8>, failing: Vec<u32>, piece: usize) -> MemSource
         requires { 0 < piece }
         ensures { result ≡ input_of bytes.items failing.items piece }
@@ -72,7 +72,7 @@ impl Source for MemSource {
       at_end = s.at_end;
     } };
 
-    /// Gives as many of the bytes as the piece and the buffer allow. The cost grows with them, and
+    /// Returns as many of the bytes as the piece and the buffer allow. The cost grows with them and
     /// with the plan's length.
     fn read(&mut self, buf: &mut [u8]) -> Result<usize, ReadFailed>
         requires { 0 < length buf.old }

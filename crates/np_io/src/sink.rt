@@ -12,12 +12,12 @@ pub struct WriteFailed;
 
 /// Something to write bytes to.
 pub trait Sink {
-    /// What is known of the sink: the bytes written so far where it tells them, how many calls
+    /// What is known of the sink: the bytes written so far, if they are known, how many calls
     /// failed, and whether the output is finished.
     ghost facts: { Self → SinkFacts };
 
-    /// Writes the first of `bytes`, and answers how many: at least one, and fewer than all at any
-    /// time.
+    /// Writes the first of `bytes`, and answers how many: at least one. It may write fewer than all
+    /// of them at any time.
     fn write(&mut self, bytes: &[u8]) -> Result<usize, WriteFailed>
         requires { 0 < length bytes.now }
         ensures some { IfOk result (λ n. 0 < n) }
@@ -31,7 +31,7 @@ pub trait Sink {
         ensures cause { OnErr result (Rose (facts self.old).faults (facts self.new).faults) }
         ensures later { (facts self.old).faults ≤ (facts self.new).faults };
 
-    /// Ends the output: what was written goes out of every buffer. It changes no byte.
+    /// Ends the output: every buffer is flushed. It changes no byte.
     fn finish(&mut self) -> Result<(), WriteFailed>
         ensures kept { (facts self.new).written ≡ (facts self.old).written }
         ensures finished { (facts self.new).finished

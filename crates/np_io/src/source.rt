@@ -12,12 +12,12 @@ pub struct ReadFailed;
 
 /// Something to read bytes from.
 pub trait Source {
-    /// What is known of the source: the bytes still to come where it tells them, how many reads
+    /// What is known of the source: the bytes still to come, if they are known, how many reads
     /// failed, and whether it is at its end.
     ghost facts: { Self → SourceFacts };
 
-    /// Reads the next bytes into the front of `buf`, and answers how many: 0 exactly at the end.
-    /// Fewer than `buf` has room for may come at any time.
+    /// Reads the next bytes into the front of `buf`, and answers how many: 0 at the end, and only
+    /// there. It may read fewer bytes than `buf` has room for at any time.
     fn read(&mut self, buf: &mut [u8]) -> Result<usize, ReadFailed>
         requires { 0 < length buf.old }
         ensures bound { IfOk result (λ n. n ≤ length buf.new) }

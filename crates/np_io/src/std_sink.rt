@@ -1,7 +1,7 @@
 //! A real stream to write to: the trusted edge of output and of diagnostics.
 //!
-//! No contract says which bytes a real stream takes, so it tells none. What is promised is that
-//! each failure is counted, that the writer is handed what the caller gave, and that the output is
+//! No contract says which bytes a real stream takes, so its content is unknown. What is promised is
+//! that each failure is counted, that the writer gets what the caller gave, and that the output is
 //! finished only by a flush.
 
 ghost use Rattle.std.specs.Prelude.{◌≡◌, ◌≤◌, ◌<◌, length, is_ok, if◌then◌else◌, IfOk, false};
@@ -12,7 +12,7 @@ ghost use Rattle.np_io.specs.Ends.{opened_by, finished_by};
 use crate::sink::{Sink, WriteFailed};
 use std::io::Write;
 
-/// A real stream to write to, such as a runtime's `stdout()` or `stderr()`. It tells no content.
+/// A real stream to write to, such as a runtime's `stdout()` or `stderr()`. Its content is unknown.
 #[derive(Drop)]
 pub struct StdSink<W: Write + Drop> {
     writer: W,
@@ -25,7 +25,7 @@ pub struct StdSink<W: Write + Drop> {
 impl<W: Write + Drop> StdSink<W> {
     ghost use Rattle.np_io.specs.Streams.{writer_of, write_faults, write_finished};
 
-    /// A sink over `writer`, which writes to nowhere else.
+    /// A sink that writes to `writer`, and to nothing else.
     pub fn new(writer: W) -> StdSink<W>
         ensures writer { writer_of result ≡ writer }
         ensures faults { write_faults result ≡ 0 }

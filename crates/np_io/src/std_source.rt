@@ -1,7 +1,7 @@
 //! A real stream to read from: the trusted edge of input.
 //!
-//! No contract says which bytes a real stream gives, so it tells none. What is promised is that
-//! each failure is counted, and that the caller gets what the reader gave.
+//! No contract says which bytes a real stream returns, so its content is unknown. What is promised
+//! is that each failure is counted, and that the caller gets what the reader returned.
 
 ghost use Rattle.std.specs.Prelude.{◌≡◌, ◌≤◌, ◌<◌, length, is_ok, if◌then◌else◌, IfOk, false};
 ghost use Rattle.std.specs.Io.KnownBytes.{ReadConsumes};
@@ -11,7 +11,7 @@ ghost use Rattle.np_io.specs.Ends.{ended_by};
 use crate::source::{ReadFailed, Source};
 use std::io::Read;
 
-/// A real stream to read from, such as a runtime's `stdin()`. It tells no content.
+/// A real stream to read from, such as a runtime's `stdin()`. Its content is unknown.
 ///
 /// A read that is interrupted by a signal is a failure like any other.
 #[derive(Drop)]
@@ -19,14 +19,14 @@ pub struct StdSource<R: Read + Drop> {
     reader: R,
     /// How many reads failed. It only rises, and stops at `u64::MAX`.
     faults: u64,
-    /// Whether the last read that succeeded gave no byte.
+    /// Whether the last read that succeeded returned no byte.
     ended: bool,
 }
 
 impl<R: Read + Drop> StdSource<R> {
     ghost use Rattle.np_io.specs.Streams.{reader_of, read_faults, read_ended};
 
-    /// A source over `reader`, which takes from nowhere else.
+    /// A source that reads from `reader`, and from nothing else.
     pub fn new(reader: R) -> StdSource<R>
         ensures reader { reader_of result ≡ reader }
         ensures faults { read_faults result ≡ 0 }

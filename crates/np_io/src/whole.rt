@@ -14,9 +14,9 @@ use std::alloc::{AllocError, Global};
 pub enum ReadAll {
     /// A read failed: the source's count of faults rose.
     ReadFault,
-    /// More bytes came than the limit allows.
+    /// There are more bytes than the limit allows.
     TooLong,
-    /// There was no memory for the bytes. Those that were read are lost.
+    /// Memory for the bytes ran out. Those that were read are lost.
     NoMemory,
 }
 
@@ -40,7 +40,7 @@ impl From<AllocError> for ReadAll {
     }
 }
 
-/// How many bytes one read asks for at most.
+/// The most bytes that one read requests.
 const PIECE: usize = 65_536;
 
 /// Reads to the end, and answers all that was left.
@@ -115,7 +115,7 @@ fn read_pieces<S: Source>(
 pub fn write_all<K: Sink>(sink: &mut K, bytes: &[u8]) -> Result<(), WriteFailed>
     ensures ok { OnOk result (IsWritten (K.facts sink.old) (K.facts sink.new) bytes.now) }
 
-    // The bytes before the fault are out.
+    // The bytes before the fault are written.
     ensures err { OnErr result (IsCutShort (K.facts sink.old) (K.facts sink.new) bytes.now) }
     ensures later { (K.facts sink.old).faults ≤ (K.facts sink.new).faults }
 {

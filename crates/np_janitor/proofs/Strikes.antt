@@ -56,7 +56,7 @@ module _ (such : FaultKind → Bool) (c : Configuration) (s : State) where
     by true = due-such facts.role
     by false = refl
 
-  -- a session is struck by such a fault where the fault that strikes it is such
+  -- a session is struck by such a fault if and only if the fault that strikes it is of such a kind
   pub struck-such : (session : SessionId) → is_struck_by such c s session ≡ option_map_or such (struck_kind c s session) false
   struck-such session = struck-by session (session_of session s)
 

@@ -14,11 +14,11 @@ use Rattle.np_useful.specs.Useful.{IsUseful}
 use Rattle.np_janitor.specs.declared.reaper.SessionKind.{SessionKind}
 use Rattle.np_janitor.specs.declared.reaper.SessionKind.TheVariants as of_session
 
--- the kind of the role's next fault, where it is due
+-- the kind of the role's next fault, if it is due
 abbrev pub due_kind : Configuration → Role → State → Option FaultKind
 due_kind c role s = option_and_then (λ f. if is_due role s f then Some f.kind else None) (next_fault c role s)
 
--- the kind of the fault that is due for the session's role, where it is the role's current one
+-- the kind of the fault that is due for the session's role, if it is the role's current session
 abbrev pub struck_kind : Configuration → State → SessionId → Option FaultKind
 struck_kind c s session = option_and_then (λ facts. if is_current facts.role session s then due_kind c facts.role s else None) (session_of session s)
 
@@ -31,7 +31,7 @@ session_event of_session.Crash session = ev.Crash session
 abbrev pub session_candidate : State → SessionKind → ℕ → Option Event
 session_candidate s kind at = if nat_lt at (length s.sessions) then Some (session_event kind (record { 0 = at + 1 })) else None
 
--- a useful event of the kind, or none where there is none (own)
+-- a useful event of the kind, or none if there is none (own)
 abbrev pub ChoosesOfSessions : Configuration → State → SessionKind → Option Event → Type 0
 ChoosesOfSessions c s kind None = (session : SessionId) → IsUseful c s Reaper (session_event kind session) → ⊥
 ChoosesOfSessions c s kind (Some e) = IsUseful c s Reaper e

@@ -18,7 +18,7 @@ pub(crate) struct PoolPause {
     pub(crate) paused: bool,
 }
 
-/// Whether a pool is paused. The one whose pause is known costs nothing.
+/// Whether a pool is paused. The pool whose pause is known costs nothing.
 pub(crate) fn is_paused<L: Look>(look: &L, known: PoolPause, pool: PoolId) -> bool
     requires fits { Fits (L.site look.now) (L.state look.now) }
     requires known { known.paused ≡ is_paused (L.site look.now) (L.state look.now) known.pool }
@@ -30,7 +30,7 @@ pub(crate) fn is_paused<L: Look>(look: &L, known: PoolPause, pool: PoolId) -> bo
     look.is_paused(pool)
 }
 
-/// Older than the age allows, where it allows one; 0 is no age.
+/// Whether it is older than the age, if there is one; 0 is no age.
 fn is_past(age: u32, since: u32, tick: u32) -> bool
     ensures { result ≡ is_past age since tick }
 {
@@ -46,7 +46,7 @@ fn ready_age(config: &Config, label: LabelId) -> u32
     }
 }
 
-/// Whether it waited longer as ready than its label allows.
+/// Whether it has been ready for longer than its label allows.
 fn is_old_ready<L: Look>(look: &L, kept: &NodeRecord) -> bool
     ensures { result ≡ is_old_ready (L.site look.now) (L.state look.now) kept.now }
 {
@@ -57,14 +57,14 @@ fn is_old_ready<L: Look>(look: &L, kept: &NodeRecord) -> bool
     )
 }
 
-/// Whether it was held longer than the configuration allows.
+/// Whether it was held for longer than the configuration allows.
 fn is_old_hold<L: Look>(look: &L, kept: &NodeRecord) -> bool
     ensures { result ≡ is_old_hold (L.site look.now) (L.state look.now) kept.now }
 {
     is_past(look.config().max_hold_age(), kept.since, look.tick())
 }
 
-/// Whether it is allocated to a request that is not there any more.
+/// Whether it is allocated to a request that no longer exists.
 fn is_left_over<L: Look>(look: &L, kept: &NodeRecord) -> bool
     ensures { result ≡ is_left_over (L.state look.now) kept.now }
 {
@@ -83,7 +83,7 @@ fn is_to_go<L: Look>(look: &L, known: PoolPause, kept: &NodeRecord) -> bool
     kept.allocated_to.is_none() && (is_old_ready(look, kept) || is_paused(look, known, kept.pool))
 }
 
-/// Whether a janitor may remove or free the node where nobody holds it.
+/// Whether a janitor may remove or free the node if nobody holds it.
 pub(crate) fn is_cleanable<L: Look>(look: &L, known: PoolPause, kept: &NodeRecord) -> bool
     requires fits { Fits (L.site look.now) (L.state look.now) }
     requires known { known.paused ≡ is_paused (L.site look.now) (L.state look.now) known.pool }

@@ -38,7 +38,7 @@ const ORDER: [EventKind; 11] = [
     EventKind::Node(NodeKind::Lock),
 ];
 
-/// Whether the request is there, pending, and the pool serves it.
+/// Whether the request exists and is pending, and the pool serves it.
 fn is_served<L: Look>(look: &L, pool: PoolId, request: RequestId) -> bool
     ensures { result ≡ request_is request (L.state look.now) (is_pending_by pool) }
 {
@@ -52,7 +52,7 @@ fn is_served<L: Look>(look: &L, pool: PoolId, request: RequestId) -> bool
     asked.state == RequestState::Pending && own
 }
 
-/// Whether the request is there and not pending.
+/// Whether the request exists and is not pending.
 fn is_given_back<L: Look>(look: &L, request: RequestId) -> bool
     ensures { result ≡
         request_is request (L.state look.now) (λ kept. not (is_pending kept.state)) }
@@ -63,7 +63,7 @@ fn is_given_back<L: Look>(look: &L, request: RequestId) -> bool
     }
 }
 
-/// Whether the node is there, and the pool's.
+/// Whether the node exists and belongs to the pool.
 fn is_of_pool<L: Look>(look: &L, pool: PoolId, node: NodeId) -> bool
     ensures { result ≡ node_is node (L.state look.now) (is_node_of pool) }
 {
@@ -73,7 +73,7 @@ fn is_of_pool<L: Look>(look: &L, pool: PoolId, node: NodeId) -> bool
     }
 }
 
-/// Whether the node is there, of the pool, to be cleaned up, and held by nobody.
+/// Whether the node exists, belongs to the pool, must be cleaned up, and is held by nobody.
 fn is_to_clean<L: Look>(look: &L, known: PoolPause, node: NodeId) -> bool
     requires fits { Fits (L.site look.now) (L.state look.now) }
     requires known { known.paused ≡ is_paused (L.site look.now) (L.state look.now) known.pool }
@@ -90,7 +90,7 @@ fn is_to_clean<L: Look>(look: &L, known: PoolPause, node: NodeId) -> bool
         && look.node_holder(node).is_none()
 }
 
-/// Whether the node is there, and not to be cleaned up.
+/// Whether the node exists and need not be cleaned up.
 fn is_clean<L: Look>(look: &L, known: PoolPause, node: NodeId) -> bool
     requires fits { Fits (L.site look.now) (L.state look.now) }
     requires known { known.paused ≡ is_paused (L.site look.now) (L.state look.now) known.pool }
@@ -114,7 +114,7 @@ fn is_left_alone<L: Look>(look: &L, job: JobId) -> bool
     }
 }
 
-/// Whether the job is there, and has a handle.
+/// Whether the job exists and has a handle.
 fn has_handle_left<L: Look>(look: &L, job: JobId) -> bool
     ensures { result ≡ job_is job (L.site look.now) (has_some_handle (L.state look.now) job) }
 {
@@ -124,7 +124,7 @@ fn has_handle_left<L: Look>(look: &L, job: JobId) -> bool
     }
 }
 
-/// The rows of a pool's janitor, who knows whether the pool is paused.
+/// The rows of a pool's janitor, which knows whether the pool is paused.
 #[derive(Clone, Copy)]
 struct JanitorRows {
     known: PoolPause,
@@ -157,9 +157,9 @@ impl Rows for JanitorRows {
     }
 }
 
-/// A useful event of the pool's janitor, the first in the order of the crate's table, or `None`
-/// exactly where there is none. Its cost grows with the requests, the nodes and the jobs that there
-/// are, and where the janitor has no session with the sessions; pairs of them are never looked at.
+/// A useful event of the pool's janitor, the first in the order of the crate's table, or `None` if
+/// and only if there is none. Its cost grows with the number of requests, nodes and jobs, and, if
+/// the janitor has no session, with the number of sessions; it never scans pairs of them.
 pub fn choose_janitor<L: Look>(look: &L, pool: PoolId) -> Option<Event>
     requires fits { Fits (L.site look.now) (L.state look.now) }
     requires pool { is_role (L.site look.now) (Janitor pool) ≡ true }

@@ -1,4 +1,4 @@
-//! The reaper, who ends sessions.
+//! The reaper, which ends sessions.
 
 ghost use Rattle.std.specs.Prelude.{◌≡◌, length, not};
 ghost use Rattle.np_text.specs.declared.id.Role.TheVariants.{Reaper};
@@ -32,7 +32,7 @@ fn session_event(kind: SessionKind, session: SessionId) -> Event
     }
 }
 
-/// The kind of the role's next fault, where it is due.
+/// The kind of the role's next fault, if it is due.
 fn due_kind<L: Look>(look: &L, role: Role) -> Option<FaultKind>
     ensures { result ≡ due_kind (L.site look.now) role (L.state look.now) }
 {
@@ -45,7 +45,7 @@ fn due_kind<L: Look>(look: &L, role: Role) -> Option<FaultKind>
     }
 }
 
-/// The kind of the fault that is due for the session's role, where it is the role's current one.
+/// The kind of the fault that is due for the session's role, if it is the role's current session.
 fn struck_kind<L: Look>(look: &L, session: SessionId) -> Option<FaultKind>
     requires { Fits (L.site look.now) (L.state look.now) }
     ensures { result ≡ struck_kind (L.site look.now) (L.state look.now) session }
@@ -136,7 +136,7 @@ impl Candidates for OfSessions {
     }
 }
 
-/// The first useful event of the kind, in the order of sessions, or `None` exactly where there is
+/// The first useful event of the kind, in the order of sessions, or `None` if and only if there is
 /// none.
 fn first_of_sessions<L: Look>(look: &L, kind: SessionKind) -> Option<Event>
     requires { Fits (L.site look.now) (L.state look.now) }
@@ -145,10 +145,10 @@ fn first_of_sessions<L: Look>(look: &L, kind: SessionKind) -> Option<Event>
     first_that_passes(look, &ReaperRows, &OfSessions { kind })
 }
 
-/// A useful event of the reaper, or `None` exactly where there is none: the oldest session that is to
-/// expire, and else the oldest whose crash or stop is due. Its cost grows with the sessions that were
-/// ever begun, and for each one that is not over with the configuration's faults and the sessions
-/// that began after it where a fault of its role is due.
+/// A useful event of the reaper, or `None` if and only if there is none: for the oldest session
+/// that must expire, and otherwise for the oldest whose crash or stop is due. Its cost grows with
+/// the number of sessions ever begun, and for each one that is not over with the configuration's
+/// faults and, if a fault of its role is due, with the sessions that began after it.
 pub fn choose_reaper<L: Look>(look: &L) -> Option<Event>
     requires { Fits (L.site look.now) (L.state look.now) }
     ensures { Chooses (L.site look.now) (L.state look.now) Reaper result }

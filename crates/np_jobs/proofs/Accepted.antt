@@ -1,4 +1,4 @@
--- an accepted event of a requester's session on a job: the job is the requester's, and not over
+-- an accepted event of a requester's session on a job: the job is the requester's and not over
 use Rattle.std.proofs.Common.{◌≡◌, refl, Option, Some, None, Result, Ok, Err, Bool, true, false}
 use Rattle.std.specs.Prelude.{◌&&◌, ◌||◌, ◌==◌, not, slice_get}
 use Rattle.np_text.specs.declared.id.SessionId.{SessionId}

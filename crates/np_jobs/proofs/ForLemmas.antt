@@ -1,4 +1,4 @@
--- a node of a request that is handed over is told by its allocation
+-- a node of a request that is handed over is determined by its allocation
 use Rattle.std.proofs.Common.{◌≡◌, ◌<◌, ℕ, zero, suc, List, [], ◌∷◌, length, refl, sym, ap, ◌∙◌, arith, Option, Some, None, Bool, true, false}
 use Rattle.std.specs.Prelude.{slice_get, ◌&&◌}
 use Rattle.std.specs.Option.{option_map, option_map_or}
@@ -37,13 +37,13 @@ each-at P [] i x all there = absurd cc
 each-at P (y ∷ xs) zero x all there = let same : y ≡ x = cc in rw (← same) all.0
 each-at P (y ∷ xs) (suc i) x all there = each-at P xs i x all.1 there
 
--- the request at a place is the one of its id
+-- the request at a place is the request with its id
 pub found-at : (rows : List RequestEntry) (i : ℕ) (e : RequestEntry) → Rises (λ a b. is_id_before a.id b.id) rows → slice_get rows i ≡ Some e → request_entry e.id rows ≡ Some e
 found-at [] i e rise there = absurd cc
 found-at (first ∷ rows) zero e rise there = let same : first ≡ e = cc in rw (same, same_request-self e.id) refl
 found-at (first ∷ rows) (suc i) e rise there = rw (ids-apart first.id e.id (each-at (λ y. is_id_before first.id y.id ≡ true) rows i e rise.0 there)) (found-at rows i e rise.1 there)
 
--- a request that is found stands at a place
+-- a request that is found is at a place
 pub record IsPlaced (r : RequestId) (rows : List RequestEntry) (e : RequestEntry) : Type 0 where
   pub place : ℕ
   pub there : slice_get rows place ≡ Some e
@@ -77,7 +77,7 @@ and-second : (a b : Bool) → (a && b) ≡ true → b ≡ true
 and-second true b is = is
 and-second false b is = absurd cc
 
--- a request that is handed over and lists the node has it, and the node stands
+-- the node exists, and is allocated to a request that is handed over and lists it
 pub record IsHanded (s : State) (n : NodeId) (e : RequestEntry) : Type 0 where
   pub found : request_in e.id s.requests ≡ Some e.kept
   pub node : NodeRecord
@@ -99,7 +99,7 @@ module _ (c : Configuration) (s : State) (q : RequesterId) (n : NodeId) (rise : 
       let is : IsGiven s e.id owns.pool n label.0 = owns.each place.0 n label.0 place.1 label.1 in
       record { found = found; node = is.node; stands = is.stands; allocated = named e.id is.node.allocated_to is.allocated }
 
-  -- where the node is for the requester, such a request is there
+  -- if the node is for the requester, there is such a request
   pub record IsFound : Type 0 where
     pub entry : RequestEntry
     pub place : ℕ
@@ -122,7 +122,7 @@ module _ (c : Configuration) (s : State) (q : RequesterId) (n : NodeId) (rise : 
       let no : None ≡ Some found.handed_to.node = sym none ∙ found.handed_to.stands in
       absurd cc
 
-  -- a node that does not stand is for nobody
+  -- a node that does not exist is for nobody
   pub for-none : node_in n s.nodes ≡ None → is_for c s q n ≡ false
   for-none none = none_by (is_for c s q n) refl none
 
@@ -147,7 +147,7 @@ module _ (c : Configuration) (s : State) (q : RequesterId) (n : NodeId) (rise : 
     back_of None none is = absurd (let no : false ≡ true = rw none at is in cc)
     back_of (Some r) some is = back_by r (request_entry r s.requests) refl (rw some at is)
 
-    -- one that stands is for the requester where its request gives it so
+    -- a node that exists is for the requester if and only if the node's own request has given it
     pub for-is : is_for c s q n ≡ is_given c s q n k
     for-is = both (is_for c s q n) (is_given c s q n k) there (back_of k.allocated_to refl)
 

@@ -65,7 +65,7 @@ all-kinds : (c : Configuration) (s : State) (role : Role) (one other : List Even
 all-kinds c s role [] other first second = second
 all-kinds c s role (kind ∷ one) other first second = (first.0, all-kinds c s role one other first.1 second)
 
--- where no step is useful, the rest decides
+-- if no step is useful, the rest decides
 pub both-choose : (c : Configuration) (s : State) (q : RequesterId) (session : SessionId) → is_current (Requester q) session s ≡ true → (found : Option Event) → ChoosesOfAny c s (Requester q) steps found → is_some found ≡ false → (o : Option Event) → ChoosesOfAny c s (Requester q) rest o → Chooses c s (Requester q) o
 both-choose c s q session current None first is None second = kinds-choose c s (Requester q) (steps ++ rest) (requester-law c s q) session current None (all-kinds c s (Requester q) steps rest first second)
 both-choose c s q session current None first is (Some e) second = second

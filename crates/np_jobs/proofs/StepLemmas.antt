@@ -1,4 +1,4 @@
--- where the events of a session on each job that is not over were tried, no such event is useful
+-- if the events of a session on each job that is not over were tried, no such event is useful
 use Rattle.std.proofs.Common.{◌≡◌, ◌∙◌, ◌<◌, ℕ, refl, sym, ap, subst, arith, Option, Some, None, Ok, Bool, true, false}
 use Rattle.std.specs.Prelude.{is_some, ◌&&◌, ◌==◌, not}
 use Rattle.std.specs.List.{AllByRecursion}
@@ -36,7 +36,7 @@ use Rattle.np_jobs.proofs.WindowLemmas.{to}
 later : (n : ℕ) → 0 < n → (n == 0) ≡ false
 later n is = grind (arith, nat_tests)
 
--- who speaks for the requester is live, not mute and its session
+-- a session that speaks for the requester is live, not mute and the requester's
 three : (a b d : Bool) → (a && b && not d) ≡ true → (a ≡ true) × ((b ≡ true) × (not d ≡ true))
 three true true true is = absurd cc
 three true true false is = (refl, (refl, refl))
@@ -75,7 +75,8 @@ module _ (c : Configuration) (s : State) (q : RequesterId) (session : SessionId)
     own : (by : SessionId) → is_current (Requester q) by s ≡ true → by ≡ session
     own by is = one-current (Requester q) s by session is current
 
-    -- no event of the kind is useful, where an accepted one finds the job open and a job that was passed has none that passes
+    -- no event of the kind is useful, if an accepted one finds the job open and a job that was
+    -- passed has none that passes
     none_of : (kind : JobKind) → ((j : JobId) (what : Done) → judge c s (job_event kind session j) ≡ Ok what → IsOpen c s q j) → ((j : JobId) → IsPassed c s q session j → passes c s (Requester q) (job_event kind session j) ≡ false) → NoneOf c s (Requester q) (kind_of.Job kind)
     none_of kind found fails by j useful =
         let made : is_current (Requester q) by s ≡ true = rw (job-maker kind by j) at useful.maker in

@@ -41,7 +41,7 @@ next_none (y ∷ xs) (suc i) is = next_none xs i is
 
 -- ## the place of a job
 
--- the row at place i is the requester's and not over, and so many before it are
+-- the row at place i is the requester's and not over, and so are `at` rows before it
 pub record IsPlaced (q : RequesterId) (rows : List (Job × JobRecord)) (i at : ℕ) : Type 0 where
   pub passes : option_map_or (is_unfinished q) (slice_get rows i) false ≡ true
   pub count : count_by (is_unfinished q) (take i rows) ≡ at
@@ -72,7 +72,7 @@ counted p x xs false is =
     let same : count_by p (x ∷ xs) ≡ count_by p xs = omega (arith, step, none) in
     same
 
--- one place on
+-- one place further
 one_on : (q : RequesterId) (number : ℕ) (job : Job) (rows : List Job) (kept : JobRecord) (jobs : List JobRecord) (at : ℕ) (j : JobId) → is_unfinished q (job, kept) ≡ false → IsFrom q (suc number) rows jobs at j → IsFrom q number (job ∷ rows) (kept ∷ jobs) at j
 one_on q number job rows kept jobs at j fails later = record {
   place = suc later.place;
@@ -104,7 +104,7 @@ module _ (c : Configuration) (q : RequesterId) where
     from_here true (suc at) passes found = one_more q number job rows kept jobs at j passes (rest at (rw (by_row number job kept row, passes) at found))
     from_here false at fails found = one_on q number job rows kept jobs at j fails (rest at (rw (by_row number job kept row, fails) at found))
 
-  -- the one at a place among them is such a job, and so many before it are
+  -- the job at a place among them is such a job, and the place is the number of such jobs before it
   pub from : (number : ℕ) (rows : List Job) (jobs : List JobRecord) (at : ℕ) (j : JobId) → drop number c.jobs ≡ rows → slice_get (unfinished_from c q number jobs) at ≡ Some j → IsFrom q number rows jobs at j
   from number rows [] at j is found = absurd cc
   from number [] (kept ∷ jobs) at j is found =
@@ -137,7 +137,7 @@ module _ (c : Configuration) (q : RequesterId) where
   few-by number kept jobs true passes later = rw passes (omega (arith, later))
   few-by number kept jobs false fails later = rw fails (omega (arith, later))
 
-  -- no more than jobs
+  -- there are no more of them than jobs
   pub few : (number : ℕ) (jobs : List JobRecord) → length (unfinished_from c q number jobs) ≤ length jobs
   few number [] = omega arith
   few number (kept ∷ jobs) = few-by number kept jobs (is_unfinished_job c q (record { 0 = number }) kept) refl (few (suc number) jobs)
@@ -154,7 +154,7 @@ zip-at {X = X} {Y = Y} (a ∷ xs) (b ∷ ys) zero x y is = let same : (a, b) ≡
 zip-at (a ∷ xs) (b ∷ ys) (suc i) x y is = zip-at xs ys i x y is
 
 module _ (c : Configuration) (s : State) (q : RequesterId) where
-  -- the one at a place among them is in the window where the place is
+  -- the job at a place among them is in the window if and only if the place is
   pub in-window : (at : ℕ) (j : JobId) → slice_get (unfinished_from c q 0 s.jobs) at ≡ Some j → is_in_window c s q j ≡ nat_lt at (window_of c q)
   in-window at j found =
       let is : IsFrom q 0 c.jobs s.jobs at j = from c q 0 c.jobs s.jobs at j refl found in
@@ -168,7 +168,7 @@ module _ (c : Configuration) (s : State) (q : RequesterId) where
       let passes : is_unfinished q pair ≡ true = and-first _ _ (rw there at is) in
       (pair.1, (rows.1, rw rows.0 passes))
 
-  -- one in the window stands at a place of it
+  -- a job in the window is at a place of it
   pub window-place : (j : JobId) → is_in_window c s q j ≡ true → (at : ℕ) × ((at < window_of c q) × (slice_get (unfinished_from c q 0 s.jobs) at ≡ Some j))
   window-place j is =
       let row = window_row j (slice_get (jobs_of c s) j.0) refl is in
@@ -180,18 +180,18 @@ module _ (c : Configuration) (s : State) (q : RequesterId) where
   none_by j false is none = is
   none_by j true is none = let place = window-place j is in absurd (none place.0 place.1.0 place.1.1)
 
-  -- one that stands at no place of the window is not in it
+  -- a job that is at no place of the window is not in it
   pub none-in-window : (j : JobId) → ((k : ℕ) → k < window_of c q → slice_get (unfinished_from c q 0 s.jobs) k ≡ Some j → ⊥) → is_in_window c s q j ≡ false
   none-in-window j none = none_by j (is_in_window c s q j) refl none
 
-  -- one that stands at a place of the window is in it
+  -- a job that is at a place of the window is in it
   pub yes-in-window : (at : ℕ) (found j : JobId) → at < window_of c q → slice_get (unfinished_from c q 0 s.jobs) at ≡ Some found → found.0 ≡ j.0 → is_in_window c s q j ≡ true
   yes-in-window at found j within there same =
       let one : found ≡ j = ap (λ (n : ℕ). record { 0 = n }) same in
       let test : nat_lt at (window_of c q) ≡ true = grind (arith, nat_tests) in
       in-window at j (there ∙ ap (λ (x : JobId). Some x) one) ∙ test
 
--- a place where there is one is before the end
+-- a place that has a member is before the end
 past_end : {X : Type 0} (xs : List X) (i : ℕ) → slice_get xs i ≡ None → length xs ≤ i
 past_end [] i is = omega arith
 past_end (x ∷ xs) zero is = absurd cc

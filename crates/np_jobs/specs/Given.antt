@@ -1,4 +1,4 @@
--- which nodes are for a requester, told by what they are allocated to
+-- which nodes are for a requester, determined by what they are allocated to
 use Rattle.std.specs.Prelude.{Bool, false, ◌&&◌, []}
 use Rattle.std.specs.Option.{option_map, option_map_or}
 use Rattle.std.specs.List.{list_any}
@@ -18,7 +18,7 @@ use Rattle.np_useful.specs.Requester.{is_handed_over}
 abbrev pub has_given : Configuration → State → RequesterId → NodeId → RequestId → Asked → Bool
 has_given c s q n r asked = is_handed_over c s q (record { id = r; kept = new_record asked; queue = [] }) && list_any (is_node n) asked.nodes
 
--- the request that the node is allocated to has
+-- the request that the node is allocated to has given it
 abbrev pub is_given : Configuration → State → RequesterId → NodeId → NodeRecord → Bool
 is_given c s q n k =
     option_map_or (λ r. option_map_or (has_given c s q n r) (option_map asked_of (request_in r s.requests)) false) k.allocated_to false

@@ -20,7 +20,7 @@ use Rattle.np_roles.specs.Passing.{passes}
 abbrev pub steps : List EventKind
 steps = Job of_job.Finish ∷ Job of_job.Take ∷ Job of_job.Acquire ∷ Job of_job.Submit ∷ []
 
--- the kinds that are tried then (own)
+-- the kinds that are tried after those (own)
 abbrev pub rest : List EventKind
 rest = Job of_job.Release ∷ Node (of_node.End end.Used) ∷ Node (of_node.End end.Hold) ∷ Node of_node.Unlock ∷ Node of_node.Lock ∷ []
 

@@ -14,10 +14,10 @@ use np_look::Look;
 use np_roles::{EventKind, JobKind, NodeKind, choose_opening, current_session, first_of_kinds};
 use np_text::{EndAs, RequesterId, Role};
 
-/// A useful event of the requester, or `None` exactly where there is none. It takes no memory. It
+/// A useful event of the requester, or `None` if and only if there is none. It takes no memory. It
 /// tests four events for each of the requester's jobs that is not over, then one for each job, then
 /// four for each node, up to the first that is useful. An event on a node costs a few lookups,
-/// whatever requests there are.
+/// however many requests there are.
 pub fn choose_requester<L: Look>(look: &L, requester: RequesterId) -> Option<Event>
     requires there { is_role (L.site look.now) (Requester requester) ≡ true }
     requires reached { IsReached (L.site look.now) (L.state look.now) }

@@ -1,15 +1,15 @@
-//! What a requester does next: one useful event of its, or none exactly where there is none.
+//! What a requester does next: one useful event of its own, or none if and only if there is none.
 //!
 //! The kinds of events are tried in this order, and the first event that is useful is chosen.
 //!
-//! | What | Asked of |
+//! | What | Tried on |
 //! |---|---|
 //! | finish, take, acquire, submit | each of its jobs that is not over, the first job first |
 //! | release | each job |
 //! | end-node, unlock-node, lock-node | each node, by number |
-//! | open a session | where it has none |
+//! | open a session | if it has none |
 //!
-//! So a job that is under way goes before one that begins, and what is no longer needed is given
+//! So a job that is under way comes before one that begins, and what is no longer needed is given
 //! back before more is locked. Which events are useful is defined in np_useful.
 #![tactic(auto)]
 

@@ -28,7 +28,7 @@ fn is_asked_by<L: Look>(look: &L, requester: RequesterId, id: JobId) -> bool
     job.requester.0 == requester.0 && kept.phase == Phase::Asked
 }
 
-/// Whether the request is fulfilled, and for an asked job of the requester.
+/// Whether the request is fulfilled, and is for an asked job of the requester.
 fn is_handed_over<L: Look>(
     look: &L,
     requester: RequesterId,
@@ -80,7 +80,7 @@ fn is_given<L: Look>(look: &L, requester: RequesterId, node: NodeId, kept: &Node
 }
 
 /// Whether the node is in the list of a fulfilled request of an asked job of the requester. It is
-/// then allocated to that request, so that it costs a lookup of each.
+/// then allocated to that request, so this costs one lookup of each.
 pub(crate) fn is_for<L: Look>(look: &L, requester: RequesterId, node: NodeId) -> bool
     requires { IsReached (L.site look.now) (L.state look.now) }
     ensures { result ≡ is_for (L.site look.now) (L.state look.now) requester node }
@@ -91,7 +91,7 @@ pub(crate) fn is_for<L: Look>(look: &L, requester: RequesterId, node: NodeId) ->
     }
 }
 
-/// Whether the node is there and not in use.
+/// Whether the node exists and is not in use.
 pub(crate) fn is_idle<L: Look>(look: &L, node: NodeId) -> bool
     ensures { result ≡ node_is node (L.state look.now) (λ k. not (is_in_use k.state)) }
 {
@@ -116,7 +116,7 @@ fn is_same_end(one: EndAs, other: EndAs) -> bool
     }
 }
 
-/// Whether the job that has the node leaves its nodes so. It asks every job for the node.
+/// Whether the job that has the node leaves its nodes this way. It searches all jobs for the node.
 #[tactic(auto, using(np_look::proofs::OwnerLemmas::owner_at))]
 pub(crate) fn is_left_as<L: Look>(look: &L, node: NodeId, end: EndAs) -> bool
     ensures { result ≡ is_left_as (L.site look.now) (L.state look.now) node end }

@@ -19,7 +19,7 @@ pub(crate) struct RequesterRows {
     pub(crate) requester: RequesterId,
 }
 
-/// Whether the job is there and has a handle of one of its semaphores.
+/// Whether the job exists and has a handle of one of its semaphores.
 fn has_handles<L: Look>(look: &L, id: JobId) -> bool
     ensures { result ≡ job_is id (L.site look.now) (has_some_handle (L.state look.now) id) }
 {

@@ -13,7 +13,7 @@ use np_record::JobRecord;
 use np_site::Job;
 use np_text::{JobId, Phase, RequestState, RequesterId};
 
-/// On how many jobs the requester works at the same time.
+/// How many jobs the requester works on at the same time.
 fn window(config: &Config, requester: RequesterId) -> u32
     ensures { result ≡ window_of config.now requester }
 {
@@ -24,7 +24,7 @@ fn window(config: &Config, requester: RequesterId) -> u32
 }
 
 /// Whether the job is one of the first jobs of the requester that are not over, as many as its
-/// window. It asks for as many of them as the window has.
+/// window. It reads as many of them as the window has.
 pub(crate) fn is_in_window<L: Look>(look: &L, requester: RequesterId, job: JobId) -> bool
     ensures { result ≡ is_in_window (L.site look.now) (L.state look.now) requester job }
 {
@@ -39,7 +39,7 @@ pub(crate) fn is_in_window<L: Look>(look: &L, requester: RequesterId, job: JobId
     false
 }
 
-/// Whether the job's request is there and fulfilled.
+/// Whether the job's request exists and is fulfilled.
 fn has_fulfilled_request<L: Look>(look: &L, kept: &JobRecord) -> bool
     ensures { result ≡ has_fulfilled_request (L.state look.now) kept.now }
 {

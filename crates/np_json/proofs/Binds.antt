@@ -6,7 +6,7 @@ use Rattle.np_json.specs.declared.fault.ConfigRead.TheVariants as errors
 use Rattle.np_lists.specs.Refusals.{◌>>=◌, ◌>>◌}
 use Rattle.np_json.specs.Reading.{fault_of, Fails}
 
--- a fault that a step tells is told by what begins with it
+-- a step's fault is the fault of what begins with it
 pub binds : {A B : Type 0} (e : ConfigRead) (r : Result A ConfigFault) (f : A → Result B ConfigFault) → Fails e (fault_of r) → Fails e (fault_of (r >>= f))
 binds errors.NoMemory r f told = tt
 binds (errors.Fault t) (Ok x) f told = absurd (cc)

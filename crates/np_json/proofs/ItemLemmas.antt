@@ -18,7 +18,7 @@ items_view-drop vs i v within is =
     ap items_view front
 
 module _ {S : Type 0} (read : ReadsItem S) (at : List ℕ) where
-  -- one item more was read
+  -- one more item was read
   pub items_more : (all : Result S ConfigFault) (vs : List Value) (i : ℕ) (v : Value) (before after : S) → i < length vs → v ≡ get_or vs i v
       → read (below at (decimal i)) before (view v) ≡ Ok after
       → items_from read at i before (items_view (drop i vs)) ≡ all → items_from read at (i + 1) after (items_view (drop (i + 1) vs)) ≡ all

@@ -101,7 +101,7 @@ items_from-keeps {S} read P step at n m s t (item d ds) so_far e =
     let more : m + 1 + items_len ds ≡ m + suc (items_len ds) = omega arith in
     subst (λ (k : ℕ). P k t) more (items_from-keeps read P step at (n + 1) (m + 1) x.0 t ds (step (below at (decimal n)) m s x.0 d so_far x.1) x.2)
 
--- the number of items is within the limits, and what each item keeps holds after so many
+-- the number of items is within the limits, and what each item keeps holds after that many
 pub list_at-takes : {S : Type 0} (read : ReadsItem S) (P : ℕ → S → Type 0) → ((at : List ℕ) (n : ℕ) (s t : S) (d : Data) → P n s → read at s d ≡ Ok t → P (n + 1) t)
     → (at : List ℕ) (l : Length) (s t : S) (d : Data) → P 0 s → list_at read at l s d ≡ Ok t → (n : ℕ) × (l.before + n ≤ l.most) × (l.least ≤ n) × P n t
 unfolding list_at

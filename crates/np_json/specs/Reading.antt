@@ -1,4 +1,4 @@
--- faults with their places, and what a reader of the code answers
+-- faults with their places, and what a reader of the code returns
 use Rattle.std.specs.Prelude.{◌≡◌, ℕ, List, ◌∷◌, ◌++◌, decimal, Option, Some, None, Result, Ok, Err}
 use Rattle.np_json.specs.declared.fault.ConfigKind.{ConfigKind}
 use Rattle.np_json.specs.declared.fault.ConfigFault.{ConfigFault}
@@ -20,22 +20,22 @@ abbrev pub pointer_to : Place → List ℕ
 pointer_to (Member object key) = below object.now key.now
 pointer_to (Item list index) = below list.now (decimal index)
 
--- the fault, where there is one
+-- the fault, if there is one
 abbrev pub fault_of : {A : Type 0} → Result A ConfigFault → Option ConfigFault
 fault_of (Ok x) = None
 fault_of (Err f) = Some f
 
--- an error of the code tells this fault, unless memory ran out
+-- an error of the code has this fault, unless memory ran out
 abbrev pub Fails : ConfigRead → Option ConfigFault → Type 0
 Fails (errors.Fault f) told = told ≡ Some f
 Fails errors.NoMemory told = Unit {0}
 
--- what the code answers, seen by view, is what reading gives, unless memory ran out
+-- what the code returns, seen by view, is the result of reading, unless memory ran out
 abbrev pub Gives : {X A : Type 0} → (X → A) → Result X ConfigRead → Result A ConfigFault → Type 0
 Gives view (Ok x) read = read ≡ Ok (view x)
 Gives view (Err e) read = Fails e (fault_of read)
 
--- what the code leaves behind a `&mut` is what reading gives, unless memory ran out
+-- what the code leaves behind a `&mut` is the result of reading, unless memory ran out
 abbrev pub Leaves : {X S : Type 0} → Result X ConfigRead → S → Result S ConfigFault → Type 0
 Leaves (Ok done) left read = read ≡ Ok left
 Leaves (Err e) left read = Fails e (fault_of read)

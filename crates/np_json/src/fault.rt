@@ -41,14 +41,15 @@ impl Pointer {
 pub enum ConfigKind {
     /// The bytes are no JSON text, or nest deeper than 127.
     NotJson,
-    /// A key that has to be there is absent.
+    /// A key that must be there is absent.
     Missing,
     /// An object has a key that means nothing there.
     UnknownKey,
-    /// Another kind of value than is wanted; also a number with a sign, a point or an exponent
-    /// where a whole number is wanted, and `null` anywhere.
+    /// A value of another kind than expected; also a number with a sign, a point or an exponent if
+    /// a whole number is expected, and `null` anywhere.
     WrongType,
-    /// A number outside its range, or a list shorter than its least length.
+    /// A number outside its range, a fail-start that is not above the one before it, or a list
+    /// shorter than its least length.
     OutOfRange,
     /// A name that is not 1 to 64 letters, digits, `.`, `_` or `-`.
     BadName,
@@ -72,7 +73,7 @@ pub struct ConfigFault {
 pub enum ConfigRead {
     /// The first fault of the text.
     Fault(ConfigFault),
-    /// No memory was found.
+    /// Memory ran out.
     NoMemory,
 }
 
@@ -100,7 +101,7 @@ impl<T: Drop> From<AllocFailed<T>> for ConfigRead {
     }
 }
 
-/// A place below one that has a pointer. Its own pointer is made only where it is needed.
+/// A place below one that has a pointer. Its own pointer is made only if it is needed.
 #[derive(Clone, Copy)]
 pub enum Place<'a> {
     /// The member of an object with this key.

@@ -1,4 +1,4 @@
-//! The kinds of values, each with what is wrong where the value is another.
+//! The kinds of values, each with the fault if the value is of another kind.
 
 ghost use Rattle.std.specs.Prelude.{List, ℕ, ◌≡◌, ◌≤◌, map, IfOk};
 ghost use Rattle.std.specs.List.{list_any};
@@ -35,7 +35,7 @@ fn has_only(members: &Map<String, Value>, keys: &[&str]) -> bool
     true
 }
 
-/// Tests that the value is an object, and has no key but these.
+/// Tests that the value is an object, and has no keys except these.
 pub fn object(alloc: Global, at: &[u8], keys: &[&str], value: &Value) -> Result<(), ConfigRead>
     ensures { Gives (λ done. done) result
         (object_at at.now (map (λ k. k.now) keys.now) (view value.now)) }
@@ -49,7 +49,7 @@ pub fn object(alloc: Global, at: &[u8], keys: &[&str], value: &Value) -> Result<
     Ok(())
 }
 
-/// The member with this key, which has to be there.
+/// The member with this key, which must be there.
 pub fn required<'a>(
     alloc: Global,
     at: &[u8],
@@ -116,7 +116,7 @@ pub struct Length {
 }
 
 impl Length {
-    /// At most so many items.
+    /// At most `most` items.
     pub const fn at_most(most: usize) -> Length
         ensures { result ≡ at_most most }
     {
@@ -138,7 +138,7 @@ impl Length {
         }
     }
 
-    /// The same behind earlier lists that share the limit, which have so many items.
+    /// The same after earlier lists that share the limit, which have `earlier` items.
     pub const fn behind(self, earlier: usize) -> Length
         ensures { result ≡ behind earlier self }
     {
@@ -152,7 +152,7 @@ impl Length {
 
 ghost use Rattle.std.specs.Prelude.{◌+◌, vec_len};
 
-/// A list with as many items as there may be.
+/// A list whose number of items is allowed.
 #[tactic(auto, using(crate::proofs::Lists::counts))]
 pub fn list_of<'a>(
     alloc: Global,

@@ -1,8 +1,8 @@
 //! Reading the configuration's JSON: members, names, numbers and lists, each with its first fault.
 //!
 //! The meaning of each reader is a function of the JSON value alone, in `specs/Leaf` and
-//! `specs/Rows`: it gives what stands there or the first fault with the place as a JSON pointer. A
-//! reader of the code gives just that, unless memory runs out.
+//! `specs/Rows`: it is what is there, or the first fault with its place as a JSON pointer. A reader
+//! of the code returns just that, unless memory runs out.
 #![tactic(auto)]
 
 mod fault;

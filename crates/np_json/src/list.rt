@@ -12,14 +12,14 @@ use crate::leaf::{Length, list_of, required};
 use serde_json::Value;
 use std::alloc::Global;
 
-/// Rows that are read from a list, each beside those before it; `C` is what they may refer to.
+/// Rows that are read from a list, each given those before it; `C` is what they may refer to.
 pub trait Rows<C>: Drop {
-    /// How a row is read: with what it may refer to, at its place, beside the rows before it.
+    /// How a row is read: with what it may refer to, at its place, given the rows before it.
     ghost reads: { C → List ℕ → Self → Data → Result Self ConfigFault };
     /// How many rows there are.
     ghost count: { Self → ℕ };
 
-    /// Reads one row more.
+    /// Reads one more row.
     fn read(
         &mut self,
         alloc: Global,
@@ -72,7 +72,7 @@ fn list_rows<C, R: Rows<C>>(
     rows_of(alloc, context, at.as_slice(), values.as_slice(), start)
 }
 
-/// The rows of a list that has to be there.
+/// The rows of a list that must be there.
 #[tactic(auto, using(crate::proofs::Binds::exits), unfolding(crate::specs::Rows::list_required))]
 pub fn rows_required<C, R: Rows<C>>(
     alloc: Global,
@@ -99,7 +99,7 @@ pub fn rows_required<C, R: Rows<C>>(
     )
 }
 
-/// The rows of a list, and none where it is absent.
+/// The rows of a list, or none if it is absent.
 #[tactic(auto, using(crate::proofs::Binds::exits), unfolding(crate::specs::Rows::list_maybe))]
 pub fn rows_maybe<C, R: Rows<C>>(
     alloc: Global,

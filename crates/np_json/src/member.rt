@@ -10,7 +10,7 @@ use crate::leaf::{flag_of, required, whole_of};
 use serde_json::Value;
 use std::alloc::Global;
 
-/// A whole number of the range, which has to be there.
+/// A whole number of the range, which must be there.
 #[tactic(auto, using(crate::proofs::Binds::exits), unfolding(crate::specs::Leaf::whole_required))]
 pub fn whole_required(
     alloc: Global,
@@ -28,7 +28,7 @@ pub fn whole_required(
     whole_of(alloc, Place::Member(at, key), least, most, member)
 }
 
-/// A whole number of the range, or what stands for it where it is absent.
+/// A whole number of the range, or its default if it is absent.
 pub fn whole(
     alloc: Global,
     at: &[u8],
@@ -49,7 +49,7 @@ pub fn whole(
     whole_of(alloc, Place::Member(at, key), least, most, member)
 }
 
-/// A whole number of the range, where it is there.
+/// A whole number of the range, if it is there.
 pub fn whole_maybe(
     alloc: Global,
     at: &[u8],
@@ -67,7 +67,7 @@ pub fn whole_maybe(
     Ok(Some(number))
 }
 
-/// `true` or `false`, or what stands for it where it is absent.
+/// `true` or `false`, or its default if it is absent.
 pub fn flag(
     alloc: Global,
     at: &[u8],

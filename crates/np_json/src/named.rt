@@ -9,7 +9,7 @@ use np_site::Named;
 use std::alloc::{AllocError, Global};
 use std::marker::Model;
 
-/// Rows in order, at most 65,535, found by their names, of which each stands once.
+/// At most 65,535 rows in order, found by their names, no two of which are equal.
 #[derive(Drop)]
 pub struct Table<T: Named> {
     rows: Vec<T>,
@@ -28,7 +28,7 @@ impl<T: Named> Model for Table<T> {
 }
 
 impl<T: Named> Table<T> {
-    /// A table of no rows.
+    /// A table without rows.
     pub fn new(alloc: Global) -> Table<T>
         ensures { result ≡ [] }
     {
@@ -60,7 +60,7 @@ impl<T: Named> Table<T> {
         self.rows.as_slice()
     }
 
-    /// The rows alone. It takes no memory.
+    /// The rows themselves. It takes no memory.
     pub fn into_rows(self) -> Vec<T>
         ensures { result.items ≡ self }
     {
@@ -151,7 +151,7 @@ fn name<T: Named>(
     new_name(alloc, place, earlier, text.as_bytes())
 }
 
-/// What is read first of a row: where it stands, and its name.
+/// What is read first of a row: where it is, and its name.
 #[derive(Drop)]
 pub struct NamedRow {
     /// The pointer to the row.
@@ -159,7 +159,7 @@ pub struct NamedRow {
     pub name: Name,
 }
 
-/// The name of a row, which is an object that has no key but these. None of the earlier rows has it.
+/// The name of a row, an object with no keys except these. None of the earlier rows has it.
 #[tactic(auto, using(crate::proofs::Binds::exits), unfolding(crate::specs::Leaf::named_at))]
 pub fn named_row<T: Named>(
     alloc: Global,

@@ -1,4 +1,4 @@
-//! Rows that refer to something by its number, each to another.
+//! Rows that refer to something by its number, each to a different one.
 
 ghost use Rattle.std.specs.Prelude.{◌≡◌, ◌==◌, List, ℕ, ◌++◌, ◌∷◌, [], false, OnOk, OnErr};
 ghost use Rattle.std.specs.List.{list_any};
@@ -8,7 +8,7 @@ use np_site::Numbered;
 use std::alloc::{AllocError, Global};
 use std::marker::Model;
 
-/// Rows in order, of which no two have one number.
+/// Rows in order, no two of which have the same number.
 #[derive(Drop)]
 pub struct Marked<T: Numbered> {
     rows: Vec<T>,
@@ -36,7 +36,7 @@ impl<T: Numbered> Marked<T> {
         }
     }
 
-    /// The rows alone. It takes no memory.
+    /// The rows themselves. It takes no memory.
     pub fn into_rows(self) -> Vec<T>
         ensures { result.items ≡ self }
     {

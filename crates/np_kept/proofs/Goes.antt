@@ -1,4 +1,4 @@
--- what goes by an event: which request, which node, and whose nodes are given back
+-- what an event removes: which request, which node, and whose nodes are given back
 use Rattle.std.proofs.Common.{◌≡◌, ◌∙◌, sym, refl, ap, arith, subst, Option, Some, None, Bool, true, false, inl, inr}
 use Rattle.std.specs.Prelude.{◌==◌, ◌||◌, not, if◌then◌else◌, ◌⊎◌, is_ok, is_some, slice_get}
 use Rattle.std.specs.Option.{option_map_or}
@@ -43,7 +43,7 @@ use Rattle.np_safe.specs.Parts.{JobIn, JobsStand}
 
 -- ## the maker
 
--- the maker, where there is one, is the session
+-- the maker, if there is one, is the session
 abbrev MakerIs : SessionId → Option Maker → Type 0
 MakerIs session o = (m : Maker) → o ≡ Some m → Some session ≡ Some m.session
 
@@ -91,9 +91,9 @@ plan-maker c s (ev.FreeNode session n) = plan-given (λ ch. MakerIs session ch.m
 plan-maker c s (ev.FailDeclined session r) = plan-given (λ ch. MakerIs session ch.maker) (no-maker session) (janitor s session) _ (λ p who. some-maker session (Janitor p))
 plan-maker c s (ev.Sweep session n x) = plan-given (λ ch. MakerIs session ch.maker) (no-maker session) (janitor s session) _ (λ p who. some-maker session (Janitor p))
 
--- ## what goes
+-- ## what is removed
 
--- neither a request nor a node goes, and no request is given back
+-- no request and no node is removed, and no request is given back
 abbrev pub gives_back : RequestEdit → Bool
 gives_back (edit.Serve p) = false
 gives_back (edit.AddNode n) = false
@@ -120,7 +120,8 @@ keeps_nodes (nodes.TakeOver numbers) = true
 abbrev IsCalm : Changes → Type 0
 IsCalm ch = (keeps_requests ch.requests ≡ true) × (keeps_nodes ch.nodes ≡ true)
 
--- of an event: the request that goes has its end by it, the node that goes is gone by it, and a request is given back by an event that says so
+-- an event that removes a request ends it, one that removes a node is its `gone`, and one that
+-- gives a request back says so
 pub record Goes (s : State) (e : Event) (ch : Changes) : Type 0 where
   pub request : (r : RequestId) → ch.requests ≡ requests.Remove r → is_some (request_in r s.requests) ≡ true → is_request_end r (request_in r s.requests) e ≡ true
   pub node : (n : NodeId) → ch.nodes ≡ nodes.Remove n → is_gone n e ≡ true
@@ -141,9 +142,9 @@ calm s e ch none is = record {
 still : IsCalm same
 still = (refl, refl)
 
--- ### events by which something goes
+-- ### events by which something is removed
 
--- where nothing was found, nothing goes
+-- if nothing was found, nothing is removed
 nothing-goes : (s : State) (e : Event) → Goes s e same
 nothing-goes s e = record {
   request = λ r at stands. absurd cc;
@@ -163,7 +164,7 @@ given-back s e ch r how gives at frees grows = record {
   back = λ x is. (grows, inr (let both : Some r ≡ Some x = sym gives ∙ is in let same_id : r ≡ x = cc in frees ∙ ap (λ (y : RequestId). nodes.FreeAll y) same_id));
 }
 
--- a request goes by an event that gives none back
+-- an event that removes a request gives none back
 removes : (s : State) (e : Event) (ch : Changes) (r : RequestId) → given_back_by e ≡ None → ch.requests ≡ requests.Remove r → ((n : NodeId) → ch.nodes ≡ nodes.Remove n → ⊥)
     → (is_some (request_in r s.requests) ≡ true → is_request_end r (request_in r s.requests) e ≡ true) → Goes s e ch
 removes s e ch r none at stays ends = record {
@@ -212,7 +213,7 @@ withdraw-goes s session j kept old stands early (Some r) asks = removes s (ev.Wi
 sweep-calm : (n : NodeId) (x : _) (b : Bool) → IsCalm (record same { grows = if b then grow.Nothing else grow.Swept n x })
 sweep-calm n x b = (refl, refl)
 
--- the node that is gone is the event's
+-- the node that is removed is the event's
 gone-goes : (s : State) (session : SessionId) (n : NodeId) → Goes s (ev.Gone session n) (record same { nodes = nodes.Remove n })
 gone-goes s session n = record {
   request = λ r at stands. absurd cc;

@@ -1,4 +1,4 @@
--- what an event makes stands after it, and goes on until its end
+-- what an event makes exists after it, and until its end
 use Rattle.std.proofs.Common.{Bool, ◌≡◌, sym, List, [], ◌∷◌, ◌++◌, refl, ap, arith, subst, Option, Some, None, true, Result, Ok, Err, inl, inr}
 use Rattle.std.specs.Prelude.{◌==◌, ◌⊎◌, is_ok, is_some, slice_get}
 use Rattle.std.proofs.lemmas.Bool.Decides.{nat_tests}
@@ -45,7 +45,7 @@ use Rattle.np_kept.proofs.Records.{all-losses, RequestGoesOn, NodeGoesOn, reques
 
 -- ## a new request
 
--- with the next number it is there
+-- a new request with the next number is there
 new-request : (c : Configuration) (s : State) → Invariant c s → (new : RequestEntry) → new.id.seq ≡ s.next_request → is_some (request_in new.id (insert_request new s.requests)) ≡ true
 new-request c s old new number =
     let none : request_in new.id s.requests ≡ None = request_in-later new.id s.next_request s.requests old.numbered.requests_below (omega arith) in
@@ -135,7 +135,7 @@ node-made c s _ old n a is named = absurd cc
 
 -- ## over a journal
 
--- what stands goes on with each turn, or ends by one of them
+-- what exists continues to exist with each turn, or ends by one of them
 module _ (c : Configuration) (stands : State → Bool) (Ends : Turn → Type 0)
     (goes : (s : State) (e : Entry) → Invariant c s → reply_of (judge c s e.event) ≡ e.reply → stands s ≡ true → (stands (next c s e.event) ≡ true) ⊎ Ends (record { before = s; entry = e; later = next c s e.event })) where
   goes_on : (s : State) (journal : List Entry) → Invariant c s → replayed c s journal ≡ journal → stands s ≡ true → (stands (state_after c s journal) ≡ true) ⊎ SomeTurn Ends (turns_from c s journal)

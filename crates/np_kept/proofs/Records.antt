@@ -1,4 +1,5 @@
--- a crash or an expiry changes no record, and what was made stands or its end is in the journal
+-- a crash or an expiry changes no record, and what was made still exists or its end is in the
+-- journal
 use Rattle.std.proofs.Common.{◌≡◌, ◌∙◌, sym, ℕ, List, [], ◌∷◌, refl, ap, Option, Some, None, Bool, true, false, cond, inl, inr}
 use Rattle.std.specs.Prelude.{◌==◌, ◌⊎◌, is_ok, is_some, nat_lt}
 use Rattle.np_text.specs.declared.id.SessionId.{SessionId}
@@ -80,9 +81,9 @@ pub all-losses : (c : Configuration) (s : State) (journal : List Entry) → Each
 all-losses c s [] = tt
 all-losses c s (e ∷ journal) = (λ is accepted. loses-nothing c s e.event is, all-losses c (next c s e.event) journal)
 
--- ## what goes by one event
+-- ## what one event removes
 
--- a request that stands is there after the event, or has its end by it
+-- a request that exists is there after the event, or has its end by it
 abbrev pub RequestGoesOn : Configuration → State → Event → RequestId → Type 0
 RequestGoesOn c s e r =
     (is_some (request_in r (next c s e).requests) ≡ true)
@@ -96,7 +97,7 @@ NodeGoesOn c s e n =
 there : {A : Type 0} (o : Option A) (a : A) → o ≡ Some a → is_some o ≡ true
 there {A} o a is = ap (λ (x : Option A). is_some x) is
 
--- a change of requests leaves each that it does not remove
+-- a change of requests keeps each that it does not remove
 request-stays : (maker : Option Maker) (rows : List RequestEntry) → Rises (λ a b. is_id_before a.id b.id) rows → (change : RequestsChange) (r : RequestId) → is_some (request_in r rows) ≡ true
     → (is_some (request_in r (requests_changed maker change rows)) ≡ true) ⊎ ((change ≡ requests.Remove r) × (request_in r (requests_changed maker change rows) ≡ None))
 request-stays maker rows rises requests.Same r is = inl is
@@ -138,7 +139,7 @@ node-grown c s (Some maker) (grow.Allocate m r tenant) n k is =
     ap (λ (o : Option NodeRecord). is_some o) (node_in-allocated m n r tenant maker.session s.nodes) ∙ some-map _ (node_in n s.nodes) ∙ there (node_in n s.nodes) k is
 node-grown c s maker _ n k is = there (node_in n s.nodes) k is
 
--- a change of nodes leaves each that it does not remove
+-- a change of nodes keeps each that it does not remove
 node-stays : (maker : Option Maker) (tick : ℕ) (rows : List NodeEntry) → Rises (λ a b. nat_lt a.id.0 b.id.0) rows → (change : NodesChange) (n : NodeId) → is_some (node_in n rows) ≡ true
     → (is_some (node_in n (nodes_changed maker tick change rows)) ≡ true) ⊎ ((change ≡ nodes.Remove n) × (node_in n (nodes_changed maker tick change rows) ≡ None))
 node-stays maker tick rows rises nodes.Same n is = inl is

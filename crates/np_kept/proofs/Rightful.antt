@@ -76,7 +76,7 @@ complete-held s p session r request n stands pending none listed =
     let label = place-there request.labels place.0 within in
     filled-held p session r label.0 n s.nodes (filled-at p session r s.nodes request.labels request.nodes none place.0 n label.0 place.1 label.1)
 
--- where the session holds each of the nodes, it holds one of them
+-- a session that holds each of the nodes holds a given one of them
 marks-of : (n : NodeId) (numbers : List NodeId) → list_any (λ m. m.0 == n.0) numbers ≡ true → list_any (λ m. m.node.0 == n.0) (map unended numbers) ≡ true
 marks-of n [] listed = absurd cc
 marks-of n (m ∷ numbers) listed = by (m.0 == n.0) listed (marks-of n numbers) where
@@ -199,7 +199,7 @@ module _ (c : Configuration) (s : State) (entry : Entry) (old : Invariant c s) (
   held-node : (m : NodeId) (k : NodeRecord) → m ≡ n → IsHeldNode s ch.maker m k → ByHolder t n
   held-node m k same held = by-before (record { session = held.session; role = held.role }) held.made_by (subst (λ (x : NodeId). is_session_of held.session (node_holder x s.nodes) ≡ true) same held.holds)
 
-  -- one of the nodes of a request that is fulfilled and goes
+  -- one of the nodes of a request that is fulfilled and removed
   freed-held : (x : RequestId) → EmptiesRequest x ch.requests → ch.nodes ≡ nodes.FreeAll x → given_back_by e ≡ None → is_request x node.allocated_to ≡ true → ByHolder t n
   freed-held x (inr (inl edits)) frees none mine = absurd (let gives : None ≡ Some x = sym none ∙ goes.edit x edit.GiveBack edits refl in cc)
   freed-held x (inr (inr (p, why, failed, edits))) frees none mine = absurd (let gives : None ≡ Some x = sym none ∙ goes.edit x (edit.Decline p why failed) edits refl in cc)

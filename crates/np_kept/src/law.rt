@@ -9,15 +9,15 @@ ghost use Rattle.np_machine.specs.Kept.{Kept};
 ghost use Rattle.np_machine.specs.Fenced.{Fenced};
 ghost use Rattle.np_safe.specs.Steps.{AfterEveryStep};
 
-/// A crash or an expiry changes no record; each request and each node that a run made stands, or
-/// its end is in the journal.
+/// A crash or an expiry changes no record; each request and each node that a run made still exists,
+/// or its end is in the journal.
 pub fn no_crash_and_no_expiry_loses_a_record()
     ensures { (c : Configuration) (journal : List Entry) (s : State) → Runs c journal s →
         Kept c journal }
 {}
 
-/// Each change of a node that stood is made by who holds it before or after, but for allocations
-/// that a decline or a reset gives back.
+/// Each change of a node that existed is made by a session that holds it before or after, except
+/// for allocations that a decline or a reset gives back.
 pub fn each_change_of_a_node_is_its_holders()
     ensures { (c : Configuration) (journal : List Entry) (s : State) → Runs c journal s →
         Fenced c journal }

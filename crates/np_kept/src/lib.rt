@@ -1,8 +1,8 @@
-//! That no crash and no expiry loses a record, and that a node is changed by its holder alone: laws
-//! over every run and every step of it.
+//! No crash and no expiry loses a record, and a node is changed by its holder alone: laws over
+//! every run and every step of it.
 //!
-//! `Kept` and `Fenced` are np_machine's. `proofs/Goes` tells of each event what goes by it, and the
-//! rest is by the kind of change.
+//! `Kept` and `Fenced` are np_machine's. `proofs/Goes` says what each event removes, and the rest
+//! is by the kind of change.
 #![tactic(auto)]
 
 mod law;

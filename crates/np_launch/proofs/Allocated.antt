@@ -1,4 +1,4 @@
--- a request that the pool serves and that lists a node is the one that the node is allocated to
+-- a node is allocated to the request that lists it, if the pool serves that request
 use Rattle.std.proofs.Common.{◌≡◌, ◌∙◌, ◌<◌, ℕ, List, length, Option, Some, None, true, false, refl, sym, ap, arith}
 use Rattle.std.specs.Prelude.{◌&&◌, not, slice_get}
 use Rattle.std.specs.Option.{option_map, option_map_or}
@@ -43,7 +43,7 @@ earlier-apart a b order = grind (arith, nat_tests)
 later-apart : (a b : RequestId) → is_id_before b a ≡ true → same_request a b ≡ false
 later-apart a b order = grind (arith, nat_tests)
 
--- the request at a place is the one of its id
+-- the request at a place is the request with its id
 entry-there : (rows : List RequestEntry) (i : ℕ) (e : RequestEntry) → Rises (λ a b. is_id_before a.id b.id) rows → slice_get rows i ≡ Some e → request_entry e.id rows ≡ Some e
 entry-there rows i e rise there =
     let none = none-remove (λ (a b : RequestEntry). is_id_before a.id b.id) (λ x. same_request x.id e.id) rows i e rise there (λ y order. earlier-apart y.id e.id order) (λ y order. later-apart y.id e.id order) in
@@ -58,7 +58,7 @@ named r (Some other) is = ap (λ (x : RequestId). Some x) (same_request-is other
 -- ## the node's request
 
 module _ (c : Configuration) (s : State) (holds : Invariant c s) (p : PoolId) (n : NodeId) (k : NodeRecord) (stands : node_in n s.nodes ≡ Some k) where
-  -- a pending request that lists the node has it
+  -- a pending request that lists the node is the one it is allocated to
   allocated : (r : RequestId) (q : RequestRecord) → request_in r s.requests ≡ Some q → is_pending_by p q ≡ true → is_listed n q ≡ true → k.allocated_to ≡ Some r
   allocated r q found pending listed = by q.state ((and_parts (is_pending q.state) (is_pool p q.pool) pending).0) (holds.owned.requests r q found) where
     of_served : IsServed s r q → k.allocated_to ≡ Some r
@@ -98,7 +98,7 @@ module _ (c : Configuration) (s : State) (holds : Invariant c s) (p : PoolId) (n
 -- ## a reached state
 
 module _ (c : Configuration) (s : State) (reached : IsReached c s) (p : PoolId) (n : NodeId) (k : NodeRecord) (stands : node_in n s.nodes ≡ Some k) (idle : k.in_flight ≡ false) where
-  -- a node without a launch is done with where it has no pending request
+  -- the launcher is done with a node without a launch if the node has no pending request
   pub done-is : (node_is n s (λ m. not m.in_flight) && not (is_wanted_by p s n)) ≡ not (has_pending_request p s k)
   done-is =
       let wanted : is_wanted_by p s n ≡ has_pending_request p s k = wanted-is c s (invariant-Runs c reached.journal s reached.runs) p n k stands in

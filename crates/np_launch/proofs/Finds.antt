@@ -1,4 +1,4 @@
--- the first that passes, by what is seen at a place
+-- the first member that passes, by what is seen at a place
 use Rattle.std.proofs.Common.{◌≡◌, ◌∙◌, ◌≤◌, ◌<◌, ℕ, zero, suc, Bool, true, false, List, [], ◌∷◌, length, drop, Option, Some, None, refl, ap, arith}
 use Rattle.std.specs.Prelude.{find, slice_get, is_some}
 use Rattle.std.specs.Option.{option_map}
@@ -21,7 +21,7 @@ find-past q [] (suc i) none = refl
 find-past q (x ∷ xs) zero none = absurd cc
 find-past q (x ∷ xs) (suc i) none = find-past q xs i none
 
--- some pass where the first is there
+-- some member passes if there is a first one
 any-by : {X : Type 0} (q : X → Bool) (x : X) (xs : List X) (b : Bool) → q x ≡ b → list_any q xs ≡ is_some (find q xs) → list_any q (x ∷ xs) ≡ is_some (find q (x ∷ xs))
 any-by q x xs true is later = rw is refl
 any-by q x xs false is later = rw is later
@@ -34,7 +34,7 @@ pub map-some : {X Y : Type 0} (f : X → Y) (o : Option X) → is_some (option_m
 map-some f None = refl
 map-some f (Some x) = refl
 
--- past the last place there is none, and the first such place is the length
+-- past the last place there is no member, and the first such place is the length
 pub end-there : {X : Type 0} (xs : List X) (i : ℕ) → i ≤ length xs → slice_get xs i ≡ None → i ≡ length xs
 end-there [] i low none = omega (arith, low)
 end-there (x ∷ xs) zero low none = absurd cc
@@ -49,7 +49,7 @@ some-by : {X : Type 0} (q : X → Bool) (x : X) (xs : List X) (b : Bool) → q x
 some-by q x xs true is later = (x, rw is refl)
 some-by q x xs false is later = (later.0, rw is later.1)
 
--- the first is there where one passes
+-- there is a first one if a member passes
 pub find-some : {X : Type 0} (q : X → Bool) (xs : List X) (i : ℕ) (x : X) → slice_get xs i ≡ Some x → q x ≡ true → (y : X) × (find q xs ≡ Some y)
 find-some q [] i x there passes = absurd cc
 find-some {X = X} q (y ∷ xs) zero x there passes =

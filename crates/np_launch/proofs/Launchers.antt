@@ -61,7 +61,7 @@ module _ (c : Configuration) (s : State) (p : PoolId) where
     useless (ev.FailDeclined session r) useful = never (ev.FailDeclined session r) useful.row
     useless (ev.Sweep session n x) useful = never (ev.Sweep session n x) useful.row
 
-  -- no event of the kinds is made without a session
+  -- no event of these kinds is made without a session
   none-made : has_current (Launcher p) s ≡ false → AllByRecursion (NoneLaunched c s p) launcher_order
   none-made without = (
     λ session useful. no-maker c s (Launcher p) without session (ev.Register session) refl useful,
@@ -101,12 +101,12 @@ module _ (c : Configuration) (s : State) (p : PoolId) where
     ),
   )
 
-  -- without a session the opening is all
+  -- without a session, the opening is the whole choice
   pub opening-launches : has_current (Launcher p) s ≡ false → (o : Option Event) → ChoosesOpening c s (Launcher p) o → Chooses c s (Launcher p) o
   opening-launches without None opens = useless opens (none-made without)
   opening-launches without (Some e) useful = useful
 
-  -- with a session the kinds are all
+  -- with a session, the kinds are the whole choice
   pub launches-choose : (session : SessionId) → is_current (Launcher p) session s ≡ true → (o : Option Event) → ChoosesOfAnyKind c s p launcher_order o → Chooses c s (Launcher p) o
   launches-choose session current None all = useless (current-opens c s (Launcher p) session current) all
   launches-choose session current (Some e) useful = useful

@@ -19,7 +19,7 @@ use Rattle.np_changes.specs.declared.asked.Asked.{Asked}
 use Rattle.np_useful.specs.Launcher.{is_first_reason}
 use Rattle.np_launch.specs.Computed.{same_reason, is_reason, reason_of, first_reason}
 
--- by what is found of each reason
+-- by what is found for each reason
 abbrev first-by : Option LabelId → Bool → Bool → Option NodeId → Reason → Bool
 first-by label never tenant spent (reason.NoLabel l) = option_map_or (λ first. first.0 == l.0) label false
 first-by label never tenant spent reason.NeverFits = is_none label && never
@@ -58,7 +58,7 @@ module _ (c : Configuration) (s : State) (p : PoolId) (k : RequestRecord) where
   pub reason-is : (why : Reason) → is_first_reason c s p k why ≡ is_reason why (first_reason c s p k)
   reason-is why = as-it-is why ∙ by-reason (first_unoffered c p k) (never_fits c p k) (tenant_never_fits c p k) (find (λ m. is_spent m s) k.nodes) why
 
--- ## the same reason is one reason
+-- ## reasons that are the same are equal
 
 equal : (m n : ℕ) → (m == n) ≡ true → m ≡ n
 equal m n is = grind (arith, nat_tests)

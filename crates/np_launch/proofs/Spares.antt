@@ -1,4 +1,4 @@
--- without a spare node none may be given to the request
+-- without a spare node, none may be allocated to the request
 use Rattle.std.proofs.Common.{◌≡◌, ◌∙◌, ℕ, zero, suc, Bool, true, false, List, [], ◌∷◌, Option, Some, None, Ok, Err, refl, sym, ap, arith}
 use Rattle.std.specs.Prelude.{◌==◌, find, filter, slice_get, is_some}
 use Rattle.std.specs.Option.{option_map}
@@ -40,7 +40,7 @@ kept-by : {X : Type 0} (q : X → Bool) (x : X) (xs : List X) (b : Bool) → q x
 kept-by q x xs true is later none = let first : slice_get (filter q (x ∷ xs)) 0 ≡ Some x = rw is refl in cc
 kept-by q x xs false is later none = let rest : slice_get (filter q (x ∷ xs)) 0 ≡ slice_get (filter q xs) 0 = rw is refl in later (sym rest ∙ none)
 
--- one that passes is kept
+-- a member that passes is kept
 kept-some : {X : Type 0} (q : X → Bool) (xs : List X) (i : ℕ) (x : X) → slice_get xs i ≡ Some x → q x ≡ true → slice_get (filter q xs) 0 ≡ None → ⊥
 kept-some q [] i x there passes none = absurd cc
 kept-some q (y ∷ xs) zero x there passes none =
@@ -99,6 +99,6 @@ module _ (c : Configuration) (s : State) (session : SessionId) (r : RequestId) w
       let spare : has_spare s session r ≡ true = takable-spare c s session r e.id answer.0 answer.1 in
       absurd cc
 
-  -- without one none is the first
+  -- without a spare node, there is no first one
   pub none-takable : has_spare s session r ≡ false → None ≡ first_takable c s session r
   none-takable without = sym (ap (λ (o : Option NodeEntry). option_map (λ (e : NodeEntry). e.id) o) (none-by without (find (is_takable c s session r) s.nodes) refl))

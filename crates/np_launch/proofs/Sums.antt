@@ -1,4 +1,5 @@
--- the events of a launcher that are computed: what passes is useful, and all that is useful is among them
+-- the events of a launcher that are computed: what passes is useful, and each useful event is among
+-- them
 use Rattle.std.proofs.Common.{◌≡◌, ◌∙◌, ◌<◌, ◌-◌, ℕ, Bool, true, false, [], length, Option, Some, None, Ok, refl, sym, ap, subst, arith}
 use Rattle.std.specs.Prelude.{◌&&◌, ◌==◌, not, slice_get, is_ok, if◌then◌else◌, option_and_then}
 use Rattle.std.specs.Option.{option_map, option_map_or}
@@ -93,7 +94,7 @@ same-result (outcome.Launched x) outcome.Failed is = absurd cc
 same-result outcome.Failed (outcome.Launched y) is = absurd cc
 same-result outcome.Failed outcome.Failed is = refl
 
--- ## what stands in a table
+-- ## what is in a table
 
 pub record RequestThere (s : State) (r : RequestId) (k : RequestRecord) : Type 0 where
   pub at : ℕ
@@ -162,7 +163,7 @@ module _ (c : Configuration) (s : State) (session : SessionId) (what : Done) whe
   no-label : (l : LabelId) → judge c s (ev.MinReady session l) ≡ Ok what → slice_get c.labels l.0 ≡ None → ⊥
   no-label l is none = grind (arith, nat_tests)
 
--- ## the launcher that is current
+-- ## the current launcher
 
 module _ (s : State) (p : PoolId) (session : SessionId) where
   live-parts : (facts : SessionFacts) → speaks_for (Launcher p) facts ≡ true → (facts.role ≡ Launcher p) × ((facts.live ≡ true) × (not facts.mute ≡ true))
@@ -225,7 +226,7 @@ module _ (c : Configuration) (s : State) (p : PoolId) (session : SessionId) wher
 -- ## a useful event is a candidate, or another of its kind is
 
 module _ (c : Configuration) (s : State) (p : PoolId) (session : SessionId) where
-  -- some useful event stands at a place of the kind
+  -- some useful event is at a place of the kind
   record Stands (kind : ComputedKind) : Type 0 where
     pub at : ℕ
     pub low : at < computed_places c s kind
@@ -233,7 +234,7 @@ module _ (c : Configuration) (s : State) (p : PoolId) (session : SessionId) wher
     pub there : computed_at c s p session kind at ≡ Some event
     pub useful : IsUseful c s (Launcher p) event
 
-  -- a row of a registered launcher holds
+  -- a row of a registered launcher is true
   row-of : (e : Event) (u : Bool) → (is_by_registrant s p e && u) ≡ true → u ≡ true
   row-of e u is = (and-parts (is_by_registrant s p e) u is).1
 

@@ -1,4 +1,4 @@
--- whether a node is wanted, told by what it is allocated to
+-- whether a node is needed, determined by what it is allocated to
 use Rattle.std.specs.Prelude.{Bool, false}
 use Rattle.std.specs.Option.{option_map_or}
 use Rattle.np_text.specs.declared.id.PoolId.{PoolId}

@@ -1,4 +1,4 @@
--- the order of a launcher's kinds of events, and what a search among them answers
+-- the order of a launcher's kinds of events, and what a search among them returns
 use Rattle.std.specs.Prelude.{List, [], ◌∷◌, ℕ, Option, Some, None}
 use Rattle.std.specs.List.{AllByRecursion}
 use Rattle.np_text.specs.declared.id.SessionId.{SessionId}
@@ -23,7 +23,7 @@ use Rattle.np_launch.specs.declared.computed.ComputedKind.TheVariants as compute
 use Rattle.np_launch.specs.declared.launcher.LaunchKind.{LaunchKind}
 use Rattle.np_launch.specs.declared.launcher.LaunchKind.TheVariants.{Plain, Computed}
 
--- finish before begin, and free before create (own)
+-- it finishes before it begins, and takes a free node before it creates one (own)
 abbrev pub launcher_order : List LaunchKind
 launcher_order =
     Computed computed.Register
@@ -48,7 +48,7 @@ NoneComputed c s p computed.TakeReady = (session : SessionId) (r : RequestId) (n
 NoneComputed c s p computed.Decline = (session : SessionId) (r : RequestId) (why : Reason) → IsUseful c s (Launcher p) (ev.Decline session r why) → ⊥
 NoneComputed c s p computed.MinReady = (session : SessionId) (l : LabelId) → IsUseful c s (Launcher p) (ev.MinReady session l) → ⊥
 
--- a useful event of the kind, or none where there is none (own)
+-- a useful event of the kind, or none if there is none (own)
 abbrev pub ChoosesComputed : Configuration → State → PoolId → ComputedKind → Option Event → Type 0
 ChoosesComputed c s p kind None = NoneComputed c s p kind
 ChoosesComputed c s p kind (Some e) = IsUseful c s (Launcher p) e
@@ -58,7 +58,7 @@ abbrev pub NoneLaunched : Configuration → State → PoolId → LaunchKind → 
 NoneLaunched c s p (Plain kind) = NoneOf c s (Launcher p) kind
 NoneLaunched c s p (Computed kind) = NoneComputed c s p kind
 
--- a useful event of the kind, or none where there is none (own)
+-- a useful event of the kind, or none if there is none (own)
 abbrev pub ChoosesLaunched : Configuration → State → PoolId → LaunchKind → Option Event → Type 0
 ChoosesLaunched c s p kind None = NoneLaunched c s p kind
 ChoosesLaunched c s p kind (Some e) = IsUseful c s (Launcher p) e

@@ -51,16 +51,16 @@ same_reason reason.TenantNeverFits reason.TenantNeverFits = true
 same_reason (reason.Spent n) (reason.Spent of) = of.0 == n.0
 same_reason _ _ = false
 
--- it is the one that was found
+-- the reason is the one that was found
 abbrev pub is_reason : Reason → Option Reason → Bool
 is_reason why None = false
 is_reason why (Some other) = same_reason why other
 
--- the session may give the ready node to the request
+-- the session may allocate the ready node to the request
 abbrev pub is_takable : Configuration → State → SessionId → RequestId → NodeEntry → Bool
 is_takable c s session r e = is_ok (judge c s (ev.TakeReady session r e.id))
 
--- the first node that the session may give to the request
+-- the first node that the session may allocate to the request
 abbrev pub first_takable : Configuration → State → SessionId → RequestId → Option NodeId
 first_takable c s session r = option_map (λ e. e.id) (find (is_takable c s session r) s.nodes)
 
@@ -71,7 +71,7 @@ pool_of_role (Janitor p) = None
 pool_of_role (Requester q) = None
 pool_of_role Reaper = None
 
--- the pool of the launcher whose session it is
+-- the pool of the launcher that the session belongs to
 abbrev pub pool_of : State → SessionId → Option PoolId
 pool_of s session = option_and_then (λ facts. pool_of_role facts.role) (session_of session s)
 
@@ -79,23 +79,23 @@ pool_of s session = option_and_then (λ facts. pool_of_role facts.role) (session
 abbrev pub has_free_ready : State → RequestId → PoolId → Bool
 has_free_ready s r p = request_is r s (λ k. option_map_or (λ l. is_some (free_ready_of p l 0 s)) (next_label k) false)
 
--- so has the pool of the session's launcher
+-- the pool of the session's launcher has such a node
 abbrev pub has_spare : State → SessionId → RequestId → Bool
 has_spare s session r = option_map_or (has_free_ready s r) (pool_of s session) false
 
 -- ## the events, by place
 
--- the report on the last attempt of the node at a place that the simulated cloud makes
+-- the simulated cloud's report on the last attempt of the node at a place
 abbrev pub done_at : Configuration → State → PoolId → SessionId → ℕ → Option Event
 done_at c s p session at =
     option_map (λ v. ev.Done session v.id v.kept.attempts (outcome_of c p v.kept.start)) (option_map node_view (slice_get s.nodes at))
 
--- the request at a place, where the pool serves it and it is not complete, with its first ready node
+-- the request at a place, if the pool serves it and it is not complete, with its first ready node
 abbrev pub take_ready_at : Configuration → State → PoolId → SessionId → ℕ → Option Event
 take_ready_at c s p session at =
     option_and_then (λ v. if is_pending_by p v.kept && not (is_complete v.kept) then option_map (λ n. ev.TakeReady session v.id n) (first_takable c s session v.id) else None) (option_map request_view (slice_get s.requests at))
 
--- the request at a place, where the session holds it, with its first reason
+-- the request at a place, if the session holds it, with its first reason
 abbrev pub decline_at : Configuration → State → PoolId → SessionId → ℕ → Option Event
 decline_at c s p session at =
     option_and_then (λ v. if is_session_of session v.holder then option_map (λ why. ev.Decline session v.id why) (first_reason c s p v.kept) else None) (option_map request_view (slice_get s.requests at))

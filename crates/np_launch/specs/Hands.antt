@@ -1,4 +1,4 @@
--- who waits for a request does not matter to who has it
+-- which sessions wait for a request does not affect who has it
 use Rattle.std.proofs.Common.{◌≡◌, List, [], ◌∷◌, refl}
 use Rattle.np_text.specs.declared.id.SessionId.{SessionId}
 use Rattle.np_text.specs.declared.id.PoolId.{PoolId}

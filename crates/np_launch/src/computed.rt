@@ -29,7 +29,7 @@ pub(crate) enum ComputedKind {
     MinReady,
 }
 
-/// Whether the session may give the ready node to the request.
+/// Whether the session may allocate the ready node to the request.
 fn is_takable<L: Look>(look: &L, session: SessionId, request: RequestId, node: NodeId) -> bool
     requires { Fits (L.site look.now) (L.state look.now) }
     ensures { result ≡
@@ -43,7 +43,7 @@ fn is_takable<L: Look>(look: &L, session: SessionId, request: RequestId, node: N
     decide(look, event).is_ok()
 }
 
-/// The pool of the launcher whose session it is.
+/// The pool of the launcher that the session belongs to.
 fn pool_of<L: Look>(look: &L, session: SessionId) -> Option<PoolId>
     ensures { result ≡ pool_of (L.state look.now) session }
 {
@@ -80,8 +80,8 @@ fn has_spare<L: Look>(look: &L, session: SessionId, request: RequestId) -> bool
     }
 }
 
-/// The first node that the session may give to the request. It asks every node up to that one, but
-/// only where there is one.
+/// The first node that the session may allocate to the request. It tests every node up to that one,
+/// but only if the pool has a spare node.
 fn first_takable<L: Look>(look: &L, session: SessionId, request: RequestId) -> Option<NodeId>
     requires { Fits (L.site look.now) (L.state look.now) }
     ensures { result ≡ first_takable (L.site look.now) (L.state look.now) session request }
@@ -100,7 +100,7 @@ fn first_takable<L: Look>(look: &L, session: SessionId, request: RequestId) -> O
     None
 }
 
-/// Whether some ready node may be given to the request.
+/// Whether some ready node may be allocated to the request.
 pub(crate) fn may_take_ready<L: Look>(look: &L, session: SessionId, request: RequestId) -> bool
     requires { Fits (L.site look.now) (L.state look.now) }
     ensures { result ≡ may_take_ready (L.site look.now) (L.state look.now) session request }
@@ -159,7 +159,7 @@ pub(crate) fn is_first_reason<L: Look>(
     }
 }
 
-/// The report on the last attempt of the node at a place that the simulated cloud makes.
+/// The simulated cloud's report on the last attempt of the node at a place.
 fn done_at<L: Look>(look: &L, pool: PoolId, session: SessionId, at: u32) -> Option<Event>
     ensures { result ≡ done_at (L.site look.now) (L.state look.now) pool session at }
 {
@@ -174,8 +174,7 @@ fn done_at<L: Look>(look: &L, pool: PoolId, session: SessionId, at: u32) -> Opti
     })
 }
 
-/// The request at a place, where the pool serves it and it is not complete, with its first ready
-/// node.
+/// The request at a place, if the pool serves it and it is not complete, with its first ready node.
 fn take_ready_at<L: Look>(look: &L, pool: PoolId, session: SessionId, at: u32) -> Option<Event>
     requires { Fits (L.site look.now) (L.state look.now) }
     ensures { result ≡ take_ready_at (L.site look.now) (L.state look.now) pool session at }
@@ -196,7 +195,7 @@ fn take_ready_at<L: Look>(look: &L, pool: PoolId, session: SessionId, at: u32) -
     }
 }
 
-/// The request at a place, where the session holds it, with its first reason.
+/// The request at a place, if the session holds it, with its first reason.
 fn decline_at<L: Look>(look: &L, pool: PoolId, session: SessionId, at: u32) -> Option<Event>
     requires { Fits (L.site look.now) (L.state look.now) }
     ensures { result ≡ decline_at (L.site look.now) (L.state look.now) pool session at }

@@ -47,7 +47,7 @@ const ORDER: [LaunchKind; 12] = [
     LaunchKind::Computed(ComputedKind::MinReady),
 ];
 
-/// Whether a session that holds the registration may make the event, by its row.
+/// Whether a session that holds the registration may make the event, by the event's row.
 fn is_registered_row<L: Look>(look: &L, pool: PoolId, event: Event) -> bool
     requires reached { IsReached (L.site look.now) (L.state look.now) }
     requires fits { Fits (L.site look.now) (L.state look.now) }
@@ -98,7 +98,7 @@ fn is_registered_row<L: Look>(look: &L, pool: PoolId, event: Event) -> bool
     }
 }
 
-/// Whether none of the request's nodes failed, and no ready node may be given to it.
+/// Whether none of the request's nodes failed, and no ready node may be allocated to it.
 fn is_to_create<L: Look>(look: &L, session: SessionId, request: RequestId) -> bool
     requires { Fits (L.site look.now) (L.state look.now) }
     ensures { result ≡ (request_is request (L.state look.now)
@@ -130,7 +130,7 @@ impl Rows for LauncherRows {
     }
 }
 
-/// The first useful event of the kind, or `None` exactly where there is none.
+/// The first useful event of the kind, or `None` if and only if there is none.
 fn first_of_computed<L: Look>(
     look: &L,
     rows: &LauncherRows,
@@ -154,7 +154,7 @@ fn first_of_computed<L: Look>(
     )
 }
 
-/// The first useful event of the kind, or `None` exactly where there is none.
+/// The first useful event of the kind, or `None` if and only if there is none.
 fn first_launched<L: Look>(
     look: &L,
     rows: &LauncherRows,
@@ -172,8 +172,7 @@ fn first_launched<L: Look>(
     }
 }
 
-/// The first useful event of the first of the kinds that has one, or `None` exactly where there is
-/// none.
+/// The first useful event of the first kind that has one, or `None` if and only if there is none.
 fn first_of_any<L: Look>(
     look: &L,
     rows: &LauncherRows,
@@ -194,11 +193,11 @@ fn first_of_any<L: Look>(
     None
 }
 
-/// A useful event of the pool's launcher, the first in the order of the crate's table, or `None`
-/// exactly where there is none. Its cost grows with the requests, the nodes and the labels that there
-/// are, and where the launcher has no session with the sessions. For a node that may be started, and
-/// for a request that may be locked, it may ask all requests, and for a request that the pool serves
-/// all nodes up to a ready one.
+/// A useful event of the pool's launcher, the first in the order of the crate's table, or `None` if
+/// and only if there is none. Its cost grows with the number of requests, nodes and labels, and, if
+/// the launcher has no session, with the number of sessions. For a node that may be started, and
+/// for a request that may be locked, it may scan all requests, and for a request that the pool
+/// serves all nodes up to a ready one.
 pub fn choose_launcher<L: Look>(look: &L, pool: PoolId) -> Option<Event>
     requires reached { IsReached (L.site look.now) (L.state look.now) }
     requires fits { Fits (L.site look.now) (L.state look.now) }

@@ -1,10 +1,10 @@
-//! What a launcher does next: a useful event of its own (np_useful), or none exactly where there is
-//! none. The choice keeps no memory, and reads the state through `Look`.
+//! What a launcher does next: a useful event of its own (np_useful), or none if and only if there
+//! is none. The choice keeps no memory, and reads the state through `Look`.
 //!
-//! A launcher takes the first useful event in this order, and of a kind the first in the order of its
-//! table. It finishes before it begins, and takes a free node before it makes one.
+//! A launcher takes the first useful event in this order, and within a kind the first in the order
+//! of its table. It finishes before it begins, and takes a free node before it makes one.
 //!
-//! | event | why it stands there |
+//! | event | why it is in this place |
 //! |---|---|
 //! | open | a launcher without a session can do nothing else |
 //! | register | everything else waits for it |
@@ -18,18 +18,18 @@
 //! | decline | the other pools may serve the request |
 //! | accept | the request is this pool's |
 //! | lock-request | takes up another request |
-//! | min-ready | asks for a node that no job waits for |
+//! | min-ready | requests a node that no job waits for |
 //!
-//! `request` asks one request or node, and `requests` asks all requests: each of its functions looks
-//! once at each request at most. `rows` has the conditions of whole rows, `computed` the events that
-//! name more than a request or a node, and `launcher` the choice.
+//! `request` tests one request or node, and `requests` scans all requests: each of its functions
+//! reads each request at most once. `rows` has the conditions of whole rows, `computed` the events
+//! that name more than a request or a node, and `launcher` the choice.
 //!
-//! Over a state of `r` requests, `n` nodes and `l` labels, a choice tests each request, node and label
-//! a few times. Whether a node that the launcher holds is still wanted costs a lookup of the node and
-//! one of the request that it is allocated to: in a state that a run reaches, no other pending request
-//! has it in its list. A test of a node that may be started, or of a request that may be locked, looks
-//! at all requests. Whether the pool has a ready node for a request is asked with one reader; only
-//! where it has one are the nodes up to it looked at.
+//! In a state of `r` requests, `n` nodes and `l` labels, a choice tests each request, node and
+//! label a few times. Whether a node that the launcher holds is still needed costs a lookup of the
+//! node and one of the request that it is allocated to: in a state that a run reaches, no other
+//! pending request has it in its list. A test of a node that may be started, or of a request that
+//! may be locked, scans all requests. One reader answers whether the pool has a ready node for a
+//! request; only if it has one are the nodes up to it scanned.
 #![tactic(auto)]
 
 mod computed;

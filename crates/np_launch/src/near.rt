@@ -18,7 +18,7 @@ fn provider_of(config: &Config, pool: PoolId) -> Option<u16>
     }
 }
 
-/// Whether both pools are of one provider.
+/// Whether both pools belong to one provider.
 fn is_sister(config: &Config, pool: PoolId, other: PoolId) -> bool
     ensures { result ≡ is_sister config.now pool other }
 {
@@ -66,7 +66,7 @@ pub(crate) fn is_held_near<L: Look>(look: &L, pool: PoolId, view: &RequestView) 
     }
 }
 
-/// On how many requests the launchers of the pool's provider may work, where that is limited.
+/// How many requests the launchers of the pool's provider may work on, if that is limited.
 pub(crate) fn concurrency_of(config: &Config, pool: PoolId) -> Option<u32>
     ensures { result ≡ concurrency_of config.now pool }
 {

@@ -1,4 +1,4 @@
-//! What a launcher asks of one request or node.
+//! What a launcher tests of one request or node.
 
 ghost use Rattle.std.specs.Prelude.{◌≡◌, ◌==◌, ◌&&◌, not, is_none};
 ghost use Rattle.std.specs.List.{list_any};
@@ -57,7 +57,7 @@ pub fn is_complete(request: &RequestRecord) -> bool
     request.labels.at(request.nodes.len()).is_none()
 }
 
-/// Whether the node is there and failed.
+/// Whether the node exists and failed.
 pub fn is_spent<L: Look>(look: &L, node: NodeId) -> bool
     ensures { result ≡ is_spent node (L.state look.now) }
 {
@@ -94,7 +94,7 @@ pub(crate) fn is_in_hand(
         && held
 }
 
-/// Whether the request is there, not pending, and the pool's launcher can do nothing with it.
+/// Whether the request exists and is not pending, and the pool's launcher can do nothing with it.
 pub fn is_done_with<L: Look>(look: &L, pool: PoolId, request: RequestId) -> bool
     requires { Fits (L.site look.now) (L.state look.now) }
     ensures { result ≡ request_is request (L.state look.now)
@@ -111,7 +111,7 @@ pub fn is_done_with<L: Look>(look: &L, pool: PoolId, request: RequestId) -> bool
         || look.blocking(pool, &asked).is_some()
 }
 
-/// Whether the pool's start of this number is planned to fail.
+/// Whether the pool's start with this number is planned to fail.
 fn is_to_fail(config: &Config, pool: PoolId, start: u32) -> bool
     ensures { result ≡ list_any (λ k. k == start) (fail_starts_of config.now pool) }
 {
@@ -121,7 +121,7 @@ fn is_to_fail(config: &Config, pool: PoolId, start: u32) -> bool
     }
 }
 
-/// What the simulated cloud reports of the pool's start of this number.
+/// What the simulated cloud reports on the pool's start with this number.
 pub(crate) fn outcome_of(config: &Config, pool: PoolId, start: u32) -> Outcome
     ensures { result ≡ outcome_of config.now pool start }
 {
@@ -147,7 +147,7 @@ fn is_same_outcome(one: Outcome, other: Outcome) -> bool
     }
 }
 
-/// Whether it is the report on the node's last attempt that the simulated cloud makes.
+/// Whether it is the simulated cloud's report on the node's last attempt.
 pub fn is_as_planned(
     config: &Config,
     pool: PoolId,

@@ -1,4 +1,4 @@
-//! What a launcher asks of all requests.
+//! What a launcher tests of all requests.
 
 ghost use Rattle.std.specs.Prelude.{◌≡◌, ◌≤◌, Bool, cond, count_by};
 ghost use Rattle.std.specs.List.{list_any};
@@ -16,20 +16,20 @@ use np_text::{NodeId, PoolId, SessionId};
 
 /// A test of one request.
 trait RequestTest {
-    /// Whether the request is such.
+    /// Whether the request passes the test.
     ghost such: { Self → Configuration → State → RequestEntry → Bool };
 
-    /// Whether the request is such.
+    /// Whether the request passes the test.
     fn is_such<L: Look>(&self, look: &L, view: &RequestView) -> bool
         ensures { result ≡
             such self.now (L.site look.now) (L.state look.now) (request_seen view.now) };
 
-    /// It does not matter who waits for the request.
+    /// The test does not depend on who waits for the request.
     ghost seen: { (t : Self) (c : Configuration) (s : State) (e : RequestEntry) →
         such t c s e ≡ such t c s (request_seen (request_view e)) };
 }
 
-/// Whether a request is such.
+/// Whether a request passes the test.
 fn is_any<L: Look, T: RequestTest>(look: &L, test: &T) -> bool
     ensures { result ≡
         list_any (T.such test.now (L.site look.now) (L.state look.now)) (L.state look.now).requests }
@@ -45,7 +45,7 @@ fn is_any<L: Look, T: RequestTest>(look: &L, test: &T) -> bool
     false
 }
 
-/// How many requests are such.
+/// How many requests pass the test.
 fn how_many<L: Look, T: RequestTest>(look: &L, test: &T) -> u32
     requires { Fits (L.site look.now) (L.state look.now) }
     ensures { result ≡
@@ -61,7 +61,7 @@ fn how_many<L: Look, T: RequestTest>(look: &L, test: &T) -> u32
     count
 }
 
-/// 1 where it holds.
+/// 1 if it is true.
 fn one_if(holds: bool) -> u32
     ensures one { result ≡ cond holds 1 0 }
     ensures few { result ≤ 1 }
@@ -92,7 +92,8 @@ impl RequestTest for Launches {
     ghost seen = { λ t c s e. refl };
 }
 
-/// Whether the node is in the list of a request that the pool serves, and none of that list failed.
+/// Whether the node is in the list of a request that the pool serves, and no node of that list
+/// failed.
 pub fn is_to_launch<L: Look>(look: &L, pool: PoolId, node: NodeId) -> bool
     ensures { result ≡ is_to_launch pool (L.state look.now) node }
 {
@@ -169,7 +170,7 @@ impl RequestTest for Near {
     ghost seen = { λ t c s e. near-seen c s t.pool e };
 }
 
-/// On how many requests the launchers of the pool's provider work.
+/// How many requests the launchers of the pool's provider work on.
 fn requests_near<L: Look>(look: &L, pool: PoolId) -> u32
     requires { Fits (L.site look.now) (L.state look.now) }
     ensures { result ≡ requests_near (L.site look.now) (L.state look.now) pool }

@@ -25,8 +25,8 @@ pub fn is_registrant<L: Look>(look: &L, pool: PoolId, session: SessionId) -> boo
 }
 
 /// Whether the launcher is done with the node: no launch of it is running, and no request that the
-/// pool serves wants it. Such a request is the one that the node is allocated to, so that this costs
-/// a lookup of each, whatever requests there are.
+/// pool serves needs it. Such a request is the one that the node is allocated to, so this costs one
+/// lookup of each, however many requests there are.
 pub fn is_node_done_with<L: Look>(look: &L, pool: PoolId, node: NodeId) -> bool
     requires { IsReached (L.site look.now) (L.state look.now) }
     ensures { result ≡
@@ -42,7 +42,7 @@ pub fn is_node_done_with<L: Look>(look: &L, pool: PoolId, node: NodeId) -> bool
     !has_pending_request(look, pool, &kept)
 }
 
-/// Whether the request is there, and none of its nodes failed.
+/// Whether the request exists, and none of its nodes failed.
 pub fn is_unfailed<L: Look>(look: &L, request: RequestId) -> bool
     ensures { result ≡ request_is request (L.state look.now)
         (λ kept. not (has_failed_node (L.state look.now) kept)) }
@@ -53,7 +53,7 @@ pub fn is_unfailed<L: Look>(look: &L, request: RequestId) -> bool
     }
 }
 
-/// Whether it is the report on the node's last attempt that the simulated cloud makes.
+/// Whether it is the simulated cloud's report on the node's last attempt.
 pub fn is_planned_report<L: Look>(
     look: &L,
     pool: PoolId,

@@ -17,13 +17,13 @@ use Rattle.np_told.specs.Told.{has_digits, is_told_done, is_told_refusal, is_tol
 
 -- ## ranges
 
--- a line can say it, but for the digits of a request's priority and for which ending it is
+-- a line can say it, except for the digits of a request's priority and for which ending it is
 abbrev pub DoneInRange : Done → Type 0
 DoneInRange (done.Request r) = r.seq < 2 ^ 32
 DoneInRange (done.Ended e) = Unit {0}
 DoneInRange other = HasReplyLine (reply.Done other)
 
--- a line can say it, but for the digits of a request's priority and for a journal without room
+-- a line can say it, except for the digits of a request's priority and for a journal without room
 abbrev pub RefusalInRange : Refusal → Type 0
 RefusalInRange (no.NotFirst r) = r.seq < 2 ^ 32
 RefusalInRange (no.Allocated r) = r.seq < 2 ^ 32
@@ -111,7 +111,7 @@ refusal-line no.Full told is = absurd cc
 refusal-line (no.TenantShort i c m) told is = is
 refusal-line no.TenantNeverFits told is = tt
 
--- an answer that can be told has a line where its numbers are within their ranges
+-- an answer that can be printed has a line if its numbers are within their ranges
 pub answer-line : (a : Answer) → is_told_answer a ≡ true → Says DoneInRange a → HasReplyLine (reply_of a)
 answer-line (Ok d) told is = done-line d told is
 answer-line (Err why) told is = refusal-line why told is

@@ -1,4 +1,4 @@
--- each entry of a run has a line where its event has one
+-- each entry of a run has a line if its event has one
 use Rattle.std.proofs.Common.{◌≡◌, ◌≤◌, ◌+◌, ℕ, suc, List, [], ◌∷◌, length, refl, arith, subst}
 use Rattle.std.specs.List.{AllByRecursion}
 use Rattle.np_site.specs.Configuration.{Configuration}

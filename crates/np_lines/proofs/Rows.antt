@@ -283,7 +283,7 @@ module _ (c : Configuration) (n : ℕ) (s : State) (at : Reached c n s) where
 
   -- ## every event
 
-  -- where the event has a line, each number of the answer is within its range
+  -- if the event has a line, each number of the answer is within its range
   pub judge-says : (e : Event) → HasEventLine e → Says DoneInRange (judge c s e)
   judge-says ev.Tick line = tt
   judge-says (ev.OpenSession role) line = open-says role

@@ -18,13 +18,13 @@ use Rattle.np_lists.proofs.Each.{all-from_at, all-weaker}
 use Rattle.np_fits.specs.Fits.{AmountFits, IsFew, IsFitSite}
 use Rattle.np_fits.proofs.Shape.{RequestShape, Shaped}
 
--- each part has 64 bits
+-- each part fits in 64 bits
 pub record IsWide (a : Amount) : Type 0 where
   pub instances : a.instances < 2 ^ 64
   pub cores : a.cores < 2 ^ 64
   pub ram : a.ram < 2 ^ 64
 
--- a total over the members that pass, where each takes no more than 32 offers can
+-- a total over the members that pass, if each takes no more than 32 offers can
 few-total : {X : Type 0} (f : X → Amount) (test : X → Bool) (xs : List X) → AllByRecursion (λ x. IsFew (f x) 32) xs → IsFew (total (map f (filter test xs))) (length xs * 32)
 few-total f test [] all = record { instances = omega arith; cores = omega arith; ram = omega arith }
 few-total f test (x ∷ xs) all = by (test x) refl all.0 (few-total f test xs all.1) where

@@ -9,7 +9,7 @@ ghost use Rattle.np_event.specs.Line.{HasEventLine, HasEntryLine};
 ghost use Rattle.np_machine.specs.State.{State};
 ghost use Rattle.np_machine.specs.History.{Runs};
 
-/// Each entry of a run of a sound configuration has a line where its event has one.
+/// Each entry of a run of a sound configuration has a line if its event has one.
 pub fn each_entry_of_a_run_has_a_line()
     ensures { (c : Configuration) (journal : List Entry) (s : State) → IsSound c → Runs c journal s →
         AllByRecursion (λ e. HasEventLine e.event) journal → AllByRecursion HasEntryLine journal }

@@ -1,4 +1,4 @@
--- what a change of one member is and leaves of a list
+-- what a change of one member is, and what it leaves of a list
 use Rattle.std.proofs.Common.{◌≡◌, ◌≢◌, ℕ, zero, suc, ◌<◌, ◌≤◌, List, [], ◌∷◌, ◌++◌, length, refl, ap, ◌∙◌, arith, Option, Some, None, Bool, true, false, cond, get_or}
 use Rattle.std.specs.Prelude.{find, slice_get, slice_set}
 use Rattle.std.specs.Option.{option_map}
@@ -74,19 +74,19 @@ change_at-same f g i [] x there same = refl
 change_at-same f g zero (y ∷ xs) x there same = let is : y ≡ x = cc in rw is (ap (λ (z : _). z ∷ xs) same)
 change_at-same f g (suc i) (y ∷ xs) x there same = ap (λ (ys : List _). y ∷ ys) (change_at-same f g i xs x there same)
 
--- a change that is taken back
+-- a change that is undone
 pub change_at-back : {X : Type 0} (f g : X → X) (i : ℕ) (xs : List X) (x : X) → slice_get xs i ≡ Some x → g (f x) ≡ x → change_at i g (change_at i f xs) ≡ xs
 change_at-back f g i [] x there back = refl
 change_at-back f g zero (y ∷ xs) x there back = let same : y ≡ x = cc in rw same (ap (λ first. first ∷ xs) back)
 change_at-back f g (suc i) (y ∷ xs) x there back = ap (λ rest. y ∷ rest) (change_at-back f g i xs x there back)
 
--- no member stands at a place past the end
+-- there is no member at a place past the end
 pub change_at-past : {X : Type 0} (i : ℕ) (f : X → X) (xs : List X) → length xs ≤ i → change_at i f xs ≡ xs
 change_at-past i f [] past = refl
 change_at-past zero f (x ∷ xs) past = absurd (omega arith)
 change_at-past (suc i) f (x ∷ xs) past = ap (λ t. x ∷ t) (change_at-past i f xs (omega arith))
 
--- a new member that stands before none goes to the end
+-- a new member that comes before none goes to the end
 pub insert_before-end : {X : Type 0} (p : X → Bool) (new : X) (xs : List X) → NonePass p xs → insert_before p new xs ≡ xs ++ new ∷ []
 insert_before-end p new [] none = refl
 insert_before-end p new (x ∷ xs) none = rw (none.0) (ap (λ t. x ∷ t) (insert_before-end p new xs none.1))
@@ -95,7 +95,7 @@ absent_cases : {X : Type 0} (f : X → X) (x : X) (xs ys : List X) (later : Opti
 absent_cases f x xs ys later true none there = absurd cc
 absent_cases f x xs ys later false none there = ap (λ t. x ∷ t) (there none)
 
--- where none passes, nothing changes
+-- if none passes, nothing changes
 pub change_first-absent : {X : Type 0} (p : X → Bool) (f : X → X) (xs : List X) → find p xs ≡ None → change_first p f xs ≡ xs
 change_first-absent p f [] none = refl
 change_first-absent p f (x ∷ xs) none = absent_cases f x xs (change_first p f xs) (find p xs) (p x) none (λ later. change_first-absent p f xs later)

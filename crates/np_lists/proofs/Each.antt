@@ -1,4 +1,4 @@
--- what holds of each member, after a change of the list
+-- what is true of each member, after a change of the list
 use Rattle.std.proofs.Common.{◌≡◌, ℕ, zero, suc, ◌<◌, ◌≤◌, List, [], ◌∷◌, ◌++◌, length, refl, arith, subst, Option, Some, Bool, true, false, cond, get_or}
 use Rattle.std.specs.Prelude.{map, filter, find, slice_get, slice_set}
 use Rattle.std.specs.List.{AllByRecursion, insert, remove}
@@ -79,7 +79,7 @@ module _ {X : Type 0} (P : X → Type 0) where
   all-set (y ∷ xs) zero x new all = (new, all.1)
   all-set (y ∷ xs) (suc i) x new all = (all.0, all-set xs i x new all.1)
 
-  -- a member that is changed keeps it
+  -- it stays true of a member that is changed
   first_cases : (x y : X) (xs ys : List X) (b : Bool) → P x → P y → AllByRecursion P xs → AllByRecursion P ys → AllByRecursion P (cond b (y ∷ xs) (x ∷ ys))
   first_cases x y xs ys true old new all rest = (new, all)
   first_cases x y xs ys false old new all rest = (old, rest)
@@ -104,7 +104,7 @@ module _ {X : Type 0} (P Q : X → Type 0) (weaker : (x : X) → P x → Q x) wh
   both_cases x y xs ys true old new all rest = (new, all)
   both_cases x y xs ys false old new all rest = (old, rest)
 
-  -- the first that passes is changed so that the weaker fact holds
+  -- the first that passes is changed so that the weaker fact is true of it
   pub all-change_first_to : (p : X → Bool) (f : X → X) (xs : List X) → ((x : X) → P x → Q (f x)) → AllByRecursion P xs → AllByRecursion Q (change_first p f xs)
   all-change_first_to p f [] new all = tt
   all-change_first_to p f (x ∷ xs) new all = both_cases x (f x) xs (change_first p f xs) (p x) (weaker x all.0) (new x all.0) (all-weaker xs all.1) (all-change_first_to p f xs new all.1)
@@ -114,7 +114,7 @@ module _ {X : Type 0} (P Q : X → Type 0) (weaker : (x : X) → P x → Q x) wh
   all-change_at_to zero f (x ∷ xs) new all = (new x all.0, all-weaker xs all.1)
   all-change_at_to (suc i) f (x ∷ xs) new all = (weaker x all.0, all-change_at_to i f xs new all.1)
 
--- what passes a test, with another fact
+-- the members that pass a test, with another fact
 filter_to-by : {X : Type 0} (Q : X → Type 0) (x : X) (xs : List X) (b : Bool) → (b ≡ true → Q x) → AllByRecursion Q xs → AllByRecursion Q (cond b (x ∷ xs) xs)
 filter_to-by Q x xs true first all = (first refl, all)
 filter_to-by Q x xs false first all = all
@@ -123,7 +123,7 @@ pub all-filter_to : {X : Type 0} (P Q : X → Type 0) (p : X → Bool) (xs : Lis
 all-filter_to P Q p [] each all = tt
 all-filter_to P Q p (x ∷ xs) each all = filter_to-by Q x (filter p xs) (p x) (λ passes. each x passes all.0) (all-filter_to P Q p xs each all.1)
 
--- each member changed so that another fact holds
+-- each member is changed so that another fact is true of it
 pub all-mapped : {X Y : Type 0} (P : X → Type 0) (Q : Y → Type 0) (f : X → Y) (xs : List X) → ((x : X) → P x → Q (f x)) → AllByRecursion P xs → AllByRecursion Q (map f xs)
 all-mapped P Q f [] each all = tt
 all-mapped P Q f (x ∷ xs) each all = (each x all.0, all-mapped P Q f xs each all.1)

@@ -1,4 +1,4 @@
--- rows that each stand after those before them
+-- rows of which each may follow those before it
 use Rattle.std.proofs.Common.{ℕ, ◌<◌, List, [], ◌∷◌, ◌++◌, length, get_or, take, sym, subst, append_assoc, append-nil, arith, suc, zero}
 use Rattle.std.specs.Prelude.{All}
 use Rattle.std.proofs.lemmas.List.Elements.{All-nil, All-cons, All-head, All-tail}
@@ -22,7 +22,7 @@ module _ {T : Type 0} (P : List T → T → Type 0) where
   All-from_each Q says earlier [] each = All-nil Q
   All-from_each Q says earlier (x ∷ xs) each = All-cons Q x xs (says earlier x each.0) (All-from_each Q says (earlier ++ x ∷ []) xs each.1)
 
-  -- what the row at a place stands after
+  -- what is true of the row at a place, after those before it
   pub EachAfter-at : (earlier xs : List T) (i : ℕ) (d : T) → i < length xs → EachAfter P earlier xs → P (earlier ++ take i xs) (get_or xs i d)
   EachAfter-at earlier [] i d within each = absurd (omega arith)
   EachAfter-at earlier (x ∷ xs) zero d within each = subst (λ (e : List T). P e x) (sym (append-nil earlier)) each.0
@@ -34,7 +34,7 @@ pub EachAfter-weaker : {T : Type 0} (P Q : List T → T → Type 0) → ((e : Li
 EachAfter-weaker P Q weaker earlier [] each = tt
 EachAfter-weaker P Q weaker earlier (x ∷ xs) each = (weaker earlier x each.0, EachAfter-weaker P Q weaker (earlier ++ x ∷ []) xs each.1)
 
--- members that each stand by themselves
+-- members of which each may follow any others
 pub EachAfter-from_all : {T : Type 0} (Q : T → Type 0) (earlier xs : List T) → All Q xs → EachAfter (λ e x. Q x) earlier xs
 EachAfter-from_all Q earlier [] all = tt
 EachAfter-from_all Q earlier (x ∷ xs) all = (All-head Q x xs all, EachAfter-from_all Q (earlier ++ x ∷ []) xs (All-tail Q x xs all))

@@ -1,10 +1,10 @@
--- what a member put in, or taken out, leaves
+-- what is left of a list when a member is put in or taken out
 use Rattle.std.proofs.Common.{◌≡◌, ℕ, zero, suc, ◌+◌, ◌≤◌, Bool, true, false, ◌||◌, cond, List, [], ◌∷◌, length, refl, ap, ◌∙◌, Some, arith}
 use Rattle.std.specs.Prelude.{filter, slice_get}
 use Rattle.std.specs.List.{insert, list_any, remove}
 use Rattle.std.proofs.lemmas.Bool.{or_right}
 
--- ## each takes the other back
+-- ## each undoes the other
 
 pub insert-remove : {X : Type 0} (xs : List X) (k : ℕ) (x : X) → slice_get xs k ≡ Some x → insert (remove xs k) k x ≡ xs
 insert-remove [] k x at = absurd cc

@@ -1,4 +1,4 @@
--- lists of which members are left out, or of which each is changed
+-- lists of which members are left out, or each member is changed
 use Rattle.std.proofs.Common.{◌≡◌, ℕ, suc, ◌+◌, ◌-◌, ◌≤◌, Bool, true, false, not, ◌&&◌, ◌||◌, cond, List, [], ◌∷◌, length, map, take, drop, refl, sym, ap, ◌∙◌, arith}
 use Rattle.std.specs.Prelude.{filter}
 use Rattle.std.specs.List.{AllByRecursion, list_any, prefix_len}
@@ -31,7 +31,7 @@ pub map-same : {X : Type 0} (f : X → X) (xs : List X) → ((x : X) → f x ≡
 map-same f [] same = refl
 map-same f (x ∷ xs) same = rw (same x) (ap (λ (ys : List _). x ∷ ys) (map-same f xs same))
 
--- ## where none passes
+-- ## if none passes
 
 pub list_any-none : {X : Type 0} (p : X → Bool) (xs : List X) → NonePass p xs → list_any p xs ≡ false
 list_any-none p [] none = refl
@@ -73,7 +73,8 @@ length-filter-filter p keep (x ∷ xs) = keep-by p x xs (filter keep xs) (keep x
 
 -- ## between two probes
 
--- a member is wanted where it passes the second probe and not the first, which passes no more than the second
+-- a member is wanted if it passes the second probe and not the first, which passes no more than the
+-- second
 pub record IsBetween {X : Type 0} (low high wanted : X → Bool) (x : X) : Type 0 where
   pub both : low x ≡ true → high x ≡ true
   pub is : wanted x ≡ (not (low x) && high x)
@@ -105,7 +106,7 @@ module _ {X : Type 0} (before : X → X → Bool) (low high wanted : X → Bool)
       let not_wanted : wanted x ≡ false = all.0.is ∙ rw (not_low, is) refl in
       rw (is, not_wanted) (filter-none xs all.1 (none-later before high high-down x xs is rises.0))
 
-  -- where the first probe passes nothing
+  -- if the first probe passes nothing
   filter-front : (xs : List X) → AllByRecursion (IsBetween low high wanted) xs → Rises before xs → NonePass low xs → filter wanted xs ≡ take (prefix_len high xs) xs
   filter-front [] all rises none = refl
   filter-front (x ∷ xs) all rises none = front-by x xs (high x) refl none.0 all rises (filter-front xs all.1 rises.1 none.1)

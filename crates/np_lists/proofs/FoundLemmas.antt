@@ -15,7 +15,7 @@ module _ {X : Type 0} (p : X → Bool) where
   find-passes [] x there = absurd cc
   find-passes (y ∷ xs) x there = passes-by x y xs (p y) refl (find-passes xs x) there
 
-  -- ## a member more
+  -- ## one member more
 
   front-by : (x y : X) (xs : List X) (b c : Bool) → p x ≡ b → p y ≡ c → (p y ≡ true → p x ≡ false) → cond b (Some x) (cond c (Some y) (find p xs)) ≡ cond c (Some y) (cond b (Some x) (find p xs))
   front-by x y xs true true this that apart = absurd (let none = apart that in cc)
@@ -37,7 +37,7 @@ module _ {X : Type 0} (p : X → Bool) where
   find-insert_before before new [] other = rw other refl
   find-insert_before before new (x ∷ xs) other = before-by new x xs (insert_before before new xs) (before x) other (find-insert_before before new xs other)
 
-  -- ## a member less
+  -- ## one member less
 
   pub find-remove : (xs : List X) (k : ℕ) (x : X) → slice_get xs k ≡ Some x → p x ≡ false → find p (remove xs k) ≡ find p xs
   find-remove [] k x is fails = absurd cc
@@ -77,7 +77,7 @@ module _ {X : Type 0} (p : X → Bool) where
   find-change_first f keeps [] x there = absurd cc
   find-change_first f keeps (y ∷ xs) x there = here-by f keeps x y xs (p y) refl (find-change_first f keeps xs x) there
 
--- a measure that the change keeps is the same of what is found by another test
+-- a measure that the change keeps stays the same for what another test finds
 module _ {X Y : Type 0} (measure : Option X → Y) (p q : X → Bool) (f : X → X) (same : (x : X) → q (f x) ≡ q x) (kept : (x : X) → measure (Some (f x)) ≡ measure (Some x)) where
   found-by : (x : X) (xs : List X) (c : Bool) → q (f x) ≡ c → q x ≡ c → measure (find q (f x ∷ xs)) ≡ measure (find q (x ∷ xs))
   found-by x xs true this that = rw (this, that) (kept x)

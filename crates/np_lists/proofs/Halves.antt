@@ -1,4 +1,4 @@
--- in a rising table a search by halves finds the first member that passes
+-- in a list in order, binary search finds the first member that passes
 use Rattle.std.proofs.Common.{◌≡◌, ℕ, zero, suc, ◌<◌, List, [], ◌∷◌, ◌++◌, length, refl, ap, arith, None, Bool, true, false, get_or, take, drop, cond, Some}
 use Rattle.std.specs.Prelude.{find, slice_get, slice_set}
 use Rattle.std.specs.List.{AllByRecursion}
@@ -7,7 +7,7 @@ use Rattle.np_lists.specs.Change.{change_first, remove_first, change_at}
 use Rattle.np_lists.specs.Rising.{Rises, NonePass, FirstAt}
 use Rattle.np_lists.proofs.Each.{all-get_or, all-weaker}
 
--- ## what stands at the first place
+-- ## the member at the first place
 
 pub find-first : {X : Type 0} (p : X → Bool) (xs : List X) (i : ℕ) → FirstAt p xs i → find p xs ≡ slice_get xs i
 find-first p [] i first = absurd first
@@ -54,9 +54,9 @@ pub remove_first-none : {X : Type 0} (p : X → Bool) (xs : List X) → NonePass
 remove_first-none p [] none = refl
 remove_first-none p (x ∷ xs) none = rw (none.0) (ap (λ t. x ∷ t) (remove_first-none p xs none.1))
 
--- ## the search by halves
+-- ## binary search
 
--- the members before what is sought stand before the others
+-- the members before what is searched for come before the others
 pub parted : {X : Type 0} (before : X → X → Bool) (less : X → Bool) → ((x y : X) → before x y ≡ true → less y ≡ true → less x ≡ true) → (xs : List X) → Rises before xs → IsPartitionedBy less xs
 parted before less down [] rises i j d order within passes = absurd (omega arith)
 parted before less down (x ∷ xs) rises zero zero d order within passes = passes
@@ -64,7 +64,7 @@ parted before less down (x ∷ xs) rises zero (suc j) d order within passes = do
 parted before less down (x ∷ xs) rises (suc i) zero d order within passes = absurd (omega arith)
 parted before less down (x ∷ xs) rises (suc i) (suc j) d order within passes = parted before less down xs rises.1 i j d (omega arith) (omega arith) passes
 
--- less: the member is before what is sought; same: it is what is sought
+-- less: the member is before what is searched for; same: it is what is searched for
 module _ {X : Type 0} (before : X → X → Bool) (less same : X → Bool)
     (down : (x y : X) → before x y ≡ true → less y ≡ true → less x ≡ true)
     (apart : (x : X) → less x ≡ true → same x ≡ false)
@@ -75,7 +75,7 @@ module _ {X : Type 0} (before : X → X → Bool) (less same : X → Bool)
   none_beyond : (x : X) (xs : List X) → less x ≡ false → AllByRecursion (λ y. before x y ≡ true) xs → NonePass same xs
   none_beyond x xs not_less all = all-weaker (λ y. before x y ≡ true) (λ y. same y ≡ false) (λ y order. beyond x y order not_less) xs all
 
-  -- the member at the point is what is sought
+  -- the member at the point is what is searched for
   pub found : (xs : List X) (i : ℕ) (d : X) → IsPartitionPoint (λ y. less y ≡ true) (λ y. less y ≡ false) xs i → i < length xs → same (get_or xs i d) ≡ true → FirstAt same xs i
   found [] i d point within is = absurd (omega arith)
   found (x ∷ xs) zero d point within is = is

@@ -1,13 +1,13 @@
--- what it says that tests passed
+-- what it means that tests passed
 use Rattle.std.proofs.Common.{◌≡◌, Bool, true, false, Option, Some, None, Result, Ok, Err, refl}
 use Rattle.np_lists.specs.Refusals.{◌>>=◌, ◌>>◌, found, need}
 
--- the test held, and the rest passed
+-- the test was true, and the rest passed
 pub need-ok : {B E : Type 0} (b : Bool) (refusal : E) (rest : Result B E) (x : B) → (need b refusal >> rest) ≡ Ok x → (b ≡ true) × (rest ≡ Ok x)
 need-ok true refusal rest x is = (refl, is)
 need-ok false refusal rest x is = absurd cc
 
--- the last test held
+-- the last test was true
 pub need-last : {E : Type 0} (b : Bool) (refusal : E) → need b refusal ≡ Ok tt → b ≡ true
 need-last true refusal is = refl
 need-last false refusal is = absurd cc

@@ -40,7 +40,7 @@ module _ {X K : Type 0} (lt : K → K → Bool) (key : X → K) where
   keys-set (x ∷ xs) zero y d within same = ap (λ (k : K). k ∷ map key xs) same
   keys-set (x ∷ xs) (suc i) y d within same = ap (λ (ks : List K). key x ∷ ks) (keys-set xs i y d (omega arith) same)
 
--- ## a member less
+-- ## one member less
 
 module _ {X : Type 0} (before : X → X → Bool) where
   filter-by : (p : X → Bool) (x : X) (xs : List X) (b : Bool) → AllByRecursion (λ y. before x y ≡ true) xs → Rises before xs → Rises before (cond b (x ∷ xs) xs)
@@ -60,7 +60,7 @@ module _ {X : Type 0} (before : X → X → Bool) where
   none-by : (same : X → Bool) (x : X) → ((y : X) → before x y ≡ true → same y ≡ false) → (xs : List X) → AllByRecursion (λ y. before x y ≡ true) xs → NonePass same xs
   none-by same x later xs all = all-weaker (λ y. before x y ≡ true) (λ y. same y ≡ false) later xs all
 
-  -- what stands neither before nor after the one that is taken out
+  -- if no member before or after the one that is taken out passes, none passes without it
   pub none-remove : (same : X → Bool) (xs : List X) (i : ℕ) (x : X) → Rises before xs → slice_get xs i ≡ Some x → ((y : X) → before y x ≡ true → same y ≡ false) → ((y : X) → before x y ≡ true → same y ≡ false) → NonePass same (remove xs i)
   none-remove same [] i x rises is earlier later = absurd cc
   none-remove same (y ∷ xs) zero x rises is earlier later =
@@ -84,7 +84,7 @@ insert_before-point p new (x ∷ xs) (suc i) within point =
     rw (point.0 0 x (omega arith) (omega arith))
     (ap (λ t. x ∷ t) (insert_before-point p new xs i (omega arith) (λ k e low high. point.0 (suc k) e (omega arith) (omega arith), λ k e low high. point.1 (suc k) e (omega arith) (omega arith))))
 
--- the members up to a place stand before it, and it stands before the others
+-- the members up to a place come before it, and it comes before the others
 pub Rises-between : {X : Type 0} (before : X → X → Bool) (new : X) → ((x y : X) → before new x ≡ true → before x y ≡ true → before new y ≡ true) →
     (xs : List X) (i : ℕ) → i ≤ length xs → IsPartitionPoint (λ x. before x new ≡ true) (λ x. before new x ≡ true) xs i → Rises before xs → Rises before (insert xs i new)
 Rises-between before new down [] zero within point rises = (tt, tt)

@@ -22,6 +22,6 @@ abbrev pub IsFirstPlace : {X : Type 0} → (X → Bool) → List X → Option �
 IsFirstPlace p xs None = NonePass p xs
 IsFirstPlace p xs (Some i) = FirstAt p xs i
 
--- no member that passes stands after one that does not
+-- no member that passes comes after one that does not
 abbrev pub IsSplit : {X : Type 0} → (X → Bool) → List X → Type 0
 IsSplit p xs = AllWithin (λ x. p x ≡ false) xs (prefix_len p xs) (length xs)

@@ -5,7 +5,7 @@ ghost use Rattle.std.specs.Prelude.{◌≡◌, ◌++◌, ◌∷◌, [], OnOk, On
 use std::alloc::{AllocError, Global};
 use std::marker::Model;
 
-/// A list that is made whole and then only read.
+/// A list that is complete when it is made, and then only read.
 #[derive(Drop)]
 pub struct Items<T> {
     items: Vec<T>,

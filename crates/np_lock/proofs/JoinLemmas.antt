@@ -41,7 +41,7 @@ above-wait dir is = (HasParts-below dir prefix is refl).above
 name-wait : (dir : List ℕ) → is_path dir ≡ true → name_of (wait_path dir) ≡ prefix
 name-wait dir is = (HasParts-below dir prefix is refl).last
 
--- ## the new row stands last
+-- ## the new row is the last
 
 not-before : (new old : ℕ) → old < new → new ≤ 2147483647 → is_lt (slice_cmp nat_cmp (prefix ++ ten_digits_of new) (prefix ++ ten_digits_of old)) ≡ false
 not-before new old below low = ap is_lt (slice_cmp-ten new old (omega arith) (omega arith) ∙ nat_cmp-more new old below)

@@ -71,7 +71,7 @@ kept-waits : (s : ℕ) (waits : List Wait) → filter (is_kept s) (map row_of_wa
 kept-waits s [] = refl
 kept-waits s (w ∷ waits) = kept-then s w waits (w.session == s) (kept-waits s waits)
 
--- the directory of a wait stands
+-- the directory of a wait exists
 there-by : (nodes : List Node) (dir : List ℕ) (w : Wait) (o : Option Node) → at_path nodes dir ≡ o → IsGivenOut (option_map (λ (n : Node). n.facts.counter) o) w → (n : Node) × (at_path nodes dir ≡ Some n)
 there-by nodes dir w None there given = absurd given
 there-by nodes dir w (Some n) there given = (n, there)
@@ -111,7 +111,7 @@ ends-leave t s dir tree lock =
     let left = IsQueue-end t s dir lock.0 tree lock.1 in
     ((left_by s lock.0, left), queue-waits (after_end t s) dir (left_by s lock.0) left ∙ left-sessions s lock.0 ∙ sym (ap (λ (q : List ℕ). without q s) (queue-waits t dir lock.0 lock.1)))
 
--- ## what tests ask
+-- ## what tests need
 
 pub ends-lock : (t u : TreeState) (dir : List ℕ) (s : ℕ) (b : Bool) → IsTree t → IsLock t dir → OnTrue b (u ≡ after_end t s) → OnFalse b (u ≡ t) → IsLock u dir
 ends-lock t u dir s true tree lock gone same = subst (λ (v : TreeState). IsLock v dir) (sym gone) (ends-leave t s dir tree lock).0

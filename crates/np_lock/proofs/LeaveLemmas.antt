@@ -85,9 +85,9 @@ IsWait-path t session dir path waits queue is =
     wait-by t session dir path waits (find (of_session session) waits) refl
     (sym (ap (option_map (λ (row : Row). below dir row.name)) (ap (find_owned session) queue.rows ∙ found-wait session waits)) ∙ is)
 
--- ## names tell the rows apart
+-- ## names distinguish the rows
 
--- whatever holds of rows holds of a wait among them
+-- what is true of all rows is true of a wait among them
 all-waits : (P : Row → Type 0) (waits : List Wait) → AllByRecursion P (map row_of_wait waits) → AllByRecursion (λ (w : Wait). P (row_of_wait w)) waits
 all-waits P [] all = tt
 all-waits P (w ∷ waits) all = (all.0, all-waits P waits all.1)
@@ -320,7 +320,7 @@ child-makes name text path is makes = makes-by (is_element name) is makes where
   makes-by true is made = made
   makes-by false is made = absurd cc
 
--- the delete is refused for want of a change number alone
+-- the delete is refused only because there is no change number left
 spent-by : (changes : ℕ) (refusal : TreeRefusal) (b : Bool) → nat_lt changes 18_446_744_073_709_551_615 ≡ b → changes ≤ 18_446_744_073_709_551_615 → need b no.ChangesSpent ≡ Err refusal → (refusal ≡ no.ChangesSpent) × (changes ≡ 18_446_744_073_709_551_615)
 spent-by changes refusal true is most refused = absurd cc
 spent-by changes refusal false is most refused = (cc, (let past = ltb-false changes 18_446_744_073_709_551_615 is in omega arith))

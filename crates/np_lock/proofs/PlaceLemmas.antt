@@ -14,7 +14,7 @@ use Rattle.np_lock.specs.declared.answer.LockFault.TheVariants.{NoMemory, Refuse
 abbrev pub is_session : ℕ → ℕ → Bool
 is_session session s = s == session
 
--- what is not yet asked decides, from its place on
+-- the rest of the queue, from a place on, decides where the session is
 abbrev pub IsAsked : ℕ → List ℕ → ℕ → Type 0
 IsAsked session queue at = ahead_in queue session ≡ position_from (is_session session) at (drop at queue)
 
@@ -108,7 +108,7 @@ nobody (s ∷ queue) session is = absurd cc
 pub without-none : (queue : List ℕ) (session : ℕ) → is_in queue session ≡ false → queue ≡ without queue session
 without-none queue session none = sym (filter-not_none (is_session session) queue (none-list_any (is_session session) queue none))
 
--- what a session that leaves is answered
+-- the answer to a session that leaves
 pub leaves-answer : (changes : ℕ) (fault : LockFault) → Leaves changes (Err fault) → Releases true changes (Err fault)
 leaves-answer changes (Refused refusal) is = is
 leaves-answer changes NoMemory is = tt

@@ -1,4 +1,4 @@
--- what each call of a lock answers, and what it makes of the tree
+-- what each call of a lock answers, and what it does to the tree
 use Rattle.std.specs.Prelude.{◌≡◌, ⊤, ℕ, zero, suc, ◌<◌, ◌==◌, Bool, true, false, List, [], ◌∷◌, ◌++◌, find, position, slice_get, Option, Some, None, Result, Ok, Err, IsOk, if◌then◌else◌}
 use Rattle.std.specs.Option.{is_none, option_map}
 use Rattle.np_session.specs.Known.{is_in}
@@ -56,7 +56,8 @@ Joins made (Ok _) = IsOk made
 Joins made (Err (fault.Refused refusal)) = made ≡ Err refusal
 Joins made (Err fault.NoMemory) = ⊤
 
--- the place that the session has or gets. Where it has none the create may be refused; memory may run out there alone
+-- the place that the session has or gets. Only if it has none, the create may be refused or memory
+-- may run out
 abbrev pub Enqueues : Option ℕ → Result (List ℕ) TreeRefusal → ℕ → Result Place LockFault → Type 0
 Enqueues (Some ahead) made others result = result ≡ Ok (place_with ahead)
 Enqueues None made others (Ok place) = (IsOk made) × (place ≡ place_with others)
@@ -68,7 +69,7 @@ after_enqueue t session dir = if is_in (queue_at t dir) session then t else afte
 
 -- ## a session tries
 
--- who holds answers; where nobody does, the session joins
+-- if there is a holder, it is the answer; otherwise the session joins
 abbrev pub Tries : Option ℕ → Result (List ℕ) TreeRefusal → ℕ → Result Tried LockFault → Type 0
 Tries (Some holder) made session result = result ≡ Ok (if holder == session then tried.Held else tried.Busy holder)
 Tries None made session (Ok answer) = (IsOk made) × (answer ≡ tried.Held)
@@ -92,13 +93,13 @@ find_owned session rows = find (λ row. is_owner session row.owner) rows
 abbrev pub path_in : TreeState → ℕ → List ℕ → Option (List ℕ)
 path_in t session dir = option_map (λ row. below dir row.name) (find_owned session (rows_at t dir))
 
--- the delete is refused only where no change has a number left
+-- the delete is refused only if no change has a number left
 abbrev pub Leaves : ℕ → Result (Unit {0}) LockFault → Type 0
 Leaves changes (Ok _) = changes < 18_446_744_073_709_551_615
 Leaves changes (Err (fault.Refused refusal)) = (refusal ≡ no.ChangesSpent) × (changes ≡ 18_446_744_073_709_551_615)
 Leaves changes (Err fault.NoMemory) = ⊤
 
--- whether the session was there. The delete is refused only where no change has a number left
+-- whether the session was there. The delete is refused only if no change has a number left
 abbrev pub Releases : Bool → ℕ → Result Bool LockFault → Type 0
 Releases false changes result = result ≡ Ok false
 Releases true changes (Ok was) = (was ≡ true) × (changes < 18_446_744_073_709_551_615)
@@ -116,7 +117,8 @@ join_part dir = op.Create (wait_path dir) [] EphemeralSequential
 abbrev pub leave_part : List ℕ → Op
 leave_part path = op.Delete path Any
 
--- the part that takes the session out, and none where it is not there; memory may run out where it is
+-- the part that takes the session out, and none if it is not there; memory may run out only if it
+-- is there
 abbrev pub LeavesBy : Option (List ℕ) → Result (Option Op) NoMemory → Type 0
 LeavesBy None result = result ≡ Ok None
 LeavesBy (Some path) (Ok part) = part ≡ Some (leave_part path)

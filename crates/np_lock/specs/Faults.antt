@@ -1,4 +1,4 @@
--- the tree's faults as a lock's
+-- the tree's faults as those of a lock
 use Rattle.np_nodes.specs.declared.refusal.TreeFault.{TreeFault}
 use Rattle.np_nodes.specs.declared.refusal.TreeFault.TheVariants as tree
 use Rattle.np_lock.specs.declared.answer.LockFault.{LockFault}

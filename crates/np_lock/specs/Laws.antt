@@ -11,7 +11,7 @@ use Rattle.np_views.specs.Views.{rows_at}
 use Rattle.np_lock.specs.Calls.{join_part, leave_part, path_in}
 use Rattle.np_lock.specs.Queue.{IsLock, IsQueue, Wait, queue_at}
 
--- a queue is told by the rows and the counter of its directory
+-- a queue is determined by the rows and the counter of its directory
 abbrev pub QueuesAreShown : Type 0
 QueuesAreShown = (t u : TreeState) (dir : List ℕ) (waits : List Wait) → rows_at u dir ≡ rows_at t dir → counter_at u dir ≡ counter_at t dir → IsQueue t dir waits → IsQueue u dir waits
 

@@ -21,7 +21,7 @@ pub record Wait : Type 0 where
 abbrev pub row_of_wait : Wait → Row
 row_of_wait wait = row_given EphemeralSequential wait.number wait.session prefix []
 
--- the counter of the directory has given out the number
+-- the number was given by the counter of the directory
 abbrev pub IsGivenOut : Option ℕ → Wait → Type 0
 IsGivenOut None wait = ⊥
 IsGivenOut (Some counter) wait = wait.number < counter
@@ -29,7 +29,8 @@ IsGivenOut (Some counter) wait = wait.number < counter
 abbrev pub of_others : Wait → Wait → Bool
 of_others this that = not (this.session == that.session)
 
--- a directory whose children are such nodes, at most one of each session. One that does not stand is such a directory, and so is one without children
+-- a directory whose children are such nodes, at most one of each session. A path without a node
+-- counts as such a directory, and so does a directory without children
 pub record IsQueue (t : TreeState) (dir : List ℕ) (waits : List Wait) : Type 0 where
   pub rows : rows_at t dir ≡ map row_of_wait waits
   pub given : AllByRecursion (IsGivenOut (counter_at t dir)) waits

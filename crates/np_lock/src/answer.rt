@@ -6,16 +6,16 @@ ghost use Rattle.np_lock.specs.Faults.{fault_of, no_memory};
 use np_text::NoMemory;
 use np_tree::{TreeFault, TreeRefusal};
 
-/// Where a session stands in a queue.
+/// The place of a session in a queue.
 #[derive(Clone, Copy, Debug, PartialEq, Eq)]
 pub enum Place {
     /// It is the first, and holds the lock.
     Held,
-    /// So many other sessions are ahead of it, at least one.
+    /// This many other sessions are ahead of it, at least one.
     Queued { ahead: u32 },
 }
 
-/// What a session that tries a lock is answered.
+/// The answer to a session that tries a lock.
 #[derive(Clone, Copy, Debug, PartialEq, Eq)]
 pub enum Tried {
     /// It holds the lock.
@@ -29,7 +29,7 @@ pub enum Tried {
 pub enum LockFault {
     /// The tree refuses the node.
     Refused(TreeRefusal),
-    /// No memory was found.
+    /// Memory ran out.
     NoMemory,
 }
 

@@ -15,8 +15,8 @@ pub fn parts_join()
     ensures { PartsJoin }
 {}
 
-/// The part that [`release_op`](crate::release_op) makes is accepted where there is a change
-/// number, and takes its session out of the queue.
+/// The part that [`release_op`](crate::release_op) makes is accepted if there is a change number,
+/// and takes its session out of the queue.
 pub fn parts_leave()
     ensures { PartsLeave }
 {}

@@ -34,7 +34,7 @@ pub fn waiting_at(tree: &Tree, dir: &str, at: u32) -> Option<u32>
 }
 
 /// Puts the session at the end of the queue, unless it is there, and answers its place. Scans the
-/// queue; each step takes time in the logarithm of the number of nodes.
+/// queue; each step takes time logarithmic in the number of nodes.
 pub fn enqueue(tree: &mut Tree, session: u32, dir: &Path) -> Result<Place, LockFault>
     requires { IsLock tree.old dir.now }
     ensures answer { Enqueues (ahead_in (queue_at tree.old dir.now) session)
@@ -54,7 +54,7 @@ pub fn enqueue(tree: &mut Tree, session: u32, dir: &Path) -> Result<Place, LockF
     Ok(place_with(others))
 }
 
-/// Takes the lock where nobody holds it; else answers which session does.
+/// Takes the lock if nobody holds it; otherwise answers which session does.
 pub fn try_lock(tree: &mut Tree, session: u32, dir: &Path) -> Result<Tried, LockFault>
     requires { IsLock tree.old dir.now }
     ensures answer { Tries (first_of (queue_at tree.old dir.now))
@@ -105,7 +105,7 @@ pub fn enqueue_op(alloc: Global, dir: &Path) -> Result<Op, NoMemory>
     })
 }
 
-/// The part of a `multi` that takes the session out of the queue, and none where it isn't there.
+/// The part of a `multi` that takes the session out of the queue, and none if it isn't there.
 /// Scans the queue.
 pub fn release_op(tree: &Tree, session: u32, dir: &Path) -> Result<Option<Op>, NoMemory>
     requires { IsLock tree.now dir.now }
@@ -125,7 +125,7 @@ fn count(tree: &Tree, dir: &str) -> u32
     requires { IsLock tree.now dir.now }
     ensures { result ≡ length (queue_at tree.now dir.now) }
 {
-    // The number of the last change comes with what always holds of a tree.
+    // The contract of `changes` also says what is always true of a tree.
     let _ = tree.changes();
     match tree.exists(dir) {
         Some(stat) => stat.children,
@@ -146,7 +146,7 @@ fn ahead(tree: &Tree, session: u32, dir: &str) -> Option<u32>
     None
 }
 
-/// Whether the session stands at a place of the queue.
+/// Whether the session is at a place of the queue.
 fn waits_at(tree: &Tree, session: u32, dir: &str, at: u32) -> bool
     requires { IsLock tree.now dir.now }
     ensures { result ≡ is_owner session (slice_get (queue_at tree.now dir.now) at) }
@@ -157,7 +157,7 @@ fn waits_at(tree: &Tree, session: u32, dir: &str, at: u32) -> bool
     }
 }
 
-/// The place of a session with so many ahead.
+/// The place of a session that has this many ahead.
 fn place_with(ahead: u32) -> Place
     ensures { result ≡ place_with ahead }
 {
@@ -208,7 +208,7 @@ fn join(tree: &mut Tree, session: u32, dir: &Path) -> Result<(), LockFault>
     ensures err { OnErr result (tree.new ≡ tree.old) }
 {
     let path = new_path(dir)?;
-    // The number of the last change comes with what always holds of a tree.
+    // The contract of `changes` also says what is always true of a tree.
     let _ = tree.changes();
     let made = tree.create(session, &path, b"", Mode::EphemeralSequential);
     match made {
@@ -229,7 +229,7 @@ fn leave(tree: &mut Tree, session: u32, dir: &Path, path: &Path) -> Result<(), L
     ensures err { OnErr result (tree.new ≡ tree.old) }
 {
     let _ = dir.text();
-    // The number of the last change comes with what always holds of a tree.
+    // The contract of `changes` also says what is always true of a tree.
     let _ = tree.changes();
     match tree.delete(session, path, Expect::Any) {
         Ok(()) => Ok(()),

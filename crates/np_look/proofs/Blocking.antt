@@ -40,7 +40,7 @@ by_tenant : (short limited : TenantId → Bool) (bare fit : Bool) (o : Option Te
 by_tenant short limited bare fit None free = either_way (bare && fit) None
 by_tenant short limited bare fit (Some t) free = by_tests short bare (limited t) fit t (free t)
 
--- who blocks the request is its limited tenant, where that is short of room
+-- what blocks the request is its limited tenant, if that is short of room
 blocking-limited : (c : Configuration) (s : State) (p : PoolId) (request : RequestRecord) → blocking c s p request ≡ option_and_then (λ t. if is_short_of c s p request t then Some t else None) (limited_tenant c p request)
 blocking-limited c s p request =
     by_tenant (is_short_of c s p request) (λ t. has_limit (limit_of_tenant c t)) (is_none request.pinned) (may_fit c p request) (tenant_of_request c request)

@@ -1,4 +1,4 @@
--- rows as their views tell them
+-- rows as their views show them
 use Rattle.std.proofs.Common.{◌≡◌, ◌≤◌, ℕ, zero, suc, ◌+◌, List, [], ◌∷◌, ◌++◌, length, take, drop, refl, ap, sym, ◌∙◌, arith, Bool, true, false, Option, Some, None}
 use Rattle.std.specs.Prelude.{slice_get, is_some, is_none, not, ◌&&◌, ◌||◌, ◌==◌, if◌then◌else◌, option_and_then, filter}
 use Rattle.std.specs.Option.{option_map, option_map_or}

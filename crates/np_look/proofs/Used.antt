@@ -37,7 +37,7 @@ module _ {X Y : Type 0} (f : X → Amount) (test : X → Bool) (seen : X → Y) 
   pub total_seen : (xs : List X) (i : ℕ) (y : Y) → option_map seen (slice_get xs i) ≡ Some y → total (map f (filter test (take (i + 1) xs))) ≡ plus (total (map f (filter test (take i xs)))) (takes y)
   total_seen xs i y is = more_by xs i y (slice_get xs i) refl is
 
--- so many more
+-- the bounds of two amounts add up
 pub few-plus : (a b : Amount) (m n k : ℕ) → k ≡ m + n → IsFew a m → IsFew b n → IsFew (plus a b) k
 few-plus a b m n k both one two = record {
   instances = omega (arith, both, one.instances, two.instances);

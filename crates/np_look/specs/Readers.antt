@@ -1,4 +1,4 @@
--- what readers of a state are asked beyond the machine's own words
+-- what the readers of a state return, beyond the machine's own definitions
 use Rattle.std.specs.Prelude.{ℕ, suc, Bool, false, ◌==◌, ◌&&◌, ◌||◌, not, if◌then◌else◌, List, [], ◌∷◌, filter, Option, Some, None, is_some, is_none, option_and_then, slice_get}
 use Rattle.std.specs.Option.{option_map, option_map_or}
 use Rattle.np_amount.specs.declared.amount.Amount.{Amount}
@@ -36,37 +36,38 @@ undeclined_of r s = option_map_or (undeclined s.registrations) (request_in r s.r
 abbrev pub is_last_pool_of : PoolId → RequestId → State → Bool
 is_last_pool_of p r s = option_map_or (λ request. is_last_pool s.registrations request p) (request_in r s.requests) false
 
--- the next label of the request, where the pool serves it and passes a limit with one more node of the label
+-- the next label of the request, if the pool serves it and exceeds a limit with one more node of
+-- the label
 abbrev pub short_label : Configuration → PoolId → Amount → RequestRecord → Option LabelId
 short_label c p used request =
     if is_pending_by p request
     then option_and_then (λ l. if not (fits (plus used (amount_of c p l)) (limit_of c p)) then Some l else None) (next_label request)
     else None
 
--- what the node takes, where it is the pool's
+-- what the node takes, if it is the pool's
 abbrev pub amount_at : Configuration → PoolId → NodeEntry → Amount
 amount_at c p e = if e.kept.pool.0 == p.0 then amount_of c p e.kept.label else nothing
 
 -- ## tenants
 
--- the tenant of the job, where there is one
+-- the tenant of the job, if there is one
 abbrev pub tenant_of_job : Configuration → Option JobId → Option TenantId
 tenant_of_job c job = option_map (λ row. row.tenant) (option_and_then (λ j. slice_get c.jobs j.0) job)
 
--- one part of it is limited at least
+-- at least one part of it is limited
 abbrev pub has_limit : Limit → Bool
 has_limit limit = is_some limit.instances || is_some limit.cores || is_some limit.ram
 
--- the tenant of a request that is not pinned, where it has a limit and the pool may serve the request
+-- the tenant of a request that is not pinned, if it has a limit and the pool may serve the request
 abbrev pub limited_tenant : Configuration → PoolId → RequestRecord → Option TenantId
 limited_tenant c p request =
     option_and_then (λ t. if is_none request.pinned && has_limit (limit_of_tenant c t) && may_fit c p request then Some t else None) (tenant_of_request c request)
 
--- what the node takes of its pool, where it is the tenant's
+-- what the node takes of its pool, if it is the tenant's
 abbrev pub amount_for : Configuration → TenantId → NodeEntry → Amount
 amount_for c t e = if is_tenant t e.kept.tenant then amount_of_node c e else nothing
 
--- what the request still waits for, where it is pending and the tenant's
+-- what the request still waits for, if it is pending and the tenant's
 abbrev pub rest_for : Configuration → TenantId → RequestEntry → Amount
 rest_for c t e = if is_pending_of c t e then rest_of_request c e else nothing
 

@@ -13,7 +13,7 @@ request_view e = record { id = e.id; kept = e.kept; holder = holder e.queue }
 abbrev pub node_view : NodeEntry → NodeView
 node_view e = record { id = e.id; kept = e.kept; holder = holder e.queue }
 
--- ## rows as their views tell them: the queue but for who waits
+-- ## rows as their views show them: the queue without those who wait
 
 abbrev pub held_by : Option SessionId → List SessionId
 held_by None = []
@@ -25,7 +25,7 @@ request_seen v = record { id = v.id; kept = v.kept; queue = held_by v.holder }
 abbrev pub node_seen : NodeView → NodeEntry
 node_seen v = record { id = v.id; kept = v.kept; queue = held_by v.holder }
 
--- before the best so far, where there is one
+-- before the best so far, if there is one
 abbrev pub comes_first : Option RequestView → RequestView → Bool
 comes_first None v = true
 comes_first (Some best) v = comes_before (request_seen v) (request_seen best)

@@ -47,7 +47,7 @@ pub fn limit(config: &Config, pool: PoolId) -> Limit
     }
 }
 
-/// How often a node of the pool may be launched.
+/// How many times a node of the pool may be launched.
 pub fn retries(config: &Config, pool: PoolId) -> u8
     ensures { result ≡ retries_of config.now pool }
 {
@@ -83,7 +83,7 @@ pub fn amount(config: &Config, pool: PoolId, label: LabelId) -> Amount
     }
 }
 
-/// What the node takes, where it is the pool's.
+/// What the node takes, if it is the pool's.
 pub fn amount_at(config: &Config, pool: PoolId, view: &NodeView) -> Amount
     requires small { (l : LabelId) → AmountFits (amount_of config.now pool l) }
     ensures amount { result ≡ amount_at config.now pool (node_seen view.now) }
@@ -110,7 +110,7 @@ pub fn amount_of_all(config: &Config, pool: PoolId, labels: &[LabelId]) -> Amoun
     sum
 }
 
-/// Whether the labels together pass a limit of the pool, however empty it is.
+/// Whether the labels together exceed a limit of the pool, however empty it is.
 pub fn is_too_much(config: &Config, pool: PoolId, labels: &[LabelId]) -> bool
     requires few { length labels.now < 2 ^ 32 }
     requires small { (l : LabelId) → AmountFits (amount_of config.now pool l) }
@@ -120,7 +120,7 @@ pub fn is_too_much(config: &Config, pool: PoolId, labels: &[LabelId]) -> bool
     !amount_of_all(config, pool, labels).fits(&limit(config, pool))
 }
 
-/// Whether one more node of the label passes a limit of the pool that uses so much.
+/// Whether one more node of the label exceeds a limit of the pool, which uses `used`.
 pub fn lacks_room(config: &Config, pool: PoolId, label: LabelId, used: Amount) -> bool
     requires instances { used.instances < 2 ^ 63 }
     requires cores { used.cores < 2 ^ 63 }

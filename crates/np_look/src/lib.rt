@@ -1,8 +1,8 @@
 //! What can be read of a state of the machine, whatever keeps it.
 //!
-//! A representation answers the readers of `Look` that have no body; the others walk by place, and
-//! a representation that keeps a number or an index answers with that. What a walk asks of each row
-//! is here too, and what pools and tenants have by the configuration alone.
+//! A representation implements the readers of `Look` that have no body; the others walk by place,
+//! and a representation that keeps a number or an index uses that instead. What a walk reads of
+//! each row is here too, and what the configuration alone says of pools and tenants.
 #![tactic(auto)]
 
 mod asked;

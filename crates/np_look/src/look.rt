@@ -37,8 +37,8 @@ use np_text::{
 
 /// Reads a state. No call takes memory.
 ///
-/// Each representation answers the readers that have no body here. Those that have one walk by
-/// place; a representation that keeps a number answers with it.
+/// Each representation implements the readers that have no body here. Those that have one walk by
+/// place; a representation that keeps a number returns it instead.
 pub trait Look {
     /// The configuration.
     ghost site: { Self → Configuration };
@@ -59,7 +59,7 @@ pub trait Look {
     fn tick(&self) -> u32
         ensures { result ≡ (state self.now).tick };
 
-    /// What is known of the session, or `None` exactly where it was never begun.
+    /// What is known of the session, or `None` if and only if it was never begun.
     fn session(&self, session: SessionId) -> Option<SessionFacts>
         ensures { result ≡ session_of session (state self.now) };
 
@@ -91,7 +91,7 @@ pub trait Look {
     fn request_view(&self, at: u32) -> Option<RequestView>
         ensures { result ≡ option_map request_view (slice_get (state self.now).requests at) };
 
-    /// The request's record. It is found by halves.
+    /// The request's record. It is found by binary search.
     fn request(&self, request: RequestId) -> Option<RequestRecord>
         ensures { result ≡ request_in request (state self.now).requests };
 
@@ -107,7 +107,7 @@ pub trait Look {
     fn node_view(&self, at: u32) -> Option<NodeView>
         ensures { result ≡ option_map node_view (slice_get (state self.now).nodes at) };
 
-    /// The node's record. It is found by halves.
+    /// The node's record. It is found by binary search.
     fn node(&self, node: NodeId) -> Option<NodeRecord>
         ensures { result ≡ node_in node (state self.now).nodes };
 
@@ -135,11 +135,11 @@ pub trait Look {
     fn job(&self, job: JobId) -> Option<JobRecord>
         ensures { result ≡ slice_get (state self.now).jobs job.0 };
 
-    /// What the role has done, or `None` exactly where it is no role of the configuration.
+    /// What the role has done, or `None` if and only if it is no role of the configuration.
     fn role(&self, role: Role) -> Option<RoleRecord>
         ensures { result ≡ role_in role (state self.now) };
 
-    /// Whether the server of the node was swept. The pair is found by halves.
+    /// Whether the server of the node was swept. The pair is found by binary search.
     fn swept(&self, node: NodeId, server: u64) -> bool
         ensures { result ≡ is_swept node server (state self.now).swept };
 
@@ -220,7 +220,7 @@ pub trait Look {
         self.node_queue(node, 0)
     }
 
-    /// How many sessions stand before this one in the node's queue, or in all if it is not there.
+    /// How many sessions are before this one in the node's queue, or in all if it is not there.
     fn ahead_at_node(&self, session: SessionId, node: NodeId) -> u32
         requires { Fits (site self.now) (state self.now) }
         ensures { result ≡ ahead_of session (node_queue node (state self.now).nodes) }
@@ -251,7 +251,7 @@ pub trait Look {
     }
 
     /// The tenant that has no room now for a request that the pool may serve. What a tenant uses is
-    /// asked only where the tenant has a limit.
+    /// read only if the tenant has a limit.
     fn blocking(&self, pool: PoolId, asked: &Asked) -> Option<TenantId>
         requires { Fits (site self.now) (state self.now) }
         ensures { result ≡ blocking (site self.now) (state self.now) pool (new_record asked.now) }
@@ -265,8 +265,8 @@ pub trait Look {
         }
     }
 
-    /// The first request that the pool's launcher may take up. Whether its tenant has room is asked
-    /// only of a request that comes before the best so far.
+    /// The first request that the pool's launcher may take up. Whether its tenant has room is
+    /// checked only for a request that comes before the best so far.
     fn first_of(&self, pool: PoolId) -> Option<RequestId>
         requires { Fits (site self.now) (state self.now) }
         ensures { result ≡ first_of (site self.now) (state self.now) pool }
@@ -385,7 +385,7 @@ pub trait Look {
     }
 
     /// The node at a place among the ready, free and unlocked nodes of the pool with the label, in
-    /// order of their numbers. This body asks every node up to that one.
+    /// order of their numbers. This body scans every node up to that one.
     fn free_ready(&self, pool: PoolId, label: LabelId, at: u32) -> Option<NodeId>
         ensures { result ≡ free_ready_of pool label at (state self.now) }
     {
@@ -429,7 +429,7 @@ pub trait Look {
     }
 
     /// The job at a place among those of the requester that are not over, in order of their
-    /// numbers. This body asks every job up to that one.
+    /// numbers. This body scans every job up to that one.
     fn unfinished(&self, requester: RequesterId, at: u32) -> Option<JobId>
         ensures { result ≡ unfinished_of (site self.now) requester at (state self.now) }
     {

@@ -20,7 +20,7 @@ use np_changes::Asked;
 use np_config::Config;
 use np_text::{JobId, LabelId, PoolId, RequestState, TenantId};
 
-/// The tenant of the job, where there is one.
+/// The tenant of the job, if there is one.
 pub fn tenant_of_job(config: &Config, job: Option<JobId>) -> Option<TenantId>
     ensures { result ≡ tenant_of_job config.now job }
 {
@@ -41,14 +41,14 @@ fn limit_of_tenant(config: &Config, tenant: TenantId) -> Limit
     }
 }
 
-/// Whether one part of it is limited at least.
+/// Whether at least one part of it is limited.
 fn has_limit(limit: &Limit) -> bool
     ensures { result ≡ has_limit limit.now }
 {
     limit.instances.is_some() || limit.cores.is_some() || limit.ram.is_some()
 }
 
-/// Whether the labels together pass a limit of the tenant, however little that uses.
+/// Whether the labels together exceed a limit of the tenant, however little it uses.
 fn passes_tenant(config: &Config, pool: PoolId, asked: &Asked, tenant: TenantId) -> bool
     requires small { (l : LabelId) → AmountFits (amount_of config.now pool l) }
     ensures { result ≡ passes_tenant config.now pool (new_record asked.now) tenant }
@@ -58,7 +58,7 @@ fn passes_tenant(config: &Config, pool: PoolId, asked: &Asked, tenant: TenantId)
     !all.fits(&limit_of_tenant(config, tenant))
 }
 
-/// Whether the labels together pass a limit of the job's tenant, where there is one.
+/// Whether the labels together exceed a limit of the job's tenant, if there is one.
 fn passes_its_tenant(config: &Config, pool: PoolId, asked: &Asked) -> bool
     requires small { (l : LabelId) → AmountFits (amount_of config.now pool l) }
     ensures { result ≡
@@ -71,8 +71,8 @@ fn passes_its_tenant(config: &Config, pool: PoolId, asked: &Asked) -> bool
     }
 }
 
-/// Whether a request that is not pinned passes a limit of its job's tenant, however little that
-/// uses.
+/// Whether a request that is not pinned exceeds a limit of its job's tenant, however little the
+/// tenant uses.
 pub fn tenant_never_fits(config: &Config, pool: PoolId, asked: &Asked) -> bool
     requires small { (l : LabelId) → AmountFits (amount_of config.now pool l) }
     ensures { result ≡ tenant_never_fits config.now pool (new_record asked.now) }
@@ -91,7 +91,7 @@ fn may_fit(config: &Config, pool: PoolId, asked: &Asked) -> bool
         && !tenant_never_fits(config, pool, asked)
 }
 
-/// The tenant of a request that is not pinned, where it has a limit and the pool may serve the
+/// The tenant of a request that is not pinned, if it has a limit and the pool may serve the
 /// request.
 pub fn limited_tenant(config: &Config, pool: PoolId, asked: &Asked) -> Option<TenantId>
     requires small { (l : LabelId) → AmountFits (amount_of config.now pool l) }
@@ -108,7 +108,7 @@ pub fn limited_tenant(config: &Config, pool: PoolId, asked: &Asked) -> Option<Te
     }
 }
 
-/// Whether what the tenant uses and the labels together pass a limit of the tenant.
+/// Whether what the tenant uses and the labels together exceed a limit of the tenant.
 pub fn is_short_of(
     config: &Config,
     pool: PoolId,
@@ -139,7 +139,7 @@ fn is_tenant(tenant: TenantId, found: Option<TenantId>) -> bool
     }
 }
 
-/// What the node takes of its pool, where it is the tenant's.
+/// What the node takes of its pool, if it is the tenant's.
 pub fn amount_for(config: &Config, tenant: TenantId, view: &NodeView) -> Amount
     requires small { (p : PoolId) (l : LabelId) → AmountFits (amount_of config.now p l) }
     ensures amount { result ≡ amount_for config.now tenant (node_seen view.now) }
@@ -185,7 +185,7 @@ fn is_pending_of(config: &Config, tenant: TenantId, view: &RequestView) -> bool
         && is_tenant(tenant, tenant_of_job(config, view.kept.job))
 }
 
-/// What the request still waits for, where it is pending and the tenant's.
+/// What the request still waits for, if it is pending and the tenant's.
 pub fn rest_for(config: &Config, tenant: TenantId, view: &RequestView) -> Amount
     requires small { (p : PoolId) (l : LabelId) → AmountFits (amount_of config.now p l) }
     ensures rest { result ≡ rest_for config.now tenant (request_seen view.now) }

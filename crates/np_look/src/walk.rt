@@ -1,5 +1,5 @@
-//! What the walks of a reader ask of each row. A representation that walks rows of its own asks the
-//! same.
+//! What the walks of a reader check of each row. A representation that walks its own rows checks
+//! the same.
 
 ghost use Rattle.std.specs.Prelude.{◌≡◌, ◌<◌, ◌≤◌, ◌^◌, ◌&&◌, ◌||◌, ◌==◌, not, is_none, cond, Some, []};
 ghost use Rattle.np_text.specs.declared.id.LabelId.{LabelId};
@@ -173,7 +173,7 @@ fn is_pending_by(pool: PoolId, request: &RequestRecord) -> bool
     request.state == RequestState::Pending && names_pool(pool, request.pool)
 }
 
-/// The next label of the request, where the pool serves it and has no room for a node of the label.
+/// The next label of the request, if the pool serves it and has no room for a node of the label.
 pub fn short_label(
     config: &Config,
     pool: PoolId,
@@ -197,7 +197,7 @@ pub fn short_label(
     }
 }
 
-/// 1 where it holds.
+/// 1 if it is true.
 pub fn one_if(holds: bool) -> u32
     ensures one { result ≡ cond holds 1 0 }
     ensures few { result ≤ 1 }

@@ -28,7 +28,7 @@ use Rattle.np_lists.proofs.ChangeLemmas.{slice_get-change_at, slice_get-change_a
 pub record SameActs (s t : State) : Type 0 where
   pub same : (role : Role) → acts_of role t ≡ acts_of role s
 
--- where the roles' records are as before
+-- if the roles' records are as before
 unchanged-at : (s t : State) → t.launchers ≡ s.launchers → t.janitors ≡ s.janitors → t.requesters ≡ s.requesters → (role : Role) → acts_of role t ≡ acts_of role s
 unchanged-at s t launchers janitors requesters (Launcher p) = ap (λ (roles : List RoleRecord). option_map (λ deeds. deeds.acts) (slice_get roles p.0)) launchers
 unchanged-at s t launchers janitors requesters (Janitor p) = ap (λ (roles : List RoleRecord). option_map (λ deeds. deeds.acts) (slice_get roles p.0)) janitors

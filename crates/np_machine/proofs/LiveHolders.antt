@@ -1,4 +1,4 @@
--- a live holder, told of one entry
+-- a live holder, in terms of one entry
 use Rattle.std.proofs.Common.{◌≡◌, Bool, true, false, List, [], ◌∷◌, ◌++◌, refl, ap, sym, subst, inl, inr}
 use Rattle.std.specs.Prelude.{◌⊎◌, ◌&&◌, cond}
 use Rattle.std.specs.List.{AllByRecursion}
@@ -18,7 +18,7 @@ use Rattle.np_machine.specs.History.{state_after}
 use Rattle.np_machine.specs.Turns.{is_done}
 use Rattle.np_machine.specs.LiveHolder.{is_holding, is_ending, holds_after, holds_from, ends_hold, HoldsSince, is_locking, is_unlocking, locks_after, locks_from, ends_lock, LockedSince}
 
--- what was held goes on where nothing ends it
+-- what was held stays held if nothing ends it
 flag-kept : (ends holds held : Bool) → ends ≡ false → held ≡ true → cond ends false (cond holds true held) ≡ true
 flag-kept true holds held stays was = absurd cc
 flag-kept false true held stays was = refl

@@ -17,7 +17,7 @@ use Rattle.np_machine.specs.Step.{effect, next}
 use Rattle.np_machine.proofs.Steps.{after_found-keeps, after_given-keeps, next-keeps}
 use Rattle.np_lists.proofs.ChangeLemmas.{length-change_at}
 
--- where nothing was opened or made
+-- if nothing was opened or made
 still : (s t : State) → length t.sessions ≡ length s.sessions → t.next_request ≡ s.next_request → t.next_node ≡ s.next_node → RisesFrom s t
 still s t sessions requests nodes = record { sessions = omega arith; requests = omega arith; nodes = omega arith }
 

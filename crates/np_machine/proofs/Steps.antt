@@ -16,7 +16,7 @@ pub after_given-keeps : {A : Type 0} (P : State → Type 0) (o : Result A Refusa
 after_given-keeps P (Err why) s f old new = old
 after_given-keeps P (Ok a) s f old new = new a refl
 
--- what holds before holds after, where it does after each accepted event
+-- what holds before holds after, if it does after each accepted event
 next-keeps-by : (P : State → Type 0) (c : Configuration) (s : State) (e : Event) (a : Answer) → judge c s e ≡ a → P s → ((what : Done) → judge c s e ≡ Ok what → P (with_act (acting s e) (effect c s e))) → P (next c s e)
 next-keeps-by P c s e (Ok what) is old new = rw is (new what is)
 next-keeps-by P c s e (Err why) is old new = rw is old

@@ -28,7 +28,7 @@ use Rattle.np_machine.specs.State.{State}
 abbrev pub has_failed : RequestId → State → Bool
 has_failed r s = option_map_or (λ request. is_failed request.state) (request_in r s.requests) false
 
--- the turn turns the request failed
+-- the request fails in the turn
 pub record FailsNow (t : Turn) (r : RequestId) (request : RequestRecord) : Type 0 where
   pub before : has_failed r t.before ≡ false
   pub stands : request_in r t.later.requests ≡ Some request
@@ -90,7 +90,7 @@ pub record LaunchesSpent (c : Configuration) (past : List Turn) (t : Turn) (r : 
   pub as_many : reports_on number past ≡ retries_of c pool
   pub all_failed : EachTurn (ReportsFailure number) past
 
--- what turned the request failed; past has the turn as its last
+-- what made the request fail; past has the turn as its last
 abbrev pub HasCause : Configuration → List Turn → Turn → RequestId → RequestRecord → Type 0
 HasCause c past t r request = DeclinedByAll c past t r request ⊎ LaunchesSpent c past t r request
 
@@ -100,6 +100,6 @@ CausedFrom c past (t ∷ ts) =
     ((r : RequestId) (request : RequestRecord) → FailsNow t r request → HasCause c (past ++ t ∷ []) t r request)
     × CausedFrom c (past ++ t ∷ []) ts
 
--- each entry that turns a request failed has its cause at or before it (own)
+-- each entry in which a request fails has its cause at or before it (own)
 abbrev pub Caused : Configuration → List Entry → Type 0
 Caused c journal = CausedFrom c [] (turns c journal)

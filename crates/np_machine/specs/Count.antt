@@ -18,7 +18,8 @@ offers_of c p = option_map_or (λ pool. pool.offers) (slice_get c.pools p.0) []
 abbrev pub limit_of : Configuration → PoolId → Limit
 limit_of c p = option_map_or (λ pool. pool.limit) (slice_get c.pools p.0) no_limit
 
--- how often a node of the pool may be launched (Nodepool: launch-retries, here the total of attempts)
+-- how many times a node of the pool may be launched (Nodepool: launch-retries, here the total of
+-- attempts)
 abbrev pub retries_of : Configuration → PoolId → ℕ
 retries_of c p = option_map_or (λ provider. provider.retries) (option_and_then (λ pool. slice_get c.providers pool.provider) (slice_get c.pools p.0)) 0
 
@@ -29,7 +30,7 @@ offer_of c p l = find (λ o. o.label.0 == l.0) (offers_of c p)
 abbrev pub is_offered : Configuration → PoolId → LabelId → Bool
 is_offered c p l = is_some (offer_of c p l)
 
--- what a node of the label takes of the pool, nothing where the pool does not offer it
+-- what a node of the label takes of the pool, nothing if the pool does not offer it
 abbrev pub amount_of : Configuration → PoolId → LabelId → Amount
 amount_of c p l = option_map_or (λ o. o.amount) (offer_of c p l) nothing
 

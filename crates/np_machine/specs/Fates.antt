@@ -25,7 +25,7 @@ pub data Fate : Type 0 where
 abbrev pub declines_of : State → JobRecord → List Declined
 declines_of s job = option_map_or (λ request. request.declined) (option_and_then (λ r. request_in r s.requests) job.request) []
 
--- a job has an ending exactly where it is over
+-- a job has an ending if and only if it is over
 abbrev pub fate_as : State → JobRecord → Option Ending → Fate
 fate_as s job (Some ending.Served) = served job.pool (map (λ m. m.node) job.nodes)
 fate_as s job (Some ending.Lost) = lost

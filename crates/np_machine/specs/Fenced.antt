@@ -32,16 +32,16 @@ pub record TakenBack (t : Turn) (n : NodeId) (node : NodeRecord) (r : RequestId)
   pub allocated : is_request r node.allocated_to ≡ true
   pub after : node_in n t.later.nodes ≡ Some (freed node)
 
--- who may change the node: its holder, but in a decline or a reset who holds the request
+-- who may change the node: its holder, but in a decline or a reset the holder of the request
 abbrev pub IsRightful : Turn → NodeId → NodeRecord → Option RequestId → Type 0
 IsRightful t n node None = ByHolder t n
 IsRightful t n node (Some r) = TakenBack t n node r
 
--- a node that stood before the turn is as it was, or who may changed it
+-- a node that was there before the turn is as it was, or was changed by someone who may change it
 abbrev pub IsFenced : Turn → Type 0
 IsFenced t = (n : NodeId) (node : NodeRecord) → node_in n t.before.nodes ≡ Some node
     → (node_in n t.later.nodes ≡ Some node) ⊎ IsRightful t n node (given_back_by t.entry.event)
 
--- each change of a node is its holder's, but for allocations that are given back (own)
+-- each change of a node is its holder's, except for allocations that are given back (own)
 abbrev pub Fenced : Configuration → List Entry → Type 0
 Fenced c journal = EachTurn IsFenced (turns c journal)

@@ -18,7 +18,7 @@ use Rattle.np_machine.specs.State.{State}
 abbrev pub may_fit : Configuration → PoolId → RequestRecord → Bool
 may_fit c p request = is_none (first_unoffered c p request) && not (never_fits c p request) && not (tenant_never_fits c p request)
 
--- the tenant, where it has no room for the request now
+-- the tenant, if it has no room for the request now
 abbrev pub short_tenant : Configuration → State → PoolId → RequestRecord → TenantId → Option TenantId
 short_tenant c s p request t = if is_short_of c s p request t then Some t else None
 
@@ -36,7 +36,7 @@ is_open_to p e =
 abbrev pub is_candidate : Configuration → State → PoolId → RequestEntry → Bool
 is_candidate c s p e = is_open_to p e && is_none (blocking c s p e.kept)
 
--- the earlier of both
+-- the earlier of the two
 abbrev pub earlier : Option RequestEntry → RequestEntry → Option RequestEntry
 earlier None e = Some e
 earlier (Some best) e = if comes_before e best then Some e else Some best

@@ -10,7 +10,7 @@ abbrev pub state_after : Configuration → State → List Entry → State
 state_after c s [] = s
 state_after c s (entry ∷ journal) = state_after c (next c s entry.event) journal
 
--- the entries' events with the replies that the machine gives
+-- the entries' events with the machine's replies
 abbrev pub replayed : Configuration → State → List Entry → List Entry
 replayed c s [] = []
 replayed c s (entry ∷ journal) =
@@ -20,7 +20,8 @@ replayed c s (entry ∷ journal) =
 abbrev pub after : Configuration → List Entry → State
 after c journal = state_after c (start c) journal
 
--- the machine gives the journal's replies, one by one, and ends in this state; the journal is not longer than it may be (own: 262,144 entries)
+-- the journal's replies are the machine's, one by one, and it ends in this state; the journal is
+-- not longer than it may be (own: 262,144 entries)
 pub record Runs (c : Configuration) (journal : List Entry) (s : State) : Type 0 where
   pub replies : replayed c (start c) journal ≡ journal
   pub ends : after c journal ≡ s

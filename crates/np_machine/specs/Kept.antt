@@ -41,7 +41,7 @@ pub record SameRecords (s t : State) : Type 0 where
 abbrev pub LosesNothing : Turn → Type 0
 LosesNothing t = is_loss t.entry.event ≡ true → IsAccepted t → SameRecords t.before t.later
 
--- ## a request that was made stands, or its end is in the journal
+-- ## a request that was made is still there, or its end is in the journal
 
 -- the reply names the request that was made
 abbrev pub is_request_made : RequestId → Event → Reply → Bool
@@ -78,7 +78,7 @@ RequestsKept final (t ∷ ts) =
     → (is_some (request_in r final.requests) ≡ true) ⊎ SomeTurn (EndsRequest r) ts)
     × RequestsKept final ts
 
--- ## a node that was made stands, or it is gone by an entry
+-- ## a node that was made is still there, or it is gone by an entry
 
 abbrev pub is_node_made : NodeId → Event → Reply → Bool
 is_node_made n (ev.Create session r) (reply.Done (done.Node made)) = made.0 == n.0

@@ -1,4 +1,4 @@
--- which state, which phase: a test for each that a row asks for
+-- which state, which phase: a test for each that a row needs
 use Rattle.std.specs.Prelude.{Bool, true, false}
 use Rattle.np_text.specs.declared.word.RequestState.{RequestState}
 use Rattle.np_text.specs.declared.word.RequestState.TheVariants as request

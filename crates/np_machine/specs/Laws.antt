@@ -12,7 +12,7 @@ pub record RisesFrom (s t : State) : Type 0 where
   pub requests : s.next_request ≤ t.next_request
   pub nodes : s.next_node ≤ t.next_node
 
--- how many events of the role were accepted; none where it is no role of the configuration
+-- how many events of the role were accepted; none if it is no role of the configuration
 abbrev pub acts_of : Role → State → Option ℕ
 acts_of role s = option_map (λ deeds. deeds.acts) (role_in role s)
 

@@ -53,7 +53,8 @@ is_holding session n later (ev.MarkDeleting by m) what = is_session by session &
 is_holding session n later (ev.FreeNode by m) what = is_session by session && is_node n m
 is_holding session n later _ what = false
 
--- an entry after which the session holds the node no more: it unlocked it, it expired, or the node is gone
+-- an entry after which the session no longer holds the node: it unlocked it, it expired, or the
+-- node is gone
 abbrev pub is_ending : SessionId → NodeId → Event → Bool
 is_ending session n (ev.Expire other) = is_session other session
 is_ending session n (ev.UnlockNode by m) = is_session by session && is_node n m
@@ -76,9 +77,9 @@ holds_from c s session n held (entry ∷ journal) =
 abbrev pub IsLiveHolder : Configuration → List Entry → SessionId → NodeId → Type 0
 IsLiveHolder c journal session n = holds_from c (start c) session n false journal ≡ true
 
--- ## the same, told of one entry
+-- ## the same, in terms of one entry
 
--- the entry was accepted, and the session holds the node no more after it
+-- the entry was accepted, and the session no longer holds the node after it
 abbrev pub ends_hold : SessionId → NodeId → Entry → Bool
 ends_hold session n entry = is_done entry.reply && is_ending session n entry.event
 
@@ -120,7 +121,7 @@ abbrev pub IsLiveRequestHolder : Configuration → List Entry → SessionId → 
 IsLiveRequestHolder c journal session r =
     (is_some (request_in r (after c journal).requests) ≡ true) × (locks_from session r false journal ≡ true)
 
--- the entry was accepted, and the session has the request's lock no more after it
+-- the entry was accepted, and the session no longer has the request's lock after it
 abbrev pub ends_lock : SessionId → RequestId → Entry → Bool
 ends_lock session r entry = is_done entry.reply && is_unlocking session r entry.event
 

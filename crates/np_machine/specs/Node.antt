@@ -159,7 +159,7 @@ judge_done s session n attempt = do
   need (k.attempts == attempt) (no.WrongAttempt k.attempts)
   Ok done.Plain
 
--- ready where it was launched; failed where the last attempt failed
+-- ready if it was launched; failed if the last attempt failed
 abbrev pub state_after_launch : ℕ → NodeRecord → Outcome → NodeState
 state_after_launch retries k (outcome.Launched x) = node_state.Ready
 state_after_launch retries k outcome.Failed = if k.attempts == retries then node_state.Failed else k.state
@@ -189,7 +189,7 @@ effect_done c s n o = after_found (node_in n s.nodes) s (reported c s n o)
 
 -- ## lock-node: the maker joins the node's queue (ZooKeeper Recipes: locks)
 
--- first in the queue, or how many stand before
+-- first in the queue, or how many sessions are before it
 abbrev pub place_reply : ℕ → Done
 place_reply ahead = if ahead == 0 then done.Held else done.Queued ahead
 
@@ -256,7 +256,8 @@ effect_end_node s n as_what = after_found (node_in n s.nodes) s (node_ended s n 
 
 -- ## mark-deleting: the janitor gives a node up (Nodepool: cleanup)
 
--- a ready node goes where nobody has it and it is old or its pool is paused; a held one where it is old; any other at once
+-- a ready node goes if nobody has it and it is old or its pool is paused; a held one if it is old;
+-- any other at once
 abbrev pub may_delete : Configuration → State → NodeRecord → NodeState → Check
 may_delete c s k node_state.Building = Ok tt
 may_delete c s k node_state.Ready = do
@@ -296,7 +297,7 @@ effect_gone s n = record s { nodes = remove_node n s.nodes }
 
 -- ## free-node: the janitor frees a ready node whose request is gone (own)
 
--- the request that the node is allocated to, where it is there
+-- the request that the node is allocated to, if it is there
 abbrev pub standing : State → Option RequestId → Option RequestId
 standing s None = None
 standing s (Some r) = option_map (λ _. r) (request_in r s.requests)
@@ -337,7 +338,7 @@ is_pair n x pair = (pair.node.0 == n.0) && (pair.server == x)
 abbrev pub is_swept : NodeId → ℕ → List Swept → Bool
 is_swept n x swept = list_any (is_pair n x) swept
 
--- the pair stands after this one, by node and then server
+-- the pair comes after this one, by node and then server
 abbrev pub is_pair_after : NodeId → ℕ → Swept → Bool
 is_pair_after n x pair = if n.0 == pair.node.0 then nat_lt x pair.server else nat_lt n.0 pair.node.0
 

@@ -8,7 +8,7 @@ use Rattle.np_record.specs.declared.record.RequestRecord.{RequestRecord}
 use Rattle.np_machine.specs.Entries.{RequestEntry}
 use Rattle.np_machine.specs.Kinds.{is_pending}
 
--- the id stands before the other in the byte order of their texts
+-- the id comes before the other in the byte order of their texts
 abbrev pub is_id_before : RequestId → RequestId → Bool
 is_id_before a b = if a.priority == b.priority then nat_lt a.seq b.seq else nat_lt a.priority b.priority
 
@@ -25,12 +25,12 @@ abbrev pub is_pool : PoolId → Option PoolId → Bool
 is_pool p None = false
 is_pool p (Some other) = other.0 == p.0
 
--- not this pool, where there is one
+-- not this pool, if there is one
 abbrev pub is_elsewhere : PoolId → Option PoolId → Bool
 is_elsewhere p None = false
 is_elsewhere p (Some other) = not (other.0 == p.0)
 
--- pinned to another pool (own: a min-ready request is served by the pool that made it alone)
+-- pinned to another pool (own: a min-ready request is served only by the pool that made it)
 abbrev pub is_pinned_away : PoolId → RequestRecord → Bool
 is_pinned_away p request = is_elsewhere p request.pinned
 

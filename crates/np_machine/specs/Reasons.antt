@@ -19,7 +19,7 @@ use Rattle.np_machine.specs.Tenants.{tenant_never_fits}
 use Rattle.np_machine.specs.Order.{is_pending_by}
 use Rattle.np_machine.specs.State.{State}
 
--- the label at the place after the request's last node; none where it has as many nodes as labels
+-- the label at the place after the request's last node; none if it has as many nodes as labels
 abbrev pub next_label : RequestRecord → Option LabelId
 next_label request = slice_get request.labels (length request.nodes)
 
@@ -49,7 +49,7 @@ is_true c s p request (Spent n) = list_any (λ other. other.0 == n.0) request.no
 abbrev pub ready_age : Configuration → LabelId → ℕ
 ready_age c l = option_map_or (λ label. label.max_ready_age) (slice_get c.labels l.0) 0
 
--- older than the age allows, where it allows one; 0 is no age
+-- older than the age allows, if it allows one; 0 is no age
 abbrev pub is_past : ℕ → ℕ → ℕ → Bool
 is_past age since tick = nat_lt 0 age && nat_lt age (tick - since)
 
@@ -75,7 +75,7 @@ is_unused e = is_ready e.kept.state && is_none e.kept.allocated_to && is_none (h
 abbrev pub is_spare : PoolId → LabelId → NodeEntry → Bool
 is_spare p l e = is_unused e && is_kind p l e
 
--- the pool has no room for a node of the label, and the request cannot go on with another node
+-- the pool has no room for a node of the label, and the request cannot continue with another node
 abbrev pub is_stuck_at : Configuration → State → PoolId → RequestRecord → LabelId → Bool
 is_stuck_at c s p request l = is_short c s p l && (is_some request.pinned || not (list_any (is_spare p l) s.nodes))
 

@@ -53,7 +53,7 @@ registers s session p = record s { registrations = insert_before (λ g. nat_lt p
 abbrev pub effect_register : State → SessionId → State
 effect_register s session = after_given (launcher s session) s (registers s session)
 
--- ## submit: the requester asks for the nodes of its job (Zuul: a node request)
+-- ## submit: the requester requests the nodes of its job (Zuul: a node request)
 abbrev pub next_id : ℕ → State → RequestId
 next_id priority s = record { priority = priority; seq = s.next_request }
 
@@ -117,7 +117,7 @@ request_of_job j s = option_and_then (λ kept. kept.request) (slice_get s.jobs j
 abbrev pub effect_revise : State → JobId → ℕ → State
 effect_revise s j relative = after_found (request_of_job j s) s (revise_request s relative)
 
--- ## min-ready: the launcher asks for a node of a label that is to be kept ready (Nodepool: min-ready)
+-- ## min-ready: the launcher requests a node of a label to be kept ready (Nodepool: min-ready)
 
 -- a min-ready request for the label
 abbrev pub is_min_ready_for : LabelId → RequestRecord → Bool
@@ -213,7 +213,7 @@ abbrev pub effect_lock_request : State → SessionId → RequestId → State
 effect_lock_request s session r =
     record s { requests = put_request_queue r (joined session (request_queue r s.requests)) s.requests }
 
--- ## unlock-request: the maker gives the lock back; a launcher not while its pool serves the request
+-- ## unlock-request: the maker unlocks it; a launcher may not while its pool serves the request
 abbrev pub unlock_request_as : State → SessionId → RequestId → Role → Answer
 unlock_request_as s session r (Launcher p) = do
   request ← request_at s r
@@ -259,9 +259,9 @@ accept_by s r p = after_found (request_in r s.requests) s (accepted s r p)
 abbrev pub effect_accept : State → SessionId → RequestId → State
 effect_accept s session r = after_given (launcher s session) s (accept_by s r)
 
--- ## decline: the launcher hands the request on to the other pools (Nodepool: declined_by)
+-- ## decline: the launcher leaves the request to the other pools (Nodepool: declined_by)
 
--- a pool gives up with a failed node while it serves the request, and else before it took it
+-- a pool gives up with a failed node while it serves the request, and otherwise before it took it
 abbrev pub in_state_for : PoolId → RequestRecord → Reason → Check
 in_state_for p request (reason.NoLabel l) = in_requested request
 in_state_for p request reason.NeverFits = in_requested request
@@ -283,7 +283,8 @@ judge_decline c s session r why = do
 abbrev pub all_declined : List Registration → List Declined → Bool
 all_declined registrations declined = list_all (λ g. is_declined_by g.pool declined) registrations
 
--- failed where no pool is left that may serve it (Nodepool: a request that every launcher declined fails)
+-- failed if no pool is left that may serve it (Nodepool: a request that every launcher declined
+-- fails)
 abbrev pub state_after_decline : List Registration → RequestRecord → List Declined → RequestState
 state_after_decline registrations request declined =
     if is_some request.pinned || all_declined registrations declined then request_state.Failed else request_state.Requested
@@ -308,7 +309,7 @@ decline_by s r why p = after_found (request_in r s.requests) s (declined s r why
 abbrev pub effect_decline : State → SessionId → RequestId → Reason → State
 effect_decline s session r why = after_given (launcher s session) s (decline_by s r why)
 
--- ## fulfil: the launcher hands all the request's nodes over at once (Nodepool: fulfilled)
+-- ## fulfil: the launcher hands over all the request's nodes at once (Nodepool: fulfilled)
 
 -- the node is ready, allocated to the request, of the pool and the label, and held by the session
 abbrev pub is_filled : PoolId → SessionId → RequestId → LabelId → Option NodeEntry → Bool

@@ -34,7 +34,7 @@ use Rattle.np_machine.specs.State.{State}
 abbrev pub max_of : Configuration → SemId → ℕ
 max_of c x = option_map_or (λ sem. sem.max) (slice_get c.semaphores x.0) 0
 
--- as many jobs have a handle as may, or more, which never is (Zuul: max)
+-- as many jobs have a handle as may, or more, which never happens (Zuul: max)
 abbrev pub is_full : Configuration → State → SemId → Bool
 is_full c s x = nat_le (max_of c x) (length (handles_of x s.handles))
 
@@ -111,7 +111,7 @@ take_for s j kept = after_found kept.request s (take_from s j kept)
 abbrev pub effect_take : State → JobId → State
 effect_take s j = after_found (slice_get s.jobs j.0) s (take_for s j)
 
--- ## finish: the job is over; a janitor finishes it where its requester has no session left (own)
+-- ## finish: the job is over; a janitor finishes it if its requester has no session left (own)
 
 -- a session of the requester
 abbrev pub is_requesters : RequesterId → Option Role → Bool

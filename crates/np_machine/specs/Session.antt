@@ -14,7 +14,7 @@ use Rattle.np_machine.specs.Tests.{Answer, maker, after_found}
 use Rattle.np_lists.specs.Refusals.{◌>>=◌, ◌>>◌, need, found}
 use Rattle.np_machine.specs.State.{State}
 
--- ## tick: time goes on by one (own)
+-- ## tick: time advances by one (own)
 abbrev pub effect_tick : State → State
 effect_tick s = record s { tick = s.tick + 1 }
 
@@ -33,7 +33,7 @@ judge_open c s role = do
 abbrev pub effect_open : State → Role → State
 effect_open s role = record s { sessions = s.sessions ++ record { role = role; live = true; mute = false } ∷ [] }
 
--- ## crash: the party stops, and its session is heard no more (own)
+-- ## crash: the party stops, and its session makes no more events (own)
 abbrev pub judge_crash : State → SessionId → Answer
 judge_crash s session = do
   _role ← maker s session

@@ -13,7 +13,7 @@ use Rattle.np_machine.specs.declared.state.Swept.{Swept}
 -- what the machine knows (own, in the words of ZooKeeper, Nodepool and Zuul)
 pub record State : Type 0 where
   pub tick : ℕ
-  -- session number k stands at place k - 1, and is never removed
+  -- session number k is at place k - 1, and is never removed
   pub sessions : List SessionFacts
   -- who is registered for which pool, by pool
   pub registrations : List Registration

@@ -52,7 +52,7 @@ judge c s (ev.FreeNode session n) = judge_free_node s session n
 judge c s (ev.FailDeclined session r) = judge_fail_declined s session r
 judge c s (ev.Sweep session n x) = judge_sweep s session n x
 
--- what an accepted event changes, but for its role's acts
+-- what an accepted event changes, except for its role's acts
 abbrev pub effect : Configuration → State → Event → State
 effect c s ev.Tick = effect_tick s
 effect c s (ev.OpenSession role) = effect_open s role
@@ -129,7 +129,7 @@ acting s e = option_and_then (λ session. role_of session s) (maker_of e)
 abbrev pub one_more_act : RoleRecord → RoleRecord
 one_more_act role = record role { acts = role.acts + 1 }
 
--- one more act of the role, where there is one
+-- one more act of the role, if there is one
 abbrev pub with_act : Option Role → State → State
 with_act role s = record s {
   launchers = option_map_or (λ r. change_launcher one_more_act r s.launchers) role s.launchers;
@@ -145,6 +145,6 @@ abbrev pub reply_of : Answer → Reply
 reply_of (Ok what) = reply.Done what
 reply_of (Err refusal) = reply.Refused refusal
 
--- the machine: what the event is answered, and the state that it leaves
+-- the machine: the answer to the event, and the state that it leaves
 abbrev pub react : Configuration → State → Event → Reply × State
 react c s e = (reply_of (judge c s e), next c s e)

@@ -1,4 +1,4 @@
--- what stands under an id, and how one member of a list is changed
+-- what is under an id, and how one member of a list is changed
 use Rattle.std.specs.Prelude.{ℕ, suc, ◌-◌, List, [], ◌∷◌, ◌++◌, Bool, false, ◌==◌, ◌&&◌, not, if◌then◌else◌, Option, Some, None, map, filter, find, slice_get, slice_set, unwrap_or}
 use Rattle.std.specs.Option.{option_map, option_map_or}
 use Rattle.std.specs.List.{list_any}
@@ -53,7 +53,7 @@ holder queue = slice_get queue 0
 abbrev pub is_queued : SessionId → List SessionId → Bool
 is_queued session queue = list_any (λ other. is_session other session) queue
 
--- how many stand before the session, or in all where it is not there
+-- how many sessions are before this one, or in all if it is not there
 abbrev pub ahead_of : SessionId → List SessionId → ℕ
 ahead_of session [] = 0
 ahead_of session (other ∷ queue) = if is_session other session then 0 else suc (ahead_of session queue)
@@ -123,7 +123,7 @@ remove_node n nodes = remove_first (λ e. e.id.0 == n.0) nodes
 abbrev pub freed : NodeRecord → NodeRecord
 freed k = record k { allocated_to = None; tenant = None }
 
--- freed, where it is allocated to the request
+-- freed, if it is allocated to the request
 abbrev pub freed_from : RequestId → NodeEntry → NodeEntry
 freed_from r e = if is_request r e.kept.allocated_to then record e { kept = freed e.kept } else e
 

@@ -133,7 +133,7 @@ unlocked s r = vacant (request_holder r s.requests) no.Busy
 abbrev pub wrong_request : RequestRecord → Refusal
 wrong_request request = no.WrongState (found_state.Request request.state)
 
--- a building node with a launch running shows so
+-- a building node with a launch running is found as in flight
 abbrev pub found_node : NodeRecord → Found
 found_node k = if is_building k.state && k.in_flight then found_state.InFlight else found_state.Node k.state
 
@@ -155,7 +155,7 @@ in_pending_by p request = need (is_pending_by p request) (wrong_request request)
 abbrev pub not_declined : PoolId → RequestRecord → Check
 not_declined p request = need (not (is_declined_by p request.declined)) no.Declined
 
--- the label that the request's next node is to have: refused where it is complete
+-- the label of the request's next node: refused if the request is complete
 abbrev pub incomplete : RequestRecord → Result LabelId Refusal
 incomplete request = found (next_label request) (wrong_request request)
 

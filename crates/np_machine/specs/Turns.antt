@@ -20,12 +20,12 @@ turns_from c s (entry ∷ journal) =
 abbrev pub turns : Configuration → List Entry → List Turn
 turns c journal = turns_from c (start c) journal
 
--- some turn is such
+-- some turn has the property
 abbrev pub SomeTurn : (Turn → Type 0) → List Turn → Type 0
 SomeTurn P [] = ⊥
 SomeTurn P (t ∷ ts) = P t ⊎ SomeTurn P ts
 
--- every turn is such
+-- every turn has the property
 abbrev pub EachTurn : (Turn → Type 0) → List Turn → Type 0
 EachTurn P [] = Unit {0}
 EachTurn P (t ∷ ts) = P t × EachTurn P ts

@@ -54,8 +54,8 @@ pub fn an_accepted_event_is_one_act_of_its_role()
         maker_of e ≡ None → acts_of role (next c s e) ≡ acts_of role s }
 {}
 
-/// A live holder of a node is who has held it since some entry that was accepted: by that entry it
-/// holds the node, and no accepted entry after it ends that.
+/// A live holder of a node is a session that has held it since some accepted entry: by that entry
+/// it holds the node, and no accepted entry after it ends that.
 pub fn a_live_holder_has_held_since_an_entry()
     ensures since { (c : Configuration) (journal : List Entry) (session : SessionId) (n : NodeId) →
         IsLiveHolder c journal session n → HoldsSince c (start c) journal session n }
@@ -63,7 +63,8 @@ pub fn a_live_holder_has_held_since_an_entry()
         HoldsSince c (start c) journal session n → IsLiveHolder c journal session n }
 {}
 
-/// A live holder of a request is who has had its lock since some entry, while the request is there.
+/// A live holder of a request is a session that has had its lock since some entry, while the
+/// request is there.
 pub fn a_live_holder_of_a_request_has_locked_it()
     ensures since { (c : Configuration) (journal : List Entry) (session : SessionId) (r : RequestId) →
         IsLiveRequestHolder c journal session r → LockedSince journal session r }

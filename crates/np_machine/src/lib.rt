@@ -1,10 +1,10 @@
-//! The machine, defined: what each event is answered, and the state that it leaves.
+//! The machine, defined: the answer to each event, and the state that it leaves.
 //!
-//! The definitions stand in `specs/`: read `State`, then `Step`, which names the row of each event,
-//! then the row itself in `Request`, `Node`, `Semaphore` or `Session`. They know lists and numbers
-//! alone: no path, no index, no room. `law` has what they say together.
+//! The definitions are in `specs/`: read `State`, then `Step`, which names the row of each event,
+//! then the row itself in `Request`, `Node`, `Semaphore` or `Session`. They use only lists and
+//! numbers: no path, no index, no room. `law` has what they say together.
 //!
-//! The code here is what the state's lists hold. What keeps a state stands in the crates above.
+//! The code here is what the state's lists hold. What keeps a state is in the crates above.
 #![tactic(auto)]
 
 mod law;

@@ -64,7 +64,7 @@ pub fn is_in(queue: &[SessionId], session: SessionId) -> bool
     queue.iter().any(|other| other.0 == session.0)
 }
 
-/// How many sessions stand before this one, or in all where it is not there.
+/// How many sessions are before this one, or in all if it is not there.
 pub fn count_ahead(queue: &[SessionId], session: SessionId) -> usize
     ensures ahead { result ≡ ahead_of session queue.now }
     ensures few { result ≤ length queue.now }
@@ -80,7 +80,7 @@ pub fn count_ahead(queue: &[SessionId], session: SessionId) -> usize
 }
 
 impl Queue<SessionId> {
-    /// The session joins at the end, unless it is there.
+    /// The session joins at the end, unless it is already there.
     pub fn join(&mut self, session: SessionId) -> Result<(), AllocError>
         ensures ok { OnOk result (self.new ≡ joined session self.old) }
         ensures err { OnErr result (self.new ≡ self.old) }

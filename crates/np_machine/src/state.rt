@@ -10,7 +10,8 @@ pub struct SessionFacts {
     pub role: Role,
     /// Whether it has not expired.
     pub live: bool,
-    /// Whether its party has stopped. A mute session is heard no more, and lives on until it expires.
+    /// Whether its party has stopped. A mute session makes no more events, and lives until it
+    /// expires.
     pub mute: bool,
 }
 

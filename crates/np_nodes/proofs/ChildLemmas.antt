@@ -19,11 +19,11 @@ use Rattle.np_nodes.proofs.PlaceLemmas.{bytes_eq-from, bytes_eq-is}
 
 -- ## the children of a path
 
--- whether a node stands before each child, or is the root
+-- whether a node comes before each child, or is the root
 abbrev pub is_above : List ℕ → Node → Bool
 is_above key n = is_le (ordering_then (slice_cmp nat_cmp (before_of n.path) key) (slice_cmp nat_cmp (name_of n.path) []))
 
--- whether a node stands before each child, or is one
+-- whether a node comes before each child, or is one
 abbrev pub is_upto : List ℕ → Node → Bool
 is_upto key n = is_le (slice_cmp nat_cmp (before_of n.path) key)
 
@@ -65,7 +65,7 @@ child-half key p n (Some above) is_key is has child =
     let same : or_root (before_of n.path) ≡ or_root key = sym (parent-half above n.path has) ∙ bytes_eq-is above p child ∙ sym is_key.above in
     or_root-same (before_of n.path) key (half-not_root n.path above is has) is_key.other same
 
--- a node with another half is no child
+-- a node with another half is not a child
 other-half : (key p : List ℕ) (n : Node) (b : Bool) → is_child p n ≡ b → IsKey key p → is_path n.path ≡ true → (before_of n.path ≡ key → ⊥) → is_child p n ≡ false
 other-half key p n true is is_key path other = absurd (other (child-half key p n (parent_of n.path) is_key path refl is))
 other-half key p n false is is_key path other = is
@@ -82,7 +82,7 @@ same-half-by key p n (Some above) [] is_key is half has named = absurd (name-roo
 same-half-by key p n (Some above) (c ∷ name) is_key is half has named =
     bytes_eq-from above p (parent-half above n.path has ∙ ap or_root half ∙ is_key.above)
 
--- a child is what stands between the two probes
+-- a child is what is between the two probes
 child-by : (key p : List ℕ) (n : Node) (o : Ordering) → IsKey key p → is_path n.path ≡ true → slice_cmp nat_cmp (before_of n.path) key ≡ o →
     is_child p n ≡ (not (is_le (ordering_then o (slice_cmp nat_cmp (name_of n.path) []))) && is_le o)
 child-by key p n Less is_key is at = other-half key p n (is_child p n) refl is_key is (λ same. let e : slice_cmp nat_cmp (before_of n.path) key ≡ Equal = ap (λ (b : List ℕ). slice_cmp nat_cmp b key) same ∙ tied_itself nat_list_cmp_total key in absurd (let f : Less ≡ Equal = sym at ∙ e in cc))

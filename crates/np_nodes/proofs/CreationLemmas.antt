@@ -67,7 +67,7 @@ Plans-creation z session name bytes mode spot nodes marks s makes =
           (record { path = makes.path; new = makes.spot_is.free; parent = makes.parent; room = makes.spot_is.room }) makes.kept;
     }
 
--- what the code knows of a spot gives that path and parent
+-- what the code knows of a spot determines that path and parent
 pub Makes-spot : (z session : ℕ) (name bytes : List ℕ) (mode : Mode) (spot : Spot) (nodes : List Node) (marks : List Mark) (s : Swap) → IsKept nodes marks → MakesName name mode → IsSpot nodes spot.parent.node.now.path name mode spot →
     with_swap s spot.parent.node.now ≡ with_child z mode spot.parent.node.now → length nodes < 18_446_744_073_709_551_615 → length marks < 18_446_744_073_709_551_615 → Makes z session name bytes mode spot nodes marks s
 Makes-spot z session name bytes mode spot nodes marks s kept names is_spot swap few_nodes few_marks =

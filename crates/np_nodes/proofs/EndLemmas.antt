@@ -1,4 +1,4 @@
--- one step of a session's end leaves what the whole end gives
+-- one step of a session's end leaves what the whole end leaves
 use Rattle.std.proofs.Common.{◌≡◌, ℕ, Bool, true, false, not, ◌&&◌, cond, List, [], ◌∷◌, map, Some, None, refl, sym, ap, ◌∙◌}
 use Rattle.std.specs.Prelude.{slice_get, filter}
 use Rattle.std.specs.List.{list_any, remove}
@@ -47,7 +47,7 @@ where-owner p f keeps n false = refl
 abbrev pub loses : ℕ → List ℕ → List Node → Bool
 loses session path nodes = list_any (λ m. is_owned session m && is_child path m) nodes
 
--- an owned node goes, and its parent knows
+-- an owned node is removed, and its parent changes with it
 abbrev pub one_less : ℕ → List ℕ → ℕ → List Node → List Node
 one_less z above k nodes = remove (change_node above (without_child z) nodes) k
 

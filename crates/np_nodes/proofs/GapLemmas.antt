@@ -39,7 +39,7 @@ FindsGap-past path before name nodes k gap sorted past =
     let at = place path before name nodes k gap in
     (at_path-past path nodes sorted (rw at at past), at)
 
--- a node of other halves stands there
+-- there is a node of other halves at the place
 pub FindsGap-other : (path before name : List ℕ) (nodes : List Node) (k : ℕ) (n : Node) → IsGapAt path before name nodes k → IsSorted nodes → slice_get nodes k ≡ Some n →
     false ≡ (bytes_eq (before_of n.path) before && bytes_eq (name_of n.path) name) → FindsGap nodes path (Some k)
 FindsGap-other path before name nodes k n gap sorted there differ =
@@ -52,7 +52,7 @@ FindsGap-other path before name nodes k n gap sorted there differ =
 some-node : (nodes : List Node) (path : List ℕ) (n : Node) → at_path nodes path ≡ Some n → is_some (at_path nodes path) ≡ true
 some-node nodes path n found = rw found refl
 
--- the path's node stands there
+-- the path's node is at the place
 pub FindsGap-none : (path before name : List ℕ) (nodes : List Node) (k : ℕ) (n : Node) → IsGapAt path before name nodes k → IsSorted nodes → AllPaths nodes → slice_get nodes k ≡ Some n →
     true ≡ (bytes_eq (before_of n.path) before && bytes_eq (name_of n.path) name) → FindsGap nodes path None
 FindsGap-none path before name nodes k n gap sorted paths there agree =

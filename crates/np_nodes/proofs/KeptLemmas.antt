@@ -1,4 +1,4 @@
--- what always holds of nodes and marks, after each change
+-- what is always true of nodes and marks, after each change
 use Rattle.std.proofs.Common.{◌≡◌, ℕ, ◌+◌, ◌<◌, ◌≤◌, Bool, true, false, cond, List, [], ◌∷◌, length, Some, None, refl, ap, ◌∙◌, subst, lit≤, arith}
 use Rattle.std.specs.Prelude.{filter, slice_get}
 use Rattle.std.specs.List.{insert, list_any, remove}
@@ -44,7 +44,7 @@ HasRoom-insert n above k nodes has below room path =
     let most = room-by path above nodes (bytes_eq above path) refl room below in
     rw total most
 
--- ## a node less
+-- ## one node less
 
 pub IsKept-remove_free : (k : ℕ) (n : Node) (nodes : List Node) (marks : List Mark) → slice_get nodes k ≡ Some n → n.facts.owner ≡ None → IsKept nodes marks → IsKept (remove nodes k) marks
 IsKept-remove_free k n nodes marks there free kept = record {
@@ -65,16 +65,16 @@ IsKept-remove k j session n nodes marks there owned mark kept = record {
   marked = MarkEphemerals-remove marks j (new_mark session n.path) nodes k n (record { ranked = kept.ranked; sorted = kept.sorted; mark_there = mark; node_there = there; owned = owned; path = refl }) kept.marked;
 }
 
--- ## a node more
+-- ## one node more
 
--- a node that may stand below a path that has room
+-- a node that may be below a path that has room
 pub record MayStand (n : Node) (above : List ℕ) (nodes : List Node) : Type 0 where
   pub path : is_path n.path ≡ true
   pub new : at_path nodes n.path ≡ None
   pub parent : parent_of n.path ≡ Some above
   pub room : length (children_of nodes above) < 4_294_967_295
 
--- the step of the marks, where it is known whether the node is an ephemeral
+-- the step of the marks, if it is known whether the node is an ephemeral
 abbrev pub step_for : Bool → ℕ → List ℕ → List Mark → Step Mark
 step_for ephemeral session path marks = cond ephemeral (Put (mark_place session path marks) (new_mark session path)) Nothing
 

@@ -15,7 +15,7 @@ use Rattle.np_nodes.specs.Tests.{is_sequential}
 use Rattle.np_nodes.specs.declared.node.Node.{Node}
 use Rattle.np_nodes.specs.declared.kind.Mode.{Mode}
 
--- whether two texts of different lengths are one
+-- whether two texts of different lengths are equal
 longer : (b : Bool) → (b && false) ≡ false
 longer true = refl
 longer false = refl

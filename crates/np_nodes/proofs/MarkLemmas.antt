@@ -39,7 +39,7 @@ pair_cmp_total = then_total (on_total (λ (x : ℕ × List ℕ). x.0) nat_cmp_to
 abbrev pub key_of : Mark → ℕ × List ℕ
 key_of m = (m.session, m.path)
 
--- whether a mark stands before another
+-- whether a mark comes before another
 abbrev pub ranks_before : Mark → Mark → Bool
 ranks_before m n = mark_before n.session n.path m
 
@@ -62,7 +62,7 @@ is_mark-from session path mark same_session same_path =
     let at = bytes_eq-from mark.path path same_path in
     rw (owned, at) refl
 
--- it doesn't stand before its own place
+-- it isn't before its own place
 is_mark-not_less : (session : ℕ) (path : List ℕ) (mark : Mark) → is_mark session path mark ≡ true → mark_before session path mark ≡ false
 is_mark-not_less session path mark is =
     let same = is_mark-is session path mark is in
@@ -80,7 +80,7 @@ mark-beyond session path m n order not_less = false_from_ne_true (is_mark sessio
 exact-nat : (a b : ℕ) → nat_cmp a b ≡ Equal → a ≡ b
 exact-nat a b tied = grind (arith, nat_tests)
 
--- of two marks that differ one stands before the other
+-- of two marks that differ, one comes before the other
 some_way-by : (m n : Mark) (b : Bool) → ranks_before n m ≡ b → ranks_before m n ≡ false → is_mark n.session n.path m ≡ false → ranks_before n m ≡ true
 some_way-by m n true is not_less other = is
 some_way-by m n false is not_less other =
@@ -135,7 +135,7 @@ MarkEphemerals-change_node marks p f path owner nodes all session q =
     all session q
     ∙ sym (found-change_first (is_ephemeral_of session) (is_at p) (is_at q) f (λ n. ap (λ (r : List ℕ). bytes_eq r q) (path n)) (λ n. ap (is_owner session) (owner n)) nodes)
 
--- ### a node more
+-- ### one node more
 
 at_path-insert : (n : Node) (nodes : List Node) (k : ℕ) (q : List ℕ) → at_path nodes n.path ≡ None → at_path (insert nodes k n) q ≡ cond (is_at q n) (Some n) (at_path nodes q)
 at_path-insert n nodes k q none =
@@ -180,7 +180,7 @@ MarkEphemerals-insert marks j mark n nodes k owned same none all session q =
     ∙ owned-by marks mark n nodes session q (is_at q n) refl owned same none all
     ∙ sym (ap (is_ephemeral_of session) (at_path-insert n nodes k q none))
 
--- ### a node less
+-- ### one node less
 
 lost-by : (n : Node) (nodes : List Node) (k session : ℕ) (q : List ℕ) (b : Bool) → is_at q n ≡ b → IsSorted nodes → slice_get nodes k ≡ Some n → (is_at q n ≡ true → is_owned session n ≡ false) →
     is_ephemeral_of session (at_path (remove nodes k) q) ≡ is_ephemeral_of session (at_path nodes q)
@@ -231,7 +231,7 @@ ephemeral-some : (session : ℕ) (o : Option Node) → is_ephemeral_of session o
 ephemeral-some session None is = absurd cc
 ephemeral-some session (Some n) is = (n, refl, is)
 
--- its session's ephemeral stands at its path
+-- its session's ephemeral is at its path
 pub mark-owned : (marks : List Mark) (j : ℕ) (mark : Mark) (nodes : List Node) → slice_get marks j ≡ Some mark → MarkEphemerals marks nodes → (n : Node) × (at_path nodes mark.path ≡ Some n) × (is_owned mark.session n ≡ true)
 mark-owned marks j mark nodes there all =
     ephemeral-some mark.session (at_path nodes mark.path)
@@ -277,7 +277,7 @@ no_marks-by session m marks false less ranked other later =
     let apart = other m refl in
     (apart, later-marks session m marks (session-above m.session session (slice_cmp nat_cmp m.path []) less apart) ranked.0)
 
--- where the first mark that could be the session's is another's, or there is none
+-- if the first mark that could be the session's is another's, or there is none
 pub no_marks : (session : ℕ) (marks : List Mark) → AreRanked marks → ((m : Mark) → slice_get marks (mark_place session [] marks) ≡ Some m → (m.session == session) ≡ false) → NoMarks session marks
 no_marks session [] ranked other = tt
 no_marks session (m ∷ marks) ranked other = no_marks-by session m marks (mark_before session [] m) refl ranked other (λ later. no_marks session marks ranked.1 later)

@@ -105,7 +105,8 @@ path_before-neither p q has_p has_q this that =
     let tied = then-Equal _ _ (lt-neither halves_cmp_total (halves_of p) (halves_of q) this that) in
     same_halves p q has_p has_q (exact_bytes _ _ tied.0) (exact_bytes _ _ tied.1)
 
--- a path that comes before another comes before what that one comes before, and its first half isn't greater
+-- if a path comes before another, it comes before what that other comes before, and its first half
+-- isn't greater
 pub path_before-halves : (p q : List ℕ) (h : List ℕ × List ℕ) → path_before p q ≡ true → is_lt (halves_cmp (halves_of q) h) ≡ true → is_lt (halves_cmp (halves_of p) h) ≡ true
 path_before-halves p q h this that = lt-trans halves_cmp_total (halves_of p) (halves_of q) h this that
 
@@ -123,7 +124,7 @@ path_before-some_by : (p q : List ℕ) (b : Bool) → path_before q p ≡ b → 
 path_before-some_by p q true is same other = is
 path_before-some_by p q false is same other = absurd (other (same is))
 
--- of two paths that differ one comes before the other
+-- of two paths that differ, one comes before the other
 pub path_before-some_way : (p q : List ℕ) → is_path p ≡ true → is_path q ≡ true → path_before p q ≡ false → (p ≡ q → ⊥) → path_before q p ≡ true
 path_before-some_way p q is_p is_q this other =
     path_before-some_by p q (path_before q p) refl (path_before-neither p q (has_slash p is_p) (has_slash q is_q) this) other

@@ -18,11 +18,11 @@ use Rattle.np_nodes.proofs.PlaceLemmas.{bytes_eq-is, bytes_eq-not}
 abbrev pub paths_of : List Node → List (List ℕ)
 paths_of nodes = map (λ n. n.path) nodes
 
--- the change leaves the path
+-- the change keeps the path
 abbrev pub KeepsPath : (Node → Node) → Type 0
 KeepsPath f = (n : Node) → (f n).path ≡ n.path
 
--- the change leaves the owner
+-- the change keeps the owner
 abbrev pub KeepsOwner : (Node → Node) → Type 0
 KeepsOwner f = (n : Node) → (f n).facts.owner ≡ n.facts.owner
 
@@ -83,7 +83,7 @@ length-paths [] (m ∷ ms) same = absurd cc
 length-paths (n ∷ ns) [] same = absurd cc
 length-paths (n ∷ ns) (m ∷ ms) same = let tail : paths_of ns ≡ paths_of ms = cc in ap suc (length-paths ns ms tail)
 
--- whether a node stands at a path
+-- whether there is a node at a path
 none-paths : (p : List ℕ) (ns ms : List Node) → paths_of ns ≡ paths_of ms → NonePass (is_at p) ns → NonePass (is_at p) ms
 none-paths p ns ms same none = all-keys (λ n. n.path) (λ q. bytes_eq q p ≡ false) ns ms same none
 

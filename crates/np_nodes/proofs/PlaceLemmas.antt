@@ -25,7 +25,7 @@ use Rattle.np_nodes.specs.Order.{AllPaths, IsSorted, node_before, place_of}
 use Rattle.np_nodes.specs.declared.node.Node.{Node}
 use Rattle.np_nodes.proofs.OrderLemmas.{path_before-first_le, path_before-halves, path_before-halves_le, halves_cmp, halves_of, has_slash, path_before-itself, path_before-trans, path_before-one_way, path_before-some_way}
 
--- ## whether two paths are one
+-- ## whether two paths are equal
 
 pub bytes_eq-is : (p q : List ℕ) → bytes_eq p q ≡ true → p ≡ q
 bytes_eq-is p q is = (bytes_eq-Decides p q).0 is
@@ -60,7 +60,7 @@ less-beyond p m n order not_less = bytes_eq-not n.path p (λ same.
 place-point : (p : List ℕ) (nodes : List Node) → IsSorted nodes → IsPartitionPoint (λ n. less_than p n ≡ true) (λ n. less_than p n ≡ false) nodes (place_of p nodes)
 place-point p nodes sorted = IsPartitionPoint-rises node_before (less_than p) (less-down p) nodes sorted
 
--- at the place stands another, or none
+-- at the place there is another node, or none
 at_path-absent : (p : List ℕ) (nodes : List Node) → IsSorted nodes → ((n : Node) → slice_get nodes (place_of p nodes) ≡ Some n → is_at p n ≡ false) → at_path nodes p ≡ None
 at_path-absent p nodes sorted other =
     find-none (is_at p) nodes
@@ -122,15 +122,15 @@ change_node-there p f nodes k n sorted is here = change_first-at (is_at p) f nod
 pub change_node-none : (p : List ℕ) (f : Node → Node) (nodes : List Node) → at_path nodes p ≡ None → change_node p f nodes ≡ nodes
 change_node-none p f nodes none = change_first-none (is_at p) f nodes (none-find (is_at p) nodes none)
 
--- ## a node less
+-- ## one node less
 
--- the node of a path stands once
+-- there is only one node of a path
 pub later-others : (p : List ℕ) (n : Node) (nodes : List Node) → is_at p n ≡ true → AllByRecursion (λ m. node_before n m ≡ true) nodes → NonePass (is_at p) nodes
 later-others p n nodes here all =
     all-weaker (λ m. node_before n m ≡ true) (λ m. is_at p m ≡ false)
     (λ m order. less-beyond p n m order (let same = bytes_eq-is n.path p here in ap (λ (q : List ℕ). path_before q p) same ∙ path_before-itself p)) nodes all
 
--- it stands there no more where it was taken out
+-- a node that was taken out is no longer there
 pub at_path-gone : (p : List ℕ) (nodes : List Node) (k : ℕ) (n : Node) → IsSorted nodes → slice_get nodes k ≡ Some n → is_at p n ≡ true → at_path (remove nodes k) p ≡ None
 at_path-gone p nodes k n sorted there here =
     let same = bytes_eq-is n.path p here in
@@ -147,14 +147,14 @@ without_node-first p (n ∷ nodes) (suc i) sorted first = rw (first.0) (ap (λ (
 pub without_node-there : (p : List ℕ) (nodes : List Node) (k : ℕ) (n : Node) → IsSorted nodes → slice_get nodes k ≡ Some n → is_at p n ≡ true → without_node p nodes ≡ remove nodes k
 without_node-there p nodes k n sorted is here = without_node-first p nodes k sorted (first-there p nodes k n sorted is here)
 
--- ## a node more
+-- ## one node more
 
--- a node that stands neither before nor at a path stands after it
+-- a node that is neither before nor at a path is after it
 not_less-after : (n m : Node) → is_path n.path ≡ true → is_path m.path ≡ true → is_at n.path m ≡ false → less_than n.path m ≡ false → node_before n m ≡ true
 not_less-after n m is_n is_m other not_less =
     path_before-some_way m.path n.path is_m is_n not_less (λ same. let e = bytes_eq-from m.path n.path same in absurd cc)
 
--- the nodes up to its place stand before it, and it stands before the others
+-- the nodes up to its place come before it, and it comes before the others
 between : (n : Node) (nodes : List Node) → is_path n.path ≡ true → AllPaths nodes → at_path nodes n.path ≡ None → IsSorted nodes → IsPartitionPoint (λ m. node_before m n ≡ true) (λ m. node_before n m ≡ true) nodes (place_of n.path nodes)
 between n nodes is paths none sorted =
     let point = place-point n.path nodes sorted in (

@@ -1,4 +1,4 @@
--- what planned edits make, and that everything is kept
+-- what planned edits do, and that everything is kept
 use Rattle.std.proofs.Common.{◌≡◌, ℕ, Bool, true, cond, List, Option, Some, None, refl, sym, ap, ◌∙◌, subst}
 use Rattle.std.specs.Prelude.{slice_get}
 use Rattle.std.specs.List.{insert, remove}
@@ -47,7 +47,7 @@ IsKept-without_child_above z (Some above) nodes marks kept = IsKept-change_node 
 abbrev path_and_owner : Node → List ℕ × Option ℕ
 path_and_owner n = (n.path, n.facts.owner)
 
--- it stands at the place where it stood
+-- it is at the place where it was
 still-there : (z : ℕ) (o : Option (List ℕ)) (k : ℕ) (n : Node) (nodes : List Node) → slice_get nodes k ≡ Some n → AtKept path_and_owner (without_child_above z o nodes) k n
 still-there z None k n nodes there = record { member = n; there = there; same = refl }
 still-there z (Some above) k n nodes there = slice_get-change_first path_and_owner (is_at above) (without_child z) (λ _. refl) nodes k n there
@@ -94,7 +94,7 @@ made-at above f keeps n nodes sorted paths is none =
     insert_node-at n (change_node above f nodes) is (AllPaths-change_node above f keeps nodes paths) (at_path-paths-none n.path nodes (change_node above f nodes) (sym (paths_of-change_node above f keeps nodes)) none) (IsSorted-change_node above f keeps nodes sorted)
     ∙ ap (λ (place : ℕ). insert (change_node above f nodes) place n) (place_of-change_node n.path above f keeps nodes)
 
--- with its mark, where it is an ephemeral
+-- with its mark, if it is an ephemeral
 pub IsKept-child : (ephemeral : Bool) (session : ℕ) (above : List ℕ) (f : Node → Node) → KeepsPath f → KeepsOwner f → (n : Node) (parent : List ℕ) (nodes : List Node) (marks : List Mark) → n.facts.owner ≡ cond ephemeral (Some session) None → MayStand n parent nodes → IsKept nodes marks →
     IsKept (insert_node n (change_node above f nodes)) (after_step (step_for ephemeral session n.path marks) marks)
 IsKept-child ephemeral session above f path owner n parent nodes marks owned may kept =

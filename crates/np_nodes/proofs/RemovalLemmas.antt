@@ -1,4 +1,4 @@
--- the edits that take nodes away
+-- the edits that remove nodes
 use Rattle.std.proofs.Common.{◌≡◌, ℕ, ◌<◌, true, false, ◌==◌, List, [], length, Option, Some, None, sym, ap, ◌∙◌, subst, arith}
 use Rattle.std.specs.Prelude.{slice_get}
 use Rattle.std.specs.List.{remove}
@@ -65,7 +65,7 @@ Plans-removal z k n nodes marks touch mark kept there takes above can =
 
 -- ## a session's end
 
--- a node stands where the mark says
+-- there is a node where the mark says
 pub mark-not_absent : (j : ℕ) (mark : Mark) (nodes : List Node) (marks : List Mark) → IsKept nodes marks → slice_get marks j ≡ Some mark → at_path nodes mark.path ≡ None → ⊥
 mark-not_absent j mark nodes marks kept there none = let has = mark-owned marks j mark nodes there kept.marked in let found = has.1 in cc
 

@@ -1,4 +1,4 @@
--- what taking back the last edit gives
+-- what undoing the last edit leaves
 use Rattle.std.proofs.Common.{◌≡◌, ℕ, List, [], ◌∷◌, ◌++◌, Option, Some, None, refl, ap}
 use Rattle.std.specs.Prelude.{option_map, slice_get}
 use Rattle.np_lists.specs.Change.{change_at}
@@ -40,7 +40,7 @@ CanUndo-others [] e nodes marks can = tt
 CanUndo-others (d ∷ es) e nodes marks can =
     (rw (nodes_before-push es e nodes, marks_before-push es e marks) at can.0, CanUndo-others es e nodes marks can.1)
 
--- a touch is taken back by what its swap became
+-- a touch is undone by what its swap became
 pub with_touch-back : (nodes : List Node) (k : ℕ) (s after : Swap) → option_map (kept_of s) (slice_get nodes k) ≡ Some after → change_at k (with_swap after) (change_at k (with_swap s) nodes) ≡ nodes
 with_touch-back nodes k s after kept = with_touch-back-by nodes k s after (slice_get nodes k) refl kept where
   with_touch-back-by : (nodes : List Node) (k : ℕ) (s after : Swap) (o : Option Node) → slice_get nodes k ≡ o → option_map (kept_of s) o ≡ Some after → change_at k (with_swap after) (change_at k (with_swap s) nodes) ≡ nodes

@@ -1,4 +1,4 @@
--- what each operation is answered: its tests in their order, of which the first that fails answers
+-- the answer to each operation, by its tests in order: the first one that fails determines it
 use Rattle.std.specs.Prelude.{ℕ, ◌+◌, ◌==◌, nat_lt, nat_le, not, ◌||◌, List, [], ◌++◌, length, Result, Ok, if◌then◌else◌}
 use Rattle.std.specs.Option.{is_none}
 use Rattle.std.specs.Str.{bytes_eq}
@@ -34,7 +34,7 @@ child_answer t above name bytes mode = do
   need (nat_lt (length (children_of t.nodes above)) 4_294_967_295) no.ChangesSpent
   Ok (made_path parent name mode)
 
--- create (client API: `create`): the root alone has no parent, and exists
+-- create (client API: `create`): only the root has no parent, and it exists
 abbrev pub create_answer : TreeState → ℕ → List ℕ → List ℕ → Mode → Result (List ℕ) TreeRefusal
 create_answer t session path bytes mode = do
   alive t session
@@ -75,7 +75,7 @@ check_answer t session path expect = do
   n ← there t path
   has_version n expect
 
--- what a part of a `multi` is answered
+-- the answer to a part of a `multi`
 abbrev pub part_answer : TreeState → ℕ → Op → Result OpDone TreeRefusal
 part_answer t s (op.Create path bytes mode) = create_answer t s path bytes mode >>= λ made. Ok (done.Created made)
 part_answer t s (op.CreateUnder parent bytes mode) = create_under_answer t s parent bytes mode >>= λ made. Ok (done.Created made)

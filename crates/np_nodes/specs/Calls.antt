@@ -15,11 +15,11 @@ may_raise t path to = is_below to (at_path t.nodes path)
 abbrev pub with_counter : ℕ → Node → Node
 with_counter to n = record n { facts = record n.facts { counter = to } }
 
--- a node's sequence counter is raised, which is no change of the tree
+-- a node's sequence counter is raised, which is not a change of the tree
 abbrev pub after_raise : TreeState → List ℕ → ℕ → TreeState
 after_raise t path to = record t { nodes = change_node path (with_counter to) t.nodes }
 
--- the same but for how many sessions can begin without memory
+-- the same except for how many sessions can begin without memory
 abbrev pub with_spare : TreeState → ℕ → TreeState
 with_spare t spare = record t { spare = spare }
 

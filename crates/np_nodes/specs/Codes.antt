@@ -3,7 +3,7 @@ use Rattle.std.specs.Prelude.{ℤ, negsuc, Option, Some, None}
 use Rattle.np_nodes.specs.declared.refusal.TreeRefusal.{TreeRefusal}
 use Rattle.np_nodes.specs.declared.refusal.TreeRefusal.TheVariants as no
 
--- ZooKeeper's code of a refusal, where it has one (`KeeperException.Code`); `negsuc 100` is -101
+-- ZooKeeper's code of a refusal, if it has one (`KeeperException.Code`); `negsuc 100` is -101
 abbrev pub code_of : TreeRefusal → Option ℤ
 code_of no.SessionExpired = Some (negsuc 111)
 code_of no.NoNode = Some (negsuc 100)

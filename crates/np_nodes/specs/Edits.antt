@@ -1,4 +1,4 @@
--- edits of the lists, and what takes them back, for the code alone
+-- edits of the lists, and what undoes them, for the code only
 use Rattle.std.specs.Prelude.{◌<◌, List, [], ◌∷◌, length, Option, Some, None, unwrap_or}
 use Rattle.std.specs.Option.{option_map}
 use Rattle.np_lists.specs.Change.{change_at}
@@ -9,7 +9,7 @@ use Rattle.np_nodes.specs.declared.edit.Swap.{Swap}
 use Rattle.np_nodes.specs.declared.edit.Touch.{Touch}
 use Rattle.np_nodes.specs.declared.edit.Edit.{Edit}
 
--- a node with other bytes, where there are some, and other facts
+-- a node with other bytes, if there are some, and other facts
 abbrev pub with_swap : Swap → Node → Node
 with_swap s n = record n { bytes = unwrap_or s.bytes n.bytes; facts = s.facts }
 
@@ -25,7 +25,7 @@ abbrev pub CanTouch : Option Touch → List Node → Type 0
 CanTouch None nodes = Unit {0}
 CanTouch (Some t) nodes = t.place < length nodes
 
--- the nodes after an edit, and after one that is taken back
+-- the nodes after an edit, and after one that is undone
 abbrev pub after_edit : Edit → List Node → List Node
 after_edit e nodes = after_step e.node (with_touch e.touch nodes)
 
@@ -43,7 +43,7 @@ pub record CanTakeBack (e : Edit) (nodes : List Node) (marks : List Mark) : Type
   pub node : CanStep e.node nodes
   pub touch : CanTouch e.touch (after_step e.node nodes)
 
--- the nodes and the marks after edits are taken back, the last one first
+-- the nodes and the marks after edits are undone, the last one first
 abbrev pub nodes_before : List Edit → List Node → List Node
 nodes_before [] nodes = nodes
 nodes_before (e ∷ es) nodes = after_undo e (nodes_before es nodes)
@@ -52,7 +52,7 @@ abbrev pub marks_before : List Edit → List Mark → List Mark
 marks_before [] marks = marks
 marks_before (e ∷ es) marks = after_step e.mark (marks_before es marks)
 
--- all of them can be taken back
+-- all of them can be undone
 abbrev pub CanUndo : List Edit → List Node → List Mark → Type 0
 CanUndo [] nodes marks = Unit {0}
 CanUndo (e ∷ es) nodes marks = CanTakeBack e (nodes_before es nodes) (marks_before es marks) × CanUndo es nodes marks

@@ -1,4 +1,4 @@
--- which session has which ephemeral nodes, for the code alone
+-- which session has which ephemeral nodes, for the code only
 use Rattle.std.specs.Prelude.{◌≡◌, ℕ, Bool, false, ◌&&◌, ◌==◌, List, Option, Some, None}
 use Rattle.std.specs.List.{list_any, prefix_len}
 use Rattle.std.specs.declared.cmp.Ordering.{Ordering}
@@ -10,18 +10,18 @@ use Rattle.np_nodes.specs.Nodes.{at_path, is_owned}
 use Rattle.np_nodes.specs.declared.node.Node.{Node}
 use Rattle.np_nodes.specs.declared.mark.Mark.{Mark}
 
--- marks stand by session, and then by path in byte order (own)
+-- marks are in order by session, and then by path in byte order (own)
 abbrev pub mark_cmp : Mark → ℕ → List ℕ → Ordering
 mark_cmp mark session path = ordering_then (nat_cmp mark.session session) (slice_cmp nat_cmp mark.path path)
 
--- whether a mark stands before the place of a session's mark of a path
+-- whether a mark comes before the place of a session's mark of a path
 abbrev pub mark_before : ℕ → List ℕ → Mark → Bool
 mark_before session path mark = is_lt (mark_cmp mark session path)
 
 abbrev pub mark_place : ℕ → List ℕ → List Mark → ℕ
 mark_place session path marks = prefix_len (mark_before session path) marks
 
--- the marks stand in their order, each once
+-- the marks are in their order, each once
 abbrev pub AreRanked : List Mark → Type 0
 AreRanked marks = Rises (λ m n. mark_before n.session n.path m) marks
 
@@ -34,7 +34,7 @@ abbrev pub is_ephemeral_of : ℕ → Option Node → Bool
 is_ephemeral_of session None = false
 is_ephemeral_of session (Some n) = is_owned session n
 
--- a session has a mark of a path exactly where an ephemeral of the session stands there
+-- a session has a mark of a path if and only if an ephemeral of the session is there
 abbrev pub MarkEphemerals : List Mark → List Node → Type 0
 MarkEphemerals marks nodes = (session : ℕ) (path : List ℕ) → list_any (is_mark session path) marks ≡ is_ephemeral_of session (at_path nodes path)
 

@@ -17,7 +17,7 @@ pub record AtPart : Type 0 where
   pub index : ℕ
   pub refusal : TreeRefusal
 
--- what a part is answered, and then the parts after it; the first refusal wins
+-- the answer to a part, and then to the parts after it; the first refusal is the answer
 abbrev pub and_then : ℕ → Result OpDone TreeRefusal → Result (List OpDone) AtPart → Result (List OpDone) AtPart
 and_then at (Err refusal) others = Err (record { index = at; refusal = refusal })
 and_then at (Ok done) (Err later) = Err later
@@ -28,7 +28,7 @@ abbrev pub answers_from : ℕ → TreeState → ℕ → List Op → Result (List
 answers_from at t s [] = Ok []
 answers_from at t s (part ∷ parts) = and_then at (part_answer t s part) (answers_from (at + 1) (after_part t s part) s parts)
 
--- what all parts make of the tree together
+-- what all parts together do to the tree
 abbrev pub after_parts : TreeState → ℕ → List Op → TreeState
 after_parts t s [] = t
 after_parts t s (part ∷ parts) = after_parts (after_part t s part) s parts
@@ -40,7 +40,7 @@ is_check (op.Set path bytes expect) = false
 is_check (op.Delete path expect) = false
 is_check (op.Check path expect) = true
 
--- all parts under one change number, and checks alone under none
+-- all parts under one change number; if all are checks, under none
 abbrev pub after_multi : TreeState → ℕ → List Op → TreeState
 after_multi t s parts = if list_any (λ part. not (is_check part)) parts then with_next_number (after_parts t s parts) else t
 
@@ -60,7 +60,8 @@ is_numbered (op.Set path bytes expect) = true
 is_numbered (op.Delete path expect) = true
 is_numbered (op.Check path expect) = true
 
--- why nothing was done: a part was refused, or memory ran out at a part that was accepted as those before it were
+-- why nothing was done: a part was refused, or memory ran out at a part that was accepted, as those
+-- before it were
 abbrev pub Stops : TreeState → ℕ → List Op → MultiFault → Type 0
 Stops t s parts (Refused index refusal) = answers_from 0 t s parts ≡ Err (record { index = index; refusal = refusal })
 Stops t s parts NoMemory = (k : ℕ) × (k < length parts) × IsOk (answers_from 0 t s (take (k + 1) parts))

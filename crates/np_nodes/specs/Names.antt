@@ -1,4 +1,4 @@
--- names that a child may have, for the code alone
+-- names that a child may have, for the code only
 use Rattle.std.specs.Prelude.{◌≡◌, ℕ, true, List, [], if◌then◌else◌}
 use Rattle.std.specs.Str.{bytes_eq}
 use Rattle.std.specs.List.{list_all}
@@ -7,7 +7,7 @@ use Rattle.np_path.specs.Parts.{root}
 use Rattle.np_nodes.specs.Tests.{is_sequential}
 use Rattle.np_nodes.specs.declared.kind.Mode.{Mode}
 
--- it is an element, or may stand before the digits that make it one
+-- it is an element, or may come before the digits that make it one
 abbrev pub MakesName : List ℕ → Mode → Type 0
 MakesName name mode = (if is_sequential mode then list_all is_kept name else is_element name) ≡ true
 

@@ -1,4 +1,4 @@
--- a node by its path, the children of a path, what a session owns, and the order in which nodes stand
+-- a node by its path, the children of a path, what a session owns, and the order of nodes
 use Rattle.std.specs.Prelude.{ℕ, ◌==◌, Bool, false, not, List, length, filter, find, Option, Some, None}
 use Rattle.std.specs.List.{before_last}
 use Rattle.std.specs.Ordering.{nat_cmp, is_lt, ordering_then}
@@ -10,7 +10,7 @@ use Rattle.np_path.specs.Parts.{name_of, parent_of}
 use Rattle.np_nodes.specs.declared.node.Node.{Node}
 use Rattle.np_nodes.specs.declared.kind.Stat.{Stat}
 
--- whether a node stands at a path
+-- whether a node is at a path
 abbrev pub is_at : List ℕ → Node → Bool
 is_at path n = bytes_eq n.path path
 
@@ -38,7 +38,7 @@ is_owner session (Some owner) = owner == session
 abbrev pub is_owned : ℕ → Node → Bool
 is_owned session n = is_owner session n.facts.owner
 
--- what a node with so many children tells of itself
+-- the stat of a node with this many children
 abbrev pub stat_with : ℕ → Node → Stat
 stat_with children n = record {
   czxid = n.facts.czxid;
@@ -52,7 +52,7 @@ stat_with children n = record {
 abbrev pub stat_of : List Node → Node → Stat
 stat_of nodes n = stat_with (length (children_of nodes n.path)) n
 
--- the order in which nodes stand: by what comes before the last slash, and then by name, both in byte order
+-- the order of nodes: by what comes before the last slash, and then by name, both in byte order
 abbrev pub before_of : List ℕ → List ℕ
 before_of path = before_last is_slash path
 

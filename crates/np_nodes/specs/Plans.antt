@@ -1,4 +1,4 @@
--- what an edit is planned from, for the code alone
+-- what an edit is planned from, for the code only
 use Rattle.std.specs.Prelude.{◌≡◌, ◌<◌, ◌≤◌, ℕ, true, List, length, Option, Some, None, slice_get, if◌then◌else◌}
 use Rattle.np_nodes.specs.Finds.{IsPlace}
 use Rattle.np_nodes.specs.Answer.{made_path}

@@ -1,9 +1,9 @@
--- one item more or fewer, for the code alone
+-- one item more or fewer, for the code only
 use Rattle.std.specs.Prelude.{◌<◌, ◌≤◌, List, length, insert, remove}
 use Rattle.np_nodes.specs.declared.step.Step.{Step}
 use Rattle.np_nodes.specs.declared.step.Step.TheVariants.{Nothing, Take, Put}
 
--- what a step makes of a list
+-- what a step does to a list
 abbrev pub after_step : {T : Type 0} → Step T → List T → List T
 after_step Nothing items = items
 after_step (Take place) items = remove items place

@@ -12,7 +12,7 @@ pub record TreeState : Type 0 where
   pub changes : ℕ
   pub spare : ℕ
 
--- the root, which stands in each tree
+-- the root, which is in each tree
 abbrev pub root_node : Node
 root_node = record { path = root; bytes = []; facts = record { version = 0; czxid = 0; mzxid = 0; pzxid = 0; owner = None; counter = 0 } }
 

@@ -1,9 +1,9 @@
--- what the edits of a call began from, for the code alone
+-- the state from which the edits of a call began, for the code only
 use Rattle.std.specs.Prelude.{◌≡◌}
 use Rattle.np_nodes.specs.Edits.{CanUndo, marks_before, nodes_before}
 use Rattle.np_nodes.specs.declared.lists.NodeLists.{NodeLists}
 
--- what the edits of the call began from, and that they can be taken back, stays
+-- the state from which the edits of the call began, and that they can be undone, stay as they are
 pub record KeepsStart (old new : NodeLists) : Type 0 where
   pub nodes : nodes_before new.undo.items new.nodes ≡ nodes_before old.undo.items old.nodes
   pub marks : marks_before new.undo.items new.marks ≡ marks_before old.undo.items old.marks

@@ -20,7 +20,7 @@ impl Model for Bytes {
 }
 
 impl Bytes {
-    /// Takes the bytes whole.
+    /// Takes the bytes without copying them.
     pub fn new(items: Vec<u8>) -> Bytes
         ensures { result ≡ items.items }
     {

@@ -1,4 +1,4 @@
-//! Changes of the tree's lists that can be taken back without memory.
+//! Changes of the tree's lists that can be undone without memory.
 
 ghost use Rattle.std.specs.Prelude.{◌≡◌};
 ghost use Rattle.np_nodes.specs.Edits.{kept_of, with_swap};
@@ -10,8 +10,8 @@ use crate::step::Step;
 use np_shelf::Change;
 use std::mem;
 
-/// Other bytes, where there are some, and other facts of a node; after the change those that the
-/// node had.
+/// Other bytes, if there are some, and other facts of a node; after the change, those that the node
+/// had.
 #[derive(Drop)]
 pub(crate) struct Swap {
     pub(crate) bytes: Option<Bytes>,
@@ -38,8 +38,8 @@ pub(crate) struct Touch {
     pub(crate) swap: Swap,
 }
 
-/// What one operation does to the lists: first the touch of a node, then a node more or fewer, and
-/// a mark more or fewer. It is taken back in the other order.
+/// What one operation does to the lists: first the touch of a node, then one node more or fewer and
+/// one mark more or fewer. It is undone in the opposite order.
 #[derive(Drop)]
 pub struct Edit {
     pub(crate) touch: Option<Touch>,

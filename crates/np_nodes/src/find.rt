@@ -44,7 +44,7 @@ impl Probe<Node> for ByHalves<'_> {
     }
 }
 
-/// How a name stands to one of two parts.
+/// How a name compares to one of two parts.
 fn name_cmp(name: &[u8], front: &[u8], digits: &[u8]) -> Ordering
     ensures { result ≡ slice_cmp nat_cmp name.now (front.now ++ digits.now) }
 {
@@ -88,7 +88,7 @@ impl Probe<Node> for LastChild<'_> {
     }
 }
 
-/// A node, and where it stands.
+/// A node, and its place.
 #[derive(Clone, Copy)]
 pub struct Found<'a> {
     pub(crate) place: usize,
@@ -127,7 +127,7 @@ impl<'a> Spot<'a> {
     }
 }
 
-/// Where the children of a node stand side by side: the place of the first, and one past the last.
+/// Where the children of a node are side by side: the place of the first, and one past the last.
 #[derive(Clone, Copy)]
 struct Stretch {
     from: usize,
@@ -163,7 +163,7 @@ impl NodeLists {
         (stretch.to - stretch.from) as u32
     }
 
-    /// The child of the node at a path that stands at a place among them, by three searches.
+    /// The child of the node at a path with this place among them, by three searches.
     pub fn child(&self, path: &str, at: u32) -> Option<&Node>
         requires { IsKept self.now.nodes self.now.marks }
         ensures { option_copied result ≡ slice_get (children_of self.now.nodes path.now) at }
@@ -203,7 +203,7 @@ impl NodeLists {
         }
     }
 
-    /// The place of a child that isn't there yet, by one search; none where a node stands at its path.
+    /// The place of a child that isn't there yet, by one search; none if a node is at its path.
     pub fn gap(&self, parent: &Node, name: &str, mode: Mode) -> Option<usize>
         requires sorted { IsSorted self.now.nodes }
         requires paths { AllPaths self.now.nodes }
@@ -215,7 +215,7 @@ impl NodeLists {
         self.gap_at(half_of(&parent.path), name.as_bytes(), digits)
     }
 
-    /// The place of the path of two halves, by one search; none where a node stands there.
+    /// The place of the path of two halves, by one search; none if there is a node there.
     fn gap_at(&self, before: &[u8], name: &[u8], digits: &[u8]) -> Option<usize>
         requires sorted { IsSorted self.now.nodes }
         requires paths { AllPaths self.now.nodes }
@@ -237,7 +237,7 @@ impl NodeLists {
     }
 }
 
-/// The digits that stand after a name of this mode.
+/// The digits that come after a name of this mode.
 fn digits_for(mode: Mode, number: &[u8]) -> &[u8]
     ensures { result.now ≡ (if is_sequential mode then number.now else []) }
 {

@@ -53,7 +53,7 @@ impl Expect {
     }
 }
 
-/// What a node tells of itself beside its bytes (ZooKeeper's `Stat`).
+/// What is known of a node beside its bytes (ZooKeeper's `Stat`).
 #[derive(Clone, Copy, Debug, PartialEq, Eq)]
 pub struct Stat {
     /// The change that created the node.
@@ -62,7 +62,7 @@ pub struct Stat {
     pub mzxid: u64,
     /// The change that last modified its list of children.
     pub pzxid: u64,
-    /// How often its bytes were modified.
+    /// How many times its bytes were modified.
     pub version: u64,
     /// The session that an ephemeral node goes with.
     pub owner: Option<u32>,

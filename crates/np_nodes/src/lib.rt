@@ -1,13 +1,13 @@
 //! The lists of the coordination tree: its nodes and marks in their order, searches in them, and the
 //! edits of them.
 //!
-//! The definitions of a call stand here too, since the edits are proved against them: read
+//! The definitions of a call are here too, since the edits are proved against them: read
 //! `specs/TreeState` and `specs/Nodes`, then `specs/Answer` and `specs/After`, and `specs/Multi` and
-//! `specs/Calls`. A `NodeLists` makes an edit without memory, and answers the edit that takes it back;
-//! what plans an edit takes all memory before. Sessions, change numbers and the calls are np_tree's.
+//! `specs/Calls`. A `NodeLists` makes an edit without memory, and answers the edit that undoes it;
+//! planning an edit takes all memory first. Sessions, change numbers and calls are np_tree's.
 //!
-//! Nodes stand in their order, and a mark for each ephemeral node and no other: `IsKept`, which each
-//! edit that is planned here keeps.
+//! Nodes are in their order, and there is a mark for each ephemeral node and no other: this is
+//! `IsKept`, which each edit that is planned here keeps.
 #![tactic(auto)]
 
 mod bytes;

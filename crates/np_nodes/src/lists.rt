@@ -1,4 +1,4 @@
-//! The lists of the tree, with what takes back the edits of the call so far.
+//! The lists of the tree, with what undoes the edits of the call so far.
 
 ghost use Rattle.std.specs.Prelude.{◌≡◌, ◌∷◌, [], IfOk, OnOk, OnErr};
 ghost use Rattle.np_nodes.specs.Undo.{KeepsStart, SameLists};
@@ -16,16 +16,16 @@ use np_shelf::{Piece, Shelf};
 use np_text::NoMemory;
 use std::alloc::Global;
 
-/// The lists of the tree, with what takes back the edits of the call so far.
+/// The lists of the tree, with what undoes the edits of the call so far.
 #[derive(Drop)]
 pub struct NodeLists {
     pub(crate) nodes: Shelf<Node>,
     pub(crate) marks: Shelf<Mark>,
-    // What takes back an edit stands after what takes back those before it.
+    // What undoes an edit comes after what undoes those before it.
     pub(crate) undo: Vec<Edit>,
 }
 
-/// Changes a node, and answers what changes it back.
+/// Changes a node, and answers the touch that changes it back.
 fn touch(nodes: &mut Shelf<Node>, touch: Option<Touch>) -> Option<Touch>
     requires { CanTouch touch nodes.old }
     ensures nodes { nodes.new ≡ with_touch touch nodes.old }
@@ -42,7 +42,7 @@ fn touch(nodes: &mut Shelf<Node>, touch: Option<Touch>) -> Option<Touch>
 }
 
 impl NodeLists {
-    /// The root alone, with no edit to take back.
+    /// The root alone, with no edit to undo.
     pub fn new(alloc: Global) -> Result<NodeLists, NoMemory>
         ensures nodes { IfOk result (λ lists. lists.nodes ≡ root_node ∷ []) }
         ensures kept { IfOk result (λ lists. IsKept lists.nodes lists.marks) }
@@ -62,7 +62,7 @@ impl NodeLists {
         })
     }
 
-    /// Makes an edit, and answers the one that takes it back. Takes no memory.
+    /// Makes an edit, and answers the one that undoes it. Takes no memory.
     pub fn make(&mut self, edit: Edit) -> Edit
         requires { CanEdit edit self.old.nodes self.old.marks }
         ensures nodes { self.new.nodes ≡ after_edit edit self.old.nodes }
@@ -78,7 +78,7 @@ impl NodeLists {
         Edit { touch, node, mark }
     }
 
-    /// Makes an edit, and keeps what takes it back.
+    /// Makes an edit, and keeps what undoes it.
     pub fn edit(&mut self, edit: Edit) -> Result<(), NoMemory>
         requires { CanEdit edit self.old.nodes self.old.marks }
         ensures nodes { OnOk result (self.new.nodes ≡ after_edit edit self.old.nodes) }
@@ -92,7 +92,7 @@ impl NodeLists {
         Ok(())
     }
 
-    /// Takes an edit back.
+    /// Undoes an edit.
     fn take_back(&mut self, edit: Edit)
         requires { CanTakeBack edit self.old.nodes self.old.marks }
         ensures nodes { self.new.nodes ≡ after_undo edit self.old.nodes }
@@ -104,7 +104,7 @@ impl NodeLists {
         touch(&mut self.nodes, edit.touch);
     }
 
-    /// Takes back all edits of the call so far, in the work that they were. Takes no memory.
+    /// Undoes all edits of the call so far, in the same time that they took. Takes no memory.
     pub fn roll_back(&mut self)
         requires { CanUndo self.old.undo.items self.old.nodes self.old.marks }
         ensures nodes { self.new.nodes ≡ nodes_before self.old.undo.items self.old.nodes }
@@ -116,7 +116,7 @@ impl NodeLists {
         }
     }
 
-    /// Forgets how the edits so far are taken back.
+    /// Forgets how to undo the edits so far.
     pub fn forget_undo(&mut self)
         ensures nodes { self.new.nodes ≡ self.old.nodes }
         ensures marks { self.new.marks ≡ self.old.marks }

@@ -6,7 +6,7 @@ use crate::bytes::Bytes;
 use crate::kind::Stat;
 use np_path::Path;
 
-/// A node as it is kept.
+/// A node as it is stored.
 #[derive(Drop)]
 pub struct Node {
     pub(crate) path: Path,
@@ -38,21 +38,21 @@ impl Node {
         self.facts.owner
     }
 
-    /// How often the node's bytes were modified.
+    /// How many times the node's bytes were modified.
     pub fn version(&self) -> u64
         ensures { result ≡ self.now.facts.version }
     {
         self.facts.version
     }
 
-    /// The next number that the node gives out to a sequence node.
+    /// The number that the next sequence node below the node gets.
     pub fn counter(&self) -> u32
         ensures { result ≡ self.now.facts.counter }
     {
         self.facts.counter
     }
 
-    /// What the node tells of itself, where it has so many children.
+    /// The node's stat, if it has this many children.
     pub fn stat(&self, children: u32) -> Stat
         ensures { result ≡ stat_with children self.now }
     {

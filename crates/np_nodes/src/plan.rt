@@ -37,7 +37,7 @@ pub fn child_path(parent: &Node, name: &str, mode: Mode) -> Result<Path, NoMemor
     } else {
         parent.path.child(name)
     };
-    // The name is an element, so that memory alone can be wanting.
+    // The name is an element, so only memory can run out.
     made.map_err(|_| NoMemory)
 }
 
@@ -175,7 +175,7 @@ impl NodeLists {
         }
     }
 
-    /// The change of the node above one that goes, where there is one.
+    /// The change of the node above one that is removed, if there is one.
     fn touch_above(&self, path: &Path, change: u64) -> Option<Touch>
         requires { IsKept self.now.nodes self.now.marks }
         ensures nodes { with_touch result self.now.nodes
@@ -193,7 +193,7 @@ impl NodeLists {
         })
     }
 
-    /// The edit that takes a node away, with what is done to the marks.
+    /// The edit that removes a node, with what is done to the marks.
     pub(crate) fn removal_with(&self, change: u64, found: Found<'_>, mark: Step<Mark>) -> Edit
         requires kept { IsKept self.now.nodes self.now.marks }
         requires there { slice_get self.now.nodes found.place ≡ Some found.node.now }
@@ -223,7 +223,7 @@ impl NodeLists {
         Step::Take(self.marks.place(&ByMark { session, path }))
     }
 
-    /// The edit that takes a node away, with its mark.
+    /// The edit that removes a node, with its mark.
     pub fn removal(&self, change: u64, found: Found<'_>) -> Edit
         requires kept { IsKept self.now.nodes self.now.marks }
         requires there { slice_get self.now.nodes found.place ≡ Some found.node.now }

@@ -6,16 +6,16 @@ ghost use Rattle.np_nodes.specs.declared.refusal.TreeFault.TheVariants.{Refused,
 
 use std::alloc::AllocError;
 
-/// The first failing test of a call, in ZooKeeper's words but for the last four.
+/// The first failing test of a call, in ZooKeeper's words except for the last four.
 #[derive(Clone, Copy, Debug, PartialEq, Eq)]
 pub enum TreeRefusal {
     /// The session isn't live.
     SessionExpired,
-    /// No node stands at the path, or none above it.
+    /// There is no node at the path, or none above it.
     NoNode,
     /// The node above is an ephemeral.
     NoChildrenForEphemerals,
-    /// A node stands at the path already.
+    /// There is a node at the path already.
     NodeExists,
     /// The node has another version than the expected one.
     BadVersion { kept: u64 },
@@ -32,7 +32,7 @@ pub enum TreeRefusal {
 }
 
 impl TreeRefusal {
-    /// ZooKeeper's error code, where it has the refusal.
+    /// ZooKeeper's error code, if ZooKeeper has the refusal.
     pub fn code(&self) -> Option<i32>
         ensures { result ≡ code_of self.now }
     {
@@ -56,7 +56,7 @@ impl TreeRefusal {
 pub enum TreeFault {
     /// A test of the call failed.
     Refused(TreeRefusal),
-    /// All tests passed, and no memory was found.
+    /// All tests passed, and memory ran out.
     NoMemory,
 }
 
@@ -89,6 +89,6 @@ impl From<AllocError> for TreeFault {
 pub enum MultiFault {
     /// The part at this place is the first that is refused after those before it.
     Refused { index: u32, refusal: TreeRefusal },
-    /// No memory was found.
+    /// Memory ran out.
     NoMemory,
 }

@@ -10,8 +10,8 @@ use crate::mark::ByMark;
 use crate::step::Step;
 
 impl NodeLists {
-    /// The edit that takes away the first of a session's marks, and its node; none where no node is
-    /// the session's.
+    /// The edit that removes the first of a session's marks, and its node; none if the session
+    /// has no node.
     fn first_removal(&self, change: u64, session: u32) -> Option<Edit>
         requires { IsKept self.now.nodes self.now.marks }
         ensures { MatchOption result
@@ -29,7 +29,7 @@ impl NodeLists {
         Some(self.removal_with(change, found, Step::Take(place)))
     }
 
-    /// Takes away all nodes of a session. Takes no memory.
+    /// Removes all nodes of a session. Takes no memory.
     pub fn release(&mut self, change: u64, session: u32)
         requires { IsKept self.old.nodes self.old.marks }
         ensures nodes { self.new.nodes ≡ nodes_after_end change session self.old.nodes }

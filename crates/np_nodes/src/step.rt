@@ -14,7 +14,7 @@ pub(crate) enum Step<T> {
 }
 
 impl<T: Drop> Step<T> {
-    /// Makes the step, and answers the one that takes it back. Takes no memory.
+    /// Makes the step, and answers the one that undoes it. Takes no memory.
     pub(crate) fn make(self, items: &mut Shelf<T>) -> Step<T>
         requires { CanStep self items.old }
         ensures items { items.new ≡ after_step self items.old }

@@ -25,12 +25,12 @@ elements-no_slash_more : (b : ℕ) (bs : List ℕ) (t : Bool) → is_slash b ≡
 elements-no_slash_more b bs true is later = rw (slice_split-cons_yes is_slash b bs is) later
 elements-no_slash_more b bs false is later = rw (slice_split-cons_no is_slash b bs is) (onto_first-no_slash b (elements bs) is later)
 
--- the elements of a text hold no slash
+-- the elements of a text have no slash
 pub elements-no_slash : (bs : List ℕ) → list_all has_no_slash (elements bs) ≡ true
 elements-no_slash [] = refl
 elements-no_slash (b ∷ bs) = elements-no_slash_more b bs (is_slash b) refl (elements-no_slash bs)
 
--- a place short of the end is where some byte is bad
+-- the byte at a place before the end is bad
 position-or_len_kept : (bs : List ℕ) → has_no_slash bs ≡ true → nat_lt (position_or_len is_control bs) (length bs) ≡ not (list_all is_kept bs)
 position-or_len_kept [] none = refl
 position-or_len_kept (b ∷ bs) none =
@@ -76,7 +76,7 @@ is_none-more : (t : Bool) (all : Bool) (found : Option ℕ) → is_none found �
 is_none-more true all found is = sym is
 is_none-more false all found is = refl
 
--- exactly a text with no fault is a path
+-- a text is a path if and only if it has no fault
 pub is_path-no_fault : (text : List ℕ) → is_path text ≡ is_none (path_fault text)
 is_path-no_fault [] = refl
 is_path-no_fault (b ∷ []) = is_none-one (is_slash b)

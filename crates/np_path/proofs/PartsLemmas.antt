@@ -1,4 +1,4 @@
--- parent, name and child against one another
+-- how parent, name and child are related
 use Rattle.std.proofs.Common.{◌≡◌, ℕ, zero, suc, ◌+◌, ◌-◌, ◌<◌, ◌≤◌, ◌≢◌, Bool, true, false, not, ◌&&◌, List, [], ◌∷◌, ◌++◌, length, take, drop, get_or, Some, refl, sym, map, ap, ◌∙◌, inl, inr, subst, ◌/◌, ◌%◌, arith}
 use Rattle.std.proofs.lemmas.Bool.Decides.{nat_tests}
 use Rattle.std.proofs.lemmas.List.{append_assoc, length-append, length-take-le, get_or_at, get_or-append_right}
@@ -33,19 +33,19 @@ pub record AfterLast (text : List ℕ) (at : ℕ) : Type 0 where
 pub AfterLast-name : (path : List ℕ) (at : ℕ) → IsNameAt path at → AfterLast path at
 AfterLast-name path at is = record { after = is.after; within = is.within; slash = is.slash; name = is.name }
 
--- how much follows the last slash
+-- how much comes after the last slash
 suffix_len-last : (text : List ℕ) (at : ℕ) → AfterLast text at → suffix_len (λ b. not (is_slash b)) text ≡ length text - at
 suffix_len-last text at is =
     suffix_len_is (λ b. not (is_slash b)) text at 0 is.within (λ k over below. ap not (is.name k over below)) (λ _. not-slash _ is.slash)
 
--- what stands after the last slash, and before it
+-- what is after the last slash, and before it
 pub name_of-last : (text : List ℕ) (at : ℕ) → AfterLast text at → name_of text ≡ drop at text
 name_of-last text at is = rw (suffix_len-last text at is) (ap (λ k. drop k text) (let within = is.within in omega arith))
 
 pub before_last-last : (text : List ℕ) (at : ℕ) → AfterLast text at → before_last is_slash text ≡ take (at - 1) text
 before_last-last text at is = rw (suffix_len-last text at is) (ap (λ k. take k text) (let within = is.within in omega arith))
 
--- of a path
+-- the same for a path
 pub name_of-at : (path : List ℕ) (at : ℕ) → IsNameAt path at → name_of path ≡ drop at path
 name_of-at path at is = name_of-last path at (AfterLast-name path at is)
 
@@ -62,7 +62,7 @@ or_root-some : (bs : List ℕ) → 0 < length bs → or_root bs ≡ bs
 or_root-some [] some = absurd (omega arith)
 or_root-some (b ∷ bs) some = refl
 
--- below a child of the root, and below any other
+-- the parent of a child of the root, and of any other path
 pub parent_of-child_of_root : (path : List ℕ) → IsNameAt path 1 → 1 < length path → parent_of path ≡ Some root
 parent_of-child_of_root path is long = parent_of-at path 1 is long
 
@@ -83,7 +83,7 @@ begins_with_slash (b ∷ c ∷ bs) is = (c ∷ bs, ap (λ x. x ∷ c ∷ bs) (is
 pub take_one : (path : List ℕ) → is_path path ≡ true → take 1 path ≡ root
 take_one path is = let begun = begins_with_slash path is in rw begun.1 refl
 
--- each byte of an element may stand there
+-- each byte of an element is one that an element may have
 each_kept_more : (b : ℕ) (bs : List ℕ) → is_kept b ≡ true → IsKeptTo bs (length bs) → (k : ℕ) → k < suc (length bs) → is_kept (get_or (b ∷ bs) k 0) ≡ true
 each_kept_more b bs first others zero below = first
 each_kept_more b bs first others (suc k) below = others.each k (omega arith)
@@ -129,7 +129,7 @@ one_element name named = rw named refl
 pub both : (p q : Bool) → p ≡ true → q ≡ true → (p && q) ≡ true
 both p q first second = grind (arith, nat_tests)
 
--- the elements of what follows the first slash, with one name more
+-- the elements of what comes after the first slash, with one name more
 more_elements : (bs name : List ℕ) → list_all is_element (elements bs) ≡ true → is_element name ≡ true → list_all is_element (elements (bs ++ 47 ∷ name)) ≡ true
 more_elements bs name all named =
     ap (list_all is_element) (elements-append bs name ∙ ap (λ names. elements bs ++ names) (elements-element name named))
@@ -147,7 +147,7 @@ is_path-below (b ∷ c ∷ bs) name is named =
     ap (λ rest. is_path (b ∷ c ∷ rest)) (append_assoc bs (47 ∷ []) name)
     ∙ both _ _ (both-first _ _ is) (more_elements (c ∷ bs) name (both-second _ _ is) named)
 
--- a slash stands at the end, before the name
+-- there is a slash at the end, before the name
 pub slashed-ends : (path : List ℕ) → (before : List ℕ) × (slashed path ≡ before ++ 47 ∷ [])
 slashed-ends [] = ([], refl)
 slashed-ends (b ∷ []) = ([], refl)
@@ -195,7 +195,7 @@ root_boundary path text is =
     let some : 0 < length path = rw begun.1 (omega arith) in
     IsCharBoundary-after_ascii path 0 text some (rw first (omega arith))
 
--- a prefix and ten digits are a name where each byte of the prefix may stand in one
+-- a prefix and ten digits are a name if each byte of the prefix may be in one
 is_dots-long : (bs : List ℕ) → 2 < length bs → is_dots bs ≡ false
 is_dots-long [] long = absurd (omega arith)
 is_dots-long (b ∷ []) long = absurd (omega arith)
@@ -214,7 +214,7 @@ is_element-numbered prefix n kept =
     (ap not (is_dots-long (prefix ++ ten_digits_of n) (simp length-append (omega (arith, ten-le-length n)))))
     (list_all-append is_kept prefix (ten_digits_of n) ∙ both _ _ kept (are_kept-digits (ten_digits_of n) (all_ascii_digits-ten n)))
 
--- and no name where one may not
+-- and no name if one may not
 pub is_element-numbered_not : (prefix : List ℕ) (n : ℕ) → list_all is_kept prefix ≡ false → is_element (prefix ++ ten_digits_of n) ≡ false
 is_element-numbered_not prefix n bad = let split = list_all-append is_kept prefix (ten_digits_of n) in grind (arith, nat_tests, split)
 

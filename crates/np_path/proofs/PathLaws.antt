@@ -77,7 +77,7 @@ HasParts-below path name is named =
       last = name_of-at (below path name) (length (slashed path)) there ∙ drop_at (slashed path) name (length (slashed path)) refl;
     }
 
--- what stands on both sides of a path's last slash
+-- what is on both sides of a path's last slash
 pub record AreParts (before name : List ℕ) : Type 0 where
   pub is : is_path (or_root before) ≡ true
   pub named : is_element name ≡ true
@@ -105,7 +105,7 @@ AreParts-of (b ∷ x ∷ xs) name long one is =
       whole = append_assoc (b ∷ x ∷ xs) (47 ∷ []) name;
     }
 
--- a path that has a parent is the child of that name below it
+-- a path that has a parent is that parent's child of its name
 pub record IsChild (path parent : List ℕ) : Type 0 where
   pub is : is_path parent ≡ true
   pub named : is_element (name_of path) ≡ true
@@ -116,7 +116,7 @@ has_parent-long [] parent above = absurd (cc)
 has_parent-long (b ∷ []) parent above = absurd (cc)
 has_parent-long (b ∷ c ∷ bs) parent above = omega arith
 
--- with no slash a name is one element
+-- without a slash a name is one element
 name-one : (path : List ℕ) (at : ℕ) → IsNameAt path at → elements (drop at path) ≡ drop at path ∷ []
 name-one path at is =
     slice_split_none is_slash (drop at path) (All-from_get_or (λ b. is_slash b ≡ false) (drop at path) 0 (λ k below.
@@ -157,7 +157,7 @@ root-of [] is above = absurd (cc)
 root-of (b ∷ []) is above = ap (λ x. x ∷ []) (is_slash-is b is)
 root-of (b ∷ c ∷ bs) is above = absurd (cc)
 
--- whether no byte is a slash, in either word
+-- whether no byte is a slash, in both definitions
 no_slash-not : (text : List ℕ) → list_any is_slash text ≡ true → has_no_slash text ≡ false
 no_slash-not [] has = absurd (cc)
 no_slash-not (b ∷ bs) has = by_first (is_slash b) (list_any is_slash bs) (has_no_slash bs) (no_slash-not bs) has where
@@ -165,7 +165,7 @@ no_slash-not (b ∷ bs) has = by_first (is_slash b) (list_any is_slash bs) (has_
   by_first true any none later has = refl
   by_first false any none later has = later has
 
--- a text round its last slash
+-- a text is what is before its last slash, the slash, and what is after it
 pub halves-whole : (text : List ℕ) → list_any is_slash text ≡ true → text ≡ before_last is_slash text ++ 47 ∷ name_of text
 halves-whole text has =
     let there = last_slash text (no_slash-not text has) in

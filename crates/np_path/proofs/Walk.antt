@@ -18,7 +18,7 @@ pub record IsWalked (text : List ℕ) (start at : ℕ) : Type 0 where
   pub kept : (k : ℕ) → start ≤ k → k < at → is_kept (get_or text k 0) ≡ true
   pub rest : path_fault text ≡ first_fault start (elements (drop start text))
 
--- each of the first n bytes may stand in an element
+-- each of the first n bytes may be in an element
 pub record IsKeptTo (bs : List ℕ) (n : ℕ) : Type 0 where
   pub each : (k : ℕ) → k < n → is_kept (get_or bs k 0) ≡ true
 
@@ -39,7 +39,7 @@ elements-at_slash (b ∷ bs) (suc n) within slash kept =
     let later = elements-at_slash bs n (omega arith) slash (IsKeptTo-tail b bs n kept) in
     slice_split-cons_no is_slash b bs (kept_no_slash b (kept.each 0 (omega arith))) ∙ ap (onto_first b) later
 
--- with no slash there is one element
+-- without a slash there is one element
 pub elements-one : (bs : List ℕ) → IsKeptTo bs (length bs) → elements bs ≡ bs ∷ []
 elements-one [] kept = refl
 elements-one (b ∷ bs) kept =
@@ -72,7 +72,7 @@ elements-begin (b ∷ bs) (suc n) within other kept =
 kept_byte : (b : ℕ) → b ≢ 47 → is_control b ≡ false → is_kept b ≡ true
 kept_byte b other good = grind (arith, nat_tests)
 
--- where the first bad byte stands
+-- the place of the first bad byte
 position_or_len-kept : (bs : List ℕ) → IsKeptTo bs (length bs) → position_or_len is_control bs ≡ length bs
 position_or_len-kept [] kept = refl
 position_or_len-kept (b ∷ bs) kept =
@@ -94,7 +94,7 @@ position-kept bs kept = let all = position_or_len-kept bs kept in grind (arith, 
 pub position-control : (bs : List ℕ) (n : ℕ) → n < length bs → is_control (get_or bs n 0) ≡ true → IsKeptTo bs n → position is_control bs ≡ Some n
 position-control bs n within bad kept = let there = position_or_len-control bs n within bad kept in grind (arith, nat_tests, there)
 
--- `.` and `..` hold no bad byte
+-- `.` and `..` have no bad byte
 dots-control : (bs : List ℕ) (n : ℕ) → n < length bs → is_control (get_or bs n 0) ≡ true → is_dots bs ≡ false
 dots-control [] n within bad = absurd (omega arith)
 dots-control (b ∷ []) zero within bad = grind (arith, nat_tests)
@@ -137,7 +137,7 @@ IsKeptTo-take bs n within kept =
     let long : length (take n bs) ≡ n = length-take-le n bs within in
     record { each = λ k below. let lower : k < n = omega arith in rw get_or-take (kept.each k lower) }
 
--- an element that is nothing, `.` or `..` is the first fault
+-- an element that is empty, `.` or `..` is the first fault
 pub fault-dots : (text : List ℕ) (start at : ℕ) → IsWalked text start at → at < length text → get_or text at 0 ≡ 47 → is_dots (take (at - start) (drop start text)) ≡ true → path_fault text ≡ Some start
 fault-dots text start at walked within slash dots =
     walked.rest ∙ rw (elements-walked text start at walked within slash, fault_in-dots _ dots) (ap Some (omega arith))
@@ -160,7 +160,7 @@ IsWalked-slash text start at walked within slash named =
 control_no_slash : (b : ℕ) → is_control b ≡ true → is_slash b ≡ false
 control_no_slash b bad = grind (arith, nat_tests)
 
--- a list that goes on after n bytes of another has those bytes
+-- a list that begins with n bytes of another has those bytes
 get_or-begun : (bs tail : List ℕ) (n k : ℕ) → k < n → n ≤ length bs → get_or (take n bs ++ tail) k 0 ≡ get_or bs k 0
 get_or-begun bs tail n k below within =
     get_or_append_left (take n bs) tail 0 k (let long = length-take-le n bs within in omega arith) ∙ get_or-take n bs k 0 below

@@ -1,11 +1,12 @@
 use Rattle.std.specs.Prelude.{ℕ, ◌+◌, List, [], ◌∷◌, length, Option, Some, None, position, if◌then◌else◌}
 use Rattle.np_path.specs.Grammar.{is_slash, is_control, is_dots, is_element, elements}
 
--- the first fault in an element: its first byte where it names nothing, else its first bad byte (own)
+-- the first fault in an element: its first byte if it is a name of no node, otherwise its first bad
+-- byte (own)
 abbrev pub fault_in : List ℕ → Option ℕ
 fault_in name = if is_dots name then Some 0 else position is_control name
 
--- the fault in an element that begins at a place, or else the next
+-- the fault in an element that begins at a place, or otherwise the next
 abbrev pub fault_or : ℕ → Option ℕ → Option ℕ → Option ℕ
 fault_or at (Some k) next = Some (at + k)
 fault_or at None next = next

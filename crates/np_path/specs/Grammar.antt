@@ -1,19 +1,20 @@
 use Rattle.std.specs.Prelude.{ℕ, Bool, true, false, not, ◌&&◌, ◌||◌, ◌==◌, nat_lt, List, [], ◌∷◌}
 use Rattle.std.specs.List.{list_all, slice_split}
 
--- a slash, which stands before each element (ZooKeeper Programmer's Guide: a path's elements are separated by slashes)
+-- a slash, which comes before each element (ZooKeeper Programmer's Guide: a path's elements are
+-- separated by slashes)
 abbrev pub is_slash : ℕ → Bool
 is_slash b = b == 47
 
--- a byte that no path holds: one below the blank, or DEL (own)
+-- a byte that no path has: one below the blank, or DEL (own)
 abbrev pub is_control : ℕ → Bool
 is_control b = nat_lt b 32 || (b == 127)
 
--- a byte that an element may hold
+-- a byte that an element may have
 abbrev pub is_kept : ℕ → Bool
 is_kept b = not (is_control b) && not (is_slash b)
 
--- nothing, `.` or `..`, which name no node (ZooKeeper Programmer's Guide: no relative paths)
+-- empty, `.` or `..`, which name no node (ZooKeeper Programmer's Guide: no relative paths)
 abbrev pub is_dots : List ℕ → Bool
 is_dots [] = true
 is_dots (b ∷ []) = b == 46

@@ -6,22 +6,22 @@ use Rattle.np_path.specs.Grammar.{is_slash, is_path}
 abbrev pub root : List ℕ
 root = 47 ∷ []
 
--- the name of the node: what stands after the last slash. The root's is empty
+-- the name of the node: what is after the last slash. The root's is empty
 abbrev pub name_of : List ℕ → List ℕ
 name_of path = after_last is_slash path
 
--- what stands before the last slash, or the root where that is nothing
+-- what is before the last slash, or the root if that is empty
 abbrev pub or_root : List ℕ → List ℕ
 or_root [] = root
 or_root (b ∷ bs) = b ∷ bs
 
--- the path of the node above, which the root alone has not
+-- the path of the node above; only the root has none
 abbrev pub parent_of : List ℕ → Option (List ℕ)
 parent_of [] = None
 parent_of (b ∷ []) = None
 parent_of (b ∷ c ∷ bs) = Some (or_root (before_last is_slash (b ∷ c ∷ bs)))
 
--- a path with a slash at its end, as it stands before a child's name
+-- a path with a slash at its end, as it comes before a child's name
 abbrev pub slashed : List ℕ → List ℕ
 slashed [] = root
 slashed (b ∷ []) = root

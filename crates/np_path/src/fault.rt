@@ -10,7 +10,7 @@ use std::alloc::AllocError;
 pub enum PathFault {
     /// It isn't in the grammar. `place` is its first fault, in bytes from its beginning.
     Bad { place: usize },
-    /// No memory was found for the text.
+    /// Memory for the text ran out.
     NoMemory,
 }
 

@@ -7,14 +7,14 @@ ghost use Rattle.np_path.specs.Faults.{path_fault};
 ghost use Rattle.np_path.specs.Grammar.{is_control, is_dots, is_element, is_kept};
 ghost use Rattle.np_path.specs.Parts.{IsNameAt};
 
-/// Whether no element holds the byte: it is below the blank, or DEL.
+/// Whether no element may have the byte: it is below the blank, or DEL.
 fn is_control(byte: u8) -> bool
     ensures { result ≡ is_control byte }
 {
     byte < 0x20 || byte == 0x7F
 }
 
-/// Whether an element may hold the byte.
+/// Whether an element may have the byte.
 fn is_kept(byte: u8) -> bool
     ensures { result ≡ is_kept byte }
 {
@@ -28,14 +28,14 @@ fn is_dots(element: &[u8]) -> bool
     matches!(element, [] | [b'.'] | [b'.', b'.'])
 }
 
-/// Whether an element may hold each of the bytes.
+/// Whether an element may have each of the bytes.
 pub fn are_kept(bytes: &[u8]) -> bool
     ensures { result ≡ list_all is_kept bytes.now }
 {
     bytes.iter().all(|byte| is_kept(*byte))
 }
 
-/// Whether the name can stand below a slash.
+/// Whether the name can come after a slash.
 pub fn is_element(name: &[u8]) -> bool
     ensures { result ≡ is_element name.now }
 {

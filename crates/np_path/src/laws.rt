@@ -7,19 +7,19 @@ ghost use Rattle.np_path.specs.Faults.{path_fault};
 ghost use Rattle.np_path.specs.Grammar.{is_element, is_path, is_slash};
 ghost use Rattle.np_path.specs.Parts.{below, name_of, parent_of, root};
 
-/// A text is a path exactly where it has no fault.
+/// A text is a path if and only if it has no fault.
 pub fn paths_have_no_fault()
     ensures { (text : List ℕ) → is_path text ≡ is_none (path_fault text) }
 {}
 
-/// A path with an element below it is a path, and its parent and name give both back.
+/// A path and an element below it make a path, whose parent and name are these two.
 pub fn children_have_their_parts()
     ensures path { (path name : List ℕ) → is_path path ≡ true → is_element name ≡ true → is_path (below path name) ≡ true }
     ensures parent { (path name : List ℕ) → is_path path ≡ true → is_element name ≡ true → parent_of (below path name) ≡ Some path }
     ensures name { (path name : List ℕ) → is_path path ≡ true → is_element name ≡ true → name_of (below path name) ≡ name }
 {}
 
-/// A path that has a parent is that path's child of its name, and `/` alone has none.
+/// A path that has a parent is its parent's child of its name, and only `/` has none.
 pub fn paths_are_their_parts()
     ensures parent { (path above : List ℕ) → is_path path ≡ true → parent_of path ≡ Some above → is_path above ≡ true }
     ensures name { (path above : List ℕ) → is_path path ≡ true → parent_of path ≡ Some above → is_element (name_of path) ≡ true }
@@ -27,7 +27,7 @@ pub fn paths_are_their_parts()
     ensures root { (path : List ℕ) → is_path path ≡ true → parent_of path ≡ None → path ≡ root }
 {}
 
-/// A text with a slash is what stands before its last slash, the slash, and what stands after it; so
+/// A text with a slash is what is before its last slash, the slash, and what is after it; so
 /// the two determine it.
 pub fn texts_are_their_halves()
     ensures { (text : List ℕ) → list_any is_slash text ≡ true → text ≡ before_last is_slash text ++ 47 ∷ name_of text }

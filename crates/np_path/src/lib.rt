@@ -1,4 +1,4 @@
-//! Paths of the tree's nodes: texts in one grammar, with the node's parent and name at no cost.
+//! Paths of the tree's nodes: texts in one grammar, with a node's parent and name in constant time.
 //!
 //! `specs/Grammar` says which texts are paths, `specs/Faults` where the first fault of another text
 //! is, `specs/Parts` what parent, name and child are. Contracts see a `Path` as the list of its bytes.

@@ -60,7 +60,7 @@ impl Path {
         self.text.as_str()
     }
 
-    /// The path of the node above, and none for `/` alone.
+    /// The path of the node above; only `/` has none.
     pub fn parent(&self) -> Option<&str>
         ensures { option_copied result ≡ parent_of self.now }
     {
@@ -76,7 +76,7 @@ impl Path {
         Some(parent)
     }
 
-    /// The node's name below its parent, which is empty for `/` alone.
+    /// The node's name below its parent, which is empty only for `/`.
     pub fn name(&self) -> &str
         ensures { result.now ≡ name_of self.now }
     {
@@ -84,8 +84,8 @@ impl Path {
         name
     }
 
-    /// What stands before the last slash, and the name after it. For `/` and before a child of `/`
-    /// the first is nothing.
+    /// What is before the last slash, and the name after it. For `/`, and for a child of `/`, the
+    /// first is empty.
     pub fn halves(&self) -> (&[u8], &[u8])
         ensures before { result.0.now ≡ before_last is_slash self.now }
         ensures name { result.1.now ≡ name_of self.now }
@@ -122,7 +122,7 @@ impl Path {
         }
     }
 
-    /// That path, where each byte of the prefix may stand in an element.
+    /// That path, if each byte of the prefix may be in an element.
     #[tactic(auto, using(crate::proofs::PartsLemmas::numbered_names))]
     fn numbered(&self, prefix: &str, n: u32) -> Result<Path, AllocError>
         requires { list_all is_kept prefix.now ≡ true }
@@ -138,7 +138,7 @@ impl Path {
         Ok(Path { text, name_at })
     }
 
-    /// This path and a slash, as it stands before a child's name, with room for `more` bytes.
+    /// This path and a slash, as it comes before a child's name, with room for `more` bytes.
     fn slashed(&self, more: usize) -> Result<String, AllocError>
         ensures text { IfOk result (λ text. string_bytes text ≡ slashed self.now) }
         ensures path { is_path self.now ≡ true }
@@ -158,8 +158,8 @@ impl Path {
     }
 }
 
-/// What stands before the last slash of a text, and what stands after it; none where there is no
-/// slash. The text need be no path.
+/// What is before the last slash of a text, and what is after it; none if there is no slash.
+/// The text need not be a path.
 pub fn halves(text: &[u8]) -> Option<(&[u8], &[u8])>
     ensures none { IsSome result ↔ (list_any is_slash text.now ≡ true) }
     ensures before { IfSome result (λ parts. parts.0.now ≡ before_last is_slash text.now) }

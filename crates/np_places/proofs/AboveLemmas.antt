@@ -18,7 +18,7 @@ use Rattle.np_places.proofs.NameLemmas.{IsAscii-plain, is_element-plain, is_plai
 
 -- ## joined
 
--- a name below a place's path, or the root's path where there is no such place
+-- a name below a place's path, or the root's path if there is no such place
 abbrev pub path_below : Option Place → List ℕ → List ℕ
 path_below None name = root
 path_below (Some dir) name = below (path_of dir) name
@@ -49,7 +49,7 @@ path_of-joined p dir same = path_of-below p ∙ along (above p) (place_name p) d
 
 -- ## from the root downwards
 
--- a fact of the place above, where there is one
+-- a fact of the place above, if there is one
 abbrev pub Above : (Place → Type 0) → Option Place → Type 0
 Above P None = Unit {0}
 Above P (Some dir) = P dir
@@ -76,7 +76,7 @@ named p dir good same = is_element-plain (place_name p) (plain_name-of p good �
 pub is_plain-below : (p dir : Place) → IsGood p → above p ≡ Some dir → is_plain_name (place_name p) ≡ true
 is_plain-below p dir good same = plain_name-of p good ∙ ap is_some same
 
--- what holds of a place where it holds of the one above, holds of each place
+-- a fact that is true of a place if it is true of the one above is true of each place
 pub from_above : (P : Place → Type 0) → ((p : Place) → IsGood p → Above P (above p) → P p) → (n : ℕ) (p : Place) → length (path_of p) < n → IsGood p → P p
 from_above P step zero p short good = absurd (omega arith)
 from_above P step (suc n) p short good =

@@ -4,7 +4,7 @@ use Rattle.std.proofs.lemmas.Fmt.{decimal_digit, decimal_step}
 use Rattle.std.proofs.lemmas.List.{drop-set}
 use Rattle.std.specs.Fmt.{decimal}
 
--- the last digit in front of those that stand
+-- the last digit in front of those that are there
 pub decimal-more : (n at : ℕ) (out : List ℕ) → 10 ≤ n → n < 2 ^ 64 → at < length out
     → decimal n ++ drop (at + 1) out ≡ decimal (n / 10) ++ drop at (set out at (48 + n % 10))
 decimal-more n at out many small within =

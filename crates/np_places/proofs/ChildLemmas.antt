@@ -63,7 +63,7 @@ child_in Sessions name = option_map (λ n. Session (record { 0 = n })) (sequence
 child_in SweptPairs name = swept_from (sequence_of (take 10 name)) (number_of 18_446_744_073_709_551_615 (drop 11 name))
 child_in record_place name = None
 
--- with no directory above it is the root
+-- the place with no directory above it is the root
 abbrev child_of : Option Place → List ℕ → Option Place
 child_of None name = Some Root
 child_of (Some dir) name = child_in dir name

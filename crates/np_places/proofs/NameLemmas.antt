@@ -29,7 +29,7 @@ abbrev pub is_plain_name : List ℕ → Bool
 is_plain_name [] = false
 is_plain_name (b ∷ bs) = is_plain b && list_all is_plain bs
 
--- ## what is made of them
+-- ## texts of such bytes
 
 plain-digits : (ds : List ℕ) → all_ascii_digits ds ≡ true → list_all is_plain ds ≡ true
 plain-digits [] digits = refl

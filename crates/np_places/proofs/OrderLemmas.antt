@@ -1,4 +1,4 @@
--- names stand in order as their ids do
+-- names are in order as their ids are
 use Rattle.np_text.proofs.OrderLemmas.{slice_cmp-request_text, slice_cmp-ten}
 use Rattle.np_places.specs.Laws.{NodesRise, RequestLocksRise, RequestsRise, SessionsRise, WaitsForNodesRise, WaitsForRequestsRise}
 

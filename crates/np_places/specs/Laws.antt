@@ -1,4 +1,4 @@
--- what holds of all places whose ids have a text
+-- what is true of all places whose ids have a text
 use Rattle.std.specs.Prelude.{◌≡◌, ℕ, ◌^◌, ◌<◌, ◌≤◌, true, length, Some}
 use Rattle.std.specs.Option.{option_map}
 use Rattle.std.specs.Ordering.{nat_cmp}
@@ -19,7 +19,7 @@ use Rattle.np_places.specs.declared.place.Place.TheVariants.{Request, RequestLoc
 abbrev pub PathsAreInTheGrammar : Type 0
 PathsAreInTheGrammar = (p : Place) → IsGood p → is_path (path_of p) ≡ true
 
--- a path is that of the place above, and the name below it
+-- a path is that of the place above, joined with the name below it
 abbrev pub PathsAreJoined : Type 0
 PathsAreJoined = (p dir : Place) → above p ≡ Some dir → path_of p ≡ below (path_of dir) (place_name p)
 
@@ -31,7 +31,7 @@ ParentsAreAbove = (p : Place) → IsGood p → parent_of (path_of p) ≡ option_
 abbrev pub NamesAreLast : Type 0
 NamesAreLast = (p : Place) → IsGood p → name_of (path_of p) ≡ place_name p
 
--- where a place's ids have a text, so have those of the place above
+-- if a place's ids have a text, so have those of the place above
 abbrev pub AboveIsGood : Type 0
 AboveIsGood = (p dir : Place) → IsGood p → above p ≡ Some dir → IsGood dir
 
@@ -47,27 +47,27 @@ NamesAreApart = (p q : Place) → IsGood p → IsGood q → above p ≡ above q 
 
 -- ## order
 
--- the records of requests stand in the order of the requests
+-- the records of requests are in the order of the requests
 abbrev pub RequestsRise : Type 0
 RequestsRise = (a b : RequestId) → HasText a → HasText b → slice_cmp nat_cmp (place_name (Request a)) (place_name (Request b)) ≡ request_cmp a b
 
--- and so do their locks
+-- and so are their locks
 abbrev pub RequestLocksRise : Type 0
 RequestLocksRise = (a b : RequestId) → HasText a → HasText b → slice_cmp nat_cmp (place_name (RequestLock a)) (place_name (RequestLock b)) ≡ request_cmp a b
 
--- those that wait for a request's lock stand in the order of their numbers
+-- the waits for a request's lock are in the order of their numbers
 abbrev pub WaitsForRequestsRise : Type 0
 WaitsForRequestsRise = (id : RequestId) (j k : ℕ) → j < 2 ^ 32 → k < 2 ^ 32 → slice_cmp nat_cmp (place_name (RequestWait id j)) (place_name (RequestWait id k)) ≡ nat_cmp j k
 
--- the records of nodes stand in the order of their numbers
+-- the records of nodes are in the order of their numbers
 abbrev pub NodesRise : Type 0
 NodesRise = (a b : NodeId) → a.0 < 2 ^ 32 → b.0 < 2 ^ 32 → slice_cmp nat_cmp (place_name (Node a)) (place_name (Node b)) ≡ nat_cmp a.0 b.0
 
--- and so do those that wait for a node's lock
+-- and so are the waits for a node's lock
 abbrev pub WaitsForNodesRise : Type 0
 WaitsForNodesRise = (n : NodeId) (j k : ℕ) → j < 2 ^ 32 → k < 2 ^ 32 → slice_cmp nat_cmp (place_name (NodeWait n j)) (place_name (NodeWait n k)) ≡ nat_cmp j k
 
--- the records of sessions stand in the order of their numbers
+-- the records of sessions are in the order of their numbers
 abbrev pub SessionsRise : Type 0
 SessionsRise = (a b : SessionId) → a.0 < 2 ^ 32 → b.0 < 2 ^ 32 → slice_cmp nat_cmp (place_name (Session a)) (place_name (Session b)) ≡ nat_cmp a.0 b.0
 
@@ -77,6 +77,6 @@ SessionsRise = (a b : SessionId) → a.0 < 2 ^ 32 → b.0 < 2 ^ 32 → slice_cmp
 abbrev pub PathsFit : Type 0
 PathsFit = (p : Place) → IsGood p → length (path_of p) ≤ 54
 
--- one that waits for a request's lock has as many
+-- the path of a wait for a request's lock has 54 bytes
 abbrev pub LongestIsAWait : Type 0
 LongestIsAWait = (id : RequestId) (wait : ℕ) → HasText id → wait < 2 ^ 32 → length (path_of (RequestWait id wait)) ≡ 54

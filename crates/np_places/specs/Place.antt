@@ -1,4 +1,5 @@
--- the place of each record and lock in the tree: its path, the directory it stands in, and its name there (own)
+-- the place of each record and lock in the tree: its path, the directory that it is in, and its
+-- name there (own)
 use Rattle.std.specs.Prelude.{ℕ, ◌^◌, ◌<◌, List, [], ◌++◌, codes, Option, Some, None}
 use Rattle.std.specs.Fmt.{decimal}
 use Rattle.np_text.specs.Number.{ten_digits_of}
@@ -38,7 +39,7 @@ path_of SweptPairs = codes "/poolsim/swept"
 path_of (Swept n server) = codes "/poolsim/swept/" ++ ten_digits_of n.0 ++ codes "-" ++ decimal server
 path_of Tick = codes "/poolsim/tick"
 
--- the place above, of the directory or the node that a place stands below. The root has none
+-- the place above: the directory or the node that a place is below. The root has none
 abbrev pub above : Place → Option Place
 above Root = None
 above Nodepool = Some Root

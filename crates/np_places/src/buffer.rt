@@ -1,4 +1,4 @@
-//! Sixty-four bytes that a path's text is put together in.
+//! Sixty-four bytes in which a path's text is put together.
 
 ghost use Rattle.std.specs.Prelude.{◌≡◌, ◌+◌, ◌≤◌, ◌<◌, ◌++◌, length, drop};
 ghost use Rattle.std.specs.Fmt.{decimal};
@@ -8,7 +8,7 @@ ghost use Rattle.np_text.specs.Request.{request_text_of};
 use np_text::{RequestId, request_text, ten_digits};
 use std::marker::Model;
 
-/// A text of at most 64 bytes, without memory.
+/// A text of at most 64 bytes, which takes no memory.
 #[derive(Drop)]
 pub struct Buffer {
     bytes: [u8; 64],
@@ -39,7 +39,7 @@ impl Buffer {
         }
     }
 
-    /// More text behind it.
+    /// The text with more text behind it.
     pub fn with_text(mut self, text: &[u8]) -> Buffer
         requires { length self + length text.now ≤ 64 }
         ensures text { result ≡ self ++ text.now }
@@ -52,7 +52,7 @@ impl Buffer {
         self
     }
 
-    /// Ten digits behind it.
+    /// The text with ten digits behind it.
     pub fn with_ten(self, n: u32) -> Buffer
         requires { length self + 10 ≤ 64 }
         ensures text { result ≡ self ++ ten_digits_of n }
@@ -61,7 +61,7 @@ impl Buffer {
         self.with_text(&ten_digits(n))
     }
 
-    /// A decimal number behind it.
+    /// The text with a decimal number behind it.
     pub fn with_decimal(self, n: u64) -> Buffer
         requires { length self + 20 ≤ 64 }
         ensures text { result ≡ self ++ decimal n }
@@ -71,7 +71,7 @@ impl Buffer {
         self.with_text(&digits[at..])
     }
 
-    /// A request's text behind it.
+    /// The text with a request's text behind it.
     pub fn with_request(self, id: RequestId) -> Buffer
         requires room { length self + 14 ≤ 64 }
         requires least { 100 ≤ id.priority }

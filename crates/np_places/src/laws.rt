@@ -16,14 +16,14 @@ pub fn places_stand_in_directories()
     ensures above { AboveIsGood }
 {}
 
-/// Two places with equal paths are one, and so are two of equal names with the same place above.
+/// Two places with equal paths are equal, and so are two of equal names with the same place above.
 pub fn no_two_places_share_a_path()
     ensures paths { PathsAreApart }
     ensures names { NamesAreApart }
 {}
 
 /// In their directories the records of requests, nodes and sessions, the locks of requests, and
-/// those that wait for a lock stand in byte order of their names as their ids do.
+/// the waits for a lock are in byte order of their names as their ids are.
 pub fn names_stand_in_order()
     ensures requests { RequestsRise }
     ensures request_locks { RequestLocksRise }
@@ -33,7 +33,7 @@ pub fn names_stand_in_order()
     ensures sessions { SessionsRise }
 {}
 
-/// The longest path is that of one that waits for a request's lock. It has 54 bytes.
+/// The longest path is that of a wait for a request's lock. It has 54 bytes.
 pub fn paths_fit_in_64_bytes()
     ensures most { PathsFit }
     ensures longest { LongestIsAWait }

@@ -40,7 +40,7 @@ impl PathText {
         }
     }
 
-    /// The text as the tree's readers take it. Walks over its bytes, of which there are at most 54.
+    /// The text as the tree's readers take it. Scans its bytes, of which there are at most 54.
     pub fn text(&self) -> &str
         ensures { result.now ≡ self.now }
     {
@@ -51,8 +51,8 @@ impl PathText {
     }
 }
 
-/// The place's path, for the calls that change the tree. Only want of memory fails. A request's
-/// priority must have three digits.
+/// The place's path, for the calls that change the tree. It fails only by running out of memory. A
+/// request's priority must have three digits.
 pub fn to_path(alloc: Global, place: Place) -> Result<Path, NoMemory>
     requires { IsGood place }
     ensures { IfOk result (λ path. path ≡ path_of place) }

@@ -5,7 +5,7 @@ ghost use Rattle.np_places.specs.Roles.{place_of_role};
 
 use np_text::{JobId, NodeId, PoolId, RequestId, RequesterId, Role, SemId, SessionId};
 
-/// Where a record, a lock or a directory stands in the coordination tree. `specs/Place` has the
+/// The place of a record, a lock or a directory in the coordination tree. `specs/Place` has the
 /// path of each. The reaper has no session, and so no record and no place.
 #[derive(Clone, Copy, Debug, PartialEq, Eq)]
 pub enum Place {
@@ -21,7 +21,7 @@ pub enum Place {
     RequestLocks,
     /// A request's lock: the directory of those that wait for it.
     RequestLock(RequestId),
-    /// One that waits for a request's lock, by its sequence number.
+    /// A wait for a request's lock, by its sequence number.
     RequestWait(RequestId, u32),
     /// The directory of the nodes' records.
     Nodes,
@@ -29,7 +29,7 @@ pub enum Place {
     Node(NodeId),
     /// A node's lock: the directory of those that wait for it.
     NodeLock(NodeId),
-    /// One that waits for a node's lock, by its sequence number.
+    /// A wait for a node's lock, by its sequence number.
     NodeWait(NodeId, u32),
     /// The directory of the registered launchers.
     Launchers,
@@ -70,7 +70,7 @@ pub enum Place {
 }
 
 impl Place {
-    /// The place of a role's record, which the reaper alone has not.
+    /// The place of a role's record; only the reaper has none.
     pub fn of_role(role: Role) -> Option<Place>
         ensures { result ≡ place_of_role role }
     {

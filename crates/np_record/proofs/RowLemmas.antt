@@ -5,7 +5,7 @@ use Rattle.std.proofs.Math.ListN.{set}
 use Rattle.std.proofs.Math.Seq.{drop-append-add}
 use Rattle.np_record.specs.Rows.{padded}
 
--- what stands behind the items is blank
+-- what follows the items is blank
 rest : {X : Type 0} (blank : X) (room : ℕ) (items : List X) (i : ℕ) → i < length items → padded blank room (take i items) ≡ items → drop (suc i) items ≡ replicate (room - suc i) blank
 rest {X = X} blank room items i within same =
     let count : length (take i items) ≡ i = length-take i items ∙ omega arith in

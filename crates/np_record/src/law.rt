@@ -1,5 +1,5 @@
 //! The rooms of the records' rows. A caller calls these for the facts that they state: each takes
-//! the time of reading a length.
+//! as long as reading a length.
 ghost use Rattle.std.specs.Prelude.{◌≤◌, length};
 
 use crate::record::{JobRecord, RequestRecord};

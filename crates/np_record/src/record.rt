@@ -80,9 +80,9 @@ pub struct RequestRecord {
     pub labels: LabelRow,
     /// The nodes that are to serve it, each at the place of its label.
     pub nodes: NodeRow,
-    /// The pool that made a min-ready request, and that alone may serve it.
+    /// The pool that made a min-ready request; only this pool may serve it.
     pub pinned: Option<PoolId>,
-    /// The pool that serves it, exactly while it is pending or fulfilled.
+    /// The pool that serves it, if and only if it is pending or fulfilled.
     pub pool: Option<PoolId>,
     pub relative_priority: u32,
     pub state: RequestState,
@@ -98,7 +98,7 @@ pub struct NodeRecord {
     pub in_flight: bool,
     pub label: LabelId,
     pub pool: PoolId,
-    /// The server that the last launch answered.
+    /// The server that the last launch reported.
     pub server: Option<u64>,
     /// The tick of the last change of state that the node's age counts from.
     pub since: u32,
@@ -112,13 +112,13 @@ pub struct NodeRecord {
 /// A job.
 #[derive(Clone, Copy)]
 pub struct JobRecord {
-    /// How it ended, exactly where it is over.
+    /// How it ended, if and only if it is over.
     pub ending: Option<Ending>,
     pub nodes: MarkRow,
     pub phase: Phase,
-    /// The pool that served it, where it was ever using nodes.
+    /// The pool that served it, if it was ever using nodes.
     pub pool: Option<PoolId>,
-    /// Its request, where it ever asked.
+    /// Its request, if it ever made one.
     pub request: Option<RequestId>,
 }
 
@@ -127,7 +127,7 @@ pub struct JobRecord {
 pub struct RoleRecord {
     /// How many of its events were accepted.
     pub acts: u32,
-    /// How many launches its pool has started; 0 but for launchers.
+    /// How many launches its pool has started; 0 except for launchers.
     pub starts: u32,
     /// How many of its sessions crashed or expired.
     pub strikes: u32,

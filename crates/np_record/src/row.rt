@@ -8,7 +8,7 @@ use std::marker::Model;
 
 /// What a row may hold: plain data with one value that fills the room that is left.
 pub trait Item: Copy {
-    /// The value that stands in the room that is left.
+    /// The value that fills the room that is left.
     ghost blank: { Self };
 
     /// That value.
@@ -16,8 +16,7 @@ pub trait Item: Copy {
         ensures { result ≡ Self.blank };
 }
 
-/// At most `N` items, in order. It is copied whole, so hand it on by reference where it is only
-/// read.
+/// At most `N` items, in order. It is copied whole, so pass it by reference if it is only read.
 pub struct Row<T: Item, const N: usize> {
     items: [T; N],
     len: usize,
@@ -78,7 +77,7 @@ impl<T: Item, const N: usize> Row<T, N> {
         self.len == 0
     }
 
-    /// The item at a place, or `None` exactly past the end.
+    /// The item at a place, or `None` if the place is past the end.
     pub fn at(&self, at: u32) -> Option<T>
         ensures { result ≡ slice_get self.now at }
     {
@@ -96,8 +95,7 @@ impl<T: Item, const N: usize> Row<T, N> {
         self.items.split_at(self.len).0
     }
 
-    /// Adds an item at the end, or answers false exactly where the row is full and then changes
-    /// nothing.
+    /// Adds an item at the end. If and only if the row is full, returns false and changes nothing.
     pub fn push(&mut self, item: T) -> bool
         ensures room { IsTrue result ↔ (length self.old < N) }
         ensures pushed { OnTrue result (self.new ≡ self.old ++ item ∷ []) }

@@ -32,7 +32,7 @@ is_ascii-from_IsAscii (b ∷ bs) is =
 pub is_ascii-name : (name : List ℕ) → is_name_text name ≡ true → is_ascii name ≡ true
 is_ascii-name name named = is_ascii-from_IsAscii name (IsAscii-name name named)
 
--- the name of a row, where there is one
+-- the name of a row, if there is one
 pub is_ascii-found : {T : Type 0} (name : T → List ℕ) (o : Option T) → ((x : T) → o ≡ Some x → IsAscii (name x)) → is_ascii (option_map_or name o []) ≡ true
 is_ascii-found name None some = refl
 is_ascii-found name (Some x) some = is_ascii-from_IsAscii (name x) (some x refl)

@@ -4,7 +4,7 @@ use Rattle.std.specs.Prelude.{slice_get}
 use Rattle.std.proofs.lemmas.List.Sums.{sum_by-cons}
 use Rattle.np_report.proofs.FateLines.{drop-past}
 
--- the first of the rest, and then those behind it
+-- the first of the rest, and then those after it
 pub count_by-next : {X Y : Type 0} (p : Y → Bool) (f : X → Y) (xs : List X) (at : ℕ) (x : X) → slice_get xs at ≡ Some x →
     count_by p (map f (drop at xs)) ≡ (if p (f x) then 1 else 0) + count_by p (map f (drop (suc at) xs))
 count_by-next p f [] at x is = absurd cc
@@ -13,6 +13,6 @@ count_by-next {X} p f (y ∷ xs) zero x is =
     sum_by-cons (λ z. if p z then 1 else 0) (f y) (map f xs) ∙ ap (λ (z : X). (if p (f z) then 1 else 0) + count_by p (map f xs)) same
 count_by-next p f (y ∷ xs) (suc at) x is = count_by-next p f xs at x is
 
--- behind the last there is none
+-- after the last there is none
 pub count_by-end : {X Y : Type 0} (p : Y → Bool) (f : X → Y) (xs : List X) (at : ℕ) → slice_get xs at ≡ None → count_by p (map f (drop at xs)) ≡ 0
 count_by-end p f xs at is = rw (drop-past xs at is) refl

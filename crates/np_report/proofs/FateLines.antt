@@ -14,7 +14,7 @@ use Rattle.np_report.specs.Text.{job_text, fate_text, fate_lines}
 abbrev pub lines_from : Configuration → State → ℕ → List Job → List JobRecord → List ℕ
 lines_from c s n jobs records = fate_lines c n jobs (map (fate_of s) records)
 
--- the job's line, and then those of the jobs behind it
+-- the job's line, and then those of the jobs after it
 pub lines_from-next : (c : Configuration) (s : State) (n at : ℕ) (jobs : List Job) (records : List JobRecord) (job : Job) (kept : JobRecord) → slice_get jobs at ≡ Some job → slice_get records at ≡ Some kept →
     lines_from c s n (drop at jobs) (drop at records) ≡ line (job_text c n job ++ fate_text (fate_of s kept)) ++ lines_from c s (n + 1) (drop (suc at) jobs) (drop (suc at) records)
 lines_from-next c s n at [] records job kept is has = absurd cc
@@ -24,7 +24,7 @@ lines_from-next c s n zero (j ∷ jobs) (k ∷ records) job kept is has =
     ∙ ap (λ (o : Option JobRecord). option_map_or (λ x. line (job_text c n job ++ fate_text (fate_of s x)) ++ lines_from c s (n + 1) jobs records) o []) has
 lines_from-next c s n (suc at) (j ∷ jobs) (k ∷ records) job kept is has = lines_from-next c s n at jobs records job kept is has
 
--- behind the last member there is none
+-- after the last member there is none
 pub drop-past : {X : Type 0} (xs : List X) (at : ℕ) → slice_get xs at ≡ None → drop at xs ≡ []
 drop-past [] zero is = refl
 drop-past [] (suc at) is = refl
@@ -35,11 +35,11 @@ fate_lines-none : (c : Configuration) (n : ℕ) (jobs : List Job) → fate_lines
 fate_lines-none c n [] = refl
 fate_lines-none c n (job ∷ jobs) = refl
 
--- behind the last job there is no line
+-- after the last job there is no line
 pub lines_from-end : (c : Configuration) (s : State) (n at : ℕ) (jobs : List Job) (records : List JobRecord) → slice_get jobs at ≡ None → lines_from c s n (drop at jobs) (drop at records) ≡ []
 lines_from-end c s n at jobs records is = rw (drop-past jobs at is) refl
 
--- behind the last record there is none
+-- after the last record there is none
 pub lines_from-short : (c : Configuration) (s : State) (n at : ℕ) (jobs : List Job) (records : List JobRecord) → slice_get records at ≡ None → lines_from c s n (drop at jobs) (drop at records) ≡ []
 lines_from-short c s n at jobs records is = rw (drop-past records at is) (fate_lines-none c n (drop at jobs))
 

@@ -1,4 +1,4 @@
--- which line's fault is told
+-- which line's fault is reported
 use Rattle.std.proofs.Common.{◌≡◌, ℕ, ◌+◌, ◌≤◌, List, [], ◌∷◌, ◌++◌, length, refl, ap, ◌∙◌, arith, Result, Ok, Err, Bool, nat_lt, true, false, if◌then◌else◌}
 use Rattle.std.specs.Prelude.{is_ok}
 use Rattle.std.proofs.lemmas.Bool.Decides.{nat_tests}
@@ -6,7 +6,7 @@ use Rattle.np_report.specs.declared.lines.LinesFault.{LinesFault}
 use Rattle.np_report.specs.declared.lines.LinesFault.TheVariants.{Line, TooMany}
 use Rattle.np_report.specs.Lines.{with_line, lines_read, are_read, IsFirstFault}
 
--- a line that is read passes on what the later ones tell
+-- a line that is read passes on the fault of the later ones
 told-later : {A F : Type 0} (said : List ℕ → Result A F) (most k : ℕ) (line : List ℕ) (lines : List (List ℕ)) (fault : LinesFault F) (r : Result A F) → said line ≡ r → is_ok r ≡ true → k ≤ most →
     lines_read said most (k + 1) lines ≡ Err fault → lines_read said most k (line ∷ lines) ≡ Err fault
 told-later said most k line lines fault (Ok x) is ok few later =
@@ -14,7 +14,7 @@ told-later said most k line lines fault (Ok x) is ok few later =
     rw (room, is, later) refl
 told-later said most k line lines fault (Err f) is ok few later = absurd cc
 
--- the first line that is at fault is told
+-- the fault of the first line at fault is reported
 told-first : {A F : Type 0} (said : List ℕ → Result A F) (most k n : ℕ) (before : List (List ℕ)) (line : List ℕ) (later : List (List ℕ)) (fault : F) →
     n ≡ k + length before → n ≤ most → are_read said before ≡ true → said line ≡ Err fault → lines_read said most k (before ++ line ∷ later) ≡ Err (Line n fault)
 told-first said most k n [] line later fault number few read is =
@@ -31,7 +31,7 @@ pub first-told : {A F : Type 0} (said : List ℕ → Result A F) (most k n : ℕ
 first-told said most k n lines fault first =
     ap (lines_read said most k) first.stand ∙ told-first said most k n first.before first.line first.later fault first.number first.few first.read first.unread
 
--- a fault that is told is that of the first line that is at fault
+-- a fault that is reported is that of the first line at fault
 one-first : {A F : Type 0} (said : List ℕ → Result A F) (most k n : ℕ) (line : List ℕ) (lines : List (List ℕ)) (fault : F) (many : Bool) → nat_lt most k ≡ many → (r : Result A F) → said line ≡ r →
     (later : Result (List A) (LinesFault F)) → (later ≡ Err (Line n fault) → IsFirstFault said most (k + 1) lines n fault) →
     (if many then Err (TooMany k) else with_line k r later) ≡ Err (Line n fault) → IsFirstFault said most k (line ∷ lines) n fault

@@ -1,4 +1,4 @@
--- a Text tells the configuration and the journal of its run
+-- a Text determines the configuration and the journal of its run
 use Rattle.std.proofs.Common.{◌≡◌, ℕ, List, [], ◌∷◌, ◌++◌, map, refl, sym, ap, ◌∙◌, true, false, append_assoc, append-nil, Option, Some, Ok}
 use Rattle.std.specs.List.{AllByRecursion, flat_map, list_all}
 use Rattle.std.specs.Option.{option_map_or}
@@ -87,7 +87,7 @@ text_of-sections : (c : Configuration) (journal : List Entry) →
 unfolding text_of
 text_of-sections c journal = rw (entry_lines-map journal) (simp (append_assoc, append-nil))
 
--- two runs with one Text are one
+-- two runs with the same Text are the same
 pub text_of-injective : (c d : Configuration) (j k : List Entry) (s t : State) → IsSound c → IsSound d → Runs c j s → Runs d k t →
     AllByRecursion HasEntryLine j → AllByRecursion HasEntryLine k → text_of c j ≡ text_of d k → (c ≡ d) × (j ≡ k)
 text_of-injective c d j k s t sound_c sound_d runs_c runs_d lines_j lines_k same =

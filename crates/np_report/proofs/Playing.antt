@@ -51,7 +51,7 @@ ran-next c events i d within few =
 
 -- ## lines
 
--- where each event has a line, each entry's event has one
+-- if each event has a line, each entry's event has one
 pub lines-played_from : (c : Configuration) (s : State) (events : List Event) → AllByRecursion HasEventLine events → AllByRecursion (λ (entry : Entry). HasEventLine entry.event) (played_from c s events)
 lines-played_from c s [] all = tt
 lines-played_from c s (e ∷ events) all = (all.0, lines-played_from c (next c s e) events all.1)

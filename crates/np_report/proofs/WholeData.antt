@@ -27,7 +27,8 @@ IsWholeNumber (unsigned n) = n < 2 ^ 64
 IsWholeNumber (negative z) = ⊥
 IsWholeNumber (float x) = ⊥
 
--- its numbers are whole, its strings are ASCII, and each object's members stand in order, one for each key
+-- its numbers are whole, its strings are ASCII, and each object's members are in order, one for
+-- each key
 abbrev mutual
   pub IsWhole : Data → Type 0
   IsWhole null = Unit {0}

@@ -10,7 +10,7 @@ with_line n (Err fault) later = Err (Line n fault)
 with_line n (Ok x) (Err fault) = Err fault
 with_line n (Ok x) (Ok xs) = Ok (x ∷ xs)
 
--- what these lines say, of which the first has the number n, and of which none may have a number above `most`
+-- what these lines say; the first has the number n, and none may have a number above `most`
 abbrev pub lines_read : {A F : Type 0} → (List ℕ → Result A F) → ℕ → ℕ → List (List ℕ) → Result (List A) (LinesFault F)
 lines_read said most n [] = Ok []
 lines_read said most n (line ∷ lines) =
@@ -20,7 +20,8 @@ lines_read said most n (line ∷ lines) =
 abbrev pub are_read : {A F : Type 0} → (List ℕ → Result A F) → List (List ℕ) → Bool
 are_read said lines = list_all (λ line. is_ok (said line)) lines
 
--- the line of the number n, of those from the number `first` on, is the first that is at fault: all before it are read, and it is not
+-- line n, of those from the number `first` on, is the first that is at fault: all before it are
+-- read, and it is not
 pub record IsFirstFault {A F : Type 0} (said : List ℕ → Result A F) (most first : ℕ) (lines : List (List ℕ)) (n : ℕ) (fault : F) : Type 0 where
   pub before : List (List ℕ)
   pub line : List ℕ

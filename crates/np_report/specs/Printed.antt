@@ -21,7 +21,8 @@ pub record HoldsThroughout (c : Configuration) (journal : List Entry) : Type 0 w
   pub kept : AfterEveryStep (Kept c) journal
   pub fenced : AfterEveryStep (Fenced c) journal
 
--- the text is that of a journal over a sound configuration: a run of the machine, each of whose events has a line, and of which all that holds after every step
+-- the text is that of a journal over a sound configuration: a run of the machine, in which each
+-- event has a line, and of which all the above is true after every step
 pub record IsPrinted (c : Configuration) (journal : List Entry) (text : List ℕ) : Type 0 where
   pub is : text ≡ text_of c journal
   pub sound : IsSound c

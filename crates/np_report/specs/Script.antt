@@ -27,13 +27,13 @@ event_said line = event_in (words_of line)
 abbrev pub most_lines : ℕ
 most_lines = 262144
 
--- the events of these lines, or the first line that is none or is one too many
+-- the events of these lines, or the first line that is no event or is one too many
 abbrev pub events_of : List (List ℕ) → Result (List Event) (LinesFault LineFault)
 events_of lines = lines_read event_said most_lines 1 lines
 
 -- ## the whole script
 
--- the configuration's fault first, and then what is wrong behind it
+-- the configuration's fault first, and then what is wrong after it
 abbrev pub first_fault : Result Configuration ConfigFault → (Configuration → Result Script ScriptFault) → Result Script ScriptFault
 first_fault (Ok c) rest = rest c
 first_fault (Err f) rest = Err (Config f)
@@ -43,7 +43,7 @@ abbrev pub with_events : Result (List Event) (LinesFault LineFault) → Configur
 with_events (Err fault) c = Err (Lines fault)
 with_events (Ok events) c = Ok (record { config = c; events = events })
 
--- where no line is the bar, the whole text is read as the configuration
+-- if no line is the bar, the whole text is read as the configuration
 abbrev pub script_in : List ℕ → Option (List ℕ × List ℕ) → Result Script ScriptFault
 script_in bytes None = first_fault (reads bytes) (λ c. Err NoSeparator)
 script_in bytes (Some parts) = first_fault (reads parts.0) (with_events (events_of (lines_of parts.1)))

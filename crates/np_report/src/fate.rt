@@ -47,7 +47,7 @@ fn put_nodes(out: &mut Vec<u8>, nodes: &[Marked]) -> Result<(), NoMemory>
     Ok(())
 }
 
-/// The declines of the job's request, where it has one that stands.
+/// The declines of the job's request, if it has one that still exists.
 fn put_failed<L: Look>(out: &mut Vec<u8>, look: &L, job: &JobRecord) -> Result<(), NoMemory>
     ensures { OnOk result (out.new.items ≡ out.old.items ++ flat_map decline_text (declines_of (L.state look.now) job.now)) }
 {

@@ -17,8 +17,8 @@ ghost use Rattle.np_report.specs.Printed.{IsPrinted};
 ghost use Rattle.np_report.specs.Script.{IsPlayable, event_said, events_of, most_lines};
 ghost use Rattle.np_report.specs.Text.{text_of};
 
-/// A Text tells its run: two sound configurations, as each `Config` is, and two runs whose entries
-/// have lines, have one Text only where they are the same.
+/// A Text determines its run: two sound configurations, as each `Config` is, and two runs whose
+/// entries have lines, have the same Text only if they are the same.
 pub fn a_text_tells_its_run()
     ensures { (c d : Configuration) (j k : List Entry) (s t : State) →
         IsSound c → IsSound d → Runs c j s → Runs d k t →
@@ -26,15 +26,15 @@ pub fn a_text_tells_its_run()
         text_of c j ≡ text_of d k → (c ≡ d) × (j ≡ k) }
 {}
 
-/// What the Text of a script's run shows: that its events are played into a run of the machine, of
-/// which all that `HoldsThroughout` says holds after every step.
+/// What the Text of a script's run shows: its events are played into a run of the machine, and all
+/// that `HoldsThroughout` says is true of that run after every step.
 pub fn a_script_plays_safely()
     ensures { (script : Script) → IsPlayable script → IsPrinted script.config
         (played script.config script.events)
         (text_of script.config (played script.config script.events)) }
 {}
 
-/// Which fault the event lines of a script have: that of line n exactly where each line before it
+/// Which fault the event lines of a script have: that of line n if and only if each line before it
 /// reads as an event, and it does not.
 pub fn the_first_line_at_fault_is_told()
     ensures { (lines : List (List ℕ)) (n : ℕ) (fault : LineFault) →

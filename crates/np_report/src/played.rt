@@ -20,8 +20,8 @@ pub trait Machine: Look {
     /// The configuration, the journal so far, and the state that it led to.
     ghost so_far: { Self → Ran };
 
-    /// The event happens: its reply is recorded with it, and the state is the one after it. Where
-    /// the journal is full, and where memory runs out, nothing changes.
+    /// The event happens: its reply is recorded with it, and the state is the one after it. If the
+    /// journal is full, or memory runs out, nothing changes.
     fn apply(&mut self, event: Event) -> Result<Reply, AllocError>
         ensures reply { IfOk result (λ r. r ≡ answer_of (so_far self.old) event) }
         ensures ok { OnOk result (so_far self.new ≡ applied (so_far self.old) event) }
@@ -78,7 +78,7 @@ fn text_of_events<M: Machine>(
     text(alloc, machine, machine.journal())
 }
 
-/// Plays the script's events over its configuration, and answers the whole Text of that run. The
+/// Plays the script's events over its configuration, and returns the whole Text of that run. The
 /// cost is that of the events, by `Plain::apply`, and of the Text.
 pub fn text_of_script(alloc: Global, script: Script) -> Result<Vec<u8>, NoMemory>
     requires { IsPlayable script }

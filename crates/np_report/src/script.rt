@@ -53,10 +53,10 @@ fn read_config(alloc: Global, bytes: &[u8]) -> Result<Result<Config, ConfigFault
     }
 }
 
-/// Reads a script: the configuration before the first line that is exactly `%%`, and the event lines
-/// after it. The first fault comes in this order: the configuration's, where no line is `%%` the
-/// whole text's; then the missing separator; then the first event line that is at fault, or that is
-/// one more than 262,144. The last line may lack its newline. The time grows with the text.
+/// Reads a script: the configuration before the first line that is exactly `%%`, and the event
+/// lines after it. The first fault comes in this order: the configuration's (if no line is `%%`,
+/// the whole text's); then the missing separator; then the first event line that is at fault, or
+/// that is one more than 262,144. The last line may lack its newline. The time grows with the text.
 #[tactic(auto, unfolding(crate::specs::Script::script_of))]
 pub fn read_script(alloc: Global, bytes: &[u8]) -> Result<Result<Script, ScriptFault>, NoMemory>
     ensures exact { IfOk result (λ read. read ≡ script_of bytes.now) }

@@ -1,4 +1,4 @@
--- an accepted event of a kind: what it names is there, and who made it
+-- an accepted event of a kind: what it names exists, and who made it
 use Rattle.std.proofs.Common.{◌≡◌, Some, None, Ok, refl, arith}
 use Rattle.std.specs.Prelude.{slice_get}
 use Rattle.std.proofs.lemmas.Bool.Decides.{nat_tests}
@@ -46,7 +46,7 @@ job-maker of_job.Take session j = refl
 job-maker of_job.Finish session j = refl
 job-maker of_job.Release session j = refl
 
--- ## what it names is there
+-- ## what it names exists
 
 module _ (c : Configuration) (s : State) (session : SessionId) (what : Done) where
   pub request-there : (kind : RequestKind) (r : RequestId) → judge c s (request_event kind session r) ≡ Ok what → request_in r s.requests ≡ None → ⊥

@@ -1,4 +1,4 @@
--- a role has one current session at most
+-- a role has at most one current session
 use Rattle.std.proofs.Common.{◌≡◌, ◌<◌, ◌+◌, ◌-◌, ℕ, Bool, true, false, drop, Option, Some, None, refl, ap, arith}
 use Rattle.std.specs.Prelude.{slice_get, ◌&&◌, ◌==◌, not, nat_lt, if◌then◌else◌, is_some}
 use Rattle.std.specs.Option.{option_map_or}
@@ -71,7 +71,7 @@ session-after s at facts is = grind (arith, nat_tests)
 pub session-at : (s : State) (n : ℕ) (facts : SessionFacts) → session_of (record { 0 = n }) s ≡ Some facts → slice_get s.sessions (n - 1) ≡ Some facts
 session-at s n facts is = grind (arith, nat_tests)
 
--- who has a current session opens none
+-- a role that has a current session opens none
 pub has-some : (c : Configuration) (role : Role) (s : State) (o : Option SessionId) → NamesCurrent role s o → is_some o ≡ true → false ≡ may_open c role s
 has-some c role s None names some = absurd cc
 has-some c role s (Some session) names some = rw (current-has role s session names) refl

@@ -27,7 +27,7 @@ equal m n is = grind (arith, nat_tests)
 itself : (n : ℕ) → (n == n) ≡ true
 itself n = grind (arith, nat_tests)
 
--- the same role is one role
+-- roles that are the same are equal
 pub same-role : (one other : Role) → same_role one other ≡ true → one ≡ other
 same-role (Launcher p) (Launcher q) is = ap (λ (n : ℕ). Launcher (record { 0 = n })) (equal p.0 q.0 is)
 same-role (Launcher p) (Janitor q) is = absurd cc
@@ -47,7 +47,7 @@ same-role Reaper (Requester q) is = absurd cc
 same-role Reaper Reaper is = refl
 
 module _ (c : Configuration) (s : State) where
-  -- a row for an opening is the role's own, which may open
+  -- the row of an opening is true only for the role's own opening, if the role may open one
   opened : (role other : Role) → row_holds c s role (ev.OpenSession other) ≡ true → (same_role other role ≡ true) × (may_open c other s ≡ true)
   opened (Launcher p) other is = and-parts (same_role other (Launcher p)) (may_open c other s) is
   opened (Janitor p) other is = and-parts (same_role other (Janitor p)) (may_open c other s) is

@@ -1,10 +1,10 @@
--- at which place a search finds, and members from a place on
+-- at which place a search finds a member, and the members from a place on
 use Rattle.std.proofs.Common.{◌≡◌, ◌∙◌, ◌<◌, ◌≤◌, ◌+◌, ◌-◌, ℕ, zero, suc, add-one, Bool, true, false, cond, List, [], ◌∷◌, length, drop, Option, Some, None, refl, sym, ap, arith}
 use Rattle.std.specs.Prelude.{find, filter, slice_get, is_some, ◌||◌, ◌&&◌, ◌==◌}
 use Rattle.std.specs.List.{list_any}
 use Rattle.std.proofs.lemmas.Bool.Decides.{nat_tests}
 
--- the member stands at a place of the list
+-- the member is at a place of the list
 pub record StandsIn {X : Type 0} (x : X) (xs : List X) : Type 0 where
   pub at : ℕ
   pub within : at < length xs
@@ -29,7 +29,7 @@ or-true : (a b : Bool) → b ≡ true → (a || b) ≡ true
 or-true true b is = refl
 or-true false b is = is
 
--- one that passes stands behind each place up to its own
+-- from each place up to its own, a member that passes is among the rest
 pub any-there : {X : Type 0} (p : X → Bool) (xs : List X) (k i : ℕ) (x : X) → k ≤ i → slice_get xs i ≡ Some x → p x ≡ true → list_any p (drop k xs) ≡ true
 any-there p [] k i x low there passes = absurd cc
 any-there p (y ∷ xs) zero zero x low there passes = let same : y ≡ x = cc in rw (ap p same, passes) refl
@@ -37,7 +37,7 @@ any-there p (y ∷ xs) zero (suc i) x low there passes = or-true (p y) (list_any
 any-there p (y ∷ xs) (suc k) zero x low there passes = absurd (omega arith)
 any-there p (y ∷ xs) (suc k) (suc i) x low there passes = any-there p xs k i x (omega arith) there passes
 
--- from a place on: the member there, or one behind it
+-- from a place on: the member there, or one after it
 pub any-here : {X : Type 0} (p : X → Bool) (xs : List X) (i : ℕ) (x : X) → slice_get xs i ≡ Some x → list_any p (drop i xs) ≡ (p x || list_any p (drop (suc i) xs))
 any-here p [] i x there = absurd cc
 any-here p (y ∷ xs) zero x there = let same : y ≡ x = cc in rw (ap p same) refl
@@ -80,7 +80,7 @@ drop-there {X = X} (y ∷ xs) zero x there = let same : y ≡ x = cc in ap (λ (
 drop-there (y ∷ xs) (suc i) x there = drop-there xs i x there
 
 module _ {X : Type 0} (p : X → Bool) where
-  -- the one at the place is the first of those that pass
+  -- the member at the place is the first of those that pass
   pub filter-first : (xs : List X) (i : ℕ) (x : X) → slice_get xs i ≡ Some x → p x ≡ true → slice_get (filter p (drop i xs)) 0 ≡ Some x
   filter-first xs i x there passes = rw (drop-there xs i x there, passes) refl
 
@@ -89,7 +89,7 @@ module _ {X : Type 0} (p : X → Bool) where
   later-by x xs zero true is other = absurd cc
   later-by x xs (suc left) true is other = let less : suc left - 1 ≡ left = omega arith in rw is (ap (λ (n : ℕ). slice_get (filter p xs) n) less)
 
-  -- past the one at the place, which is not the one that is looked for
+  -- past the member at the place, if it is not the one that is searched for
   pub filter-later : (xs : List X) (i : ℕ) (x : X) (left : ℕ) → slice_get xs i ≡ Some x → (p x && (left == 0)) ≡ false → slice_get (filter p (drop (i + 1) xs)) (left - cond (p x) 1 0) ≡ slice_get (filter p (drop i xs)) left
   filter-later xs i x left there other = rw (add-one, drop-there xs i x there) (later-by x (drop (suc i) xs) left (p x) refl other)
 

@@ -1,4 +1,4 @@
--- the first of these that passes, or none of them does
+-- the first of these events that passes, or none if none does
 use Rattle.std.proofs.Common.{◌≡◌, ◌∙◌, ◌<◌, ℕ, Bool, true, false, Option, Some, None, Result, Ok, Err, refl, sym, ap, subst, arith}
 use Rattle.std.specs.Prelude.{◌&&◌, ◌==◌, slice_get, is_ok, if◌then◌else◌}
 use Rattle.std.specs.Option.{option_map}
@@ -33,7 +33,7 @@ use Rattle.np_roles.proofs.Places.{find-place, within}
 use Rattle.np_roles.proofs.Accepts.{request-maker, node-maker, job-maker, request-there, node-there, job-there}
 use Rattle.np_roles.proofs.Currents.{one-current}
 
--- ## what was accepted names what stands at a place
+-- ## an accepted event names something that is at a place
 
 entry-of : {X Y : Type 0} (f : X → Y) (o : Option X) → (option_map f o ≡ None → ⊥) → (x : X) × (o ≡ Some x)
 entry-of f None there = absurd (there refl)
@@ -107,7 +107,7 @@ module _ (c : Configuration) (s : State) (role : Role) where
   and-parts true false is = absurd cc
   and-parts false u is = absurd cc
 
-  -- an event that passes is useful, where its maker is the current session or it has none
+  -- an event that passes is useful if its maker is the current session, or if it has no maker
   pub passes-useful : (e : Event) → passes c s role e ≡ true → is_maker_of role s (maker_of e) ≡ true → IsUseful c s role e
   passes-useful e is maker =
       let parts = and-parts (is_ok (judge c s e)) (row_holds c s role e) is in
@@ -145,7 +145,7 @@ module _ (c : Configuration) (s : State) (role : Role) where
     made-by : (other : SessionId) (e : Event) → maker_of e ≡ Some other → IsUseful c s role e → other ≡ session
     made-by other e maker useful = one-current role s other session (ap (is_maker_of role s) (sym maker) ∙ useful.maker) current
 
-    -- where none passes at any place, no event of the kind is useful
+    -- if none passes at any place, no event of the kind is useful
     pub none-found : (kind : EventKind) → ((at : ℕ) → at < places s kind → passing c s role (candidate s session kind at) ≡ None) → NoneOf c s role kind
     none-found (kind_of.Request kind) none = λ other r useful.
         let same : other ≡ session = made-by other (request_event kind other r) (request-maker kind other r) useful in

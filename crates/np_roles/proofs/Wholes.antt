@@ -34,12 +34,12 @@ module _ (c : Configuration) (s : State) (role : Role) where
   all-none none (kind ∷ kinds) = (none-made none kind, all-none none kinds)
 
   module _ (kinds : List EventKind) (law : NoneOpens c s role → AllByRecursion (NoneOf c s role) kinds → (e : Event) → IsUseful c s role e → ⊥) where
-    -- without a session the opening is all
+    -- without a session, the opening is the whole choice
     pub opening-chooses : has_current role s ≡ false → (o : Option Event) → ChoosesOpening c s role o → Chooses c s role o
     opening-chooses none None opens = law opens (all-none none kinds)
     opening-chooses none (Some e) useful = useful
 
-    -- with a session the kinds are all
+    -- with a session, the kinds are the whole choice
     pub kinds-choose : (session : SessionId) → is_current role session s ≡ true → (o : Option Event) → ChoosesOfAny c s role kinds o → Chooses c s role o
     kinds-choose session current None all = law (current-opens c s role session current) all
     kinds-choose session current (Some e) useful = useful

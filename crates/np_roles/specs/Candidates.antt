@@ -8,13 +8,13 @@ use Rattle.np_roles.specs.declared.kind.EventKind.{EventKind}
 use Rattle.np_roles.specs.declared.kind.EventKind.TheVariants as kind_of
 use Rattle.np_roles.specs.Kinds.{request_event, node_event, job_event}
 
--- how many places the table has that the kind names
+-- how many places the table that the kind names has
 abbrev pub places : State → EventKind → ℕ
 places s (kind_of.Request kind) = length s.requests
 places s (kind_of.Node kind) = length s.nodes
 places s (kind_of.Job kind) = length s.jobs
 
--- the session's event of the kind that names what stands at the place
+-- the session's event of the kind that names what is at the place
 abbrev pub candidate : State → SessionId → EventKind → ℕ → Option Event
 candidate s session (kind_of.Request kind) at = option_map (λ e. request_event kind session e.id) (slice_get s.requests at)
 candidate s session (kind_of.Node kind) at = option_map (λ e. node_event kind session e.id) (slice_get s.nodes at)

@@ -1,4 +1,4 @@
--- what a choice answers
+-- what a choice returns
 use Rattle.std.specs.Prelude.{◌≡◌, List, true, false, Option, Some, None}
 use Rattle.std.specs.List.{AllByRecursion}
 use Rattle.np_text.specs.declared.id.SessionId.{SessionId}
@@ -18,14 +18,14 @@ use Rattle.np_roles.specs.Kinds.{request_event, node_event, job_event}
 
 -- ## the choice of a role
 
--- a useful event of the role, or none where there is none (own)
+-- a useful event of the role, or none if there is none (own)
 abbrev pub Chooses : Configuration → State → Role → Option Event → Type 0
 Chooses c s role None = (e : Event) → IsUseful c s role e → ⊥
 Chooses c s role (Some e) = IsUseful c s role e
 
 -- ## the choice among some events
 
--- the role's current session, or none where it has none (own)
+-- the role's current session, or none if it has none (own)
 abbrev pub NamesCurrent : Role → State → Option SessionId → Type 0
 NamesCurrent role s None = has_current role s ≡ false
 NamesCurrent role s (Some session) = is_current role session s ≡ true
@@ -34,7 +34,7 @@ NamesCurrent role s (Some session) = is_current role session s ≡ true
 abbrev pub NoneOpens : Configuration → State → Role → Type 0
 NoneOpens c s role = (other : Role) → IsUseful c s role (ev.OpenSession other) → ⊥
 
--- a useful opening of a session, or none where there is none (own)
+-- a useful opening of a session, or none if there is none (own)
 abbrev pub ChoosesOpening : Configuration → State → Role → Option Event → Type 0
 ChoosesOpening c s role None = NoneOpens c s role
 ChoosesOpening c s role (Some e) = IsUseful c s role e
@@ -45,7 +45,7 @@ NoneOf c s role (kind_of.Request kind) = (session : SessionId) (r : RequestId) �
 NoneOf c s role (kind_of.Node kind) = (session : SessionId) (n : NodeId) → IsUseful c s role (node_event kind session n) → ⊥
 NoneOf c s role (kind_of.Job kind) = (session : SessionId) (j : JobId) → IsUseful c s role (job_event kind session j) → ⊥
 
--- a useful event of the kind, or none where there is none (own)
+-- a useful event of the kind, or none if there is none (own)
 abbrev pub ChoosesOf : Configuration → State → Role → EventKind → Option Event → Type 0
 ChoosesOf c s role kind None = NoneOf c s role kind
 ChoosesOf c s role kind (Some e) = IsUseful c s role e

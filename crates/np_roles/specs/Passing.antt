@@ -7,23 +7,23 @@ use Rattle.np_machine.specs.Step.{judge}
 use Rattle.np_machine.specs.State.{State}
 use Rattle.np_useful.specs.Useful.{row_holds}
 
--- the machine accepts the event, and its row holds (own)
+-- the machine accepts the event, and its row is true (own)
 abbrev pub passes : Configuration → State → Role → Event → Bool
 passes c s role e = is_ok (judge c s e) && row_holds c s role e
 
--- the event, where it passes (own)
+-- the event, if it passes (own)
 abbrev pub passing : Configuration → State → Role → Option Event → Option Event
 passing c s role None = None
 passing c s role (Some e) = if passes c s role e then Some e else None
 
--- an event that passes and stands at a place, after places where none passes (own)
+-- an event that passes and is at a place, after places where none passes (own)
 pub record IsFirst (c : Configuration) (s : State) (role : Role) (places : ℕ) (candidate : ℕ → Option Event) (e : Event) : Type 0 where
   pub at : ℕ
   pub within : at < places
   pub there : passing c s role (candidate at) ≡ Some e
   pub before : (k : ℕ) → k < at → passing c s role (candidate k) ≡ None
 
--- the first that passes, or none where none passes at any place (own)
+-- the first that passes, or none if none passes at any place (own)
 abbrev pub IsFirstThatPasses : Configuration → State → Role → ℕ → (ℕ → Option Event) → Option Event → Type 0
 IsFirstThatPasses c s role places candidate None = (at : ℕ) → at < places → passing c s role (candidate at) ≡ None
 IsFirstThatPasses c s role places candidate (Some e) = IsFirst c s role places candidate e

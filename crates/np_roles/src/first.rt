@@ -1,4 +1,4 @@
-//! The first event that passes, among candidates that stand in an order.
+//! The first event that passes, among candidates in an order.
 
 ghost use Rattle.std.specs.Prelude.{◌≡◌, ℕ, Option};
 ghost use Rattle.np_site.specs.Configuration.{Configuration};
@@ -29,7 +29,7 @@ pub trait Candidates {
         ensures { result ≡ candidate self.now (L.site look.now) (L.state look.now) at };
 }
 
-/// The candidate, where it passes.
+/// The candidate, if it passes.
 fn passing<L: Look, R: Rows>(look: &L, rows: &R, found: Option<Event>) -> Option<Event>
     requires fits { Fits (L.site look.now) (L.state look.now) }
     requires knows { R.knows rows.now (L.site look.now) (L.state look.now) }
@@ -45,8 +45,8 @@ fn passing<L: Look, R: Rows>(look: &L, rows: &R, found: Option<Event>) -> Option
     }
 }
 
-/// The first of the candidates that passes, or `None` exactly where none of them does. It tests the
-/// candidates up to that one.
+/// The first of the candidates that passes, or `None` if and only if none of them does. It tests
+/// the candidates up to that one.
 pub fn first_that_passes<L: Look, R: Rows, C: Candidates>(
     look: &L,
     rows: &R,

@@ -32,7 +32,7 @@ pub enum NodeKind {
     Lock,
     Unlock,
     Start,
-    /// With what the requester leaves the node as.
+    /// With how the requester leaves the node.
     End(EndAs),
     MarkDeleting,
     Gone,

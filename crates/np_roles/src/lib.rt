@@ -1,11 +1,11 @@
 //! What the choices of all roles share: a role's current session, the planned faults that stop it,
 //! the opening of its session, and the search for its first useful event.
 //!
-//! A role has rows (`Rows`), which say of an event whether it is useful as far as the role goes. The
-//! candidates of a kind of event (`EventKind`) are the events of the current session that name what
-//! stands in the kind's table, place by place. A candidate is tested by the machine's judge and then
-//! by its row, and the first that passes is chosen. `specs/Choices` says what a choice answers: a
-//! useful event (np_useful), or none exactly where there is none.
+//! A role has rows (`Rows`), which say whether an event is useful as far as the role is concerned.
+//! The candidates of a kind of event (`EventKind`) are the events of the current session that name
+//! what is in the kind's table, place by place. A candidate is tested by the machine's judge and
+//! then by its row, and the first that passes is chosen. `specs/Choices` says what a choice
+//! returns: a useful event (np_useful), or none if and only if there is none.
 #![tactic(auto)]
 
 mod first;

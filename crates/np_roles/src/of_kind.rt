@@ -52,8 +52,8 @@ impl Candidates for OfKind {
 }
 
 /// The first useful event of the kind that the current session may make, in the order of the kind's
-/// table, or `None` exactly where no event of the kind is useful. It tests each candidate up to the
-/// first that passes.
+/// table, or `None` if and only if no event of the kind is useful. It tests each candidate up to
+/// the first that passes.
 pub fn first_of_kind<L: Look, R: Rows>(
     look: &L,
     rows: &R,
@@ -68,8 +68,9 @@ pub fn first_of_kind<L: Look, R: Rows>(
     first_that_passes(look, rows, &OfKind { session, kind })
 }
 
-/// The first useful event of the first of the kinds that has one, or `None` exactly where no event of
-/// any of the kinds is useful. It tests the candidates of kind after kind up to the first that passes.
+/// The first useful event of the first kind that has one, or `None` if and only if no event of any
+/// of the kinds is useful. It tests the candidates of one kind after another up to the first that
+/// passes.
 pub fn first_of_kinds<L: Look, R: Rows>(
     look: &L,
     rows: &R,

@@ -19,15 +19,15 @@ pub trait Rows {
     /// What the rows know of the state beforehand.
     ghost knows: { Self → Configuration → State → Type 0 };
 
-    /// Whether the event is one of the role's, and its row holds.
+    /// Whether the event is one of the role's, and its row is true.
     fn holds<L: Look>(&self, look: &L, event: Event) -> bool
         requires fits { Fits (L.site look.now) (L.state look.now) }
         requires knows { knows self.now (L.site look.now) (L.state look.now) }
         ensures { result ≡ row_holds (L.site look.now) (L.state look.now) (role self.now) event };
 }
 
-/// Whether the machine accepts the event and its row holds. The row is asked of an accepted event
-/// only. It costs what the judge and the row cost.
+/// Whether the machine accepts the event and its row is true. The row is tested only for an
+/// accepted event. The cost is that of the judge and the row.
 pub fn passes<L: Look, R: Rows>(look: &L, rows: &R, event: Event) -> bool
     requires fits { Fits (L.site look.now) (L.state look.now) }
     requires knows { R.knows rows.now (L.site look.now) (L.state look.now) }

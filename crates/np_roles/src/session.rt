@@ -46,8 +46,8 @@ pub fn speaks_for(role: Role, facts: &SessionFacts) -> bool
     is_same_role(facts.role, role) && facts.live && !facts.mute
 }
 
-/// Whether a session that began after this one speaks for the role. It costs as many sessions as
-/// began after it.
+/// Whether a session that began after this one speaks for the role. The cost is the number of
+/// sessions that began after it.
 pub fn is_spoken_later<L: Look>(look: &L, role: Role, session: SessionId) -> bool
     requires { Fits (L.site look.now) (L.state look.now) }
     ensures { result ≡ list_any (speaks_for role) (drop session.0 (L.state look.now).sessions) }
@@ -63,8 +63,9 @@ pub fn is_spoken_later<L: Look>(look: &L, role: Role, session: SessionId) -> boo
     false
 }
 
-/// The role's current session, or `None` exactly where it has none. It is looked for from the newest
-/// session on, and costs as many as began after it, or all where there is none.
+/// The role's current session, or `None` if and only if it has none. The search begins at the
+/// newest session; its cost is the number of sessions that began after the current one, or of all
+/// sessions if there is none.
 pub fn current_session<L: Look>(look: &L, role: Role) -> Option<SessionId>
     requires { Fits (L.site look.now) (L.state look.now) }
     ensures { NamesCurrent role (L.state look.now) result }
@@ -93,22 +94,22 @@ pub fn strikes_of<L: Look>(look: &L, role: Role) -> u32
     }
 }
 
-/// 1 where it holds.
+/// 1 if it is true.
 fn one_if(holds: bool) -> u32
     ensures { result ≡ cond holds 1 0 }
 {
     if holds { 1 } else { 0 }
 }
 
-/// Whether it is the role's own, and no more are to be passed.
+/// Whether it is the role's own, and no more are to be skipped.
 fn is_next(own: bool, left: u32) -> bool
     ensures { result ≡ (own && (left == 0)) }
 {
     own && left == 0
 }
 
-/// The role's fault at a place among its faults, in the configuration's order. It costs as many
-/// faults as the configuration has.
+/// The role's fault at a place among its faults, in the configuration's order. The cost is the
+/// number of faults that the configuration has.
 pub fn fault_of(config: &Config, role: Role, place: u32) -> Option<Fault>
     ensures { result ≡ slice_get (faults_of config.now role) place }
 {
@@ -126,8 +127,8 @@ pub fn fault_of(config: &Config, role: Role, place: u32) -> Option<Fault>
     None
 }
 
-/// Whether the role stopped for good: the last fault that befell it was a stop. It costs as many
-/// faults as the configuration has.
+/// Whether the role stopped for good: the last fault that struck it was a stop. The cost is the
+/// number of faults that the configuration has.
 pub fn is_stopped<L: Look>(look: &L, role: Role) -> bool
     ensures { result ≡ is_stopped (L.site look.now) role (L.state look.now) }
 {
@@ -149,7 +150,7 @@ pub fn may_open<L: Look>(look: &L, role: Role) -> bool
     current_session(look, role).is_none() && !is_stopped(look, role)
 }
 
-/// The opening of a session of the role, which has none, or `None` exactly where it stopped.
+/// The opening of a session of the role, which has none, or `None` if and only if it has stopped.
 pub fn choose_opening<L: Look>(look: &L, role: Role) -> Option<Event>
     requires fits { Fits (L.site look.now) (L.state look.now) }
     requires role { is_role (L.site look.now) role ≡ true }

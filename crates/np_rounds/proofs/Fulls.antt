@@ -1,4 +1,4 @@
--- A round that led to its end was answered that the journal is full.
+-- A round that led to its end had a turn that found the journal full.
 use Rattle.std.proofs.Common.{◌≡◌, ◌⊎◌, inl, inr, ⊎_elim, ℕ, zero, suc, List, [], ◌∷◌, length, length-append, sym, refl, ap, arith, subst, Bool, true, false, cond}
 use Rattle.std.specs.Prelude.{Option, Some, None}
 use Rattle.np_text.specs.declared.id.Role.{Role}
@@ -59,7 +59,7 @@ first_goes (of_pool p) = acting_goes (role.Launcher p) 16
 first_goes (of_requester q) = acting_goes (role.Requester q) 16
 first_goes of_reaper = acting_goes role.Reaper 16
 
--- a turn lets the round go on, or is answered that the journal is full
+-- a turn lets the round go on, or finds the journal full
 abbrev GoesOrFull : Phase → Turn → Type 0
 GoesOrFull p t = GoesOn p ⊎ (t ≡ turn.Full)
 
@@ -113,12 +113,12 @@ removal_goes (owes_swept p x) g = tt
 removal_goes rests g = tt
 removal_goes ended g = g
 
--- a history with no room has none when it has grown
+-- a history without room has none after it has grown
 pub full_later : (later seen : List Entry) → StartsWith later seen → IsFull seen → IsFull later
 full_later later seen h full = omega (arith, full, ap length h.1, length-append seen h.0)
 
 module _ (c : Configuration) where
-  -- the answer that there is no room says that there was none
+  -- if the answer is that there is no room, there was none
   full_answer : (before : List Entry) (a : Ask) → answers c before a turn.Full → IsFull before
   full_answer before (ask.Act r) h = h.1
   full_answer before (ask.Do e) h = h
@@ -142,7 +142,7 @@ module _ (c : Configuration) where
   grows (launched tag o ∷ ms) v w h = grows ms v w h
   grows (removed x ∷ ms) v w h = grows ms v w h
 
-  -- the phase in which a round ends is reached by such an answer alone
+  -- only such an answer leads to the phase in which a round ends
   pub full_end : (p : Phase) (trace : List Move) (v w : Sight Entry) → GoesOn p → Leads p trace ended → Walk answers c trace v w → IsFull w.seen
   full_end p [] v w g l h = absurd (subst GoesOn l g)
   full_end p (asked a t ∷ ms) v w g l h = ⊎_elim

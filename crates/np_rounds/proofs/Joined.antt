@@ -86,7 +86,7 @@ pub same_length : {E : Type 0} (seen later : List E) → StartsWith later seen �
 same_length seen later h same =
     h.1 ∙ (ap (λ (l : List _). seen ++ l) (no_more h.0 (omega (arith, same, ap length h.1, length-append seen h.0))) ∙ append-nil seen)
 
--- where as many places were added, the history is the same
+-- if as many places were added, the history is the same
 pub same_history : {E : Type 0} (first seen later : List E) → StartsWith seen first → StartsWith later seen → StartsWith later first → length (added first later) ≡ length (added first seen) → later ≡ seen
 same_history first seen later h k j same =
     same_length seen later k (omega (arith, same, length_added first seen h, length_added first later j))

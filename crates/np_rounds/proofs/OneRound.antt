@@ -110,7 +110,7 @@ module _ {D : Type 0} (facts : D → DriverFacts) (plan : D → Plan) (desk : De
       (reported crew e h.0 (All-head IsUncut e ends uncut))
       (all_reported crews ends h.1 (All-tail IsUncut e ends uncut))
 
-  -- each place is of before, or a player's
+  -- each place is one from before, or a player's
   made_there : (end : PlayerEnd) (ends : List PlayerEnd) (x : ℕ) → IsMade ends x → IsMade (end ∷ ends) x
   made_there end ends x h = record { end = h.end; there = contains_there h.end end ends h.there; made = h.made }
 

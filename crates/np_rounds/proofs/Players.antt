@@ -71,7 +71,7 @@ module _ {D : Type 0} (facts : D → DriverFacts) (plan : D → Plan) where
   pub without : (ws ws' : List (Worker D)) (w : Worker D) → driving_of facts plan w ≡ None → ws ≡ ws' ++ w ∷ [] → drivings_of (players_of facts plan ws') ≡ drivings_of (players_of facts plan ws)
   without ws ws' w none less = sym (ap (λ (l : List (Worker D)). drivings_of (players_of facts plan l)) less ∙ (ap drivings_of (players-push ws' w) ∙ ap (λ (o : Option Driving). driving_in o ++ drivings_of (players_of facts plan ws')) none))
 
-  -- a worker that is no pool's has none
+  -- a worker that is not a pool's has none
   pub no_driver : (w : Worker D) → ((p : PoolId) (d : D) → w ≡ worker.Pool p d → ⊥) → driving_of facts plan w ≡ None
   no_driver (worker.Pool p d) other = absurd (other p d refl)
   no_driver (worker.Requester q) other = refl

@@ -52,7 +52,7 @@ settled_tick c journal s sound runs settled rested = ⊎_elim
     (λ (t : EndsWithTick journal). t)
     rested
 
--- where the journal has room, a site that is settled ended with a tick
+-- if the journal has room, the journal of a settled site ends with a tick
 pub ended_settled : (c d : Configuration) (journal : List Entry) (s : State) (full : Bool) → IsSound c → d ≡ c → Runs d journal s → IsSettled d s → Stops full journal → full ≡ false → IsSettled c s × EndsWithTick journal
 ended_settled c d journal s full sound same runs settled stops room =
     let here : IsSettled c s = subst (λ (x : Configuration). IsSettled x s) same settled in

@@ -14,14 +14,15 @@ use Rattle.np_rounds.specs.declared.crew.CrewEnd.{CrewEnd}
 use Rattle.np_rounds.specs.declared.round.Together.{Together}
 use Rattle.np_rounds.specs.Crews.{Plan, zeros, player_of, players_of}
 
--- a crew of this desk after a round, whose pass was split off after so many others: the round made all the places that the pass has, and was full only where the journal had no room (own)
+-- a crew of this desk after a round, whose pass was split off after this many others: the round
+-- made all the places that the pass has, and ended full only if the journal had no room (own)
 pub record IsBack {D : Type 0} (desk : DeskView Configuration Entry) (n : ℕ) (e : CrewEnd D) : Type 0 where
   pub own : IsOf e.crew.pass desk
   pub part : e.crew.pass.part ≡ second_half (zeros n ∷ [])
   pub entries : IfOk e.end (λ end. length e.crew.pass.mine ≡ end.entries)
   pub full : IfOk e.end (λ end. end.full ≡ true → IsFull e.crew.pass.seen)
 
--- each crew of the list is, the first after so many others (own)
+-- the same for each crew of the list, the first after this many others (own)
 abbrev pub AreBack : {D : Type 0} → DeskView Configuration Entry → ℕ → List (CrewEnd D) → Type 0
 AreBack desk n [] = Unit {0}
 AreBack desk n (e ∷ ends) = IsBack desk n e × AreBack desk (suc n) ends
@@ -41,7 +42,8 @@ module _ {D : Type 0} (facts : D → DriverFacts) (plan : D → Plan) where
   end_players [] = []
   end_players (e ∷ ends) = player_of facts plan e.crew.worker ∷ end_players ends
 
-  -- the crews came back, the last of them first: the pass has seen what they saw and made what they made, their workers stand after those before, and the sum is that of their rounds (own)
+  -- the crews came back, the last of them first: the pass has seen what they saw and made what they
+  -- made, their workers come after those from before, and the sum is that of their rounds (own)
   pub record TookBack (old new : PassView Configuration Entry) (before now : List (Worker D)) (sum : Together) (ends : List (CrewEnd D)) : Type 0 where
     pub seen : StartsWith new.seen old.seen
     pub told : All (λ (e : CrewEnd D). StartsWith new.seen e.crew.pass.seen) ends

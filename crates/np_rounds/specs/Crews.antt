@@ -14,20 +14,21 @@ use Rattle.np_rounds.specs.declared.crew.Crew.{Crew}
 
 -- ## passes
 
--- the word that a whole pass has left after so many splits (own)
+-- the word that a whole pass has left after this many splits (own)
 abbrev pub zeros : ℕ → List Bool
 zeros zero = []
 zeros (suc n) = false ∷ zeros n
 
--- what a whole pass is after so many splits (own)
+-- what a whole pass is after this many splits (own)
 abbrev pub split_pass : {F E : Type 0} → ℕ → PassView F E → PassView F E
 split_pass n p = record p { part = zeros n ∷ [] }
 
--- the pass that was split off after so many others: it has seen the same, and made nothing (own)
+-- the pass that was split off after this many others: it has seen the same, and made nothing (own)
 abbrev pub given_pass : {F E : Type 0} → ℕ → PassView F E → PassView F E
 given_pass n p = record p { mine = []; part = second_half (zeros n ∷ []) }
 
--- each crew of the list has the pass that was split off at its place, the first after so many others (own)
+-- each crew of the list has the pass that was split off at its place, the first after this many
+-- others (own)
 abbrev pub AreGiven : {D : Type 0} → PassView Configuration Entry → ℕ → List (Crew D) → Type 0
 AreGiven p n [] = Unit {0}
 AreGiven p n (crew ∷ crews) = (crew.pass ≡ given_pass n p) × AreGiven p (suc n) crews

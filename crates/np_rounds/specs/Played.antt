@@ -14,12 +14,12 @@ use Rattle.np_board.specs.Answers.{IsFull}
 use Rattle.np_rounds.specs.declared.round.Together.{Together}
 use Rattle.np_rounds.specs.Crews.{Plan}
 
--- with what one more worker's round came to; want of memory of one is that of all (own)
+-- with what one more worker's round came to; if one ran out of memory, all did (own)
 abbrev pub with_end : Together → Result RoundEnd NoMemory → Result Together NoMemory
 with_end sum (Ok end) = Ok (record { moved = sum.moved || nat_lt 0 end.entries; full = sum.full || end.full })
 with_end sum (Err fault) = Err fault
 
--- the turn is answered that the journal has no room (own)
+-- the turn found no room in the journal (own)
 abbrev pub is_full : Turn → Bool
 is_full turn.Full = true
 is_full _ = false
@@ -56,7 +56,8 @@ pub record WereDriven (c : Configuration) (journal : List Entry) (players : List
   pub driven : DrivenBy (WasAnswered (drivings_of players)) c journal
   pub numbered : AreNumbered 0 players
 
--- the players drove the journal, and each server that they have was named in it where it has room (own)
+-- the players drove the journal, and each server that they have was named in it if it has room
+-- (own)
 abbrev pub IsDriven : Configuration → Bool → List Entry → List Player → Type 0
 IsDriven c true journal players = WereDriven c journal players
 IsDriven c false journal players = HaveDriven c journal players

@@ -12,7 +12,7 @@ use Rattle.np_rounds.specs.declared.crew.Crew.{Crew}
 use Rattle.np_rounds.specs.declared.crew.CrewEnd.{CrewEnd}
 use Rattle.np_rounds.specs.Crews.{Plan}
 
--- two lists are as long, and so related place by place (own)
+-- two lists are equally long, and so related place by place (own)
 abbrev pub Pairwise : {A B : Type 0} → (A → B → Type 0) → List A → List B → Type 0
 Pairwise R [] [] = Unit {0}
 Pairwise R [] (y ∷ ys) = ⊥

@@ -1,9 +1,9 @@
 //! The rounds in which all workers of a site play, side by side at one desk.
 //!
 //! `run_rounds` plays a site to its end. In each round every worker of the site plays one round of
-//! its own, in a thread of its own where one can be made (`crew`, `round`). After a round with an
-//! entry time goes on by one tick. The site has come to its end where a round made no entry and the
-//! board is settled, or where the journal has no room.
+//! its own, in a thread of its own if one can be made (`crew`, `round`). After a round with an
+//! entry, time advances by one tick. The site has come to its end when a round made no entry and
+//! the board is settled, or when the journal has no room.
 //!
 //! The one pass of a desk is split, a part for each worker, and joined again in the reverse order:
 //! so it is whole after each round, and knows every entry. A round of all crews is then a round of

@@ -57,7 +57,7 @@ fn hand_out<D: Driver + Drop>(
     Ok(crews)
 }
 
-/// Lets all crews play, in a thread each where one can be made.
+/// Lets all crews play, each in a thread of its own if one can be made.
 fn play_all<R: Threads + Wait + Sync, D: Driver + Send + Drop, G: Gate + Sync>(
     rt: &R,
     desk: &Desk<Board>,
@@ -78,7 +78,7 @@ fn play_all<R: Threads + Wait + Sync, D: Driver + Send + Drop, G: Gate + Sync>(
     Ok(ends)
 }
 
-/// With what one more worker's round came to. Want of memory of one is that of all.
+/// With what one more worker's round came to. If one ran out of memory, all did.
 fn with_end(sum: Together, end: Result<RoundEnd, NoMemory>) -> Result<Together, NoMemory>
     ensures { result ≡ with_end sum end }
 {
@@ -121,7 +121,7 @@ fn take_back<D: Driver + Drop>(
     Ok(sum)
 }
 
-/// Lets each worker play a round, side by side where threads can be made.
+/// Lets each worker play a round, side by side if threads can be made.
 pub(crate) fn play_round<R: Threads + Wait + Sync, D: Driver + Send + Drop, G: Gate + Sync>(
     rt: &R,
     alloc: Global,

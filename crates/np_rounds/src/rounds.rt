@@ -36,20 +36,20 @@ use std::thread::Threads;
 pub struct Ended<D> {
     /// The board, with the whole journal.
     pub board: Board,
-    /// Whether the journal had no room for what was to come.
+    /// Whether the journal had no room for what came next.
     pub full: bool,
     /// The drivers, in the order of the pools.
     pub drivers: Vec<D>,
 }
 
-/// Whether the turn is answered that the journal has no room.
+/// Whether the turn found no room in the journal.
 fn is_full(turn: Turn) -> bool
     ensures { result ≡ is_full turn }
 {
     matches!(turn, Turn::Full)
 }
 
-/// Lets time go on by one tick, and answers whether the journal has no room for that.
+/// Advances time by one tick, and returns whether the journal has no room for that.
 fn tick<R: Wait>(rt: &R, desk: &Desk<Board>, pass: &mut Pass<Board>) -> Result<bool, NoMemory>
     requires own { IsOf pass.old desk.now }
     requires whole { IsWhole pass.old.part }
@@ -64,7 +64,7 @@ fn tick<R: Wait>(rt: &R, desk: &Desk<Board>, pass: &mut Pass<Board>) -> Result<b
 }
 
 /// Plays rounds at the desk, each with an entry followed by a tick, until one makes no entry or the
-/// journal has no room, and answers whether it has none.
+/// journal has no room, and returns whether it has none.
 fn play_at<R: Threads + Wait + Sync, D: Driver + Send + Drop, G: Gate + Sync>(
     rt: &R,
     alloc: Global,
@@ -100,7 +100,7 @@ fn play_at<R: Threads + Wait + Sync, D: Driver + Send + Drop, G: Gate + Sync>(
     unreachable!()
 }
 
-/// Plays rounds at a desk over the board, and answers it with whether the journal has no room.
+/// Plays rounds at a desk over the board, and returns it with whether the journal has no room.
 fn play_board<R: Threads + Wait + Sync, D: Driver + Send + Drop, G: Gate + Sync>(
     rt: &R,
     alloc: Global,
@@ -127,7 +127,7 @@ fn play_board<R: Threads + Wait + Sync, D: Driver + Send + Drop, G: Gate + Sync>
 }
 
 /// Plays the site to its end: rounds of all workers, each with an entry followed by a tick. It ends
-/// where a round made no entry and the board is settled, or where the journal has no room. It may
+/// when a round made no entry and the board is settled, or when the journal has no room. It may
 /// wait for as long as its workers do.
 pub fn run_rounds<R: Threads + Wait + Sync, D: Driver + Send + Drop, G: Gate + Sync>(
     rt: &R,

@@ -1,4 +1,4 @@
--- how a change by what was found is the change that is wanted of a queue
+-- a change of the row that was found is the change of its queue in the definitions
 use Rattle.std.proofs.Common.{◌≡◌, List, [], refl, Bool}
 use Rattle.std.specs.Prelude.{find, ◌==◌}
 use Rattle.std.specs.Option.{option_map_or}

@@ -28,7 +28,7 @@ length-jobs_changed jobs.Same rows = refl
 length-jobs_changed (jobs.Put j kept) rows = length-set rows j.0 kept
 length-jobs_changed (jobs.EndNode j n) rows = length-change_at j.0 (with_mark n) rows
 
--- what may take memory makes no job
+-- growth, which may take memory, makes no job
 grown-jobs : (c : Configuration) (maker : Option Maker) (growth : Growth) (s : State) → (grown c maker growth s).jobs ≡ s.jobs
 grown-jobs c maker grow.Nothing s = refl
 grown-jobs c maker (grow.Session role) s = refl

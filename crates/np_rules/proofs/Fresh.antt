@@ -9,7 +9,7 @@ use Rattle.np_lists.proofs.ChangeLemmas.{insert_before-end}
 use Rattle.np_machine.specs.Entries.{RequestEntry, NodeEntry}
 use Rattle.np_machine.specs.Tables.{same_request}
 
--- no request has the next number, of whatever priority
+-- no request of any priority has the next number
 pub fresh-request : (n priority : ℕ) (requests : List RequestEntry) → AllByRecursion (λ e. e.id.seq < n) requests → NonePass (λ e. same_request e.id (record { priority = priority; seq = n })) requests
 fresh-request n priority [] all = tt
 fresh-request n priority (e ∷ requests) all =
@@ -29,6 +29,6 @@ none-after n (e ∷ nodes) all =
     let below : e.id.0 < n = all.0 in
     (grind (arith, nat_tests), none-after n nodes all.1)
 
--- the next node stands after all others
+-- the next node comes after all others
 pub last-node : (n : ℕ) (new : NodeEntry) (nodes : List NodeEntry) → AllByRecursion (λ e. e.id.0 < n) nodes → insert_before (λ e. nat_lt n e.id.0) new nodes ≡ nodes ++ new ∷ []
 last-node n new nodes all = insert_before-end (λ e. nat_lt n e.id.0) new nodes (none-after n nodes all)

@@ -45,7 +45,7 @@ passing-next k f (suc i) (x ∷ xs) d within =
 
 -- ## the numbers, one more node changed
 
--- where a node changes, it was no unused one
+-- a node that changes was no unused one
 module _ (f : NodeEntry → NodeEntry) (is_changed : NodeEntry → Bool) (was_used : (e : NodeEntry) → is_changed e ≡ true → is_unused e ≡ false) (same : (e : NodeEntry) → is_changed e ≡ false → f e ≡ e)
     (nodes : List NodeEntry) (numbers : List ℕ) (i : ℕ) (row : NodeEntry) (within : i < length nodes) (at : row ≡ get_or nodes i row) (are : AreNumbers (count_of is_unused (partly f i nodes)) numbers) where
   further : (p : PoolId) (l : LabelId) → count_of is_unused (partly f (i + 1) nodes) p l + one_of (counts is_unused p l) (Some row) ≡ count_of is_unused (partly f i nodes) p l + one_of (counts is_unused p l) (Some (f row))
@@ -111,7 +111,7 @@ left-used session e hit = by e.queue refl where
 pub left-same : (session : SessionId) (e : NodeEntry) → is_queued session e.queue ≡ false → node_left session e ≡ e
 left-same session e other = ap (λ (queue : List SessionId). record e { queue = queue }) (left_none session e.queue other)
 
--- nobody is left where the session was alone
+-- nobody is left if the session was alone
 pub left_alone : (session : SessionId) (queue : List SessionId) → list_all (λ other. is_session other session) queue ≡ is_none (holder (left session queue))
 left_alone session [] = refl
 left_alone session (other ∷ queue) = by (is_session other session) refl (left_alone session queue) where

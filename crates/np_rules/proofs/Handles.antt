@@ -11,7 +11,7 @@ use Rattle.np_rules.specs.TakenBack.{taken_back}
 
 -- ## a handle that was added is taken back
 
--- the first that passes is the one that was put in
+-- the first that passes is the one that was inserted
 remove-inserted : {X : Type 0} (p before : X → Bool) (new : X) (xs : List X) → p new ≡ true → list_any p xs ≡ false → remove_first p (insert_before before new xs) ≡ xs
 remove-inserted p before new [] here none = rw here refl
 remove-inserted p before new (x ∷ xs) here none = by (before x) refl (p x) refl (λ later. remove-inserted p before new xs here later) where

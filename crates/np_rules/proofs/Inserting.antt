@@ -1,4 +1,5 @@
--- a new member at the place that a search found, and another one at a place that may be
+-- a new member at the place that a search found, and another one at a place that may be past the
+-- end
 use Rattle.std.proofs.Common.{◌≡◌, ℕ, zero, suc, ◌<◌, ◌≤◌, List, [], ◌∷◌, ◌++◌, length, refl, ap, arith, Some, None, Bool, true, false, get_or}
 use Rattle.std.specs.Prelude.{slice_set}
 use Rattle.std.specs.List.{insert, position, position_or_len}
@@ -25,7 +26,7 @@ insert_before-nowhere p new xs is =
     let past : length xs ≤ position_or_len p xs = grind (arith, nat_tests) in
     nowhere p new xs past
 
--- no member stands at a place past the end
+-- no member is at a place past the end
 pub slice_set-past : {X : Type 0} (xs : List X) (i : ℕ) (x : X) → length xs ≤ i → slice_set xs i x ≡ xs
 slice_set-past [] i x past = refl
 slice_set-past (y ∷ xs) zero x past = absurd (omega arith)

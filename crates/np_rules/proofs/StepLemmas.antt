@@ -9,7 +9,7 @@ use Rattle.np_machine.specs.History.{after, Runs}
 use Rattle.np_rules.specs.Ran.{Ran, IsRun}
 use Rattle.np_machine.proofs.Runs.{state_after-push, replayed-push}
 
--- a run goes on by an event with the machine's reply
+-- a run continues with an event and the machine's reply
 pub Runs-next : (c : Configuration) (journal : List Entry) (s : State) (entry : Entry) → Runs c journal s → length journal < 262144 → entry.reply ≡ reply_of (judge c s entry.event) → Runs c (journal ++ entry ∷ []) (next c s entry.event)
 Runs-next c journal s entry runs room replied =
     let own : record { event = entry.event; reply = reply_of (judge c (after c journal) entry.event) } ≡ entry =
@@ -21,7 +21,7 @@ Runs-next c journal s entry runs room replied =
       short = simp length-append (omega arith);
     }
 
--- the machine goes on likewise
+-- the same for the machine
 pub IsRun-next : (m : Ran) (entries : ℕ) (entry : Entry) → IsRun m entries → length m.journal < 262144 → entry.reply ≡ reply_of (judge m.configuration m.state entry.event) → IsRun (record { configuration = m.configuration; journal = m.journal ++ entry ∷ []; state = next m.configuration m.state entry.event }) (entries + 1)
 IsRun-next m entries entry run room replied = record {
   site = run.site;

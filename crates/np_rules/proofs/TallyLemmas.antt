@@ -156,11 +156,11 @@ module _ (test : NodeEntry → Bool) where
 same_kind : (p : PoolId) (l : LabelId) (a b : NodeEntry) → IsSameKind a b → is_kind p l b ≡ is_kind p l a
 same_kind p l a b same = rw (same.pool, same.label) refl
 
--- each stays of its pool and label
+-- each node keeps its pool and label
 pub count-mapped : (f : NodeEntry → NodeEntry) (nodes : List NodeEntry) (numbers : List ℕ) → ((e : NodeEntry) → IsSameKind e (f e)) → AreNumbers (count_of is_any nodes) numbers → AreNumbers (count_of is_any (map f nodes)) numbers
 count-mapped f nodes numbers same are = AreNumbers-same (count_of is_any nodes) (count_of is_any (map f nodes)) numbers (λ p l. passing-mapped (is_kind p l) f nodes (λ e. same_kind p l e (f e) (same e))) are
 
--- ## a session that stands in no queue
+-- ## a session that is in no queue
 
 pub left_none : (session : SessionId) (queue : List SessionId) → is_queued session queue ≡ false → left session queue ≡ queue
 left_none session [] none = refl

@@ -52,7 +52,7 @@ has_room edit.GiveBack k = true
 has_room edit.Fail k = true
 has_room (edit.Revise relative) k = true
 
--- edited where there is room
+-- edited if there is room
 abbrev pub edited_in_room : RequestEdit → RequestRecord → RequestRecord
 edited_in_room change k = if has_room change k then edited change k else k
 

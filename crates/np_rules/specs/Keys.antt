@@ -1,4 +1,5 @@
--- the orders in which rows stand: nodes by number, requests by id, swept pairs by node and then server, jobs by number
+-- the orders of rows: nodes by number, requests by id, swept pairs by node and then server, jobs by
+-- number
 use Rattle.std.proofs.Common.{◌≡◌, arith, true, false, ap, refl}
 use Rattle.std.specs.Prelude.{ℕ, Bool, nat_lt, ◌==◌}
 use Rattle.std.proofs.lemmas.Bool.Decides.{nat_tests}

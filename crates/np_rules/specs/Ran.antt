@@ -21,11 +21,11 @@ pub record Ran : Type 0 where
 abbrev pub has_room : Ran → Bool
 has_room m = nat_lt (length m.journal) 262144
 
--- the machine's reply; full where the journal has no room
+-- the machine's reply; full if the journal has no room
 abbrev pub answer_of : Ran → Event → Reply
 answer_of m e = if has_room m then reply_of (judge m.configuration m.state e) else reply.Refused no.Full
 
--- the entry is recorded and the state goes on; a full machine stays as it is
+-- the entry is recorded and the state advances; a full machine stays as it is
 abbrev pub applied : Ran → Event → Ran
 applied m e = record m {
   journal = if has_room m then m.journal ++ record { event = e; reply = reply_of (judge m.configuration m.state e) } ∷ [] else m.journal;

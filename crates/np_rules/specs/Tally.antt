@@ -1,5 +1,5 @@
--- how many nodes of each pool and label there are, and how many of them are unused, each kept as one list
--- of numbers: 256 labels to a pool
+-- how many nodes of each pool and label there are, and how many of them are unused, each kept as
+-- one list of numbers: 256 labels per pool
 use Rattle.std.specs.Prelude.{◌≡◌, ℕ, ◌+◌, ◌-◌, ◌*◌, ◌&&◌, Bool, true, List, Option, Some, None, nat_lt, length, filter, slice_get, option_and_then, if◌then◌else◌, IfSome}
 use Rattle.np_text.specs.declared.id.PoolId.{PoolId}
 use Rattle.np_text.specs.declared.id.LabelId.{LabelId}
@@ -10,15 +10,15 @@ use Rattle.np_machine.specs.Kinds.{is_ready}
 use Rattle.np_machine.specs.Count.{is_kind}
 use Rattle.np_machine.specs.Reasons.{is_unused}
 
--- where the number of the pool and the label stands, where the label has one
+-- the place of the number of the pool and the label, if the label has one
 abbrev pub tally_place : PoolId → LabelId → Option ℕ
 tally_place p l = if nat_lt l.0 256 then Some (p.0 * 256 + l.0) else None
 
--- the number at a place that may be
+-- the number at a place, if there is one
 abbrev pub number_at : List ℕ → Option ℕ → Option ℕ
 number_at numbers at = option_and_then (λ i. slice_get numbers i) at
 
--- the numbers with that at a place changed, where there is one
+-- the numbers, with the one at a place changed, if there is one
 abbrev pub number_changed : (ℕ → ℕ) → Option ℕ → List ℕ → List ℕ
 number_changed f None numbers = numbers
 number_changed f (Some at) numbers = change_at at f numbers

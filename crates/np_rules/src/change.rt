@@ -25,7 +25,7 @@ pub struct Put<K> {
     pub kept: K,
 }
 
-/// The request's record is edited, where its rows have room.
+/// The request's record is edited, if its rows have room.
 #[derive(Drop)]
 pub struct Edit {
     pub edit: RequestEdit,

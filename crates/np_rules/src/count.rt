@@ -18,7 +18,7 @@ const NOTHING: Amount = Amount {
     ram: 0,
 };
 
-/// The amount as many times as the number says.
+/// The amount times the number.
 fn times(number: usize, amount: Amount) -> Amount
     requires few { number ≤ 262144 }
     requires small { AmountFits amount }

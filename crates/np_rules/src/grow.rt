@@ -1,4 +1,4 @@
-//! What grows in the tables. Each way of growing leaves everything where memory is wanted.
+//! What grows in the tables. If memory runs out, each way of growing leaves everything as it was.
 
 ghost use Rattle.std.specs.Prelude.{◌≡◌, ◌==◌, ◌+◌, ◌++◌, ◌∷◌, [], OnOk, OnErr, IfOk, nat_lt, true, false};
 ghost use Rattle.std.specs.List.{position};
@@ -60,7 +60,7 @@ fn place_after(registrations: &[Registration], pool: PoolId) -> Option<usize>
     registrations.iter().position(|g| pool.0 < g.pool.0)
 }
 
-/// A new registration stands at its pool's place.
+/// A new registration is added at its pool's place.
 fn add_registration(
     registrations: &mut Vec<Registration>,
     new: Registration,
@@ -78,7 +78,7 @@ fn add_registration(
 }
 
 impl Tables {
-    /// What grows. Where memory is wanted, nothing changes.
+    /// What grows. If memory runs out, nothing changes.
     pub(crate) fn grow(
         &mut self,
         config: &Config,
@@ -139,7 +139,7 @@ impl Tables {
         Ok(())
     }
 
-    /// A request of the next number, which nobody holds.
+    /// A request with the next number, which nobody holds.
     fn add_request(&mut self, priority: u16, asked: &Asked) -> Result<(), AllocError>
         requires { TakesRequest self.old }
         ensures ok { OnOk result (self.new ≡ record self.old {
@@ -161,7 +161,7 @@ impl Tables {
         Ok(())
     }
 
-    /// A node of the next number, which the maker holds.
+    /// A node with the next number, which the maker holds.
     fn add_node(&mut self, maker: Option<Maker>, kept: &NodeRecord) -> Result<(), AllocError>
         requires { TakesNode self.old }
         ensures ok { OnOk result (self.new ≡ record self.old {

@@ -1,4 +1,4 @@
-//! The orders of the machine's tables: what a row is found by, and which row stands first.
+//! The orders of the machine's tables: what a row is found by, and which row comes first.
 
 ghost use Rattle.np_machine.specs.Entries.{NodeEntry, RequestEntry};
 ghost use Rattle.np_machine.specs.declared.state.Swept.{Swept};

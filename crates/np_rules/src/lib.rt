@@ -1,12 +1,12 @@
 //! The machine over vectors.
 //!
-//! np_machine defines what each event is answered and the state that it leaves, and np_decision
-//! decides both for whatever keeps a state. `keeper` keeps it in vectors: `tables` has the lists,
-//! `walk` the readers that ask every row, `grow` makes what may take memory and `settle` what may
-//! not fail. `Plain` adds the journal, which always leads to the state.
+//! np_machine defines the reply to each event and the state that it leaves, and np_decision decides
+//! both for anything that keeps a state. `keeper` keeps it in vectors: `tables` has the lists,
+//! `walk` the readers that scan every row, `grow` the changes that may take memory and `settle`
+//! those that may not fail. `Plain` adds the journal, which always leads to the state.
 //!
-//! Requests, nodes and swept pairs stand in the order of their keys (`keys`), and one of them is
-//! changed by one of the changes in `change`. `specs` has only what this code needs beside the
+//! Requests, nodes and swept pairs are in the order of their keys (`keys`), and one of them is
+//! changed by one of the changes in `change`. `specs` has only what this code needs besides the
 //! definitions.
 #![tactic(auto)]
 

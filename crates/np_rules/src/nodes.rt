@@ -1,10 +1,10 @@
 //! The nodes under their locks, with the number of those of each pool and label, and of the unused
 //! ones among them.
 //!
-//! What a pool uses is asked at each node that it makes, and its unused nodes for each request that
-//! waits, so the numbers are kept and not counted anew. A change of one node changes four of them at
-//! most. Where a session leaves its queues, or a request's nodes are freed together, all nodes are
-//! walked, and a number changes for each node that becomes unused.
+//! What a pool uses is read for each node that it makes, and its unused nodes for each request that
+//! waits, so the numbers are kept and not counted anew. A change of one node changes at most four
+//! of them. When a session leaves its queues, or a request's nodes are freed together, all nodes
+//! are scanned, and a number changes for each node that becomes unused.
 
 ghost use Rattle.std.specs.Prelude.{◌≡◌, ◌==◌, ◌≤◌, ◌<◌, ◌^◌, [], IfOk, OnErr, OnOk, find, length, map, nat_lt, option_copied};
 ghost use Rattle.std.specs.List.{list_any};
@@ -50,7 +50,7 @@ impl Model for NodeTable {
     ghost invariant = { λ nodes. IsTally nodes.table nodes.numbers.items nodes.spares.items };
 }
 
-/// Whether the session stands in the queue of a node.
+/// Whether the session is in the queue of a node.
 fn is_queued_at(session: SessionId, nodes: &[NodeEntry]) -> bool
     ensures { result ≡ list_any (λ e. is_queued session e.queue) nodes.now }
 {
@@ -79,7 +79,7 @@ fn count_kind(nodes: &[NodeEntry], pool: PoolId, label: LabelId) -> usize
 }
 
 impl NodeTable {
-    /// No nodes, where there are `pools` pools.
+    /// A table without nodes, for `pools` pools.
     pub(crate) fn new(alloc: Global, pools: usize) -> Result<NodeTable, AllocError>
         requires { pools ≤ 64 }
         ensures { IfOk result (λ nodes. nodes ≡ []) }
@@ -106,7 +106,7 @@ impl NodeTable {
     }
 
     /// How many nodes of the pool and the label there are. Only those of a pool or a label that the
-    /// configuration has not are counted one by one.
+    /// configuration does not have are counted one by one.
     pub(crate) fn number_of(&self, pool: PoolId, label: LabelId) -> usize
         ensures { result ≡ number_of pool label self.now }
     {
@@ -116,9 +116,9 @@ impl NodeTable {
         }
     }
 
-    /// Whether there is an unused node of the pool and the label: ready, allocated to no request and
-    /// unlocked. Only those of a pool or a label that the configuration has not are looked at one by
-    /// one.
+    /// Whether there is an unused node of the pool and the label: ready, allocated to no request
+    /// and unlocked. Only those of a pool or a label that the configuration does not have are
+    /// scanned one by one.
     pub(crate) fn has_spare(&self, pool: PoolId, label: LabelId) -> bool
         ensures { result ≡ list_any (is_spare pool label) self.now }
     {
@@ -187,7 +187,7 @@ impl NodeTable {
         take_one(&mut self.spares, spare);
     }
 
-    /// A new node, of a number that is not there.
+    /// A new node, with a number that is not there.
     pub(crate) fn insert(&mut self, row: NodeEntry) -> Result<(), AllocError>
         requires few { length self.old ≤ 262144 }
         requires fresh { NonePass (λ other. other.id.0 == row.id.0) self.old }

@@ -53,10 +53,10 @@ impl Plain {
         self.journal.as_slice()
     }
 
-    /// What the event is answered: `Full` where the journal has no room. It takes no memory. A node or
-    /// a request is found by binary search, and a create asks the offers of its pool; `lock-request`
-    /// and `mark-deleting` of a ready node ask all requests, `end-node` all jobs, and `min-ready` all
-    /// requests and nodes.
+    /// The reply to the event: `Full` if the journal has no room. It takes no memory. A node or a
+    /// request is found by binary search, and a create scans the offers of its pool; `lock-request`
+    /// and `mark-deleting` of a ready node scan all requests, `end-node` all jobs, and `min-ready`
+    /// all requests and nodes.
     pub fn judge(&self, event: Event) -> Reply
         ensures { result ≡ answer_of self.now event }
     {
@@ -69,9 +69,9 @@ impl Plain {
         }
     }
 
-    /// The event happens: its reply is recorded with it, and the state is the one after it. Where the
-    /// reply is `Full`, and where memory is wanted, nothing changes. It costs what `judge` does; an
-    /// expiry also asks every queue, and what frees a request's nodes asks all nodes.
+    /// The event happens: its reply is recorded with it, and the state is the one after it. If the
+    /// reply is `Full`, or memory runs out, nothing changes. It costs what `judge` does; an expiry
+    /// also scans every queue, and an event that frees a request's nodes scans all nodes.
     pub fn apply(&mut self, event: Event) -> Result<Reply, AllocError>
         ensures reply { IfOk result (λ r. r ≡ answer_of self.old event) }
         ensures ok { OnOk result (self.new ≡ applied self.old event) }

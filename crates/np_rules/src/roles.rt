@@ -17,7 +17,7 @@ use np_changes::{Deed, Maker};
 use np_record::RoleRecord;
 use np_text::Role;
 
-/// One more act of the role at a place, where there is one.
+/// One more act of the role at a place, if there is one.
 fn add_act(roles: &mut Vec<RoleRecord>, at: usize)
     requires { AllByRecursion RoleFits roles.old.items }
     ensures { roles.new.items ≡ change_at at one_more_act roles.old.items }
@@ -42,7 +42,7 @@ fn struck(role: RoleRecord, counted: bool) -> RoleRecord
     RoleRecord { strikes, ..role }
 }
 
-/// One more strike of the role at a place, where there is one, unless it was counted.
+/// One more strike of the role at a place, if there is one, unless it was counted.
 fn add_strike(roles: &mut Vec<RoleRecord>, at: usize, counted: bool)
     requires { AllByRecursion RoleFits roles.old.items }
     ensures { roles.new.items ≡ change_at at (struck_unless counted) roles.old.items }
@@ -54,7 +54,7 @@ fn add_strike(roles: &mut Vec<RoleRecord>, at: usize, counted: bool)
     *role = struck(*role, counted);
 }
 
-/// One more start and one more act of the role at a place, where there is one.
+/// One more start and one more act of the role at a place, if there is one.
 fn add_start(roles: &mut Vec<RoleRecord>, at: usize)
     requires { AllByRecursion RoleFits roles.old.items }
     ensures { roles.new.items ≡

@@ -148,7 +148,7 @@ fn release(handles: &mut Vec<HandleTable>, config: &Config, job: JobId)
     }
 }
 
-/// The session is heard no more.
+/// The session is mute from now on.
 fn mute(sessions: &mut Vec<SessionFacts>, session: SessionId)
     ensures { sessions.new.items ≡ change_session session muted sessions.old.items }
 {
@@ -172,7 +172,7 @@ fn expire(sessions: &mut Vec<SessionFacts>, session: SessionId)
     facts.live = false;
 }
 
-/// The session's registration goes.
+/// The session's registration is removed.
 fn drop_registrations(registrations: &mut Vec<Registration>, session: SessionId)
     ensures { registrations.new.items ≡
         filter (λ g. not (is_session g.session session)) registrations.old.items }

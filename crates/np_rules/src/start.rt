@@ -56,7 +56,7 @@ fn count_jobs(config: &Config) -> usize
     count as usize
 }
 
-/// So many roles that have done nothing.
+/// `count` roles that have done nothing.
 fn idle_roles(alloc: Global, count: usize) -> Result<Vec<RoleRecord>, AllocError>
     ensures { IfOk result (λ roles. roles.items ≡ replicate count no_deeds) }
 {
@@ -71,7 +71,7 @@ fn idle_roles(alloc: Global, count: usize) -> Result<Vec<RoleRecord>, AllocError
     Ok(roles)
 }
 
-/// So many jobs that nobody has begun.
+/// `count` jobs that nobody has begun.
 fn new_jobs(alloc: Global, count: usize) -> Result<Vec<JobRecord>, AllocError>
     ensures { IfOk result (λ jobs. jobs.items ≡ replicate count new_job) }
 {
@@ -88,7 +88,7 @@ fn new_jobs(alloc: Global, count: usize) -> Result<Vec<JobRecord>, AllocError>
     Ok(jobs)
 }
 
-/// So many semaphores of which nobody has a handle.
+/// `count` semaphores of which nobody has a handle.
 fn no_handles(alloc: Global, count: usize) -> Result<Vec<HandleTable>, AllocError>
     ensures { IfOk result (λ handles. handles.items ≡ replicate {A = List JobId} count []) }
 {

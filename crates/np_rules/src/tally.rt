@@ -13,7 +13,7 @@ use np_record::NodeRecord;
 use np_text::{LABELS, LabelId, NodeState, PoolId, RequestId, SessionId};
 use std::alloc::{AllocError, Global};
 
-/// Where the number of the pool and the label stands, where the label has one.
+/// The place of the number of the pool and the label, if the label has one.
 pub(crate) fn tally_place(pool: PoolId, label: LabelId) -> Option<usize>
     ensures { result ≡ tally_place pool label }
 {
@@ -67,7 +67,7 @@ fn freed_place(request: RequestId, row: &NodeEntry) -> Option<usize>
     unused_place(&row.kept, true, holder_of(row.queue.items()).is_none())
 }
 
-/// Whether nobody but the session stands in the queue.
+/// Whether nobody but the session is in the queue.
 fn is_alone(queue: &[SessionId], session: SessionId) -> bool
     ensures { result ≡ list_all (λ other. is_session other session) queue.now }
 {
@@ -88,14 +88,14 @@ fn left_place(session: SessionId, row: &NodeEntry) -> Option<usize>
     )
 }
 
-/// The number at a place that may be.
+/// The number at a place, if there is one.
 pub(crate) fn number_at(numbers: &[usize], at: Option<usize>) -> Option<usize>
     ensures { result ≡ number_at numbers.now at }
 {
     numbers.get(at?).copied()
 }
 
-/// One more at a place, where there is one.
+/// One more at a place, if there is one.
 pub(crate) fn add_one(numbers: &mut Vec<usize>, at: Option<usize>)
     requires { IfSome (number_at numbers.old.items at) (λ n. n + 1 < 2 ^ 64) }
     ensures { numbers.new.items ≡ number_changed (λ n. n + 1) at numbers.old.items }
@@ -110,7 +110,7 @@ pub(crate) fn add_one(numbers: &mut Vec<usize>, at: Option<usize>)
     *number += 1;
 }
 
-/// One less at a place, where there is one.
+/// One less at a place, if there is one.
 pub(crate) fn take_one(numbers: &mut Vec<usize>, at: Option<usize>)
     ensures { numbers.new.items ≡ number_changed (λ n. n - 1) at numbers.old.items }
 {
@@ -124,7 +124,7 @@ pub(crate) fn take_one(numbers: &mut Vec<usize>, at: Option<usize>)
     *number = number.saturating_sub(1);
 }
 
-/// One less at a place, and then one more at another, where there are such.
+/// One less at a place, and then one more at another, each if there is one.
 pub(crate) fn move_one(numbers: &mut Vec<usize>, before: Option<usize>, after: Option<usize>)
     requires { IfSome (number_at (number_changed (λ n. n - 1) before numbers.old.items) after)
         (λ n. n + 1 < 2 ^ 64) }
@@ -134,7 +134,7 @@ pub(crate) fn move_one(numbers: &mut Vec<usize>, before: Option<usize>, after: O
     add_one(numbers, after);
 }
 
-/// The nodes that become unused ones when the request's are freed are counted.
+/// The nodes that become unused when the request's are freed are counted.
 pub(crate) fn count_freed(spares: &mut Vec<usize>, nodes: &[NodeEntry], request: RequestId)
     requires few { length nodes.now < 2 ^ 64 }
     requires counted { AreNumbers (count_of is_unused nodes.now) spares.old.items }
@@ -145,7 +145,7 @@ pub(crate) fn count_freed(spares: &mut Vec<usize>, nodes: &[NodeEntry], request:
     }
 }
 
-/// The nodes that become unused ones when the session leaves every queue are counted.
+/// The nodes that become unused when the session leaves every queue are counted.
 pub(crate) fn count_left(spares: &mut Vec<usize>, nodes: &[NodeEntry], session: SessionId)
     requires few { length nodes.now < 2 ^ 64 }
     requires counted { AreNumbers (count_of is_unused nodes.now) spares.old.items }
@@ -156,7 +156,7 @@ pub(crate) fn count_left(spares: &mut Vec<usize>, nodes: &[NodeEntry], session: 
     }
 }
 
-/// As many zeros as `count`.
+/// `count` zeros.
 pub(crate) fn zeros(alloc: Global, count: usize) -> Result<Vec<usize>, AllocError>
     ensures { IfOk result (λ numbers. numbers.items ≡ replicate count 0) }
 {

@@ -1,4 +1,4 @@
-//! The readers that ask every row of a table.
+//! The readers that scan every row of a table.
 
 ghost use Rattle.std.specs.Prelude.{◌≡◌, ◌<◌, ◌≤◌, ◌^◌, ◌&&◌, IfSome, length, option_copied};
 ghost use Rattle.std.specs.List.{list_any, position};
@@ -102,7 +102,7 @@ impl Tables {
         ready + coming
     }
 
-    /// Whether the request waits for room in the pool that uses so much.
+    /// Whether the request waits for room in the pool, which uses `used`.
     fn is_stuck(&self, config: &Config, pool: PoolId, used: Amount, entry: &RequestEntry) -> bool
         requires used { used ≡ count_of config.now self.now pool }
         requires instances { used.instances < 2 ^ 63 }
@@ -117,7 +117,7 @@ impl Tables {
         }
     }
 
-    /// Whether a request that is pending by the pool, which uses so much, waits for room.
+    /// Whether a request that is pending by the pool, which uses `used`, waits for room.
     pub(crate) fn is_paused(&self, config: &Config, pool: PoolId, used: Amount) -> bool
         requires used { used ≡ count_of config.now self.now pool }
         requires instances { used.instances < 2 ^ 63 }

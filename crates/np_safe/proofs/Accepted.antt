@@ -1,4 +1,4 @@
--- what an accepted event says of holders before it
+-- what an accepted event implies for the holders before it
 use Rattle.std.proofs.Common.{◌≡◌, ℕ, Bool, true, false, not, arith, Some, None, Ok, Err}
 use Rattle.std.specs.Prelude.{slice_get}
 use Rattle.std.proofs.lemmas.Bool.Decides.{nat_tests}
@@ -26,7 +26,7 @@ use Rattle.np_machine.specs.Request.{judge_lock_request}
 use Rattle.np_machine.specs.Node.{judge_take_ready, judge_create, judge_start, judge_done, place_reply, judge_lock_node, judge_end_node, judge_mark_deleting, judge_free_node}
 use Rattle.np_machine.specs.Semaphore.{unheld, judge_take}
 
--- what four tests that passed are followed by
+-- what follows four tests that passed
 four-passed : {A E : Type 0} (a b c d : Bool) (first second third fourth : E) (answer what : A) → (need a first >> (need b second >> (need c third >> (need d fourth >> Ok answer)))) ≡ Ok what → what ≡ answer
 four-passed true true true true first second third fourth answer what is = cc
 four-passed true true true false first second third fourth answer what is = absurd cc

@@ -57,7 +57,7 @@ request-grown c maker _ s r other = refl
 pub grown-request : (c : Configuration) (maker : Option Maker) (g : Growth) (s : State) (r : RequestId) → NoRequest g → request_in r (grown c maker g s).requests ≡ request_in r s.requests
 grown-request c maker g s r none = request-grown c maker g s r (λ priority asked is. absurd (subst (λ (x : Growth). NoRequest x) is none))
 
--- such is one with an earlier number
+-- the same for a request with an earlier number
 pub found-grown : (c : Configuration) (s : State) (maker : Option Maker) (growth : Growth) (r : RequestId) → r.seq < s.next_request → request_in r (grown c maker growth s).requests ≡ request_in r s.requests
 found-grown c s maker growth r low = request-grown c maker growth s r (λ priority asked is. grind (arith, nat_tests))
 
@@ -78,7 +78,7 @@ next-more c maker (grow.Registration p) s =
     omega arith
 next-more c maker _ s = omega arith
 
--- nor does that of a request
+-- neither does that of a request
 pub next-grown : (c : Configuration) (maker : Option Maker) (g : Growth) (s : State) → s.next_request ≤ (grown c maker g s).next_request
 next-grown c maker (grow.Request priority asked) s = omega arith
 next-grown c maker (grow.Registration p) s =
@@ -88,7 +88,7 @@ next-grown c maker _ s = omega arith
 
 -- ## what happens to requests
 
--- no request changes: nothing, or a session leaves a queue
+-- no request changes: nothing happens, or a session leaves a queue
 abbrev pub IsCalm : RequestsChange → Type 0
 IsCalm requests.Same = Unit {0}
 IsCalm (requests.Leave r) = Unit {0}

@@ -37,17 +37,17 @@ use Rattle.np_safe.proofs.Lookups.{same_request-is, same_request-self, request_i
 use Rattle.np_safe.proofs.Numbered.{grown-numbered}
 use Rattle.np_safe.proofs.After.{found-grown, next-grown, left-request}
 
--- the node stands and is allocated to the request
+-- the node exists and is allocated to the request
 record IsGivenTo (rows : List NodeEntry) (n : NodeId) (r : RequestId) : Type 0 where
   node : NodeRecord
   stands : node_in n rows ≡ Some node
   given : node.allocated_to ≡ Some r
 
--- as it was found elsewhere
+-- the same in rows where the look-up finds the same
 given-same : (rows later : List NodeEntry) (n : NodeId) (r : RequestId) → node_in n later ≡ node_in n rows → IsGivenTo later n r → IsGivenTo rows n r
 given-same rows later n r same is = record { node = is.node; stands = sym same ∙ is.stands; given = is.given }
 
--- a change of records that gives nothing anew
+-- a change of records that allocates no node anew
 given-changed : (rows later : List NodeEntry) (f : NodeRecord → NodeRecord) (n : NodeId) (r : RequestId) → node_in n later ≡ option_map f (node_in n rows) → ((k : NodeRecord) → node_in n rows ≡ Some k → (f k).allocated_to ≡ Some r → k.allocated_to ≡ Some r) → IsGivenTo later n r → IsGivenTo rows n r
 given-changed rows later f n r found back is = by (node_in n rows) refl where
   by : (o : Option NodeRecord) → node_in n rows ≡ o → IsGivenTo rows n r
@@ -124,7 +124,7 @@ nodes-given_after_end (sessions.End over) rows n r is = given-same rows _ n r (n
 
 -- ## what grows gives a node to a request that gains it
 
--- given before, or given now to the request that gains the node
+-- allocated before, or now to the request that gains the node
 abbrev GivenBy : Configuration → State → Changes → NodeId → RequestId → Type 0
 GivenBy c s ch n r = IsGivenTo s.nodes n r ⊎ Gains c s ch r n
 

@@ -40,7 +40,7 @@ module _ (c : Configuration) where
   abbrev AreAttempted : List NodeEntry → Type 0
   AreAttempted rows = AllByRecursion (λ e. IsAttempted c e.kept) rows
 
-  -- what the node that is found has
+  -- the same for the node that is found
   found-attempted : (n : NodeId) (node : NodeRecord) (rows : List NodeEntry) → AreAttempted rows → node_in n rows ≡ Some node → IsAttempted c node
   found-attempted n node rows all is = by (node_entry n rows) refl is where
     by : (o : Option NodeEntry) → node_entry n rows ≡ o → option_map (λ (e : NodeEntry). e.kept) o ≡ Some node → IsAttempted c node

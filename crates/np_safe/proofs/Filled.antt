@@ -1,4 +1,4 @@
--- a request whose every place is filled owns its labels
+-- a request with every place filled owns its labels
 use Rattle.std.proofs.Common.{◌≡◌, ◌∙◌, sym, ℕ, zero, suc, ◌+◌, ◌≤◌, le_antisymm, Bool, true, false, cond, List, [], ◌∷◌, length, refl, ap, arith, subst₂, eqb-true, Option, Some, None}
 use Rattle.std.specs.Prelude.{◌==◌, ◌&&◌, slice_get}
 use Rattle.std.specs.Option.{option_map}
@@ -20,7 +20,7 @@ use Rattle.np_machine.specs.Safe.{IsGiven, OwnsItsLabels}
 use Rattle.np_machine.specs.State.{State}
 use Rattle.np_safe.specs.Parts.{IsServed}
 
--- what no place lacks
+-- if nothing is lacking, this place is filled and the others lack nothing
 no-lack : (b : Bool) (more : ℕ) → cond b 0 1 + more ≡ 0 → (b ≡ true) × (more ≡ 0)
 no-lack true more none = (refl, omega arith)
 no-lack false more none = absurd (omega arith)
@@ -43,7 +43,7 @@ module _ (p : PoolId) (session : SessionId) (r : RequestId) (rows : List NodeEnt
       let rest : length labels ≤ length numbers = filled-many labels numbers ((no-lack (is_filled p session r k (node_entry m rows)) (unfilled p session r rows labels numbers) none).1) in
       omega arith
 
--- the node is given to the request, by the number of another pool
+-- the node is allocated to the request, by the number of another pool
 pub filled-given : (s : State) (p other : PoolId) (session : SessionId) (r : RequestId) (n : NodeId) (l : LabelId) → p.0 ≡ other.0 → is_filled p session r l (node_entry n s.nodes) ≡ true → IsGiven s r other n l
 filled-given s p other session r n l same is = by (node_entry n s.nodes) refl is where
   by : (o : Option NodeEntry) → node_entry n s.nodes ≡ o → is_filled p session r l o ≡ true → IsGiven s r other n l

@@ -17,7 +17,7 @@ and-apart true y both is = absurd cc
 pub session-is : (a b : SessionId) → is_session a b ≡ true → a ≡ b
 session-is a b is = ap (λ (k : ℕ). let x : SessionId = record { 0 = k } in x) (eqb-true a.0 b.0 is)
 
--- one session at most is named
+-- at most one session is named
 pub one-named : (a b : SessionId) (o : Option SessionId) → is_session_of a o ≡ true → is_session_of b o ≡ true → a.0 ≡ b.0
 one-named a b None first second = absurd cc
 one-named a b (Some other) first second = sym (eqb-true other.0 a.0 first) ∙ eqb-true other.0 b.0 second
@@ -30,7 +30,7 @@ is_first session queue = is_session_of session (holder queue)
 pub first-in : {a b : List SessionId} (session : SessionId) → a ≡ b → is_first session b ≡ true → is_first session a ≡ true
 first-in session same first = ap (λ (queue : List SessionId). is_first session queue) same ∙ first
 
--- who joins stands behind
+-- a session that joins goes behind the others
 pub first-joined : (session by : SessionId) (queue : List SessionId) → is_first session queue ≡ true → is_first session (joined by queue) ≡ true
 first-joined session by [] first = absurd cc
 first-joined session by (other ∷ queue) first = place (is_queued by (other ∷ queue)) where
@@ -41,7 +41,7 @@ first-joined session by (other ∷ queue) first = place (is_queued by (other ∷
 apart : (a b k : ℕ) → (a == k) ≡ true → (b == k) ≡ false → (a == b) ≡ false
 apart a b k is not_so = grind (arith, nat_tests)
 
--- another leaves
+-- another session leaves
 pub first-left : (session by : SessionId) (queue : List SessionId) → is_session by session ≡ false → is_first session queue ≡ true → is_first session (left by queue) ≡ true
 first-left session by [] other_one first = absurd cc
 first-left session by (other ∷ queue) other_one first = rw (apart other.0 by.0 session.0 first other_one) first
@@ -54,7 +54,7 @@ waits : (k : ℕ) (b : Bool) → (suc k == 0) ≡ b → is_held (cond b done.Hel
 waits k true is held = let zero_now = eqb-true (suc k) 0 is in omega arith
 waits k false is held = cc
 
--- with nobody before it the session is first, or was before
+-- a session with nobody before it is first after joining, or was already
 pub first-held : (session : SessionId) (queue : List SessionId) → is_held (place_reply (ahead_of session queue)) ≡ true → is_first session (joined session queue) ≡ true
 first-held session [] held = eq-eqb session.0 session.0 refl
 first-held session (other ∷ queue) held = at_head (is_session other session) refl held where

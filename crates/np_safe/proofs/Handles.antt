@@ -1,4 +1,4 @@
--- no semaphore passes its max, and no job has two handles of one
+-- no semaphore exceeds its max, and no job has two handles of one
 use Rattle.std.proofs.Common.{◌≡◌, ◌⊎◌, ℕ, zero, suc, ◌<◌, ◌≤◌, ◌==◌, ◌&&◌, ◌||◌, not, Bool, true, false, cond, List, [], ◌∷◌, map, filter, fold, length, slice_get, unwrap_or, nat_lt, Option, Some, None, refl, sym, ap, ◌∙◌, subst, inl, inr, arith, leb-false, eq-eqb}
 use Rattle.std.specs.Option.{option_map_or}
 use Rattle.std.specs.List.{AllByRecursion, list_any}
@@ -77,7 +77,7 @@ NoRepeat-filter : (p : JobId → Bool) (jobs : List JobId) → NoRepeat jobs →
 NoRepeat-filter p [] apart = tt
 NoRepeat-filter p (k ∷ jobs) apart = filter-by k (filter p jobs) (p k) (is_among-filter p k jobs apart.0) (NoRepeat-filter p jobs apart.1)
 
--- ## the jobs of one semaphore, where jobs of some change
+-- ## the jobs of one semaphore, when jobs of some change
 
 change-at : (P : List JobId → Type 0) (f : List JobId → List JobId) (i j : ℕ) (rows : List (List JobId)) → (i ≡ j → (jobs : List JobId) → P jobs → P (f jobs))
     → P (unwrap_or (slice_get rows j) []) → P (unwrap_or (slice_get (change_at i f rows) j) [])
@@ -92,7 +92,7 @@ changed-all : (P : List JobId → Type 0) (f : List JobId → List JobId) (x : S
 changed-all P f x [] rows each old = old
 changed-all P f x (y ∷ semaphores) rows each old = changed-all P f x semaphores (change_at y.0 f rows) each.1 (change-at P f y.0 x.0 rows each.0 old)
 
--- each job once, and no more of them than may
+-- each job once, and no more jobs than allowed
 record AreFew (most : ℕ) (jobs : List JobId) : Type 0 where
   apart : NoRepeat jobs
   few : length jobs ≤ most
@@ -118,7 +118,7 @@ abbrev HasPlace : JobId → ℕ → List JobId → Type 0
 HasPlace j most jobs = (is_among j jobs ≡ true) ⊎ (length jobs < most)
 
 module _ (j : JobId) (most : ℕ) (Ready : Type 0) where
-  -- within, and with a place for the job where the job may have one
+  -- within the maximum, and with a place for the job if the job may have one
   record MayTake (jobs : List JobId) : Type 0 where
     within : AreFew most jobs
     place : Ready → HasPlace j most jobs

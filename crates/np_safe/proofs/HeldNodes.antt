@@ -1,4 +1,4 @@
--- who is first at a node stays first, where the changes do not take that away
+-- who is first at a node stays first, if the changes do not take that away
 use Rattle.std.proofs.Common.{◌≡◌, sym, refl, subst, ℕ, List, [], ◌∷◌, ◌++◌, Option, Some, None, Bool, true, false, ◌==◌, cond}
 use Rattle.np_text.specs.declared.id.SessionId.{SessionId}
 use Rattle.np_text.specs.declared.id.NodeId.{NodeId}
@@ -28,7 +28,7 @@ module _ (session : SessionId) (n : NodeId) where
   pub record IsFirstAt (rows : List NodeEntry) : Type 0 where
     pub first : is_session_of session (node_holder n rows) ≡ true
 
-  -- where somebody is first, the node stands
+  -- if somebody is first, the node exists
   stands : (rows : List NodeEntry) → IsFirstAt rows → (k : NodeRecord) × (node_in n rows ≡ Some k)
   stands rows held = by (node_in n rows) refl where
     by : (o : Option NodeRecord) → node_in n rows ≡ o → (k : NodeRecord) × (node_in n rows ≡ Some k)
@@ -47,7 +47,7 @@ module _ (session : SessionId) (n : NodeId) where
         by true is = new is
         by false is = held.first
 
-  -- the same of the queue that is found
+  -- the same for the queue that is found
   at-node : (m : NodeId) (rows : List NodeEntry) → IsFirstAt rows → (m.0 == n.0) ≡ true → is_first session (node_queue m rows) ≡ true
   at-node m rows held is = subst (λ (x : NodeId). is_first session (node_queue x rows) ≡ true) (sym (same_node-is m n is)) held.first
 

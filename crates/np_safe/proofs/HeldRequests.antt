@@ -1,4 +1,4 @@
--- who locked a request stays the first at it while it stands, where the changes do not take that away
+-- who locked a request stays first at it while it exists, if the changes do not take that away
 use Rattle.std.proofs.Common.{◌≡◌, ◌∙◌, sym, ap, refl, subst, ℕ, ◌<◌, List, arith, Option, Some, None, Bool, true, false, cond, is_some}
 use Rattle.std.proofs.lemmas.Bool.Decides.{nat_tests}
 use Rattle.np_text.specs.declared.id.SessionId.{SessionId}
@@ -30,7 +30,7 @@ earlier : (priority : ℕ) (s : State) (r : RequestId) → r.seq < s.next_reques
 earlier priority s r before = grind (arith, nat_tests)
 
 module _ (session : SessionId) (r : RequestId) where
-  -- the session is first at the request, where that stands
+  -- the session is first at the request, if it exists
   pub record IsFirstThere (rows : List RequestEntry) : Type 0 where
     pub first : is_some (request_in r rows) ≡ true → is_session_of session (request_holder r rows) ≡ true
 
@@ -49,7 +49,7 @@ module _ (session : SessionId) (r : RequestId) where
           place true same first = new same first
           place false same first = first
 
-  -- the same of the queue that is found
+  -- the same for the queue that is found
   at-request : (q : RequestId) (rows : List RequestEntry) → same_request q r ≡ true → is_first session (request_queue r rows) ≡ true → is_first session (request_queue q rows) ≡ true
   at-request q rows is first = subst (λ (x : RequestId). is_first session (request_queue x rows) ≡ true) (sym (same_request-is q r is)) first
 

@@ -1,4 +1,4 @@
--- who holds a node or a request by an accepted entry is first at it after that
+-- a session that holds a node or a request by an accepted entry is first at it afterwards
 use Rattle.std.proofs.Common.{◌≡◌, ◌∙◌, sym, ap, refl, subst, ◌+◌, ◌<◌, List, [], ◌∷◌, ◌++◌, arith, Option, Some, None, Result, Ok, Err, Bool, true, false, ◌&&◌, ◌||◌, ◌==◌, not, cond, is_ok, map, slice_get, le_of_eq}
 use Rattle.std.specs.Option.{option_map_or}
 use Rattle.std.specs.List.{AllByRecursion, list_any}
@@ -76,7 +76,7 @@ module _ (c : Configuration) (s : State) (e : Event) (what : Done) (is : judge c
       subst (λ (t : State). IsFirstThere session r t.requests) (plan-next c s e is_accepted)
       (HeldRequests.changed-first session r c s (plan c s e) before rises ((takes-as_said c s e).of_request session r on) held)
 
-  -- the same of a session and a node with the same numbers
+  -- the same for a session and a node with the same numbers
   same-names : (by session : SessionId) (m n : NodeId) (rows : List NodeEntry) → is_session by session ≡ true → is_node n m ≡ true → IsFirstAt by m rows → IsFirstAt session n rows
   same-names by session m n rows one other held = record {
     first =
@@ -110,7 +110,7 @@ take_ready-first c s by r n what is =
 create-rows : (c : Configuration) (s : State) (by : SessionId) (r : RequestId) (p : PoolId) (request : RequestRecord) (l : LabelId) → launcher s by ≡ Ok p → request_in r s.requests ≡ Some request → next_label request ≡ Some l → (effect_create c s by r).nodes ≡ s.nodes ++ made c s by r p request l ∷ []
 create-rows c s by r p request l who has wants = rw (who, has, wants) refl
 
--- the maker is the queue of the node that is made
+-- the maker alone is in the queue of the node that is made
 create-queue : (c : Configuration) (s : State) (by : SessionId) (r : RequestId) (n : NodeId) (p : PoolId) (request : RequestRecord) (l : LabelId) → AllByRecursion (λ e. e.id.0 < s.next_node) s.nodes → launcher s by ≡ Ok p → request_in r s.requests ≡ Some request → next_label request ≡ Some l → (s.next_node == n.0) ≡ true → node_queue n (effect_create c s by r).nodes ≡ by ∷ []
 create-queue c s by r n p request l below who has wants number =
     let fresh : node_in n s.nodes ≡ None = node_in-later n s.next_node s.nodes below (le_of_eq (eqb-true s.next_node n.0 number)) in
@@ -154,7 +154,7 @@ lock_request-first c s by r what is =
 
 -- ## the nodes of a job
 
--- where the session holds each of the nodes, it holds one of them
+-- a session that holds each of the nodes holds a given one of them
 pub one-held : (s : State) (by : SessionId) (n : NodeId) (numbers : List NodeId) → list_any (λ m. m.node.0 == n.0) (map unended numbers) ≡ true → unheld s by numbers ≡ 0 → is_session_of by (node_holder n s.nodes) ≡ true
 one-held s by n [] marked none = absurd cc
 one-held s by n (m ∷ numbers) marked none =

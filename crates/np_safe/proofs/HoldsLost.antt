@@ -1,4 +1,5 @@
--- what the changes of an event take away: a hold on a node or a request only from whom the event says
+-- what the changes of an event take away: a hold on a node or a request, only from the session that
+-- the event says
 use Rattle.std.proofs.Common.{◌≡◌, refl, Bool, true, false, ◌&&◌, ◌==◌, Option, Some, None, Result, is_some, slice_get}
 use Rattle.std.proofs.lemmas.Bool.{and_parts}
 use Rattle.np_text.specs.declared.id.SessionId.{SessionId}
@@ -32,7 +33,7 @@ use Rattle.np_safe.proofs.Through.{plan-found, plan-given, plan-made}
 
 -- ## what the session keeps
 
--- another session leaves, or leaves another node
+-- another session leaves, or the session leaves another node
 abbrev pub LeavesOther : SessionId → NodeId → Option Maker → NodeId → Type 0
 LeavesOther session n None m = Unit {0}
 LeavesOther session n (Some by) m = (is_session by.session session && (m.0 == n.0)) ≡ false
@@ -45,19 +46,19 @@ NodeStays session n maker (nodes.Leave m) = LeavesOther session n maker m
 NodeStays session n maker (nodes.FreeAll r) = Unit {0}
 NodeStays session n maker (nodes.TakeOver numbers) = Unit {0}
 
--- another session leaves, or leaves another request
+-- another session leaves, or the session leaves another request
 abbrev pub UnlocksOther : SessionId → RequestId → Option Maker → RequestId → Type 0
 UnlocksOther session r None q = Unit {0}
 UnlocksOther session r (Some by) q = (is_session by.session session && same_request q r) ≡ false
 
--- a request may be removed, where nothing grows beside that
+-- a request may be removed if nothing grows at the same time
 abbrev pub RequestStays : SessionId → RequestId → Option Maker → Growth → RequestsChange → Type 0
 RequestStays session r maker grows requests.Same = Unit {0}
 RequestStays session r maker grows (requests.Edit q change) = Unit {0}
 RequestStays session r maker grows (requests.Remove q) = grows ≡ grow.Nothing
 RequestStays session r maker grows (requests.Leave q) = UnlocksOther session r maker q
 
--- another session ends, or none
+-- another session ends, or none does
 abbrev pub SessionStays : SessionId → SessionsChange → Type 0
 SessionStays session sessions.Same = Unit {0}
 SessionStays session (sessions.Mute other) = Unit {0}
@@ -71,7 +72,7 @@ pub record KeepsRequest (session : SessionId) (r : RequestId) (ch : Changes) : T
   pub place : RequestStays session r ch.maker ch.grows ch.requests
   pub lives : SessionStays session ch.sessions
 
--- a session keeps what the event does not say that it loses
+-- a session keeps everything that the event does not say it loses
 pub record TakesAsSaid (e : Event) (ch : Changes) : Type 0 where
   pub of_node : (session : SessionId) (n : NodeId) → is_ending session n e ≡ false → KeepsNode session n ch
   pub of_request : (session : SessionId) (r : RequestId) → is_unlocking session r e ≡ false → KeepsRequest session r ch

@@ -74,7 +74,7 @@ module _ (c : Configuration) (s : State) (ch : Changes) (numbered : IsNumbered s
     by true = refl
     by false = is
 
-  -- a request that goes is no request of a job whose record stays
+  -- a request that is removed is no request of a job whose record stays
   goes-not : (r : RequestId) (q : RequestRecord) (j : JobId) → ((later : JobRecord) → ch.jobs ≡ jobs.Put j later → ⊥) → request_in r s.requests ≡ Some q → q.job ≡ Some j → RequestsPremise c s ch (requests.Remove r) → ⊥
   goes-not r q j stays there names (inl goes) =
       let found : Some goes.fulfils.request ≡ Some q = sym goes.fulfils.worked_on.stands ∙ there in
@@ -94,7 +94,7 @@ module _ (c : Configuration) (s : State) (ch : Changes) (numbered : IsNumbered s
       let same : goes.number ≡ j = named-by r q j goes.number goes.kept there names goes.withdraws.stands goes.of_job goes.withdraws.unstarted in
       stays _ (goes.withdraws.puts ∙ ap (λ (x : JobId). jobs.Put x (record goes.kept { ending = Some ending.Withdrawn; phase = phase.Over })) same)
 
-  -- the request of a job whose record stays, stays
+  -- if the record of a job stays, its request stays
   request-on : (maker : Option Maker) (rows : List RequestEntry) (r : RequestId) (q : RequestRecord) (j : JobId) → ((later : JobRecord) → ch.jobs ≡ jobs.Put j later → ⊥) → request_in r rows ≡ request_in r s.requests → request_in r s.requests ≡ Some q → q.job ≡ Some j
       → (change : RequestsChange) → RequestsPremise c s ch change → (later : RequestRecord) × ((request_in r (requests_changed maker change rows) ≡ Some later) × (later.job ≡ Some j))
   request-on maker rows r q j stays same there names requests.Same premise = (q, (same ∙ there, names))
@@ -109,7 +109,7 @@ module _ (c : Configuration) (s : State) (ch : Changes) (numbered : IsNumbered s
   request-on None rows r q j stays same there names (requests.Leave x) premise = (q, (same ∙ there, names))
   request-on (Some maker) rows r q j stays same there names (requests.Leave x) premise = (q, (request_in-queue x r (left maker.session (request_queue x rows)) rows ∙ same ∙ there, names))
 
-  -- where a request grows, nothing happens to others
+  -- if a request grows, nothing happens to others
   alone : (priority : ℕ) (asked : Asked) → ch.grows ≡ grow.Request priority asked → (change : RequestsChange) → RequestsPremise c s ch change → change ≡ requests.Same
   alone priority asked grows requests.Same premise = refl
   alone priority asked grows (requests.Edit r (edit.Serve p)) premise = absurd (let e : grow.Request priority asked ≡ grow.Nothing = sym grows ∙ premise.same_size in cc)

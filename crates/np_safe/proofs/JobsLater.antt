@@ -45,7 +45,7 @@ set-other (z ∷ xs) zero (suc j) x other = refl
 set-other (z ∷ xs) (suc i) zero x other = refl
 set-other (z ∷ xs) (suc i) (suc j) x other = set-other xs i j x (λ same. other (ap suc same))
 
--- a job but for its nodes
+-- a job without its nodes
 abbrev pub bare : JobRecord → JobRecord
 bare job = record job { nodes = [] }
 
@@ -60,7 +60,7 @@ some-bare : (o : Option JobRecord) (job : JobRecord) → option_map bare o ≡ S
 some-bare None job is = absurd cc
 some-bare (Some x) job is = (x, (refl, let same : bare x ≡ bare job = cc in same))
 
--- a job later: as it was but for marks, or put
+-- a job later: as it was except for marks, or put
 abbrev pub JobLater : Configuration → State → Changes → JobId → JobRecord → JobRecord → Type 0
 JobLater c s ch j job later =
     ((bare later ≡ bare job) × ((put : JobRecord) → ch.jobs ≡ jobs.Put j put → ⊥)) ⊎ ((put : PutsJob c s ch j later) × ((ch.jobs ≡ jobs.Put j later) × (put.kept ≡ job)))

@@ -123,7 +123,7 @@ module _ (c : Configuration) (s : State) (ch : Changes) (inv : Invariant c s) wh
   taken-ready r takes n k among stands =
       (owned-node s r takes.request (owns-if s r takes.request takes.request.state takes.fulfilled (inv.owned.requests r takes.request takes.request_stands)) n k among stands).0
 
-  -- where nothing grows
+  -- if nothing grows
   sized : (change : NodesChange) → ch.grows ≡ grow.Nothing → RunIn (nodes_changed ch.maker s.tick change s.nodes) → RunIn (nodes_changed ch.maker (grown c ch.maker ch.grows s).tick change (grown c ch.maker ch.grows s).nodes)
   sized change size run = subst (λ (g : Growth). RunIn (nodes_changed ch.maker (grown c ch.maker g s).tick change (grown c ch.maker g s).nodes)) (sym size) run
 

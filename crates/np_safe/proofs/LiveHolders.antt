@@ -38,7 +38,7 @@ locks_from-push session r held (first ∷ journal) entry = locks_from-push sessi
 
 -- ## one step
 
--- the request has an earlier number, and the session is first at it where it stands
+-- the request has an earlier number, and if it exists the session is first at it
 record IsLocked (session : SessionId) (r : RequestId) (s : State) : Type 0 where
   before : r.seq < s.next_request
   there : IsFirstThere session r s.requests
@@ -89,7 +89,7 @@ holders-next c journal s entry invariant at replied old = record { of_node = nod
 
 -- ## every run
 
--- the machine gives the reply of an entry of a run
+-- the reply of an entry of a run is the machine's
 replied-at : (c : Configuration) (s : State) (before : List Entry) (entry : Entry) (rest : List Entry) → replayed c s (before ++ entry ∷ rest) ≡ before ++ entry ∷ rest → entry.reply ≡ reply_of (judge c (state_after c s before) entry.event)
 replied-at c s [] entry rest is =
     let head : record { event = entry.event; reply = reply_of (judge c s entry.event) } ≡ entry = cc in
@@ -98,7 +98,7 @@ replied-at c s (first ∷ before) entry rest is =
     let tail : replayed c (next c s first.event) (before ++ entry ∷ rest) ≡ before ++ entry ∷ rest = cc in
     replied-at c (next c s first.event) before entry rest tail
 
--- what holds at first, and after each entry where it held before it, holds of every run
+-- what holds at first, and after each entry if it held before it, holds for every run
 module _ (c : Configuration) (P : List Entry → State → Type 0) (first : P [] (start c))
     (more : (before : List Entry) (entry : Entry) → Runs c before (after c before) → entry.reply ≡ reply_of (judge c (after c before) entry.event) → P before (after c before) → P (before ++ entry ∷ []) (next c (after c before) entry.event)) where
   goes-on : (before rest : List Entry) → Runs c (before ++ rest) (after c (before ++ rest)) → P before (after c before) → P (before ++ rest) (after c (before ++ rest))
@@ -118,7 +118,7 @@ module _ (c : Configuration) (P : List Entry → State → Type 0) (first : P []
 none-hold : (c : Configuration) → HoldersHold c [] (start c)
 none-hold c = record { of_node = λ session n live. absurd cc; of_request = λ session r live. absurd cc }
 
--- with what holds of every state of a run
+-- the same, given what holds for every state of a run
 module _ (c : Configuration) (invariant : (before : List Entry) (t : State) → Runs c before t → Invariant c t) where
   pub holders-hold : (journal : List Entry) (s : State) → Runs c journal s → HoldersHold c journal s
   holders-hold = holds-of_runs c (HoldersHold c) (none-hold c)

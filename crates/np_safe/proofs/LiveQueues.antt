@@ -66,7 +66,7 @@ distinct-joined new queue once = by (is_queued new queue) refl where
   by true is = once
   by false is = sessions-push new queue once is
 
--- each member is such after one more or less
+-- each member still meets the condition after one more or less
 pub all-joined : (P : SessionId → Type 0) (session : SessionId) (queue : List SessionId) → AllByRecursion P queue → P session → AllByRecursion P (joined session queue)
 all-joined P session queue all is = by (is_queued session queue) where
   by : (b : Bool) → AllByRecursion P (cond b queue (queue ++ session ∷ []))
@@ -76,7 +76,7 @@ all-joined P session queue all is = by (is_queued session queue) where
 pub all-left : (P : SessionId → Type 0) (session : SessionId) (queue : List SessionId) → AllByRecursion P queue → AllByRecursion P (left session queue)
 all-left P session queue all = all-filter P (λ other. not (is_session other session)) queue all
 
--- members of a queue, each such, none twice
+-- members of a queue: each meets the condition, and none is there twice
 record IsLine (P : SessionId → Type 0) (queue : List SessionId) : Type 0 where
   each : AllByRecursion P queue
   once : DistinctSessions queue
@@ -90,7 +90,7 @@ line-joined P new queue such old = record { each = all-joined P new queue old.ea
 line-left : (P : SessionId → Type 0) (gone : SessionId) (queue : List SessionId) → IsLine P queue → IsLine P (left gone queue)
 line-left P gone queue old = record { each = all-left P gone queue old.each; once = distinct-left gone queue old.once }
 
--- who is left is another
+-- each member that is left is another session
 line-without : (P : SessionId → Type 0) (gone : SessionId) (queue : List SessionId) → IsLine P queue → IsLine (λ session. P session × (is_session session gone ≡ false)) (left gone queue)
 line-without P gone queue old = record {
   each = all-filter_to P (λ session. P session × (is_session session gone ≡ false)) (λ other. not (is_session other gone)) queue (λ session keeps such. (such, let other : is_session session gone ≡ false = grind (arith, nat_tests) in other)) old.each;

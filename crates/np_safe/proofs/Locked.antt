@@ -14,7 +14,7 @@ use Rattle.np_machine.specs.declared.state.Locked.{Locked}
 -- ## the first that passes
 
 module _ {X : Type 0} (q : X → Bool) where
-  -- one changed, of those that pass
+  -- a member that passes is changed
   found-by : (p : X → Bool) (f : X → X) (x : X) (xs : List X) (b : Bool) → q x ≡ b → q (f x) ≡ b → find q (change_first p f xs) ≡ option_map f (find q xs) → find q (cond b (f x ∷ xs) (x ∷ change_first p f xs)) ≡ option_map f (find q (x ∷ xs))
   found-by p f x xs true is kept later = rw (is, kept) refl
   found-by p f x xs false is kept later = rw is later
@@ -25,7 +25,7 @@ module _ {X : Type 0} (q : X → Bool) where
     by : (b : Bool) → q x ≡ b → find q (change_first p f xs) ≡ option_map f (find q xs) → find q (cond b (f x ∷ xs) (x ∷ change_first p f xs)) ≡ option_map f (find q (x ∷ xs))
     by b is later = found-by p f x xs b is (keeps x ∙ is) later
 
-  -- one changed, of those that do not
+  -- a member that does not pass is changed
   pub find-others : (p : X → Bool) (f : X → X) → ((x : X) → q (f x) ≡ q x) → ((x : X) → p x ≡ true → q x ≡ false) → (xs : List X) → find q (change_first p f xs) ≡ find q xs
   find-others p f keeps apart [] = refl
   find-others p f keeps apart (x ∷ xs) = by (p x) refl (find-others p f keeps apart xs) where
@@ -33,7 +33,7 @@ module _ {X : Type 0} (q : X → Bool) where
     by true is later = let fails : q x ≡ false = apart x is in let after : q (f x) ≡ false = keeps x ∙ fails in rw (fails, after) refl
     by false is later = ap (λ (o : Option X). cond (q x) (Some x) o) later
 
-  -- one less, of those that do not pass
+  -- a member that does not pass is removed
   pub find-without : (p : X → Bool) → ((x : X) → p x ≡ true → q x ≡ false) → (xs : List X) → find q (remove_first p xs) ≡ find q xs
   find-without p apart [] = refl
   find-without p apart (x ∷ xs) = by (p x) refl (find-without p apart xs) where
@@ -41,7 +41,7 @@ module _ {X : Type 0} (q : X → Bool) where
     by true is later = rw (apart x is) refl
     by false is later = ap (λ (o : Option X). cond (q x) (Some x) o) later
 
-  -- one less, of which no two pass
+  -- a member that passes is removed, and no two pass
   pub find-gone : (p : X → Bool) (before : X → X → Bool) → ((x : X) → p x ≡ q x) → ((x y : X) → before x y ≡ true → q x ≡ true → q y ≡ false) → (xs : List X) → Rises before xs → find q (remove_first p xs) ≡ None
   find-gone p before alike once [] rises = refl
   find-gone p before alike once (x ∷ xs) rises = by (p x) (sym (alike x)) (find-gone p before alike once xs rises.1) where
@@ -49,7 +49,7 @@ module _ {X : Type 0} (q : X → Bool) where
     by true is later = find-none q xs (all-weaker (λ y. before x y ≡ true) (λ y. q y ≡ false) (λ y order. once x y order is) xs rises.0)
     by false is later = rw is later
 
-  -- one more, where none passes
+  -- a member that passes is added, and no other passes
   pub find-new : (before : X → Bool) (new : X) (xs : List X) → q new ≡ true → find q xs ≡ None → find q (insert_before before new xs) ≡ Some new
   find-new before new [] is none = rw is refl
   find-new before new (x ∷ xs) is none = by (q x) refl (λ rest. find-new before new xs is rest) where
@@ -124,7 +124,7 @@ module _ {I K : Type 0} (same : I → I → Bool) (equal : (a b : I) → same a 
     by true (Some e) = ap Some (keeps e)
     by false (Some e) = refl
 
-  -- what keeps records keeps what is found
+  -- a change that keeps records keeps what is found
   pub kept-same : (a r : I) (f : Locked I K → Locked I K) → ((e : Locked I K) → (f e).id ≡ e.id) → ((e : Locked I K) → (f e).kept ≡ e.kept) → (rows : List (Locked I K)) → kept_of r (change_first (λ e. same e.id a) f rows) ≡ kept_of r rows
   kept-same a r f ids keeps rows = kept-changed a r f (λ k. k) ids keeps rows ∙ by (same a r) (kept_of r rows) where
     by : (b : Bool) (o : Option K) → option_map (λ k. cond b k k) o ≡ o
@@ -140,7 +140,7 @@ module _ {I K : Type 0} (same : I → I → Bool) (equal : (a b : I) → same a 
     by true (Some e) there = keeps e
     by false (Some e) there = refl
 
-  -- what keeps queues keeps what is found
+  -- a change that keeps queues keeps what is found
   pub queue-same : (a r : I) (f : Locked I K → Locked I K) → ((e : Locked I K) → (f e).id ≡ e.id) → ((e : Locked I K) → (f e).queue ≡ e.queue) → (rows : List (Locked I K)) → queue_of r (change_first (λ e. same e.id a) f rows) ≡ queue_of r rows
   queue-same a r f ids keeps rows = ap (λ (o : Option (Locked I K)). option_map_or (λ e. e.queue) o []) (row-changed a r f ids rows) ∙ by (same a r) (row_of r rows) where
     by : (b : Bool) (o : Option (Locked I K)) → option_map_or (λ e. e.queue) (option_map (λ e. cond b (f e) e) o) [] ≡ option_map_or (λ (e : Locked I K). e.queue) o []
@@ -154,14 +154,14 @@ module _ {I K : Type 0} (same : I → I → Bool) (equal : (a b : I) → same a 
     by None none = refl
     by (Some e) none = absurd cc
 
-  -- a row is found where its record is
+  -- a row is found if its record is
   pub row-there : (r : I) (k : K) (rows : List (Locked I K)) → kept_of r rows ≡ Some k → (e : Locked I K) × ((row_of r rows ≡ Some e) × ((e.kept ≡ k) × (e.id ≡ r)))
   row-there r k rows is = by (row_of r rows) refl is where
     by : (o : Option (Locked I K)) → row_of r rows ≡ o → option_map (λ (e : Locked I K). e.kept) o ≡ Some k → (e : Locked I K) × ((row_of r rows ≡ Some e) × ((e.kept ≡ k) × (e.id ≡ r)))
     by None at none = absurd cc
     by (Some e) at there = (e, (at, (let same_kept : e.kept ≡ k = cc in same_kept, equal e.id r (find-passes (λ (x : Locked I K). same x.id r) rows e at))))
 
-  -- no row is found where no record is
+  -- no row is found if no record is
   pub row-nowhere : (r : I) (rows : List (Locked I K)) → kept_of r rows ≡ None → row_of r rows ≡ None
   row-nowhere r rows is = by (row_of r rows) is where
     by : (o : Option (Locked I K)) → option_map (λ (e : Locked I K). e.kept) o ≡ None → o ≡ None

@@ -1,4 +1,4 @@
--- what a change of the nodes keeps for a request that stands on
+-- what a change of the nodes keeps for a request that continues to exist
 use Rattle.std.proofs.Common.{◌≡◌, ◌∙◌, sym, subst, ℕ, Bool, true, false, cond, List, [], ◌∷◌, ◌++◌, refl, ap, Option, Some, None}
 use Rattle.std.specs.Prelude.{◌==◌, nat_lt}
 use Rattle.std.specs.List.{list_any}
@@ -66,7 +66,7 @@ pub record Keeps (r : RequestId) (old node : NodeRecord) : Type 0 where
 pub keeps-itself : (r : RequestId) (k : NodeRecord) → Keeps r k k
 keeps-itself r k = record { allocation = λ mine. mine; of_pool = refl; of_label = refl; ready = λ ready mine. ready }
 
--- what stands was there and is kept, and what was ready stands
+-- a node that exists was there and is kept, and one that was ready still exists
 abbrev pub KeptAt : RequestId → Option NodeRecord → Option NodeRecord → Type 0
 KeptAt r None None = Unit {0}
 KeptAt r None (Some node) = ⊥
@@ -81,7 +81,7 @@ pub kept-map : (r : RequestId) (f : NodeRecord → NodeRecord) (o : Option NodeR
 kept-map r f None keeps = tt
 kept-map r f (Some k) keeps = keeps k refl
 
--- a node that was there before this one
+-- the node was there before
 pub record WasKept (r : RequestId) (before : Option NodeRecord) (node : NodeRecord) : Type 0 where
   pub old : NodeRecord
   pub was : before ≡ Some old
@@ -93,7 +93,7 @@ kept-back r None (Some k) node kept is = absurd kept
 kept-back r (Some old) None node kept is = absurd (none-some node is)
 kept-back r (Some old) (Some k) node kept is = record { old = old; was = refl; keeps = subst (λ (x : NodeRecord). Keeps r old x) (same_Some k node is) kept }
 
--- a node that stands after this one
+-- the node still exists afterwards
 pub record StaysKept (r : RequestId) (after : Option NodeRecord) (old : NodeRecord) : Type 0 where
   pub node : NodeRecord
   pub stands : after ≡ Some node

@@ -7,12 +7,12 @@ pub some-is : {A : Type 0} (o : Option A) → is_some o ≡ true → (a : A) × 
 some-is None is = absurd cc
 some-is (Some a) is = (a, refl)
 
--- it is not so that it has nothing
+-- an option that is not `None` has something
 pub some-unless : {A : Type 0} (o : Option A) → (o ≡ None → ⊥) → (a : A) × (o ≡ Some a)
 some-unless None never = absurd (never refl)
 some-unless (Some a) never = (a, refl)
 
--- it is not so that it has something
+-- an option that has nothing is `None`
 pub none-unless : {A : Type 0} (o : Option A) → ((a : A) → o ≡ Some a → ⊥) → o ≡ None
 none-unless None never = refl
 none-unless (Some a) never = absurd (never a refl)

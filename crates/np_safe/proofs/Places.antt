@@ -14,7 +14,7 @@ use Rattle.np_safe.proofs.Lookups.{same_node-is}
 
 -- ## the place of a member
 
--- a member that passes stands at a place
+-- a member that passes is at some place
 pub record PassesAt {X : Type 0} (p : X → Bool) (xs : List X) : Type 0 where
   pub place : ℕ
   pub member : X
@@ -47,13 +47,13 @@ push-places [] new (suc i) x is = absurd (none-some x is)
 push-places (y ∷ xs) new zero x is = inl is
 push-places (y ∷ xs) new (suc i) x is = push-later xs new i x (push-places xs new i x is)
 
--- where the next place of another list is there, it is not shorter than this one with one more
+-- if another list has the next place, it is no shorter than this one with one more member
 pub push-within : {X Y : Type 0} (xs : List X) (ys : List Y) (new : X) (y : Y) → slice_get ys (length xs) ≡ Some y → length (xs ++ new ∷ []) ≤ length ys
 push-within xs ys new y next = omega (arith, length-append xs (new ∷ []), slice_get_within ys (length xs) y next)
 
 -- ## lists of nodes
 
--- a node that is listed stands at a place
+-- a node that is listed is at some place
 pub node-place : (n : NodeId) (numbers : List NodeId) → list_any (λ m. m.0 == n.0) numbers ≡ true → (place : ℕ) × (slice_get numbers place ≡ Some n)
 node-place n numbers any =
     let at : PassesAt (λ (m : NodeId). m.0 == n.0) numbers = any-place (λ (m : NodeId). m.0 == n.0) numbers any in
@@ -70,17 +70,17 @@ nodes-differ (n ∷ numbers) differ = (differ.0, nodes-differ numbers differ.1)
 pub distinct-push : (numbers : List NodeId) (n : NodeId) → DistinctNodes numbers → list_any (λ m. m.0 == n.0) numbers ≡ false → DistinctNodes (numbers ++ n ∷ [])
 distinct-push numbers n distinct out = nodes-differ (numbers ++ n ∷ []) (differ-push (λ (m : NodeId). m.0) numbers n (differ-nodes numbers distinct) out)
 
--- lower bounds hold below higher ones
+-- what is below a bound is below a higher one
 pub all-below : (low high : ℕ) (numbers : List NodeId) → low ≤ high → AllByRecursion (λ n. n.0 < low) numbers → AllByRecursion (λ n. n.0 < high) numbers
 all-below low high numbers more all = all-weaker (λ (n : NodeId). n.0 < low) (λ n. n.0 < high) (λ n below. omega arith) numbers all
 
--- the next number is not listed where all are below it
+-- the next number is not listed if all are below it
 pub next-unlisted : (next : ℕ) (n : NodeId) (numbers : List NodeId) → n.0 ≡ next → AllByRecursion (λ m. m.0 < next) numbers → list_any (λ m. m.0 == n.0) numbers ≡ false
 next-unlisted next n numbers is all = list_any-none (λ (m : NodeId). m.0 == n.0) numbers (all-weaker (λ (m : NodeId). m.0 < next) (λ m. (m.0 == n.0) ≡ false) (λ m below. ne_eqb m.0 n.0 (λ same. omega arith)) numbers all)
 
 -- ## options
 
--- of an option that is mapped where a test passes: what was there
+-- what an option had before it was mapped, if a test passes
 pub record IsEdited {A : Type 0} (b : Bool) (f : A → A) (o : Option A) (a : A) : Type 0 where
   pub passed : b ≡ true
   pub old : A

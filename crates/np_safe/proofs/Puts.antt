@@ -26,7 +26,7 @@ abbrev pub Way : Configuration → State → Changes → NodeId → NodeRecord �
 Way c s ch n k kept = Starts s ch k kept ⊎ (Reports c s ch k kept ⊎ (EndsNode s ch n k kept ⊎ (GivesUp s ch k kept ⊎ Frees s ch k kept)))
 
 module _ (c : Configuration) (s : State) (ch : Changes) (n : NodeId) (k kept : NodeRecord) (runs : k.in_flight ≡ true → is_building k.state ≡ true) where
-  -- for a request that stands
+  -- for a request that exists
   pub way-keeps : (r : RequestId) (request : RequestRecord) → request_in r s.requests ≡ Some request → Way c s ch n k kept → Keeps r k kept
   way-keeps r request stands (inl starts) =
       let keeps : Keeps r k (record k { attempts = k.attempts + 1; in_flight = true; start = starts.start }) = record { allocation = λ mine. mine; of_pool = refl; of_label = refl; ready = λ ready mine. ready } in

@@ -1,4 +1,4 @@
--- no pool passes a limit
+-- no pool exceeds a limit
 use Rattle.std.proofs.Common.{◌≡◌, ◌⊎◌, ◌==◌, Bool, true, false, cond, List, [], ◌∷◌, ◌++◌, slice_get, Option, Some, None, refl, sym, ap, subst, subst₂, inl, inr}
 use Rattle.std.specs.Option.{option_map_or}
 use Rattle.std.proofs.lemmas.Bool.{not-false}
@@ -45,12 +45,12 @@ count-taken c s p = sum_of-filter (λ (e : NodeEntry). e.kept.pool.0 == p.0) (λ
 limit-is : (c : Configuration) (p : PoolId) (pool : Pool) → slice_get c.pools p.0 ≡ Some pool → limit_of c p ≡ pool.limit
 limit-is c p pool row = ap (λ (o : Option Pool). option_map_or (λ (x : Pool). x.limit) o no_limit) row
 
--- a registration leaves the nodes
+-- a registration leaves the nodes as they are
 registered-nodes : (maker : Option Maker) (q : PoolId) (s : State) → (by_maker maker (λ session t. registers t session q) s).nodes ≡ s.nodes
 registered-nodes None q s = refl
 registered-nodes (Some maker) q s = refl
 
--- an allocation leaves each node's pool and label
+-- an allocation leaves each node's pool and label as they are
 allocated-keeps : (c : Configuration) (p : PoolId) (maker : Option Maker) (n : NodeId) (r : RequestId) (tenant : Option TenantId) (rows : List NodeEntry)
     → IsAtMost (taken (at_pool c p) (by_maker maker (λ session old. change_first (λ e. e.id.0 == n.0) (allocated r tenant session) old) rows)) (taken (at_pool c p) rows)
 allocated-keeps c p None n r tenant rows = IsAtMost-refl (taken (at_pool c p) rows)
@@ -62,7 +62,7 @@ module _ (c : Configuration) (s : State) (ch : Changes) (p : PoolId) (pool : Poo
   abbrev Fits : List NodeEntry → Type 0
   Fits rows = fits (taken (at_pool c p) rows) pool.limit ≡ true
 
-  -- a node more, for which its pool has room
+  -- one more node, for which its pool has room
   room-by : (q : PoolId) (l : LabelId) (b : Bool) → (q.0 == p.0) ≡ b → Fits s.nodes → is_short c s q l ≡ false
       → fits (plus (taken (at_pool c p) s.nodes) (cond b (amount_of c p l) nothing)) pool.limit ≡ true
   room-by q l true same old room =

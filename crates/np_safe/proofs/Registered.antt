@@ -1,4 +1,4 @@
--- each registration is of a live launcher of its pool, one a pool
+-- each registration is of a live launcher of its pool, at most one per pool
 use Rattle.std.proofs.Common.{◌≡◌, ◌∙◌, sym, List, [], ◌∷◌, refl, ap, arith, Option, Some, None, Bool, true, false, cond}
 use Rattle.std.specs.Prelude.{◌==◌, not, find, nat_lt}
 use Rattle.std.specs.Option.{option_map}
@@ -37,7 +37,7 @@ record AreRegistrations (s : State) (rows : List Registration) : Type 0 where
 through_pools : (a b k : Registration) → by_pool a b ≡ true → by_pool b k ≡ true → by_pool a k ≡ true
 through_pools a b k first second = grind (arith, nat_tests)
 
--- a pool that is not registered is another than each
+-- a pool that is not registered differs from each that is
 apart-all : (new : Registration) (rows : List Registration) → registered new.pool rows ≡ None → AllByRecursion (λ g. by_pool new g ≡ false → by_pool g new ≡ true) rows
 apart-all new [] none = tt
 apart-all new (g ∷ rows) none = by (g.pool.0 == new.pool.0) refl (λ rest. apart-all new rows rest) none where

@@ -22,7 +22,7 @@ head-reply c s e journal is = let head : record { event = e.event; reply = reply
 pub tail-replies : (c : Configuration) (s : State) (e : Entry) (journal : List Entry) → replayed c s (e ∷ journal) ≡ e ∷ journal → replayed c (next c s e.event) journal ≡ journal
 tail-replies c s e journal is = cc
 
--- the reply says that the event is done where it was accepted
+-- the reply says that the event is done if and only if it was accepted
 reply-done : (a : Answer) → is_done (reply_of a) ≡ is_ok a
 reply-done (Ok what) = refl
 reply-done (Err why) = refl

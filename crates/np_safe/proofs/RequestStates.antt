@@ -1,4 +1,4 @@
--- each request stands as its state says, after what an accepted event changes
+-- each request is as its state says, after the changes of an accepted event
 use Rattle.std.proofs.Common.{◌≡◌, ◌∙◌, sym, subst, ℕ, ◌<◌, ◌≤◌, lt_of_lt_of_le, ◌⊎◌, inl, inr, Bool, false, cond, List, [], ◌∷◌, ◌++◌, refl, ap, eqb-true, eq-eqb, Option, Some}
 use Rattle.std.specs.Prelude.{◌==◌}
 use Rattle.std.specs.List.{AllByRecursion, list_any}
@@ -52,7 +52,7 @@ use Rattle.np_safe.proofs.StandsOn.{rest-if, served-if, owns-if, requested-stand
 
 -- ## premises
 
--- a request that asks is at rest
+-- a new request is at rest
 asked-stands : (c : Configuration) (s t : State) (ch : Changes) (priority : ℕ) (asked : Asked) (r : RequestId) → AsksForJob c s ch priority asked ⊎ AsksToKeep c s ch priority asked → StandsIn t r (new_record asked) (new_record asked).state
 asked-stands c s t ch priority asked r (inl asks) =
     let rest : IsAtRest (new_record (asked_for asks.number asks.job)) = record { no_pool = refl; no_nodes = refl } in

@@ -40,7 +40,7 @@ use Rattle.np_safe.proofs.Launches.{runs_while_building}
 use Rattle.np_safe.proofs.LiveHolders.{holders-hold, one-holder}
 use Rattle.np_safe.proofs.Start.{invariant-start}
 
--- what an accepted event changes keeps every part
+-- the changes of an accepted event keep every part
 pub invariant-changed : (c : Configuration) (s : State) (ch : Changes) → Invariant c s → Premises c s ch → Invariant c (changed c ch s)
 invariant-changed c s ch old given = record {
   numbered = numbered c s ch old.numbered;
@@ -63,7 +63,7 @@ invariant-next c s e old = by (is_ok (judge c s e)) refl where
   by true ok = subst (Invariant c) (plan-next c s e ok) (invariant-changed c s (plan c s e) old (premises c s e ok))
   by false refused = rw refused old
 
--- of every state that events lead to
+-- the parts hold for every state that events lead to
 pub invariant-after : (c : Configuration) (s : State) (journal : List Entry) → Invariant c s → Invariant c (state_after c s journal)
 invariant-after c s [] old = old
 invariant-after c s (entry ∷ journal) old = invariant-after c (next c s entry.event) journal (invariant-next c s entry.event old)

@@ -56,7 +56,7 @@ facts-grown c maker (grow.Allocate n r tenant) s session facts is = is
 facts-grown c maker (grow.Handles j) s session facts is = is
 facts-grown c maker (grow.Swept n x) s session facts is = is
 
--- a session whose facts change but for role and life
+-- a session whose facts change, except its role and whether it is live
 kept-session : (changed_one : SessionId) (f : SessionFacts → SessionFacts) → ((x : SessionFacts) → (f x).role ≡ x.role) → ((x : SessionFacts) → (f x).live ≡ x.live)
     → (session : SessionId) (facts : SessionFacts) (rows : List SessionFacts) → facts_in session rows ≡ Some facts → StaysLive session facts (change_session changed_one f rows)
 kept-session changed_one f roles lives session facts rows is = by (session.0 == 0) refl is where
@@ -75,7 +75,7 @@ kept-session changed_one f roles lives session facts rows is = by (session.0 == 
   by true zero_number none = absurd cc
   by false positive there = at_place (session.0 - 1 == changed_one.0 - 1) refl positive there
 
--- another session than the one that ends
+-- a session other than the one that ends
 other-session : (over session : SessionId) (facts last : SessionFacts) (rows : List SessionFacts) → facts_in over rows ≡ Some last → is_session session over ≡ false → facts_in session rows ≡ Some facts → StaysLive session facts (change_session over ended rows)
 other-session over session facts last rows begun other is = by (session.0 == 0) refl is where
   over_positive : (b : Bool) → (over.0 == 0) ≡ b → cond b None (slice_get rows (over.0 - 1)) ≡ Some last → (over.0 == 0) ≡ false
@@ -101,7 +101,7 @@ facts-settled s ch sessions.Same premise session facts rows grew other is = reco
 facts-settled s ch (sessions.Mute quiet) premise session facts rows grew other is = kept-session quiet muted (λ x. refl) (λ x. refl) session facts rows is
 facts-settled s ch (sessions.End over) premise session facts rows grew other is = other-session over session facts premise.facts rows (grew over premise.facts premise.begun) other is
 
--- who was there is there, and live if it was, unless it is the session that ends
+-- a session that was there is there, and live if it was, unless it is the one that ends
 pub facts-stay : (c : Configuration) (s : State) (ch : Changes) → SessionsPremise s ch ch.sessions → (session : SessionId) (facts : SessionFacts) → session_of session s ≡ Some facts → IsNotOver ch.sessions session → StaysLive session facts (changed c ch s).sessions
 facts-stay c s ch premise session facts is other =
     facts-settled s ch ch.sessions premise session facts (grown c ch.maker ch.grows s).sessions (λ over last begun. facts-grown c ch.maker ch.grows s over last begun) other (facts-grown c ch.maker ch.grows s session facts is)

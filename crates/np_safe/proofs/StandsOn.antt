@@ -1,4 +1,4 @@
--- a request stands after a change where it stood, and the nodes are kept for it
+-- a request that was as its state says is so after a change, if the nodes are kept for it
 use Rattle.std.proofs.Common.{◌≡◌, ◌∙◌, sym, subst, ℕ, ◌<◌, ◌≤◌, ◌⊎◌, inl, inr, Bool, true, false, cond, List, [], refl, ap, lt_of_lt_of_le, arith, length, Some, None}
 use Rattle.std.specs.Prelude.{◌==◌, slice_get}
 use Rattle.std.specs.List.{AllByRecursion, list_any}
@@ -98,7 +98,7 @@ KeptFor s t r = (n : NodeId) → n.0 < s.next_node → KeptAt r (node_in n s.nod
 for-kept : (r : RequestId) (p : PoolId) (l : LabelId) (old node : NodeRecord) → IsFor r p l old → Keeps r old node → IsFor r p l node
 for-kept r p l old node is keeps = record { allocated = keeps.allocation is.allocated; of_pool = keeps.of_pool ∙ is.of_pool; of_label = keeps.of_label ∙ is.of_label }
 
--- as it stood, with its nodes kept; or it stands anew
+-- as it was, with its nodes kept; or as its state says anew
 abbrev pub Follows : State → State → RequestId → RequestRecord → Type 0
 Follows s t r q = StandsIn t r q q.state ⊎ ((request_in r s.requests ≡ Some q) × KeptFor s t r)
 

@@ -63,7 +63,7 @@ fits-nothing limit =
 
 -- ## the members that count
 
--- what a member takes where it counts, and nothing elsewhere
+-- what a member takes if it counts, and otherwise nothing
 abbrev pub counted : {X : Type 0} → (X → Bool) → (X → Amount) → X → Amount
 counted test takes x = cond (test x) (takes x) nothing
 
@@ -149,7 +149,7 @@ module _ {X : Type 0} (takes : X → Amount) where
       → IsAtMost (sum_of takes (change_first p f xs)) (plus (sum_of takes xs) more)
   sum_of-rise p f xs more each = rise-by p f xs more (find p xs) refl each
 
-  -- the sum does not rise where the member does not
+  -- the sum does not rise if the member does not
   pub sum_of-keep : (p : X → Bool) (f : X → X) (xs : List X) → ((x : X) → find p xs ≡ Some x → IsAtMost (takes (f x)) (takes x))
       → IsAtMost (sum_of takes (change_first p f xs)) (sum_of takes xs)
   sum_of-keep p f xs each =

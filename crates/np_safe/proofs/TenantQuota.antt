@@ -1,4 +1,4 @@
--- no tenant passes a limit
+-- no tenant exceeds a limit
 use Rattle.std.proofs.Common.{◌≡◌, ◌⊎◌, ℕ, ◌==◌, ◌&&◌, not, Bool, true, false, cond, List, [], ◌∷◌, ◌++◌, slice_get, is_some, is_none, option_and_then, Option, Some, None, refl, sym, ap, ◌∙◌, subst, subst₂, inl, inr}
 use Rattle.std.specs.Option.{option_map, option_map_or}
 use Rattle.std.proofs.Math.Path.{ap₂}
@@ -118,7 +118,7 @@ module _ (c : Configuration) (s : State) (p : PoolId) (request : RequestRecord) 
 
 -- ## what grows
 
--- a request of a job, and one of a pool to keep, is not pending
+-- a request of a job, or of a pool to keep a node ready, is not pending
 asked-idle : (c : Configuration) (s : State) (ch : Changes) (priority : ℕ) (asked : Asked) → AsksForJob c s ch priority asked ⊎ AsksToKeep c s ch priority asked → is_pending asked.state ≡ false
 asked-idle c s ch priority asked (inl asks) = ap (λ (a : Asked). is_pending a.state) asks.asks
 asked-idle c s ch priority asked (inr asks) = ap (λ (a : Asked). is_pending a.state) asks.asks

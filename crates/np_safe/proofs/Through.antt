@@ -1,4 +1,5 @@
--- the way through a plan: what holds where nothing changes, and of each thing that is found, holds of the plan
+-- the way through a plan: what holds if nothing changes, and for each thing that is found, holds
+-- for the plan
 use Rattle.std.proofs.Common.{◌≡◌, refl, Option, Some, None, Result, Ok, Err}
 use Rattle.np_text.specs.declared.id.SessionId.{SessionId}
 use Rattle.np_text.specs.declared.id.Role.{Role}
@@ -15,6 +16,6 @@ module _ (P : Changes → Type 0) (nothing : P same) where
   plan-given (Ok a) f each = each a refl
   plan-given (Err why) f each = nothing
 
--- the same of what a session makes
+-- the same for what a session makes
 pub plan-made : (P : Changes → Type 0) (session : SessionId) (role : Role) → P (made_by session role same) → {A : Type 0} (o : Option A) (f : A → Changes) → ((a : A) → o ≡ Some a → P (made_by session role (f a))) → P (made_by session role (with_found o f))
 plan-made P session role nothing o f each = plan-found (λ ch. P (made_by session role ch)) nothing o f each

@@ -35,7 +35,8 @@ use Rattle.np_changes.specs.Changes.{by_maker, edited, requests_left}
 use Rattle.np_safe.proofs.Ids.{same_pool, row-of, kept-is}
 use Rattle.np_safe.proofs.Sums.{at_most-same, nothing-at_most, part-at_most, plus-nothing, sum_of, sum_of-insert_before, sum_of-remove_first, sum_of-drop, sum_of-next, sum_of-map, sum_of-rise, sum_of-keep, sum_of-fall}
 
--- what the labels from a place on take of the pool that serves, where the request is pending and of the tenant
+-- what the labels from a place on take of the pool that serves, if the request is pending and of
+-- the tenant
 abbrev pub rest_by : Configuration → Bool → Bool → List LabelId → ℕ → Option PoolId → Amount
 rest_by c pending own labels at pool = cond (pending && own) (option_map_or (λ p. amount_of_all c p (drop at labels)) pool nothing) nothing
 
@@ -50,11 +51,11 @@ waits_in c t e = waits c t e.kept
 abbrev pub waited : Configuration → TenantId → List RequestEntry → Amount
 waited c t rows = sum_of (waits_in c t) rows
 
--- what all labels of a request take, where it is of the tenant
+-- what all labels of a request take, if it is of the tenant
 abbrev pub whole : Configuration → TenantId → PoolId → RequestRecord → Amount
 whole c t p k = cond (is_tenant t (tenant_of_request c k)) (amount_of_all c p k.labels) nothing
 
--- what a node of the label takes, where the request is of the tenant
+-- what a node of the label takes, if the request is of the tenant
 abbrev pub part : Configuration → TenantId → PoolId → LabelId → RequestRecord → Amount
 part c t p l k = cond (is_tenant t (tenant_of_request c k)) (amount_of c p l) nothing
 
@@ -64,7 +65,7 @@ edited_in change r rows = change_first (λ e. same_request e.id r) (λ e. record
 
 -- ## one record
 
--- a pool that serves is the one
+-- a pool that serves is the one in the option
 served-by : (p : PoolId) (o : Option PoolId) → is_pool p o ≡ true → o ≡ Some p
 served-by p None is = absurd cc
 served-by p (Some other) is = ap Some (same_pool other p is)
@@ -133,7 +134,8 @@ module _ (c : Configuration) (t : TenantId) where
   edit-keeps : (change : RequestEdit) (r : RequestId) (rows : List RequestEntry) → ((k : RequestRecord) → IsAtMost (waits c t (edited change k)) (waits c t k)) → IsAtMost (waited c t (edited_in change r rows)) (waited c t rows)
   edit-keeps change r rows each = sum_of-keep (waits_in c t) (λ (e : RequestEntry). same_request e.id r) (λ e. record e { kept = edited change e.kept }) rows (λ e _. each e.kept)
 
-  -- a request that is declined, fulfilled, given back or failed waits for nothing, and a revised one for as much
+  -- a request that is declined, fulfilled, given back or failed waits for nothing, and a revised
+  -- one for as much as before
   pub decline-keeps : (p : PoolId) (why : Reason) (failed : Bool) (r : RequestId) (rows : List RequestEntry) → IsAtMost (waited c t (edited_in (edit.Decline p why failed) r rows)) (waited c t rows)
   decline-keeps p why failed r rows = edit-keeps (edit.Decline p why failed) r rows (λ k. declines-keeps k p why failed)
 

@@ -1,4 +1,4 @@
--- each request has a job or is pinned, after what an accepted event changes
+-- each request has a job or is pinned, after the changes of an accepted event
 use Rattle.std.proofs.Common.{◌≡◌, ◌∙◌, sym, subst, ℕ, ◌<◌, ◌≤◌, ◌⊎◌, inl, inr, Bool, true, false, is_some, is_none, List, [], refl, Some, None}
 use Rattle.std.specs.List.{AllByRecursion}
 use Rattle.std.proofs.lemmas.Option.{none-some, same_Some}

@@ -9,7 +9,8 @@ use Rattle.np_machine.specs.Tables.{is_session_of, request_in, request_holder, n
 use Rattle.np_machine.specs.LiveHolder.{IsLiveHolder, locks_from}
 use Rattle.np_machine.specs.State.{State}
 
--- who holds a node by the journal is the first of its queue; a request that a session has locked by it was made before, and where it stands the session is the first of its queue
+-- a session that holds a node by the journal is the first of its queue; a request that a session
+-- has locked by the journal was made before, and if it exists the session is the first of its queue
 pub record HoldersHold (c : Configuration) (journal : List Entry) (s : State) : Type 0 where
   pub of_node : (session : SessionId) (n : NodeId) → IsLiveHolder c journal session n → is_session_of session (node_holder n s.nodes) ≡ true
   pub of_request : (session : SessionId) (r : RequestId) → locks_from session r false journal ≡ true

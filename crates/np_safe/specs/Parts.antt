@@ -28,7 +28,8 @@ use Rattle.np_machine.specs.State.{State}
 
 -- ## numbers
 
--- the requests and the nodes stand in the order of their numbers, none twice, and all below the next ones
+-- the requests and the nodes are in the order of their numbers, none twice, and all below the next
+-- ones
 pub record IsNumbered (s : State) : Type 0 where
   pub requests_rise : Rises (λ a b. is_id_before a.id b.id) s.requests
   pub nodes_rise : Rises (λ a b. nat_lt a.id.0 b.id.0) s.nodes
@@ -59,21 +60,21 @@ pub record IsQueued (s : State) : Type 0 where
   pub one_a_request : AllByRecursion (λ e. length e.queue ≤ 1) s.requests
   pub at_nodes : AllByRecursion (λ e. IsQueue s e.queue) s.nodes
 
--- a live session that its pool's launcher has
+-- a live session of the pool's launcher
 pub record IsLauncher (s : State) (p : PoolId) (session : SessionId) : Type 0 where
   pub facts : SessionFacts
   pub begun : session_of session s ≡ Some facts
   pub live : facts.live ≡ true
   pub role : facts.role ≡ Launcher p
 
--- each registration is of a live launcher of its pool, one a pool
+-- each registration is of a live launcher of its pool, at most one per pool
 pub record IsRegistered (s : State) : Type 0 where
   pub of_launcher : AllByRecursion (λ g. IsLauncher s g.pool g.session) s.registrations
   pub one_a_pool : Rises (λ a b. nat_lt a.pool.0 b.pool.0) s.registrations
 
 -- ## limits
 
--- no pool, no semaphore and no tenant passes its limit
+-- no pool, no semaphore and no tenant exceeds its limit
 pub record IsWithin (c : Configuration) (s : State) : Type 0 where
   pub quota : WithinQuota c s
   pub max : WithinMax c s
@@ -92,7 +93,8 @@ pub record IsFor (r : RequestId) (p : PoolId) (l : LabelId) (node : NodeRecord) 
   pub of_pool : node.pool.0 ≡ p.0
   pub of_label : node.label.0 ≡ l.0
 
--- a pool serves the request: it has different nodes, not more than labels, and each that stands is for it at its label's place
+-- a pool serves the request: its nodes are distinct, no more than its labels, and each that exists
+-- is for the request at its label's place
 pub record IsServed (s : State) (r : RequestId) (request : RequestRecord) : Type 0 where
   pub pool : PoolId
   pub served_by : request.pool ≡ Some pool
@@ -117,7 +119,8 @@ RequestsStand s = (r : RequestId) (request : RequestRecord) → request_in r s.r
 abbrev pub JobsOrPinned : State → Type 0
 JobsOrPinned s = (r : RequestId) (request : RequestRecord) → request_in r s.requests ≡ Some request → is_some request.job ≡ is_none request.pinned
 
--- a node that is allocated to a request: no later number, and where the request stands the node is in its list
+-- a node that is allocated to a request: the request's number is below the next one, and if the
+-- request exists the node is in its list
 pub record IsListed (s : State) (n : NodeId) (r : RequestId) : Type 0 where
   pub below : r.seq < s.next_request
   pub listed : (request : RequestRecord) → request_in r s.requests ≡ Some request → list_any (λ m. m.0 == n.0) request.nodes ≡ true
@@ -130,7 +133,8 @@ AllocationsListed s = (n : NodeId) (node : NodeRecord) (r : RequestId) → node_
 abbrev pub RunsWhileBuilding : State → Type 0
 RunsWhileBuilding s = (n : NodeId) (node : NodeRecord) → node_in n s.nodes ≡ Some node → node.in_flight ≡ true → is_building node.state ≡ true
 
--- where the provider allows one attempt at least: a building node that may be started has fewer than it allows, one with a launch running not more; a failed node has as many
+-- if the provider allows at least one attempt: a building node that may be started has fewer than
+-- it allows, one with a launch running no more; a failed node has as many
 pub record IsAttempted (c : Configuration) (node : NodeRecord) : Type 0 where
   pub idle : is_building node.state ≡ true → node.in_flight ≡ false → 0 < retries_of c node.pool → node.attempts < retries_of c node.pool
   pub running : node.in_flight ≡ true → 0 < retries_of c node.pool → node.attempts ≤ retries_of c node.pool
@@ -145,7 +149,7 @@ pub record IsOwned (s : State) : Type 0 where
 
 -- ## jobs
 
--- the job's request stands and names it
+-- the job's request exists and names it
 pub record IsAsking (s : State) (j : JobId) (job : JobRecord) : Type 0 where
   pub id : RequestId
   pub request : RequestRecord
@@ -153,7 +157,8 @@ pub record IsAsking (s : State) (j : JobId) (job : JobRecord) : Type 0 where
   pub stands : request_in id s.requests ≡ Some request
   pub names : request.job ≡ Some j
 
--- new: nothing yet; asked: its request stands; using: a pool served it; over: it has an ending, and a pool served it where that is served
+-- new: nothing yet; asked: its request exists; using: a pool served it; over: it has an ending, and
+-- a pool served it if the ending is served
 abbrev pub JobIn : State → JobId → JobRecord → Phase → Type 0
 JobIn s j job phase.New = (job.request ≡ None) × ((job.ending ≡ None) × (job.pool ≡ None))
 JobIn s j job phase.Asked = IsAsking s j job × ((job.ending ≡ None) × (job.pool ≡ None))

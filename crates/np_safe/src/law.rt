@@ -31,8 +31,7 @@ pub fn every_state_of_a_run_is_as_the_parts_say()
         Runs c journal s → Invariant c s }
 {}
 
-/// A live holder of a node or of a request, which the journal alone tells, is the first of its
-/// queue.
+/// A live holder of a node or of a request, read from the journal alone, is the first of its queue.
 pub fn a_live_holder_is_the_holder()
     ensures node { (c : Configuration) (journal : List Entry) (s : State) (session : SessionId)
         (n : NodeId) → Runs c journal s → IsLiveHolder c journal session n →
@@ -52,21 +51,21 @@ pub fn no_node_and_no_request_has_two_live_holders()
         IsLiveRequestHolder c journal b r → a.0 ≡ b.0 }
 {}
 
-/// What a pool uses passes none of its limits.
+/// What a pool uses exceeds none of its limits.
 pub fn no_pool_passes_its_limit()
     ensures { (c : Configuration) (journal : List Entry) (s : State) (p : PoolId) (pool : Pool) →
         Runs c journal s → slice_get c.pools p.0 ≡ Some pool →
         IsTrue (fits (count_of c s p) pool.limit) }
 {}
 
-/// What a tenant uses, with what its pending requests wait for, passes none of its limits.
+/// What a tenant uses, with what its pending requests wait for, exceeds none of its limits.
 pub fn no_tenant_passes_its_limit()
     ensures { (c : Configuration) (journal : List Entry) (s : State) (t : TenantId)
         (tenant : Tenant) → Runs c journal s → tenant_of c t ≡ Some tenant →
         IsTrue (fits (count_of_tenant c s t) tenant.limit) }
 {}
 
-/// A semaphore has at most its greatest number of handles, each of another job.
+/// A semaphore has at most `max` handles, each of a different job.
 pub fn no_semaphore_passes_its_max()
     ensures few { (c : Configuration) (journal : List Entry) (s : State) (x : SemId) (sem : Sem) →
         Runs c journal s → slice_get c.semaphores x.0 ≡ Some sem →

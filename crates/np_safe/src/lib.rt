@@ -1,4 +1,4 @@
-//! That every run is safe: laws over every journal that the machine gives, and every step of it.
+//! Every run is safe: laws over every journal that the machine produces, and every step of it.
 //!
 //! `specs/Parts` says what holds of every state that a run leads to, part by part (`Invariant`).
 //! Each part is kept by what an accepted event changes; a file of `proofs` has the lemmas of one

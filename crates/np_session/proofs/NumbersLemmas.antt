@@ -1,4 +1,4 @@
--- the numbers of the sessions that pass a test, after a look and a change
+-- the numbers of the sessions that pass a test, as the table is read and changed
 use Rattle.std.proofs.Common.{◌≡◌, ◌≢◌, ℕ, zero, suc, ◌+◌, ◌-◌, ◌<◌, ◌≤◌, Bool, true, false, not, ◌&&◌, ◌||◌, cond, eqb, List, [], ◌∷◌, ◌++◌, length, get_or, set, refl, sym, ap, ◌∙◌, ◌⊎◌, inl, inr, arith}
 use Rattle.std.proofs.lemmas.Bool.{cases_lt}
 use Rattle.std.proofs.lemmas.Bool.Decides.{nat_tests, eqb_tells}
@@ -10,7 +10,7 @@ use Rattle.np_session.specs.declared.sessions.Life.TheVariants.{Live, Mute, Over
 use Rattle.np_session.specs.Known.{IsKnown, Known, after_begin, after_end, is_in, after_mute, mute_with, with_spare, without}
 use Rattle.np_session.specs.Numbers.{is_live, is_mute, known_of, life_of, numbers}
 
--- a number below the first is not among them
+-- a number below the first one is not among them
 is_in-below : (p : Life → Bool) (n : ℕ) (xs : List Life) (id : ℕ) → id < n → is_in (numbers p n xs) id ≡ false
 is_in-below p n [] id below = refl
 is_in-below p n (x ∷ xs) id below =
@@ -30,17 +30,17 @@ is_in-later p n k x xs false is =
     let step : n + suc k ≡ n + 1 + k = omega arith in
     rw is (ap (is_in (numbers p (n + 1) xs)) step)
 
--- a number is among them where its state passes
+-- a number is among them if its state passes
 pub is_in-at : (p : Life → Bool) → p Over ≡ false → (n : ℕ) (xs : List Life) (i : ℕ) → is_in (numbers p n xs) (n + i) ≡ p (get_or xs i Over)
 is_in-at p over n [] i = sym over
 is_in-at p over n (x ∷ xs) zero = let same : n + 0 ≡ n = omega arith in rw same (is_in-first p n x xs (p x) refl)
 is_in-at p over n (x ∷ xs) (suc k) = is_in-later p n k x xs (p x) refl ∙ is_in-at p over (n + 1) xs k
 
--- the number 0 is never given out
+-- no session gets the number 0
 pub is_in-zero : (p : Life → Bool) (xs : List Life) → is_in (numbers p 1 xs) 0 ≡ false
 is_in-zero p xs = is_in-below p 1 xs 0 (omega arith)
 
--- by number, as the calls ask
+-- the same by number, as the calls use it
 pub is_in-number : (p : Life → Bool) → p Over ≡ false → (xs : List Life) (id : ℕ) → 0 < id → is_in (numbers p 1 xs) id ≡ p (get_or xs (id - 1) Over)
 is_in-number p over xs id some = let step : id ≡ 1 + (id - 1) = omega arith in ap (is_in (numbers p 1 xs)) step ∙ is_in-at p over 1 xs (id - 1)
 
@@ -51,7 +51,7 @@ pub is_in-life_of : (p : Life → Bool) → p Over ≡ false → (xs : List Life
 is_in-life_of p over xs zero = is_in-zero p xs ∙ sym over
 is_in-life_of p over xs (suc k) = is_in-number p over xs (suc k) (omega arith) ∙ sym (ap p (life_of-begun xs (suc k) (omega arith)))
 
--- where a session that passes stands
+-- the place of a session that passes
 pub record HasPlace (p : Life → Bool) (xs : List Life) (id : ℕ) : Type 0 where
   pub some : 0 < id
   pub within : id - 1 < length xs
@@ -70,7 +70,7 @@ HasPlace-passes p over xs (suc k) is =
     let passes = sym there ∙ is in
     record { some = omega arith; within = place_or_none p over xs (suc k - 1) passes; passes = passes }
 
--- the numbers by a test that may look at the number too
+-- the numbers by a test that may also look at the number
 abbrev numbers_by : (ℕ → Life → Bool) → ℕ → List Life → List ℕ
 numbers_by t n [] = []
 numbers_by t n (x ∷ xs) = cond (t n x) (n ∷ numbers_by t (n + 1) xs) (numbers_by t (n + 1) xs)
@@ -235,7 +235,7 @@ pub mute_already : (live mute : Bool) → mute ≡ true → false ≡ (live && n
 mute_already true mute is = rw is refl
 mute_already false mute is = refl
 
--- the numbers rise
+-- the numbers are in rising order
 no_less : (t : Bool) (n : ℕ) (ns : List ℕ) → (0 < length ns → n + 1 ≤ get_or ns 0 0) → 0 < length (cond t (n ∷ ns) ns) → n ≤ get_or (cond t (n ∷ ns) ns) 0 0
 no_less true n ns later some = omega arith
 no_less false n ns later some = let least = later some in omega arith
@@ -269,7 +269,7 @@ mute_live Live is = absurd (cc)
 mute_live Mute is = refl
 mute_live Over is = absurd (cc)
 
--- what always holds of what contracts see
+-- what is always true of what contracts see
 pub IsKnown-known_of : (lives : List Life) (spare : ℕ) → IsKnown (known_of lives spare)
 IsKnown-known_of lives spare = record {
   begun = begun_of lives;

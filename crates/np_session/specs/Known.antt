@@ -1,4 +1,4 @@
--- what is known of sessions, and what each call makes of it
+-- what is known of sessions, and what each call changes of it
 use Rattle.std.specs.Prelude.{◌≡◌, ℕ, ◌+◌, ◌<◌, ◌≤◌, Bool, true, not, ◌||◌, ◌==◌, List, [], ◌∷◌, ◌++◌, filter}
 use Rattle.std.specs.List.{list_any}
 use Rattle.std.specs.List.Sorted.{IsStrictlyIncreasing}
@@ -35,11 +35,12 @@ after_end known id = record known { live = without known.live id; mute = without
 abbrev pub after_mute : Known → ℕ → Known
 after_mute known id = record known { mute = mute_with known.live known.mute id }
 
--- the same but for what can begin without memory
+-- the same except for how many can begin without memory
 abbrev pub with_spare : Known → ℕ → Known
 with_spare known n = record known { spare = n }
 
--- what always holds of sessions: a live one was begun, a mute one is live, and each live number stands once
+-- what is always true of sessions: a live one was begun, a mute one is live, and each live number
+-- is listed once
 pub record IsKnown (known : Known) : Type 0 where
   pub begun : (id : ℕ) → is_in known.live id ≡ true → (0 < id) × (id ≤ known.begun)
   pub live : (id : ℕ) → is_in known.mute id ≡ true → is_in known.live id ≡ true

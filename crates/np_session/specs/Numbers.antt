@@ -1,4 +1,4 @@
--- the table of sessions as lists of numbers, for the code alone
+-- the table of sessions as lists of numbers, for the code only
 use Rattle.std.specs.Prelude.{ℕ, ◌+◌, ◌-◌, ◌==◌, Bool, true, false, List, [], ◌∷◌, length, slice_index_or, if◌then◌else◌}
 use Rattle.np_session.specs.Known.{Known}
 use Rattle.np_session.specs.declared.sessions.Life.{Life}
@@ -16,7 +16,7 @@ is_mute Live = false
 is_mute Mute = true
 is_mute Over = false
 
--- the places that pass, counted from a number on
+-- the places that pass, counted from a given number
 abbrev pub numbers : (Life → Bool) → ℕ → List Life → List ℕ
 numbers passes n [] = []
 numbers passes n (life ∷ lives) = if passes life then n ∷ numbers passes (n + 1) lives else numbers passes (n + 1) lives

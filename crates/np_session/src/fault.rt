@@ -8,9 +8,9 @@ use std::alloc::{AllocError, AllocFailed};
 /// Why no session begins.
 #[derive(Clone, Copy, Debug, PartialEq, Eq)]
 pub enum SessionFault {
-    /// All 4,294,967,295 numbers were given out.
+    /// All 4,294,967,295 numbers were used.
     Spent,
-    /// No memory was found.
+    /// Memory ran out.
     NoMemory,
 }
 

@@ -1,8 +1,8 @@
-//! The sessions of the tree, by number: which were begun, which live, and which of these are mute.
+//! The sessions of the tree, by number: which were begun, which are live, and which are mute.
 //!
-//! `specs/Known` is what contracts see of `Sessions`, and what each call makes of it.
+//! `specs/Known` is what contracts see of `Sessions`, and what each call changes of it.
 //!
-//! A number is never given out twice, a mute session is live, and each call by number takes the same
+//! No number is used twice, a mute session is live, and each call by number takes the same
 //! time however many sessions there are.
 #![tactic(auto)]
 

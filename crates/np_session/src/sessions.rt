@@ -62,7 +62,7 @@ impl Model for Sessions {
 }
 
 impl Sessions {
-    /// No session yet.
+    /// No session so far.
     pub fn new(alloc: Global) -> Sessions
         ensures { with_spare result 0 ≡ record { begun = 0; live = []; mute = []; spare = 0 } }
     {
@@ -141,7 +141,7 @@ impl Sessions {
         life_of(&self.lives, id).is_mute()
     }
 
-    /// How many sessions are live. Takes no time.
+    /// How many sessions are live. Takes constant time.
     pub fn count(&self) -> u32
         ensures live { result ≡ length self.now.live }
         ensures known { IsKnown self.now }

@@ -1,10 +1,10 @@
--- edits of a list round the item in the middle are edits of one side
+-- edits of a list around the item in the middle are edits of one side
 use Rattle.std.proofs.Common.{◌≡◌, ℕ, ◌+◌, ◌-◌, ◌<◌, ◌≤◌, zero, suc, List, [], ◌∷◌, ◌++◌, length, drop, insert, remove, slice_get, Some, refl, sym, ap, arith}
 use Rattle.std.proofs.lemmas.List.Edits.{insert-append_left, insert-append_right, remove-append_left, remove-append_right}
 use Rattle.np_lists.specs.Change.{change_at}
 
--- Edits of a list round the item in the middle, `left ++ item ∷ right`, are edits of one side.
--- A place past the middle is given with the place on the right, `below`, that it is.
+-- Edits of a list around the item in the middle, `left ++ item ∷ right`, are edits of one side.
+-- A place past the middle comes with `below`, its place on the right.
 
 -- an item put in before the item in the middle
 pub insert-left : {T : Type 0} (left right : List T) (item new : T) (place : ℕ) → place ≤ length left → insert left place new ++ item ∷ right ≡ insert (left ++ item ∷ right) place new

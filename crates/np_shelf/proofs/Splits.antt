@@ -8,20 +8,20 @@ use Rattle.std.proofs.lemmas.List.Folds.{prefix_len-append}
 use Rattle.std.proofs.lemmas.List.Sums.{prefix_len-le-length}
 use Rattle.np_lists.specs.Rising.{IsSplit}
 
--- where an item of the front fails, what comes behind does not matter
+-- if an item of the front fails, what comes behind does not matter
 prefix_len-append_short : {T : Type 0} (p : T → Bool) (left rest : List T) → prefix_len p left < length left → prefix_len p (left ++ rest) ≡ prefix_len p left
 prefix_len-append_short p left rest short = let all = prefix_len-append p left rest in grind (arith, nat_tests)
 
--- where the whole front passes, what comes behind is counted too
+-- if the whole front passes, what comes behind is counted too
 prefix_len-append_whole : {T : Type 0} (p : T → Bool) (left rest : List T) → prefix_len p left ≡ length left → prefix_len p (left ++ rest) ≡ length left + prefix_len p rest
 prefix_len-append_whole p left rest whole = let all = prefix_len-append p left rest in grind (arith, nat_tests)
 
--- the item in the middle stands where the left side ends
+-- the item in the middle is where the left side ends
 at-middle : {T : Type 0} (left right : List T) (item : T) → get_or (left ++ item ∷ right) (length left) item ≡ item
 at-middle [] right item = refl
 at-middle (x ∷ left) right item = at-middle left right item
 
--- where an item passes, each item before it passes
+-- if an item passes, each item before it passes
 whole-left : {T : Type 0} (p : T → Bool) (left right : List T) (item : T) → IsSplit p (left ++ item ∷ right) → p item ≡ true → prefix_len p left ≡ length left
 whole-left p left right item split passes =
     ⊎_elim
@@ -35,7 +35,7 @@ whole-left p left right item split passes =
     (λ long. let most = prefix_len-le-length p left in omega arith)
     (cases_lt (prefix_len p left) (length left))
 
--- how many items pass, where the item in the middle does
+-- how many items pass, if the item in the middle does
 pub prefix_len-passed : {T : Type 0} (p : T → Bool) (left right : List T) (item : T) → IsSplit p (left ++ item ∷ right) → p item ≡ true → length left + 1 + prefix_len p right ≡ prefix_len p (left ++ item ∷ right)
 prefix_len-passed p left right item split passes =
     let whole = prefix_len-append_whole p left (item ∷ right) (whole-left p left right item split passes) in
@@ -51,7 +51,7 @@ IsSplit-right p left right item split passes k d from within =
     let there = get_or-append-add left (item ∷ right) (suc k) d in
     ap p (sym there) ∙ fails
 
--- how many items pass, where the item in the middle does not
+-- how many items pass, if the item in the middle does not
 pub prefix_len-stopped : {T : Type 0} (p : T → Bool) (left right : List T) (item : T) → p item ≡ false → prefix_len p left ≡ prefix_len p (left ++ item ∷ right)
 prefix_len-stopped p left right item fails =
     ⊎_elim
@@ -63,7 +63,7 @@ prefix_len-stopped p left right item fails =
     omega arith)
     (cases_lt (prefix_len p left) (length left))
 
--- the items of the front stand where they stood
+-- the items of the front are where they were
 at-left : {T : Type 0} (left rest : List T) (k : ℕ) (d : T) → k < length left → get_or (left ++ rest) k d ≡ get_or left k d
 at-left [] rest k d within = absurd (omega arith)
 at-left (x ∷ left) rest zero d within = refl

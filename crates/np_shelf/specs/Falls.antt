@@ -1,4 +1,4 @@
--- a walk down the boxes ends
+-- a walk down the boxes comes to an end
 use Rattle.std.specs.Prelude.{◌≤◌, max, length, ◌∷◌}
 use Rattle.std.proofs.Common.{arith, length-append}
 use Rattle.np_shelf.specs.declared.shelf.Link.{Link}

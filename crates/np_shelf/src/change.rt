@@ -2,7 +2,7 @@
 
 ghost use Rattle.std.specs.Prelude.{◌≡◌};
 
-/// A change of one item in place, which may keep something of the item as it was.
+/// A change of one item in place, which may keep something of the item from before.
 pub trait Change<T> {
     /// What the item becomes.
     ghost after: { Self → T → T };

@@ -10,7 +10,7 @@ use std::mem;
 /// An item with the memory that it takes in a shelf.
 #[derive(Drop)]
 pub struct Piece<T> {
-    // Nothing stands beside the item.
+    // The knot has nothing beside the item.
     pub(crate) knot: Box<Knot<T>>,
 }
 
@@ -25,7 +25,7 @@ impl<T> Model for Piece<T> {
 }
 
 impl<T: Drop> Piece<T> {
-    /// Takes the memory for an item. Without it the item is dropped.
+    /// Takes the memory for an item. If memory runs out, the item is dropped.
     pub fn new(alloc: Global, item: T) -> Result<Piece<T>, AllocError>
         ensures { IfOk result (λ piece. piece ≡ item) }
     {
@@ -48,7 +48,7 @@ impl<T: Drop> Piece<T> {
         &self.knot.item
     }
 
-    /// The item alone: its memory is given back.
+    /// The item alone: its memory is freed.
     pub fn into_item(self) -> T
         ensures { result ≡ self }
     {
@@ -62,7 +62,7 @@ impl<T: Drop> Piece<T> {
         item
     }
 
-    /// The item and another change places.
+    /// Exchanges the item with another.
     pub(crate) fn exchange(&mut self, item: &mut T)
         ensures piece { self.new ≡ item.old }
         ensures item { item.new ≡ self.old }

@@ -1,10 +1,10 @@
-//! What is sought in a list.
+//! What is searched for in a list.
 
 ghost use Rattle.std.specs.Prelude.{◌≡◌, Bool};
 
-/// What is sought in a list: of each item it tells whether the item stands before it.
+/// What is searched for in a list: for each item it says whether the item comes before it.
 pub trait Probe<T> {
-    /// Whether an item stands before what is sought.
+    /// Whether an item comes before what is searched for.
     ghost before: { Self → T → Bool };
 
     fn is_before(&self, item: &T) -> bool

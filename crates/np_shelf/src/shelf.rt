@@ -15,7 +15,7 @@ use crate::probe::Probe;
 use std::marker::Model;
 use std::mem;
 
-/// A list in a tree, of which each side is again a list.
+/// A list in a tree: each of its two sides is again a list.
 #[cycle(shelf)]
 #[derive(Drop)]
 pub struct Shelf<T> {
@@ -35,7 +35,7 @@ pub(crate) struct Knot<T> {
     pub(crate) left: Shelf<T>,
     pub(crate) item: T,
     pub(crate) right: Shelf<T>,
-    // How many items there are, both sides and the one between.
+    // How many items there are: both sides and the one between.
     pub(crate) len: usize,
 }
 
@@ -82,7 +82,7 @@ impl<T: Drop> Shelf<T> {
         self.len() == 0
     }
 
-    /// The item at a place, and none past the end. The time grows with the logarithm of the length.
+    /// The item at a place, and none past the end. The time is logarithmic in the length.
     pub fn at(&self, place: usize) -> Option<&T>
         ensures { option_copied result ≡ slice_get self.now place }
     {
@@ -101,8 +101,8 @@ impl<T: Drop> Shelf<T> {
         }
     }
 
-    /// How many items stand before what is sought: the place where it stands, or would. The items
-    /// that are asked grow in number with the logarithm of the length.
+    /// How many items come before what is searched for: the place where it is, or would be. The
+    /// number of items that the probe sees is logarithmic in the length.
     pub fn place<P: Probe<T>>(&self, probe: &P) -> usize
         requires split { IsSplit (P.before probe.now) self.now }
         ensures { result ≡ prefix_len (P.before probe.now) self.now }
@@ -119,8 +119,7 @@ impl<T: Drop> Shelf<T> {
         }
     }
 
-    /// Puts an item in, so that it stands at the place. It takes no memory, and the time grows with
-    /// the logarithm of the length.
+    /// Inserts an item at the place. It takes no memory, and the time is logarithmic in the length.
     pub fn insert(&mut self, place: usize, piece: Piece<T>)
         requires within { place ≤ length self.old }
         requires room { length self.old < 18_446_744_073_709_551_615 }
@@ -141,8 +140,8 @@ impl<T: Drop> Shelf<T> {
         self.balance();
     }
 
-    /// Takes the item at the place out, with the memory that it took. It takes none, and the time
-    /// grows with the logarithm of the length.
+    /// Removes the item at the place, with the memory that it took. It takes none, and the time is
+    /// logarithmic in the length.
     pub fn remove(&mut self, place: usize) -> Piece<T>
         requires { place < length self.old }
         ensures piece { slice_get self.old place ≡ Some result }
@@ -171,8 +170,7 @@ impl<T: Drop> Shelf<T> {
         piece
     }
 
-    /// Changes the item at the place. It takes no memory, and the time grows with the logarithm of
-    /// the length.
+    /// Changes the item at the place. Takes no memory, and the time is logarithmic in the length.
     pub fn change<C: Change<T>>(&mut self, place: usize, change: &mut C)
         requires { place < length self.old }
         ensures items { self.new ≡ change_at place (C.after change.old) self.old }
@@ -191,7 +189,7 @@ impl<T: Drop> Shelf<T> {
         }
     }
 
-    /// What holds the items, and leaves none.
+    /// Takes the link to the items, and leaves none.
     fn take(&mut self) -> Link<T>
         ensures items { items_of result ≡ self.old }
         ensures counted { IsCounted result }

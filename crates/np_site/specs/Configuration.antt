@@ -17,7 +17,7 @@ pub record Configuration : Type 0 where
   -- the pools of all providers, in the order of their providers
   pub pools : List Pool
   pub semaphores : List Sem
-  -- the tenants that are listed, beside the tenant `default`
+  -- the tenants that are listed, besides the tenant `default`
   pub tenants : List Tenant
   pub requesters : List Requester
   -- the jobs of all requesters, in the order of their requesters

@@ -28,7 +28,7 @@ pub record HasNewName {T : Type 0} (name : T → List ℕ) (earlier : List T) (x
   pub named : is_name_text (name x) ≡ true
   pub new : list_any (λ row. bytes_eq (name x) (name row)) earlier ≡ false
 
--- a row may stand after the earlier rows of its owner, and after no row of a later owner
+-- a row may come after the earlier rows of its owner, and after no row of a later owner
 pub record StandsByOwner {T : Type 0} (owner : T → ℕ) (P : List T → T → Type 0) (earlier : List T) (x : T) : Type 0 where
   pub in_order : All (λ y. owner y ≤ owner x) earlier
   pub own : P (filter (λ y. owner y == owner x) earlier) x
@@ -70,7 +70,7 @@ pub record IsLimit (l : Limit) : Type 0 where
   pub cores : IfSome l.cores (λ n. n ≤ POOL_CORES)
   pub ram : IfSome l.ram (λ n. n ≤ POOL_RAM)
 
--- a pool beside the earlier ones of its provider, where there are so many labels
+-- a pool, given the earlier ones of its provider, if there are this many labels
 pub record IsPool (labels : ℕ) (earlier : List Pool) (p : Pool) : Type 0 where
   pub name : HasNewName (λ (r : Pool). r.name) earlier p
   pub limit : IsLimit p.limit
@@ -84,7 +84,7 @@ pub record IsSem (earlier : List Sem) (s : Sem) : Type 0 where
   pub some : 1 ≤ s.max
   pub max : s.max ≤ HANDLES
 
--- a listed tenant beside the earlier ones
+-- a listed tenant, given the earlier ones
 pub record IsTenant (earlier : List Tenant) (t : Tenant) : Type 0 where
   pub name : HasNewName (λ (r : Tenant). r.name) earlier t
   pub listed : bytes_eq t.name default_name ≡ false
@@ -99,7 +99,7 @@ pub record IsRequester (earlier : List Requester) (q : Requester) : Type 0 where
 abbrev pub IsPriority : ℕ → Type 0
 IsPriority n = (n ≡ 100) ⊎ (n ≡ 200) ⊎ (n ≡ 300)
 
--- a label that a job asks for, where there are so many
+-- a label that a job requests, if there are this many labels
 abbrev pub IsWanted : ℕ → LabelId → Type 0
 IsWanted labels l = l.0 < labels
 
@@ -111,7 +111,8 @@ pub record IsTaken (semaphores : ℕ) (earlier : List SemId) (s : SemId) : Type 
   pub semaphore : s.0 < semaphores
   pub new : is_untaken earlier s ≡ true
 
--- a job beside the earlier ones of its requester, where there are so many labels, semaphores and listed tenants
+-- a job, given the earlier ones of its requester and the numbers of labels, semaphores and listed
+-- tenants
 pub record IsJob (labels semaphores tenants : ℕ) (earlier : List Job) (j : Job) : Type 0 where
   pub name : HasNewName (λ (r : Job). r.name) earlier j
   pub wanted : All (IsWanted labels) j.labels
@@ -123,7 +124,7 @@ pub record IsJob (labels semaphores tenants : ℕ) (earlier : List Job) (j : Job
   pub few_taken : length j.semaphores ≤ JOB_SEMAPHORES
   pub tenant : j.tenant.0 ≤ tenants
 
--- a role that is there, where there are so many pools and requesters; the reaper has no fault
+-- a role that exists, given the numbers of pools and requesters; the reaper has no fault
 abbrev pub IsRole : ℕ → ℕ → Role → Type 0
 IsRole pools requesters (role.Launcher p) = p.0 < pools
 IsRole pools requesters (role.Janitor p) = p.0 < pools

@@ -13,7 +13,7 @@ pub type Name = Items<u8>;
 pub type OfferList = Items<Offer>;
 /// Numbers of starts.
 pub type NumberList = Items<u32>;
-/// The labels that a job asks for.
+/// The labels that a job requests.
 pub type LabelList = Items<LabelId>;
 /// The semaphores that a job takes.
 pub type SemList = Items<SemId>;
@@ -95,9 +95,9 @@ pub struct Job {
     pub relative_priority: u32,
     /// At most 8 semaphores, no repeats.
     pub semaphores: SemList,
-    /// Whether the nodes are asked for before the semaphores are taken (Zuul's `resources-first`).
+    /// Whether the nodes are requested before the semaphores are taken (Zuul's `resources-first`).
     pub resources_first: bool,
-    /// What its nodes are left as.
+    /// The state in which its nodes are left.
     pub end: EndAs,
     /// 0 is the tenant `default`, and those of the configuration count from 1.
     pub tenant: TenantId,
@@ -108,7 +108,7 @@ pub struct Job {
 pub enum FaultKind {
     /// Its session expires.
     Expire,
-    /// It stops, its session expires, and the role goes on with a new one.
+    /// It stops, its session expires, and the role continues with a new one.
     Crash,
     /// It stops for good.
     Stop,

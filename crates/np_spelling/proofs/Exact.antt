@@ -1,4 +1,4 @@
--- What a reader that has to pass all bytes answers, by its laws.
+-- What a reader that has to pass all bytes returns, by its laws.
 use Rattle.std.proofs.Common.{◌≡◌, ℕ, ◌-◌, ◌<◌, ◌≤◌, zero, suc, List, [], ◌∷◌, ◌++◌, length, take, Option, Some, None, Ok, Err, refl, sym, ap, subst, ◌∙◌, append_assoc, arith, length-append}
 use Rattle.std.proofs.lemmas.List.{append-nil, take_at}
 use Rattle.np_spelling.specs.declared.fault.BadRecord.{BadRecord}

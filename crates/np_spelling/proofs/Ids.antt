@@ -22,7 +22,7 @@ use Rattle.np_spelling.proofs.Words.{Valued, valued}
 
 -- ## A fixed count of digits
 
--- each limit is the one before it with some digit behind it
+-- each limit is the one before it with some digit appended
 abbrev pub Steps : ℕ → List ℕ → Type 0
 Steps l [] = Unit {0}
 Steps l (m ∷ ms) = (l * 10 ≤ m) × (m ≤ l * 10 + 9) × Steps m ms
@@ -123,7 +123,7 @@ fixing l limits n within steps = record {
   complete = λ t x follows. fixed_complete l limits n t.0 x steps t.1 t.2 t.3;
 }
 
--- ## No zero in front
+-- ## No leading zero
 
 abbrev Nonzero : {F : List ℕ → Type 0} {B : Type 0} → Read F B → Type 0
 Nonzero R = (t : R.Tree) × (begins 48 (R.text t) ≡ false)

@@ -7,7 +7,7 @@ use Rattle.np_spelling.specs.Spelling.{list_text, rest_text}
 use Rattle.np_spelling.proofs.Readers.{Any, NoDigit, Read, behind, chain, forking, giving, leading, rerun}
 use Rattle.np_spelling.proofs.Words.{Valued, valued}
 
--- at most so many, and each has this
+-- at most `room` items, and each has this
 abbrev pub Few : {A : Type 0} → (A → Type 0) → ℕ → List A → Type 0
 Few P room xs = (length xs ≤ room) × AllByRecursion P xs
 
@@ -122,7 +122,7 @@ module _ {A : Type 0} (R : Read NoDigit A) (P : A → Type 0) (text : A → List
   pub list_valued : Valued list_parts (Few P (suc room)) (list_text text)
   list_valued = record { to = list_to; back = list_back }
 
-  -- a list of at most one item more than room
+  -- a list of at most one more item than room
   abbrev pub listing : Read Any (List A)
   listing =
       let values = valued list_parts (Few P (suc room)) (list_text text) list_valued in record {

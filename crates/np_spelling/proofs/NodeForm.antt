@@ -150,7 +150,7 @@ tenant =
 abbrev TenantOk : Option TenantId → Type 0
 TenantOk o = IfSome o (λ t. t.0 < 2 ^ 16)
 
--- the end says the tenant, or says nothing and stands for the first
+-- the end says the tenant, or says nothing and means the first
 abbrev EndsWith : Option TenantId → List ℕ → Type 0
 EndsWith o end = TenantOk o × ((end ≡ node_tenant o) ⊎ ((o ≡ default_tenant) × (end ≡ codes "}")))
 

@@ -15,9 +15,9 @@ use Rattle.np_text.specs.Number.{number_of}
 use Rattle.np_spelling.specs.Reading.{begins, digits, number}
 use Rattle.np_spelling.proofs.Readers.{Agree, NoDigit, Read, Says, Told, behind, leading}
 
--- ## Digits behind a number
+-- ## Digits after a number
 
--- digits behind n, which make m of at most max of it
+-- digits after n, which make it m, at most max
 abbrev pub Longer : ℕ → ℕ → Type 0
 Longer max n = (m : ℕ) × (m ≤ max) × (t : List ℕ) × (decimal n ++ t ≡ decimal m)
 
@@ -45,7 +45,7 @@ says_longer max n c step None front says = (one_longer max n c step says.0, says
 abbrev DigitsTold : ℕ → ℕ → List ℕ → Option ℕ → List ℕ → Type 0
 DigitsTold max n s o left = Told (digits max n) (longer_text max n) (longer_value max n) s o left
 
--- no digit more
+-- no more digits
 abbrev ended : (max n : ℕ) → n ≤ max → Longer max n
 ended max n most = (n, most, [], append-nil (decimal n))
 
@@ -86,7 +86,7 @@ digit_behind : (xs : List ℕ) (c : ℕ) (t : List ℕ) → all_ascii_digits (xs
 digit_behind [] c t all = (both_true (is_ascii_digit c) (all_ascii_digits t) all).0
 digit_behind (x ∷ xs) c t all = digit_behind xs c t (both_true (is_ascii_digit x) (all_ascii_digits (xs ++ c ∷ t)) all).1
 
--- a digit more is a digit, and makes at most the whole number
+-- one more digit is a digit, and makes at most the whole number
 part_fits : (n m c : ℕ) (t : List ℕ) → n < 2 ^ 64 → m < 2 ^ 64 → decimal n ++ c ∷ t ≡ decimal m → (is_ascii_digit c ≡ true) × (n * 10 + (c - 48) ≤ m)
 part_fits n m c t n_small m_small whole =
     let digit = digit_behind (decimal n) c t (ap all_ascii_digits whole ∙ digits_decimal model m m_small) in
@@ -205,7 +205,7 @@ numbering max least small = record {
   complete = number_complete max least small;
 }
 
--- ## Numbers behind fixed bytes
+-- ## Numbers after fixed bytes
 
 abbrev pub number_behind_text : (text : List ℕ) (max : ℕ) → 9 ≤ max → max < 2 ^ 64 → Read NoDigit ℕ
 number_behind_text text max least small = behind (leading text) (λ _. numbering max least small)

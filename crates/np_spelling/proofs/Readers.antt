@@ -16,7 +16,7 @@ NoDigit (c ∷ cs) = is_ascii_digit c ≡ false
 
 -- ## Readers with their laws
 
--- x goes on with the same byte
+-- x continues with the same byte
 abbrev pub Agree : List ℕ → List ℕ → Type 0
 Agree [] x = ⊥
 Agree (c ∷ cs) x = (xs : List ℕ) × (x ≡ c ∷ xs)
@@ -26,7 +26,8 @@ abbrev pub Says : {T B : Type 0} → (T → List ℕ) → (T → B) → Option B
 Says {T} text value (Some b) front = (t : T) × (value t ≡ b) × (text t ≡ front)
 Says {T} text value None front = (t : T) × (rest : List ℕ) × (text t ≡ front ++ rest)
 
--- what an answer on s says, with the bytes that were left: it is the same whatever stands behind the first of these
+-- what an answer on s says, with the bytes that were left: it is the same whatever follows the
+-- first of these
 abbrev pub Told : {T B : Type 0} → Reader B → (T → List ℕ) → (T → B) → List ℕ → Option B → List ℕ → Type 0
 Told run text value s o left = (front : List ℕ) × (s ≡ front ++ left) × Says text value o front × ((x : List ℕ) → Agree left x → run (front ++ x) ≡ (o, x))
 
@@ -40,7 +41,7 @@ pub record Read (Follows : List ℕ → Type 0) (B : Type 0) : Type 1 where
   pub told : (s : List ℕ) → Told run text value s (run s).0 (run s).1
   pub complete : (t : Tree) (x : List ℕ) → Follows x → run (text t ++ x) ≡ (Some (value t), x)
 
--- ## One behind the other
+-- ## One after the other
 
 pub agree_front : (g s left x : List ℕ) → s ≡ g ++ left → Agree left x → Agree s (g ++ x)
 agree_front [] s left x e agree = subst (λ l. Agree l x) (sym e) agree
@@ -127,7 +128,7 @@ chain first next fits = record {
   complete = then_complete first next fits;
 }
 
--- behind a reader that anything may follow
+-- after a reader that anything may follow
 abbrev pub behind : {G : List ℕ → Type 0} {A B : Type 0} (first : Read Any A) (next : A → Read G B) → Read G B
 behind first next = chain first next (λ t u x follows. tt)
 
@@ -233,7 +234,7 @@ pub fork_complete : {F : List ℕ → Type 0} {B : Type 0} (c : ℕ) (one other 
 fork_complete c one other with_c with_other (inl t) x follows = let first = with_c t x in rw first (one.complete t x follows)
 fork_complete c one other with_c with_other (inr t) x follows = let first = with_other t x follows in rw first (other.complete t x follows)
 
--- one where the byte c comes next, and else the other
+-- one if the byte c comes next, and otherwise the other
 abbrev pub forking : {F : List ℕ → Type 0} {B : Type 0} (c : ℕ) (one other : Read F B)
     → ((t : one.Tree) (x : List ℕ) → begins c (one.text t ++ x) ≡ true) → ((t : other.Tree) (x : List ℕ) → F x → begins c (other.text t ++ x) ≡ false) → Read F B
 forking c one other with_c with_other = record {
@@ -283,7 +284,7 @@ shaped R S = record {
 pub rerun : {F : List ℕ → Type 0} {B : Type 0} (R : Read F B) (run : Reader B) → R.run ≡ run → (s : List ℕ) → Told run R.text R.value s (run s).0 (run s).1
 rerun {F} {B} R run is = subst (λ (r : Reader B). (s : List ℕ) → Told r R.text R.value s (r s).0 (r s).1) is R.told
 
--- a reader that wants no digit behind it, though any byte may follow
+-- a reader with the condition that no digit follows it, though any byte may follow
 abbrev pub loosely : {B : Type 0} → Read Any B → Read NoDigit B
 loosely R = record {
   run = R.run;

@@ -49,7 +49,7 @@ unfolding rest_in
 rest_item r xs j k s t u x more first comma is =
     ap (λ k. with_front xs (rest_in r k s)) more ∙ rw (first, comma, is) (longer xs x (rest_in r k u).0 (rest_in r k u).1)
 
--- what a push leaves where there is room
+-- what a push leaves if there is room
 pub pushed_row : {A : Type 0} (b : Bool) (n : ℕ) (old new : List A) (x : A) → (IsTrue b ↔ (length old < n)) → OnTrue b (new ≡ old ++ x ∷ []) → length old < n → new ≡ old ++ x ∷ []
 pushed_row true n old new x room pushed below = pushed
 pushed_row false n old new x room pushed below = absurd (let held : false ≡ true = room.1 below in cc)

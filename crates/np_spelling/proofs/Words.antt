@@ -47,9 +47,9 @@ valued R Ok text V = record {
   complete = value_complete R Ok text V;
 }
 
--- ## Words that their first bytes tell apart
+-- ## Words that their first bytes determine
 
--- each value's word begins with a byte that tells it
+-- each value's word begins with a byte that determines it
 abbrev pub Tells : {A T : Type 0} → (ℕ → T) → (T → A) → (A → List ℕ) → Type 0
 Tells {A} {T} by value word = (t : T) → (c : ℕ) × (cs : List ℕ) × (word (value t) ≡ c ∷ cs) × (by c ≡ t)
 

@@ -1,4 +1,4 @@
--- How the code reads: what a reader answers, and the bytes that it leaves. Only the code needs this.
+-- How the code reads: what a reader returns and which bytes it leaves. Only the code needs this.
 use Rattle.std.specs.Prelude.{ℕ, zero, suc, ◌+◌, ◌-◌, ◌*◌, ◌==◌, ◌&&◌, nat_le, Bool, false, if◌then◌else◌, List, [], ◌∷◌, ◌++◌, length, codes, Option, Some, None, Result, Ok, Err}
 use Rattle.std.specs.Option.{option_map}
 use Rattle.std.specs.Char.{is_ascii_digit}
@@ -33,7 +33,7 @@ use Rattle.np_text.specs.declared.word.RoleKind.{RoleKind}
 use Rattle.np_text.specs.declared.word.RoleKind.TheVariants as kind
 use Rattle.np_text.specs.Word.{ending_word, node_state_word, role_kind_word}
 
--- from the bytes that are left: the value, if one stands there, and the bytes that are left then
+-- from the bytes that are left: the value, if there is one, and the bytes that are left after it
 abbrev pub Reader : Type 0 → Type 0
 Reader A = List ℕ → Option A × List ℕ
 
@@ -63,11 +63,11 @@ abbrev pub begins : ℕ → List ℕ → Bool
 begins c [] = false
 begins c (b ∷ bs) = b == c
 
--- the first reader where the byte c comes next, and else the other
+-- the first reader if the byte c comes next, and otherwise the other
 abbrev pub fork : {A : Type 0} → ℕ → Reader A → Reader A → Reader A
 fork c one other s = if begins c s then one s else other s
 
--- goes on with a number by its digits, while it is at most max
+-- continues a number by its digits, while it is at most max
 unfoldable pub digits : ℕ → ℕ → Reader ℕ
 digits max n [] = (Some n, [])
 digits max n (c ∷ cs) = if is_ascii_digit c && nat_le (n * 10 + (c - 48)) max then digits max (n * 10 + (c - 48)) cs else (Some n, c ∷ cs)
@@ -77,7 +77,7 @@ unfoldable pub number : ℕ → Reader ℕ
 number max [] = (None, [])
 number max (c ∷ cs) = if is_ascii_digit c then (if c == 48 then (Some 0, cs) else digits max (c - 48) cs) else (None, c ∷ cs)
 
--- these bytes, and behind them a number of at most max
+-- these bytes and then a number of at most max
 unfoldable pub numbered : List ℕ → ℕ → Reader ℕ
 numbered text max = lead text >> number max
 
@@ -94,7 +94,7 @@ max_u32 = 4294967295
 abbrev pub max_u64 : ℕ
 max_u64 = 18446744073709551615
 
--- one digit for each limit, behind n: what the digits make so far is at most their limit
+-- one digit for each limit, after n: what the digits make so far is at most their limit
 unfoldable pub fixed : List ℕ → ℕ → Reader ℕ
 fixed [] n s = (Some n, s)
 fixed (limit ∷ limits) n [] = (None, [])
@@ -124,7 +124,7 @@ request_in = do
 abbrev pub close : {A : Type 0} → Reader (List A)
 close = lead (codes "]") >> gives []
 
--- further items of a list, at most so many, and the bracket
+-- at most `room` further items of a list, and the bracket
 unfoldable pub rest_in : {A : Type 0} → Reader A → ℕ → Reader (List A)
 rest_in item zero = close
 rest_in item (suc room) = fork 93 close (do
@@ -137,7 +137,7 @@ rest_in item (suc room) = fork 93 close (do
 abbrev pub with_front : {A : Type 0} → List A → Option (List A) × List ℕ → Option (List A) × List ℕ
 with_front xs read = (option_map (λ ys. xs ++ ys) read.0, read.1)
 
--- a list of at most one item more than room
+-- a list of at most one more item than room
 unfoldable pub list_in : {A : Type 0} → Reader A → ℕ → Reader (List A)
 list_in item room = do
   lead (codes "[")
@@ -151,7 +151,7 @@ abbrev pub first_byte : List ℕ → ℕ
 first_byte [] = 0
 first_byte (b ∷ bs) = b
 
--- the word of the value that the first byte tells
+-- the word of the value that the first byte determines
 unfoldable pub chosen : {A : Type 0} → (ℕ → A) → (A → List ℕ) → Reader A
 chosen by word s = (lead (word (by (first_byte s))) >> gives (by (first_byte s))) s
 
@@ -353,7 +353,7 @@ phase_in None = lead (codes ",\"phase\":\"") >> open_phase_in
 unfoldable pub no_end_in : Reader (Option PoolId × Option RequestId)
 no_end_in = lead (codes "}") >> gives (None, None)
 
--- an id behind these bytes, and the end of the record
+-- an id after these bytes, and the end of the record
 unfoldable pub asked_end_in : List ℕ → Option PoolId → Reader (Option PoolId × Option RequestId)
 asked_end_in text pool = do
   lead text
@@ -443,7 +443,8 @@ request_record_in = do
     state = state;
   })
 
--- what a reader of n bytes answers in all: its value where it left none, and else the count of bytes that it passed
+-- what a reader of n bytes returns in all: its value if it left none, and otherwise the count of
+-- bytes that it passed
 abbrev pub answer : {A : Type 0} → ℕ → Option A → List ℕ → Result A BadRecord
 answer n (Some a) [] = Ok a
 answer n (Some a) (c ∷ cs) = Err (record { place = n - length (c ∷ cs) })

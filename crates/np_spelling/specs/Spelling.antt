@@ -29,14 +29,14 @@ use Rattle.np_text.specs.declared.id.Role.TheVariants as role
 use Rattle.np_text.specs.declared.word.RoleKind.TheVariants as kind
 use Rattle.np_text.specs.Word.{ending_word, node_state_word, phase_word, reason_text_of, request_state_word, role_kind_word}
 
--- these texts, one behind the other
+-- these texts, one after the other
 abbrev pub joined : List (List ℕ) → List ℕ
 joined [] = []
 joined (text ∷ texts) = text ++ joined texts
 
 -- ## Lists
 
--- what stands behind an item of a list: the further items, each behind a comma, and the bracket
+-- what follows an item of a list: the further items, each after a comma, and the bracket
 abbrev pub rest_text : {A : Type 0} → (A → List ℕ) → List A → List ℕ
 rest_text text [] = codes "]"
 rest_text text (x ∷ xs) = joined (codes "," ∷ text x ∷ rest_text text xs ∷ [])
@@ -98,12 +98,12 @@ SpellsSession s bytes = IsSession s × (bytes ≡ session_text s)
 
 -- ## Nodes
 
--- what stands before the attempts: the request that the node is allocated to, if any
+-- what comes before the attempts: the request that the node is allocated to, if any
 abbrev pub node_front : Option RequestId → List ℕ
 node_front None = codes "{\"attempts\":"
 node_front (Some id) = joined (codes "{\"allocated-to\":\"" ∷ request_text_of id ∷ codes "\",\"attempts\":" ∷ [])
 
--- what stands between the pool and the tick: the server, if any
+-- what comes between the pool and the tick: the server, if any
 abbrev pub node_server : Option ℕ → List ℕ
 node_server None = codes ",\"since\":"
 node_server (Some server) = joined (codes ",\"server\":" ∷ decimal server ∷ codes ",\"since\":" ∷ [])
@@ -143,7 +143,8 @@ pub record IsNode (n : NodeRecord) : Type 0 where
   pub start : n.start < 2 ^ 32
   pub tenant : IfSome n.tenant (λ t. t.0 < 2 ^ 16)
 
--- the record with its tenant, last; or the one of before there were tenants, which stands for the tenant `default`
+-- the record with its tenant, last; or the one from before there were tenants, which means the
+-- tenant `default`
 abbrev pub SpellsNode : NodeRecord → List ℕ → Type 0
 SpellsNode n bytes = IsNode n × ((bytes ≡ node_text n) ⊎ ((n.tenant ≡ default_tenant) × (bytes ≡ node_text_to (codes "}") n)))
 
@@ -184,12 +185,12 @@ pub record IsDeclined (d : Declined) : Type 0 where
 
 -- ## Jobs
 
--- what stands before the nodes: how the job ended, where it is over
+-- what comes before the nodes: how the job ended, if it is over
 abbrev pub job_front : Option Ending → List ℕ
 job_front None = codes "{\"nodes\":"
 job_front (Some e) = joined (codes "{\"ending\":\"" ∷ ending_word e ∷ codes "\",\"nodes\":" ∷ [])
 
--- what stands behind the phase: the pool and the request, where there are any
+-- what follows the phase: the pool and the request, if there are any
 abbrev pub job_end : Option PoolId → Option RequestId → List ℕ
 job_end None None = codes "}"
 job_end None (Some id) = joined (codes ",\"request\":\"" ∷ request_text_of id ∷ codes "\"}" ∷ [])
@@ -202,14 +203,14 @@ job_text j = joined (
     codes ",\"phase\":\"" ∷ phase_word j.phase ∷ codes "\"" ∷
     job_end j.pool j.request ∷ [])
 
--- an ending stands exactly where the job is over
+-- there is an ending if and only if the job is over
 abbrev pub EndsIn : Phase → Option Ending → Type 0
 EndsIn phase.Over (Some e) = Unit {0}
 EndsIn phase.Over None = ⊥
 EndsIn p (Some e) = ⊥
 EndsIn p None = Unit {0}
 
--- a job that was asked has a request, and one that was ever using nodes has a pool too
+-- an asked job has a request, and one that was ever using nodes has a pool too
 abbrev pub HasParts : Phase → Option PoolId → Option RequestId → Type 0
 HasParts phase.New None None = Unit {0}
 HasParts phase.New pool request = ⊥
@@ -233,7 +234,7 @@ SpellsJob j bytes = IsJob j × (bytes ≡ job_text j)
 
 -- ## Requests
 
--- what stands between the declines and the labels: the job, if one asked
+-- what comes between the declines and the labels: the job, if one made the request
 abbrev pub request_job : Option JobId → List ℕ
 request_job None = codes ",\"labels\":"
 request_job (Some j) = joined (codes ",\"job\":" ∷ decimal j.0 ∷ codes ",\"labels\":" ∷ [])
@@ -243,7 +244,7 @@ abbrev pub request_pinned : Option PoolId → List ℕ
 request_pinned None = []
 request_pinned (Some p) = joined (codes ",\"pinned\":" ∷ decimal p.0 ∷ [])
 
--- what stands before the relative priority: the pool that serves the request, if any
+-- what comes before the relative priority: the pool that serves the request, if any
 abbrev pub request_pool : Option PoolId → List ℕ
 request_pool None = codes ",\"relative-priority\":"
 request_pool (Some p) = joined (codes ",\"pool\":" ∷ decimal p.0 ∷ codes ",\"relative-priority\":" ∷ [])
@@ -257,14 +258,14 @@ request_record_text r = joined (
     codes ",\"state\":\"" ∷ request_state_word r.state ∷
     codes "\"}" ∷ [])
 
--- a job asked, or a pool did for itself: one of both
+-- a job made the request, or a pool did for itself: exactly one of the two
 abbrev pub IsAsked : Option JobId → Option PoolId → Type 0
 IsAsked (Some j) None = j.0 < 2 ^ 32
 IsAsked None (Some p) = p.0 < 2 ^ 16
 IsAsked (Some j) (Some p) = ⊥
 IsAsked None None = ⊥
 
--- a pool serves the request exactly while it is pending or fulfilled
+-- a pool serves the request if and only if it is pending or fulfilled
 abbrev pub IsServed : RequestState → Option PoolId → Type 0
 IsServed state.Requested None = Unit {0}
 IsServed state.Failed None = Unit {0}
@@ -289,13 +290,13 @@ pub record IsRequest (r : RequestRecord) : Type 0 where
 abbrev pub SpellsRequest : RequestRecord → List ℕ → Type 0
 SpellsRequest r bytes = IsRequest r × (bytes ≡ request_record_text r)
 
--- ## Where bytes stop to begin a spelling
+-- ## Where bytes stop being the beginning of a spelling
 
 -- some spelling begins with these bytes
 abbrev pub Begins : {V : Type 0} → (V → List ℕ → Type 0) → List ℕ → Type 0
 Begins {V} Spells front = (v : V) × (rest : List ℕ) × Spells v (front ++ rest)
 
--- the longest beginning of the bytes with which some spelling begins is this long
+-- the longest prefix of the bytes with which some spelling begins has this length
 pub record StopsAt {V : Type 0} (Spells : V → List ℕ → Type 0) (bytes : List ℕ) (place : ℕ) : Type 0 where
   pub within : place ≤ length bytes
   pub begins : Begins Spells (take place bytes)

@@ -1,4 +1,4 @@
-//! The bytes that are left, and what may stand at their front.
+//! The bytes that are left, and what may be at their front.
 ghost use Rattle.std.specs.Prelude.{◌≡◌, ◌≤◌, ◌+◌, ◌-◌, ◌*◌, [], ◌∷◌, ◌&&◌, nat_le, if◌then◌else◌, false, drop, length, IfSome};
 ghost use Rattle.std.specs.Bool.{OnTrue, OnFalse};
 ghost use Rattle.std.specs.Char.{is_ascii_digit};
@@ -57,7 +57,7 @@ impl<'a> Cursor<'a> {
         }
     }
 
-    /// Passes this byte, where it comes next.
+    /// Passes this byte, if it comes next.
     #[inline(always)]
     pub(crate) fn pass(&mut self, byte: u8) -> bool
         ensures passed { OnTrue result (self.old ≡ byte ∷ self.new) }
@@ -72,7 +72,7 @@ impl<'a> Cursor<'a> {
         }
     }
 
-    /// Passes these bytes, as many as stand there.
+    /// Passes these bytes, as far as they come next.
     #[inline(always)]
     #[tactic(auto, using(crate::proofs::CursorLemmas::leads))]
     pub(crate) fn lead(&mut self, text: &[u8]) -> Option<()>
@@ -87,7 +87,7 @@ impl<'a> Cursor<'a> {
     }
 
     /// Passes a decimal number of at most `max`. A digit that would make it larger is left, and so
-    /// are digits behind a 0 in front.
+    /// are digits after a leading 0.
     #[inline(always)]
     #[tactic(auto, unfolding(crate::specs::Reading::number))]
     pub(crate) fn number(&mut self, max: u64) -> Option<u64>
@@ -110,7 +110,7 @@ impl<'a> Cursor<'a> {
         Some(value)
     }
 
-    /// Passes these bytes, and behind them a number of at most `max`.
+    /// Passes these bytes and then a number of at most `max`.
     #[inline(always)]
     #[tactic(auto, unfolding(crate::specs::Reading::numbered))]
     pub(crate) fn numbered(&mut self, text: &[u8], max: u64) -> Option<u64>
@@ -146,7 +146,7 @@ impl<'a> Cursor<'a> {
         Some(self.number(u64::from(u32::MAX))? as u32)
     }
 
-    /// Passes these bytes, and behind them a number of 64 bits.
+    /// Passes these bytes and then a number of 64 bits.
     #[inline(always)]
     pub(crate) fn u64_behind(&mut self, text: &[u8]) -> Option<u64>
         ensures { numbered text.now max_u64 self.old ≡ (result, self.new) }
@@ -154,7 +154,7 @@ impl<'a> Cursor<'a> {
         self.numbered(text, u64::MAX)
     }
 
-    /// Passes these bytes, and behind them a number of 16 bits.
+    /// Passes these bytes and then a number of 16 bits.
     #[inline(always)]
     pub(crate) fn u16_behind(&mut self, text: &[u8]) -> Option<u16>
         ensures { numbered text.now max_u16 self.old ≡ (result, self.new) }
@@ -162,7 +162,7 @@ impl<'a> Cursor<'a> {
         Some(self.numbered(text, u64::from(u16::MAX))? as u16)
     }
 
-    /// Passes these bytes, and behind them a number of 32 bits.
+    /// Passes these bytes and then a number of 32 bits.
     #[inline(always)]
     pub(crate) fn u32_behind(&mut self, text: &[u8]) -> Option<u32>
         ensures { numbered text.now max_u32 self.old ≡ (result, self.new) }
@@ -172,7 +172,7 @@ impl<'a> Cursor<'a> {
 }
 
 impl<'a> Cursor<'a> {
-    /// Passes one digit, which makes at most this of a number when it stands behind it.
+    /// Passes one digit, if the number with this digit appended is at most `limit`.
     #[inline(always)]
     #[tactic(auto, unfolding(crate::specs::Reading::fixed))]
     fn digit(&mut self, value: u64, limit: u64) -> Option<u64>
@@ -186,7 +186,7 @@ impl<'a> Cursor<'a> {
         Some(longer)
     }
 
-    /// Passes one digit for each limit. What the digits make so far is at most their limit.
+    /// Passes one digit for each limit. What the digits make so far is at most that limit.
     #[inline(always)]
     #[tactic(auto, using(crate::proofs::CursorLemmas::fixing))]
     pub(crate) fn fixed(&mut self, limits: &[u64]) -> Option<u64>
@@ -200,7 +200,7 @@ impl<'a> Cursor<'a> {
     }
 }
 
-/// A number with this digit behind it, where that is at most `max`.
+/// A number with this digit appended, if that is at most `max`.
 #[inline(always)]
 fn with_digit(value: u64, byte: u8, max: u64) -> Option<u64>
     ensures { result ≡ (if is_ascii_digit byte && nat_le (value * 10 + (byte - 48)) max then Some (value * 10 + (byte - 48)) else None) }
@@ -212,8 +212,8 @@ fn with_digit(value: u64, byte: u8, max: u64) -> Option<u64>
     if longer <= max { Some(longer) } else { None }
 }
 
-/// The number of `start` and the digits at the front of the text, as many as leave it at most
-/// `max`, and how many these are.
+/// The number that `start` makes with the digits at the front of the text, as many as keep it at
+/// most `max`, and how many these are.
 #[inline(always)]
 #[tactic(auto, using(crate::proofs::CursorLemmas::counting))]
 fn count_digits(text: &[u8], max: u64, start: u64) -> (u64, usize)

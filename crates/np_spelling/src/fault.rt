@@ -1,4 +1,4 @@
-//! What a reader answers for bytes that are no record.
+//! What a reader returns for bytes that are no record.
 
 /// Bytes that are no record of the kind that was read.
 #[derive(Clone, Copy, Debug, PartialEq, Eq)]

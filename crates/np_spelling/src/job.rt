@@ -67,7 +67,7 @@ fn open_phase(cursor: &mut Cursor) -> Option<Phase>
     Some(Phase::Using)
 }
 
-/// The phase: over exactly where there is an ending.
+/// The phase: over if and only if there is an ending.
 #[tactic(auto, unfolding(crate::specs::Reading::phase_in))]
 fn phase(cursor: &mut Cursor, ending: Option<Ending>) -> Option<Phase>
     ensures { phase_in ending cursor.old ≡ (result, cursor.new) }
@@ -127,7 +127,7 @@ fn over_end(cursor: &mut Cursor) -> Option<End>
     }
 }
 
-/// The pool and the request, as many as the phase wants.
+/// The pool and the request, as many as the phase requires.
 fn end(cursor: &mut Cursor, phase: Phase) -> Option<End>
     ensures { job_end_in phase cursor.old ≡ (result, cursor.new) }
 {

@@ -9,7 +9,7 @@ use std::alloc::Global;
 /// A kind of record, with its spelling as bytes: compact JSON, keys in byte order, absent keys left
 /// out.
 pub trait Record: Sized {
-    /// Whether the value may stand in a record.
+    /// Whether the value may be in a record.
     ghost is_sound: { Self → Type 0 };
 
     /// Whether these bytes are a spelling of the value.
@@ -18,8 +18,8 @@ pub trait Record: Sized {
     /// The spelling that is written.
     ghost written: { Self → List ℕ };
 
-    /// The record that the bytes spell, or how far they begin the spelling of one. Takes no memory,
-    /// and time in the count of bytes.
+    /// The record that the bytes spell, or how far they begin the spelling of one. It takes no
+    /// memory, and its time grows with the number of bytes.
     fn read(bytes: &[u8]) -> Result<Self, BadRecord>
         ensures spelled { IfOk result (λ v. Self.spells v bytes.now) }
         ensures all { (v : Self) → Self.spells v bytes.now → result ≡ Ok v }

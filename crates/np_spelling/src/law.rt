@@ -13,7 +13,7 @@ pub fn what_is_written_is_a_spelling()
     ensures sessions { (s : SessionRecord) → IsSession s → SpellsSession s (session_text s) }
 {}
 
-/// Bytes spell one record of a kind at most.
+/// Bytes spell at most one record of a kind.
 pub fn a_spelling_has_one_value()
     ensures requests { (a b : RequestRecord) (bytes : List ℕ) → SpellsRequest a bytes → SpellsRequest b bytes → a ≡ b }
     ensures nodes { (a b : NodeRecord) (bytes : List ℕ) → SpellsNode a bytes → SpellsNode b bytes → a ≡ b }

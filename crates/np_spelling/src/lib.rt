@@ -1,9 +1,10 @@
 //! The records as bytes: the spelling of each, read and written.
 //!
 //! A record is compact JSON, with its keys in byte order and absent keys left out. Each has one
-//! spelling, but a node has two: that of before there were tenants is read too. `kind` has the
-//! trait, and `specs/Spelling` the spellings and what a place means. The other modules are the five
-//! kinds and their parts: a cursor passes what it expects, and stops where no record goes on.
+//! spelling, except that a node has two: the one from before there were tenants is also read.
+//! `kind` has the trait, and `specs/Spelling` the spellings and what a place means. The other
+//! modules are the five kinds and their parts: a cursor passes what it expects, and stops where no
+//! record continues.
 #![tactic(auto)]
 
 mod cursor;

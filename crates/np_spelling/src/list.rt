@@ -27,7 +27,7 @@ pub(crate) trait Part: Item {
         ensures { Self.reads cursor.old ≡ (result, cursor.new) };
 }
 
-/// Passes further items, at most so many, and the bracket.
+/// Passes at most `room` further items, and the bracket.
 fn rest<T: Part, const N: usize>(cursor: &mut Cursor, row: &mut Row<T, N>, room: u32) -> Option<()>
     requires { length row.old + room ≤ N }
     ensures { with_front row.old (rest_in T.reads room cursor.old) ≡ (option_map (λ passed. row.new) result, cursor.new) }
@@ -43,7 +43,7 @@ fn rest<T: Part, const N: usize>(cursor: &mut Cursor, row: &mut Row<T, N>, room:
     cursor.lead(b"]")
 }
 
-/// Passes a list in brackets, whose items come into an empty row.
+/// Passes a list in brackets, and puts its items into an empty row.
 pub(crate) fn list<T: Part, const N: usize>(cursor: &mut Cursor, row: &mut Row<T, N>) -> Option<()>
     requires empty { row.old ≡ [] }
     requires some { 0 < N }
@@ -59,7 +59,7 @@ pub(crate) fn list<T: Part, const N: usize>(cursor: &mut Cursor, row: &mut Row<T
     rest(cursor, row, N as u32 - 1)
 }
 
-/// Appends further items, each behind a comma, and the bracket.
+/// Appends further items, each after a comma, and the bracket.
 #[tactic(auto, using(crate::proofs::RestLemmas::writing))]
 fn put_rest<T: Part>(out: &mut Vec<u8>, items: &[T]) -> Result<(), NoMemory>
     ensures { OnOk result (out.new.items ≡ out.old.items ++ rest_text T.word items.now) }

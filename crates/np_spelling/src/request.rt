@@ -56,7 +56,7 @@ fn job(cursor: &mut Cursor) -> Option<Option<JobId>>
     }
 }
 
-/// The pool of a request that no job asked for.
+/// The pool of a request that no job made.
 #[tactic(auto, unfolding(crate::specs::Reading::request_pinned_in))]
 fn pinned(cursor: &mut Cursor, job: Option<JobId>) -> Option<Option<PoolId>>
     ensures { request_pinned_in job cursor.old ≡ (result, cursor.new) }
@@ -82,7 +82,7 @@ fn pool(cursor: &mut Cursor) -> Option<Option<PoolId>>
     }
 }
 
-/// The state: pending or fulfilled exactly where a pool serves the request.
+/// The state: pending or fulfilled if and only if a pool serves the request.
 fn state(cursor: &mut Cursor, pool: Option<PoolId>) -> Option<RequestState>
     ensures { request_state_in pool cursor.old ≡ (result, cursor.new) }
 {

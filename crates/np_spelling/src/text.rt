@@ -14,7 +14,7 @@ pub(crate) fn put(out: &mut Vec<u8>, text: &[u8]) -> Result<(), NoMemory>
     Ok(())
 }
 
-/// Appends these bytes, and behind them a number.
+/// Appends these bytes and then a number.
 pub(crate) fn put_number_behind(out: &mut Vec<u8>, text: &[u8], n: u64) -> Result<(), NoMemory>
     ensures { OnOk result (out.new.items ≡ out.old.items ++ (text.now ++ decimal n)) }
 {
@@ -22,7 +22,7 @@ pub(crate) fn put_number_behind(out: &mut Vec<u8>, text: &[u8], n: u64) -> Resul
     put_number(out, n)
 }
 
-/// Appends these bytes, and behind them a number of 32 bits.
+/// Appends these bytes and then a number of 32 bits.
 pub(crate) fn put_u32_behind(out: &mut Vec<u8>, text: &[u8], n: u32) -> Result<(), NoMemory>
     ensures { OnOk result (out.new.items ≡ out.old.items ++ (text.now ++ decimal n)) }
 {
@@ -57,7 +57,7 @@ pub(crate) fn put_request_between(
     put(out, after)
 }
 
-/// Appends these bytes, and behind them a number of 16 bits.
+/// Appends these bytes and then a number of 16 bits.
 pub(crate) fn put_u16_behind(out: &mut Vec<u8>, text: &[u8], n: u16) -> Result<(), NoMemory>
     ensures { OnOk result (out.new.items ≡ out.old.items ++ (text.now ++ decimal n)) }
 {

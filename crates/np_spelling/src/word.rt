@@ -1,4 +1,4 @@
-//! Words: each is told by its first byte.
+//! Words, each determined by its first byte.
 ghost use Rattle.std.specs.Prelude.{◌≡◌, ◌++◌, ◌∷◌, [], OnOk, codes};
 ghost use Rattle.std.specs.Fmt.{decimal};
 ghost use Rattle.np_text.specs.Word.{role_kind_word};

@@ -1,4 +1,4 @@
--- searching rows that stand in the order of their keys
+-- searching rows that are in the order of their keys
 use Rattle.std.proofs.Common.{◌≡◌, ℕ, zero, suc, ◌<◌, ◌≤◌, List, [], ◌∷◌, length, refl, subst, Bool, true, false, get_or}
 use Rattle.std.specs.List.{insert, list_any}
 use Rattle.std.specs.List.Sorted.{IsPartitionedBy, IsPartitionPoint}
@@ -10,7 +10,7 @@ use Rattle.np_lists.specs.Change.{insert_before}
 module _ {K : Type 0} (before same : K → K → Bool)
     (one_way : (a b : K) → before a b ≡ true → before b a ≡ false)
     (equal : (a b : K) → same a b ≡ true → a ≡ b) where
-  -- a key that stands before another is not the same
+  -- a key that is before another is not the same
   pub apart : (a k : K) → before a k ≡ true → same a k ≡ false
   apart a k first = by (same a k) refl where
     by : (b : Bool) → same a k ≡ b → same a k ≡ false
@@ -22,7 +22,7 @@ module _ {K : Type 0} (before same : K → K → Bool)
         absurd cc
     by false is = is
 
-  -- a key past one that does not stand before another is not that other
+  -- a key after one that is not before another is not that other
   pub beyond : (a b k : K) → before a b ≡ true → before a k ≡ false → same b k ≡ false
   beyond a b k first past = by (same b k) refl where
     by : (x : Bool) → same b k ≡ x → same b k ≡ false
@@ -36,7 +36,7 @@ module _ {X K : Type 0} (key : X → K) (before same : K → K → Bool)
     (one_way : (a b : K) → before a b ≡ true → before b a ≡ false)
     (equal : (a b : K) → same a b ≡ true → a ≡ b)
     (k : K) where
-  -- the rows before the key stand before the others
+  -- the rows before the key come before the others
   pub keys_partitioned : (xs : List X) → Rises (λ a b. before (key a) (key b)) xs → IsPartitionedBy (λ x. before (key x) k) xs
   keys_partitioned xs rises =
       partitioned (λ a b. before (key a) (key b)) (λ x. before (key x) k) (λ x. same (key x) k)
@@ -54,7 +54,7 @@ module _ {X K : Type 0} (key : X → K) (before same : K → K → Bool)
       (λ x y first past. beyond before same one_way equal (key x) (key y) k first past)
       xs i d point within is
 
-  -- it has not, or there is none
+  -- it does not, or there is none
   pub key_absent : (xs : List X) (i : ℕ) → Rises (λ a b. before (key a) (key b)) xs → IsPartitionPoint (λ x. before (key x) k ≡ true) (λ x. before (key x) k ≡ false) xs i → (i < length xs → (d : X) × (same (key (get_or xs i d)) k ≡ false)) → NonePass (λ x. same (key x) k) xs
   key_absent xs i rises point other =
       absent (λ a b. before (key a) (key b)) (λ x. before (key x) k) (λ x. same (key x) k)
@@ -79,7 +79,7 @@ module _ {X K : Type 0} (key : X → K) (before same : K → K → Bool)
     (new : X) (xs : List X) (i : ℕ) (within : i ≤ length xs)
     (point : IsPartitionPoint (λ x. before (key x) (key new) ≡ true) (λ x. before (key x) (key new) ≡ false) xs i)
     (none : NonePass (λ x. same (key x) (key new)) xs) where
-  -- it stands before the first row of a later key
+  -- it is put before the first row of a later key
   pub key_insert : insert_before (λ x. before (key new) (key x)) new xs ≡ insert xs i new
   key_insert =
       insert_before-at (λ a b. before (key a) (key b)) (λ a b. same (key a) (key b))

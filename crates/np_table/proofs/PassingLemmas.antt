@@ -9,12 +9,12 @@ use Rattle.np_lists.specs.Change.{change_first, remove_first, insert_before}
 abbrev pub passing : {X : Type 0} → (X → Bool) → List X → ℕ
 passing k xs = length (filter k xs)
 
--- one more where it holds
+-- one more if it is true
 abbrev pub one_if : Bool → ℕ → ℕ
 one_if true n = suc n
 one_if false n = n
 
--- 1 where there is a member and it passes
+-- 1 if there is a member and it passes
 abbrev pub one_of : {X : Type 0} → (X → Bool) → Option X → ℕ
 one_of k None = 0
 one_of k (Some x) = one_if (k x) 0
@@ -92,7 +92,7 @@ module _ {X : Type 0} (k : X → Bool) where
   pub passing-removed : (t : X → Bool) (xs : List X) (old : X) → find t xs ≡ Some old → passing k (remove_first t xs) ≡ passing k xs - one_of k (Some old)
   passing-removed t xs old found = one_lost (k old) (passing k xs) (passing k (remove_first t xs)) (removed t xs old found)
 
-  -- the one that is found is among those that pass, or does not pass
+  -- the member that is found is among those that pass, or does not pass
   passing-found : (t : X → Bool) (xs : List X) → one_of k (find t xs) ≤ passing k xs
   passing-found t [] = omega arith
   passing-found t (x ∷ xs) = by (t x) refl (passing-found t xs) where

@@ -22,9 +22,9 @@ pub trait Order {
 
     /// The key of a row.
     ghost key: { Self.Row → Self.Key };
-    /// The first key stands before the second.
+    /// Whether the first key is before the second.
     ghost before: { Self.Key → Self.Key → Bool };
-    /// Both keys are the same.
+    /// Whether both keys are the same.
     ghost same: { Self.Key → Self.Key → Bool };
 
     fn key(row: &Self::Row) -> Self::Key
@@ -47,13 +47,13 @@ pub trait Order {
 
 /// A change of one row.
 pub trait RowChange<T> {
-    /// Why it may fail: `Infallible` where it always succeeds.
+    /// Why it may fail: `Infallible` if it always succeeds.
     type Error;
 
     /// What the row becomes.
     ghost after: { Self → T → T };
 
-    /// Changes the row, or leaves it where the change fails.
+    /// Changes the row. If the change fails, the row stays as it was.
     fn make(&self, row: &mut T) -> Result<(), Self::Error>
         ensures ok { OnOk result (row.new ≡ after self.now row.old) }
         ensures err { OnErr result (row.new ≡ row.old) };
@@ -76,7 +76,7 @@ impl<O: Order> Model for KeyTable<O> {
     ghost invariant = { λ table. Rises (λ a b. O.before (O.key a) (O.key b)) table.rows.items };
 }
 
-/// The place of the first row that does not stand before the key.
+/// The place of the first row that is not before the key.
 fn split_of<O: Order>(rows: &[O::Row], key: O::Key) -> usize
     requires { Rises (λ a b. O.before (O.key a) (O.key b)) rows.now }
     ensures within { result ≤ length rows.now }
@@ -105,7 +105,7 @@ fn change_rows<T: Drop, C: RowChange<T, Error = Infallible>>(rows: &mut Vec<T>, 
     }
 }
 
-/// What cannot fail has succeeded.
+/// The value of a result that can't be a failure.
 pub fn always<T>(done: Result<T, Infallible>) -> T
     ensures { done ≡ Ok result }
 {

@@ -43,7 +43,7 @@ lines_of-next : (bs : List ℕ) → 0 < length bs → lines_of bs ≡ take (line
 lines_of-next [] some = absurd (omega arith)
 lines_of-next (b ∷ bs) some = lines_of-first b bs
 
--- a walk by `line_at` gives the lines one by one
+-- repeated calls of `line_at` return the lines one by one
 pub lines_of-walk_end : (text : List ℕ) (from : ℕ) → from ≤ length text → line_in text from ≡ None → lines_of (drop from text) ≡ []
 lines_of-walk_end text from within none = cases (from == length text) refl none
   where

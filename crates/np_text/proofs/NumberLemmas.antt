@@ -13,7 +13,7 @@ use Rattle.np_text.specs.Number.{digits_within, padded}
 
 -- ## Reading from the left
 
--- what digits spell behind the number n, where it is at most max
+-- what digits spell behind the number n, if it is at most max
 unfoldable pub digits_from : ℕ → ℕ → List ℕ → Option ℕ
 digits_from max n cs = if all_ascii_digits cs && nat_le (digits_value_after 10 n cs) max then Some (digits_value_after 10 n cs) else None
 
@@ -74,7 +74,7 @@ last_digits-more : (k n : ℕ) → last_digits (k + 1) n ≡ last_digits k (n / 
 unfolding last_digits
 last_digits-more k n = rw add-one refl
 
--- one digit written in front of those that stand
+-- one digit written in front of those that are there
 pub last_digits-write : (k n : ℕ) (out : List ℕ) → k < length out → last_digits (k + 1) n ++ drop (k + 1) out ≡ last_digits k (n / 10) ++ drop k (set out k (48 + n % 10))
 last_digits-write k n out within =
     ap (λ ds. ds ++ drop (k + 1) out) (last_digits-more k n)
@@ -99,7 +99,7 @@ padded_step k n many small =
 div_small : (n k : ℕ) → n < 10 ^ suc (suc k) → n / 10 < 10 ^ suc k
 div_small n k fits = grind arith
 
--- the last digits are the decimal spelling with zeros in front, where they are all digits
+-- the last digits are the decimal spelling with zeros in front, if they are all digits
 pub last_digits-padded : (k n : ℕ) → n < 10 ^ suc k → n < 2 ^ 64 → last_digits (suc k) n ≡ padded (suc k) n
 unfolding last_digits
 last_digits-padded zero n fits small =

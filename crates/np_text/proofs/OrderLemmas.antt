@@ -1,4 +1,4 @@
--- Digits of one length stand in byte order as their numbers do.
+-- Digits of one length are in byte order as their numbers are.
 use Rattle.std.proofs.Common.{◌≡◌, ℕ, suc, zero, ◌+◌, ◌-◌, ◌*◌, ◌/◌, ◌%◌, ◌^◌, ◌<◌, ◌≤◌, ◌⊎◌, inl, inr, Bool, true, false, cond, ◌==◌, List, [], ◌∷◌, ◌++◌, length, Ordering, Less, Equal, Greater, refl, sym, ap, ◌∙◌, arith, length-append}
 use Rattle.std.specs.Char.{digit_value, is_ascii_digit}
 use Rattle.std.specs.Cmp.{nat_cmp_is}
@@ -61,7 +61,7 @@ after-less m n (x ∷ xs) (y ∷ ys) less same xs_digits ys_digits =
     let x_digit = digit_below x x_parts.0 in
     after-less (m * 10 + digit_value x) (n * 10 + digit_value y) xs ys (omega (arith, x_digit)) (omega arith) x_parts.1 y_parts.1
 
--- digits of one length, behind one front, stand in order as their numbers do
+-- digits of one length, behind one front, are in order as their numbers are
 slice_cmp-after : (n : ℕ) (xs ys : List ℕ) → length xs ≡ length ys → all_ascii_digits xs ≡ true → all_ascii_digits ys ≡ true
     → slice_cmp nat_cmp xs ys ≡ nat_cmp (digits_value_after 10 n xs) (digits_value_after 10 n ys)
 slice_cmp-after n [] [] same xs_digits ys_digits = sym (nat_cmp-same n n refl)

@@ -42,7 +42,7 @@ pub ruleset parting = (sections_from-other, sections_from-bar, sections_from_end
 
 -- ## Sections and lines
 
--- the first line is `%%` exactly where it is
+-- a text begins with `%%` if and only if its first line is `%%`
 begins_with_bar-line : (bytes rest : List ℕ) → is_line bytes ≡ true → begins_with_bar (bytes ++ 10 ∷ rest) ≡ bytes_eq bytes bar
 begins_with_bar-line [] [] plain = refl
 begins_with_bar-line [] (c ∷ []) plain = refl

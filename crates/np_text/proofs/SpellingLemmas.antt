@@ -21,7 +21,7 @@ use Rattle.np_text.proofs.NumberLemmas.{padded_digit, digit_value_digit}
 pub model : IsNumeralModel (λ ds. all_ascii_digits ds ≡ true) (digits_value 10)
 model = numerals_by_value (λ ds. all_ascii_digits ds ≡ true) tells_all_ascii_digits
 
--- what a test that answers `Some` tells
+-- what follows if a test answers `Some`
 pub when_some : {A : Type 0} (b : Bool) (x y : A) → (if b then Some x else None) ≡ Some y → (b ≡ true) × (x ≡ y)
 when_some true x y answer = (refl, cc)
 when_some false x y answer = absurd (cc)

@@ -24,7 +24,7 @@ use Rattle.np_text.specs.declared.word.TheConstants.RoleKind.{ALL as role_kinds}
 use Rattle.np_text.specs.Word.{AreWords, end_as_of, end_as_word, ending_of, ending_word, node_state_of, node_state_word, phase_of, phase_word, request_state_of, request_state_word, role_kind_of, role_kind_word}
 use Rattle.np_text.proofs.SpellingLemmas.{some_injective}
 
--- what a text is found as has the text for its word
+-- if a value is found for a text, the text is its word
 find-word : {X : Type 0} (word : X → List ℕ) (xs : List X) (x : X) (text : List ℕ) → find (λ y. bytes_eq text (word y)) xs ≡ Some x → word x ≡ text
 find-word word [] x text is = absurd (cc)
 find-word {X = X} word (y ∷ ys) x text is = cases (bytes_eq text (word y)) refl is (find-word word ys x text)
@@ -34,7 +34,7 @@ find-word {X = X} word (y ∷ ys) x text is = cases (bytes_eq text (word y)) ref
     cases true here is rest = sym ((bytes_eq-Decides text (word y)).0 here ∙ ap word (some_injective y x is))
     cases false here is rest = rest is
 
--- values have their words where each is found by its word
+-- values have their words if each is found by its word
 AreWords-found : {X : Type 0} (word : X → List ℕ) (xs : List X) → ((x : X) → find (λ y. bytes_eq (word x) (word y)) xs ≡ Some x)
     → AreWords word (λ text. find (λ y. bytes_eq text (word y)) xs)
 AreWords-found word xs again = record { reads_back = again; spelled = find-word word xs }

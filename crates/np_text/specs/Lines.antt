@@ -2,7 +2,7 @@
 use Rattle.std.specs.Prelude.{ℕ, ◌+◌, Bool, not, ◌==◌, if◌then◌else◌, List, [], ◌∷◌, ◌++◌, length, drop, Option, Some, None}
 use Rattle.std.specs.List.{list_all, onto_first, position_or_len}
 
--- no newline stands in these bytes
+-- there is no newline in these bytes
 abbrev pub is_line : List ℕ → Bool
 is_line bytes = list_all (λ b. not (b == 10)) bytes
 
@@ -10,7 +10,8 @@ is_line bytes = list_all (λ b. not (b == 10)) bytes
 abbrev pub line : List ℕ → List ℕ
 line bytes = bytes ++ 10 ∷ []
 
--- a text's lines, without their newlines: the last may lack its own, and nothing behind the last newline is no line (own)
+-- a text's lines, without their newlines: the last may lack its own, and an empty rest behind the
+-- last newline is not a line (own)
 abbrev pub lines_of : List ℕ → List (List ℕ)
 lines_of [] = []
 lines_of (b ∷ bs) = if b == 10 then [] ∷ lines_of bs else onto_first b (lines_of bs)

@@ -4,11 +4,11 @@ use Rattle.std.specs.Fmt.{decimal}
 use Rattle.std.specs.Str.{all_ascii_digits}
 use Rattle.std.specs.Str.Parse.{digits_value}
 
--- the number that decimal digits spell, with any zeros in front, where it is at most max (own)
+-- the number that decimal digits spell, with any zeros in front, if it is at most max (own)
 unfoldable pub digits_within : ℕ → List ℕ → Option ℕ
 digits_within max text = if all_ascii_digits text && nat_le (digits_value 10 text) max then Some (digits_value 10 text) else None
 
--- there is a byte, and no zero stands in front of others
+-- there is a byte, and no zero in front of others
 abbrev pub begins_as_number : List ℕ → Bool
 begins_as_number [] = false
 begins_as_number (c ∷ []) = true

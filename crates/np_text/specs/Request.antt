@@ -7,7 +7,7 @@ use Rattle.np_text.specs.declared.id.RequestId.{RequestId}
 use Rattle.np_text.specs.declared.limit.TheConstants.{SEQUENCE}
 use Rattle.np_text.specs.Number.{number_of, digits_within, ten_digits_of}
 
--- a request has a text where its priority has three digits
+-- a request has a text if its priority has three digits
 pub record HasText (id : RequestId) : Type 0 where
   pub least : 100 ≤ id.priority
   pub most : id.priority ≤ 999
@@ -25,7 +25,7 @@ request_cmp a b = ordering_then (nat_cmp a.priority b.priority) (nat_cmp a.seq b
 unfoldable pub sequence_of : List ℕ → Option ℕ
 sequence_of text = if length text == 10 then digits_within SEQUENCE text else None
 
--- the request of these two numbers, where both are there
+-- the request of these two numbers, if both are there
 abbrev pub request_from : Option ℕ → Option ℕ → Option RequestId
 request_from (Some priority) (Some seq) = Some (record { priority = priority; seq = seq })
 request_from (Some priority) None = None

@@ -4,7 +4,7 @@ use Rattle.std.specs.List.{list_any}
 use Rattle.std.specs.Option.{option_map}
 use Rattle.std.specs.Str.{bytes_eq}
 
--- the line that parts two sections
+-- the line between two sections
 abbrev pub bar : List ℕ
 bar = codes "%%"
 

@@ -62,14 +62,14 @@ ending_word ending.Lost = codes "lost"
 ending_word ending.Failed = codes "failed"
 ending_word ending.Withdrawn = codes "withdrawn"
 
--- which kind of reason a pool declines for (own)
+-- the kind of reason for which a pool declines (own)
 abbrev pub reason_kind_word : ReasonKind → List ℕ
 reason_kind_word kind.NoLabel = codes "no-label"
 reason_kind_word kind.NeverFits = codes "never-fits"
 reason_kind_word kind.TenantNeverFits = codes "tenant-never-fits"
 reason_kind_word kind.Spent = codes "spent"
 
--- which kind of role (own)
+-- the kind of role (own)
 abbrev pub role_kind_word : RoleKind → List ℕ
 role_kind_word role.Launcher = codes "launcher"
 role_kind_word role.Janitor = codes "janitor"
@@ -82,7 +82,7 @@ reason_text_of reason.NeverFits = reason_kind_word kind.NeverFits
 reason_text_of reason.TenantNeverFits = reason_kind_word kind.TenantNeverFits
 reason_text_of (reason.Spent n) = reason_kind_word kind.Spent ++ codes "-n" ++ decimal n.0
 
--- ## The value of a word, where it is the word of one
+-- ## The value of a word, if it is the word of one
 
 abbrev pub request_state_of : List ℕ → Option RequestState
 request_state_of text = find (λ state. bytes_eq text (request_state_word state)) request_states

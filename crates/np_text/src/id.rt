@@ -17,8 +17,8 @@ pub struct LabelId(pub u16);
 #[derive(Clone, Copy, Debug, PartialEq, Eq, PartialOrd, Ord)]
 pub struct SemId(pub u16);
 
-/// A tenant's number: 0 is the tenant `default`, and those of the configuration count from 1, in its
-/// order; in text `t0`.
+/// A tenant's number: 0 is the tenant `default`, and those of the configuration count from 1, in
+/// its order.
 #[derive(Clone, Copy, Debug, PartialEq, Eq, PartialOrd, Ord)]
 pub struct TenantId(pub u16);
 
@@ -35,7 +35,7 @@ pub struct JobId(pub u32);
 #[derive(Clone, Copy, Debug, PartialEq, Eq, PartialOrd, Ord)]
 pub struct NodeId(pub u32);
 
-/// A node request: its priority (100 to 999 where it has a text) and its sequence number, as in
+/// A node request: its priority (100 to 999 if it has a text) and its sequence number, as in
 /// `200-0000000000`. Ordered by priority and then sequence, which is the byte order of the texts.
 #[derive(Clone, Copy, Debug, PartialEq, Eq, PartialOrd, Ord)]
 pub struct RequestId {

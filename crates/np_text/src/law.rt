@@ -14,7 +14,7 @@ ghost use Rattle.np_text.specs.Word.{AreWords, end_as_of, end_as_word, ending_of
 
 use crate::id::RequestId;
 
-/// A number has one spelling: its decimal form reads as it, and nothing else does.
+/// A number has one spelling: its decimal form is read as it, and nothing else is.
 pub fn a_number_has_one_spelling()
     ensures reads_back { (max n : ℕ) → n ≤ max → max < 2 ^ 64 → number_of max (decimal n) ≡ Some n }
     ensures spelled { (max n : ℕ) (text : List ℕ) → max < 2 ^ 64 → number_of max text ≡ Some n → (n ≤ max) × (decimal n ≡ text) }
@@ -30,21 +30,21 @@ pub fn ten_digits_are_one_spelling()
     ensures ten { (n : ℕ) → n < 2 ^ 32 → length (ten_digits_of n) ≡ 10 }
 {}
 
-/// Texts of ten digits stand in byte order as their numbers do. So sequence nodes that are sorted
+/// Texts of ten digits are in byte order as their numbers are. So sequence nodes that are sorted
 /// by name are sorted by number.
 pub fn ten_digits_stand_in_order()
     ensures { (m n : ℕ) → m < 2 ^ 32 → n < 2 ^ 32 →
         slice_cmp nat_cmp (ten_digits_of m) (ten_digits_of n) ≡ nat_cmp m n }
 {}
 
-/// A request has one spelling where its priority has three digits, and only such requests have one.
+/// A request has one spelling if its priority has three digits, and only such requests have one.
 pub fn a_request_has_one_spelling()
     ensures reads_back { (id : RequestId) → HasText id → request_of (request_text_of id) ≡ Some id }
     ensures spelled { (id : RequestId) (text : List ℕ) → request_of text ≡ Some id → HasText id × (request_text_of id ≡ text) }
     ensures apart { (a b : RequestId) → HasText a → HasText b → request_text_of a ≡ request_text_of b → a ≡ b }
 {}
 
-/// Texts of requests stand in byte order as the requests do: by priority, then by sequence number.
+/// Texts of requests are in byte order as the requests are: by priority, then by sequence number.
 /// That is also the order of [`RequestId`](crate::RequestId) itself.
 pub fn request_texts_stand_in_order()
     ensures texts { (a b : RequestId) → HasText a → HasText b →
@@ -52,7 +52,7 @@ pub fn request_texts_stand_in_order()
     ensures own { (a b : RequestId) → ⟦<RequestId as Ord>⟧.cmp a b ≡ request_cmp a b }
 {}
 
-/// Each value has one word, and a word is read as a value exactly where it is the value's.
+/// Each value has one word, and a word is read as a value if and only if it is the value's.
 pub fn a_value_has_one_word()
     ensures request_states { AreWords request_state_word request_state_of }
     ensures node_states { AreWords node_state_word node_state_of }
@@ -67,7 +67,7 @@ pub fn a_name_is_ascii()
     ensures { (text : List ℕ) → is_name_text text ≡ true → IsAscii text }
 {}
 
-/// A walk by [`line_at`](crate::line_at), each time from one past the last line's end, gives a
+/// Repeated calls of [`line_at`](crate::line_at), each from one past the last line's end, return a
 /// text's lines; and lines joined with their newlines are such a text's lines.
 pub fn a_walk_gives_the_lines()
     ensures end { (text : List ℕ) (from : ℕ) → from ≤ length text → line_in text from ≡ None → lines_of (drop from text) ≡ [] }

@@ -1,10 +1,10 @@
-//! The small values that every layer shares, and their one spelling each.
+//! The small values that every layer shares, each with its one spelling.
 //!
 //! Ids are numbers in types of their own; `word` has the enums that records, events and replies
 //! share, and their words; `limit` has each limit once. No value here holds memory. `number`,
-//! `name`, `request` and `lines` read and write; each answers by a definition of `specs/`, and `law`
+//! `name`, `request` and `lines` read and write; each answers by a definition of `specs/`. `law`
 //! states what these definitions say together: a value has one spelling, a spelling one value, and
-//! the texts of sequence numbers and of requests sort as these do.
+//! the texts of sequence numbers and of requests sort as their values do.
 #![tactic(auto)]
 
 mod id;

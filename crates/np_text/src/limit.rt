@@ -25,7 +25,7 @@ pub const PROVIDERS: usize = 64;
 pub const POOLS: usize = 64;
 /// The most semaphores of a configuration.
 pub const SEMAPHORES: usize = 64;
-/// The most tenants of a configuration, which has the tenant `default` beside them.
+/// The most tenants of a configuration, which also has the tenant `default`.
 pub const TENANTS: usize = 64;
 /// The most requesters of a configuration.
 pub const REQUESTERS: usize = 16;
@@ -44,7 +44,7 @@ pub const FAIL_STARTS: usize = 4_096;
 
 /// The most spare nodes that a label keeps ready (Nodepool's `min-ready`).
 pub const MIN_READY: u32 = 1_000;
-/// The largest age, in ticks, at which an unused node is removed.
+/// The largest age, in ticks, at which an unused node, or a node on hold, is removed.
 pub const AGE: u32 = 1_000_000;
 /// The most launches of a node (Nodepool's `launch-retries`, which counts the first launch here).
 pub const LAUNCHES: u32 = 16;

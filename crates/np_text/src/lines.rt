@@ -18,7 +18,7 @@ fn line_length(text: &[u8]) -> usize
 }
 
 /// The start and the end of the line that begins at `from`, without its newline. `None` at the
-/// text's end. Takes time in the line's length.
+/// text's end. Takes time linear in the line's length.
 pub fn line_at(text: &[u8], from: usize) -> Option<(usize, usize)>
     requires { from ≤ length text.now }
     ensures answer { result ≡ line_in text.now from }
@@ -49,8 +49,8 @@ fn after_bar(text: &[u8]) -> &[u8]
     text.split_at(text.len().min(3)).1
 }
 
-/// The bytes before the first line that is exactly `%%`, and those after that line. `None` where
-/// there is no such line. Takes time in the length that it passes over.
+/// The bytes before the first line that is exactly `%%`, and those after that line. `None` if
+/// there is no such line. Takes time linear in the length that it scans.
 #[tactic(auto, using(crate::proofs::SectionLemmas::parting))]
 pub fn split_sections(text: &[u8]) -> Option<(&[u8], &[u8])>
     ensures { option_map (λ parts. (parts.0.now, parts.1.now)) result ≡ sections_of text.now }

@@ -1,8 +1,8 @@
-//! Want of memory.
+//! Running out of memory.
 
 use std::alloc::{AllocError, AllocFailed};
 
-/// No memory was found. Everything is as it was before the call.
+/// Memory ran out. Everything is as it was before the call.
 #[derive(Clone, Copy, Debug, PartialEq, Eq)]
 pub struct NoMemory;
 

@@ -5,14 +5,14 @@ ghost use Rattle.np_text.specs.Number.{digits_within, number_of, padded, ten_dig
 
 use crate::memory::NoMemory;
 
-/// `value` with one more digit behind it, where that is still a `u64`.
+/// `value` with one more digit behind it, if that is still a `u64`.
 fn with_digit(value: u64, digit: u8) -> Option<u64>
     ensures { SomeIff result (value * 10 + digit < 2 ^ 64) (value * 10 + digit) }
 {
     value.checked_mul(10)?.checked_add(u64::from(digit))
 }
 
-/// Reads decimal digits, with any zeros in front, where they spell at most `max`.
+/// Reads decimal digits, with any zeros in front, if they spell at most `max`.
 #[tactic(auto, using(crate::proofs::NumberLemmas::reading))]
 pub(crate) fn read_digits(text: &[u8], max: u64) -> Option<u64>
     ensures answer { result ≡ digits_within max text.now }
@@ -31,8 +31,8 @@ pub(crate) fn read_digits(text: &[u8], max: u64) -> Option<u64>
     if value <= max { Some(value) } else { None }
 }
 
-/// Reads a decimal number of at most `max`. `None` for all else: no digit, another byte, a zero in
-/// front of other digits. Takes time in the text's length.
+/// Reads a decimal number of at most `max`. `None` for anything else: no digit, another byte, a
+/// zero in front of other digits. Takes time linear in the text's length.
 #[tactic(auto, unfolding(crate::specs::Number::number_of))]
 pub fn read_number(text: &[u8], max: u64) -> Option<u64>
     ensures answer { result ≡ number_of max text.now }
@@ -44,7 +44,7 @@ pub fn read_number(text: &[u8], max: u64) -> Option<u64>
     }
 }
 
-/// Fills `out` with the last digits of `n`, with zeros in front where it has fewer.
+/// Fills `out` with the last digits of `n`, with zeros in front if it has fewer.
 #[tactic(auto, using(crate::proofs::NumberLemmas::writing))]
 pub(crate) fn fill_digits(out: &mut [u8], n: u64)
     requires some { 0 < length out.old }
@@ -58,7 +58,7 @@ pub(crate) fn fill_digits(out: &mut [u8], n: u64)
     }
 }
 
-/// The decimal spelling of `n` with zeros in front, ten digits in all, as the suffix of a
+/// The decimal spelling of `n` with zeros in front, ten digits in all, like the suffix of a
 /// sequence node (ZooKeeper).
 #[tactic(auto, unfolding(crate::specs::Number::ten_digits_of))]
 pub fn ten_digits(n: u32) -> [u8; 10]

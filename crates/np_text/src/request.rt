@@ -19,7 +19,7 @@ fn read_sequence(text: &[u8]) -> Option<u64>
 }
 
 /// Reads a request's text: three digits from 100 to 999, a dash and ten digits of a number of at
-/// most [`SEQUENCE`]. `None` for all else.
+/// most [`SEQUENCE`]. `None` for anything else.
 #[tactic(auto, unfolding(crate::specs::Request::request_of))]
 pub fn read_request(text: &[u8]) -> Option<RequestId>
     ensures { result ≡ request_of text.now }

@@ -1,6 +1,6 @@
 //! The states, phases and reasons that records, events and replies share, and the word of each.
 //!
-//! A word is read back by `from_word`, which answers only where a value's word is exactly the text.
+//! A word is read back by `from_word`, which answers only if the text is exactly a value's word.
 ghost use Rattle.std.specs.Prelude.{◌≡◌, ◌++◌, OnOk, OnErr};
 ghost use Rattle.std.specs.Fmt.{decimal};
 ghost use Rattle.std.specs.Io.{StartsWith};
@@ -15,9 +15,9 @@ use crate::number::put_number;
 pub enum Reason {
     /// The pool does not offer this label.
     NoLabel(LabelId),
-    /// The labels together pass a limit of the pool, however empty it is.
+    /// The labels together exceed a limit of the pool, however empty it is.
     NeverFits,
-    /// The labels together pass a limit of the job's tenant, however little its other jobs use.
+    /// The labels together exceed a limit of the job's tenant, however little its other jobs use.
     TenantNeverFits,
     /// This node of the request failed, and its launches are used up.
     Spent(NodeId),

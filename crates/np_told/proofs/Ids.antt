@@ -87,7 +87,7 @@ request_by : (r : RequestId) (requests : List RequestEntry) (o : Option RequestE
 request_by r requests None request is all has = cc
 request_by r requests (Some e) request is all has = entry-digits r requests e all is
 
--- a request that stands has such an id
+-- a request that exists has such an id
 pub request-digits : (r : RequestId) (requests : List RequestEntry) (request : RequestRecord) → AllByRecursion IdHasDigits requests → request_in r requests ≡ Some request → has_digits r ≡ true
 request-digits r requests request all is = request_by r requests (request_entry r requests) request refl all is
 
@@ -95,7 +95,7 @@ node_by : (o : Option NodeEntry) (k : NodeRecord) → ((e : NodeEntry) → o ≡
 node_by None k each is = cc
 node_by (Some e) k each is = let same : e.kept ≡ k = cc in subst (λ (x : NodeRecord). allocation_has_digits x.allocated_to ≡ true) same (each e refl)
 
--- a node that stands is allocated to such a request, or to none
+-- a node that exists is allocated to such a request, or to none
 pub node-digits : (n : NodeId) (nodes : List NodeEntry) (k : NodeRecord) → AllByRecursion AllocationHasDigits nodes → node_in n nodes ≡ Some k → allocation_has_digits k.allocated_to ≡ true
 node-digits n nodes k all is = node_by (find (λ e. e.id.0 == n.0) nodes) k (λ e has. all-find AllocationHasDigits (λ e. e.id.0 == n.0) nodes e all has) is
 

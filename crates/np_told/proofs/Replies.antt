@@ -1,4 +1,4 @@
--- what an event is answered can be told
+-- the answer to an event can be printed
 use Rattle.std.proofs.Common.{◌≡◌, ℕ, List, [], ◌∷◌, refl, subst, arith, Bool, true, false, cond, Option, Some, None, Result, Ok, Err}
 use Rattle.std.specs.Prelude.{slice_get, filter, fold, not}
 use Rattle.std.specs.List.{AllByRecursion}
@@ -42,7 +42,7 @@ use Rattle.np_told.proofs.Ids.{IdHasDigits, allocation_has_digits, HasIds, job-d
 
 -- ## what the replies name
 
--- the request of an entry, where there is one
+-- the request of an entry, if there is one
 abbrev pub entry_has_digits : Option RequestEntry → Bool
 entry_has_digits None = true
 entry_has_digits (Some e) = has_digits e.id
@@ -66,7 +66,7 @@ id-digits (Some e) is = is
 first-digits : (c : Configuration) (s : State) (p : PoolId) → AllByRecursion IdHasDigits s.requests → allocation_has_digits (first_of c s p) ≡ true
 first-digits c s p all = id-digits (least (filter (is_candidate c s p) s.requests)) (least-digits (filter (is_candidate c s p) s.requests) None refl (all-filter IdHasDigits (is_candidate c s p) s.requests all))
 
--- the allocation of a node, where it is there
+-- the allocation of a node, if it is there
 abbrev pub node_has_digits : Option NodeRecord → Bool
 node_has_digits None = true
 node_has_digits (Some k) = allocation_has_digits k.allocated_to
@@ -78,7 +78,7 @@ node_by (Some k) each = each k refl
 node-told : (c : Configuration) (s : State) (n : NodeId) → HasIds c s → node_has_digits (node_in n s.nodes) ≡ true
 node-told c s n ids = node_by (node_in n s.nodes) (λ k is. node-digits n s.nodes k ids.nodes is)
 
--- the request that a job's would be
+-- the id that a job's request would get
 abbrev pub next_has_digits : State → Option Job → Bool
 next_has_digits s None = true
 next_has_digits s (Some job) = has_digits (next_id job.priority s)
@@ -112,7 +112,7 @@ launcher-told s session why is = grind (arith, nat_tests)
 
 -- ## tests one after another
 
--- whatever refuses can be told
+-- every refusal can be printed
 abbrev RefusesTold : {A : Type 0} → Result A Refusal → Type 0
 RefusesTold o = (why : Refusal) → o ≡ Err why → is_told_refusal why ≡ true
 
@@ -136,7 +136,7 @@ vacant-told : {A : Type 0} (o : Option A) (refusal : A → Refusal) → ((a : A)
 vacant-told None refusal each why is = absurd cc
 vacant-told (Some a) refusal each why is = let same : refusal a ≡ why = cc in subst (λ (x : Refusal). is_told_refusal x ≡ true) same (each a refl)
 
--- what is answered by the maker's role
+-- an answer that depends on the maker's role
 by_role-told : (s : State) (session : SessionId) (rest : Role → Answer) → ((role : Role) → is_told_answer (rest role) ≡ true) → is_told_answer (maker s session >>= rest) ≡ true
 by_role-told s session rest each = made_by (maker s session) rest (maker-told s session) each
 

@@ -1,4 +1,4 @@
--- the replies of a run can be told
+-- the replies of a run can be printed
 use Rattle.std.proofs.Common.{◌≡◌, List, [], ◌∷◌, length, ap, sym, ◌∙◌, subst, true, Ok, Err}
 use Rattle.std.specs.List.{AllByRecursion}
 use Rattle.np_site.specs.Configuration.{Configuration}
@@ -25,7 +25,7 @@ told_from c sound s (e ∷ journal) ids is lines =
     let said : is_told e.reply ≡ true = subst (λ (x : Entry). is_told x.reply ≡ true) head (answer-told (judge c s e.event) (judge-told c s e.event sound ids)) in
     (record { event = lines.0; reply = said }, told_from c sound (next c s e.event) journal (HasIds-next c sound s e.event ids) tail lines.1)
 
--- each entry of a run can be told where its event has a line
+-- each entry of a run can be printed if its event has a line
 pub told-Runs : (c : Configuration) (journal : List Entry) (s : State) → IsSound c → Runs c journal s → AllByRecursion (λ (e : Entry). HasEventLine e.event) journal → AllByRecursion IsToldEntry journal
 told-Runs c journal s sound runs lines = told_from c sound (start c) journal (HasIds-start c) runs.replies lines
 

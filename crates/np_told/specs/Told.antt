@@ -1,4 +1,4 @@
--- which replies have a line, where their numbers are within their types
+-- which replies have a line, if their numbers are within their types
 use Rattle.std.specs.Prelude.{◌≡◌, nat_le, Bool, true, false, ◌&&◌, Result, Ok, Err}
 use Rattle.np_text.specs.declared.id.RequestId.{RequestId}
 use Rattle.np_text.specs.declared.word.Ending.{Ending}
@@ -16,7 +16,7 @@ use Rattle.np_event.specs.declared.reply.Reply.TheVariants as reply
 abbrev pub has_digits : RequestId → Bool
 has_digits r = nat_le 100 r.priority && nat_le r.priority 999
 
--- a reply tells of no withdrawn job
+-- a reply reports no withdrawn job
 abbrev pub is_told_ending : Ending → Bool
 is_told_ending ending.Served = true
 is_told_ending ending.Lost = true
@@ -35,7 +35,7 @@ is_told_done done.Keep = true
 is_told_done done.Remove = true
 is_told_done (done.Ended e) = is_told_ending e
 
--- no entry is refused for want of room in the journal, since it would have none
+-- no entry is refused for lack of room in the journal, since it would have none
 abbrev pub is_told_refusal : Refusal → Bool
 is_told_refusal no.NoSession = true
 is_told_refusal no.Expired = true
@@ -67,17 +67,18 @@ is_told_refusal no.Full = false
 is_told_refusal (no.TenantShort i c m) = true
 is_told_refusal no.TenantNeverFits = true
 
--- a reply can be told: the requests that it names have three digits, it tells of no withdrawn job, and the journal had room
+-- a reply can be printed: the requests that it names have three digits, it reports no withdrawn
+-- job, and the journal had room
 abbrev pub is_told : Reply → Bool
 is_told (reply.Done d) = is_told_done d
 is_told (reply.Refused r) = is_told_refusal r
 
--- what an event is answered can be told
+-- the answer to an event can be printed
 abbrev pub is_told_answer : Result Done Refusal → Bool
 is_told_answer (Ok d) = is_told_done d
 is_told_answer (Err r) = is_told_refusal r
 
--- an entry that has a line, where its numbers are within their types
+-- an entry that has a line, if its numbers are within their types
 pub record IsToldEntry (e : Entry) : Type 0 where
   pub event : HasEventLine e.event
   pub reply : is_told e.reply ≡ true

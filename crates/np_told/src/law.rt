@@ -10,8 +10,8 @@ ghost use Rattle.np_machine.specs.State.{State};
 ghost use Rattle.np_machine.specs.History.{Runs};
 ghost use Rattle.np_told.specs.Told.{IsToldEntry};
 
-/// Each entry of a run can be told where its event has a line: the requests that its reply names have
-/// priorities of three digits, and no reply tells of a withdrawn job or a full journal.
+/// Each entry of a run can be printed if its event has a line: the requests that its reply names
+/// have priorities of three digits, and no reply reports a withdrawn job or a full journal.
 pub fn the_replies_of_a_run_can_be_told()
     ensures { (c : Configuration) (journal : List Entry) (s : State) → IsSound c → Runs c journal s →
         AllByRecursion (λ e. HasEventLine e.event) journal → AllByRecursion IsToldEntry journal }

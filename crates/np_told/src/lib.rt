@@ -1,6 +1,6 @@
-//! Laws of runs that printing stands on: what a run answers can be told.
+//! Laws of runs that printing depends on: what a run answers can be printed.
 //!
-//! `specs/Told` says which replies have a line, where their numbers are within their types.
+//! `specs/Told` says which replies have a line, if their numbers are within their types.
 #![tactic(auto)]
 
 mod law;

@@ -34,7 +34,7 @@ use Rattle.np_told.proofs.Ids.{IdHasDigits, HasIds, request-digits, HasIds-start
 use Rattle.np_useful.specs.Driven.{Says, IsDrivenTurn, DrivenFrom, DrivenBy}
 use Rattle.np_top.specs.Typed.{IsTyped}
 
--- ## an accepted event names requests that stand
+-- ## an accepted event names requests that exist
 
 text-of : (r : RequestId) → has_digits r ≡ true → r.seq < 2 ^ 32 → HasText r
 text-of r digits below = record { least = grind (arith, nat_tests); most = grind (arith, nat_tests); sequence = below }

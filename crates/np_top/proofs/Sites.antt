@@ -59,7 +59,7 @@ module _ (c d : Configuration) (journal : List Entry) (s : State) (same : d ≡ 
   pub status_then : (status : ℕ) → status ≡ status_of_fates (fates s) → status ≡ status_of_fates (fates (after c journal))
   status_then status is = is ∙ ap (λ (x : State). status_of_fates (fates x)) (sym reached)
 
--- it is known which of both it was
+-- it is known which of the two it was
 pub ended_is : (c : Configuration) (journal : List Entry) (full b : Bool) → full ≡ b → HasEnded c journal full → HasEnded c journal b
 ended_is c journal full b is ended = subst (HasEnded c journal) is ended
 

@@ -17,12 +17,12 @@ use Rattle.np_top.specs.Replay.{IsReplayed, IsFaulty, EndsReplay, Replays, statu
 
 -- ## one line
 
--- a line that was to have another status was not written where the status is neither that nor 6
+-- a line that was to have another status was not written if the status is neither that nor 6
 pub not-said : (err err_now : SinkFacts) (line : List ℕ) (wanted status : ℕ) → IsSaid err err_now line wanted status → (status ≡ wanted → ⊥) → (status ≡ 6 → ⊥) → ⊥
 not-said err err_now line wanted status (inl whole) other six = other whole.0
 not-said err err_now line wanted status (inr cut) other six = six cut.0
 
--- with another status than 6 the line is there
+-- with a status other than 6 the line is there
 pub said-whole : (err err_now : SinkFacts) (line : List ℕ) (wanted status : ℕ) → IsSaid err err_now line wanted status → (status ≡ 6 → ⊥) → (status ≡ wanted) × IsWritten err err_now line
 said-whole err err_now line wanted status (inl whole) six = whole
 said-whole err err_now line wanted status (inr cut) six = absurd (six cut.0)

@@ -47,12 +47,12 @@ EndsAudit source source_now ending.NoMemory = Unit {0}
 
 -- ## the status that belongs to an input
 
--- 0 where it is the Text of a run, else 8
+-- 0 if it is the Text of a run, otherwise 8
 abbrev pub IsAuditStatus : List ℕ → ℕ → Type 0
 IsAuditStatus came status =
     ((status ≡ 0) × IsAText came) ⊎ ((status ≡ 8) × ((n : ℕ) × IsNoText came n))
 
--- 5 where it is too long, else by the Text
+-- 5 if it is too long, otherwise by the Text
 abbrev pub IsAuditStatusIf : Bool → List ℕ → ℕ → Type 0
 IsAuditStatusIf true came status = status ≡ 5
 IsAuditStatusIf false came status = IsAuditStatus came status
@@ -71,7 +71,7 @@ pub record Audits {S K E : Type 0} (s : S → SourceFacts) (k : K → SinkFacts)
   pub yes : status ≡ 0 → InputIsText (s source) (s source_now) × IsWritten (k out) (k out_now) yes_line × (err_now ≡ err)
   -- status 8: the input is no such Text, the number of its first line at fault is on err, and nothing on out
   pub no : status ≡ 8 → (line : List ℕ) × InputIsNoText (s source) (s source_now) line × IsWritten (e err) (e err_now) line × (out_now ≡ out)
-  -- status 5: a read failed, or too many bytes came; err tells which
+  -- status 5: a read failed, or too many bytes came; err says which
   pub read : status ≡ 5 → (out_now ≡ out)
       × ((Rose (s source).faults (s source_now).faults × IsWritten (e err) (e err_now) read_line)
       ⊎ (IfSome (s source).left (λ left. most < length left) × IsWritten (e err) (e err_now) long_line))

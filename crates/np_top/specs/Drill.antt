@@ -17,7 +17,9 @@ use Rattle.np_top.specs.Told.{IsTold, memory_line, full_line}
 
 -- ## how a drill may end
 
--- the text is the summary of a run over this configuration, which its parties and the simulated cloud drove to its end, or until the journal was full; all that holds of a run held after its every step (own)
+-- the text is the summary of a run over this configuration, which its parties and the simulated
+-- cloud drove to its end, or until the journal was full; all that holds of a run held after each of
+-- its steps (own)
 pub record IsDrill (c : Configuration) (text : List ℕ) (full : Bool) : Type 0 where
   pub journal : List Entry
   pub runs : Runs c journal (after c journal)
@@ -45,7 +47,7 @@ pub record Drills {K E : Type 0} (k : K → SinkFacts) (e : E → SinkFacts) (jo
   pub told : IsTold k e out out_now err err_now ending status
   -- status 0: the summary of a journal that the site's parties drove to its end is on out, and nothing on err
   pub done : status ≡ 0 → (text : List ℕ) × IsDrill (drill_site jobs) text false × IsWritten (k out) (k out_now) text × (err_now ≡ err)
-  -- status 9: the summary of a journal that is as long as it may be is on out, and err tells that
+  -- status 9: the summary of a journal that is as long as it may be is on out, and err says so
   pub full : status ≡ 9 → (text : List ℕ) × IsDrill (drill_site jobs) text true
       × IsWritten (k out) (k out_now) text × IsWritten (e err) (e err_now) full_line
   -- status 6: out or err failed, and `told` says which, and what is on both

@@ -1,4 +1,4 @@
--- the whole input, and why it was not had
+-- the whole input, or why there is none
 use Rattle.std.specs.Prelude.{◌≡◌, ◌≤◌, ◌<◌, ℕ, true, List, [], Some, IfSome, length}
 use Rattle.np_io.specs.Counts.{Rose}
 use Rattle.np_io.specs.Facts.{SourceFacts}
@@ -9,7 +9,8 @@ use Rattle.np_top.specs.declared.ending.Ending.TheVariants as ending
 abbrev pub most : ℕ
 most = 67108864
 
--- these bytes are the input: what the source had left where it tells that, read to its end, and no more than an input may have
+-- these bytes are the input: what the source had left, if that is known, read to its end, and no
+-- more than an input may have
 pub record IsInput (source source_now : SourceFacts) (came : List ℕ) : Type 0 where
   pub all : IfSome source.left (λ left. came ≡ left)
   pub fits : length came ≤ most

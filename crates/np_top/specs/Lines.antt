@@ -1,4 +1,4 @@
--- the lines that tell a script's fault, and its status
+-- the lines that report a script's fault, and its status
 use Rattle.std.specs.Prelude.{ℕ, List, ◌++◌, codes, decimal}
 use Rattle.np_text.specs.Lines.{line}
 use Rattle.np_json.specs.declared.fault.ConfigKind.{ConfigKind}
@@ -38,7 +38,7 @@ fault_text (fault.BadArgument word) = codes "bad-argument " ++ decimal word
 unfoldable pub event_line : ℕ → List ℕ → List ℕ
 event_line n what = line (codes "poolsim: script: line " ++ decimal n ++ codes ": " ++ what)
 
--- the line that tells a script's fault
+-- the line that reports a script's fault
 abbrev pub script_line : ScriptFault → List ℕ
 script_line (script.Config f) = config_line f
 script_line script.NoSeparator = separator_line

@@ -48,7 +48,7 @@ abbrev pub status_by : Result Script ScriptFault → ℕ
 status_by (Ok script) = 0
 status_by (Err fault) = script_status fault
 
--- 5 where it is too long, else by the script
+-- 5 if it is too long, otherwise by the script
 abbrev pub status_of : List ℕ → ℕ
 status_of came = if nat_lt most (length came) then 5 else status_by (script_of came)
 
@@ -63,7 +63,7 @@ pub record Replays {S K E : Type 0} (s : S → SourceFacts) (k : K → SinkFacts
   pub done : status ≡ 0 → (text : List ℕ) × IsReplayed (s source) (s source_now) text × IsWritten (k out) (k out_now) text × (err_now ≡ err)
   -- status 3 or 4: the line of the script's first fault is on err, and nothing on out
   pub fault : (status ≡ 3) ⊎ (status ≡ 4) → (line : List ℕ) × IsFaulty (s source) (s source_now) line status × IsWritten (e err) (e err_now) line × (out_now ≡ out)
-  -- status 5: a read failed, or too many bytes came; err tells which
+  -- status 5: a read failed, or too many bytes came; err says which
   pub read : status ≡ 5 → (out_now ≡ out)
       × ((Rose (s source).faults (s source_now).faults × IsWritten (e err) (e err_now) read_line)
       ⊎ (IfSome (s source).left (λ left. most < length left) × IsWritten (e err) (e err_now) long_line))

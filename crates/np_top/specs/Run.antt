@@ -22,7 +22,8 @@ use Rattle.np_top.specs.Told.{IsTold, EndsSo, read_line, long_line, memory_line,
 
 -- ## how a site was played
 
--- where the run came to its end: no role has a useful event, and the last entry is a tick; else the journal is as long as it may be (own)
+-- if the run came to its end, no role has a useful event, and the last entry is a tick; otherwise
+-- the journal is as long as it may be (own)
 abbrev pub HasEnded : Configuration → List Entry → Bool → Type 0
 HasEnded c journal false = IsSettled c (after c journal) × EndsWithTick journal
 HasEnded c journal true = length journal ≡ 262144
@@ -41,11 +42,11 @@ is_waiting fate.lost = false
 is_waiting fate.withdrawn = false
 is_waiting (fate.waiting phase) = true
 
--- some of these fates is waiting (own)
+-- one of these fates is waiting (own)
 abbrev pub some_waits : List Fate → Bool
 some_waits ends = list_any is_waiting ends
 
--- the status of a run that came to its end: 1 where a fate is waiting, else 0
+-- the status of a run that came to its end: 1 if a fate is waiting, otherwise 0
 abbrev pub status_of_fates : List Fate → ℕ
 status_of_fates ends = if some_waits ends then 1 else 0
 
@@ -102,12 +103,12 @@ IsPlayed c ending.NoMemory = ⊥
 
 -- ## the statuses that belong to an input
 
--- 3 where it has a fault, else one of a run
+-- 3 if it has a fault, otherwise one of a run
 abbrev pub IsStatusBy : Result Configuration ConfigFault → ℕ → Type 0
 IsStatusBy (Ok c) status = (status ≡ 0) ⊎ (status ≡ 1) ⊎ (status ≡ 9)
 IsStatusBy (Err fault) status = status ≡ 3
 
--- 5 where it is too long, else by the configuration
+-- 5 if it is too long, otherwise by the configuration
 abbrev pub IsStatusIf : Bool → List ℕ → ℕ → Type 0
 IsStatusIf true came status = status ≡ 5
 IsStatusIf false came status = IsStatusBy (reads came) status
@@ -128,12 +129,12 @@ pub record RunsSite {S K E : Type 0} (s : S → SourceFacts) (k : K → SinkFact
   -- status 1: the same, but some job's fate is waiting
   pub waiting : status ≡ 1 → (text : List ℕ) × (run : IsRun (s source) (s source_now) text false)
       × (some_waits (fates_of_run run) ≡ true) × IsWritten (k out) (k out_now) text × (err_now ≡ err)
-  -- status 9: the Text of a journal that is as long as it may be is on out, and err tells that
+  -- status 9: the Text of a journal that is as long as it may be is on out, and err says so
   pub full : status ≡ 9 → (text : List ℕ) × IsRun (s source) (s source_now) text true
       × IsWritten (k out) (k out_now) text × IsWritten (e err) (e err_now) full_line
   -- status 3: the line of the configuration's first fault is on err, and nothing on out
   pub fault : status ≡ 3 → (line : List ℕ) × IsNoSite (s source) (s source_now) line × IsWritten (e err) (e err_now) line × (out_now ≡ out)
-  -- status 5: a read failed, or too many bytes came; err tells which
+  -- status 5: a read failed, or too many bytes came; err says which
   pub read : status ≡ 5 → (out_now ≡ out)
       × ((Rose (s source).faults (s source_now).faults × IsWritten (e err) (e err_now) read_line)
       ⊎ (IfSome (s source).left (λ left. most < length left) × IsWritten (e err) (e err_now) long_line))

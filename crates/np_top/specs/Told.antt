@@ -34,13 +34,15 @@ abbrev pub IsSaid : SinkFacts → SinkFacts → List ℕ → ℕ → ℕ → Typ
 IsSaid err err_now line wanted status =
     ((status ≡ wanted) × IsWritten err err_now line) ⊎ ((status ≡ 6) × IsCutShort err err_now line)
 
--- the text is on out, whole, with the wanted status, and err is untouched; or out failed, a beginning of the text is on it, and err tells that with status 6
+-- the text is on out, whole, with the wanted status, and err is untouched; or out failed, a
+-- beginning of the text is on it, and err says so, with status 6
 abbrev pub IsShown : {K E : Type 0} → (K → SinkFacts) → (E → SinkFacts) → K → K → E → E → List ℕ → ℕ → ℕ → Type 0
 IsShown k e out out_now err err_now text wanted status =
     ((status ≡ wanted) × IsWritten (k out) (k out_now) text × (err_now ≡ err))
     ⊎ (IsCutShort (k out) (k out_now) text × IsSaid (e err) (e err_now) write_line 6 status)
 
--- the text is on out, whole, and then err tells that the journal was full, with status 9; or out failed, a beginning of the text is on it, and err tells that with status 6
+-- the text is on out, whole, and then err says that the journal was full, with status 9; or out
+-- failed, a beginning of the text is on it, and err says so, with status 6
 abbrev pub IsShownFull : {K E : Type 0} → (K → SinkFacts) → (E → SinkFacts) → K → K → E → E → List ℕ → ℕ → Type 0
 IsShownFull k e out out_now err err_now text status =
     (IsWritten (k out) (k out_now) text × IsSaid (e err) (e err_now) full_line 9 status)

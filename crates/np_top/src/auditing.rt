@@ -57,10 +57,11 @@ fn ending_of<S: Source>(alloc: Global, source: &mut S) -> Ending
     }
 }
 
-/// Reads the source to its end, and prints `yes` to out if the bytes are the Text of a run, or names
-/// on err the first line that shows that they are not. It answers the status: 0 for a Text, 8 for
-/// other bytes, 5 for a failed source or too long an input, 6 for a failed sink, 7 where memory ran
-/// out. The time is that of reading, and by `np_audit::audit` that of playing the events.
+/// Reads the source to its end, and prints `yes` to out if the bytes are the Text of a run, or
+/// names on err the first line that shows that they are not. It returns the status: 0 for a Text, 8
+/// for other bytes, 5 for a failed source or an input that is too long, 6 for a failed sink, 7 if
+/// memory ran out. The time is that of reading, and by `np_audit::audit` that of playing the
+/// events.
 pub fn audit<S: Source, K: Sink, E: Sink>(
     alloc: Global,
     source: &mut S,

@@ -57,8 +57,8 @@ fn command_pair(word: &str, count: &str) -> Option<Command>
     }
 }
 
-/// The command of the words: the first word that is `--` is left out, if there is one. `None` where
-/// the words that are left are no command. Takes time in the length of the first three words.
+/// The command of the words: the first word that is `--` is left out, if there is one. `None` if
+/// the words that are left are no command. The time grows with the length of the first three words.
 pub fn command_of(words: &[String]) -> Option<Command>
     ensures command { result ≡ command (map string_bytes words.now) }
     ensures jobs { IfSome result HasJobs }

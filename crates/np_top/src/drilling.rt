@@ -15,7 +15,7 @@ use std::alloc::Global;
 use std::sync::Wait;
 use std::thread::Threads;
 
-/// Plays the generated site to its end, and answers how the drill ends then.
+/// Plays the generated site to its end, and returns how the drill ends then.
 fn play_drill<R: Threads + Wait + Sync, G: Gate + Sync>(
     rt: &R,
     alloc: Global,
@@ -52,10 +52,10 @@ fn ending_of<R: Threads + Wait + Sync, G: Gate + Sync>(
     }
 }
 
-/// Makes the site of this number of jobs, lets its launchers, janitors, requesters and reaper play it
-/// in threads to its end, and prints how many jobs came to which end to out. It answers the status:
-/// 0 where the site came to its end, 6 for a failed sink, 7 where memory ran out. Where the journal
-/// was full the summary is printed, a line on err says so, and the status is 9. It may wait for as
+/// Makes the site of this number of jobs, lets its launchers, janitors, requesters and reaper play
+/// it in threads to its end, and prints how many jobs came to which end to out. It returns the
+/// status: 0 if the site came to its end, 6 for a failed sink, 7 if memory ran out. If the journal
+/// was full, the summary is printed, a line on err says so, and the status is 9. It may wait for as
 /// long as the rounds do.
 pub fn drill<R: Threads + Wait + Sync, K: Sink, E: Sink, G: Gate + Sync>(
     rt: &R,

@@ -8,7 +8,7 @@ use np_io::{Source, read_all};
 use np_text::INPUT_BYTES;
 use std::alloc::Global;
 
-/// All that the source has left, or why it is not had. The time grows with the input.
+/// All that the source has left, or why there is no input. The time grows with the input.
 pub(crate) fn input<S: Source>(alloc: Global, source: &mut S) -> Result<Vec<u8>, Ending>
     ensures came { IfOk result (λ bytes.
         IsInput (S.facts source.old) (S.facts source.new) bytes.items) }

@@ -3,7 +3,7 @@
 //! `specs/Command` says which words are a command. Each command is a public function with a record
 //! of clauses in a file of its own, as `specs/Replay`: it works out an `Ending`, and `tell` writes
 //! that to the sinks (`specs/Told`). `poolsim` reads the words and calls the command. Nothing is
-//! printed on out before all of the input was read and the whole text stands in memory.
+//! printed to out before all of the input was read and the whole text is in memory.
 #![tactic(auto)]
 
 mod auditing;

@@ -1,4 +1,4 @@
-//! The lines that tell a script's fault.
+//! The lines that report a script's fault.
 
 ghost use Rattle.std.specs.Prelude.{◌≡◌, ◌++◌, codes, IfOk, OnOk};
 ghost use Rattle.np_top.specs.Lines.{kind_text, config_line, fault_text, event_line, script_line, script_status};
@@ -99,7 +99,7 @@ pub(crate) fn line_of_script(alloc: Global, fault: &ScriptFault) -> Result<Vec<u
     }
 }
 
-/// The status of a script's fault: 3 for one of the configuration, else 4.
+/// The status of a script's fault: 3 for one of the configuration, otherwise 4.
 pub(crate) fn status_of_script(fault: &ScriptFault) -> u8
     ensures { result ≡ script_status fault.now }
 {

@@ -16,7 +16,7 @@ use std::alloc::Global;
 use std::sync::Wait;
 use std::thread::Threads;
 
-/// Plays the site over the simulated clouds, and answers the board, and whether its journal was
+/// Plays the site over the simulated clouds, and returns the board, and whether its journal was
 /// full.
 pub(crate) fn play_site<R: Threads + Wait + Sync, G: Gate + Sync>(
     rt: &R,

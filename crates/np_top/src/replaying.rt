@@ -43,11 +43,11 @@ fn ending_of<S: Source>(alloc: Global, source: &mut S) -> Ending
 }
 
 /// Reads a configuration and a script of events from the source, plays them, and prints the whole
-/// Text of the run to out, or says on err why not. It answers the status: 0 where the Text was
-/// printed, 3 for a fault of the configuration, 4 for one of the script, 5 for a failed source or too
-/// long an input, 6 for a failed sink, 7 where memory ran out. The input is read to its end first,
-/// then come the configuration, the separator and the lines, and last the writing. The time grows
-/// with the input, and by `np_report::play` with the events.
+/// Text of the run to out, or says on err why not. It returns the status: 0 if the Text was
+/// printed, 3 for a fault of the configuration, 4 for one of the script, 5 for a failed source or
+/// an input that is too long, 6 for a failed sink, 7 if memory ran out. The input is read to its
+/// end first, then come the configuration, the separator and the lines, and last the writing. The
+/// time grows with the input, and by `np_report::play` with the events.
 pub fn replay<S: Source, K: Sink, E: Sink>(
     alloc: Global,
     source: &mut S,

@@ -28,7 +28,7 @@ use std::alloc::Global;
 use std::sync::Wait;
 use std::thread::Threads;
 
-/// The configuration that the source has left, or its fault. The bytes are given back.
+/// The configuration that the source has left, or its fault. The bytes are freed.
 fn configuration<S: Source>(
     alloc: Global,
     source: &mut S,
@@ -52,7 +52,7 @@ fn is_waiting<L: Look>(look: &L, job: &JobRecord) -> bool
     job.ending.is_none()
 }
 
-/// The status of a run that came to its end: 1 where a job's fate is waiting.
+/// The status of a run that came to its end: 1 if a job's fate is waiting.
 fn status_of<L: Look>(look: &L) -> u8
     requires jobs { length (L.state look.now).jobs ≡ length (L.site look.now).jobs }
     ensures { result ≡ status_of_fates (fates (L.state look.now)) }
@@ -68,7 +68,7 @@ fn status_of<L: Look>(look: &L) -> u8
     0
 }
 
-/// Plays the site to its end, and answers how the run ends then.
+/// Plays the site to its end, and returns how the run ends then.
 fn played<R: Threads + Wait + Sync, G: Gate + Sync>(
     rt: &R,
     alloc: Global,
@@ -124,12 +124,12 @@ fn ending_of<R: Threads + Wait + Sync, S: Source, G: Gate + Sync>(
 }
 
 /// Reads a configuration from the source, lets its launchers, janitors, requesters and reaper play
-/// the site in threads to its end, and prints the Text of the journal that they made to out, or says
-/// on err why not. It answers the status: 0 where the site came to its end and no job waits, 1 where
-/// one does, 3 for a fault of the configuration, 5 for a failed source or too long an input, 6 for a
-/// failed sink, 7 where memory ran out. Where the journal was full the Text is printed, a line on
-/// err says so, and the status is 9. The input is read to its end first, then come the configuration,
-/// the rounds, and last the writing. It may wait for as long as the rounds do.
+/// the site in threads to its end, and prints the Text of the journal that they made to out, or
+/// says on err why not. It returns the status: 0 if the site came to its end and no job waits, 1 if
+/// one does, 3 for a fault of the configuration, 5 for a failed source or an input that is too
+/// long, 6 for a failed sink, 7 if memory ran out. If the journal was full, the Text is printed, a
+/// line on err says so, and the status is 9. The input is read to its end first, then come the
+/// configuration, the rounds, and last the writing. It may wait for as long as the rounds do.
 pub fn run<R: Threads + Wait + Sync, S: Source, K: Sink, E: Sink, G: Gate + Sync>(
     rt: &R,
     alloc: Global,

@@ -5,7 +5,7 @@ ghost use Rattle.np_top.specs.Told.{IsSaid, IsShown, IsShownFull, IsTold, write_
 use crate::ending::Ending;
 use np_io::{Sink, write_all};
 
-/// Writes a line to err, and answers the status, or 6 where err failed.
+/// Writes a line to err, and returns the status, or 6 if err failed.
 fn say<E: Sink>(err: &mut E, line: &[u8], status: u8) -> u8
     ensures { IsSaid (E.facts err.old) (E.facts err.new) line.now status result }
 {
@@ -15,14 +15,14 @@ fn say<E: Sink>(err: &mut E, line: &[u8], status: u8) -> u8
     }
 }
 
-/// Tells on err that out failed, and answers the status 6.
+/// Writes to err that out failed, and returns the status 6.
 fn say_write_fault<E: Sink>(err: &mut E) -> u8
     ensures { IsSaid (E.facts err.old) (E.facts err.new) write_line 6 result }
 {
     say(err, b"poolsim: write fault\n", 6)
 }
 
-/// Writes a text to out, and answers the status, or 6 where out failed, of which err then tells.
+/// Writes a text to out, and returns the status, or 6 if out failed, which is then written to err.
 fn show<K: Sink, E: Sink>(out: &mut K, err: &mut E, text: &[u8], status: u8) -> u8
     ensures { IsShown K.facts E.facts out.old out.new err.old err.new text.now status result }
 {
@@ -32,8 +32,8 @@ fn show<K: Sink, E: Sink>(out: &mut K, err: &mut E, text: &[u8], status: u8) -> 
     }
 }
 
-/// Writes a text to out, and then to err that the journal was full, with the status 9. Where out
-/// failed, err tells that, with the status 6.
+/// Writes a text to out, and then to err that the journal was full, with the status 9. If out
+/// failed, err says so, with the status 6.
 fn show_full<K: Sink, E: Sink>(out: &mut K, err: &mut E, text: &[u8]) -> u8
     ensures { IsShownFull K.facts E.facts out.old out.new err.old err.new text.now result }
 {
@@ -43,9 +43,9 @@ fn show_full<K: Sink, E: Sink>(out: &mut K, err: &mut E, text: &[u8]) -> u8
     }
 }
 
-/// Writes how a command ended, and answers the program's status: a text to out, or a line to err,
-/// or both where the journal was full. Where out fails, a line on err tells that. The status is 6
-/// where out or err failed. It takes no memory, and time in the length of what is written.
+/// Writes how a command ended, and returns the program's status: a text to out, or a line to err,
+/// or both if the journal was full. If out fails, a line on err says so. The status is 6 if out or
+/// err failed. It takes no memory, and its time grows with the length of what is written.
 pub fn tell<K: Sink, E: Sink>(out: &mut K, err: &mut E, ending: &Ending) -> u8
     ensures { IsTold K.facts E.facts out.old out.new err.old err.new ending.now result }
 {

@@ -13,7 +13,7 @@ use Rattle.np_trace.proofs.Steps.{TurnCases, of_turn, of_launch, of_removal, goe
 role_goes : (r : Role) (n : ℕ) → acting r n ≡ ended → ⊥
 role_goes r n = goes_on (λ s. s ≡ ended → ⊥) (λ q m e. cc) (λ pool m e. cc) (λ pool e. cc) (λ e. cc) r n
 
--- no turn leads to the end but one that found the journal full
+-- only a turn that found the journal full leads to the end
 abbrev EndsBy : Phase → Ask → Turn → Phase → Type 0
 EndsBy p a t s = (t ≡ turn.Full) ⊎ (s ≡ ended → ⊥)
 

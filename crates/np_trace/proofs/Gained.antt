@@ -14,7 +14,7 @@ use Rattle.np_trace.specs.Move.{Move, asked, launched, removed, entries_of}
 use Rattle.np_trace.specs.Walk.{Walk}
 use Rattle.np_trace.specs.Trace.{Gains, StandAt}
 
--- an entry stands where it was added, in each history that goes on from there
+-- an entry is where it was added, in each history that continues from there
 pub get_last : (before : List Entry) (e : Entry) (rest : List Entry) → slice_get ((before ++ e ∷ []) ++ rest) (length before) ≡ Some e
 get_last [] e rest = refl
 get_last (b ∷ bs) e rest = get_last bs e rest

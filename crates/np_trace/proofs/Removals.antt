@@ -29,7 +29,7 @@ turns_name = record {
   sweep = λ pool node y t x h. absurd h;
 }
 
--- the removals are named, but for one that comes first, which the phase owes
+-- each removal is named, except one that comes first, which the phase owes
 abbrev NamedBut : Phase → List Move → Type 0
 NamedBut p [] = Unit {0}
 NamedBut p (asked a t ∷ ms) = AreNamed (asked a t ∷ ms)

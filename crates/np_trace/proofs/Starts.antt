@@ -36,7 +36,7 @@ asks_owe_none p a m = refl
 role_owes_none : (r : Role) (n : ℕ) → [] ≡ owed_tags (acting r n)
 role_owes_none r n = goes_on (λ s. [] ≡ owed_tags s) (λ q m. refl) (λ pool m. refl) (λ pool. refl) refl r n
 
--- what a phase owes and what a turn starts is owed then
+-- what a phase owes and what a turn starts is owed afterwards
 abbrev Owes : Phase → Ask → Turn → Phase → Type 0
 Owes p a t s = owed_tags p ++ tags_of (start_made a t) ≡ owed_tags s
 
@@ -53,7 +53,7 @@ turns_owe = record {
   sweep = λ pool node x t. refl;
 }
 
--- the accepted starts are the launches, in this order, but for one that the launch is still owed of
+-- the accepted starts are the launches, in this order, except one whose launch is still owed
 pub starts_launched : (p q : Phase) (ms : List Move) → Leads p ms q → owed_tags p ++ starts_of ms ≡ tags_launched ms ++ owed_tags q
 starts_launched p q [] h = append-nil (owed_tags p) ∙ ap owed_tags h
 starts_launched p q (asked a t ∷ ms) h = sym (append_assoc (owed_tags p) (tags_of (start_made a t)) (starts_of ms)) ∙ (ap (λ (l : List Tag). l ++ starts_of ms) (of_turn Owes turns_owe p a t h.0) ∙ starts_launched (after_turn p a t) q ms h.1)
@@ -79,7 +79,7 @@ module _ (ms : List Move) (q : Phase) where
   abbrev StartReported : Option Start → Type 0
   StartReported o = IfSome o (λ s. IsReported s ms q)
 
-  -- so it is with that of a turn, where these moves come next
+  -- the same for the start of a turn, if these moves come next
   abbrev TurnReported : Phase → Ask → Turn → Phase → Type 0
   TurnReported p a t s = Leads s ms q → StartReported (start_made a t)
 

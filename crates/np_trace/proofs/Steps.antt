@@ -17,14 +17,14 @@ use Rattle.np_trace.specs.Move.{Move, asked, launched, removed}
 use Rattle.np_trace.specs.Phase.{Phase, acts, owes_launch, owes_report, looks, owes_due, sweeps, owes_swept, rests, ended, acting, after_start, after_act, after_report, after_look, after_sweep, server_in, after_turn, after_launch, after_removal, MayAsk, MayLaunch, MayRemove, Leads, start_of, report_of, is_unwanted}
 use Rattle.np_trace.specs.Trace.{start_made, is_idle}
 
--- after the end nothing comes
+-- nothing comes after the end
 pub nothing_more : (q : Phase) (ms : List Move) → Leads ended ms q → (ms ≡ []) × (q ≡ ended)
 nothing_more q [] h = (refl, sym h)
 nothing_more q (asked a t ∷ ms) h = absurd h.0
 nothing_more q (launched tag o ∷ ms) h = absurd h.0
 nothing_more q (removed x ∷ ms) h = absurd h.0
 
--- where a role goes on, or is done, it acts, looks or sweeps, or its worker rests
+-- when a role goes on, or is done, it acts, looks or sweeps, or its worker rests
 pub goes_on : (P : Phase → Type 0) → ((r : Role) (n : ℕ) → P (acts r n)) → ((pool : PoolId) (n : ℕ) → P (looks pool n)) → ((pool : PoolId) → P (sweeps pool)) → P rests → (r : Role) (n : ℕ) → P (acting r n)
 goes_on P act look sweep rest (role.Launcher pool) zero = look pool 15
 goes_on P act look sweep rest (role.Janitor pool) zero = sweep pool
@@ -85,12 +85,12 @@ module _ (P : Phase → Ask → Turn → Phase → Type 0) (c : TurnCases P) whe
   of_turn (sweeps pool) a t h = subst (λ (b : Ask). P (sweeps pool) b t (after_sweep pool (server_in b) t)) (sym h.2) (of_sweep pool h.0 h.1 t)
   of_turn p a t h = absurd h
 
--- what holds of a launch, where one may come, and of the phase after it
+-- what holds of a launch, when one may come, and of the phase after it
 pub of_launch : (P : Phase → Tag → Phase → Type 0) → ((pool : PoolId) (n : ℕ) (s : Start) (o : Outcome) → P (owes_launch pool n s) s.tag (owes_report pool n s o)) → (p : Phase) (tag : Tag) (o : Outcome) → MayLaunch p tag → P p tag (after_launch p o)
 of_launch P f (owes_launch pool n s) tag o h = subst (λ (x : Tag). P (owes_launch pool n s) x (owes_report pool n s o)) (sym h) (f pool n s o)
 of_launch P f p tag o h = absurd h
 
--- so it is with removals
+-- the same for removals
 pub of_removal : (P : Phase → Phase → Type 0) → ((pool : PoolId) (n x : ℕ) → P (owes_due pool n x) (acts (role.Janitor pool) n)) → ((pool : PoolId) (x : ℕ) → P (owes_swept pool x) (sweeps pool)) → (p : Phase) (y : ℕ) → MayRemove p y → P p (after_removal p)
 of_removal P f g (owes_due pool n x) y h = f pool n x
 of_removal P f g (owes_swept pool x) y h = g pool x

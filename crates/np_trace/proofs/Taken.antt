@@ -20,7 +20,7 @@ abbrev left_after : (Ask → Bool) → Role → ℕ
 left_after test (role.Launcher pool) = cond (test (ask.Act (role.Janitor pool))) 16 0 + 0
 left_after test r = 0
 
--- and with its own, of which it may take so many more
+-- the same with its own turns, of which it may take this many more
 abbrev left_to : (Ask → Bool) → Role → ℕ → ℕ
 left_to test r n = cond (test (ask.Act r)) n 0 + left_after test r
 

@@ -1,4 +1,4 @@
--- Whose asks a worker's are.
+-- Which asks a worker makes.
 use Rattle.std.proofs.Common.{◌≡◌, ℕ, zero, suc, inl, inr, List, [], ◌∷◌, sym, refl, subst}
 use Rattle.np_text.specs.declared.id.Role.{Role}
 use Rattle.np_text.specs.declared.id.Role.TheVariants as role

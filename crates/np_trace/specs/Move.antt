@@ -1,4 +1,4 @@
--- what a round does, in order: its turns, and what it had of its driver
+-- what a round does, in order: its turns, and what its driver did
 use Rattle.std.specs.Prelude.{ℕ, List, [], ◌∷◌, ◌++◌}
 use Rattle.np_desk.specs.Turned as turned
 use Rattle.np_event.specs.declared.entry.Entry.{Entry}

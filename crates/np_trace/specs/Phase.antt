@@ -62,13 +62,13 @@ is_unwanted _ = false
 -- ## phases
 
 pub data Phase : Type 0 where
-  -- the role takes a turn, and may take so many more
+  -- the role takes a turn, and may take this many more
   acts : Role → ℕ → Phase
-  -- an accepted start has no launch yet; then so many turns of the launcher
+  -- an accepted start has no launch yet; then the launcher may take this many turns
   owes_launch : PoolId → ℕ → Start → Phase
   -- a launch was answered, and not reported yet
   owes_report : PoolId → ℕ → Start → Outcome → Phase
-  -- the janitor looks for a due node, takes a turn, and may take so many more
+  -- the janitor looks for a due node, takes a turn, and may take this many more
   looks : PoolId → ℕ → Phase
   -- a node with this server is due
   owes_due : PoolId → ℕ → ℕ → Phase
@@ -78,17 +78,17 @@ pub data Phase : Type 0 where
   owes_swept : PoolId → ℕ → Phase
   -- the worker of a requester or of the reaper has taken its turns
   rests : Phase
-  -- a turn was answered that the journal has no room
+  -- a turn found no room in the journal
   ended : Phase
 
--- what follows where a role has nothing to do, or has taken its 16 turns (own)
+-- what follows when a role has nothing to do, or has taken its 16 turns (own)
 abbrev pub after_role : Role → Phase
 after_role (role.Launcher pool) = looks pool 15
 after_role (role.Janitor pool) = sweeps pool
 after_role (role.Requester q) = rests
 after_role role.Reaper = rests
 
--- a role that may take so many turns (own)
+-- a role that may take this many turns (own)
 abbrev pub acting : Role → ℕ → Phase
 acting r zero = after_role r
 acting (role.Launcher pool) (suc n) = acts (role.Launcher pool) n
@@ -96,7 +96,7 @@ acting (role.Janitor pool) (suc n) = looks pool n
 acting (role.Requester q) (suc n) = acts (role.Requester q) n
 acting role.Reaper (suc n) = acts role.Reaper n
 
--- where a round begins (own)
+-- the phase in which a round begins (own)
 abbrev pub first_phase : Work → Phase
 first_phase (of_pool pool) = acting (role.Launcher pool) 16
 first_phase (of_requester q) = acting (role.Requester q) 16
@@ -184,7 +184,7 @@ Leads p (asked a t ∷ moves) q = MayAsk p a × Leads (after_turn p a t) moves q
 Leads p (launched tag o ∷ moves) q = MayLaunch p tag × Leads (after_launch p o) moves q
 Leads p (removed x ∷ moves) q = MayRemove p x × Leads (after_removal p) moves q
 
--- a server is to be removed (own)
+-- a server has to be removed (own)
 abbrev pub OwesRemoval : Phase → Type 0
 OwesRemoval (owes_due pool n x) = Unit {0}
 OwesRemoval (owes_swept pool x) = Unit {0}

@@ -40,7 +40,7 @@ tags_launched (asked a t ∷ moves) = tags_launched moves
 tags_launched (launched tag o ∷ moves) = tag ∷ tags_launched moves
 tags_launched (removed x ∷ moves) = tags_launched moves
 
--- the start that a phase owes the launch of (own)
+-- the start whose launch a phase owes (own)
 abbrev pub owed_tags : Phase → List Tag
 owed_tags (owes_launch pool n s) = s.tag ∷ []
 owed_tags _ = []
@@ -66,7 +66,7 @@ IsReported s (launched tag o ∷ moves) to = (tag ≡ s.tag) × Reports s o move
 IsReported s (asked a t ∷ moves) to = ⊥
 IsReported s (removed x ∷ moves) to = ⊥
 
--- so it is with each accepted start (own)
+-- the same for each accepted start (own)
 abbrev pub AreReported : List Move → Phase → Type 0
 AreReported [] to = Unit {0}
 AreReported (asked a t ∷ moves) to =
@@ -76,7 +76,8 @@ AreReported (removed x ∷ moves) to = AreReported moves to
 
 -- ## whose turns, and in which order
 
--- a worker's asks: of a pool's that its launcher or janitor acts, a launch's report, a look for a due node and sweeps; of the others that the role acts (own)
+-- a worker's asks: for a pool's, that its launcher or janitor acts, the report of a launch, a look
+-- for a due node, and sweeps; for the others, that the role acts (own)
 abbrev pub IsAskOf : Work → Ask → Type 0
 IsAskOf (of_pool pool) (ask.Act r) = (r ≡ role.Launcher pool) ⊎ (r ≡ role.Janitor pool)
 IsAskOf (of_pool pool) (ask.Do e) = (s : Start) × (o : Outcome) × (e ≡ report_of s o)
@@ -108,7 +109,8 @@ AreInOrder stage (removed x ∷ moves) = AreInOrder stage moves
 
 -- ## removals
 
--- the answer names a due node with this server, or is that nobody wants the server that was asked about (own)
+-- the answer names a due node with this server, or says that nobody wants the server that was asked
+-- about (own)
 abbrev pub NamesServer : Ask → Turn → ℕ → Type 0
 NamesServer (ask.Due pool) (turn.DueNode n (Some y)) x = y ≡ x
 NamesServer (ask.Sweep pool n y) t x = (y ≡ x) × (is_unwanted t ≡ true)
@@ -122,7 +124,7 @@ AreNamed (asked a t ∷ moves) = AreNamed moves
 AreNamed (launched tag o ∷ moves) = AreNamed moves
 AreNamed (removed x ∷ moves) = ⊥
 
--- a sweep of the server was not answered that nobody wants it (own)
+-- the answer to a sweep of the server was not that nobody wants it (own)
 abbrev pub WasKept : PoolId → List Move → Server → Type 0
 WasKept pool trace server = (t : Turn)
     × Contains trace (asked (ask.Sweep pool server.tag.node server.number) t)
@@ -130,14 +132,14 @@ WasKept pool trace server = (t : Turn)
 
 -- ## what was gained of the history
 
--- at these places of the history these entries stand (own)
+-- these entries are at these places of the history (own)
 abbrev pub StandAt : List Entry → List ℕ → List Entry → Type 0
 StandAt seen [] [] = Unit {0}
 StandAt seen (x ∷ xs) (e ∷ es) = (slice_get seen x ≡ Some e) × StandAt seen xs es
 StandAt seen [] (e ∷ es) = ⊥
 StandAt seen (x ∷ xs) [] = ⊥
 
--- the places that one's own gained are those of these entries (own)
+-- one's own places grew by the places of these entries (own)
 abbrev pub Gains : Sight Entry → List Entry → Sight Entry → Type 0
 Gains v entries w = (gained : List ℕ)
     × (w.mine ≡ v.mine ++ gained) × StandAt w.seen gained entries
@@ -175,7 +177,7 @@ did_count test (asked a t ∷ moves) = cond (test a && is_did t) 1 0 + did_count
 did_count test (launched tag o ∷ moves) = did_count test moves
 did_count test (removed x ∷ moves) = did_count test moves
 
--- one of these turns was answered that there is nothing to do (own)
+-- one of these turns found nothing to do (own)
 abbrev pub WasIdle : (Ask → Bool) → List Move → Type 0
 WasIdle test [] = ⊥
 WasIdle test (asked a t ∷ moves) =
@@ -204,7 +206,7 @@ IsPastJanitor _ = ⊥
 
 -- ## the end
 
--- a turn was answered that the journal has no room (own)
+-- a turn found no room in the journal (own)
 abbrev pub WasFull : List Move → Type 0
 WasFull [] = ⊥
 WasFull (asked a t ∷ moves) = (t ≡ turn.Full) ⊎ WasFull moves

@@ -8,7 +8,7 @@ use Rattle.np_board.specs.declared.ask.Turn.{Turn}
 use Rattle.np_board.specs.Asks.{recorded}
 use Rattle.np_trace.specs.Move.{Move, asked, launched, removed}
 
--- each turn is answered after what was seen by the one before. In the end more may be seen (own)
+-- each turn is answered after what the one before saw; at the end more may be seen (own)
 abbrev pub Walk : {F : Type 0} → (F → List Entry → Ask → Turn → Type 0) → F → List Move → Sight Entry → Sight Entry → Type 0
 Walk answers f [] v w = Unturned v w
 Walk answers f (asked a t ∷ moves) v w = (u : Sight Entry)

@@ -17,8 +17,8 @@ use np_board::{Ask, Turn};
 use np_desk::Turns;
 use np_event::Entry;
 
-/// The accepted starts are the launches, in this order and with these tags. Only where the moves
-/// end between a start and its launch the last start has none.
+/// The accepted starts are the launches, in this order and with these tags. Only if the moves end
+/// between a start and its launch does the last start have none.
 pub fn starts_are_launched()
     ensures launched { (p q : Phase) (trace : List Move) → Leads p trace q →
         owed_tags p ++ starts_of trace ≡ tags_launched trace ++ owed_tags q }
@@ -28,7 +28,7 @@ pub fn starts_are_launched()
 
 /// After each accepted start the next move is its launch, and the one after that the turn that
 /// reports it, for the same session, node and attempt and with what became of the launch. Only the
-/// last start may lack them, where the moves end there.
+/// last start may lack them, if the moves end there.
 pub fn starts_are_reported()
     ensures { (p q : Phase) (trace : List Move) → Leads p trace q → AreReported trace q }
 {}
@@ -38,14 +38,14 @@ pub fn asks_are_in_order()
     ensures { (p q : Phase) (trace : List Move) → Leads p trace q → AreInOrder 0 trace }
 {}
 
-/// A worker asks only what is of its roles.
+/// A worker asks only what belongs to its roles.
 pub fn asks_are_of_the_worker()
     ensures { (w : Work) (q : Phase) (trace : List Move) → Leads (first_phase w) trace q →
         AreAsksOf w trace }
 {}
 
-/// The moves come to their end exactly where a turn was answered that the journal has no room, and
-/// nothing comes after that turn.
+/// The moves come to their end if and only if a turn found no room in the journal, and nothing
+/// comes after that turn.
 pub fn a_full_journal_ends_the_round()
     ensures full { (p q : Phase) (trace : List Move) → ¬ (p ≡ ended) → Leads p trace q →
         q ≡ ended → WasFull trace }
@@ -67,9 +67,9 @@ pub fn removals_are_named()
         AreNamed trace }
 {}
 
-/// Where the round came past the launcher, the launcher took 16 turns that made an entry, or one in
-/// which it had nothing to do. So it is with the janitor, and with the one role of a requester's
-/// worker or of the reaper's.
+/// If the round came past the launcher, the launcher took 16 turns that made an entry, or one in
+/// which it had nothing to do. The same is true of the janitor, and of the one role of a
+/// requester's worker or of the reaper's.
 pub fn roles_take_their_turns()
     ensures launcher { (pool : PoolId) (q : Phase) (trace : List Move) →
         Leads (first_phase (of_pool pool)) trace q → IsPastLauncher q →
@@ -83,7 +83,7 @@ pub fn roles_take_their_turns()
         Leads (first_phase of_reaper) trace rests → TookAll is_lone_act trace }
 {}
 
-/// What one's own places gained are the places of the entries of the moves, in order.
+/// One's own places grew by the places of the entries of the moves, in order.
 pub fn turns_gain_their_entries<T: Turns<Ask = Ask, Entry = Entry, Turn = Turn>>()
     ensures gained { (f : T.Fixed) (trace : List Move) (v w : Sight Entry) →
         Walk T.answers f trace v w → Gains v (entries_of trace) w }

@@ -1,12 +1,12 @@
-//! The moves of one worker's round, as contracts speak of them.
+//! The moves of one worker's round, as contracts see them.
 //!
-//! A round is told by one list of moves (`specs/Move`): its turns with their answers, and what it
-//! had of its driver, in order. `specs/Phase` says which moves may come one after another,
+//! A round is described by one list of moves (`specs/Move`): its turns with their answers, and what
+//! its driver did, in order. `specs/Phase` says which moves may come one after another,
 //! `specs/Walk` what they saw and made of the history, `specs/Drive` what they did with the driver.
-//! `law` states what holds of the moves of every round, in the words of `specs/Trace`.
+//! `law` states what holds of the moves of every round, in the terms of `specs/Trace`.
 //!
-//! Whatever turns are answered, the moves are those of `specs/Phase`. An answer of a wrong kind to a
-//! role's turn counts as nothing to do, and one to a sweep as that the server is kept.
+//! Whatever the answers to turns, the moves are those of `specs/Phase`. An answer of a wrong kind
+//! to a role's turn counts as nothing to do, and one to a sweep as keeping the server.
 #![tactic(auto)]
 
 mod law;

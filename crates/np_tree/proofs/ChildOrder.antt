@@ -1,4 +1,4 @@
--- children stand in byte order of their names
+-- children are in byte order of their names
 use Rattle.std.proofs.Common.{◌≡◌, ℕ, Bool, true, false, cond, List, [], ◌∷◌, Option, Some, None, refl, sym, ap, ◌∙◌}
 use Rattle.std.specs.Prelude.{filter}
 use Rattle.std.specs.List.{AllByRecursion}
@@ -30,7 +30,7 @@ key-by p n (Some above) is top child =
 siblings-half : (p : List ℕ) (m n : Node) → is_path m.path ≡ true → is_path n.path ≡ true → is_child p m ≡ true → is_child p n ≡ true → before_of m.path ≡ before_of n.path
 siblings-half p m n is_m is_n child_m child_n = child-half (before_of n.path) p m (parent_of m.path) (key-by p n (parent_of n.path) is_n refl child_n) is_m refl child_m
 
--- so their names decide
+-- so their names determine the order
 by-name : (m n : Node) → before_of m.path ≡ before_of n.path → node_before m n ≡ true → named_before m n ≡ true
 by-name m n half order =
     let tied = ap (λ (b : List ℕ). slice_cmp nat_cmp b (before_of n.path)) half ∙ tied_itself nat_list_cmp_total (before_of n.path) in

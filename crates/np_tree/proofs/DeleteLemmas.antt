@@ -1,4 +1,4 @@
--- what an accepted delete says of the tree
+-- what an accepted delete implies about the tree
 use Rattle.std.proofs.Common.{◌≡◌, ℕ, ◌<◌, Bool, true, false, not, List, length, Some, Result, Ok, refl}
 use Rattle.std.specs.Prelude.{nat_lt, ◌==◌}
 use Rattle.std.specs.Str.{bytes_eq}

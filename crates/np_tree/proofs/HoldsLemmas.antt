@@ -1,4 +1,4 @@
--- what holds of the fields between two calls, after each call
+-- what is true of the fields between two calls, after each call
 use Rattle.std.proofs.Common.{◌≡◌, ℕ, ◌+◌, List, [], ◌∷◌, ◌++◌, Result, Ok, Err, refl, sym, ap, ◌∙◌, subst, lit≤}
 use Rattle.std.specs.Prelude.{OnOk, OnErr}
 use Rattle.np_session.specs.Known.{Known, without}
@@ -18,7 +18,7 @@ use Rattle.np_tree.specs.Whole.{IsPart, IsTree, IsTreeUpTo}
 use Rattle.np_tree.specs.declared.inner.Inner.{Inner}
 use Rattle.np_tree.proofs.TreeLemmas.{IsTree-after_begin, IsTree-after_end, IsTree-after_raise, IsTree-call, IsTree-new_tree, IsTreeUpTo-of}
 
--- the fields hold a tree, and nothing is to be taken back
+-- the fields are those of a tree, and there is nothing to undo
 pub Holds-tree : (b : Inner) (t : TreeState) → IsKept b.lists.nodes b.lists.marks → state_of b ≡ t → IsTree t → b.lists.undo.items ≡ [] → Holds b
 Holds-tree b t kept same tree undo = record { kept = kept; tree = subst IsTree (sym same) tree; undo = undo }
 

@@ -18,7 +18,7 @@ use Rattle.np_nodes.specs.declared.op.Op.TheVariants as op
 abbrev pub with_nodes : TreeState → List Node → TreeState
 with_nodes t nodes = record t { nodes = nodes }
 
--- all but the nodes is the same
+-- all except the nodes is the same
 pub record SameBut (t u : TreeState) : Type 0 where
   pub is : u ≡ with_nodes t u.nodes
 

@@ -62,7 +62,7 @@ pub KeepsStart-trans : (a b c : NodeLists) → KeepsStart a b → KeepsStart b c
 KeepsStart-trans a b c first second =
     record { nodes = second.nodes ∙ first.nodes; marks = second.marks ∙ first.marks; can = λ can. second.can (first.can can) }
 
--- the first parts are done, each was accepted, and all of them can be taken back
+-- the first parts are done, each was accepted, and all of them can be undone
 pub record SoFar (start now : Inner) (s : ℕ) (parts : List Op) (i : ℕ) (done : List OpDone) : Type 0 where
   pub state : state_of now ≡ after_parts (state_of start) s (take i parts)
   pub told : answers_from 0 (state_of start) s (take i parts) ≡ Ok done
@@ -124,13 +124,13 @@ SoFar-all start now s parts i done so_far past =
     let all = take_all i parts past in
     (rw all at so_far.told, rw all at so_far.state, rw all at so_far.proper)
 
--- all but the nodes is as it was
+-- all except the nodes is as it was
 pub SoFar-rest : (start now next : Inner) (s : ℕ) (parts : List Op) (i : ℕ) (done : List OpDone) → SoFar start now s parts i done → state_of next ≡ state_of now → state_of next ≡ with_nodes (state_of start) next.lists.nodes
 SoFar-rest start now next s parts i done so_far same =
     let is = same ∙ so_far.state in
     is ∙ (after_parts-nodes (state_of start) s (take i parts)).is ∙ ap (λ (t : TreeState). with_nodes (state_of start) t.nodes) (sym is)
 
--- checks alone leave the tree
+-- checks alone do not change the tree
 pub after_multi-checks : (t : TreeState) (s : ℕ) (parts : List Op) → list_any (λ part. not (is_check part)) parts ≡ false → after_parts t s parts ≡ after_multi t s parts
 after_multi-checks t s parts none = rw none (after_parts-checks t s parts none)
 

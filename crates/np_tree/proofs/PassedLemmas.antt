@@ -1,4 +1,4 @@
--- what an accepted operation says of the tree
+-- what an accepted operation implies about the tree
 use Rattle.std.proofs.Common.{◌≡◌, ℕ, ◌<◌, ◌≤◌, Bool, true, false, not, ◌||◌, cond, List, ◌++◌, length, Option, Some, None, Result, Ok, refl, subst}
 use Rattle.std.specs.Prelude.{nat_le, nat_lt}
 use Rattle.std.specs.Option.{is_none}
@@ -22,7 +22,7 @@ use Rattle.np_nodes.proofs.PlaceLemmas.{bytes_eq-is}
 ok-same : {A : Type 0} (r s : Result A TreeRefusal) (x y : A) → r ≡ Ok x → s ≡ Ok y → r ≡ s → x ≡ y
 ok-same r s x y first second same = cc
 
--- what holds where a child may be made
+-- what is true if a child may be made
 pub record MayMake (t : TreeState) (above name bytes : List ℕ) (mode : Mode) (made : List ℕ) : Type 0 where
   pub parent : Node
   pub found : at_path t.nodes above ≡ Some parent
@@ -75,7 +75,7 @@ child_answer-passed t above name bytes mode made is =
       path = ok-same (Ok (made_path p name mode)) (Ok made) (made_path p name mode) made refl refl room.1;
     }
 
--- the path that is made is one, and the parent's child
+-- the path that is made is a path, and the parent's child
 pub record IsChildPath (path parent : List ℕ) : Type 0 where
   pub is : is_path path ≡ true
   pub above : parent_of path ≡ Some parent

@@ -1,4 +1,4 @@
--- no node has more children than its stat can tell
+-- no node has more children than its stat can count
 use Rattle.std.proofs.Common.{◌≡◌, ℕ, ◌<◌, ◌≤◌, Bool, true, not, List, [], length, Option, Some, None, Result, Ok, refl, sym, ap, ◌∙◌, subst}
 use Rattle.std.specs.Prelude.{filter}
 use Rattle.std.specs.Option.{is_none}

@@ -1,4 +1,4 @@
--- the root stands, and no session owns it
+-- there is a root, and no session owns it
 use Rattle.std.proofs.Common.{◌≡◌, ℕ, Bool, true, false, not, cond, List, [], ◌∷◌, map, Option, Some, None, Result, Ok, Err, refl, sym, ap, ◌∙◌, subst}
 use Rattle.std.specs.Prelude.{filter}
 use Rattle.std.specs.Option.{is_none, option_map}
@@ -48,7 +48,7 @@ change-by false p f path owner nodes is has =
 pub HasRoot-change_node : (p : List ℕ) (f : Node → Node) → KeepsPath f → KeepsOwner f → (nodes : List Node) → HasRoot nodes → HasRoot (change_node p f nodes)
 HasRoot-change_node p f path owner nodes has = change-by (bytes_eq p root) p f path owner nodes refl has
 
--- ## a node more, or less
+-- ## one node more or less
 
 pub HasRoot-insert_node : (n : Node) (nodes : List Node) → is_at root n ≡ false → HasRoot nodes → HasRoot (insert_node n nodes)
 HasRoot-insert_node n nodes other has = record { node = has.node; there = find-insert_before (is_at root) (λ m. path_before n.path m.path) n nodes other ∙ has.there; free = has.free }

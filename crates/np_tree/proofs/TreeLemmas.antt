@@ -1,4 +1,4 @@
--- what always holds of a tree, after each call
+-- what is always true of a tree, after each call
 use Rattle.std.proofs.Common.{◌≡◌, ℕ, ◌+◌, ◌≤◌, Bool, true, false, not, ◌||◌, cond, List, [], ◌∷◌, ◌++◌, Option, Some, None, Ok, refl, sym, ap, ◌∙◌, subst, lit≤, arith}
 use Rattle.std.specs.Prelude.{◌==◌, filter, min}
 use Rattle.std.specs.List.{AllByRecursion, list_any}
@@ -30,9 +30,9 @@ use Rattle.np_tree.proofs.MultiLemmas.{after_part-nodes, after_parts-nodes, with
 use Rattle.np_tree.proofs.RoomLemmas.{HasRoom-after_end, HasRoom-after_part, HasRoom-change_node, HasRoom-new_tree}
 use Rattle.np_tree.proofs.WholeLemmas.{IsWhole-after_end, IsWhole-after_part, IsWhole-after_raise, IsWhole-new_tree, and_then-ok}
 
--- ## what holds of each node, after a part
+-- ## what is true of each node, after a part
 
--- it holds of a node that is made, and each change of a node keeps it
+-- it is true of a node that is made, and each change of a node keeps it
 record Keeps (P : Node → Type 0) (z session : ℕ) : Type 0 where
   made : (path bytes : List ℕ) (mode : Mode) → P (new_node z session path bytes mode)
   child_more : (mode : Mode) (n : Node) → P n → P (with_child z mode n)
@@ -79,7 +79,7 @@ Keeps-owner live z session is = record {
   child_less = λ n lives. lives;
 }
 
--- who may do a part is live
+-- the session that may do a part is live
 alive : (t : TreeState) (session : ℕ) (part : Op) (d : OpDone) → part_answer t session part ≡ Ok d → is_in t.live session ≡ true
 alive t s (op.Create path bytes mode) d is = grind (arith, is)
 alive t s (op.CreateUnder parent bytes mode) d is = grind (arith, is)
@@ -123,7 +123,7 @@ IsTreeUpTo-later z y t later last tree = record {
   last = last;
 }
 
--- the nodes and the live sessions alone count
+-- only the nodes and the live sessions matter
 pub IsTreeUpTo-of : (z : ℕ) (t u : TreeState) → u.nodes ≡ t.nodes → u.live ≡ t.live → IsTreeUpTo z t → IsTreeUpTo z u
 IsTreeUpTo-of z t u nodes live tree = record {
   whole = subst IsWhole (sym nodes) tree.whole;

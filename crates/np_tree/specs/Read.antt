@@ -1,4 +1,4 @@
--- what the readers tell
+-- what the readers return
 use Rattle.std.specs.Prelude.{ℕ, List, Option, slice_get}
 use Rattle.std.specs.Option.{option_map}
 use Rattle.np_path.specs.Parts.{name_of}

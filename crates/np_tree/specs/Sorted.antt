@@ -17,6 +17,7 @@ ParentsComeFirst = (path above : List ℕ) → is_path path ≡ true → parent_
 abbrev pub named_before : Node → Node → Bool
 named_before m n = is_lt (slice_cmp nat_cmp (name_of m.path) (name_of n.path))
 
--- the children of a path stand in byte order of their names, each name once (own; the client API's `getChildren` has no order)
+-- the children of a path are in byte order of their names, each name once (own; the client API's
+-- `getChildren` has no order)
 abbrev pub ChildrenByName : Type 0
 ChildrenByName = (nodes : List Node) (path : List ℕ) → IsSorted nodes → AllPaths nodes → Rises named_before (children_of nodes path)

@@ -18,7 +18,8 @@ use Rattle.np_nodes.specs.declared.op.OpDone.{OpDone}
 
 -- ## the nodes
 
--- at a parent's path stands a node that no session owns (ZooKeeper Programmer's Guide: ephemeral nodes have no children)
+-- at a parent's path there is a node that no session owns (ZooKeeper Programmer's Guide: ephemeral
+-- nodes have no children)
 abbrev pub HasParent : List Node → Option (List ℕ) → Type 0
 HasParent nodes None = ⊤
 HasParent nodes (Some above) = (parent : Node) × (at_path nodes above ≡ Some parent) × (parent.facts.owner ≡ None)
@@ -30,13 +31,13 @@ AllStand nodes some = AllByRecursion (λ n. HasParent nodes (parent_of n.path)) 
 abbrev pub Stand : List Node → Type 0
 Stand nodes = AllStand nodes nodes
 
--- the root stands, and no session owns it
+-- there is a root, and no session owns it
 pub record HasRoot (nodes : List Node) : Type 0 where
   pub node : Node
   pub there : at_path nodes root ≡ Some node
   pub free : node.facts.owner ≡ None
 
--- the nodes stand in order, the root and each other one below a node that no session owns
+-- the nodes are in order, with a root, and each other one is below a node that no session owns
 pub record IsWhole (nodes : List Node) : Type 0 where
   pub sorted : IsSorted nodes
   pub paths : AllPaths nodes
@@ -60,21 +61,21 @@ pub record IsDated (number : ℕ) (n : Node) : Type 0 where
 pub record IsTreeUpTo (number : ℕ) (t : TreeState) : Type 0 where
   -- the order, the grammar, the root and the parents
   pub whole : IsWhole t.nodes
-  -- no node has more children than its stat can tell
+  -- no node has more children than its stat can count
   pub room : HasRoom t.nodes
   -- each owner is a live session
   pub owners : AllByRecursion (λ n. OwnerLives t.live n.facts.owner) t.nodes
-  -- each node is from a change up to that number, which is no later than the last that there can be
+  -- each node is from a change up to that number, which is no later than the last possible one
   pub dated : AllByRecursion (IsDated number) t.nodes
   pub last : number ≤ 18_446_744_073_709_551_615
 
--- what always holds of a tree between two calls
+-- what is always true of a tree between two calls
 abbrev pub IsTree : TreeState → Type 0
 IsTree t = IsTreeUpTo t.changes t
 
 -- ## what keeps it
 
--- a part as it can be asked for: its path is in the grammar, and one without a name is numbered
+-- a part that can be requested: its path is in the grammar, and one without a name is numbered
 pub record IsPart (part : Op) : Type 0 where
   pub path : is_path (path_of part) ≡ true
   pub numbered : is_numbered part ≡ true

@@ -19,12 +19,12 @@ use Rattle.np_nodes.specs.declared.refusal.TreeRefusal.TheVariants as no
 abbrev pub after_call : TreeState → ℕ → Op → TreeState
 after_call t s part = if is_ok (part_answer t s part) then with_next_number (after_part t s part) else t
 
--- what single calls of one session are answered in turn
+-- the answers to single calls of one session, one after another
 abbrev pub replies_to : TreeState → ℕ → List Op → List (Result OpDone TreeRefusal)
 replies_to t s [] = []
 replies_to t s (part ∷ parts) = part_answer t s part ∷ replies_to (after_call t s part) s parts
 
--- the tree that they leave
+-- the tree after these calls
 abbrev pub tree_after : TreeState → ℕ → List Op → TreeState
 tree_after t s [] = t
 tree_after t s (part ∷ parts) = tree_after (after_call t s part) s parts

@@ -1,4 +1,4 @@
-//! The tests of each call, in their order, with what they found.
+//! The tests of each call in order, with what they found.
 
 ghost use Rattle.std.specs.Prelude.{◌≡◌, ◌+◌, Ok, Err, true, false, MatchOption, MatchResult};
 ghost use Rattle.np_nodes.specs.Answer.{check_answer, child_answer, delete_answer, made_path, set_answer};
@@ -14,7 +14,7 @@ use np_nodes::{Expect, Found, Mode, Spot, TreeRefusal};
 
 /// The most bytes of a node.
 const MOST_BYTES: usize = 65_536;
-/// The last number that a sequence counter gives out.
+/// The last number that a sequence counter can give.
 const LAST_NUMBER: u32 = 2_147_483_647;
 /// One past it.
 const COUNTER_END: u32 = 2_147_483_648;
@@ -58,7 +58,7 @@ impl Inner {
         Ok(Spot::new(parent, place))
     }
 
-    /// The tests of a `set`, with the new version.
+    /// The tests of a `set`. Returns the new version too.
     pub fn admit_set(
         &self,
         session: u32,

@@ -186,7 +186,7 @@ impl Inner {
         true
     }
 
-    /// What a node tells of itself.
+    /// The stat of a node.
     pub fn stat(&self, node: &Node) -> Stat
         requires { IsKept self.now.lists.nodes self.now.lists.marks }
         ensures { result ≡ stat_of self.now.lists.nodes node.now }
@@ -212,7 +212,7 @@ impl Inner {
         self.lists.forget_undo();
     }
 
-    /// Makes a child, where the tests that come after the session's pass.
+    /// Makes a child, if the tests that come after the session's pass.
     fn make(
         &mut self,
         session: u32,
@@ -268,7 +268,7 @@ impl Inner {
         let Some(above) = path.parent() else {
             return Err(TreeFault::Refused(TreeRefusal::NodeExists));
         };
-        // A path is in the grammar, so that its name is an element.
+        // A path is in the grammar, so its name is an element.
         let _ = path.text();
         self.make(session, above, path.name(), bytes, mode)
     }

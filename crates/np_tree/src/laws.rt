@@ -1,5 +1,5 @@
 //! Laws of the definitions. The functions do nothing: their contracts are a table of closed answers,
-//! what calls keep of the tree, and what the order of nodes means.
+//! what calls keep true of the tree, and what the order of nodes means.
 
 ghost use Rattle.std.specs.Prelude.{◌≡◌, codes, [], ◌∷◌, None, Err};
 ghost use Rattle.np_nodes.specs.Answer.{set_answer};
@@ -12,7 +12,7 @@ ghost use Rattle.np_tree.specs.Sorted.{ChildrenByName, ParentsComeFirst};
 ghost use Rattle.np_tree.specs.Whole.{BeginsKeepTree, CallsKeepTree, CallsKeepWhole, EndsKeepTree, EndsKeepWhole, EphemeralsHaveNoChildren, IsTree, IsWhole, PartsKeepTree, PartsKeepWhole, RaisesKeepTree, RaisesKeepWhole};
 ghost use Rattle.np_tree.specs.Worked.{begun_tree, calls, replies, replies_to, sequence_calls, sequence_replies, third_fails, three_parts, tree_ended, tree_raised, two_done, two_parts, with_a};
 
-/// The definitions give the worked rows.
+/// The definitions agree with the worked rows.
 pub fn worked_rows()
     ensures calls { replies_to begun_tree 1 calls ≡ replies }
     ensures sequence { replies_to tree_raised 1 sequence_calls ≡ sequence_replies }
@@ -24,8 +24,8 @@ pub fn worked_rows()
     ensures once { (after_multi with_a 1 two_parts).changes ≡ 3 }
 {}
 
-/// In the nodes that calls can make the root stands, and each other one below a node that no session
-/// owns: so no node is without its parent.
+/// In the nodes that calls can make there is a root, and each other one is below a node that no
+/// session owns: so no node is without its parent.
 pub fn calls_keep_the_nodes_whole()
     ensures begin { IsWhole new_tree.nodes }
     ensures part { PartsKeepWhole }
@@ -50,7 +50,7 @@ pub fn ephemerals_have_no_children()
     ensures { EphemeralsHaveNoChildren }
 {}
 
-/// In the order of nodes each comes after its parent, and the children of a node stand in byte order
+/// In the order of nodes each comes after its parent, and the children of a node are in byte order
 /// of their names.
 pub fn nodes_stand_in_order()
     ensures parents { ParentsComeFirst }

@@ -5,9 +5,10 @@
 //! then its `specs/Multi` and `specs/Calls`, and `specs/Read` here. `specs/Worked` has closed rows. How
 //! the code does it is in `docs/TREE.md`.
 //!
-//! Between two calls the nodes stand in their order, each path once and in the grammar, each below a node
-//! that no session owns; owners are live sessions; no change number is above the last: `IsTree`, which
-//! `changes` tells. A call that is refused, or finds no memory, leaves everything as it was.
+//! Between two calls the nodes are in order, each path once and in the grammar, each below a node
+//! that no session owns; owners are live sessions; no change number is above the last. This is
+//! `IsTree`, which `changes` also guarantees. A call that is refused, or runs out of memory, leaves
+//! everything as it was.
 #![tactic(auto)]
 
 mod admit;

@@ -13,7 +13,7 @@ ghost use Rattle.np_tree.specs.Whole.{IsPart};
 use crate::inner::Inner;
 use np_nodes::{MultiFault, Op, OpDone, TreeFault};
 
-/// Whether some part is no check.
+/// Whether some part is not a check.
 fn has_change(ops: &[Op]) -> bool
     ensures { result ≡ list_any (λ part. not (is_check part)) ops.now }
 {
@@ -67,7 +67,7 @@ impl Inner {
         }
     }
 
-    /// The parts in turn, up to one that stops them.
+    /// The parts in order, up to one that stops them.
     fn parts(&mut self, session: u32, ops: &[Op], done: &mut Vec<OpDone>) -> Result<(), MultiFault>
         requires kept { IsKept self.old.lists.nodes self.old.lists.marks }
         requires few { length ops.now ≤ 4294967295 }

@@ -24,7 +24,7 @@ use np_text::NoMemory;
 use std::alloc::Global;
 use std::marker::Model;
 
-/// The coordination tree. A path is found in the logarithm of the number of nodes, and no call
+/// The coordination tree. Finding a path takes time logarithmic in the number of nodes, and no call
 /// copies a node's bytes or the tree.
 #[derive(Drop)]
 pub struct Tree {
@@ -89,14 +89,14 @@ impl Tree {
         self.inner.sessions.is_live(session)
     }
 
-    /// The number of the last change. Its contract tells, beside that, what always holds of a tree.
+    /// The number of the last change. Its contract also guarantees what is always true of a tree.
     pub fn changes(&self) -> u64
         ensures number { result ≡ self.now.changes }
         ensures tree { IsTree self.now }
         ensures begun { (id : ℕ) → is_in self.now.live id
             ≡ true → (0 < id) × (id ≤ self.now.begun) }
     {
-        // The sessions tell that each live one was begun.
+        // The contract of `count` says that each live session was begun.
         let _ = self.inner.sessions.count();
         self.inner.changes
     }
@@ -153,7 +153,7 @@ impl Tree {
         self.inner.set(session, path, bytes, expect)
     }
 
-    /// Deletes a node without children.
+    /// Deletes a node that has no children.
     pub fn delete(&mut self, session: u32, path: &Path, expect: Expect) -> Result<(), TreeFault>
         ensures answer { Answers result (delete_answer self.old session path.now expect) }
         ensures ok { OnOk result (self.new ≡ with_next_number (after_delete self.old path.now)) }
@@ -170,8 +170,8 @@ impl Tree {
     }
 
     /// Makes all parts in order, under one change number, or none. Parts that are all checks take no
-    /// number. What a part that stops the others left is undone in the work that it was (client API:
-    /// `multi`).
+    /// number. If a part stops the call, what was done is undone in the same time that it took
+    /// (client API: `multi`).
     pub fn multi(&mut self, session: u32, ops: &[Op]) -> Result<Vec<OpDone>, MultiFault>
         requires few { length ops.now ≤ 4294967295 }
         requires numbered { list_all is_numbered ops.now ≡ true }
@@ -184,7 +184,7 @@ impl Tree {
         self.inner.multi(session, ops)
     }
 
-    /// Raises a node's sequence counter, where it is lower and the number is at most 2,147,483,648,
+    /// Raises a node's sequence counter if it is lower and the number is at most 2,147,483,648,
     /// and answers whether it did. Takes no memory.
     pub fn raise_counter(&mut self, path: &Path, to: u32) -> bool
         ensures answer { result ≡ may_raise self.old path.now to }
@@ -194,7 +194,7 @@ impl Tree {
         self.inner.raise_counter(path, to)
     }
 
-    /// The bytes and the stat of the node at a path. The readers take no memory, and need no path.
+    /// The bytes and the stat of the node at a path. The readers take no memory and need no `Path`.
     pub fn get(&self, path: &str) -> Option<(&[u8], Stat)>
         ensures bytes { option_map (λ told. told.0.now) result ≡ bytes_at self.now path.now }
         ensures stat { option_map (λ told. told.1) result ≡ stat_at self.now path.now }
@@ -212,7 +212,7 @@ impl Tree {
         Some(self.inner.stat(found.node()))
     }
 
-    /// The next number that the node at a path gives out to a sequence node.
+    /// The number that the next sequence node below the node at a path gets.
     pub fn counter(&self, path: &str) -> Option<u32>
         ensures { result ≡ counter_at self.now path.now }
     {

@@ -8,7 +8,7 @@ use Rattle.np_machine.specs.Reasons.{is_old_ready, is_old_hold, is_paused}
 use Rattle.np_machine.specs.Node.{standing}
 use Rattle.np_machine.specs.State.{State}
 
--- allocated to a request that is not there any more (own)
+-- allocated to a request that no longer exists (own)
 abbrev pub is_left_over : State → NodeRecord → Bool
 is_left_over s k = is_some k.allocated_to && is_none (standing s k.allocated_to)
 
@@ -26,6 +26,6 @@ is_cleanable_as c s k node_state.Hold = is_old_hold c s k
 is_cleanable_as c s k node_state.Deleting = true
 is_cleanable_as c s k node_state.Failed = true
 
--- a node that a janitor may remove or free, where nobody holds it (Nodepool: cleanup)
+-- a node that a janitor may remove or free if nobody holds it (Nodepool: cleanup)
 abbrev pub is_cleanable : Configuration → State → NodeRecord → Bool
 is_cleanable c s k = is_cleanable_as c s k k.state

@@ -1,4 +1,4 @@
--- when the parties and their clouds drove a journal, and no script did
+-- when a journal was driven by the parties and their clouds, and not by a script
 use Rattle.std.specs.Prelude.{◌≡◌, ◌&&◌, ◌==◌, ℕ, Bool, true, false, List, [], ◌∷◌, ◌++◌, Some, ◌⊎◌}
 use Rattle.np_text.specs.declared.id.SessionId.{SessionId}
 use Rattle.np_text.specs.declared.id.PoolId.{PoolId}
@@ -31,7 +31,7 @@ pub record IsOfUse (c : Configuration) (t : Turn) : Type 0 where
 
 -- ## a tick
 
--- time goes on by one (own)
+-- time advances by one (own)
 abbrev pub is_tick : Event → Bool
 is_tick ev.Tick = true
 is_tick _ = false
@@ -84,7 +84,8 @@ is_report_of session n attempt (ev.Done by m k o) = is_session by session && is_
 is_report_of session n attempt _ = false
 
 module _ (says : Says) where
-  -- the first report on a launch that was begun, as it was answered; its reply may be a refusal, where the session ended during the launch (own)
+  -- the first report on a launch that was begun, as it was answered; its reply may be a refusal, if
+  -- the session ended during the launch (own)
   pub record IsReportOfLaunch (past : List Turn) (t : Turn) : Type 0 where
     pub session : SessionId
     pub number : NodeId
@@ -99,11 +100,11 @@ module _ (says : Says) where
 
   -- ## the journal
 
-  -- the turn is one of these, after the turns of the past (own)
+  -- the turn is one of these, after the earlier turns (own)
   abbrev pub IsDrivenTurn : Configuration → List Turn → Turn → Type 0
   IsDrivenTurn c past t = IsOfUse c t ⊎ (IsTickBetween past t ⊎ (IsSweepOfServer past t ⊎ IsReportOfLaunch past t))
 
-  -- each of the turns is, after those of the past (own)
+  -- each of the turns is one of these, after the earlier turns (own)
   abbrev pub DrivenFrom : Configuration → List Turn → List Turn → Type 0
   DrivenFrom c past [] = Unit {0}
   DrivenFrom c past (t ∷ ts) = IsDrivenTurn c past t × DrivenFrom c (past ++ t ∷ []) ts

@@ -21,17 +21,17 @@ use Rattle.np_worked.specs.TenantLimit as tenant_limit
 use Rattle.np_worked.specs.FinishedByTheJanitor as finished_by_the_janitor
 use Rattle.np_useful.specs.Useful.{is_maker_of, row_holds}
 
--- the machine would accept the event of the role's current session, and yet it is not useful
+-- the machine would accept the event from the role's current session, but it is not useful
 pub record IsUseless (c : Configuration) (s : State) (role : Role) (e : Event) : Type 0 where
   pub accepted : is_ok (judge c s e) ≡ true
   pub maker : is_maker_of role s (maker_of e) ≡ true
   pub row : row_holds c s role e ≡ false
 
--- the state after the first entries of the journal, so many
+-- the state after this many of the journal's first entries
 abbrev pub after_first : ℕ → Configuration → List Entry → State
 after_first count c journal = after c (take count journal)
 
--- the machine gives the journal's replies
+-- the machine's replies are those of the journal
 abbrev pub HasReplies : Configuration → List Entry → Type 0
 HasReplies c journal = replayed c (start c) journal ≡ journal
 
@@ -57,7 +57,7 @@ unoffered_site = record fail_declined.site {
 abbrev pub unoffered : List Entry
 unoffered = take 7 fail_declined.journal
 
--- ## a job that asks more than the pool and its tenant may ever hold
+-- ## a job that asks for more than the pool and its tenant may ever hold
 
 abbrev pub small_site : Configuration
 small_site = record tenant_limit.site { pools = record (a_pool 0 (codes "m") (offer 0 ∷ [])) { limit = at_most 2 } ∷ [] }
@@ -104,7 +104,7 @@ window_site window = record (one_pool (a_job (codes "j") (label 0 ∷ []) ∷ a_
   requesters = record { name = codes "z"; window = window } ∷ [];
 }
 
--- a provider whose launchers may work on so many requests
+-- a provider whose launchers may work on this many requests
 abbrev pub concurrency_site : ℕ → Configuration
 concurrency_site concurrency = record (window_site 20) { providers = record (a_provider (codes "c")) { concurrency = Some concurrency } ∷ [] }
 
@@ -166,7 +166,7 @@ struck =
     ∷ line (ev.Expire (session 1)) done.Plain
     ∷ []
 
--- the requester of a job that its janitor finishes has such a fault
+-- the requester of a job that a janitor finishes has such a fault
 abbrev pub left_alone_site : FaultKind → Configuration
 left_alone_site what = record finished_by_the_janitor.site { faults = record { role = requester 0; kind = what; after = 1 } ∷ [] }
 
@@ -176,7 +176,7 @@ left_alone_site what = record finished_by_the_janitor.site { faults = record { r
 abbrev pub expiring_site : Configuration
 expiring_site = record plain_site { faults = record { role = launcher 0; kind = kind.Expire; after = 5 } ∷ [] }
 
--- all kinds: useful events, a report that comes too late, the sweep of its server, and a tick
+-- a journal of all kinds: useful events, a late report, the sweep of its server, and a tick
 abbrev pub all_kinds : List Entry
 all_kinds = take 18 expiry_during_a_launch.journal ++ line ev.Tick done.Plain ∷ []
 
@@ -187,7 +187,7 @@ first_tick = line ev.Tick done.Plain ∷ []
 abbrev pub empty_site : Configuration
 empty_site = record plain_site { pools = []; requesters = []; jobs = [] }
 
--- a site with one requester, who has no job
+-- a site with one requester, which has no job
 abbrev pub quiet_site : Configuration
 quiet_site = record plain_site { pools = []; jobs = [] }
 

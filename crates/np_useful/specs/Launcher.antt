@@ -58,11 +58,11 @@ is_first_reason c s p request (reason.Spent n) =
 abbrev pub is_wanted_by : PoolId → State → NodeId → Bool
 is_wanted_by p s n = list_any (λ e. is_pending_by p e.kept && is_listed n e.kept) s.requests
 
--- and none of that list failed (own)
+-- and no node of that list failed (own)
 abbrev pub is_to_launch : PoolId → State → NodeId → Bool
 is_to_launch p s n = list_any (λ e. is_pending_by p e.kept && is_listed n e.kept && not (has_failed_node s e.kept)) s.requests
 
--- some ready node may be given to the request (Nodepool: ready nodes are used first)
+-- some ready node may be allocated to the request (Nodepool: ready nodes are used first)
 abbrev pub may_take_ready : Configuration → State → SessionId → RequestId → Bool
 may_take_ready c s session r = list_any (λ e. is_ok (judge c s (ev.TakeReady session r e.id))) s.nodes
 
@@ -90,7 +90,7 @@ is_in_hand p session e = is_requested e.kept.state && not (is_declined_by p e.ke
 abbrev pub provider_of : Configuration → PoolId → Option ℕ
 provider_of c p = option_map (λ pool. pool.provider) (slice_get c.pools p.0)
 
--- both pools are of one provider (Nodepool)
+-- both pools belong to one provider (Nodepool)
 abbrev pub is_sister : Configuration → PoolId → PoolId → Bool
 is_sister c p other = option_map_or (λ a. option_map_or (λ b. b == a) (provider_of c other) false) (provider_of c p) false
 
@@ -109,11 +109,11 @@ is_served_near c p e = is_pending e.kept.state && option_map_or (is_sister c p) 
 abbrev pub is_held_near : Configuration → State → PoolId → RequestEntry → Bool
 is_held_near c s p e = option_map_or (is_sister_launcher c p) (option_and_then (λ session. role_of session s) (holder e.queue)) false
 
--- on how many requests the provider's launchers work, each counted once (own)
+-- how many requests the provider's launchers work on, each counted once (own)
 abbrev pub requests_near : Configuration → State → PoolId → ℕ
 requests_near c s p = count_by (λ e. is_served_near c p e || is_held_near c s p e) s.requests
 
--- on how many they may work at the same time (Nodepool: max-concurrency)
+-- how many requests they may work on at the same time (Nodepool: max-concurrency)
 abbrev pub concurrency_of : Configuration → PoolId → Option ℕ
 concurrency_of c p = option_and_then (λ provider. provider.concurrency) (option_and_then (λ place. slice_get c.providers place) (provider_of c p))
 
@@ -123,7 +123,7 @@ has_turn_left c s p = option_map_or (λ most. nat_lt (requests_near c s p) most)
 
 -- ## the rows
 
--- what a launcher does that holds its pool's registration (Nodepool, in an order of its own)
+-- what a launcher that holds its pool's registration does (Nodepool, in an order of its own)
 abbrev pub registered_row : Configuration → State → PoolId → Event → Bool
 registered_row c s p (ev.UnlockRequest session r) = request_is r s (is_done_with c s p)
 registered_row c s p (ev.UnlockNode session n) = node_is n s (λ k. not k.in_flight) && not (is_wanted_by p s n)
@@ -144,7 +144,8 @@ registered_row c s p _ = false
 abbrev pub is_by_registrant : State → PoolId → Event → Bool
 is_by_registrant s p e = option_map_or (λ session. is_session_of session (registered p s.registrations)) (maker_of e) false
 
--- it opens its session and registers, and anything else waits for that (Nodepool: launchers register)
+-- it opens its session and registers first; everything else waits for that (Nodepool: launchers
+-- register)
 abbrev pub launcher_row : Configuration → State → PoolId → Event → Bool
 launcher_row c s p (ev.OpenSession role) = same_role role (Launcher p) && may_open c role s
 launcher_row c s p (ev.Register session) = true

@@ -1,4 +1,4 @@
--- which events are useful for the reaper, who has no session: one line per event
+-- which events are useful for the reaper, which has no session: one line per event
 use Rattle.std.specs.Prelude.{Bool, false, ◌||◌, not}
 use Rattle.std.specs.Option.{option_map_or}
 use Rattle.np_text.specs.declared.id.SessionId.{SessionId}
@@ -9,11 +9,12 @@ use Rattle.np_machine.specs.Tables.{session_of}
 use Rattle.np_machine.specs.State.{State}
 use Rattle.np_useful.specs.Sessions.{is_expire, is_struck_by}
 
--- its party has stopped (own)
+-- the session's party has stopped (own)
 abbrev pub is_mute : SessionId → State → Bool
 is_mute session s = option_map_or (λ facts. facts.mute) (session_of session s) false
 
--- the session of a party that stopped, or one whose role's expiry is due; and one whose role's crash or stop is due (own)
+-- the reaper expires the session of a party that stopped, or one whose role's expiry is due, and
+-- crashes one whose role's crash or stop is due (own)
 abbrev pub reaper_row : Configuration → State → Event → Bool
 reaper_row c s (ev.Expire session) = is_mute session s || is_struck_by is_expire c s session
 reaper_row c s (ev.Crash session) = is_struck_by (λ kind. not (is_expire kind)) c s session

@@ -24,12 +24,13 @@ use Rattle.np_useful.specs.Sessions.{may_open}
 use Rattle.np_useful.specs.Window.{is_in_window}
 use Rattle.np_useful.specs.Rows.{node_is, job_is, is_listed, has_some_handle}
 
--- the job's request is there and fulfilled (Nodepool: fulfilled)
+-- the job's request exists and is fulfilled (Nodepool: fulfilled)
 abbrev pub has_fulfilled_request : State → JobRecord → Bool
 has_fulfilled_request s kept =
     option_map_or (λ request. is_fulfilled request.state) (option_and_then (λ r. request_in r s.requests) kept.request) false
 
--- the job waits for its semaphores: before it asks for nodes, or when it has them where it asks for them first (Zuul: resources-first)
+-- the job waits for its semaphores: before it asks for nodes, or when its request is fulfilled if
+-- it asks for nodes first (Zuul: resources-first)
 abbrev pub waits_for_handles : Configuration → State → RequesterId → JobId → Job → JobRecord → Bool
 waits_for_handles c s q j job kept =
     (is_new kept.phase && not job.resources_first && is_in_window c s q j) || (is_asked kept.phase && has_fulfilled_request s kept)
@@ -57,7 +58,7 @@ same_end end.Used end.Used = true
 same_end end.Hold end.Hold = true
 same_end _ _ = false
 
--- the job that has the node leaves its nodes so (Zuul: nodes are returned as used or held)
+-- the job that has the node leaves its nodes this way (Zuul: nodes are returned as used or held)
 abbrev pub is_left_as : Configuration → State → NodeId → EndAs → Bool
 is_left_as c s n as_what = option_map_or (λ job. same_end job.end as_what) (owner_from n s.jobs c.jobs) false
 

@@ -1,4 +1,4 @@
--- words of several roles' rows
+-- words that the rows of several roles use
 use Rattle.std.specs.Prelude.{Bool, false, ◌==◌, is_none, slice_get}
 use Rattle.std.specs.Option.{option_map_or}
 use Rattle.std.specs.List.{list_any}
@@ -15,15 +15,15 @@ use Rattle.np_machine.specs.Reasons.{next_label, is_spent}
 use Rattle.np_machine.specs.LiveHolder.{is_node}
 use Rattle.np_machine.specs.State.{State}
 
--- the request is there, and such (own)
+-- the request exists and passes the test (own)
 abbrev pub request_is : RequestId → State → (RequestRecord → Bool) → Bool
 request_is r s such = option_map_or such (request_in r s.requests) false
 
--- the node is there, and such (own)
+-- the node exists and passes the test (own)
 abbrev pub node_is : NodeId → State → (NodeRecord → Bool) → Bool
 node_is n s such = option_map_or such (node_in n s.nodes) false
 
--- the configuration has the job, and it is such (own)
+-- the configuration has the job, and the job passes the test (own)
 abbrev pub job_is : JobId → Configuration → (Job → Bool) → Bool
 job_is j c such = option_map_or such (slice_get c.jobs j.0) false
 
@@ -31,7 +31,7 @@ job_is j c such = option_map_or such (slice_get c.jobs j.0) false
 abbrev pub is_listed : NodeId → RequestRecord → Bool
 is_listed n request = list_any (is_node n) request.nodes
 
--- a node for each of its labels (Nodepool)
+-- the request has a node for each of its labels (Nodepool)
 abbrev pub is_complete : RequestRecord → Bool
 is_complete request = is_none (next_label request)
 
@@ -39,7 +39,7 @@ is_complete request = is_none (next_label request)
 abbrev pub has_failed_node : State → RequestRecord → Bool
 has_failed_node s request = list_any (λ n. is_spent n s) request.nodes
 
--- the node is of the pool (Nodepool)
+-- the node belongs to the pool (Nodepool)
 abbrev pub is_node_of : PoolId → NodeRecord → Bool
 is_node_of p k = k.pool.0 == p.0
 

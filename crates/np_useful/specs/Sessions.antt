@@ -19,7 +19,7 @@ use Rattle.np_machine.specs.State.{State}
 abbrev pub speaks_for : Role → SessionFacts → Bool
 speaks_for role facts = same_role facts.role role && facts.live && not facts.mute
 
--- the role's current session: it speaks for the role, and none that began later does (own)
+-- the role's current session: it speaks for the role, and no session that began later does (own)
 abbrev pub is_current : Role → SessionId → State → Bool
 is_current role session s =
     option_map_or (speaks_for role) (session_of session s) false && not (list_any (speaks_for role) (drop session.0 s.sessions))
@@ -38,7 +38,8 @@ faults_of c role = filter (λ f. same_role f.role role) c.faults
 abbrev pub strikes_of : Role → State → ℕ
 strikes_of role s = option_map_or (λ deeds. deeds.strikes) (role_in role s) 0
 
--- the role's fault that its last lost session used up; none before the first loss and beyond the last fault (own)
+-- the role's fault that its last lost session used up; none before the first loss or after the last
+-- fault (own)
 abbrev pub last_fault : Configuration → Role → State → Option Fault
 last_fault c role s = if strikes_of role s == 0 then None else slice_get (faults_of c role) (strikes_of role s - 1)
 
@@ -46,7 +47,7 @@ last_fault c role s = if strikes_of role s == 0 then None else slice_get (faults
 abbrev pub next_fault : Configuration → Role → State → Option Fault
 next_fault c role s = slice_get (faults_of c role) (strikes_of role s)
 
--- the session ends, and its party goes on with a new one (ZooKeeper: a session expires)
+-- the session ends, and its party continues with a new one (ZooKeeper: a session expires)
 abbrev pub is_expire : FaultKind → Bool
 is_expire kind.Expire = true
 is_expire kind.Crash = false

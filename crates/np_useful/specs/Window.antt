@@ -1,4 +1,4 @@
--- on which jobs a requester works
+-- which jobs a requester works on
 use Rattle.std.specs.Prelude.{ℕ, List, Bool, false, ◌==◌, ◌&&◌, not, take, slice_get, count_by, nat_lt}
 use Rattle.std.specs.List.{zip}
 use Rattle.std.specs.Option.{option_map_or}
@@ -18,7 +18,7 @@ jobs_of c s = zip c.jobs s.jobs
 abbrev pub is_unfinished : RequesterId → Job × JobRecord → Bool
 is_unfinished q pair = (pair.0.requester.0 == q.0) && not (is_over pair.1.phase)
 
--- on how many jobs the requester works at the same time (own; Zuul: a pipeline's window)
+-- how many jobs the requester works on at the same time (own; Zuul: a pipeline's window)
 abbrev pub window_of : Configuration → RequesterId → ℕ
 window_of c q = option_map_or (λ row. row.window) (slice_get c.requesters q.0) 0
 

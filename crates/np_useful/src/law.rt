@@ -1,6 +1,6 @@
-//! That the definitions mean what they say: events in states of worked journals. For each row one
-//! that is useful, and one that its condition alone refuses: the machine would accept it of the
-//! role's current session.
+//! Examples that check the definitions: events in states of worked journals. For each row there is
+//! one event that is useful, and one that only the row's condition refuses: the machine would
+//! accept it from the role's current session.
 
 mod janitor;
 mod launcher;

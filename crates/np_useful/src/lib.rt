@@ -1,9 +1,9 @@
-//! When an event is useful: what each party does next in a run, when nothing is left to do, and when
-//! a journal came about so.
+//! When an event is useful: what each party does next in a run, when nothing is left to do, and
+//! when a journal came about in this way.
 //!
-//! The definitions stand in `specs/`: read `Useful`, then the role's rows in `Launcher`, `Requester`,
+//! The definitions are in `specs/`: read `Useful`, then the role's rows in `Launcher`, `Requester`,
 //! `Janitor` or `Reaper`, one line for each kind of event. A kind without a line is never useful.
-//! `Settled` and `Driven` stand on `Useful`. All of them speak of the machine's state alone. `law`
+//! `Settled` and `Driven` are based on `Useful`. All of them use the machine's state alone. `law`
 //! has examples of both sides.
 #![tactic(auto)]
 

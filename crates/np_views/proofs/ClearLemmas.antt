@@ -44,7 +44,7 @@ pub rows-elements : (dir : List ℕ) (nodes : List Node) → AllPaths nodes → 
 rows-elements dir [] paths = tt
 rows-elements dir (n ∷ nodes) paths = elements-by dir n nodes (is_child dir n) refl paths.0 (rows-elements dir nodes paths.1)
 
--- the first row gone
+-- without the first row
 filter-first : (row : Row) (rows : List Row) → AllByRecursion (λ other. row_before row other ≡ true) rows → filter (λ other. not (is_named row.name other)) (row ∷ rows) ≡ rows
 filter-first row rows first =
     rw (bytes_eq-from row.name row.name refl)

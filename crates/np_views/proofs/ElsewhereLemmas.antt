@@ -55,7 +55,7 @@ under-elsewhere t s dir bytes made other mode whole part answer apart =
 
 -- ## a set
 
--- the root is no row
+-- the root is not a row
 top-child : (other path : List ℕ) (n : Node) → parent_of path ≡ None → is_at path n ≡ true → is_child other n ≡ false
 top-child other path n top at = ap (is_parent other) (ap parent_of (bytes_eq-is n.path path at) ∙ top)
 

@@ -8,13 +8,13 @@ use Rattle.np_nodes.specs.Order.{IsSorted}
 use Rattle.np_nodes.specs.declared.node.Node.{Node}
 use Rattle.np_nodes.proofs.PlaceLemmas.{later-others}
 
--- what was found, where it is kept
+-- what was found, if it is kept
 abbrev pub kept_by : {A : Type 0} → (A → Bool) → Option A → Option A
 kept_by keep None = None
 kept_by keep (Some a) = cond (keep a) (Some a) None
 
 module _ {X : Type 0} (p : X → Bool) where
-  -- ## a member more
+  -- ## one member more
 
   here-by : (new x : X) (xs more : List X) (b : Bool) → p new ≡ true → p x ≡ false → find p more ≡ Some new → find p (cond b (new ∷ x ∷ xs) (x ∷ more)) ≡ Some new
   here-by new x xs more true passes other later = rw passes refl
@@ -33,7 +33,7 @@ module _ {X : Type 0} (p : X → Bool) where
     gone true passes = absurd (let still = stays passes in cc)
     gone false passes = later
 
-  -- another test leaves what is found
+  -- another test does not change what is found
   pub find-filter_other : (keep : X → Bool) (xs : List X) → ((x : X) → p x ≡ true → keep x ≡ true) → find p (filter keep xs) ≡ find p xs
   find-filter_other keep [] stays = refl
   find-filter_other keep (x ∷ xs) stays = filtered-by keep x xs (filter keep xs) (keep x) refl (stays x) (find-filter_other keep xs stays)
@@ -55,7 +55,7 @@ module _ {X : Type 0} (p : X → Bool) where
   find-filter_none keep [] none = refl
   find-filter_none keep (x ∷ xs) none = nothing-kept-by keep x (filter keep xs) (keep x) none.0 (find-filter_none keep xs none.1)
 
--- a path stands once, so another test keeps what is found or leaves nothing
+-- there is one node at a path, so another test keeps what is found or leaves nothing
 once-by : (path : List ℕ) (keep : Node → Bool) (n : Node) (nodes : List Node) (b c : Bool) → is_at path n ≡ b → keep n ≡ c → (is_at path n ≡ true → NonePass (is_at path) nodes) → at_path (filter keep nodes) path ≡ kept_by keep (at_path nodes path) →
     find (is_at path) (cond c (n ∷ filter keep nodes) (filter keep nodes)) ≡ kept_by keep (cond b (Some n) (at_path nodes path))
 once-by path keep n nodes true true at kept once later = rw at (rw kept refl)

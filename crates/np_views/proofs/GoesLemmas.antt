@@ -1,4 +1,4 @@
--- from which facts a part of a call is accepted
+-- the facts from which a part of a call is accepted
 use Rattle.std.proofs.Common.{◌≡◌, ℕ, ◌+◌, ◌<◌, ◌≤◌, Bool, true, false, not, ◌||◌, List, [], length, Option, Some, None, Result, Ok, refl, sym, ap, ◌∙◌, arith}
 use Rattle.std.specs.Prelude.{nat_le, nat_lt, ◌==◌}
 use Rattle.std.specs.Option.{is_none, option_map}
@@ -22,7 +22,7 @@ use Rattle.np_views.specs.Goes.{CanCreate, ChecksGo, CreatesGo, CreatesUnderGo, 
 use Rattle.np_views.specs.Views.{Seen, name_given, row_of, rows_at, seen_at, seen_of}
 use Rattle.np_views.proofs.RelationLemmas.{counter-found, made-is, seen-none}
 
--- ## lines of tests that hold
+-- ## lines of tests that are true
 
 need-goes : {B : Type 0} (b : Bool) (refusal : TreeRefusal) (rest : Result B TreeRefusal) → b ≡ true → (need b refusal >> rest) ≡ rest
 need-goes true refusal rest is = refl
@@ -108,7 +108,7 @@ not-root path dir above = bytes_eq-not path root (λ same. absurd (let e : None 
 childless : (t : TreeState) (path : List ℕ) → rows_at t path ≡ [] → length (children_of t.nodes path) ≡ 0
 childless t path none = sym (rows-children t path) ∙ ap length none
 
--- all tests but that of the change number
+-- all tests except that of the change number
 pub delete-changes : (t : TreeState) (session : ℕ) (path dir : List ℕ) (seen : Seen) → is_in t.live session ≡ true → parent_of path ≡ Some dir → seen_at t path ≡ Some seen → rows_at t path ≡ [] → delete_answer t session path Any ≡ unspent t
 delete-changes t session path dir seen live above is none =
     let node = seen-node (at_path t.nodes path) seen is in

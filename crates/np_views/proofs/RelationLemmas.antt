@@ -49,7 +49,7 @@ use Rattle.np_views.proofs.SiblingLemmas.{above-child, at-child, named-at, other
 some_same : {A : Type 0} {x y : A} → Some x ≡ Some y → x ≡ y
 some_same e = cc
 
--- ## nothing stands below what does not stand
+-- ## if there is no node at a path, there is none below it
 
 pub seen-none : (o : Option Node) → option_map seen_of o ≡ None → o ≡ None
 seen-none None is = refl
@@ -165,7 +165,7 @@ Creates-under t session dir name bytes made mode counter whole makes is answer =
     subst (λ (o : Option Node). Creates mode dir (row_given mode counter session name bytes) t (where_found o t (λ parent. record t { nodes = with_new_child (next_change t) session dir name bytes mode parent t.nodes }))) (sym may.found)
     (Creates-left t session dir name bytes made mode counter whole makes is may)
 
--- the line below the test of the session
+-- the tests after that of the session
 pub child-line : (t : TreeState) (session : ℕ) (path dir bytes made : List ℕ) (mode : Mode) → parent_of path ≡ Some dir → create_answer t session path bytes mode ≡ Ok made → child_answer t dir (name_of path) bytes mode ≡ Ok made
 child-line t session path dir bytes made mode above answer =
     let live = need-ok (is_in t.live session) no.SessionExpired (found (parent_of path) no.NodeExists >>= (λ p. child_answer t p (name_of path) bytes mode)) made answer in
@@ -218,7 +218,7 @@ sets-show t session path dir bytes expect version whole proper above answer =
 
 -- ## a delete
 
--- the nodes without one, of which its parent knows
+-- the nodes without one, whose parent changes with it
 module _ (z : ℕ) (path dir : List ℕ) (nodes : List Node) (proper : is_path path ≡ true) (above : parent_of path ≡ Some dir) where
   abbrev told : List Node
   told = change_node dir (without_child z) nodes

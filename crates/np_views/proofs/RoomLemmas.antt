@@ -1,4 +1,4 @@
--- room for so many parts
+-- room for a given number of parts
 use Rattle.std.proofs.Common.{◌≡◌, ℕ, ◌+◌, ◌<◌, ◌≤◌, Bool, true, false, not, cond, List, [], ◌∷◌, length, map, Option, Some, None, refl, sym, ◌∙◌, subst, arith}
 use Rattle.std.specs.Prelude.{filter}
 use Rattle.std.specs.List.{AllByRecursion}
@@ -22,7 +22,7 @@ use Rattle.np_views.specs.Views.{row_of}
 use Rattle.np_views.proofs.RelationLemmas.{parts-change_nodes_alone}
 use Rattle.np_views.proofs.RowLemmas.{rows_in}
 
--- ## what room gives
+-- ## what room implies
 
 found-below : {most : ℕ} (count : Node → ℕ) (nodes : List Node) (path : List ℕ) (value more : ℕ) (o : Option Node) → at_path nodes path ≡ o → option_map count o ≡ Some value → AllByRecursion (λ n. count n + (more + 1) ≤ most) nodes → value + (more + 1) ≤ most
 found-below count nodes path value more None there is all = absurd cc
@@ -76,7 +76,7 @@ all-fall more nodes room = record {
   rows = λ dir. let low = room.rows dir in omega arith;
 }
 
--- ## a node more
+-- ## one node more
 
 length-row : (n : Node) (nodes : List Node) (b : Bool) → length (map row_of (cond b (n ∷ nodes) nodes)) ≡ length (map row_of nodes) + cond b 1 0
 length-row n nodes true = omega arith
@@ -109,7 +109,7 @@ insert-falls more z session above path bytes mode nodes few room =
       counted true c = omega arith
       counted false c = omega arith
 
--- ## a node fewer
+-- ## one node fewer
 
 rows-without : (dir path : List ℕ) (nodes : List Node) → length (rows_in dir (without_node path nodes)) ≤ length (rows_in dir nodes)
 rows-without dir path nodes =

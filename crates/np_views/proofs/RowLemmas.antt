@@ -19,7 +19,7 @@ use Rattle.np_views.proofs.SiblingLemmas.{at-child, at-other, named-at, siblings
 abbrev pub rows_in : List ℕ → List Node → List Row
 rows_in dir nodes = map row_of (filter (is_child dir) nodes)
 
--- the change leaves a node's row
+-- the change does not change a node's row
 abbrev pub KeepsRow : (Node → Node) → Type 0
 KeepsRow f = (n : Node) → row_of (f n) ≡ row_of n
 
@@ -40,7 +40,7 @@ head-same : (dir : List ℕ) (m n : Node) (ms ns : List Node) → m.path ≡ n.p
 head-same dir m n ms ns path row later =
     head-by dir m n ms ns (is_child dir n) (ap (λ (p : List ℕ). is_parent dir (parent_of p)) path) refl row later
 
--- ## a change that shows nothing
+-- ## a change that is not shown
 
 touch-by : (dir : List ℕ) (f : Node → Node) → KeepsPath f → KeepsRow f → (n : Node) (nodes changed : List Node) (b : Bool) → rows_in dir changed ≡ rows_in dir nodes → rows_in dir (cond b (f n ∷ nodes) (n ∷ changed)) ≡ rows_in dir (n ∷ nodes)
 touch-by dir f path row n nodes changed true later = head-same dir (f n) n nodes nodes (path n) (row n) refl
@@ -89,7 +89,7 @@ module _ (other dir path : List ℕ) (apart : other ≡ dir → ⊥) (above : pa
   rows-changed_other f keeps [] = refl
   rows-changed_other f keeps (n ∷ nodes) = changed-other-by f keeps n nodes (change_node path f nodes) (is_at path n) refl (rows-changed_other f keeps nodes)
 
-  -- ## a row gone
+  -- ## one row fewer
 
   gone-other-by : (n : Node) (nodes : List Node) (b : Bool) → is_at path n ≡ b → rows_in other (without_node path nodes) ≡ rows_in other nodes → rows_in other (cond (not b) (n ∷ without_node path nodes) (without_node path nodes)) ≡ rows_in other (n ∷ nodes)
   gone-other-by n nodes true at later = later ∙ sym (rows-other other n nodes (at-other other dir path n apart above at))
@@ -120,7 +120,7 @@ module _ (dir path : List ℕ) (is : is_path path ≡ true) (above : parent_of p
   rows-gone [] paths = refl
   rows-gone (n ∷ nodes) paths = gone-by n nodes (is_child dir n) refl paths.0 (rows-gone nodes paths.1)
 
--- ## a row more
+-- ## one row more
 
 module _ (dir : List ℕ) (new : Node) (is : is_path new.path ≡ true) (above : parent_of new.path ≡ Some dir) (child : is_child dir new ≡ true) where
   -- before all others

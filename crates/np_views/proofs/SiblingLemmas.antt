@@ -1,4 +1,4 @@
--- the children of one directory: their names tell them apart, and order them
+-- the children of one directory: their names distinguish them, and order them
 use Rattle.std.proofs.Common.{◌≡◌, ℕ, Bool, true, false, List, Option, Some, None, refl, sym, ap, ◌∙◌}
 use Rattle.std.specs.Ordering.{nat_cmp, is_lt, ordering_then}
 use Rattle.std.specs.Cmp.Lexicographic.{slice_cmp}
@@ -25,7 +25,7 @@ child-above dir n child = above-by dir (parent_of n.path) child
 pub above-child : (dir : List ℕ) (n : Node) → parent_of n.path ≡ Some dir → is_child dir n ≡ true
 above-child dir n above = ap (is_parent dir) above ∙ bytes_eq-from dir dir refl
 
--- a node is of one directory
+-- a node is in one directory only
 other-by : (other dir : List ℕ) (o : Option (List ℕ)) → (other ≡ dir → ⊥) → o ≡ Some dir → is_parent other o ≡ false
 other-by other dir None apart above = absurd cc
 other-by other dir (Some p) apart above = bytes_eq-not p other (λ same. let e : p ≡ dir = cc in apart (sym same ∙ e))
@@ -33,21 +33,21 @@ other-by other dir (Some p) apart above = bytes_eq-not p other (λ same. let e :
 pub other-child : (other dir : List ℕ) (n : Node) → (other ≡ dir → ⊥) → parent_of n.path ≡ Some dir → is_child other n ≡ false
 other-child other dir n apart above = other-by other dir (parent_of n.path) apart above
 
--- what stands before the last slash of a child
+-- what is before the last slash of a child
 key-of : (dir path : List ℕ) → is_path path ≡ true → parent_of path ≡ Some dir → IsKey (before_of path) dir
 key-of dir path is above = record { above = sym (parent-half dir path above); other = half-not_root path dir is above }
 
 pub siblings-half : (dir path : List ℕ) (n : Node) → is_path path ≡ true → parent_of path ≡ Some dir → is_path n.path ≡ true → is_child dir n ≡ true → before_of n.path ≡ before_of path
 siblings-half dir path n is above is_n child = child-half (before_of path) dir n (parent_of n.path) (key-of dir path is above) is_n refl child
 
--- siblings stand in the order of their names
+-- siblings are in the order of their names
 pub siblings-order : (dir path : List ℕ) (n : Node) → is_path path ≡ true → parent_of path ≡ Some dir → is_path n.path ≡ true → is_child dir n ≡ true → path_before path n.path ≡ name_before (name_of path) (name_of n.path)
 siblings-order dir path n is above is_n child =
     let half = siblings-half dir path n is above is_n child in
     let tied = ap (λ (b : List ℕ). slice_cmp nat_cmp (before_of path) b) half ∙ tied_itself nat_list_cmp_total (before_of path) in
     ap (λ (o : _). is_lt (ordering_then o (slice_cmp nat_cmp (name_of path) (name_of n.path)))) tied
 
--- a name tells siblings apart
+-- siblings with one name are equal
 same-path : (dir p q : List ℕ) → is_path p ≡ true → is_path q ≡ true → parent_of p ≡ Some dir → parent_of q ≡ Some dir → name_of p ≡ name_of q → p ≡ q
 same-path dir p q is_p is_q above_p above_q name =
     let this = IsChild-of p dir is_p above_p in
@@ -64,7 +64,7 @@ named-by dir path n false at is above is_n child =
 pub named-at : (dir path : List ℕ) (n : Node) → is_path path ≡ true → parent_of path ≡ Some dir → is_path n.path ≡ true → is_child dir n ≡ true → is_named (name_of path) (row_of n) ≡ is_at path n
 named-at dir path n is above is_n child = named-by dir path n (is_at path n) refl is above is_n child
 
--- what stands at a path is a child of the directory above it
+-- a node at a path is a child of the directory above it
 pub at-child : (dir path : List ℕ) (n : Node) → parent_of path ≡ Some dir → is_at path n ≡ true → is_child dir n ≡ true
 at-child dir path n above at = above-child dir n (ap parent_of (bytes_eq-is n.path path at) ∙ above)
 

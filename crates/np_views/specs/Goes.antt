@@ -1,4 +1,4 @@
--- from which facts a part of a call is accepted
+-- the facts from which a part of a call is accepted
 use Rattle.std.specs.Prelude.{◌≡◌, ◌<◌, ◌≤◌, ℕ, ◌+◌, true, not, ◌||◌, nat_le, List, [], length, Option, Some, None, Ok}
 use Rattle.std.specs.Option.{option_map}
 use Rattle.np_path.specs.Parts.{below, name_of, parent_of}
@@ -40,15 +40,15 @@ abbrev pub CreatesUnderGo : Type 0
 CreatesUnderGo = (t : TreeState) (session : ℕ) (dir bytes : List ℕ) (mode : Mode) (counter : ℕ) → CanCreate t session dir [] bytes mode counter →
     create_under_answer t session dir bytes mode ≡ Ok (below dir (name_given mode counter []))
 
--- a node that stands can be set
+-- a node that exists can be set
 abbrev pub SetsGo : Type 0
 SetsGo = (t : TreeState) (session : ℕ) (path bytes : List ℕ) (version : ℕ) → is_in t.live session ≡ true → version_at t path ≡ Some version → length bytes ≤ 65536 → t.changes < 18_446_744_073_709_551_615 → version < 18_446_744_073_709_551_615 →
     set_answer t session path bytes Any ≡ Ok (version + 1)
 
--- one below a directory, with nothing below it, can be deleted
+-- a node below a directory, with nothing below it, can be deleted
 abbrev pub DeletesGo : Type 0
 DeletesGo = (t : TreeState) (session : ℕ) (path dir : List ℕ) (seen : Seen) → is_in t.live session ≡ true → parent_of path ≡ Some dir → seen_at t path ≡ Some seen → rows_at t path ≡ [] → t.changes < 18_446_744_073_709_551_615 → delete_answer t session path Any ≡ Ok tt
 
--- one that stands can be checked
+-- a node that exists can be checked
 abbrev pub ChecksGo : Type 0
 ChecksGo = (t : TreeState) (session : ℕ) (path : List ℕ) (seen : Seen) → is_in t.live session ≡ true → seen_at t path ≡ Some seen → check_answer t session path Any ≡ Ok tt

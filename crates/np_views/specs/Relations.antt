@@ -20,7 +20,7 @@ use Rattle.np_views.specs.Views.{Row, Seen, find_named, is_named, name_given, ro
 
 -- ## rows and what is seen
 
--- the rows of a directory stand in byte order of their names, each name once
+-- the rows of a directory are in byte order of their names, each name once
 abbrev pub RowsRise : Type 0
 RowsRise = (t : TreeState) (dir : List ℕ) → IsWhole t.nodes → Rises row_before (rows_at t dir)
 
@@ -28,7 +28,7 @@ RowsRise = (t : TreeState) (dir : List ℕ) → IsWhole t.nodes → Rises row_be
 abbrev pub SeenIsRow : Type 0
 SeenIsRow = (t : TreeState) (path dir : List ℕ) → IsWhole t.nodes → is_path path ≡ true → parent_of path ≡ Some dir → seen_at t path ≡ option_map seen_in (find_named (name_of path) (rows_at t dir))
 
--- nothing stands below what does not stand
+-- if there is no node at a path, there is none below it
 abbrev pub NothingBelowNothing : Type 0
 NothingBelowNothing = (t : TreeState) (dir : List ℕ) → IsWhole t.nodes → seen_at t dir ≡ None → rows_at t dir ≡ []
 
@@ -40,7 +40,7 @@ counter_after mode counter = if is_sequential mode then counter + 1 else counter
 
 -- a directory has one row more
 pub record Creates (mode : Mode) (dir : List ℕ) (row : Row) (t u : TreeState) : Type 0 where
-  -- the row stands among its siblings, with nothing below it
+  -- the row is among its siblings, with nothing below it
   pub rows : rows_at u dir ≡ with_row row (rows_at t dir)
   pub seen : seen_at u (below dir row.name) ≡ Some (seen_in row)
   pub empty : rows_at u (below dir row.name) ≡ []
@@ -56,12 +56,12 @@ abbrev pub CreatesShow : Type 0
 CreatesShow = (t : TreeState) (session : ℕ) (path dir bytes made : List ℕ) (mode : Mode) (counter : ℕ) → IsWhole t.nodes → is_path path ≡ true → parent_of path ≡ Some dir → counter_at t dir ≡ Some counter → create_answer t session path bytes mode ≡ Ok made →
     Creates mode dir (row_given mode counter session (name_of path) bytes) t (after_create t session path bytes mode)
 
--- the path that a create answers
+-- the path that a create returns
 abbrev pub CreatesAnswer : Type 0
 CreatesAnswer = (t : TreeState) (session : ℕ) (path dir bytes made : List ℕ) (mode : Mode) (counter : ℕ) → parent_of path ≡ Some dir → counter_at t dir ≡ Some counter → create_answer t session path bytes mode ≡ Ok made →
     made ≡ below dir (name_given mode counter (name_of path))
 
--- a sequence node of the counter alone
+-- a sequence node whose name is the counter alone
 abbrev pub CreatesUnderShow : Type 0
 CreatesUnderShow = (t : TreeState) (session : ℕ) (dir bytes made : List ℕ) (mode : Mode) (counter : ℕ) → IsWhole t.nodes → is_sequential mode ≡ true → counter_at t dir ≡ Some counter → create_under_answer t session dir bytes mode ≡ Ok made →
     Creates mode dir (row_given mode counter session [] bytes) t (after_create_under t session dir [] bytes mode)
@@ -101,7 +101,7 @@ DeletesShow = (t : TreeState) (session : ℕ) (path dir : List ℕ) (expect : Ex
 abbrev pub is_kept : ℕ → Row → Bool
 is_kept session row = not (is_owner session row.owner)
 
--- what is seen where a session's nodes are gone
+-- what is seen at a path when a session's nodes are gone
 abbrev pub unless_owned : ℕ → Option Seen → Option Seen
 unless_owned session None = None
 unless_owned session (Some seen) = if is_owner session seen.owner then None else Some seen
@@ -127,6 +127,6 @@ RaisesShow = (t : TreeState) (path : List ℕ) (to : ℕ) → may_raise t path t
 
 -- ## sessions
 
--- a part changes nodes alone: sessions and the change number stay
+-- a part changes only nodes: sessions and the change number stay
 abbrev pub PartsChangeNodesAlone : Type 0
 PartsChangeNodesAlone = (t : TreeState) (session : ℕ) (part : Op) → after_part t session part ≡ record t { nodes = (after_part t session part).nodes }

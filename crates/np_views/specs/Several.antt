@@ -21,7 +21,7 @@ use Rattle.np_views.specs.Views.{Row, rows_at}
 
 -- ## parts that go
 
--- each part is accepted where those before it left the tree, and all of them leave u
+-- each part is accepted in the state that those before it left, and all of them leave u
 abbrev pub Goes : TreeState → ℕ → List Op → TreeState → Type 0
 Goes t s [] u = t ≡ u
 Goes t s (part ∷ parts) u = IsOk (part_answer t s part) × Goes (after_part t s part) s parts u
@@ -37,7 +37,7 @@ GoesJoined = (t u v : TreeState) (s : ℕ) (parts more : List Op) → Goes t s p
 
 -- ## a call of them
 
--- the parts are answered, from whatever place they are counted
+-- the parts are accepted, whatever number the first one has
 abbrev pub GoesAnswered : Type 0
 GoesAnswered = (at : ℕ) (t u : TreeState) (s : ℕ) (parts : List Op) → Goes t s parts u → IsOk (answers_from at t s parts)
 
@@ -48,20 +48,21 @@ GoesAfter = (t u : TreeState) (s : ℕ) (parts : List Op) → Goes t s parts u �
 abbrev pub GoesUnrefused : Type 0
 GoesUnrefused = (t u : TreeState) (s : ℕ) (parts : List Op) (fault : MultiFault) → Goes t s parts u → Stops t s parts fault → fault ≡ NoMemory
 
--- they leave u under one number, and checks alone leave the tree
+-- they leave u under one number, and if all are checks they do not change the tree
 abbrev pub GoesUnderOneNumber : Type 0
 GoesUnderOneNumber = (t u : TreeState) (s : ℕ) (parts : List Op) → Goes t s parts u → list_any (λ part. not (is_check part)) parts ≡ true → after_multi t s parts ≡ with_next_number u
 
 abbrev pub ChecksLeaveTheTree : Type 0
 ChecksLeaveTheTree = (t u : TreeState) (s : ℕ) (parts : List Op) → Goes t s parts u → list_any (λ part. not (is_check part)) parts ≡ false → (after_multi t s parts ≡ t) × (u ≡ t)
 
--- what a call answers goes
+-- the parts of a call that is accepted go
 abbrev pub AnsweredGoes : Type 0
 AnsweredGoes = (at : ℕ) (t : TreeState) (s : ℕ) (parts : List Op) (done : List OpDone) → answers_from at t s parts ≡ Ok done → Goes t s parts (after_parts t s parts)
 
--- ## room for so many parts
+-- ## room for a given number of parts
 
--- there is a change number; each version and each counter can be raised so often, and each directory can have so many rows more
+-- there is a change number; each version and each counter can be raised `more` times, and each
+-- directory can have `more` more rows
 pub record HasRoomFor (more : ℕ) (t : TreeState) : Type 0 where
   pub change : t.changes < 18_446_744_073_709_551_615
   pub versions : AllByRecursion (λ n. n.facts.version + more ≤ 18_446_744_073_709_551_615) t.nodes
@@ -69,7 +70,7 @@ pub record HasRoomFor (more : ℕ) (t : TreeState) : Type 0 where
   pub rows : (dir : List ℕ) → length (rows_at t dir) + more ≤ 4_294_967_295
   pub few : more ≤ 2_147_483_648
 
--- what a part asks of the numbers
+-- what a part needs of the numbers
 pub record HasRoom (t : TreeState) : Type 0 where
   pub change : t.changes < 18_446_744_073_709_551_615
   pub version : (path : List ℕ) (version : ℕ) → version_at t path ≡ Some version → version < 18_446_744_073_709_551_615
@@ -88,7 +89,8 @@ RoomFalls = (t : TreeState) (s : ℕ) (part : Op) (more : ℕ) → HasRoomFor (m
 abbrev pub delete_parts : List ℕ → List Row → List Op
 delete_parts dir rows = map (λ row. op.Delete (below dir row.name) Any) rows
 
--- every child of a directory can be deleted where nothing stands below them, and then nothing stands in it
+-- every child of a directory can be deleted if there is nothing below them, and then the directory
+-- is empty
 abbrev pub ClearsGo : Type 0
 ClearsGo = (t : TreeState) (s : ℕ) (dir : List ℕ) → IsWhole t.nodes → is_path dir ≡ true → is_in t.live s ≡ true → t.changes < 18_446_744_073_709_551_615 → AllByRecursion (λ row. rows_at t (below dir row.name) ≡ []) (rows_at t dir) →
     Goes t s (delete_parts dir (rows_at t dir)) (after_parts t s (delete_parts dir (rows_at t dir)))
@@ -99,7 +101,7 @@ ClearsEmpty = (t : TreeState) (s : ℕ) (dir : List ℕ) (u : TreeState) → IsW
 
 -- ## other directories
 
--- the directory whose rows a part changes, where it changes any
+-- the directory whose rows a part changes, if it changes any
 abbrev pub dir_of : Op → Option (List ℕ)
 dir_of (op.Create path bytes mode) = parent_of path
 dir_of (op.CreateUnder parent bytes mode) = Some parent
@@ -107,7 +109,7 @@ dir_of (op.Set path bytes expect) = parent_of path
 dir_of (op.Delete path expect) = parent_of path
 dir_of (op.Check path expect) = None
 
--- parts that change the rows of other directories alone leave a directory's rows
+-- parts that change only the rows of other directories do not change a directory's rows
 abbrev pub Elsewhere : Type 0
 Elsewhere = (t u : TreeState) (s : ℕ) (parts : List Op) (other : List ℕ) → IsWhole t.nodes → AllByRecursion IsPart parts → Goes t s parts u → AllByRecursion (λ part. dir_of part ≡ Some other → ⊥) parts → rows_at u other ≡ rows_at t other
 
@@ -117,6 +119,6 @@ GoesWhole = (t u : TreeState) (s : ℕ) (parts : List Op) → IsWhole t.nodes �
 
 -- ## paths
 
--- a path below a directory is told by its directory and its name
+-- a path below a directory determines its directory and its name
 abbrev pub PathsAreTheirParts : Type 0
 PathsAreTheirParts = (p q this that : List ℕ) → is_path p ≡ true → is_path q ≡ true → is_element this ≡ true → is_element that ≡ true → below p this ≡ below q that → (p ≡ q) × (this ≡ that)

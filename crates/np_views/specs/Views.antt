@@ -1,4 +1,5 @@
--- what a tree shows: the children of a directory, and what stands at a path. No node record appears in what is shown
+-- what a tree shows: the children of a directory, and the node at a path. No node record appears in
+-- what is shown
 use Rattle.std.specs.Prelude.{ℕ, Bool, List, find, map, ◌++◌, Option, Some, None, if◌then◌else◌}
 use Rattle.std.specs.Option.{option_map}
 use Rattle.std.specs.Ordering.{nat_cmp, is_lt}
@@ -19,7 +20,7 @@ pub record Row : Type 0 where
   pub bytes : List ℕ
   pub owner : Option ℕ
 
--- what stands at a path
+-- the node at a path, as it is seen
 pub record Seen : Type 0 where
   pub bytes : List ℕ
   pub owner : Option ℕ
@@ -33,7 +34,7 @@ seen_of n = record { bytes = n.bytes; owner = n.facts.owner }
 abbrev pub seen_in : Row → Seen
 seen_in row = record { bytes = row.bytes; owner = row.owner }
 
--- the children of a directory, in byte order of their names; none where no node stands there
+-- the children of a directory, in byte order of their names; none if there is no node there
 abbrev pub rows_at : TreeState → List ℕ → List Row
 rows_at t dir = map row_of (children_of t.nodes dir)
 
@@ -68,7 +69,7 @@ seen_with bytes seen = record seen { bytes = bytes }
 
 -- ## what a create makes
 
--- the name of a new node: a sequence node's ends in the number that its parent gives out
+-- the name of a new node: a sequence node's ends in its parent's counter
 abbrev pub name_given : Mode → ℕ → List ℕ → List ℕ
 name_given mode counter name = if is_sequential mode then name ++ ten_digits_of counter else name
 

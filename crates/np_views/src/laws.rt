@@ -4,19 +4,19 @@ ghost use Rattle.np_views.specs.Goes.{ChecksGo, CreatesGo, CreatesUnderGo, Delet
 ghost use Rattle.np_views.specs.Relations.{CreatesAnswer, CreatesShow, CreatesUnderShow, DeletesShow, EndsShow, NothingBelowNothing, PartsChangeNodesAlone, RaisesShow, RowsRise, SeenIsRow, SetsShow};
 ghost use Rattle.np_views.specs.Several.{AnsweredGoes, ChecksLeaveTheTree, ClearsEmpty, ClearsGo, Elsewhere, GoesAfter, GoesAnswered, GoesEmpty, GoesFront, GoesJoined, GoesUnderOneNumber, GoesUnrefused, GoesWhole, PathsAreTheirParts, RoomFalls, RoomGives};
 
-/// The rows of a directory stand in byte order of their names, each name once, and what is seen at a
+/// The rows of a directory are in byte order of their names, each name once, and what is seen at a
 /// path is the row of that name.
 pub fn rows_are_what_is_seen()
     ensures rise { RowsRise }
     ensures seen { SeenIsRow }
 {}
 
-/// Nothing stands below a path where nothing stands.
+/// If there is no node at a path, there is none below it.
 pub fn nothing_stands_below_nothing()
     ensures { NothingBelowNothing }
 {}
 
-/// An accepted create makes one row more in its directory, and raises its counter where the node is
+/// An accepted create makes one row more in its directory, and raises its counter if the node is
 /// a sequence node. Everything else stays.
 pub fn creates()
     ensures answer { CreatesAnswer }
@@ -39,7 +39,7 @@ pub fn ends()
     ensures { EndsShow }
 {}
 
-/// A counter that is raised is the only change.
+/// If a counter is raised, that is the only change.
 pub fn raises()
     ensures { RaisesShow }
 {}
@@ -49,38 +49,40 @@ pub fn parts_change_nodes_alone()
     ensures { PartsChangeNodesAlone }
 {}
 
-/// A create is accepted where the session is live, the directory stands and no session owns it, the
-/// bytes are short enough, its counter is not spent, nothing stands at the path, and there is room.
+/// A create is accepted if the session is live, the directory exists and no session owns it, the
+/// bytes are short enough, its counter is not spent, the path is free, and there is room.
 pub fn create_goes()
     ensures create { CreatesGo }
     ensures under { CreatesUnderGo }
 {}
 
-/// A set of any version is accepted where the node stands, the bytes are short enough and there is room.
+/// A set of any version is accepted if the node exists, the bytes are short enough, and there
+/// is room.
 pub fn set_goes()
     ensures { SetsGo }
 {}
 
-/// A delete of any version is accepted where the node stands below a directory, with nothing below it,
+/// A delete of any version is accepted if the node is below a directory, with nothing below it,
 /// and there is a change number.
 pub fn delete_goes()
     ensures { DeletesGo }
 {}
 
-/// A check of any version is accepted where the node stands.
+/// A check of any version is accepted if the node exists.
 pub fn check_goes()
     ensures { ChecksGo }
 {}
 
-/// Parts that go: none, one more in front, and more behind.
+/// Parts that are accepted: none, one more in front, and more behind.
 pub fn goes_joined()
     ensures empty { GoesEmpty }
     ensures front { GoesFront }
     ensures joined { GoesJoined }
 {}
 
-/// A `multi` of parts that go is refused nowhere, and leaves what they leave under one number; where
-/// all of them are checks it leaves the tree. The parts of a `multi` that is answered go.
+/// A `multi` of parts that are accepted one after another is not refused, and leaves what they
+/// leave under one number; if all of them are checks, it does not change the tree. The parts of a
+/// `multi` that is accepted are accepted one after another.
 pub fn goes_is_multi()
     ensures answered { GoesAnswered }
     ensures after { GoesAfter }
@@ -90,14 +92,14 @@ pub fn goes_is_multi()
     ensures back { AnsweredGoes }
 {}
 
-/// Parts that go leave the rows of each directory that none of them names as its own, and leave the
-/// nodes whole.
+/// Accepted parts do not change the rows of a directory that none of them names as its own, and
+/// leave the nodes whole.
 pub fn elsewhere()
     ensures rows { Elsewhere }
     ensures whole { GoesWhole }
 {}
 
-/// Room for one part or more is what a part asks of the numbers, and each part lowers it by one.
+/// Room for at least one part is what a part needs of the numbers, and each part lowers it by one.
 pub fn room_falls_by_one()
     ensures gives { RoomGives }
     ensures falls { RoomFalls }
@@ -110,7 +112,7 @@ pub fn clears()
     ensures empty { ClearsEmpty }
 {}
 
-/// A path below a directory is told by its directory and its name.
+/// A path below a directory determines its directory and its name.
 pub fn paths_are_their_parts()
     ensures { PathsAreTheirParts }
 {}

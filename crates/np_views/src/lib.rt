@@ -1,7 +1,7 @@
 //! What a tree shows, and how calls change it, for the layers above: no node record appears here.
 //!
 //! `specs/Views` defines the rows of a directory and what is seen at a path. `specs/Relations` says
-//! what each accepted part of a call changes of them, `specs/Goes` from which facts a part is
+//! what each accepted part of a call changes of them, `specs/Goes` under which conditions a part is
 //! accepted, and `specs/Several` what several parts in one call leave. Each law is a public function
 //! that does nothing: its contract is the law.
 #![tactic(auto)]

@@ -17,7 +17,7 @@ abbrev pub is_decline : Event → Bool
 is_decline (ev.Decline session r why) = true
 is_decline _ = false
 
--- the turn is no accepted decline
+-- the turn is not an accepted decline
 abbrev pub IsNoDecline : Turn → Type 0
 IsNoDecline t = (is_decline t.entry.event && is_done t.entry.reply) ≡ false
 

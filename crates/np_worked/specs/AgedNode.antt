@@ -1,4 +1,4 @@
--- a node's age counts from its last change, and what its record says on the way
+-- a node's age counts from its last change; and what its record says along the way
 use Rattle.std.specs.Prelude.{ℕ, List, [], ◌∷◌, Option}
 use Rattle.std.specs.Option.{option_map}
 use Rattle.np_text.specs.declared.word.EndAs.TheVariants as end
@@ -53,10 +53,10 @@ ends = fate.waiting phase.Using ∷ []
 abbrev pub since_after : Configuration → List Entry → Option ℕ
 since_after c journal = option_map (λ k. k.since) (node_in (node 0) (after c journal).nodes)
 
--- the pool that serves the first request, where it has one
+-- the pool that serves the first request, if it has one
 abbrev pub pool_after : Configuration → List Entry → Option (Option PoolId)
 pool_after c journal = option_map (λ k. k.pool) (request_in (request 200 0) (after c journal).requests)
 
--- how often the role's session was lost
+-- how many times the role's session was lost
 abbrev pub strikes_after : Role → Configuration → List Entry → Option ℕ
 strikes_after role c journal = option_map (λ k. k.strikes) (role_in role (after c journal))

@@ -1,4 +1,4 @@
--- a node that is given up while it is launched is in flight no more
+-- a node that is given up during its launch is no longer in flight
 use Rattle.std.specs.Prelude.{List, [], ◌∷◌}
 use Rattle.np_text.specs.declared.word.Phase.TheVariants as phase
 use Rattle.np_text.specs.declared.word.NodeState.TheVariants as node_state

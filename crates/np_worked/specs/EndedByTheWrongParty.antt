@@ -1,4 +1,4 @@
--- nodes and jobs are ended by their own requester alone
+-- only their own requester ends nodes and jobs
 use Rattle.std.specs.Prelude.{List, [], ◌∷◌, ◌++◌, codes}
 use Rattle.np_text.specs.declared.word.EndAs.TheVariants as end
 use Rattle.np_text.specs.declared.word.Ending.TheVariants as ending
@@ -21,7 +21,7 @@ site = record (one_pool (a_job (codes "j") (label 0 ∷ []) ∷ [])) {
   requesters = record { name = codes "z"; window = 20 } ∷ record { name = codes "y"; window = 20 } ∷ [];
 }
 
--- and then
+-- the entries that follow
 abbrev pub then_on : List Entry
 then_on =
     line (ev.OpenSession (requester 1)) (done.Session (session 3))

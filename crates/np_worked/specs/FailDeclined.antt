@@ -1,4 +1,4 @@
--- a request that nobody may serve fails only where a pool is registered
+-- a request that nobody may serve fails only if a pool is registered
 use Rattle.std.specs.Prelude.{List, [], ◌∷◌, codes}
 use Rattle.np_text.specs.declared.word.Reason.TheVariants as reason
 use Rattle.np_text.specs.declared.word.RequestState.TheVariants as request_state

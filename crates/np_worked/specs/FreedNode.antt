@@ -1,4 +1,4 @@
--- a ready node whose request stands is not freed; whose request is gone is
+-- a ready node is not freed while its request exists, and is freed when its request is gone
 use Rattle.std.specs.Prelude.{List, [], ◌∷◌, ◌++◌}
 use Rattle.np_text.specs.declared.word.NodeState.TheVariants as node_state
 use Rattle.np_site.specs.Configuration.{Configuration}
@@ -16,7 +16,7 @@ use Rattle.np_worked.specs.PlainPath as plain
 abbrev pub site : Configuration
 site = plain.site
 
--- and then
+-- the entries that follow
 abbrev pub then_on : List Entry
 then_on =
     line (ev.OpenSession (janitor 0)) (done.Session (session 3))

@@ -16,7 +16,7 @@ use Rattle.np_worked.specs.ServedJob as served_path
 abbrev pub site : Configuration
 site = record plain_site { max_hold_age = 2 }
 
--- and then
+-- the entries that follow
 abbrev pub then_on : List Entry
 then_on =
     line (ev.EndNode (session 2) (node 0) end.Hold) done.Plain

@@ -1,4 +1,4 @@
--- what no machine does: journals and turns, each against one property
+-- journals and turns that no machine makes, each against one property
 use Rattle.std.specs.Prelude.{List, [], ◌∷◌, ◌++◌, Some, None, true, false, take}
 use Rattle.np_text.specs.declared.word.NodeState.{NodeState}
 use Rattle.np_text.specs.declared.word.NodeState.TheVariants as node_state
@@ -16,7 +16,7 @@ use Rattle.np_machine.specs.Turns.{Turn}
 use Rattle.np_worked.specs.Site.{session, node, label, job, pool, request, launcher, plain_site, line, refused}
 use Rattle.np_worked.specs.PlainPath as plain
 
--- two sessions are told that they hold the same node
+-- two sessions get the reply that they hold the same node
 abbrev pub two_holders : List Entry
 two_holders =
     line (ev.LockNode (session 1) (node 0)) done.Held
@@ -27,7 +27,7 @@ two_holders =
 abbrev pub lost_node : List Entry
 lost_node = line (ev.Create (session 1) (request 200 0)) (done.Node (node 0)) ∷ []
 
--- the decline that turns the request failed is said to be refused
+-- the decline that makes the request fail is recorded as refused
 abbrev pub unsaid_decline : List Entry
 unsaid_decline = take 5 plain.journal ++ refused (ev.Decline (session 1) (request 200 0) reason.NeverFits) no.FalseReason ∷ []
 
@@ -50,7 +50,7 @@ held_node state = record {
   queue = session 1 ∷ [];
 }
 
--- the machine before the first event, but for that node
+-- the machine before the first event, except for that node
 abbrev pub with_held_node : NodeState → State
 with_held_node state = record (start plain_site) { nodes = held_node state ∷ [] }
 
@@ -70,7 +70,7 @@ deleting_reset = record {
   later = with_held_node node_state.Deleting;
 }
 
--- a node that is said to be gone stands
+-- a node that is said to be gone still has its record
 abbrev pub standing_gone : Turn
 standing_gone = record {
   before = with_held_node node_state.Deleting;
@@ -78,7 +78,7 @@ standing_gone = record {
   later = with_held_node node_state.Deleting;
 }
 
--- a job's request in a state, with its declines, which session 1 holds
+-- a job's request in a given state, with its declines, held by session 1
 abbrev pub asked_request : RequestState → List Declined → RequestEntry
 asked_request state declined = record {
   id = request 200 0;
@@ -95,7 +95,7 @@ asked_request state declined = record {
   queue = session 1 ∷ [];
 }
 
--- the machine before the first event, but for that request and the pool's launcher
+-- the machine before the first event, except for that request and the pool's launcher
 abbrev pub with_request : RequestState → List Declined → State
 with_request state declined = record (start plain_site) {
   sessions = record { role = launcher 0; live = true; mute = false } ∷ [];
@@ -111,7 +111,7 @@ false_decline = record {
   later = with_request request_state.Failed (record { pool = pool 0; reason = reason.NeverFits } ∷ []);
 }
 
--- a request is gone after the expiry of who held it
+-- a request is gone after the session that held it expires
 abbrev pub losing_expiry : Turn
 losing_expiry = record {
   before = with_request request_state.Requested [];

@@ -1,4 +1,4 @@
--- a node is kept ready, and a job with three labels takes it in
+-- a node is kept ready, and a job with three labels takes it
 use Rattle.std.specs.Prelude.{List, [], ◌∷◌, codes}
 use Rattle.np_text.specs.declared.word.Phase.TheVariants as phase
 use Rattle.np_site.specs.Configuration.{Configuration}

@@ -1,4 +1,4 @@
--- a job asks more than the pool may ever hold
+-- a job asks for more than the pool may ever hold
 use Rattle.std.specs.Prelude.{List, [], ◌∷◌, ◌++◌, take, codes}
 use Rattle.np_text.specs.declared.word.Reason.TheVariants as reason
 use Rattle.np_text.specs.declared.word.Ending.TheVariants as ending
@@ -18,7 +18,7 @@ site = record (one_pool (a_job (codes "j") (label 0 ∷ label 0 ∷ label 0 ∷ 
   pools = record (a_pool 0 (codes "m") (offer 0 ∷ [])) { limit = at_most 2 } ∷ [];
 }
 
--- and then
+-- the entries that follow
 abbrev pub then_on : List Entry
 then_on =
     refused (ev.Accept (session 1) (request 200 0)) no.NeverFits

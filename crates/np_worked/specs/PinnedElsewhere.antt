@@ -1,4 +1,4 @@
--- a min-ready request is served by the pool that made it alone
+-- only the pool that made a min-ready request serves it
 use Rattle.std.specs.Prelude.{List, [], ◌∷◌, codes}
 use Rattle.np_text.specs.declared.word.RequestState.TheVariants as request_state
 use Rattle.np_text.specs.declared.word.NodeState.TheVariants as node_state

@@ -17,7 +17,7 @@ use Rattle.np_worked.specs.PlainPath as plain
 abbrev pub site : Configuration
 site = plain.site
 
--- and then
+-- the entries that follow
 abbrev pub then_on : List Entry
 then_on =
     line (ev.OpenSession (janitor 0)) (done.Session (session 3))

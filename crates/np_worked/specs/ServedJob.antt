@@ -15,7 +15,7 @@ use Rattle.np_worked.specs.PlainPath as plain
 abbrev pub site : Configuration
 site = plain.site
 
--- and then
+-- the entries that follow
 abbrev pub then_on : List Entry
 then_on =
     line (ev.LockNode (session 2) (node 0)) (done.Queued 1)

@@ -1,4 +1,4 @@
--- what worked journals are written in: ids, sites and lines
+-- what worked journals are made of: ids, sites and lines
 use Rattle.std.specs.Prelude.{◌≡◌, ℕ, List, [], ◌∷◌, Some, None, false, codes}
 use Rattle.np_amount.specs.declared.amount.Limit.{Limit}
 use Rattle.np_amount.specs.Amounts.{no_limit}
@@ -30,7 +30,7 @@ use Rattle.np_machine.specs.State.{start}
 use Rattle.np_machine.specs.History.{replayed, after}
 use Rattle.np_machine.specs.Fates.{Fate, fates}
 
--- the machine gives the journal's replies, and the jobs come to these ends
+-- the machine's replies are those of the journal, and the jobs end with these fates
 pub record Plays (c : Configuration) (journal : List Entry) (ends : List Fate) : Type 0 where
   pub replies : replayed c (start c) journal ≡ journal
   pub fates : fates (after c journal) ≡ ends
@@ -72,7 +72,7 @@ requester q = Requester (record { 0 = q })
 
 -- ## sites, with the configuration's defaults
 
--- so many servers at most
+-- at most this many servers
 abbrev pub at_most : ℕ → Limit
 at_most servers = record { instances = Some servers; cores = None; ram = None }
 
@@ -95,7 +95,7 @@ a_semaphore name = record { name = name; max = 1 }
 abbrev pub a_tenant : List ℕ → Limit → Tenant
 a_tenant name limit = record { name = name; limit = limit }
 
--- a job of the first requester and the default tenant that asks these labels
+-- a job of the first requester and the default tenant that asks for these labels
 abbrev pub a_job : List ℕ → List LabelId → Job
 a_job name labels = record {
   requester = record { 0 = 0 };
@@ -123,7 +123,7 @@ one_pool jobs = record {
   max_hold_age = 0;
 }
 
--- and with one job that asks the label
+-- that site with one job, which asks for the label
 abbrev pub plain_site : Configuration
 plain_site = one_pool (a_job (codes "j") (label 0 ∷ []) ∷ [])
 

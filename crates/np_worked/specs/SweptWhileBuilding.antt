@@ -1,4 +1,4 @@
--- whatever server a building node may get is kept
+-- any server that a building node may get is kept
 use Rattle.std.specs.Prelude.{List, [], ◌∷◌, ◌++◌, take}
 use Rattle.np_text.specs.declared.word.Phase.TheVariants as phase
 use Rattle.np_site.specs.Configuration.{Configuration}
@@ -16,7 +16,7 @@ use Rattle.np_worked.specs.PlainPath as plain
 abbrev pub site : Configuration
 site = plain.site
 
--- and then
+-- the entries that follow
 abbrev pub then_on : List Entry
 then_on =
     line (ev.OpenSession (janitor 0)) (done.Session (session 3))

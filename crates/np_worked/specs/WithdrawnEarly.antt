@@ -1,4 +1,4 @@
--- a job is withdrawn before it asked, and cannot ask any more
+-- a job is withdrawn before it has requested nodes, and cannot request them afterwards
 use Rattle.std.specs.Prelude.{List, [], ◌∷◌}
 use Rattle.np_text.specs.declared.word.Phase.TheVariants as phase
 use Rattle.np_site.specs.Configuration.{Configuration}

@@ -16,7 +16,7 @@ use Rattle.np_worked.specs.PlainPath as plain
 abbrev pub site : Configuration
 site = one_pool (a_job (codes "j") (label 0 ∷ []) ∷ a_job (codes "k") (label 0 ∷ []) ∷ [])
 
--- and then
+-- the entries that follow
 abbrev pub then_on : List Entry
 then_on =
     line (ev.Withdraw (session 2) (job 0)) done.Plain

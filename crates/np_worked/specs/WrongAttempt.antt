@@ -16,7 +16,7 @@ use Rattle.np_worked.specs.PlainPath as plain
 abbrev pub site : Configuration
 site = plain.site
 
--- and then
+-- the entries that follow
 abbrev pub then_on : List Entry
 then_on =
     line (ev.Done (session 1) (node 0) 1 outcome.Failed) done.Plain

@@ -43,7 +43,7 @@ const LAUNCHED: &[&str] = &["done s1 n0 1 ok 1 = ok"];
 
 const FULFILLED: &[&str] = &["fulfil s1 200-0000000000 = ok"];
 
-// And the requester has its node.
+// Then the requester has its node.
 const TAKEN: &[&str] = &[
     "lock-node s2 n0 = queued 1",
     "unlock-node s1 n0 = ok",

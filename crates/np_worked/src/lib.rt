@@ -1,9 +1,9 @@
-//! Worked journals: the machine's definitions, held to what they are meant to say.
+//! Worked journals: the machine's definitions, checked against what they are meant to say.
 //!
-//! Each function is a theorem with an empty body: over its site the machine gives the replies of
-//! its journal, one by one, and each job comes to its fate. The file of its name in `specs/` has the
-//! three; the checker computes them from the definitions alone. `journals` has the same as they are
-//! printed, for the tests of what plays and prints them.
+//! Each function is a theorem with an empty body: on its site, the machine's replies are those of
+//! the journal, one by one, and each job has its fate. The file of the same name in `specs/` has
+//! the site, the journal and the fates; the checker computes them from the definitions alone.
+//! `journals` has the same in printed form, for the tests of the code that plays and prints them.
 #![tactic(auto)]
 
 mod journal;
@@ -75,12 +75,12 @@ pub fn served_job()
     ensures { Plays served_job.site served_job.journal served_job.ends }
 {}
 
-/// A node is kept ready, and a job with three labels takes it in.
+/// A node is kept ready, and a job with three labels takes it.
 pub fn min_ready_and_taken()
     ensures { Plays min_ready_and_taken.site min_ready_and_taken.journal min_ready_and_taken.ends }
 {}
 
-/// A job asks more than the pool may ever hold.
+/// A job asks for more than the pool may ever hold.
 pub fn never_fits()
     ensures { Plays never_fits.site never_fits.journal never_fits.ends }
 {}
@@ -156,7 +156,7 @@ pub fn spent_min_ready()
     ensures { Plays spent_min_ready.site spent_min_ready.journal spent_min_ready.ends }
 {}
 
-/// A min-ready request is served by the pool that made it alone.
+/// Only the pool that made a min-ready request serves it.
 pub fn pinned_elsewhere()
     ensures { Plays pinned_elsewhere.site pinned_elsewhere.journal pinned_elsewhere.ends }
 {}
@@ -166,12 +166,12 @@ pub fn swept_servers()
     ensures { Plays swept_servers.site swept_servers.journal swept_servers.ends }
 {}
 
-/// Whatever server a building node may get is kept.
+/// Any server that a building node may get is kept.
 pub fn swept_while_building()
     ensures { Plays swept_while_building.site swept_while_building.journal swept_while_building.ends }
 {}
 
-/// A ready node whose request stands is not freed; one whose request is gone is.
+/// A ready node is not freed while its request exists, and is freed when its request is gone.
 pub fn freed_node()
     ensures { Plays freed_node.site freed_node.journal freed_node.ends }
 {}
@@ -181,12 +181,12 @@ pub fn reset_request()
     ensures { Plays reset_request.site reset_request.journal reset_request.ends }
 {}
 
-/// A request that nobody may serve fails only where a pool is registered.
+/// A request that nobody may serve fails only if a pool is registered.
 pub fn fail_declined()
     ensures { Plays fail_declined.site fail_declined.journal fail_declined.ends }
 {}
 
-/// A job is withdrawn before it asked, and cannot ask any more.
+/// A job is withdrawn before it has requested nodes, and cannot request them afterwards.
 pub fn withdrawn_early()
     ensures { Plays withdrawn_early.site withdrawn_early.journal withdrawn_early.ends }
 {}
@@ -201,7 +201,7 @@ pub fn paused_pool()
     ensures { Plays paused_pool.site paused_pool.journal paused_pool.ends }
 {}
 
-/// Nodes and jobs are ended by their own requester alone.
+/// Only their own requester ends nodes and jobs.
 pub fn ended_by_the_wrong_party()
     ensures { Plays ended_by_the_wrong_party.site ended_by_the_wrong_party.journal ended_by_the_wrong_party.ends }
 {}
@@ -222,7 +222,7 @@ pub fn half_built_requests()
     ensures { Plays half_built_requests.site half_built_requests.journal half_built_requests.ends }
 {}
 
-/// A node that is given up while it is launched is in flight no more.
+/// A node that is given up during its launch is no longer in flight.
 pub fn deleted_during_a_launch()
     ensures { Plays deleted_during_a_launch.site deleted_during_a_launch.journal deleted_during_a_launch.ends }
 {}

@@ -1,5 +1,5 @@
 //! What the properties of journals and the records of a state say. The live holder and the records
-//! are told of worked journals; each other property is refuted of a made-up journal or turn.
+//! are shown on worked journals; each other property is refuted on a made-up journal or turn.
 
 ghost use Rattle.std.specs.Prelude.{◌≡◌, None, Some, [], ◌∷◌, take};
 ghost use Rattle.np_event.specs.declared.event.Outcome.TheVariants as outcome;
@@ -35,7 +35,7 @@ pub fn a_request_is_held_until_its_launcher_expires()
     ensures expired { IsLiveRequestHolder queue_after_an_expiry.site queue_after_an_expiry.journal (session 1) (request 200 0) → ⊥ }
 {}
 
-/// Two sessions that are told that they hold the same node are not safe.
+/// Two replies that say that different sessions hold the same node are not safe.
 pub fn two_holders_are_not_safe()
     ensures { Safe plain_path.site two_holders → ⊥ }
 {}
@@ -45,12 +45,12 @@ pub fn a_lost_node_is_not_kept()
     ensures { Kept plain_path.site lost_node → ⊥ }
 {}
 
-/// A failed request has no cause where the decline that failed it was not accepted.
+/// A failed request has no cause if the decline that failed it was not accepted.
 pub fn a_failure_needs_its_decline()
     ensures { Caused never_fits.site unsaid_decline → ⊥ }
 {}
 
-/// Nor where the reason of the decline that failed it is not true.
+/// Nor does it if the reason of the decline that failed it is not true.
 pub fn a_false_reason_is_no_cause()
     ensures { CausedFrom plain_path.site [] (false_decline ∷ []) → ⊥ }
 {}
@@ -70,7 +70,7 @@ pub fn a_reset_may_not_delete_a_node()
     ensures { IsFenced deleting_reset → ⊥ }
 {}
 
-/// A node whose record stands was not removed.
+/// A node that still has its record was not removed.
 pub fn a_removed_node_is_gone()
     ensures { RemovesNode (node 0) standing_gone → ⊥ }
 {}
@@ -90,7 +90,7 @@ pub fn a_request_that_was_given_up_has_no_pool()
     ensures reset { pool_after reset_request.site (take 15 reset_request.journal) ≡ Some None }
 {}
 
-/// A role is struck once for a session that is lost, though it stops first and expires then.
+/// A lost session is one strike for its role, even if it stops first and then expires.
 pub fn a_lost_session_is_one_strike()
     ensures expired { strikes_after (launcher 0) queue_after_an_expiry.site queue_after_an_expiry.journal ≡ Some 1 }
     ensures crashed { strikes_after (requester 0) crashed_requester.site crashed_requester.journal ≡ Some 1 }

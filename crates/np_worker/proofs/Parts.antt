@@ -49,7 +49,7 @@ module _ {F : Type 0} {answers : F → List Entry → Ask → Turn → Type 0} {
     holds = r;
   }
 
-  -- of the same part something else holds
+  -- something else holds of the same part
   pub of_part : {from : Phase} {u v : Sight Entry} {d e : Option Driving} {P R : List Move → Phase → Type 0}
       → (p : Part answers f from u v d e P) → R p.trace p.to → Part answers f from u v d e R
   of_part p r = record {
@@ -194,7 +194,7 @@ module _ {F : Type 0} {answers : F → List Entry → Ask → Turn → Type 0} {
   swept_removal pool v d e server next.Full r = absurd r
   swept_removal pool v d e server next.Failed r = no_move (owes_swept pool server.number) v (Some d) (Some e) r.0 (tt, r.1)
 
--- a part that began with a turn ends as the rest of it
+-- a part that began with a turn ends as its rest does
 pub sweeps_one_on : (pool : PoolId) (server : Server) (d e : Driving) (n : Next) (trace trace' : List Move) (to : Phase)
     → (n ≡ next.Go → IsDealtWith pool server d e trace') → SweepsOne pool server d e (Ok n) trace to → SweepsOne pool server d e (Ok n) trace' to
 sweeps_one_on pool server d e next.Go trace trace' to h l = (l.0, h refl)
@@ -264,7 +264,7 @@ counts_turn n m a turn.Full before v w h r = omega (arith, ap length r.1)
 pub counts_on : (n m k : ℕ) (u v w : Sight Entry) → Counts n u m v → Counts m v k w → Counts n u k w
 counts_on n m k u v w h i = omega arith
 
--- an answer that is want of memory
+-- an answer that memory ran out
 pub at_err : {A : Type 0} {r : Result A NoMemory} {y : NoMemory} (C : Result A NoMemory → Type 0) → r ≡ Err y → C (Err y) → C r
 at_err C h k = subst C (sym h) k
 

@@ -1,4 +1,4 @@
--- Rounds, by whose worker it is.
+-- Rounds, by the kind of worker.
 use Rattle.std.proofs.Common.{◌≡◌, List, sym, subst}
 use Rattle.std.specs.Prelude.{Option, None, Result}
 use Rattle.np_text.specs.declared.id.RequesterId.{RequesterId}

@@ -81,7 +81,7 @@ kept_before : (pool : PoolId) (ms ns : List Move) (o : Option (List Server)) →
 kept_before pool ms ns None h = tt
 kept_before pool ms ns (Some s) h = λ k d l. was_kept_after pool ms ns (get_or s k d) (h k d l)
 
--- more moves stood before the sweeps
+-- more moves came before the sweeps
 pub are_kept_after : (pool : PoolId) (ms ns : List Move) (d : Driving) → AreKept pool ns (Some d) → AreKept pool (ms ++ ns) (Some d)
 are_kept_after pool ms ns d h = kept_before pool ms ns d.facts.servers h
 

@@ -25,7 +25,7 @@ abbrev pub entry_count : Turn → ℕ
 entry_count (turn.Did e) = 1
 entry_count _ = 0
 
--- the entries that were counted are those that one's own places gained (own)
+-- the count of entries rose by as many as one's own places (own)
 abbrev pub Counts : ℕ → Sight Entry → ℕ → Sight Entry → Type 0
 Counts n v m w = m + length v.mine ≡ n + length w.mine
 
@@ -40,7 +40,8 @@ AreKept pool trace None = Unit {0}
 AreKept pool trace (Some now) = IfSome now.facts.servers (λ servers. All (WasKept pool trace) servers)
 
 module _ {F : Type 0} (answers : F → List Entry → Ask → Turn → Type 0) (f : F) where
-  -- there are moves that may come from this phase on, that saw and made this of the history, and did this with the driver; of them and of the phase that they lead to this holds (own)
+  -- there are moves that may come from this phase on, that saw and made this of the history, and
+  -- did this with the driver; this holds of them and of the phase that they lead to (own)
   pub record Part (from : Phase) (v w : Sight Entry) (before now : Option Driving) (Holds : List Move → Phase → Type 0) : Type 0 where
     pub trace : List Move
     pub to : Phase

@@ -19,7 +19,8 @@ Rests (of_pool pool) before now trace to =
 Rests (of_requester q) before now trace to = to ≡ rests
 Rests of_reaper before now trace to = to ≡ rests
 
--- a round ends where a turn was answered that the journal is full, or with its work done; where no memory was found, anywhere (own)
+-- a round ends when a turn found the journal full, or with its work done; if memory ran out,
+-- anywhere (own)
 abbrev pub EndsAs : Work → Option Driving → Option Driving → Result RoundEnd NoMemory → List Move → Phase → Type 0
 EndsAs work before now (Ok end) trace to =
     MatchBool end.full (to ≡ ended) (Rests work before now trace to)

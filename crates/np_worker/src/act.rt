@@ -26,7 +26,7 @@ fn count_entry(entries: u32, turn: Turn) -> Result<u32, NoMemory>
     }
 }
 
-/// Takes a turn, and counts its entry. Where the count has no room the turn is made all the same.
+/// Takes a turn, and counts its entry. If the count has no room, the turn is made all the same.
 pub(crate) fn take_turn<T: Turns<Ask = Ask, Entry = Entry, Turn = Turn>>(
     turns: &mut T,
     ask: Ask,
@@ -48,7 +48,7 @@ pub(crate) fn take_turn<T: Turns<Ask = Ask, Entry = Entry, Turn = Turn>>(
     Ok(turn)
 }
 
-/// Takes a turn in which the role acts. The role is no launcher, whose starts call for more.
+/// Takes a turn in which the role acts. The role is not a launcher, whose starts need more.
 pub(crate) fn act<T: Turns<Ask = Ask, Entry = Entry, Turn = Turn>>(
     turns: &mut T,
     role: Role,

@@ -36,7 +36,7 @@ fn start_of(pool: PoolId, entry: Entry) -> Option<Start>
     }
 }
 
-/// Launches a server. A launch that found no memory leaves the driver as it was.
+/// Launches a server. A launch that ran out of memory leaves the driver as it was.
 fn launch_server<D: Driver>(driver: &mut D, tag: Tag) -> Result<Outcome, NoMemory>
     ensures { MatchResult result
         (λ o. Drives (launched tag o ∷ [])

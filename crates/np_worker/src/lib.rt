@@ -1,17 +1,17 @@
 //! One worker's round.
 //!
-//! A worker (`Worker`) plays its roles at a board: a pool's worker its launcher and its janitor,
-//! with the pool's driver, a requester's and the reaper's one role each. In a round each role takes
-//! at most 16 turns in which it acts, and what they call for is done at once: an accepted start is
-//! launched and reported, a due node's server is removed before its record goes, and at the end the
-//! servers that nobody wants are removed.
+//! A worker (`Worker`) plays its roles at a board: a pool's worker plays the launcher and the
+//! janitor, with the pool's driver; a requester's worker and the reaper's play one role each. In a
+//! round each role takes at most 16 turns in which it acts, and what they call for is done at once:
+//! an accepted start is launched and reported, a due node's server is removed before its record
+//! goes, and at the end the servers that nobody wants are removed.
 //!
-//! Contracts speak of a round by one list of moves (np_trace): its turns with their answers, and
-//! what it had of its driver. Read `specs/Part` for what one part of a round is, and `specs/Round`
-//! for how a round ends. What holds of the moves of every round is said by np_trace's laws.
+//! Contracts describe a round by one list of moves (np_trace): its turns with their answers, and
+//! what its driver did. Read `specs/Part` for what one part of a round is, and `specs/Round` for
+//! how a round ends. np_trace's laws say what holds of the moves of every round.
 //!
 //! An answer of a wrong kind to a role's turn (say, that a node is due) counts as nothing to do,
-//! and ends the role's part. One to a sweep counts as that the server is kept.
+//! and ends the role's part. One to a sweep counts as keeping the server.
 #![tactic(auto)]
 
 mod act;

@@ -26,7 +26,7 @@ fn is_unwanted(turn: Turn) -> bool
     }
 }
 
-/// How many servers the driver has. More than a `u32` counts are want of memory.
+/// How many servers the driver has. More than a `u32` counts are reported as running out of memory.
 fn count_servers<D: Driver>(driver: &D) -> Result<u32, NoMemory>
     ensures { IfOk result
         (λ n. IfSome (D.facts driver.now).servers (λ servers. length servers ≤ n)) }
@@ -39,7 +39,7 @@ fn count_servers<D: Driver>(driver: &D) -> Result<u32, NoMemory>
     Err(NoMemory)
 }
 
-/// Asks about one server, and removes it where nobody wants it.
+/// Asks about one server, and removes it if nobody wants it.
 fn sweep_one<D: Driver, T: Turns<Ask = Ask, Entry = Entry, Turn = Turn>>(
     driver: &mut D,
     turns: &mut T,

@@ -78,10 +78,10 @@ fn play_pool<D: Driver, T: Turns<Ask = Ask, Entry = Entry, Turn = Turn>, G: Gate
 
 impl<D: Driver> Worker<D> {
     /// Plays one round: at most 16 turns of each role in which it acts, and what they call for. The
-    /// round ends where a turn is answered that the journal is full, and where no memory is found.
-    /// Then what was done stands: an accepted start may have no launch yet, or no report of it. A
-    /// removal that fails ends the removals of this round. More than 4,294,967,295 entries or
-    /// servers are want of memory.
+    /// round ends when a turn finds the journal full, and when memory runs out. What was done then
+    /// remains: an accepted start may have no launch yet, or no report of it. A removal that fails
+    /// ends the removals of this round. More than 4,294,967,295 entries or servers are reported as
+    /// running out of memory.
     pub fn round<T: Turns<Ask = Ask, Entry = Entry, Turn = Turn>, G: Gate>(
         &mut self,
         turns: &mut T,

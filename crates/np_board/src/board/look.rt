@@ -1,4 +1,4 @@
-//! What can be read of the board: what its machine tells, and what its index has.
+//! What can be read of the board: what its machine reports, and what its index has.
 
 ghost use Rattle.std.specs.Prelude.{length};
 

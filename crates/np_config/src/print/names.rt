@@ -50,7 +50,7 @@ fn tenant_name(config: &Config, id: TenantId) -> &[u8]
     }
 }
 
-/// The name of a job's tenant, where it isn't the default one.
+/// The name of a job's tenant, if it isn't the default one.
 pub(crate) fn job_tenant(
     alloc: Global,
     config: &Config,

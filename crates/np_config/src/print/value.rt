@@ -54,7 +54,7 @@ pub(crate) fn list_value<T: Shown>(
     Ok(Value::Array(values))
 }
 
-/// The list of the rows, where there is any.
+/// The list of the rows, if there are any.
 pub(crate) fn list_if_any<T: Shown>(
     alloc: Global,
     config: &Config,
@@ -97,7 +97,7 @@ pub(crate) fn owned_value<T: Owned>(
     Ok(Value::Array(values))
 }
 
-/// A row whose value has to do with its place.
+/// A row whose value depends on its place.
 pub(crate) trait Placed {
     ghost can_show: { Self → Type 0 };
 
@@ -124,7 +124,7 @@ pub(crate) fn placed_value<T: Placed>(
     Ok(Value::Array(values))
 }
 
-/// Puts a value, where there is one.
+/// Puts a value, if there is one.
 pub(crate) fn put_given(
     members: &mut Map<String, Value>,
     alloc: Global,
@@ -140,7 +140,7 @@ pub(crate) fn put_given(
     put(members, alloc, key, value)
 }
 
-/// Puts a number, where there is one.
+/// Puts a number, if there is one.
 pub(crate) fn put_count(
     members: &mut Map<String, Value>,
     alloc: Global,

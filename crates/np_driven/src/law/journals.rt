@@ -19,8 +19,8 @@ pub fn players_begin_with_the_empty_journal()
         HaveDriven c [] players }
 {}
 
-/// After a round of all players the journal is driven. Where no player was cut off, each server
-/// that is left was named in it, so that the next round may follow. None of the entries is a tick.
+/// After a round of all players the journal is driven. If no player was cut off, each server that
+/// is left was named in it, so the next round may follow. None of the entries is a tick.
 pub fn a_round_is_driven()
     ensures driven { (c : Configuration) (history later : List Entry) (players now : List Player)
         (is_cut : Bool) → IsRound c history later players now is_cut →
@@ -40,14 +40,14 @@ pub fn a_round_is_driven()
         length history ≤ length before → is_tick e.event ≡ false }
 {}
 
-/// A tick may follow an entry that is none.
+/// A tick may follow an entry that is not a tick.
 pub fn a_tick_after_a_round_is_driven()
     ensures { (c : Configuration) (journal : List Entry) (d e : Entry) (players : List Player) →
         HaveDriven c (journal ++ d ∷ []) players → is_tick d.event ≡ false →
         e.event ≡ ev.Tick → HaveDriven c ((journal ++ d ∷ []) ++ e ∷ []) players }
 {}
 
-/// What drivers drove that plan as the configuration does was driven as planned.
+/// If drivers plan as the configuration does, what they drove was driven as planned.
 pub fn what_planned_drivers_drove_was_driven_as_planned()
     ensures { (c : Configuration) (drivings : List Driving) (journal : List Entry) →
         ArePlanned c 0 (map (λ (d : Driving). d.plan) drivings) →

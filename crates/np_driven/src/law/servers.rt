@@ -14,11 +14,11 @@ ghost use Rattle.np_driven.specs.Players.{Player, WasAnswered};
 ghost use Rattle.np_driven.specs.Round.{PlayerEnd, PlaysFrom};
 ghost use Rattle.np_driven.specs.Servers.{HasServers, IsOfRound, IsOnlyNodeOfItsNumber, IsOnlyOfItsNumber, IsSweptAfter, KeepsJanitor, LeftWithCause, StaysKept, WasDue, WasUnwanted};
 
-/// A server that a pool's driver had before the round or launched in it, and that it has no more,
+/// A server that a pool's driver had before the round or launched in it, and that it no longer has,
 /// left with a cause. Either a node of the pool was due with a server of its number at some time of
 /// the round, or a server of its number that the driver had in the round was swept, and is swept
-/// after all that was seen. Where no other server of the round has its number, it is itself swept;
-/// where no other node of the pool has it, the node is its own.
+/// after all that was seen. If no other server of the round has its number, it is itself swept; if
+/// no other node of the pool has a server of that number, the node is its own.
 pub fn servers_leave_with_a_cause()
     ensures cause { (c : Configuration) (history : List Entry) (player : Player) (end : PlayerEnd)
         (pool : PoolId) (before now : List Server) (plays : PlaysFrom c history player end) →
@@ -35,9 +35,9 @@ pub fn servers_leave_with_a_cause()
         (due : WasDue c history seen pool server.number) → due.node ≡ server.tag.node }
 {}
 
-/// Servers that a round asked about and kept stay where they are kept: unless the journal was full,
-/// there is for each of them a time of the round at which the board keeps it, and from then on the
-/// round made no entries but sweeps.
+/// Each server that a round asked about and kept stays kept: unless the journal was full, there is
+/// a time of the round at which the board keeps it, and from then on the round made no entries but
+/// sweeps.
 pub fn servers_stay_where_they_are_kept()
     ensures { (c : Configuration) (history : List Entry) (player : Player) (end : PlayerEnd)
         (pool : PoolId) (servers : List Server) (plays : PlaysFrom c history player end) →
@@ -45,10 +45,10 @@ pub fn servers_stay_where_they_are_kept()
         All (StaysKept c history end.sight pool) servers }
 {}
 
-/// A server that nobody wants goes: where it was named, and no record wanted it at some time before
+/// A server that nobody wants goes: if it was named, and no record wanted it at some time before
 /// the round, it is not among the servers that a round of its pool asked about and kept, unless the
-/// pool had no janitor at some time of the round. So a server whose removal failed after its sweep is
-/// gone after the next such round.
+/// pool had no janitor at some time of the round. So a server whose removal failed after its sweep
+/// is gone after the next such round.
 pub fn unwanted_servers_go_in_a_whole_round()
     ensures { (c : Configuration) (drivings : List Driving) (history : List Entry)
         (player : Player) (end : PlayerEnd) (pool : PoolId) (servers : List Server)

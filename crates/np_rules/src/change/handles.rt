@@ -9,7 +9,7 @@ use crate::keys::HandleTable;
 use np_text::{JobId, SemId};
 use std::alloc::AllocError;
 
-/// The job takes a handle, unless it has one; true where it was added.
+/// The job takes a handle, unless it has one; true if it was added.
 fn add_job(jobs: &mut HandleTable, job: JobId) -> Result<bool, AllocError>
     ensures ok { OnOk result (jobs.new ≡ with_handle job jobs.old) }
     ensures undo { IfOk result (λ added.
@@ -32,8 +32,8 @@ fn take_back_job(jobs: &mut HandleTable, job: JobId, added: bool)
     }
 }
 
-/// The job has no handle any more. No clause of a table tells that a key stands there once, so it is
-/// removed until it is gone.
+/// The job has no handle any more. No clause of a table says that a key is there only once, so it
+/// is removed until it is gone.
 fn drop_job(jobs: &mut HandleTable, job: JobId)
     ensures { jobs.new ≡ without_handle job jobs.old }
 {
@@ -42,7 +42,7 @@ fn drop_job(jobs: &mut HandleTable, job: JobId)
     }
 }
 
-/// The job takes a handle of the semaphore, unless it has one; true where it was added.
+/// The job takes a handle of the semaphore, unless it has one; true if it was added.
 fn add_handle(handles: &mut Vec<HandleTable>, at: usize, job: JobId) -> Result<bool, AllocError>
     ensures ok { OnOk result (handles.new.items ≡
         change_at at (with_handle job) handles.old.items) }
@@ -91,7 +91,7 @@ pub(crate) fn add_handles(
     Ok(())
 }
 
-/// The job gives its handle of the semaphore back, where it has one.
+/// The job gives its handle of the semaphore back, if it has one.
 fn drop_handle(handles: &mut Vec<HandleTable>, at: usize, job: JobId)
     ensures { handles.new.items ≡ change_at at (without_handle job) handles.old.items }
 {

@@ -1,6 +1,6 @@
 //! What can be read of the vectors.
 //!
-//! A request's record is about 1 KB, so the readers that ask all requests walk them by reference.
+//! A request's record is about 1 KB, so the readers that scan all requests walk them by reference.
 
 use crate::count::count;
 use crate::keeper::VecKeeper;

@@ -1,4 +1,4 @@
-//! What can be read of the machine: what its vectors tell.
+//! What can be read of the machine, from its vectors.
 
 ghost use Rattle.std.specs.Prelude.{length};
 

@@ -1,5 +1,5 @@
-//! What keeps the tree low: where one side of a knot weighs more than three times what the other
-//! does, it is raised. A side weighs one more than it has items.
+//! What keeps the tree low: if one side of a knot weighs more than three times as much as the
+//! other, it is raised. A side weighs one more than it has items.
 //!
 //! It is proved that no rotation changes the list, and not that the tree stays low: with these weights
 //! a path down has at most 2.41 times as many knots as the logarithm of the length (Hirai and Yamamoto,
@@ -12,7 +12,7 @@ use super::{Link, Shelf};
 use std::mem;
 
 impl<T: Drop> Link<T> {
-    /// How many items stand on each side of the top.
+    /// How many items are on each side of the top.
     fn sides(&self) -> (usize, usize)
         ensures { result ≡ side_lengths self.now }
     {
@@ -24,7 +24,7 @@ impl<T: Drop> Link<T> {
 }
 
 impl<T: Drop> Shelf<T> {
-    /// Raises the side that weighs more than three times what the other does, if one does.
+    /// Raises the side that weighs more than three times as much as the other, if one does.
     pub(super) fn balance(&mut self)
         ensures { self.new ≡ self.old }
     {
@@ -36,8 +36,8 @@ impl<T: Drop> Shelf<T> {
         }
     }
 
-    /// Raises the right side, by two rotations where the inner of its own sides has more than twice
-    /// as many items as the outer, and else by one.
+    /// Raises the right side: by two rotations if the inner of its own sides has more than twice
+    /// as many items as the outer, and otherwise by one.
     fn raise_right(&mut self)
         ensures { self.new ≡ self.old }
     {

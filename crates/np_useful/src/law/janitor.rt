@@ -18,13 +18,13 @@ ghost use Rattle.np_worked.specs.SweptServers as swept_servers;
 ghost use Rattle.np_worked.specs.WithdrawnRequest as withdrawn_request;
 ghost use Rattle.np_worked.specs.Site.{session, node, job, request, janitor};
 
-/// The machine gives the replies of the journals that are made for these rows.
+/// The machine's replies are those of the journals that are made for these rows.
 pub fn janitors_journals_are_the_machines()
     ensures other_pool { HasReplies retries_spent.site other_pool }
     ensures left_alone { HasReplies (left_alone_site kind.Stop) finished_by_the_janitor.journal }
 {}
 
-/// A janitor opens a session where it has none.
+/// A janitor opens a session if it has none.
 pub fn a_janitor_opens_one_session()
     ensures first { IsUseful plain_path.site (after_first 10 plain_path.site plain_path.journal) (janitor 0) (ev.OpenSession (janitor 0)) }
     ensures second { IsUseless crashed_requester.site (after_first 17 crashed_requester.site crashed_requester.journal) (janitor 0) (ev.OpenSession (janitor 0)) }
@@ -36,19 +36,19 @@ pub fn a_janitor_locks_a_pending_request_of_its_pool()
     ensures other { IsUseless retries_spent.site (after_first 11 retries_spent.site other_pool) (janitor 1) (ev.LockRequest (session 4) (request 200 0)) }
 {}
 
-/// And gives it back to all pools.
+/// It then gives the request back to all pools.
 pub fn a_janitor_resets_a_request_of_its_pool()
     ensures own { IsUseful expiry_during_a_launch.site (after_first 11 expiry_during_a_launch.site expiry_during_a_launch.journal) (janitor 0) (ev.Reset (session 3) (request 200 0)) }
     ensures other { IsUseless retries_spent.site (after_first 12 retries_spent.site other_pool) (janitor 1) (ev.Reset (session 4) (request 200 0)) }
 {}
 
-/// A janitor unlocks a request that is pending no more.
+/// A janitor unlocks a request that is no longer pending.
 pub fn a_janitor_unlocks_a_request_that_it_gave_back()
     ensures given_back { IsUseful expiry_during_a_launch.site (after_first 12 expiry_during_a_launch.site expiry_during_a_launch.journal) (janitor 0) (ev.UnlockRequest (session 3) (request 200 0)) }
     ensures pending { IsUseless expiry_during_a_launch.site (after_first 11 expiry_during_a_launch.site expiry_during_a_launch.journal) (janitor 0) (ev.UnlockRequest (session 3) (request 200 0)) }
 {}
 
-/// A janitor locks a node of its pool that nobody has and that is to be cleaned up.
+/// A janitor locks a node of its pool that nobody has and that must be cleaned up.
 pub fn a_janitor_locks_a_node_to_clean_up()
     ensures own { IsUseful expiry_during_a_launch.site (after_first 14 expiry_during_a_launch.site expiry_during_a_launch.journal) (janitor 0) (ev.LockNode (session 3) (node 0)) }
     ensures held { IsUseless crashed_requester.site (after_first 17 crashed_requester.site crashed_requester.journal) (janitor 0) (ev.LockNode (session 3) (node 0)) }
@@ -62,7 +62,7 @@ pub fn a_janitor_deletes_a_node_of_its_pool()
     ensures other { IsUseless retries_spent.site (after_first 13 retries_spent.site other_pool) (janitor 1) (ev.MarkDeleting (session 4) (node 0)) }
 {}
 
-/// And removes its record.
+/// It then removes the node's record.
 pub fn a_janitor_removes_a_node_of_its_pool()
     ensures own { IsUseful expiry_during_a_launch.site (after_first 16 expiry_during_a_launch.site expiry_during_a_launch.journal) (janitor 0) (ev.Gone (session 3) (node 0)) }
     ensures other { IsUseless retries_spent.site (after_first 14 retries_spent.site other_pool) (janitor 1) (ev.Gone (session 4) (node 0)) }
@@ -98,13 +98,13 @@ pub fn a_janitor_finishes_for_who_stopped()
     ensures unplanned { IsUseless finished_by_the_janitor.site (after_first 17 finished_by_the_janitor.site finished_by_the_janitor.journal) (janitor 0) (ev.Finish (session 3) (job 0)) }
 {}
 
-/// A janitor gives the handles of a job back, once.
+/// A janitor gives back the handles of a job, once.
 pub fn a_janitor_releases()
     ensures once { IsUseful crashed_requester.site (after_first 25 crashed_requester.site crashed_requester.journal) (janitor 0) (ev.Release (session 3) (job 0)) }
     ensures again { IsUseless crashed_requester.site (after_first 26 crashed_requester.site crashed_requester.journal) (janitor 0) (ev.Release (session 3) (job 0)) }
 {}
 
-/// A janitor's sweep has no row: what it may sweep is in the journal alone.
+/// A janitor's sweep has no row: only the journal says what it may sweep.
 pub fn a_janitors_sweep_has_no_row()
     ensures { IsUseless swept_servers.site (after_first 11 swept_servers.site swept_servers.journal) (janitor 0) (ev.Sweep (session 3) (node 0) 2) }
 {}

@@ -13,7 +13,7 @@ ghost use Rattle.np_worked.specs.TenantLimit as tenant_limit;
 ghost use Rattle.np_worked.specs.WithdrawnRequest as withdrawn_request;
 ghost use Rattle.np_worked.specs.Site.{session, node, label, request, launcher};
 
-/// The machine gives the replies of the journals that are made for these rows.
+/// The machine's replies are those of the journals that are made for these rows.
 pub fn launchers_journals_are_the_machines()
     ensures two_sessions { HasReplies plain_path.site two_sessions }
     ensures unoffered { HasReplies unoffered_site unoffered }
@@ -23,7 +23,7 @@ pub fn launchers_journals_are_the_machines()
     ensures waiting { HasReplies waiting_site waiting }
 {}
 
-/// A launcher opens a session where it has none.
+/// A launcher opens a session if it has none.
 pub fn a_launcher_opens_one_session()
     ensures first { IsUseful plain_path.site (after_first 0 plain_path.site plain_path.journal) (launcher 0) (ev.OpenSession (launcher 0)) }
     ensures second { IsUseless plain_path.site (after_first 1 plain_path.site plain_path.journal) (launcher 0) (ev.OpenSession (launcher 0)) }
@@ -34,7 +34,7 @@ pub fn a_launcher_registers()
     ensures { IsUseful plain_path.site (after_first 2 plain_path.site plain_path.journal) (launcher 0) (ev.Register (session 1)) }
 {}
 
-/// The newest session speaks for its role, and the one before it again when that is mute.
+/// The newest session speaks for its role; when it is mute, the one before it does again.
 pub fn the_newest_session_is_current()
     ensures older { is_maker_of (launcher 0) (after_first 10 plain_path.site two_sessions) (Some (session 1)) ≡ false }
     ensures newer { is_maker_of (launcher 0) (after_first 11 plain_path.site two_sessions) (Some (session 3)) ≡ false }
@@ -46,8 +46,8 @@ pub fn a_launcher_registers_first()
     ensures { IsUseless plain_path.site (after_first 10 plain_path.site two_sessions) (launcher 0) (ev.Start (session 3) (node 0)) }
 {}
 
-/// A launcher gives back a request that it has done with: fulfilled, declined, or without room for
-/// its tenant.
+/// A launcher gives back a request that it is done with: fulfilled, declined, or one whose tenant
+/// has no room.
 pub fn a_launcher_unlocks_what_it_has_done_with()
     ensures fulfilled { IsUseful plain_path.site (after_first 10 plain_path.site plain_path.journal) (launcher 0) (ev.UnlockRequest (session 1) (request 200 0)) }
     ensures declined { IsUseful fail_declined.site (after_first 9 fail_declined.site fail_declined.journal) (launcher 0) (ev.UnlockRequest (session 1) (request 200 0)) }
@@ -56,7 +56,7 @@ pub fn a_launcher_unlocks_what_it_has_done_with()
     ensures requested { IsUseless plain_path.site (after_first 5 plain_path.site plain_path.journal) (launcher 0) (ev.UnlockRequest (session 1) (request 200 0)) }
 {}
 
-/// A launcher gives back a node that it neither launches nor serves a request with.
+/// A launcher gives back a node that it neither launches nor uses to serve a request.
 pub fn a_launcher_unlocks_a_node_that_it_has_done_with()
     ensures fulfilled { IsUseful plain_path.site (after_first 10 plain_path.site plain_path.journal) (launcher 0) (ev.UnlockNode (session 1) (node 0)) }
     ensures pending { IsUseless plain_path.site (after_first 9 plain_path.site plain_path.journal) (launcher 0) (ev.UnlockNode (session 1) (node 0)) }
@@ -85,7 +85,7 @@ pub fn a_launcher_takes_a_ready_node()
     ensures failed { IsUseless failing_site (after_first 18 failing_site failing) (launcher 0) (ev.TakeReady (session 1) (request 200 1) (node 0)) }
 {}
 
-/// A launcher makes a node where it may take none, unless the request's launches failed.
+/// A launcher makes a node if it may take none, unless the request's launches failed.
 pub fn a_launcher_creates_a_node()
     ensures none_ready { IsUseful failing_site (after_first 14 failing_site failing) (launcher 0) (ev.Create (session 1) (request 200 1)) }
     ensures ready { IsUseless failing_site (after_first 16 failing_site failing) (launcher 0) (ev.Create (session 1) (request 200 1)) }

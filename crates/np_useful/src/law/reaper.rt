@@ -7,7 +7,7 @@ ghost use Rattle.np_useful.specs.Useful.{IsUseful};
 ghost use Rattle.np_useful.specs.Examples.{IsUseless, HasReplies, after_first, struck_site, struck};
 ghost use Rattle.np_worked.specs.Site.{session, launcher};
 
-/// The machine gives the replies of the journal that is made for these rows.
+/// The machine's replies are those of the journal that is made for these rows.
 pub fn reapers_journal_is_the_machines()
     ensures { HasReplies (struck_site kind.Stop) struck }
 {}
@@ -19,7 +19,7 @@ pub fn the_reaper_expires_what_is_due()
     ensures other_kind { IsUseless (struck_site kind.Crash) (after_first 2 (struck_site kind.Crash) struck) Reaper (ev.Expire (session 1)) }
 {}
 
-/// The reaper makes a session mute whose crash or stop is due.
+/// The reaper makes a session mute if its crash or stop is due.
 pub fn the_reaper_crashes_what_is_due()
     ensures crash { IsUseful (struck_site kind.Crash) (after_first 2 (struck_site kind.Crash) struck) Reaper (ev.Crash (session 1)) }
     ensures stop { IsUseful (struck_site kind.Stop) (after_first 2 (struck_site kind.Stop) struck) Reaper (ev.Crash (session 1)) }
@@ -27,12 +27,12 @@ pub fn the_reaper_crashes_what_is_due()
     ensures other_kind { IsUseless (struck_site kind.Expire) (after_first 2 (struck_site kind.Expire) struck) Reaper (ev.Crash (session 1)) }
 {}
 
-/// And ends it then.
+/// It then ends that session.
 pub fn the_reaper_expires_what_is_mute()
     ensures { IsUseful (struck_site kind.Crash) (after_first 3 (struck_site kind.Crash) struck) Reaper (ev.Expire (session 1)) }
 {}
 
-/// A role goes on with a new session after a crash, and not after a stop.
+/// A role continues with a new session after a crash, but not after a stop.
 pub fn a_role_stops_for_good()
     ensures crash { IsUseful (struck_site kind.Crash) (after_first 4 (struck_site kind.Crash) struck) (launcher 0) (ev.OpenSession (launcher 0)) }
     ensures stop { IsUseless (struck_site kind.Stop) (after_first 4 (struck_site kind.Stop) struck) (launcher 0) (ev.OpenSession (launcher 0)) }

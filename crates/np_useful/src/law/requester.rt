@@ -10,19 +10,19 @@ ghost use Rattle.np_worked.specs.ServedJob as served_job;
 ghost use Rattle.np_worked.specs.ShortQuota as short_quota;
 ghost use Rattle.np_worked.specs.Site.{session, node, job, requester};
 
-/// The machine gives the replies of the journal that is made for these rows.
+/// The machine's replies are those of the journal that is made for these rows.
 pub fn requesters_journal_is_the_machines()
     ensures { HasReplies (window_site 1) moved_window }
 {}
 
-/// A requester opens a session where it has none.
+/// A requester opens a session if it has none.
 pub fn a_requester_opens_one_session()
     ensures first { IsUseful plain_path.site (after_first 1 plain_path.site plain_path.journal) (requester 0) (ev.OpenSession (requester 0)) }
     ensures second { IsUseless plain_path.site (after_first 2 plain_path.site plain_path.journal) (requester 0) (ev.OpenSession (requester 0)) }
 {}
 
-/// A requester takes a job's semaphores before it asks for nodes; a job that asks for them first
-/// has its turn when they are there.
+/// A requester takes a job's semaphores before it asks for nodes. If a job asks for nodes first,
+/// its semaphores are taken when the nodes are there.
 pub fn a_requester_acquires()
     ensures before { IsUseful semaphores_all_or_none.site (after_first 1 semaphores_all_or_none.site semaphores_all_or_none.journal) (requester 0) (ev.Acquire (session 1) (job 0)) }
     ensures once { IsUseless semaphores_all_or_none.site (after_first 7 semaphores_all_or_none.site semaphores_all_or_none.journal) (requester 0) (ev.Acquire (session 1) (job 0)) }
@@ -69,7 +69,7 @@ pub fn a_requester_unlocks_a_node_that_it_has_done_with()
     ensures ready { IsUseless served_job.site (after_first 12 served_job.site served_job.journal) (requester 0) (ev.UnlockNode (session 2) (node 0)) }
 {}
 
-/// A requester gives the handles of a job back, once.
+/// A requester gives back the handles of a job, once.
 pub fn a_requester_releases()
     ensures once { IsUseful semaphores_all_or_none.site (after_first 5 semaphores_all_or_none.site semaphores_all_or_none.journal) (requester 0) (ev.Release (session 1) (job 2)) }
     ensures again { IsUseless semaphores_all_or_none.site (after_first 6 semaphores_all_or_none.site semaphores_all_or_none.journal) (requester 0) (ev.Release (session 1) (job 2)) }

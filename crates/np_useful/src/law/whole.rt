@@ -7,7 +7,7 @@ ghost use Rattle.np_useful.specs.Driven.{Driven};
 ghost use Rattle.np_useful.specs.Examples.{HasReplies, expiring_site, all_kinds, first_tick, empty_site, quiet_site, quiet, moved_window, window_site};
 ghost use Rattle.np_worked.specs.PlainPath as plain_path;
 
-/// The machine gives the replies of the journals that are made for these examples.
+/// The machine's replies are those of the journals that are made for these examples.
 pub fn driven_journals_are_the_machines()
     ensures all_kinds { HasReplies expiring_site all_kinds }
     ensures first_tick { HasReplies plain_path.site first_tick }
@@ -18,7 +18,7 @@ pub fn the_plain_path_was_driven()
     ensures { Driven plain_path.site plain_path.journal }
 {}
 
-/// So was one with a late report, the sweep of its server and a tick.
+/// So was a journal with a late report, the sweep of its server and a tick.
 pub fn a_journal_of_all_kinds_was_driven()
     ensures { Driven expiring_site all_kinds }
 {}
@@ -28,7 +28,7 @@ pub fn a_first_tick_was_not_driven()
     ensures { Driven plain_path.site first_tick → ⊥ }
 {}
 
-/// Nor was one with an event that is never useful.
+/// Nor was a journal with an event that is never useful.
 pub fn a_withdrawn_job_was_not_driven()
     ensures { Driven (window_site 1) moved_window → ⊥ }
 {}

@@ -3,7 +3,7 @@
 use super::{OPENED, SUBMITTED};
 use crate::journal::Journal;
 
-// Two pools, of which only the second offers the label that the job asks.
+// Two pools, of which only the second offers the label that the job asks for.
 const DECLINING_SITE: &str =
     r#"{"labels":[{"name":"a"},{"name":"b"}],"providers":[{"name":"c","pools":[{"name":"m","labels":[{"name":"b"}]}]},{"name":"d","pools":[{"name":"m","labels":[{"name":"a"}]}]}],"requesters":[{"name":"z","jobs":[{"name":"j","labels":["a"]}]}]}"#;
 
@@ -27,7 +27,7 @@ const DECLINED: &[&str] = &[
     "expire s2 = ok",
 ];
 
-// A job asks more than the pool may ever hold.
+// A job asks for more than the pool may ever hold.
 const NEVER_FITS: Journal = Journal {
     name: "never_fits",
     site: r#"{"labels":[{"name":"a"}],"providers":[{"name":"c","pools":[{"name":"m","max-servers":2,"labels":[{"name":"a"}]}]}],"requesters":[{"name":"z","jobs":[{"name":"j","labels":["a","a","a"]}]}]}"#,
@@ -146,7 +146,7 @@ const SPENT_MIN_READY: Journal = Journal {
     fates: &[],
 };
 
-// A request that nobody may serve fails only where a pool is registered.
+// A request that nobody may serve fails only if a pool is registered.
 const FAIL_DECLINED: Journal = Journal {
     name: "fail_declined",
     site: DECLINING_SITE,

@@ -141,7 +141,7 @@ const WITHDRAWN_REQUEST: Journal = Journal {
     fates: &["j0 z/j withdrawn", "j1 z/k waiting asked"],
 };
 
-// A job is withdrawn before it asked, and cannot ask any more.
+// A job is withdrawn before it has requested nodes, and cannot request them afterwards.
 const WITHDRAWN_EARLY: Journal = Journal {
     name: "withdrawn_early",
     site: PLAIN_SITE,
@@ -158,7 +158,7 @@ const WITHDRAWN_EARLY: Journal = Journal {
     fates: &["j0 z/j withdrawn"],
 };
 
-// Nodes and jobs are ended by their own requester alone.
+// Only their own requester ends nodes and jobs.
 const ENDED_BY_THE_WRONG_PARTY: Journal = Journal {
     name: "ended_by_the_wrong_party",
     site: r#"{"labels":[{"name":"a"}],"providers":[{"name":"c","pools":[{"name":"m","labels":[{"name":"a"}]}]}],"requesters":[{"name":"z","jobs":[{"name":"j","labels":["a"]}]},{"name":"y"}]}"#,

@@ -169,7 +169,7 @@ const PAUSED_POOL: Journal = Journal {
     fates: &["j0 z/j waiting asked"],
 };
 
-// A ready node whose request stands is not freed; one whose request is gone is.
+// A ready node is not freed while its request exists, and is freed when its request is gone.
 const FREED_NODE: Journal = Journal {
     name: "freed_node",
     site: PLAIN_SITE,
@@ -217,7 +217,7 @@ const SWEPT_SERVERS: Journal = Journal {
     fates: &["j0 z/j waiting asked"],
 };
 
-// Whatever server a building node may get is kept.
+// Any server that a building node may get is kept.
 const SWEPT_WHILE_BUILDING: Journal = Journal {
     name: "swept_while_building",
     site: PLAIN_SITE,

@@ -1,9 +1,9 @@
-//! Journals of what seldom happens: the tests of a row that the others do not reach.
+//! Journals of rare events: the tests of a row that the other journals do not reach.
 
 use super::{FULFILLED, LAUNCHED, OPENED, PLAIN_CANONICAL, PLAIN_SITE, STARTED, SUBMITTED, TAKEN};
 use crate::journal::Journal;
 
-// A node that is given up while it is launched is in flight no more.
+// A node that is given up during its launch is no longer in flight.
 const DELETED_DURING_A_LAUNCH: Journal = Journal {
     name: "deleted_during_a_launch",
     site: PLAIN_SITE,

@@ -12,7 +12,7 @@ const PLAIN_PATH: Journal = Journal {
     fates: &["j0 z/j waiting asked"],
 };
 
-// A node is kept ready, and a job with three labels takes it in.
+// A node is kept ready, and a job with three labels takes it.
 const MIN_READY_AND_TAKEN: Journal = Journal {
     name: "min_ready_and_taken",
     site: r#"{"labels":[{"name":"a","min-ready":1},{"name":"b"}],"providers":[{"name":"c","pools":[{"name":"m","labels":[{"name":"a"},{"name":"b"}]}]}],"requesters":[{"name":"z","jobs":[{"name":"j","labels":["a","b","a"]}]}]}"#,
@@ -101,7 +101,7 @@ const REFUSALS: Journal = Journal {
     fates: &["j0 z/j waiting asked"],
 };
 
-// A min-ready request is served by the pool that made it alone.
+// Only the pool that made a min-ready request serves it.
 const PINNED_ELSEWHERE: Journal = Journal {
     name: "pinned_elsewhere",
     site: r#"{"labels":[{"name":"a","min-ready":1},{"name":"b"}],"providers":[{"name":"c","pools":[{"name":"m","labels":[{"name":"a"}]}]},{"name":"d","pools":[{"name":"m","max-servers":0,"labels":[{"name":"a"}]}]}],"requesters":[{"name":"z"}]}"#,

@@ -10,6 +10,6 @@ invariant-pieces g l = record {
   later : (g.S.Source.facts l.fn.source).faults ≤ (g.S.Source.facts l.source).faults;
 }
 
--- each turn takes a byte at least
+-- each turn takes at least one byte
 abbrev pub decreases-pieces : goal.decreases-pieces
 decreases-pieces g l = (l.limit + 1) - vec_len l.bytes

@@ -2,7 +2,7 @@ use Rattle.std.proofs.Common.{length, ◌-◌, ◌≤◌, take}
 use Rattle.np_io.specs.Bytes.{Appends}
 use Rattle.np_io.proofs.whole.write_all.Given as goal
 
--- the bytes before `written` are out
+-- the bytes before `written` are written
 abbrev pub invariant-loop-written : goal.invariant-loop-written
 invariant-loop-written g l = record {
   within : l.written ≤ length l.bytes;

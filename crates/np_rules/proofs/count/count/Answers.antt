@@ -7,7 +7,7 @@ use Rattle.np_look.proofs.CountLemmas.{total_more}
 use Rattle.np_fits.proofs.Offered.{number_bound, passed_total, used_bound, offer_bound, part_bound}
 use Rattle.np_rules.proofs.count.count.Goals as goal
 
--- what stands past the end of the offers
+-- what is past the end of the offers
 abbrev none : Offer
 none = record { label = record { 0 = 0 }; amount = record { instances = 0; cores = 0; ram = 0 } }
 

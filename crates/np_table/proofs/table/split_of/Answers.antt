@@ -1,4 +1,4 @@
--- the rows before the key stand first, so that a binary search finds where they end
+-- the rows before the key come first, so a binary search finds where they end
 use Rattle.std.proofs.Common.{rules}
 use Rattle.std.proofs.lemmas.List.Sorted.{IsPartitionPoint-from_clause}
 use Rattle.np_table.proofs.KeyLemmas.{keys_partitioned}
