@@ -2,6 +2,7 @@
 use Rattle.std.proofs.Common.{◌≡◌, ℕ, suc, ◌+◌, ◌-◌, ◌≤◌, Bool, true, false, not, ◌&&◌, ◌||◌, cond, List, [], ◌∷◌, length, map, take, drop, refl, sym, ap, ◌∙◌, arith}
 use Rattle.std.specs.Prelude.{filter}
 use Rattle.std.specs.List.{AllByRecursion, list_any, prefix_len}
+use Rattle.np_lists.specs.Change.{insert_before}
 use Rattle.np_lists.specs.Rising.{NonePass, Rises}
 use Rattle.np_lists.proofs.Each.{all-weaker}
 
@@ -138,3 +139,18 @@ le-by low high x xs false is both later = rw is (omega arith)
 pub prefix_len-le : {X : Type 0} (low high : X → Bool) (xs : List X) → ((x : X) → low x ≡ true → high x ≡ true) → prefix_len low xs ≤ prefix_len high xs
 prefix_len-le low high [] both = omega arith
 prefix_len-le low high (x ∷ xs) both = le-by low high x xs (low x) refl (both x) (prefix_len-le low high xs both)
+
+-- ## one member more
+
+or_swap : (a b c : Bool) → (a || (b || c)) ≡ (b || (a || c))
+or_swap true true c = refl
+or_swap true false c = refl
+or_swap false b c = refl
+
+insert-by : {X : Type 0} (q : X → Bool) (new x : X) (xs ys : List X) (b : Bool) → list_any q ys ≡ (q new || list_any q xs) → list_any q (cond b (new ∷ x ∷ xs) (x ∷ ys)) ≡ (q new || (q x || list_any q xs))
+insert-by q new x xs ys true later = refl
+insert-by q new x xs ys false later = ap (λ (b : Bool). q x || b) later ∙ or_swap (q x) (q new) (list_any q xs)
+
+pub list_any-insert_before : {X : Type 0} (q p : X → Bool) (new : X) (xs : List X) → list_any q (insert_before p new xs) ≡ (q new || list_any q xs)
+list_any-insert_before q p new [] = refl
+list_any-insert_before q p new (x ∷ xs) = insert-by q new x xs (insert_before p new xs) (p x) (list_any-insert_before q p new xs)
