@@ -1,7 +1,7 @@
 -- no semaphore exceeds its max, and no job has two handles of one
-use Rattle.std.proofs.Common.{◌≡◌, ◌⊎◌, ℕ, zero, suc, ◌<◌, ◌≤◌, ◌==◌, ◌&&◌, ◌||◌, not, Bool, true, false, cond, List, [], ◌∷◌, map, filter, fold, length, slice_get, unwrap_or, nat_lt, Option, Some, None, refl, sym, ap, ◌∙◌, subst, inl, inr, arith, leb-false, eq-eqb}
+use Rattle.std.proofs.Common.{◌≡◌, ◌⊎◌, ℕ, zero, suc, ◌<◌, ◌≤◌, ◌==◌, ◌&&◌, not, Bool, true, false, cond, List, [], ◌∷◌, map, filter, fold, length, slice_get, unwrap_or, nat_lt, Option, Some, None, refl, sym, ap, ◌∙◌, subst, inl, inr, arith, leb-false, eq-eqb}
 use Rattle.std.specs.Option.{option_map_or}
-use Rattle.std.specs.List.{AllByRecursion, list_any}
+use Rattle.std.specs.List.{AllByRecursion}
 use Rattle.std.proofs.lemmas.Bool.{not-false, and_cases, or_parts, or_from, or_left}
 use Rattle.std.proofs.lemmas.Bool.Decides.{nat_tests}
 use Rattle.np_text.specs.declared.id.PoolId.{PoolId}
@@ -12,7 +12,7 @@ use Rattle.np_site.specs.declared.row.Job.{Job}
 use Rattle.np_site.specs.declared.row.Sem.{Sem}
 use Rattle.np_lists.specs.Change.{insert_before, change_at}
 use Rattle.np_lists.proofs.Each.{all-filter, all-weaker, all-from_at, length-filter_at_most, length-insert_before}
-use Rattle.np_lists.proofs.FilterLemmas.{list_any-none, none-list_any}
+use Rattle.np_lists.proofs.FilterLemmas.{list_any-none, none-list_any, list_any-insert_before}
 use Rattle.np_lists.proofs.Halves.{none-find}
 use Rattle.np_machine.specs.State.{State, start}
 use Rattle.np_machine.specs.Tables.{handles_of, is_among, has_handle}
@@ -31,19 +31,6 @@ use Rattle.np_safe.specs.Parts.{Invariant}
 use Rattle.np_safe.proofs.Ids.{same_semaphore}
 
 -- ## a job more, a job less
-
-or_swap : (a b c : Bool) → (a || (b || c)) ≡ (b || (a || c))
-or_swap true true c = refl
-or_swap true false c = refl
-or_swap false b c = refl
-
-any-by : {X : Type 0} (q : X → Bool) (new x : X) (xs ys : List X) (b : Bool) → list_any q ys ≡ (q new || list_any q xs) → list_any q (cond b (new ∷ x ∷ xs) (x ∷ ys)) ≡ (q new || (q x || list_any q xs))
-any-by q new x xs ys true later = refl
-any-by q new x xs ys false later = ap (λ (b : Bool). q x || b) later ∙ or_swap (q x) (q new) (list_any q xs)
-
-list_any-insert_before : {X : Type 0} (q p : X → Bool) (new : X) (xs : List X) → list_any q (insert_before p new xs) ≡ (q new || list_any q xs)
-list_any-insert_before q p new [] = refl
-list_any-insert_before q p new (x ∷ xs) = any-by q new x xs (insert_before p new xs) (p x) (list_any-insert_before q p new xs)
 
 other_way : (a b : ℕ) → (a == b) ≡ false → (b == a) ≡ false
 other_way a b other = grind (arith, nat_tests)
