@@ -123,6 +123,10 @@ pub trait Look {
     fn handles(&self, semaphore: SemId) -> u32
         ensures { result ≡ length (handles_of semaphore (state self.now).handles) };
 
+    /// The job at a place among those that have a handle of the semaphore, by number.
+    fn handle_at(&self, semaphore: SemId, at: u32) -> Option<JobId>
+        ensures { result ≡ slice_get (handles_of semaphore (state self.now).handles) at };
+
     /// Whether the job has a handle of the semaphore. Its cost grows with the semaphore's handles.
     fn has_handle(&self, semaphore: SemId, job: JobId) -> bool
         ensures { result ≡ has_handle job (state self.now).handles semaphore };

@@ -96,6 +96,10 @@ impl Look for Board {
         self.plain.handles(semaphore)
     }
 
+    fn handle_at(&self, semaphore: SemId, at: u32) -> Option<JobId> {
+        self.plain.handle_at(semaphore, at)
+    }
+
     fn has_handle(&self, semaphore: SemId, job: JobId) -> bool {
         self.plain.has_handle(semaphore, job)
     }

@@ -108,6 +108,10 @@ impl Look for VecKeeper {
         self.tables.handles(semaphore).len() as u32
     }
 
+    fn handle_at(&self, semaphore: SemId, at: u32) -> Option<JobId> {
+        self.tables.handles(semaphore).get(at as usize).copied()
+    }
+
     fn has_handle(&self, semaphore: SemId, job: JobId) -> bool {
         self.tables.has_handle(job, semaphore)
     }

@@ -96,6 +96,10 @@ impl Look for Plain {
         self.keeper.handles(semaphore)
     }
 
+    fn handle_at(&self, semaphore: SemId, at: u32) -> Option<JobId> {
+        self.keeper.handle_at(semaphore, at)
+    }
+
     fn has_handle(&self, semaphore: SemId, job: JobId) -> bool {
         self.keeper.has_handle(semaphore, job)
     }
