@@ -3,4 +3,6 @@ pub mod Accepts
 pub mod Currents
 pub mod Openings
 pub mod Searches
+pub mod Releases
 pub mod Wholes
+pub mod Unfinished

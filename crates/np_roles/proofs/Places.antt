@@ -74,6 +74,11 @@ past-all [] (suc i) none = refl
 past-all (x ∷ xs) zero none = absurd cc
 past-all (x ∷ xs) (suc i) none = past-all xs i none
 
+pub past-end : {X : Type 0} (xs : List X) (i : ℕ) → slice_get xs i ≡ None → length xs ≤ i
+past-end [] i none = omega arith
+past-end (x ∷ xs) zero none = absurd cc
+past-end (x ∷ xs) (suc i) none = let later = past-end xs i none in omega (arith, later)
+
 drop-there : {X : Type 0} (xs : List X) (i : ℕ) (x : X) → slice_get xs i ≡ Some x → drop i xs ≡ x ∷ drop (suc i) xs
 drop-there [] i x there = absurd cc
 drop-there {X = X} (y ∷ xs) zero x there = let same : y ≡ x = cc in ap (λ (z : X). z ∷ xs) same

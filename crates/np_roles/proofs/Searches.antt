@@ -1,8 +1,7 @@
 -- the first of these events that passes, or none if none does
-use Rattle.std.proofs.Common.{◌≡◌, ◌∙◌, ◌<◌, ℕ, Bool, true, false, Option, Some, None, Result, Ok, Err, refl, sym, ap, subst, arith}
+use Rattle.std.proofs.Common.{◌≡◌, ◌∙◌, ◌<◌, ℕ, Bool, true, false, Option, Some, None, refl, sym, ap, subst}
 use Rattle.std.specs.Prelude.{◌&&◌, ◌==◌, slice_get, is_ok, if◌then◌else◌}
 use Rattle.std.specs.Option.{option_map}
-use Rattle.std.proofs.lemmas.Bool.Decides.{nat_tests}
 use Rattle.np_text.specs.declared.id.SessionId.{SessionId}
 use Rattle.np_text.specs.declared.id.NodeId.{NodeId}
 use Rattle.np_text.specs.declared.id.JobId.{JobId}
@@ -102,7 +101,7 @@ module _ (c : Configuration) (s : State) (session : SessionId) where
 -- ## what passes
 
 module _ (c : Configuration) (s : State) (role : Role) where
-  and-parts : (t u : Bool) → (t && u) ≡ true → (t ≡ true) × (u ≡ true)
+  pub and-parts : (t u : Bool) → (t && u) ≡ true → (t ≡ true) × (u ≡ true)
   and-parts true true is = (refl, refl)
   and-parts true false is = absurd cc
   and-parts false u is = absurd cc
@@ -142,7 +141,7 @@ module _ (c : Configuration) (s : State) (role : Role) where
     none-left kind e none place useful = passing-none (candidate s session kind place.at) e place.there (useful-passes e useful) (none place.at place.within)
 
     -- its maker is the session
-    made-by : (other : SessionId) (e : Event) → maker_of e ≡ Some other → IsUseful c s role e → other ≡ session
+    pub made-by : (other : SessionId) (e : Event) → maker_of e ≡ Some other → IsUseful c s role e → other ≡ session
     made-by other e maker useful = one-current role s other session (ap (is_maker_of role s) (sym maker) ∙ useful.maker) current
 
     -- if none passes at any place, no event of the kind is useful

@@ -4,14 +4,16 @@
 //! A role has rows (`Rows`), which say whether an event is useful as far as the role is concerned.
 //! The candidates of a kind of event (`EventKind`) are the events of the current session that name
 //! what is in the kind's table, place by place. A candidate is tested by the machine's judge and
-//! then by its row, and the first that passes is chosen. `specs/Choices` says what a choice
-//! returns: a useful event (np_useful), or none if and only if there is none.
+//! then by its row, and the first that passes is chosen. Releases have a search of their own
+//! (`first_release`), which tests only the jobs that have a handle. `specs/Choices` says what a
+//! choice returns: a useful event (np_useful), or none if and only if there is none.
 #![tactic(auto)]
 
 mod first;
 mod handles;
 mod kind;
 mod of_kind;
+mod release;
 mod rows;
 mod session;
 
@@ -19,6 +21,7 @@ pub use first::{Candidates, first_that_passes};
 pub use handles::has_some_handle;
 pub use kind::{EventKind, JobKind, NodeKind, RequestKind, job_event, node_event, request_event};
 pub use of_kind::{first_of_kind, first_of_kinds};
+pub use release::first_release;
 pub use rows::{Rows, passes};
 pub use session::{
     choose_opening, current_session, fault_of, is_same_role, is_spoken_later, is_stopped, may_open,
