@@ -1,5 +1,6 @@
 -- a janitor's useful events are of the kinds in the order
-use Rattle.std.proofs.Common.{◌≡◌, true, false}
+use Rattle.std.proofs.Common.{◌≡◌, ◌++◌, true, false, List, [], ◌∷◌, Option, Some, None}
+use Rattle.std.specs.Prelude.{is_some}
 use Rattle.std.specs.List.{AllByRecursion}
 use Rattle.np_text.specs.declared.id.PoolId.{PoolId}
 use Rattle.np_text.specs.declared.id.Role.TheVariants.{Janitor}
@@ -8,8 +9,14 @@ use Rattle.np_event.specs.declared.event.Event.{Event}
 use Rattle.np_event.specs.declared.event.Event.TheVariants as ev
 use Rattle.np_machine.specs.State.{State}
 use Rattle.np_useful.specs.Useful.{IsUseful}
-use Rattle.np_roles.specs.Choices.{NoneOpens, NoneOf}
-use Rattle.np_janitor.specs.Order.{janitor_order}
+use Rattle.np_text.specs.declared.id.SessionId.{SessionId}
+use Rattle.np_useful.specs.Sessions.{is_current}
+use Rattle.np_roles.specs.declared.kind.EventKind.{EventKind}
+use Rattle.np_roles.specs.declared.kind.EventKind.TheVariants as kind_of
+use Rattle.np_roles.specs.declared.kind.JobKind.TheVariants as of_job
+use Rattle.np_roles.specs.Choices.{Chooses, NoneOpens, NoneOf, ChoosesOf, ChoosesOfAny}
+use Rattle.np_roles.proofs.Wholes.{kinds-choose}
+use Rattle.np_janitor.specs.Order.{janitor_order, before_finish, after_release}
 
 none : false ≡ true → ⊥
 none is = cc
@@ -50,3 +57,27 @@ module _ (c : Configuration) (s : State) (p : PoolId) (opens : NoneOpens c s (Ja
 
 pub janitor-law : (c : Configuration) (s : State) (p : PoolId) → NoneOpens c s (Janitor p) → AllByRecursion (NoneOf c s (Janitor p)) janitor_order → (e : Event) → IsUseful c s (Janitor p) e → ⊥
 janitor-law c s p opens all e useful = useless c s p opens all e useful
+
+-- ## one search after another
+
+module _ (c : Configuration) (s : State) (p : PoolId) where
+  -- nothing was found among the first kinds, and then none of the others is useful
+  any-then : (first : List EventKind) (o : Option Event) → is_some o ≡ false → ChoosesOfAny c s (Janitor p) first o → (other : List EventKind) → AllByRecursion (NoneOf c s (Janitor p)) other → AllByRecursion (NoneOf c s (Janitor p)) (first ++ other)
+  any-then [] o fails found other rest = rest
+  any-then (kind ∷ first) None fails found other rest = (found.0, any-then first None fails found.1 other rest)
+  any-then (kind ∷ first) (Some e) fails found other rest = absurd cc
+
+  -- the same after the search of one kind
+  one-then : (kind : EventKind) (o : Option Event) → is_some o ≡ false → ChoosesOf c s (Janitor p) kind o → (other : List EventKind) → AllByRecursion (NoneOf c s (Janitor p)) other → AllByRecursion (NoneOf c s (Janitor p)) (kind ∷ other)
+  one-then kind None fails found other rest = (found, rest)
+  one-then kind (Some e) fails found other rest = absurd cc
+
+  module _ (session : SessionId) (current : is_current (Janitor p) session s ≡ true) (before : Option Event) (first : ChoosesOfAny c s (Janitor p) before_finish before) (no_first : is_some before ≡ false) (finish : Option Event) (second : ChoosesOf c s (Janitor p) (kind_of.Job of_job.Finish) finish) (no_second : is_some finish ≡ false) (release : Option Event) (third : ChoosesOf c s (Janitor p) (kind_of.Job of_job.Release) release) (no_third : is_some release ≡ false) where
+    -- if nothing was found before, the last search decides
+    pub last-chooses : (o : Option Event) → ChoosesOfAny c s (Janitor p) after_release o → Chooses c s (Janitor p) o
+    last-chooses None last =
+        kinds-choose c s (Janitor p) janitor_order (janitor-law c s p) session current None
+        (any-then before_finish before no_first first (kind_of.Job of_job.Finish ∷ kind_of.Job of_job.Release ∷ after_release)
+        (one-then (kind_of.Job of_job.Finish) finish no_second second (kind_of.Job of_job.Release ∷ after_release)
+        (one-then (kind_of.Job of_job.Release) release no_third third after_release last)))
+    last-chooses (Some e) last = last

@@ -1,2 +1,3 @@
 pub mod Janitors
 pub mod Strikes
+pub mod FinishLemmas

@@ -1,14 +1,14 @@
 -- in which order a janitor's kinds of events are tried
-use Rattle.std.specs.Prelude.{List, [], ◌∷◌}
+use Rattle.std.specs.Prelude.{List, [], ◌∷◌, ◌++◌}
 use Rattle.np_roles.specs.declared.kind.EventKind.{EventKind}
 use Rattle.np_roles.specs.declared.kind.EventKind.TheVariants.{Request, Node, Job}
 use Rattle.np_roles.specs.declared.kind.RequestKind.TheVariants as of_request
 use Rattle.np_roles.specs.declared.kind.NodeKind.TheVariants as of_node
 use Rattle.np_roles.specs.declared.kind.JobKind.TheVariants as of_job
 
--- what it holds first, then what it gives back, and new locks last (own)
-abbrev pub janitor_order : List EventKind
-janitor_order =
+-- the kinds before finish: what it holds first, then what it gives back (own)
+abbrev pub before_finish : List EventKind
+before_finish =
     Node of_node.Gone
     ∷ Node of_node.Free
     ∷ Node of_node.MarkDeleting
@@ -16,8 +16,12 @@ janitor_order =
     ∷ Request of_request.Reset
     ∷ Request of_request.Unlock
     ∷ Request of_request.FailDeclined
-    ∷ Job of_job.Finish
-    ∷ Job of_job.Release
-    ∷ Request of_request.Lock
-    ∷ Node of_node.Lock
     ∷ []
+
+-- the kinds after finish and release: new locks (own)
+abbrev pub after_release : List EventKind
+after_release = Request of_request.Lock ∷ Node of_node.Lock ∷ []
+
+-- all of them, in order (own)
+abbrev pub janitor_order : List EventKind
+janitor_order = before_finish ++ Job of_job.Finish ∷ Job of_job.Release ∷ after_release

@@ -10,21 +10,26 @@ ghost use Rattle.np_machine.specs.Tables.{node_holder};
 ghost use Rattle.np_fits.specs.Fits.{Fits};
 ghost use Rattle.np_useful.specs.Cleanable.{is_cleanable};
 ghost use Rattle.np_useful.specs.Rows.{request_is, node_is, job_is, is_node_of, has_some_handle};
-ghost use Rattle.np_useful.specs.Sessions.{is_stopped};
-ghost use Rattle.np_roles.specs.Choices.{Chooses};
+ghost use Rattle.np_useful.specs.Sessions.{is_current, is_stopped};
+ghost use Rattle.np_roles.specs.declared.kind.EventKind.TheVariants.{Job};
+ghost use Rattle.np_roles.specs.declared.kind.JobKind.TheVariants.{Finish};
+ghost use Rattle.np_roles.specs.Choices.{Chooses, ChoosesOf};
 ghost use Rattle.np_janitor.specs.Order.{janitor_order};
+ghost use Rattle.np_janitor.specs.Finishes.{ChoosesFinish};
 
 use crate::cleanable::{PoolPause, is_cleanable};
 use np_event::Event;
 use np_look::Look;
 use np_roles::{
-    EventKind, JobKind, NodeKind, RequestKind, Rows, choose_opening, current_session,
-    first_of_kinds, has_some_handle, is_same_role, is_stopped, may_open,
+    EventKind, NodeKind, RequestKind, Rows, choose_opening, current_session, first_of_kinds,
+    first_release, has_some_handle, is_same_role, is_stopped, may_open, passes,
 };
-use np_text::{JobId, NodeId, PoolId, RequestId, RequestState, Role};
+use np_text::{
+    JobId, NodeId, PoolId, REQUESTERS, RequestId, RequestState, RequesterId, Role, SessionId,
+};
 
-/// The kinds in the order of the crate's table.
-const ORDER: [EventKind; 11] = [
+/// The kinds that are tried before finish, in the order of the crate's table.
+const BEFORE_FINISH: [EventKind; 7] = [
     EventKind::Node(NodeKind::Gone),
     EventKind::Node(NodeKind::Free),
     EventKind::Node(NodeKind::MarkDeleting),
@@ -32,8 +37,10 @@ const ORDER: [EventKind; 11] = [
     EventKind::Request(RequestKind::Reset),
     EventKind::Request(RequestKind::Unlock),
     EventKind::Request(RequestKind::FailDeclined),
-    EventKind::Job(JobKind::Finish),
-    EventKind::Job(JobKind::Release),
+];
+
+/// The kinds that are tried after finish and release, in the order of the crate's table.
+const AFTER_RELEASE: [EventKind; 2] = [
     EventKind::Request(RequestKind::Lock),
     EventKind::Node(NodeKind::Lock),
 ];
@@ -157,9 +164,63 @@ impl Rows for JanitorRows {
     }
 }
 
+/// The first useful finish of the requester's jobs that are not over, or `None` if the requester
+/// goes on or there is none. It tests each such job up to that one, and none of a requester that
+/// goes on.
+fn finish_for<L: Look>(
+    look: &L,
+    rows: &JanitorRows,
+    session: SessionId,
+    requester: RequesterId,
+) -> Option<Event>
+    requires fits { Fits (L.site look.now) (L.state look.now) }
+    requires known { rows.now.known.paused ≡
+        is_paused (L.site look.now) (L.state look.now) rows.now.known.pool }
+    requires current { is_current (Janitor rows.now.known.pool) session (L.state look.now) ≡ true }
+    ensures { ChoosesFinish (L.site look.now) (L.state look.now) rows.now.known.pool session
+        requester result }
+{
+    if !is_stopped(look, Role::Requester(requester)) {
+        return None;
+    }
+    for at in 0..look.jobs() {
+        let Some(job) = look.unfinished(requester, at) else {
+            return None;
+        };
+        let finish = Event::Finish { session, job };
+        if passes(look, rows, finish) {
+            return Some(finish);
+        }
+    }
+    None
+}
+
+/// The first useful finish, by requester and then by job, or `None` if and only if there is none.
+/// It scans the requesters, with the configuration's faults for each that lost a session, and tests
+/// the jobs that are not over of those that stopped for good.
+fn first_finish<L: Look>(look: &L, rows: &JanitorRows, session: SessionId) -> Option<Event>
+    requires fits { Fits (L.site look.now) (L.state look.now) }
+    requires known { rows.now.known.paused ≡
+        is_paused (L.site look.now) (L.state look.now) rows.now.known.pool }
+    requires current { is_current (Janitor rows.now.known.pool) session (L.state look.now) ≡ true }
+    ensures { ChoosesOf (L.site look.now) (L.state look.now) (Janitor rows.now.known.pool)
+        (Job Finish) result }
+{
+    look.config().soundness();
+    for at in 0..REQUESTERS as u16 {
+        let found = finish_for(look, rows, session, RequesterId(at));
+        if found.is_some() {
+            return found;
+        }
+    }
+    None
+}
+
 /// A useful event of the pool's janitor, the first in the order of the crate's table, or `None` if
-/// and only if there is none. Its cost grows with the number of requests, nodes and jobs, and, if
-/// the janitor has no session, with the number of sessions; it never scans pairs of them.
+/// and only if there is none. Its cost grows with the number of requests and nodes, with the jobs
+/// that are not over of the requesters that stopped for good, with the handles that jobs have, and,
+/// if the janitor has no session, with the number of sessions. It never scans pairs of them if the
+/// reader `unfinished` is a lookup.
 pub fn choose_janitor<L: Look>(look: &L, pool: PoolId) -> Option<Event>
     requires fits { Fits (L.site look.now) (L.state look.now) }
     requires pool { is_role (L.site look.now) (Janitor pool) ≡ true }
@@ -174,5 +235,17 @@ pub fn choose_janitor<L: Look>(look: &L, pool: PoolId) -> Option<Event>
             paused: look.is_paused(pool),
         },
     };
-    first_of_kinds(look, &rows, session, &ORDER)
+    let found = first_of_kinds(look, &rows, session, &BEFORE_FINISH);
+    if found.is_some() {
+        return found;
+    }
+    let found = first_finish(look, &rows, session);
+    if found.is_some() {
+        return found;
+    }
+    let found = first_release(look, &rows, session);
+    if found.is_some() {
+        return found;
+    }
+    first_of_kinds(look, &rows, session, &AFTER_RELEASE)
 }

@@ -23,12 +23,14 @@
 //! The reaper first expires sessions, the oldest first, which frees what they hold, and then crashes
 //! those whose fault is due.
 //!
-//! In a state of `r` requests, `n` nodes, `j` jobs and `s` sessions, a janitor's choice determines
-//! once whether the pool is paused, and then tests each request, node and job a few times: its cost
-//! grows with `r + n + j`, and with the nodes and requests that it holds itself. A test of a node
-//! determines whether another pool is paused only if the janitor waits at a node of that pool. The
-//! cost of the reaper's choice grows with `s`, and with the faults of the configuration for each
-//! session that is not over.
+//! In a state of `r` requests, `n` nodes and `s` sessions, a janitor's choice determines once
+//! whether the pool is paused, and then tests each request and node a few times, the finish of each
+//! job that is not over of a requester that stopped for good, and the release of each job that has a
+//! handle: its cost grows with `r + n`, with the number of those jobs, and with the nodes and
+//! requests that it holds itself. The jobs that are not over are found by a reader of `Look`, which
+//! is a lookup if the state keeps an index. A test of a node determines whether another pool is
+//! paused only if the janitor waits at a node of that pool. The cost of the reaper's choice grows
+//! with `s`, and with the faults of the configuration for each session that is not over.
 #![tactic(auto)]
 
 mod cleanable;

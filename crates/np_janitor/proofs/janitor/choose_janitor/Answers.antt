@@ -1,7 +1,8 @@
+use Rattle.std.proofs.Common.{sym}
 use Rattle.np_text.specs.declared.id.Role.TheVariants.{Janitor}
-use Rattle.np_roles.proofs.Wholes.{opening-chooses, kinds-choose}
+use Rattle.np_roles.proofs.Wholes.{opening-chooses}
 use Rattle.np_janitor.specs.Order.{janitor_order}
-use Rattle.np_janitor.proofs.Janitors.{janitor-law}
+use Rattle.np_janitor.proofs.Janitors.{janitor-law, last-chooses}
 use Rattle.np_janitor.proofs.janitor.choose_janitor.Goals as goal
 
 pub returns-in_default : goal.returns-in_default
@@ -12,6 +13,8 @@ returns-in_default g c =
 
 pub returns : goal.returns
 returns g c =
-    kinds-choose (g.L.Look.site c.args.look.now) (g.L.Look.state c.args.look.now) (Janitor c.args.pool) janitor_order
-    (janitor-law (g.L.Look.site c.args.look.now) (g.L.Look.state c.args.look.now) c.args.pool)
-    c.in-Some.session c.in-Some.ensures c.first_of_kinds.result c.first_of_kinds.ensures
+    last-chooses (g.L.Look.site c.args.look.now) (g.L.Look.state c.args.look.now) c.args.pool c.in-Some.session c.in-Some.ensures
+    c.first_of_kinds-found.result c.first_of_kinds-found.ensures (sym c.if-is_some.ensures)
+    c.first_finish-found.result c.first_finish-found.ensures (sym c.if-is_some-2.ensures)
+    c.first_release-found.result c.first_release-found.ensures (sym c.if-is_some-3.ensures)
+    c.first_of_kinds.result c.first_of_kinds.ensures
