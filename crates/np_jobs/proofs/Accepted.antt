@@ -1,6 +1,6 @@
 -- an accepted event of a requester's session on a job: the job is the requester's and not over
 use Rattle.std.proofs.Common.{◌≡◌, refl, Option, Some, None, Result, Ok, Err, Bool, true, false}
-use Rattle.std.specs.Prelude.{◌&&◌, ◌||◌, ◌==◌, not, slice_get}
+use Rattle.std.specs.Prelude.{◌==◌, not, slice_get}
 use Rattle.np_text.specs.declared.id.SessionId.{SessionId}
 use Rattle.np_text.specs.declared.id.JobId.{JobId}
 use Rattle.np_text.specs.declared.id.RequesterId.{RequesterId}
@@ -16,12 +16,13 @@ use Rattle.np_event.specs.declared.reply.Refusal.{Refusal}
 use Rattle.np_event.specs.declared.reply.Refusal.TheVariants as no
 use Rattle.np_lists.specs.Refusals.{◌>>=◌}
 use Rattle.np_lists.proofs.RefusalLemmas.{need-ok, then-ok}
-use Rattle.np_machine.specs.Kinds.{is_new, is_asked, is_using, is_over}
+use Rattle.np_machine.specs.Kinds.{is_new, is_asked, is_over}
 use Rattle.np_machine.specs.Semaphore.{is_finishable}
 use Rattle.np_machine.specs.State.{State}
 use Rattle.np_machine.specs.Step.{judge}
 use Rattle.np_machine.specs.Tests.{maker, own_job, wrong_job}
 use Rattle.np_look.specs.Readers.{is_unfinished_job}
+use Rattle.np_roles.proofs.Unfinished.{finishable_later}
 
 -- ## phases
 
@@ -36,12 +37,6 @@ asked_later phase.New is = absurd cc
 asked_later phase.Asked is = refl
 asked_later phase.Using is = absurd cc
 asked_later phase.Over is = absurd cc
-
-finishable_later : (p : Phase) (failed busy : Bool) → ((is_asked p && failed) || (is_using p && busy)) ≡ true → is_over p ≡ false
-finishable_later phase.New failed busy is = absurd cc
-finishable_later phase.Asked failed busy is = refl
-finishable_later phase.Using failed busy is = refl
-finishable_later phase.Over failed busy is = absurd cc
 
 not_over : (b : Bool) → not b ≡ true → b ≡ false
 not_over true is = absurd cc

@@ -14,9 +14,11 @@ use Rattle.np_machine.specs.State.{State}
 use Rattle.np_useful.specs.Useful.{IsUseful}
 use Rattle.np_useful.specs.Sessions.{is_current}
 use Rattle.np_roles.specs.declared.kind.EventKind.{EventKind}
-use Rattle.np_roles.specs.Choices.{Chooses, ChoosesOfAny, NoneOpens, NoneOf}
+use Rattle.np_roles.specs.declared.kind.EventKind.TheVariants.{Job}
+use Rattle.np_roles.specs.declared.kind.JobKind.TheVariants as of_job
+use Rattle.np_roles.specs.Choices.{Chooses, ChoosesOf, ChoosesOfAny, NoneOpens, NoneOf}
 use Rattle.np_roles.proofs.Wholes.{kinds-choose}
-use Rattle.np_jobs.specs.Steps.{steps, rest}
+use Rattle.np_jobs.specs.Steps.{steps, on_nodes, rest}
 
 none : false ≡ true → ⊥
 none is = cc
@@ -59,14 +61,15 @@ module _ (c : Configuration) (s : State) (q : RequesterId) (opens : NoneOpens c 
 pub requester-law : (c : Configuration) (s : State) (q : RequesterId) → NoneOpens c s (Requester q) → AllByRecursion (NoneOf c s (Requester q)) (steps ++ rest) → (e : Event) → IsUseful c s (Requester q) e → ⊥
 requester-law c s q opens all e useful = useless c s q opens all e useful
 
--- ## both passes
+-- ## all passes
 
 all-kinds : (c : Configuration) (s : State) (role : Role) (one other : List EventKind) → AllByRecursion (NoneOf c s role) one → AllByRecursion (NoneOf c s role) other → AllByRecursion (NoneOf c s role) (one ++ other)
 all-kinds c s role [] other first second = second
 all-kinds c s role (kind ∷ one) other first second = (first.0, all-kinds c s role one other first.1 second)
 
--- if no step is useful, the rest decides
-pub both-choose : (c : Configuration) (s : State) (q : RequesterId) (session : SessionId) → is_current (Requester q) session s ≡ true → (found : Option Event) → ChoosesOfAny c s (Requester q) steps found → is_some found ≡ false → (o : Option Event) → ChoosesOfAny c s (Requester q) rest o → Chooses c s (Requester q) o
-both-choose c s q session current None first is None second = kinds-choose c s (Requester q) (steps ++ rest) (requester-law c s q) session current None (all-kinds c s (Requester q) steps rest first second)
-both-choose c s q session current None first is (Some e) second = second
-both-choose c s q session current (Some e) first is o second = absurd cc
+-- if no step and no release is useful, the kinds on nodes decide
+pub all-choose : (c : Configuration) (s : State) (q : RequesterId) (session : SessionId) → is_current (Requester q) session s ≡ true → (found : Option Event) → ChoosesOfAny c s (Requester q) steps found → is_some found ≡ false → (release : Option Event) → ChoosesOf c s (Requester q) (Job of_job.Release) release → is_some release ≡ false → (o : Option Event) → ChoosesOfAny c s (Requester q) on_nodes o → Chooses c s (Requester q) o
+all-choose c s q session current None first is None second fails None third = kinds-choose c s (Requester q) (steps ++ rest) (requester-law c s q) session current None (all-kinds c s (Requester q) steps rest first (second, third))
+all-choose c s q session current None first is None second fails (Some e) third = third
+all-choose c s q session current None first is (Some e) second fails o third = absurd cc
+all-choose c s q session current (Some e) first is release second fails o third = absurd cc

@@ -31,7 +31,7 @@ use Rattle.np_roles.proofs.Searches.{useful-passes}
 use Rattle.np_roles.proofs.Openings.{same-role}
 use Rattle.np_jobs.specs.Steps.{steps, IsPassed, ChoosesStep}
 use Rattle.np_jobs.proofs.Accepted.{IsOpen, submit-open, acquire-open, take-open, finish-open}
-use Rattle.np_jobs.proofs.WindowLemmas.{to}
+use Rattle.np_roles.proofs.Unfinished.{among}
 
 later : (n : ℕ) → 0 < n → (n == 0) ≡ false
 later n is = grind (arith, nat_tests)
@@ -66,7 +66,7 @@ module _ (c : Configuration) (s : State) (q : RequesterId) (session : SessionId)
   module _ (at : ℕ) (ends : (k : ℕ) (j : JobId) → unfinished_of c q k s ≡ Some j → k < at) (passed : (k : ℕ) → k < at → (j : JobId) → unfinished_of c q k s ≡ Some j → IsPassed c s q session j) where
     is_passed : (j : JobId) → IsOpen c s q j → IsPassed c s q session j
     is_passed j goes_on =
-        let place = to c q 0 s.jobs j.0 goes_on.kept j (omega arith) goes_on.there goes_on.unfinished in
+        let place = among c q 0 s.jobs j.0 goes_on.kept j (omega arith) goes_on.there goes_on.unfinished in
         passed place.at (ends place.at j place.there) j place.there
 
     apart : (e : Event) → passes c s (Requester q) e ≡ false → IsUseful c s (Requester q) e → ⊥

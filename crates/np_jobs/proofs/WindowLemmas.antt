@@ -1,11 +1,10 @@
 -- the jobs of a requester that are not over, by their place among them
-use Rattle.std.proofs.Common.{◌≡◌, ◌<◌, ℕ, zero, suc, ◌+◌, List, [], ◌∷◌, length, take, drop, refl, sym, ap, subst, ◌∙◌, arith, Option, Some, None, Bool, true, false, cond, ◌≤◌}
+use Rattle.std.proofs.Common.{◌≡◌, ◌<◌, ℕ, zero, suc, ◌+◌, List, [], ◌∷◌, take, drop, refl, sym, ap, ◌∙◌, arith, Option, Some, None, Bool, true, false, cond}
 use Rattle.std.specs.Prelude.{slice_get, count_by, nat_lt, ◌&&◌, if◌then◌else◌}
 use Rattle.std.specs.List.{zip}
 use Rattle.std.specs.Option.{option_map_or}
 use Rattle.std.proofs.lemmas.List.Sums.{sum_by-cons}
 use Rattle.std.proofs.lemmas.Bool.Decides.{nat_tests}
-use Rattle.std.proofs.lemmas.Option.{slice_get_within}
 use Rattle.np_text.specs.declared.id.JobId.{JobId}
 use Rattle.np_text.specs.declared.id.RequesterId.{RequesterId}
 use Rattle.np_site.specs.Configuration.{Configuration}
@@ -13,6 +12,7 @@ use Rattle.np_site.specs.declared.row.Job.{Job}
 use Rattle.np_record.specs.declared.record.JobRecord.{JobRecord}
 use Rattle.np_machine.specs.State.{State}
 use Rattle.np_look.specs.Readers.{is_unfinished_job, unfinished_from}
+use Rattle.np_roles.proofs.Unfinished.{among}
 use Rattle.np_useful.specs.Window.{is_unfinished, jobs_of, window_of, is_in_window}
 
 -- ## the configuration's rows from a number on
@@ -113,38 +113,6 @@ module _ (c : Configuration) (q : RequesterId) where
   from number (job ∷ rows) (kept ∷ jobs) at j is found =
       from_here number job rows kept jobs j (some_at c.jobs number job rows is) (λ later told. from (suc number) rows jobs later j (next_some c.jobs number job rows is) told) (is_unfinished q (job, kept)) at refl found
 
-  -- such a job has a place among them
-  pub record IsAmong (number : ℕ) (jobs : List JobRecord) (j : JobId) : Type 0 where
-    pub at : ℕ
-    pub there : slice_get (unfinished_from c q number jobs) at ≡ Some j
-
-  among-by : (number : ℕ) (first : JobRecord) (jobs : List JobRecord) (j : JobId) (b : Bool) → is_unfinished_job c q (record { 0 = number }) first ≡ b → IsAmong (suc number) jobs j → IsAmong number (first ∷ jobs) j
-  among-by number first jobs j true passes later = record { at = suc later.at; there = rw passes later.there }
-  among-by number first jobs j false fails later = record { at = later.at; there = rw fails later.there }
-
-  pub to : (number : ℕ) (jobs : List JobRecord) (i : ℕ) (kept : JobRecord) (j : JobId) → j.0 ≡ number + i → slice_get jobs i ≡ Some kept → is_unfinished_job c q j kept ≡ true → IsAmong number jobs j
-  to number [] i kept j place there is = absurd cc
-  to number (first ∷ jobs) zero kept j place there is =
-      let same : first ≡ kept = cc in
-      let here : number ≡ j.0 = omega (arith, place) in
-      let id : record { 0 = number } ≡ j = ap (λ (n : ℕ). record { 0 = n }) here in
-      let passes : is_unfinished_job c q (record { 0 = number }) kept ≡ true = subst (λ (x : JobId). is_unfinished_job c q x kept ≡ true) (sym id) is in
-      record { at = 0; there = rw (same, passes) (ap (λ (x : JobId). Some x) id) }
-  to number (first ∷ jobs) (suc i) kept j place there is =
-      among-by number first jobs j (is_unfinished_job c q (record { 0 = number }) first) refl (to (suc number) jobs i kept j (omega (arith, place)) there is)
-
-  few-by : (number : ℕ) (kept : JobRecord) (jobs : List JobRecord) (b : Bool) → is_unfinished_job c q (record { 0 = number }) kept ≡ b → length (unfinished_from c q (suc number) jobs) ≤ length jobs → length (unfinished_from c q number (kept ∷ jobs)) ≤ length (kept ∷ jobs)
-  few-by number kept jobs true passes later = rw passes (omega (arith, later))
-  few-by number kept jobs false fails later = rw fails (omega (arith, later))
-
-  -- there are no more of them than jobs
-  pub few : (number : ℕ) (jobs : List JobRecord) → length (unfinished_from c q number jobs) ≤ length jobs
-  few number [] = omega arith
-  few number (kept ∷ jobs) = few-by number kept jobs (is_unfinished_job c q (record { 0 = number }) kept) refl (few (suc number) jobs)
-
-  pub below-jobs : (jobs : List JobRecord) (k : ℕ) (j : JobId) → slice_get (unfinished_from c q 0 jobs) k ≡ Some j → k < length jobs
-  below-jobs jobs k j found = omega (arith, few 0 jobs, slice_get_within (unfinished_from c q 0 jobs) k j found)
-
 -- ## the window
 
 zip-at : {X Y : Type 0} (xs : List X) (ys : List Y) (i : ℕ) (x : X) (y : Y) → slice_get (zip xs ys) i ≡ Some (x, y) → (slice_get xs i ≡ Some x) × (slice_get ys i ≡ Some y)
@@ -172,7 +140,7 @@ module _ (c : Configuration) (s : State) (q : RequesterId) where
   pub window-place : (j : JobId) → is_in_window c s q j ≡ true → (at : ℕ) × ((at < window_of c q) × (slice_get (unfinished_from c q 0 s.jobs) at ≡ Some j))
   window-place j is =
       let row = window_row j (slice_get (jobs_of c s) j.0) refl is in
-      let place = to c q 0 s.jobs j.0 row.0 j (omega arith) row.1.0 row.1.1 in
+      let place = among c q 0 s.jobs j.0 row.0 j (omega arith) row.1.0 row.1.1 in
       let within : nat_lt place.at (window_of c q) ≡ true = sym (in-window place.at j place.there) ∙ is in
       (place.at, (grind (arith, nat_tests), place.there))
 
@@ -190,12 +158,3 @@ module _ (c : Configuration) (s : State) (q : RequesterId) where
       let one : found ≡ j = ap (λ (n : ℕ). record { 0 = n }) same in
       let test : nat_lt at (window_of c q) ≡ true = grind (arith, nat_tests) in
       in-window at j (there ∙ ap (λ (x : JobId). Some x) one) ∙ test
-
--- a place that has a member is before the end
-past_end : {X : Type 0} (xs : List X) (i : ℕ) → slice_get xs i ≡ None → length xs ≤ i
-past_end [] i is = omega arith
-past_end (x ∷ xs) zero is = absurd cc
-past_end (x ∷ xs) (suc i) is = omega (arith, past_end xs i is)
-
-pub before-end : {X : Type 0} (xs : List X) (at k : ℕ) (x : X) → slice_get xs at ≡ None → slice_get xs k ≡ Some x → k < at
-before-end xs at k x none some = omega (arith, past_end xs at none, slice_get_within xs k x some)

@@ -11,13 +11,17 @@ use crate::rows::RequesterRows;
 use crate::unfinished::next_with_unfinished;
 use np_event::Event;
 use np_look::Look;
-use np_roles::{EventKind, JobKind, NodeKind, choose_opening, current_session, first_of_kinds};
+use np_roles::{
+    EventKind, NodeKind, choose_opening, current_session, first_of_kinds, first_release,
+};
 use np_text::{EndAs, RequesterId, Role};
 
 /// A useful event of the requester, or `None` if and only if there is none. It takes no memory. It
-/// tests four events for each of the requester's jobs that is not over, then one for each job, then
-/// four for each node, up to the first that is useful. An event on a node costs a few lookups,
-/// however many requests there are.
+/// looks up each of the requester's jobs that is not over, and judges at most three events for each
+/// of these that has begun or is in the window. Then it judges one event for each handle that a job
+/// has and four for each node, up to the first that is useful. An event on a node costs a few
+/// lookups, however many requests there are; how a node that the requester uses is to be left is
+/// found by a search of all jobs.
 pub fn choose_requester<L: Look>(look: &L, requester: RequesterId) -> Option<Event>
     requires there { is_role (L.site look.now) (Requester requester) ≡ true }
     requires reached { IsReached (L.site look.now) (L.state look.now) }
@@ -32,12 +36,15 @@ pub fn choose_requester<L: Look>(look: &L, requester: RequesterId) -> Option<Eve
     if found.is_some() {
         return found;
     }
+    let release = first_release(look, &rows, session);
+    if release.is_some() {
+        return release;
+    }
     first_of_kinds(
         look,
         &rows,
         session,
         &[
-            EventKind::Job(JobKind::Release),
             EventKind::Node(NodeKind::End(EndAs::Used)),
             EventKind::Node(NodeKind::End(EndAs::Hold)),
             EventKind::Node(NodeKind::Unlock),

@@ -4,12 +4,15 @@
 //!
 //! | What | Tried on |
 //! |---|---|
-//! | finish, take, acquire, submit | each of its jobs that is not over, the first job first |
-//! | release | each job |
+//! | finish, take, acquire, submit | each of its jobs that has begun or is in the window, in order |
+//! | release | each job that has a handle |
 //! | end-node, unlock-node, lock-node | each node, by number |
 //! | open a session | if it has none |
 //!
-//! So a job that is under way comes before one that begins, and what is no longer needed is given
+//! A job that is over, or that is new and past the window, has no useful event of the first four, and
+//! costs one lookup at most. For the others only the events that their phase allows are judged.
+//!
+//! A job that is under way comes before one that begins, and what is no longer needed is given
 //! back before more is locked. Which events are useful is defined in np_useful.
 #![tactic(auto)]
 

@@ -14,7 +14,7 @@ use np_site::Job;
 use np_text::{JobId, Phase, RequestState, RequesterId};
 
 /// How many jobs the requester works on at the same time.
-fn window(config: &Config, requester: RequesterId) -> u32
+pub(crate) fn window(config: &Config, requester: RequesterId) -> u32
     ensures { result ≡ window_of config.now requester }
 {
     match config.requester(requester) {

@@ -2,7 +2,7 @@ use Rattle.std.proofs.Common.{◌++◌, sym}
 use Rattle.np_text.specs.declared.id.Role.TheVariants.{Requester}
 use Rattle.np_roles.proofs.Wholes.{opening-chooses}
 use Rattle.np_jobs.specs.Steps.{steps, rest}
-use Rattle.np_jobs.proofs.Made.{requester-law, both-choose}
+use Rattle.np_jobs.proofs.Made.{requester-law, all-choose}
 use Rattle.np_jobs.proofs.choose.choose_requester.Goals as goal
 
 pub returns-in_default : goal.returns-in_default
@@ -13,5 +13,6 @@ returns-in_default g c =
 
 pub returns : goal.returns
 returns g c =
-    both-choose (g.L.Look.site c.args.look.now) (g.L.Look.state c.args.look.now) c.args.requester c.in-Some.session c.in-Some.ensures
-    c.next_with_unfinished-found.result c.next_with_unfinished-found.ensures (sym c.if-is_some.ensures) c.first_of_kinds.result c.first_of_kinds.ensures
+    all-choose (g.L.Look.site c.args.look.now) (g.L.Look.state c.args.look.now) c.args.requester c.in-Some.session c.in-Some.ensures
+    c.next_with_unfinished-found.result c.next_with_unfinished-found.ensures (sym c.if-is_some.ensures)
+    c.first_release-release.result c.first_release-release.ensures (sym c.if-is_some-2.ensures) c.first_of_kinds.result c.first_of_kinds.ensures
