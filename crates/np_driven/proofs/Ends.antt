@@ -34,6 +34,16 @@ module _ (c : Configuration) (history : List Entry) where
       (λ (later : Contains ends end). round-of (next_number n player.work) players ends each.1 are.1 (All-right (AreNamed c history) (driving_in player.driving) (drivings_of players) named) end later)
       (member-cases first ends end there)
 
+  -- some player's round came to this end
+  pub end-plays : (players : List Player) (ends : List PlayerEnd) → EachPlaysFrom c history players ends → (end : PlayerEnd) → Contains ends end → (player : Player) × PlaysFrom c history player end
+  end-plays [] [] each end there = no-member end there
+  end-plays [] (first ∷ ends) each end there = absurd each
+  end-plays (player ∷ players) [] each end there = absurd each
+  end-plays (player ∷ players) (first ∷ ends) each end there = ⊎_elim
+      (λ (same : first ≡ end). (player, subst (PlaysFrom c history player) same each.0))
+      (λ (later : Contains ends end). end-plays players ends each.1 end later)
+      (member-cases first ends end there)
+
   -- ## numbers
 
   number-kept : (n : ℕ) (work : Work) (before now : Option Driving) (moves : List Move) → Drove moves before now → IsNumbered n work before → IsNumbered n work now

@@ -1,7 +1,6 @@
 -- Swept pairs: what a sweep adds, and that none goes.
-use Rattle.std.proofs.Common.{◌≡◌, ◌∙◌, ℕ, ◌||◌, Bool, true, false, cond, List, [], ◌∷◌, ◌++◌, Ok, Err, refl, sym, ap, subst, eq-eqb}
+use Rattle.std.proofs.Common.{◌≡◌, ◌∙◌, ℕ, Bool, true, false, cond, List, [], ◌∷◌, ◌++◌, Ok, Err, refl, sym, ap, subst, eq-eqb}
 use Rattle.std.specs.Prelude.{slice_get}
-use Rattle.std.specs.List.{list_any}
 use Rattle.std.proofs.lemmas.Bool.{or_left, or_right}
 use Rattle.np_text.specs.declared.id.SessionId.{SessionId}
 use Rattle.np_text.specs.declared.id.NodeId.{NodeId}
@@ -11,6 +10,7 @@ use Rattle.np_event.specs.declared.event.Event.TheVariants as ev
 use Rattle.np_event.specs.declared.entry.Entry.{Entry}
 use Rattle.np_desk.specs.History.{StartsWith}
 use Rattle.np_lists.specs.Change.{insert_before}
+use Rattle.np_lists.proofs.FilterLemmas.{list_any-insert_before}
 use Rattle.np_machine.specs.declared.state.Swept.{Swept}
 use Rattle.np_machine.specs.State.{State, start}
 use Rattle.np_machine.specs.Tables.{session_of, request_in, node_in}
@@ -28,19 +28,6 @@ use Rattle.np_driven.proofs.NodeRecords.{state_after-append}
 
 -- ## a pair more
 
-or_swap : (a b c : Bool) → (a || (b || c)) ≡ (b || (a || c))
-or_swap true true c = refl
-or_swap true false c = refl
-or_swap false b c = refl
-
-any-by : {X : Type 0} (q : X → Bool) (new x : X) (xs ys : List X) (b : Bool) → list_any q ys ≡ (q new || list_any q xs) → list_any q (cond b (new ∷ x ∷ xs) (x ∷ ys)) ≡ (q new || (q x || list_any q xs))
-any-by q new x xs ys true later = refl
-any-by q new x xs ys false later = ap (λ (b : Bool). q x || b) later ∙ or_swap (q x) (q new) (list_any q xs)
-
-any-insert_before : {X : Type 0} (q p : X → Bool) (new : X) (xs : List X) → list_any q (insert_before p new xs) ≡ (q new || list_any q xs)
-any-insert_before q p new [] = refl
-any-insert_before q p new (x ∷ xs) = any-by q new x xs (insert_before p new xs) (p x) (any-insert_before q p new xs)
-
 abbrev pair : NodeId → ℕ → Swept
 pair n x = record { node = n; server = x }
 
@@ -48,7 +35,7 @@ itself : (n : NodeId) (x : ℕ) → is_pair n x (pair n x) ≡ true
 itself n x = rw (eq-eqb n.0 n.0 refl, eq-eqb x x refl) refl
 
 inserted : (n : NodeId) (x : ℕ) (swept : List Swept) → is_swept n x (insert_before (is_pair_after n x) (pair n x) swept) ≡ true
-inserted n x swept = any-insert_before (is_pair n x) (is_pair_after n x) (pair n x) swept ∙ or_left (is_pair n x (pair n x)) (is_swept n x swept) (itself n x)
+inserted n x swept = list_any-insert_before (is_pair n x) (is_pair_after n x) (pair n x) swept ∙ or_left (is_pair n x (pair n x)) (is_swept n x swept) (itself n x)
 
 pair-there_by : (n : NodeId) (x : ℕ) (swept : List Swept) (b : Bool) → is_swept n x swept ≡ b → is_swept n x (cond b swept (insert_before (is_pair_after n x) (pair n x) swept)) ≡ true
 pair-there_by n x swept true is = is
@@ -60,7 +47,7 @@ pair-there n x swept = pair-there_by n x swept (is_swept n x swept) refl
 
 pair-keeps_by : (n m : NodeId) (x y : ℕ) (swept : List Swept) (b : Bool) → is_swept m y swept ≡ true → is_swept m y (cond b swept (insert_before (is_pair_after n x) (pair n x) swept)) ≡ true
 pair-keeps_by n m x y swept true is = is
-pair-keeps_by n m x y swept false is = any-insert_before (is_pair m y) (is_pair_after n x) (pair n x) swept ∙ or_right (is_pair m y (pair n x)) (is_swept m y swept) is
+pair-keeps_by n m x y swept false is = list_any-insert_before (is_pair m y) (is_pair_after n x) (pair n x) swept ∙ or_right (is_pair m y (pair n x)) (is_swept m y swept) is
 
 -- ## what an event leaves
 

@@ -5,8 +5,8 @@
 //! of what they drive, `specs/Round` what a round of all players is, as lists of moves at one
 //! history (np_trace) and without threads, `specs/Servers` what became of a driver's servers in it,
 //! `specs/Makers` which role its entries are of. `law` states that such a round continues a driven
-//! journal, that each entry is of its maker's role, and why servers left or stayed. np_rounds plays
-//! such rounds over threads.
+//! journal, that each entry of a worker's round is of a role that the worker acts for, and why
+//! servers left or stayed. np_rounds plays such rounds over threads.
 //!
 //! A report is the first one for its start, since a node's attempts only rise and its number is not
 //! used again (`proofs/Once`), and since only the pool's own worker acts for its launcher.

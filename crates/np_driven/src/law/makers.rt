@@ -4,16 +4,18 @@ ghost use Rattle.std.specs.Prelude.{List, ℕ, Bool, Contains};
 ghost use Rattle.np_site.specs.Configuration.{Configuration};
 ghost use Rattle.np_event.specs.declared.entry.Entry.{Entry};
 ghost use Rattle.np_driven.specs.Makers.{IsOfWorker};
-ghost use Rattle.np_driven.specs.Players.{HaveDriven, Player};
-ghost use Rattle.np_driven.specs.Round.{IsRound, PlayerEnd};
+ghost use Rattle.np_driven.specs.Players.{Player};
+ghost use Rattle.np_driven.specs.Round.{IsRound, PlayerEnd, PlaysFrom};
 
-/// Each entry that a player made in a round is of a role that the player acts for: the session that
+/// Each entry that a worker's round makes is of a role that the worker acts for: the session that
 /// makes it is of the role, a session that it opens is of the role, and only the reaper crashes and
-/// expires sessions.
+/// expires sessions. The same holds for each player of a round of all players.
 pub fn each_entry_is_of_its_makers_role()
-    ensures { (c : Configuration) (history later : List Entry) (players now : List Player)
+    ensures worker { (c : Configuration) (history : List Entry) (player : Player)
+        (end : PlayerEnd) → PlaysFrom c history player end →
+        (x : ℕ) → Contains end.sight.mine x → IsOfWorker c end.sight.seen player.work x }
+    ensures round { (c : Configuration) (history later : List Entry) (players now : List Player)
         (is_cut : Bool) (round : IsRound c history later players now is_cut) →
-        HaveDriven c history players →
         (end : PlayerEnd) → Contains round.ends end → (x : ℕ) → Contains end.sight.mine x →
         IsOfWorker c end.sight.seen end.player.work x }
 {}
