@@ -12,8 +12,7 @@ ghost use Rattle.np_audit.specs.Entries.{later_lines, leading_events};
 use crate::agreement::common_lines;
 use crate::entries::{leading_events, split_line};
 use np_config::{Config, a_worked_text_is_read_and_printed};
-use np_json::{ConfigFault, ConfigRead};
-use np_report::{Script, text_of_script};
+use np_report::{Script, read_config, text_of_script};
 use np_text::NoMemory;
 use std::alloc::Global;
 
@@ -32,16 +31,6 @@ fn there_is_a_text()
     ensures { BeginsAText [] }
 {
     a_worked_text_is_read_and_printed();
-}
-
-fn read_config(alloc: Global, bytes: &[u8]) -> Result<Result<Config, ConfigFault>, NoMemory>
-    ensures { IfOk result (λ read. read ≡ reads bytes.now) }
-{
-    match Config::from_json(alloc, bytes) {
-        Ok(config) => Ok(Ok(config)),
-        Err(ConfigRead::Fault(fault)) => Ok(Err(fault)),
-        Err(ConfigRead::NoMemory) => Err(NoMemory),
-    }
 }
 
 /// The Text of the run whose entries come after the first line of `rest`.

@@ -20,4 +20,4 @@ pub use law::{a_script_plays_safely, a_text_tells_its_run, the_first_line_at_fau
 pub use lines::{FromLine, LinesFault, read_lines};
 pub use played::{Machine, play, text_of_script};
 pub use print::text;
-pub use script::{EventList, Script, ScriptFault, read_script};
+pub use script::{EventList, Script, ScriptFault, read_config, read_script};

@@ -43,7 +43,8 @@ impl FromLine for Event {
     }
 }
 
-fn read_config(alloc: Global, bytes: &[u8]) -> Result<Result<Config, ConfigFault>, NoMemory>
+/// Reads a configuration, or its first fault.
+pub fn read_config(alloc: Global, bytes: &[u8]) -> Result<Result<Config, ConfigFault>, NoMemory>
     ensures { IfOk result (λ read. read ≡ reads bytes.now) }
 {
     match Config::from_json(alloc, bytes) {
