@@ -1,5 +1,5 @@
 -- what the command `audit` does
-use Rattle.std.specs.Prelude.{◌≡◌, ◌<◌, ◌⊎◌, ℕ, Bool, true, false, List, ◌++◌, codes, decimal, IfSome, length, nat_lt}
+use Rattle.std.specs.Prelude.{◌≡◌, ◌⊎◌, ℕ, Bool, true, false, List, ◌++◌, codes, decimal, IfSome, length, nat_lt}
 use Rattle.np_io.specs.Counts.{Rose}
 use Rattle.np_io.specs.Facts.{SourceFacts, SinkFacts, IsWritten}
 use Rattle.np_text.specs.Lines.{line}
@@ -7,7 +7,8 @@ use Rattle.np_audit.specs.Audit.{IsAText, IsNoText}
 use Rattle.np_top.specs.declared.ending.Ending.{Ending}
 use Rattle.np_top.specs.declared.ending.Ending.TheVariants as ending
 use Rattle.np_top.specs.Input.{IsInput, Stops, most}
-use Rattle.np_top.specs.Told.{IsTold, EndsSo, read_line, long_line, memory_line}
+use Rattle.np_top.specs.Failures.{ShowsFailures}
+use Rattle.np_top.specs.Told.{IsTold, EndsSo}
 
 -- ## the lines
 
@@ -71,14 +72,8 @@ pub record Audits {S K E : Type 0} (s : S → SourceFacts) (k : K → SinkFacts)
   pub yes : status ≡ 0 → InputIsText (s source) (s source_now) × IsWritten (k out) (k out_now) yes_line × (err_now ≡ err)
   -- status 8: the input is no such Text, the number of its first line at fault is on err, and nothing on out
   pub no : status ≡ 8 → (line : List ℕ) × InputIsNoText (s source) (s source_now) line × IsWritten (e err) (e err_now) line × (out_now ≡ out)
-  -- status 5: a read failed, or too many bytes came; err says which
-  pub read : status ≡ 5 → (out_now ≡ out)
-      × ((Rose (s source).faults (s source_now).faults × IsWritten (e err) (e err_now) read_line)
-      ⊎ (IfSome (s source).left (λ left. most < length left) × IsWritten (e err) (e err_now) long_line))
-  -- status 6: out or err failed, and `told` says which, and what is on both
-  pub write : status ≡ 6 → Rose (k out).faults (k out_now).faults ⊎ Rose (e err).faults (e err_now).faults
-  -- status 7: memory ran out
-  pub memory : status ≡ 7 → IsWritten (e err) (e err_now) memory_line × (out_now ≡ out)
+  -- `read`, `write` and `memory`: statuses 5, 6 and 7
+  pub failures : ShowsFailures s k e source source_now out out_now err err_now status
   -- the status is the input's, unless a stream failed or memory ran out
   pub complete : IfSome (s source).left (λ left. EndsSo (IsAuditStatusOf left status) status
       (Rose (s source).faults (s source_now).faults)

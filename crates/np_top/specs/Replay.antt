@@ -1,5 +1,5 @@
 -- what the command `replay` does
-use Rattle.std.specs.Prelude.{◌≡◌, ◌<◌, ◌⊎◌, ℕ, List, IfSome, Result, Ok, Err, length, nat_lt, if◌then◌else◌}
+use Rattle.std.specs.Prelude.{◌≡◌, ◌⊎◌, ℕ, List, IfSome, Result, Ok, Err, length, nat_lt, if◌then◌else◌}
 use Rattle.np_io.specs.Counts.{Rose}
 use Rattle.np_io.specs.Facts.{SourceFacts, SinkFacts, IsWritten}
 use Rattle.np_report.specs.declared.script.Script.{Script}
@@ -11,7 +11,8 @@ use Rattle.np_top.specs.declared.ending.Ending.{Ending}
 use Rattle.np_top.specs.declared.ending.Ending.TheVariants as ending
 use Rattle.np_top.specs.Input.{IsInput, Stops, most}
 use Rattle.np_top.specs.Lines.{script_line, script_status}
-use Rattle.np_top.specs.Told.{IsTold, EndsAs, read_line, long_line, memory_line}
+use Rattle.np_top.specs.Failures.{ShowsFailures}
+use Rattle.np_top.specs.Told.{IsTold, EndsAs}
 
 -- ## how a replay may end
 
@@ -63,14 +64,8 @@ pub record Replays {S K E : Type 0} (s : S → SourceFacts) (k : K → SinkFacts
   pub done : status ≡ 0 → (text : List ℕ) × IsReplayed (s source) (s source_now) text × IsWritten (k out) (k out_now) text × (err_now ≡ err)
   -- status 3 or 4: the line of the script's first fault is on err, and nothing on out
   pub fault : (status ≡ 3) ⊎ (status ≡ 4) → (line : List ℕ) × IsFaulty (s source) (s source_now) line status × IsWritten (e err) (e err_now) line × (out_now ≡ out)
-  -- status 5: a read failed, or too many bytes came; err says which
-  pub read : status ≡ 5 → (out_now ≡ out)
-      × ((Rose (s source).faults (s source_now).faults × IsWritten (e err) (e err_now) read_line)
-      ⊎ (IfSome (s source).left (λ left. most < length left) × IsWritten (e err) (e err_now) long_line))
-  -- status 6: out or err failed, and `told` says which, and what is on both
-  pub write : status ≡ 6 → Rose (k out).faults (k out_now).faults ⊎ Rose (e err).faults (e err_now).faults
-  -- status 7: memory ran out
-  pub memory : status ≡ 7 → IsWritten (e err) (e err_now) memory_line × (out_now ≡ out)
+  -- `read`, `write` and `memory`: statuses 5, 6 and 7
+  pub failures : ShowsFailures s k e source source_now out out_now err err_now status
   -- the status is the input's, unless a stream failed or memory ran out
   pub complete : IfSome (s source).left (λ left. EndsAs (status_of left) status
       (Rose (s source).faults (s source_now).faults)

@@ -2,7 +2,8 @@
 //!
 //! `specs/Command` says which words are a command. Each command is a public function with a record
 //! of clauses in a file of its own, as `specs/Replay`: it works out an `Ending`, and `tell` writes
-//! that to the sinks (`specs/Told`). `poolsim` reads the words and calls the command. Nothing is
+//! that to the sinks (`specs/Told`). The statuses 5, 6 and 7 mean the same for each command that
+//! reads (`specs/Failures`). `poolsim` reads the words and calls the command. Nothing is
 //! printed to out before all of the input was read and the whole text is in memory.
 #![tactic(auto)]
 
@@ -16,8 +17,6 @@ mod playing;
 mod replaying;
 mod running;
 mod telling;
-#[cfg(test)]
-mod tests;
 mod top;
 mod typed;
 
