@@ -12,8 +12,6 @@ mod ask;
 mod board;
 mod due;
 mod law;
-#[cfg(test)]
-mod tests;
 
 pub use ask::{Ask, Turn};
 pub use board::Board;

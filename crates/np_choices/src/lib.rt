@@ -9,8 +9,6 @@
 mod choice;
 mod law;
 mod settled;
-#[cfg(test)]
-mod tests;
 
 pub use choice::{choose, takes_part};
 pub use law::{a_role_outside_is_idle, a_session_is_of_a_role_of_the_configuration};

@@ -16,8 +16,6 @@ mod print;
 mod providers;
 mod requesters;
 mod tenants;
-#[cfg(test)]
-mod tests;
 mod walk;
 
 pub use config::Config;

@@ -31,6 +31,3 @@ pub use law::{
 };
 pub use line::{entry_has_line, event_has_line, put_entry, put_event, read_entry, read_event};
 pub use reply::{Done, Found, Refusal, Reply};
-
-#[cfg(test)]
-mod tests;

@@ -1,7 +1,6 @@
 -- how a queue changes with the tree
 use Rattle.std.proofs.Common.{◌≡◌, ℕ, Bool, true, false, not, cond, List, [], ◌∷◌, ◌++◌, map, Option, Some, None, Result, Ok, Err, refl, sym, ap, ◌∙◌, subst}
-use Rattle.std.specs.Prelude.{IsOk, filter, ◌==◌, slice_get}
-use Rattle.std.specs.Bool.{OnFalse, OnTrue}
+use Rattle.std.specs.Prelude.{IsOk, filter, ◌==◌}
 use Rattle.std.specs.List.{AllByRecursion}
 use Rattle.std.specs.Option.{option_map}
 use Rattle.std.proofs.lemmas.Bool.{eqb-true}
@@ -12,13 +11,12 @@ use Rattle.np_session.specs.Known.{without}
 use Rattle.np_nodes.specs.TreeState.{TreeState}
 use Rattle.np_nodes.specs.After.{after_end}
 use Rattle.np_nodes.specs.Answer.{delete_answer}
-use Rattle.np_nodes.specs.Nodes.{at_path, children_of, is_owner, stat_of}
+use Rattle.np_nodes.specs.Nodes.{at_path, is_owner}
 use Rattle.np_nodes.specs.declared.kind.Expect.TheVariants.{Any}
-use Rattle.np_nodes.specs.declared.kind.Stat.{Stat}
 use Rattle.np_nodes.specs.declared.node.Node.{Node}
 use Rattle.np_nodes.specs.declared.op.OpDone.TheVariants as done
 use Rattle.np_nodes.specs.declared.refusal.TreeRefusal.{TreeRefusal}
-use Rattle.np_tree.specs.Read.{counter_at, stat_of_child}
+use Rattle.np_tree.specs.Read.{counter_at}
 use Rattle.np_tree.specs.Whole.{IsTree}
 use Rattle.np_tree.proofs.StandingLemmas.{children_of-ephemeral}
 use Rattle.np_views.specs.Relations.{is_kept}
@@ -27,7 +25,7 @@ use Rattle.np_views.proofs.GoesLemmas.{unspent-goes}
 use Rattle.np_views.proofs.RelationLemmas.{ends-show}
 use Rattle.np_lock.specs.Calls.{join_answer}
 use Rattle.np_lock.specs.Laws.{EmptiesAreLocks, EndsLeave, PartsJoin, PartsLeave, QueuesAreShown}
-use Rattle.np_lock.specs.Queue.{IsGivenOut, IsLock, IsQueue, Wait, of_others, row_of_wait}
+use Rattle.np_lock.specs.Queue.{IsGivenOut, IsQueue, Wait, of_others, row_of_wait}
 use Rattle.np_lock.proofs.JoinLemmas.{Joins-accepted, queue-joined}
 use Rattle.np_lock.proofs.LeaveLemmas.{Leaves-path, left-sessions, left_by, of_session}
 use Rattle.np_lock.proofs.WaitLemmas.{queue-waits}
@@ -110,16 +108,3 @@ pub ends-leave : EndsLeave
 ends-leave t s dir tree lock =
     let left = IsQueue-end t s dir lock.0 tree lock.1 in
     ((left_by s lock.0, left), queue-waits (after_end t s) dir (left_by s lock.0) left ∙ left-sessions s lock.0 ∙ sym (ap (λ (q : List ℕ). without q s) (queue-waits t dir lock.0 lock.1)))
-
--- ## what tests need
-
-pub ends-lock : (t u : TreeState) (dir : List ℕ) (s : ℕ) (b : Bool) → IsTree t → IsLock t dir → OnTrue b (u ≡ after_end t s) → OnFalse b (u ≡ t) → IsLock u dir
-ends-lock t u dir s true tree lock gone same = subst (λ (v : TreeState). IsLock v dir) (sym gone) (ends-leave t s dir tree lock).0
-ends-lock t u dir s false tree lock gone same = subst (λ (v : TreeState). IsLock v dir) (sym same) lock
-
-free-by : (t : TreeState) (dir : List ℕ) (nodes : List Node) → children_of t.nodes dir ≡ nodes → None ≡ option_map (stat_of t.nodes) (slice_get nodes 0) → IsLock t dir
-free-by t dir [] none is = ([], record { rows = ap (map row_of) none; given = tt; once = tt })
-free-by t dir (n ∷ nodes) some is = absurd cc
-
-pub free-lock : (t : TreeState) (dir : List ℕ) → None ≡ stat_of_child t dir 0 → IsLock t dir
-free-lock t dir is = free-by t dir (children_of t.nodes dir) refl is

@@ -10,8 +10,6 @@
 mod answer;
 mod laws;
 mod lock;
-#[cfg(test)]
-mod tests;
 
 pub use answer::{LockFault, Place, Tried};
 pub use laws::{ends_leave, parts_join, parts_leave, queues_are_what_is_shown};

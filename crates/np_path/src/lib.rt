@@ -10,8 +10,6 @@ mod fault;
 mod grammar;
 mod laws;
 mod path;
-#[cfg(test)]
-mod tests;
 
 pub use fault::PathFault;
 pub use laws::{

@@ -17,6 +17,3 @@ mod round;
 mod rounds;
 
 pub use rounds::{Ended, run_rounds};
-
-#[cfg(test)]
-mod tests;

@@ -12,8 +12,6 @@ mod change;
 mod piece;
 mod probe;
 mod shelf;
-#[cfg(test)]
-mod tests;
 
 pub use change::Change;
 pub use piece::Piece;

@@ -24,6 +24,3 @@ mod word;
 pub use fault::BadRecord;
 pub use kind::Record;
 pub use law::{a_spelling_has_one_value, what_is_written_is_a_spelling};
-
-#[cfg(test)]
-mod tests;

@@ -15,8 +15,6 @@ mod admit;
 mod inner;
 mod laws;
 mod multi;
-#[cfg(test)]
-mod tests;
 mod tree;
 
 pub use laws::{

@@ -19,8 +19,6 @@ mod janitor;
 mod launch;
 mod next;
 mod sweep;
-#[cfg(test)]
-mod tests;
 mod worker;
 
 pub use worker::{RoundEnd, Worker};

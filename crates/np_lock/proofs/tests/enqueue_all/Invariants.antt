@@ -1,5 +1,0 @@
-use Rattle.np_lock.specs.Queue.{IsLock}
-use Rattle.np_lock.proofs.tests.enqueue_all.Given as goal
-
-abbrev pub invariant-loop-ahead : goal.invariant-loop-ahead
-invariant-loop-ahead l = IsLock l.tree l.dir

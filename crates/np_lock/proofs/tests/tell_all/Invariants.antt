@@ -1,5 +1,0 @@
-use Rattle.np_lock.specs.Queue.{IsLock}
-use Rattle.np_lock.proofs.tests.tell_all.Given as goal
-
-abbrev pub invariant-loop-session : goal.invariant-loop-session
-invariant-loop-session l = IsLock l.tree l.dir

@@ -1,0 +1,206 @@
+//! What no clause says: that calls succeed with ample memory, on a job from its request to the end
+//! of its server, and on one that is withdrawn.
+
+ghost use Rattle.std.specs.Prelude.{IfOk};
+
+use np_board::{Ask, Board, Turn};
+use np_config::Config;
+use np_desk::{Alone, Turns};
+use np_event::{Done, Entry, Event, Outcome, Reply};
+use np_index::Index;
+use np_look::Look;
+use np_text::{JobId, NoMemory, NodeId, PoolId, RequesterId, Role, SessionId};
+use std::alloc::Global;
+use std::test::Fail;
+
+// One pool, one label, one job.
+const SITE: &str =
+    r#"{"labels":[{"name":"a"}],"providers":[{"name":"c","pools":[{"name":"m","labels":[{"name":"a"}]}]}],"requesters":[{"name":"z","jobs":[{"name":"j","labels":["a"]}]}]}"#;
+
+// The same, with two jobs.
+const SITE_OF_TWO: &str =
+    r#"{"labels":[{"name":"a"}],"providers":[{"name":"c","pools":[{"name":"m","labels":[{"name":"a"}]}]}],"requesters":[{"name":"z","jobs":[{"name":"j","labels":["a"]},{"name":"k","labels":["a"]}]}]}"#;
+
+const LAUNCHER: Role = Role::Launcher(PoolId(0));
+
+const JANITOR: Role = Role::Janitor(PoolId(0));
+
+const REQUESTER: Role = Role::Requester(RequesterId(0));
+
+// The ask for the one server of the job's node.
+const SWEEP: Ask = Ask::Sweep {
+    pool: PoolId(0),
+    node: NodeId(0),
+    server: 1,
+};
+
+// Entries of the one requester, each with its first and its second job that is not over then.
+const STEPS: [(Event, Option<JobId>, Option<JobId>); 4] = [
+    (
+        Event::OpenSession { role: REQUESTER },
+        Some(JobId(0)),
+        Some(JobId(1)),
+    ),
+    (
+        Event::Submit {
+            session: SessionId(1),
+            job: JobId(0),
+        },
+        Some(JobId(0)),
+        Some(JobId(1)),
+    ),
+    (
+        Event::Withdraw {
+            session: SessionId(1),
+            job: JobId(0),
+        },
+        Some(JobId(1)),
+        None,
+    ),
+    (
+        Event::Withdraw {
+            session: SessionId(1),
+            job: JobId(1),
+        },
+        None,
+        None,
+    ),
+];
+
+fn new_board(alloc: Global, site: &str) -> Result<Board, NoMemory> {
+    let Ok(config) = Config::from_json(alloc, site.as_bytes()) else {
+        return Err(NoMemory);
+    };
+    Board::new(alloc, config)
+}
+
+// The requester's jobs that are not over are these two, by the board's index and by a new one.
+fn has_unfinished(
+    alloc: Global,
+    board: &Board,
+    first: Option<JobId>,
+    second: Option<JobId>,
+) -> Result<bool, NoMemory> {
+    let made = Index::rebuild(alloc, board)?;
+    let requester = RequesterId(0);
+    Ok(
+        board.index().unfinished(requester, 0) == first
+            && board.index().unfinished(requester, 1) == second
+            && made.unfinished(requester, 0) == first
+            && made.unfinished(requester, 1) == second,
+    )
+}
+
+// A start launches the server of its number.
+fn report<T: Turns<Ask = Ask, Entry = Entry, Turn = Turn>>(
+    turns: &mut T,
+    entry: Entry,
+) -> Result<(), NoMemory>
+    requires ready { T.ready turns.old }
+    ensures ready { T.ready turns.new }
+{
+    let Event::Start { session, node } = entry.event else {
+        return Ok(());
+    };
+    let Reply::Done(Done::Started { attempt, start }) = entry.reply else {
+        return Ok(());
+    };
+    turns.turn(Ask::Do(Event::Done {
+        session,
+        node,
+        attempt,
+        outcome: Outcome::Launched(u64::from(start)),
+    }))?;
+    Ok(())
+}
+
+// The role acts until it is idle, 16 times at most.
+fn act_all<T: Turns<Ask = Ask, Entry = Entry, Turn = Turn>>(
+    turns: &mut T,
+    role: Role,
+) -> Result<(), NoMemory>
+    requires ready { T.ready turns.old }
+    ensures ready { T.ready turns.new }
+{
+    for _ in 0..16 {
+        let Turn::Did(entry) = turns.turn(Ask::Act(role))? else {
+            return Ok(());
+        };
+        report(turns, entry)?;
+    }
+    Ok(())
+}
+
+// The janitor acts until a node is due, 16 times at most.
+fn act_until_due<T: Turns<Ask = Ask, Entry = Entry, Turn = Turn>>(
+    turns: &mut T,
+) -> Result<Turn, NoMemory>
+    requires ready { T.ready turns.old }
+    ensures ready { T.ready turns.new }
+{
+    for _ in 0..16 {
+        let due = turns.turn(Ask::Due(PoolId(0)))?;
+        if due != Turn::Idle {
+            return Ok(due);
+        }
+        turns.turn(Ask::Act(JANITOR))?;
+    }
+    Ok(Turn::Idle)
+}
+
+#[test]
+fn a_job_is_served_and_its_server_swept(rt: HostRuntime) -> Result<(), Fail> {
+    let Ok(board) = new_board(rt.alloc(), SITE) else {
+        return Err(Fail::from("no board"));
+    };
+    board.soundness();
+    let mut alone = Alone { object: board };
+    for role in [LAUNCHER, REQUESTER, LAUNCHER] {
+        assert!(rt; act_all(&mut alone, role).is_ok(), "{role:?}");
+    }
+    assert_eq!(rt; alone.turn(SWEEP), Ok(Turn::Idle), "no janitor");
+    assert!(rt; alone.turn(Ask::Act(JANITOR)).is_ok());
+    assert_eq!(rt; alone.turn(SWEEP), Ok(Turn::Idle), "kept");
+    assert!(rt; act_all(&mut alone, REQUESTER).is_ok());
+    let due = Turn::DueNode {
+        node: NodeId(0),
+        server: Some(1),
+    };
+    assert_eq!(rt; act_until_due(&mut alone), Ok(due));
+    assert!(rt; !alone.object.settled());
+    assert_eq!(rt;
+        has_unfinished(rt.alloc(), &alone.object, None, None),
+        Ok(true),
+        "served"
+    );
+    assert!(rt; act_all(&mut alone, JANITOR).is_ok());
+    assert_eq!(rt; alone.turn(Ask::Due(PoolId(0))), Ok(Turn::Idle));
+    let Ok(Turn::Did(entry)) = alone.turn(SWEEP) else {
+        return Err(Fail::from("not swept"));
+    };
+    assert_eq!(rt; entry.reply, Reply::Done(Done::Remove));
+    assert_eq!(rt; alone.turn(SWEEP), Ok(Turn::Swept));
+    assert!(rt; act_all(&mut alone, REQUESTER).is_ok());
+    assert_eq!(rt; alone.turn(Ask::Act(Role::Reaper)), Ok(Turn::Idle));
+    let board = &alone.object;
+    assert!(rt; board.settled());
+    assert_eq!(rt; board.journal().len(), board.entries() as usize);
+    assert_eq!(rt; board.judge(Event::Tick), Reply::Done(Done::Plain));
+    Ok(())
+}
+
+#[test]
+fn a_withdrawn_job_is_listed_no_more(rt: HostRuntime) -> Result<(), Fail> {
+    let Ok(mut board) = new_board(rt.alloc(), SITE_OF_TWO) else {
+        return Err(Fail::from("no board"));
+    };
+    for (event, first, second) in STEPS {
+        assert!(rt; board.apply(event).is_ok(), "{event:?}");
+        assert_eq!(rt;
+            has_unfinished(rt.alloc(), &board, first, second),
+            Ok(true),
+            "{event:?}"
+        );
+    }
+    Ok(())
+}

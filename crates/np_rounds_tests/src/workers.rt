@@ -1,0 +1,106 @@
+//! What no clause says: that rounds find memory, and what failed launches and removals come to.
+
+ghost use Rattle.std.specs.Prelude.{◌≡◌, true, IfOk};
+ghost use Rattle.np_board.specs.Asks.{recorded};
+ghost use Rattle.np_board.specs.Legal.{is_legal};
+
+use np_board::{Ask, Board, Turn};
+use np_cloud::{Driver, OpenGate, ScriptDriver, Tag};
+use np_config::Config;
+use np_desk::{Alone, Turns};
+use np_event::{Entry, Event};
+use np_look::Look;
+use np_text::{Ending, JobId, NoMemory, NodeId, PoolId, RequesterId};
+use np_worker::Worker;
+use std::alloc::Global;
+use std::test::Fail;
+
+// One pool, one label, one job.
+const SITE: &str =
+    r#"{"labels":[{"name":"a"}],"providers":[{"name":"c","pools":[{"name":"m","labels":[{"name":"a"}]}]}],"requesters":[{"name":"z","jobs":[{"name":"j","labels":["a"]}]}]}"#;
+
+const POOL: PoolId = PoolId(0);
+
+// The board of the site, before the first event.
+fn new_board(alloc: Global) -> Result<Board, NoMemory>
+    ensures { IfOk result (λ b. is_legal b.configuration b.journal ≡ true) }
+{
+    let Ok(config) = Config::from_json(alloc, SITE.as_bytes()) else {
+        return Err(NoMemory);
+    };
+    let board = Board::new(alloc, config)?;
+    board.soundness();
+    Ok(board)
+}
+
+// A round of the requester, one of the pool, and a tick.
+fn play<T: Turns<Ask = Ask, Entry = Entry, Turn = Turn>>(
+    turns: &mut T,
+    pool: &mut Worker<ScriptDriver>,
+) -> Result<(), NoMemory>
+    requires ready { T.ready turns.old }
+    requires recorded { T.recorded ≡ recorded }
+    ensures ready { T.ready turns.new }
+{
+    let mut requester = Worker::<ScriptDriver>::Requester(RequesterId(0));
+    requester.round(turns, &OpenGate)?;
+    pool.round(turns, &OpenGate)?;
+    turns.turn(Ask::Do(Event::Tick))?;
+    Ok(())
+}
+
+// The number of the driver's first server.
+fn first_server(worker: &Worker<ScriptDriver>) -> Option<u64> {
+    match worker {
+        Worker::Pool { driver, .. } => driver.server(0).map(|server| server.number),
+        _ => None,
+    }
+}
+
+#[test]
+fn a_failed_launch_and_a_failed_removal_are_made_good(rt: HostRuntime) -> Result<(), Fail> {
+    let alloc = rt.alloc();
+    let answers = Vec::from_array(alloc, [None, Some(7)])?;
+    let driver = ScriptDriver::new(alloc, answers, Vec::from_array(alloc, [1])?);
+    let mut pool = Worker::Pool { pool: POOL, driver };
+    let mut turns = Alone {
+        object: new_board(alloc)?,
+    };
+    play(&mut turns, &mut pool)?;
+    assert_eq!(rt; first_server(&pool), Some(7));
+    play(&mut turns, &mut pool)?;
+    assert_eq!(rt; first_server(&pool), Some(7));
+    assert_eq!(rt; turns.object.nodes(), 1);
+    play(&mut turns, &mut pool)?;
+    assert_eq!(rt; first_server(&pool), None);
+    play(&mut turns, &mut pool)?;
+    assert_eq!(rt; turns.object.nodes(), 0);
+    let ending = turns.object.job(JobId(0)).and_then(|job| job.ending);
+    assert_eq!(rt; ending, Some(Ending::Served));
+    assert!(rt; turns.object.settled());
+    Ok(())
+}
+
+#[test]
+fn a_failed_removal_of_a_sweep_is_made_good(rt: HostRuntime) -> Result<(), Fail> {
+    let alloc = rt.alloc();
+    let answers = Vec::from_array(alloc, [Some(5)])?;
+    let mut driver = ScriptDriver::new(alloc, answers, Vec::from_array(alloc, [1])?);
+    // A server of a node that is not there.
+    let tag = Tag {
+        pool: POOL,
+        node: NodeId(9),
+        attempt: 1,
+        start: 9,
+    };
+    assert!(rt; driver.launch(tag).is_ok());
+    let mut pool = Worker::Pool { pool: POOL, driver };
+    let mut turns = Alone {
+        object: new_board(alloc)?,
+    };
+    assert!(rt; pool.round(&mut turns, &OpenGate).is_ok());
+    assert_eq!(rt; first_server(&pool), Some(5));
+    assert!(rt; pool.round(&mut turns, &OpenGate).is_ok());
+    assert_eq!(rt; first_server(&pool), None);
+    Ok(())
+}
