@@ -1,11 +1,7 @@
-//! Tests of choices, the board, a worker's round and rounds over threads: small sites that are
-//! played, and that calls succeed with ample memory, which no clause says.
+//! Tests of a worker's round and of rounds over threads: small sites that are played, and that calls
+//! succeed with ample memory, which no clause says.
 #![tactic(auto)]
 
-#[cfg(test)]
-mod boards;
-#[cfg(test)]
-mod choices;
 #[cfg(test)]
 mod rounds;
 #[cfg(test)]

@@ -3,12 +3,12 @@ use Rattle.np_site.specs.Configuration.{Configuration}
 use Rattle.np_site.specs.Sound.{IsSound}
 use Rattle.np_fits.proofs.FitsRuns.{Fits-Runs}
 use Rattle.np_fits.proofs.Sites.{sound_fits}
-use Rattle.np_rounds_tests.proofs.choices.next_event.Goals as goal
+use Rattle.np_choices_tests.proofs.choices.soundness.Goals as goal
 
-pub choose-requires-clause-reached : goal.choose-requires-clause-reached
-choose-requires-clause-reached c = record { journal = c.args.machine.now.journal; runs = c.requires }
+pub returns-clause-reached : goal.returns-clause-reached
+returns-clause-reached c = record { journal = c.args.machine.now.journal; runs = c.requires }
 
-pub choose-requires-clause-fits : goal.choose-requires-clause-fits
-choose-requires-clause-fits c =
+pub returns-clause-fits : goal.returns-clause-fits
+returns-clause-fits c =
     let sound : IsSound c.args.machine.now.configuration = subst (λ (site : Configuration). IsSound site) c.config.ensures c.soundness.ensures in
     Fits-Runs c.args.machine.now.configuration c.args.machine.now.journal c.args.machine.now.state (sound_fits c.args.machine.now.configuration sound) c.requires

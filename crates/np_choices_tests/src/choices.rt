@@ -2,6 +2,8 @@
 
 ghost use Rattle.std.specs.Prelude.{IfOk};
 ghost use Rattle.np_machine.specs.History.{Runs};
+ghost use Rattle.np_changes.specs.Planned.{IsReached};
+ghost use Rattle.np_fits.specs.Fits.{Fits};
 
 use np_choices::{choose, is_settled};
 use np_config::Config;
@@ -77,11 +79,20 @@ const SITES: [(&str, &str, &[Ending], u32); 8] = [
     ),
 ];
 
+/// What a choice requires of a state holds of one that a run leads to. It does nothing.
+fn soundness(machine: &Plain)
+    requires { Runs machine.now.configuration machine.now.journal machine.now.state }
+    ensures reached { IsReached machine.now.configuration machine.now.state }
+    ensures fits { Fits machine.now.configuration machine.now.state }
+{
+    machine.config().soundness();
+}
+
 /// What the role does next.
 fn next_event(machine: &Plain, role: Role) -> Option<Event>
     requires { Runs machine.now.configuration machine.now.journal machine.now.state }
 {
-    machine.config().soundness();
+    soundness(machine);
     choose(machine, role)
 }
 
@@ -89,7 +100,7 @@ fn next_event(machine: &Plain, role: Role) -> Option<Event>
 fn is_over(machine: &Plain) -> bool
     requires { Runs machine.now.configuration machine.now.journal machine.now.state }
 {
-    machine.config().soundness();
+    soundness(machine);
     is_settled(machine)
 }
 

@@ -1,7 +1,8 @@
 //! What no clause says: that calls succeed with ample memory, on a job from its request to the end
 //! of its server, and on one that is withdrawn.
 
-ghost use Rattle.std.specs.Prelude.{IfOk};
+ghost use Rattle.std.specs.Prelude.{◌≡◌, true, IfOk};
+ghost use Rattle.np_board.specs.Legal.{is_legal};
 
 use np_board::{Ask, Board, Turn};
 use np_config::Config;
@@ -67,11 +68,16 @@ const STEPS: [(Event, Option<JobId>, Option<JobId>); 4] = [
     ),
 ];
 
-fn new_board(alloc: Global, site: &str) -> Result<Board, NoMemory> {
+// The board of the site, before the first event.
+fn new_board(alloc: Global, site: &str) -> Result<Board, NoMemory>
+    ensures { IfOk result (λ b. is_legal b.configuration b.journal ≡ true) }
+{
     let Ok(config) = Config::from_json(alloc, site.as_bytes()) else {
         return Err(NoMemory);
     };
-    Board::new(alloc, config)
+    let board = Board::new(alloc, config)?;
+    board.soundness();
+    Ok(board)
 }
 
 // The requester's jobs that are not over are these two, by the board's index and by a new one.
@@ -148,57 +154,96 @@ fn act_until_due<T: Turns<Ask = Ask, Entry = Entry, Turn = Turn>>(
     Ok(Turn::Idle)
 }
 
+// The job gets its node: the launcher, the requester and the launcher again act until idle.
+fn serve<T: Turns<Ask = Ask, Entry = Entry, Turn = Turn>>(turns: &mut T) -> Result<(), NoMemory>
+    requires ready { T.ready turns.old }
+    ensures ready { T.ready turns.new }
+{
+    for role in [LAUNCHER, REQUESTER, LAUNCHER] {
+        act_all(turns, role)?;
+    }
+    Ok(())
+}
+
+// What a sweep is answered before the janitor has a session, and once it has one.
+fn sweep_early<T: Turns<Ask = Ask, Entry = Entry, Turn = Turn>>(
+    turns: &mut T,
+) -> Result<(Turn, Turn), NoMemory>
+    requires ready { T.ready turns.old }
+    ensures ready { T.ready turns.new }
+{
+    let unmanned = turns.turn(SWEEP)?;
+    turns.turn(Ask::Act(JANITOR))?;
+    let kept = turns.turn(SWEEP)?;
+    Ok((unmanned, kept))
+}
+
+// The node is removed. What an ask for a due node is answered then, and each of two sweeps.
+fn sweep_late<T: Turns<Ask = Ask, Entry = Entry, Turn = Turn>>(
+    turns: &mut T,
+) -> Result<(Turn, Turn, Turn), NoMemory>
+    requires ready { T.ready turns.old }
+    ensures ready { T.ready turns.new }
+{
+    act_all(turns, JANITOR)?;
+    let due = turns.turn(Ask::Due(PoolId(0)))?;
+    let first = turns.turn(SWEEP)?;
+    let second = turns.turn(SWEEP)?;
+    Ok((due, first, second))
+}
+
+// Whether the turn recorded that the server is to be removed.
+fn is_removal(turn: Turn) -> bool {
+    match turn {
+        Turn::Did(entry) => entry.reply == Reply::Done(Done::Remove),
+        _ => false,
+    }
+}
+
+// Whether the board is settled, and its readers agree on what it recorded.
+fn is_at_rest(board: &Board) -> bool {
+    board.settled()
+        && board.journal().len() == board.entries() as usize
+        && board.judge(Event::Tick) == Reply::Done(Done::Plain)
+}
+
 #[test]
 fn a_job_is_served_and_its_server_swept(rt: HostRuntime) -> Result<(), Fail> {
-    let Ok(board) = new_board(rt.alloc(), SITE) else {
-        return Err(Fail::from("no board"));
+    let mut alone = Alone {
+        object: new_board(rt.alloc(), SITE)?,
     };
-    board.soundness();
-    let mut alone = Alone { object: board };
-    for role in [LAUNCHER, REQUESTER, LAUNCHER] {
-        assert!(rt; act_all(&mut alone, role).is_ok(), "{role:?}");
-    }
-    assert_eq!(rt; alone.turn(SWEEP), Ok(Turn::Idle), "no janitor");
-    assert!(rt; alone.turn(Ask::Act(JANITOR)).is_ok());
-    assert_eq!(rt; alone.turn(SWEEP), Ok(Turn::Idle), "kept");
-    assert!(rt; act_all(&mut alone, REQUESTER).is_ok());
+    serve(&mut alone)?;
+    let (unmanned, kept) = sweep_early(&mut alone)?;
+    assert_eq!(rt; unmanned, Turn::Idle, "no janitor");
+    assert_eq!(rt; kept, Turn::Idle, "kept");
+    act_all(&mut alone, REQUESTER)?;
     let due = Turn::DueNode {
         node: NodeId(0),
         server: Some(1),
     };
-    assert_eq!(rt; act_until_due(&mut alone), Ok(due));
-    assert!(rt; !alone.object.settled());
-    assert_eq!(rt;
-        has_unfinished(rt.alloc(), &alone.object, None, None),
-        Ok(true),
+    assert_eq!(rt; act_until_due(&mut alone)?, due);
+    assert!(rt; !is_at_rest(&alone.object));
+    assert!(rt;
+        has_unfinished(rt.alloc(), &alone.object, None, None)?,
         "served"
     );
-    assert!(rt; act_all(&mut alone, JANITOR).is_ok());
-    assert_eq!(rt; alone.turn(Ask::Due(PoolId(0))), Ok(Turn::Idle));
-    let Ok(Turn::Did(entry)) = alone.turn(SWEEP) else {
-        return Err(Fail::from("not swept"));
-    };
-    assert_eq!(rt; entry.reply, Reply::Done(Done::Remove));
-    assert_eq!(rt; alone.turn(SWEEP), Ok(Turn::Swept));
-    assert!(rt; act_all(&mut alone, REQUESTER).is_ok());
-    assert_eq!(rt; alone.turn(Ask::Act(Role::Reaper)), Ok(Turn::Idle));
-    let board = &alone.object;
-    assert!(rt; board.settled());
-    assert_eq!(rt; board.journal().len(), board.entries() as usize);
-    assert_eq!(rt; board.judge(Event::Tick), Reply::Done(Done::Plain));
+    let (due, first, second) = sweep_late(&mut alone)?;
+    assert_eq!(rt; due, Turn::Idle, "removed");
+    assert!(rt; is_removal(first), "{first:?}");
+    assert_eq!(rt; second, Turn::Swept);
+    act_all(&mut alone, REQUESTER)?;
+    assert_eq!(rt; alone.turn(Ask::Act(Role::Reaper))?, Turn::Idle);
+    assert!(rt; is_at_rest(&alone.object));
     Ok(())
 }
 
 #[test]
 fn a_withdrawn_job_is_listed_no_more(rt: HostRuntime) -> Result<(), Fail> {
-    let Ok(mut board) = new_board(rt.alloc(), SITE_OF_TWO) else {
-        return Err(Fail::from("no board"));
-    };
+    let mut board = new_board(rt.alloc(), SITE_OF_TWO)?;
     for (event, first, second) in STEPS {
-        assert!(rt; board.apply(event).is_ok(), "{event:?}");
-        assert_eq!(rt;
-            has_unfinished(rt.alloc(), &board, first, second),
-            Ok(true),
+        board.apply(event)?;
+        assert!(rt;
+            has_unfinished(rt.alloc(), &board, first, second)?,
             "{event:?}"
         );
     }
