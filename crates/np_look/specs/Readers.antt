@@ -1,5 +1,5 @@
 -- what the readers of a state return, beyond the machine's own definitions
-use Rattle.std.specs.Prelude.{ℕ, suc, Bool, false, ◌==◌, ◌&&◌, ◌||◌, not, if◌then◌else◌, List, [], ◌∷◌, filter, Option, Some, None, is_some, is_none, option_and_then, slice_get}
+use Rattle.std.specs.Prelude.{ℕ, suc, Bool, false, ◌==◌, ◌&&◌, ◌||◌, not, if◌then◌else◌, List, [], ◌∷◌, filter, map, Option, Some, None, is_some, is_none, option_and_then, slice_get}
 use Rattle.std.specs.Option.{option_map, option_map_or}
 use Rattle.np_amount.specs.declared.amount.Amount.{Amount}
 use Rattle.np_amount.specs.declared.amount.Limit.{Limit}
@@ -11,12 +11,13 @@ use Rattle.np_text.specs.declared.id.JobId.{JobId}
 use Rattle.np_text.specs.declared.id.NodeId.{NodeId}
 use Rattle.np_text.specs.declared.id.RequesterId.{RequesterId}
 use Rattle.np_text.specs.declared.id.RequestId.{RequestId}
+use Rattle.np_text.specs.declared.id.SessionId.{SessionId}
 use Rattle.np_text.specs.declared.id.TenantId.{TenantId}
 use Rattle.np_record.specs.declared.record.RequestRecord.{RequestRecord}
 use Rattle.np_record.specs.declared.record.JobRecord.{JobRecord}
 use Rattle.np_machine.specs.Entries.{RequestEntry, NodeEntry}
 use Rattle.np_machine.specs.State.{State}
-use Rattle.np_machine.specs.Tables.{request_in}
+use Rattle.np_machine.specs.Tables.{request_in, is_queued}
 use Rattle.np_machine.specs.Count.{amount_of, limit_of}
 use Rattle.np_machine.specs.Tenants.{limit_of_tenant, tenant_of_request, is_tenant, amount_of_node, rest_of_request, is_pending_of}
 use Rattle.np_machine.specs.Kinds.{is_over}
@@ -92,3 +93,13 @@ unfinished_from c q number (kept ∷ jobs) =
 -- the jobs of the requester that are not over, in order: the one at this place
 abbrev pub unfinished_of : Configuration → RequesterId → ℕ → State → Option JobId
 unfinished_of c q at s = slice_get (unfinished_from c q 0 s.jobs) at
+
+-- ## the queues that a session is in
+
+-- the requests in whose queues the session is, by priority and then sequence
+abbrev pub queued_requests : SessionId → State → List RequestId
+queued_requests session s = map (λ e. e.id) (filter (λ e. is_queued session e.queue) s.requests)
+
+-- the nodes in whose queues the session is, by number
+abbrev pub queued_nodes : SessionId → State → List NodeId
+queued_nodes session s = map (λ e. e.id) (filter (λ e. is_queued session e.queue) s.nodes)

@@ -17,7 +17,7 @@ ghost use Rattle.np_fits.specs.Fits.{Fits};
 ghost use Rattle.np_changes.specs.Asked.{asked_of, new_record};
 ghost use Rattle.np_look.specs.Views.{request_view, node_view};
 ghost use Rattle.np_changes.specs.Readers.{owner_of};
-ghost use Rattle.np_look.specs.Readers.{is_declined, undeclined_of, is_last_pool_of, free_ready_of, unfinished_of};
+ghost use Rattle.np_look.specs.Readers.{is_declined, undeclined_of, is_last_pool_of, free_ready_of, unfinished_of, queued_requests, queued_nodes};
 
 use crate::asked::{NodeView, RequestView};
 use crate::count::{NOTHING, amount_at};
@@ -118,6 +118,23 @@ pub trait Look {
     /// The session at a place of the node's queue; the one at 0 holds it.
     fn node_queue(&self, node: NodeId, at: u32) -> Option<SessionId>
         ensures { result ≡ slice_get (node_queue node (state self.now).nodes) at };
+
+    /// In how many requests' queues the session is.
+    fn queued_requests(&self, session: SessionId) -> u32
+        ensures { result ≡ length (queued_requests session (state self.now)) };
+
+    /// The request at a place among those in whose queues the session is, by priority and then
+    /// sequence.
+    fn queued_request_at(&self, session: SessionId, at: u32) -> Option<RequestId>
+        ensures { result ≡ slice_get (queued_requests session (state self.now)) at };
+
+    /// In how many nodes' queues the session is.
+    fn queued_nodes(&self, session: SessionId) -> u32
+        ensures { result ≡ length (queued_nodes session (state self.now)) };
+
+    /// The node at a place among those in whose queues the session is, by number.
+    fn queued_node_at(&self, session: SessionId, at: u32) -> Option<NodeId>
+        ensures { result ≡ slice_get (queued_nodes session (state self.now)) at };
 
     /// How many jobs have a handle of the semaphore.
     fn handles(&self, semaphore: SemId) -> u32

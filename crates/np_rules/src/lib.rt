@@ -17,6 +17,7 @@ mod keeper;
 mod keys;
 mod nodes;
 mod plain;
+mod queues;
 mod roles;
 mod settle;
 mod start;

@@ -92,6 +92,22 @@ impl Look for Board {
         self.plain.node_queue(node, at)
     }
 
+    fn queued_requests(&self, session: SessionId) -> u32 {
+        self.plain.queued_requests(session)
+    }
+
+    fn queued_request_at(&self, session: SessionId, at: u32) -> Option<RequestId> {
+        self.plain.queued_request_at(session, at)
+    }
+
+    fn queued_nodes(&self, session: SessionId) -> u32 {
+        self.plain.queued_nodes(session)
+    }
+
+    fn queued_node_at(&self, session: SessionId, at: u32) -> Option<NodeId> {
+        self.plain.queued_node_at(session, at)
+    }
+
     fn handles(&self, semaphore: SemId) -> u32 {
         self.plain.handles(semaphore)
     }

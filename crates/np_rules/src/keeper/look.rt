@@ -4,6 +4,7 @@
 
 use crate::count::count;
 use crate::keeper::VecKeeper;
+use crate::queues::{count_queued, queued_at};
 use crate::walk::is_better;
 use np_amount::Amount;
 use np_changes::Asked;
@@ -102,6 +103,22 @@ impl Look for VecKeeper {
             None => None,
             Some(entry) => entry.queue.items().get(at as usize).copied(),
         }
+    }
+
+    fn queued_requests(&self, session: SessionId) -> u32 {
+        count_queued(self.tables.requests(), session) as u32
+    }
+
+    fn queued_request_at(&self, session: SessionId, at: u32) -> Option<RequestId> {
+        queued_at(self.tables.requests(), session, at)
+    }
+
+    fn queued_nodes(&self, session: SessionId) -> u32 {
+        count_queued(self.tables.nodes(), session) as u32
+    }
+
+    fn queued_node_at(&self, session: SessionId, at: u32) -> Option<NodeId> {
+        queued_at(self.tables.nodes(), session, at)
     }
 
     fn handles(&self, semaphore: SemId) -> u32 {
