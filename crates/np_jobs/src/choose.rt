@@ -19,9 +19,9 @@ use np_text::{EndAs, RequesterId, Role};
 /// A useful event of the requester, or `None` if and only if there is none. It takes no memory. It
 /// looks up each of the requester's jobs that is not over, and judges at most three events for each
 /// of these that has begun or is in the window. Then it judges one event for each handle that a job
-/// has and four for each node, up to the first that is useful. An event on a node costs a few
-/// lookups, however many requests there are; how a node that the requester uses is to be left is
-/// found by a search of all jobs.
+/// has, three for each node in whose queue its session is, and one for each node, up to the first
+/// that is useful. An event on a node costs a few lookups, however many requests there are; how a
+/// node that the requester uses is to be left is found by a search of all jobs.
 pub fn choose_requester<L: Look>(look: &L, requester: RequesterId) -> Option<Event>
     requires there { is_role (L.site look.now) (Requester requester) ≡ true }
     requires reached { IsReached (L.site look.now) (L.state look.now) }

@@ -1,5 +1,5 @@
 -- an accepted event of a kind: what it names exists, and who made it
-use Rattle.std.proofs.Common.{◌≡◌, Some, None, Ok, refl, arith}
+use Rattle.std.proofs.Common.{◌≡◌, Some, None, Ok, true, refl, arith}
 use Rattle.std.specs.Prelude.{slice_get}
 use Rattle.std.proofs.lemmas.Bool.Decides.{nat_tests}
 use Rattle.np_text.specs.declared.id.SessionId.{SessionId}
@@ -10,14 +10,16 @@ use Rattle.np_site.specs.Configuration.{Configuration}
 use Rattle.np_event.specs.declared.reply.Done.{Done}
 use Rattle.np_machine.specs.State.{State}
 use Rattle.np_machine.specs.Step.{judge, maker_of}
-use Rattle.np_machine.specs.Tables.{request_in, node_in}
+use Rattle.np_machine.specs.Tables.{is_queued, is_session_of, request_in, request_queue, request_holder, node_in, node_queue, node_holder}
 use Rattle.np_roles.specs.declared.kind.RequestKind.{RequestKind}
 use Rattle.np_roles.specs.declared.kind.RequestKind.TheVariants as of_request
 use Rattle.np_roles.specs.declared.kind.NodeKind.{NodeKind}
 use Rattle.np_roles.specs.declared.kind.NodeKind.TheVariants as of_node
 use Rattle.np_roles.specs.declared.kind.JobKind.{JobKind}
 use Rattle.np_roles.specs.declared.kind.JobKind.TheVariants as of_job
+use Rattle.np_roles.specs.Candidates.{is_from_request_queue, is_from_node_queue}
 use Rattle.np_roles.specs.Kinds.{request_event, node_event, job_event}
+use Rattle.np_roles.proofs.Queues.{holder-queued}
 
 -- ## who made it
 
@@ -73,3 +75,30 @@ module _ (c : Configuration) (s : State) (session : SessionId) (what : Done) whe
   job-there of_job.Take j is none = grind (arith, nat_tests)
   job-there of_job.Finish j is none = grind (arith, nat_tests)
   job-there of_job.Release j is none = grind (arith, nat_tests)
+
+-- ## who makes it is in the queue
+
+module _ (c : Configuration) (s : State) (session : SessionId) (what : Done) where
+  request-held : (kind : RequestKind) (r : RequestId) → is_from_request_queue kind ≡ true → judge c s (request_event kind session r) ≡ Ok what → is_session_of session (request_holder r s.requests) ≡ true
+  request-held of_request.Lock r from is = absurd cc
+  request-held of_request.Unlock r from is = grind (arith, nat_tests)
+  request-held of_request.Accept r from is = grind (arith, nat_tests)
+  request-held of_request.Create r from is = grind (arith, nat_tests)
+  request-held of_request.Fulfil r from is = grind (arith, nat_tests)
+  request-held of_request.Reset r from is = grind (arith, nat_tests)
+  request-held of_request.FailDeclined r from is = absurd cc
+
+  pub request-queued : (kind : RequestKind) (r : RequestId) → is_from_request_queue kind ≡ true → judge c s (request_event kind session r) ≡ Ok what → is_queued session (request_queue r s.requests) ≡ true
+  request-queued kind r from is = holder-queued session (request_queue r s.requests) (request-held kind r from is)
+
+  node-held : (n : NodeId) → is_session_of session (node_holder n s.nodes) ≡ true → is_queued session (node_queue n s.nodes) ≡ true
+  node-held n is = holder-queued session (node_queue n s.nodes) is
+
+  pub node-queued : (kind : NodeKind) (n : NodeId) → is_from_node_queue kind ≡ true → judge c s (node_event kind session n) ≡ Ok what → is_queued session (node_queue n s.nodes) ≡ true
+  node-queued of_node.Lock n from is = absurd cc
+  node-queued of_node.Unlock n from is = grind (arith, nat_tests)
+  node-queued of_node.Start n from is = node-held n (grind (arith, nat_tests))
+  node-queued (of_node.End as_what) n from is = node-held n (grind (arith, nat_tests))
+  node-queued of_node.MarkDeleting n from is = node-held n (grind (arith, nat_tests))
+  node-queued of_node.Gone n from is = node-held n (grind (arith, nat_tests))
+  node-queued of_node.Free n from is = node-held n (grind (arith, nat_tests))

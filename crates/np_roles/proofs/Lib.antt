@@ -1,4 +1,5 @@
 pub mod Places
+pub mod Queues
 pub mod Accepts
 pub mod Currents
 pub mod Openings

@@ -1,6 +1,6 @@
 -- at which place a search finds a member, and the members from a place on
 use Rattle.std.proofs.Common.{◌≡◌, ◌∙◌, ◌<◌, ◌≤◌, ◌+◌, ◌-◌, ℕ, zero, suc, add-one, Bool, true, false, cond, List, [], ◌∷◌, length, drop, Option, Some, None, refl, sym, ap, arith}
-use Rattle.std.specs.Prelude.{find, filter, slice_get, is_some, ◌||◌, ◌&&◌, ◌==◌}
+use Rattle.std.specs.Prelude.{find, filter, map, slice_get, is_some, ◌||◌, ◌&&◌, ◌==◌}
 use Rattle.std.specs.List.{list_any}
 use Rattle.std.proofs.lemmas.Bool.Decides.{nat_tests}
 
@@ -19,6 +19,21 @@ place-by p x y xs false later there =
 pub find-place : {X : Type 0} (p : X → Bool) (xs : List X) (x : X) → find p xs ≡ Some x → StandsIn x xs
 find-place p [] x there = absurd cc
 find-place p (y ∷ xs) x there = place-by p x y xs (p y) (find-place p xs x) there
+
+-- the place of its name among those of the members that pass another test
+named-by : {X I : Type 0} (name : X → I) (p q : X → Bool) (x y : X) (xs : List X) (b d : Bool) → q y ≡ d → (find p xs ≡ Some x → StandsIn (name x) (map name (filter q xs))) → cond b (Some y) (find p xs) ≡ Some x → q x ≡ true → StandsIn (name x) (map name (filter q (y ∷ xs)))
+named-by name p q x y xs true true other later there passes =
+    let same : y ≡ x = cc in
+    rw other (record { at = 0; within = omega arith; there = ap (λ (z : _). Some (name z)) same })
+named-by name p q x y xs true false other later there passes = let same : y ≡ x = cc in absurd cc
+named-by name p q x y xs false true other later there passes =
+    let place = later there in
+    rw other (record { at = suc place.at; within = omega (arith, place.within); there = place.there })
+named-by name p q x y xs false false other later there passes = rw other (later there)
+
+pub named-place : {X I : Type 0} (name : X → I) (p q : X → Bool) (xs : List X) (x : X) → find p xs ≡ Some x → q x ≡ true → StandsIn (name x) (map name (filter q xs))
+named-place name p q [] x there passes = absurd cc
+named-place name p q (y ∷ xs) x there passes = named-by name p q x y xs (p y) (q y) refl (λ found. named-place name p q xs x found passes) there passes
 
 pub within : {X : Type 0} (xs : List X) (i : ℕ) (x : X) → slice_get xs i ≡ Some x → i < length xs
 within [] i x there = absurd cc

@@ -1,5 +1,5 @@
 -- the first of these events that passes, or none if none does
-use Rattle.std.proofs.Common.{◌≡◌, ◌∙◌, ◌<◌, ℕ, Bool, true, false, Option, Some, None, refl, sym, ap, subst}
+use Rattle.std.proofs.Common.{◌≡◌, ◌∙◌, ◌<◌, ℕ, Bool, true, false, Option, Some, None, Ok, refl, sym, ap, subst}
 use Rattle.std.specs.Prelude.{◌&&◌, ◌==◌, slice_get, is_ok, if◌then◌else◌}
 use Rattle.std.specs.Option.{option_map}
 use Rattle.np_text.specs.declared.id.SessionId.{SessionId}
@@ -10,6 +10,7 @@ use Rattle.np_text.specs.declared.id.Role.{Role}
 use Rattle.np_site.specs.Configuration.{Configuration}
 use Rattle.np_record.specs.declared.record.JobRecord.{JobRecord}
 use Rattle.np_event.specs.declared.event.Event.{Event}
+use Rattle.np_event.specs.declared.reply.Done.{Done}
 use Rattle.np_lists.proofs.FoundLemmas.{find-passes}
 use Rattle.np_machine.specs.Entries.{RequestEntry, NodeEntry}
 use Rattle.np_machine.specs.State.{State}
@@ -25,11 +26,13 @@ use Rattle.np_roles.specs.declared.kind.RequestKind.{RequestKind}
 use Rattle.np_roles.specs.declared.kind.NodeKind.{NodeKind}
 use Rattle.np_roles.specs.declared.kind.JobKind.{JobKind}
 use Rattle.np_roles.specs.Kinds.{request_event, node_event, job_event}
-use Rattle.np_roles.specs.Candidates.{places, candidate}
+use Rattle.np_look.specs.Readers.{queued_requests, queued_nodes}
+use Rattle.np_roles.specs.Candidates.{is_from_request_queue, is_from_node_queue, request_named, node_named, places, candidate}
 use Rattle.np_roles.specs.Passing.{passes, passing, IsFirst, IsFirstThatPasses}
 use Rattle.np_roles.specs.Choices.{NoneOf, ChoosesOf}
 use Rattle.np_roles.proofs.Places.{find-place, within}
-use Rattle.np_roles.proofs.Accepts.{request-maker, node-maker, job-maker, request-there, node-there, job-there}
+use Rattle.np_roles.proofs.Queues.{queued-request, queued-node}
+use Rattle.np_roles.proofs.Accepts.{request-maker, node-maker, job-maker, request-there, node-there, job-there, request-queued, node-queued}
 use Rattle.np_roles.proofs.Currents.{one-current}
 
 -- ## an accepted event names something that is at a place
@@ -42,32 +45,46 @@ module _ (c : Configuration) (s : State) (session : SessionId) where
   -- the event is a candidate of the kind
   pub record IsCandidate (kind : EventKind) (e : Event) : Type 0 where
     pub at : ℕ
-    pub within : at < places s kind
+    pub within : at < places s session kind
     pub there : candidate s session kind at ≡ Some e
 
-  request-candidate : (kind : RequestKind) (r : RequestId) → is_ok (judge c s (request_event kind session r)) ≡ true → IsCandidate (kind_of.Request kind) (request_event kind session r)
-  request-candidate kind r is =
-      let answer = ok-is (judge c s (request_event kind session r)) is in
-      let entry = entry-of (λ (e : RequestEntry). e.kept) (request_entry r s.requests) (request-there c s session answer.0 kind r answer.1) in
+  request-at : (kind : RequestKind) (r : RequestId) (what : Done) (b : Bool) → is_from_request_queue kind ≡ b → judge c s (request_event kind session r) ≡ Ok what → IsCandidate (kind_of.Request kind) (request_event kind session r)
+  request-at kind r what true from is =
+      let place = queued-request s session r (request-queued c s session what kind r from is) in
+      record { at = place.at; within = rw from place.within; there = rw from (ap (option_map (request_event kind session)) place.there) }
+  request-at kind r what false from is =
+      let entry = entry-of (λ (e : RequestEntry). e.kept) (request_entry r s.requests) (request-there c s session what kind r is) in
       let place = find-place (λ (e : RequestEntry). same_request e.id r) s.requests entry.0 entry.1 in
       let same : entry.0.id ≡ r = same_request-is entry.0.id r (find-passes (λ (e : RequestEntry). same_request e.id r) s.requests entry.0 entry.1) in
       record {
         at = place.at;
-        within = place.within;
-        there = ap (λ (o : Option RequestEntry). option_map (λ (e : RequestEntry). request_event kind session e.id) o) place.there ∙ ap (λ (x : RequestId). Some (request_event kind session x)) same;
+        within = rw from place.within;
+        there = rw from (ap (λ (o : Option RequestEntry). option_map (request_event kind session) (option_map (λ (e : RequestEntry). e.id) o)) place.there ∙ ap (λ (x : RequestId). Some (request_event kind session x)) same);
+      }
+
+  request-candidate : (kind : RequestKind) (r : RequestId) → is_ok (judge c s (request_event kind session r)) ≡ true → IsCandidate (kind_of.Request kind) (request_event kind session r)
+  request-candidate kind r is =
+      let answer = ok-is (judge c s (request_event kind session r)) is in
+      request-at kind r answer.0 (is_from_request_queue kind) refl answer.1
+
+  node-at : (kind : NodeKind) (n : NodeId) (what : Done) (b : Bool) → is_from_node_queue kind ≡ b → judge c s (node_event kind session n) ≡ Ok what → IsCandidate (kind_of.Node kind) (node_event kind session n)
+  node-at kind n what true from is =
+      let place = queued-node s session n (node-queued c s session what kind n from is) in
+      record { at = place.at; within = rw from place.within; there = rw from (ap (option_map (node_event kind session)) place.there) }
+  node-at kind n what false from is =
+      let entry = entry-of (λ (e : NodeEntry). e.kept) (node_entry n s.nodes) (node-there c s session what kind n is) in
+      let place = find-place (λ (e : NodeEntry). e.id.0 == n.0) s.nodes entry.0 entry.1 in
+      let same : entry.0.id ≡ n = same_node-is entry.0.id n (find-passes (λ (e : NodeEntry). e.id.0 == n.0) s.nodes entry.0 entry.1) in
+      record {
+        at = place.at;
+        within = rw from place.within;
+        there = rw from (ap (λ (o : Option NodeEntry). option_map (node_event kind session) (option_map (λ (e : NodeEntry). e.id) o)) place.there ∙ ap (λ (x : NodeId). Some (node_event kind session x)) same);
       }
 
   node-candidate : (kind : NodeKind) (n : NodeId) → is_ok (judge c s (node_event kind session n)) ≡ true → IsCandidate (kind_of.Node kind) (node_event kind session n)
   node-candidate kind n is =
       let answer = ok-is (judge c s (node_event kind session n)) is in
-      let entry = entry-of (λ (e : NodeEntry). e.kept) (node_entry n s.nodes) (node-there c s session answer.0 kind n answer.1) in
-      let place = find-place (λ (e : NodeEntry). e.id.0 == n.0) s.nodes entry.0 entry.1 in
-      let same : entry.0.id ≡ n = same_node-is entry.0.id n (find-passes (λ (e : NodeEntry). e.id.0 == n.0) s.nodes entry.0 entry.1) in
-      record {
-        at = place.at;
-        within = place.within;
-        there = ap (λ (o : Option NodeEntry). option_map (λ (e : NodeEntry). node_event kind session e.id) o) place.there ∙ ap (λ (x : NodeId). Some (node_event kind session x)) same;
-      }
+      node-at kind n answer.0 (is_from_node_queue kind) refl answer.1
 
   job-candidate : (kind : JobKind) (j : JobId) → is_ok (judge c s (job_event kind session j)) ≡ true → IsCandidate (kind_of.Job kind) (job_event kind session j)
   job-candidate kind j is =
@@ -85,14 +102,14 @@ module _ (c : Configuration) (s : State) (session : SessionId) where
 
   -- a candidate's maker is the session
   pub candidate-maker : (kind : EventKind) (at : ℕ) (e : Event) → candidate s session kind at ≡ Some e → maker_of e ≡ Some session
-  candidate-maker (kind_of.Request kind) at e is = by (slice_get s.requests at) is where
-    by : (o : Option RequestEntry) → option_map (λ x. request_event kind session x.id) o ≡ Some e → maker_of e ≡ Some session
+  candidate-maker (kind_of.Request kind) at e is = by (request_named s session kind at) is where
+    by : (o : Option RequestId) → option_map (request_event kind session) o ≡ Some e → maker_of e ≡ Some session
     by None is = absurd cc
-    by (Some x) is = let same : request_event kind session x.id ≡ e = cc in ap maker_of (sym same) ∙ request-maker kind session x.id
-  candidate-maker (kind_of.Node kind) at e is = by (slice_get s.nodes at) is where
-    by : (o : Option NodeEntry) → option_map (λ x. node_event kind session x.id) o ≡ Some e → maker_of e ≡ Some session
+    by (Some r) is = let same : request_event kind session r ≡ e = cc in ap maker_of (sym same) ∙ request-maker kind session r
+  candidate-maker (kind_of.Node kind) at e is = by (node_named s session kind at) is where
+    by : (o : Option NodeId) → option_map (node_event kind session) o ≡ Some e → maker_of e ≡ Some session
     by None is = absurd cc
-    by (Some x) is = let same : node_event kind session x.id ≡ e = cc in ap maker_of (sym same) ∙ node-maker kind session x.id
+    by (Some n) is = let same : node_event kind session n ≡ e = cc in ap maker_of (sym same) ∙ node-maker kind session n
   candidate-maker (kind_of.Job kind) at e is = by (slice_get s.jobs at) is where
     by : (o : Option JobRecord) → option_map (λ _. job_event kind session (record { 0 = at })) o ≡ Some e → maker_of e ≡ Some session
     by None is = absurd cc
@@ -132,12 +149,12 @@ module _ (c : Configuration) (s : State) (role : Role) where
 
   module _ (session : SessionId) (current : is_current role session s ≡ true) where
     -- what passes at a place is useful
-    first-useful : (kind : EventKind) (e : Event) → IsFirst c s role (places s kind) (candidate s session kind) e → IsUseful c s role e
+    first-useful : (kind : EventKind) (e : Event) → IsFirst c s role (places s session kind) (candidate s session kind) e → IsUseful c s role e
     first-useful kind e first =
         let parts = passing-is (candidate s session kind first.at) e first.there in
         passes-useful e parts.1 (ap (is_maker_of role s) (candidate-maker c s session kind first.at e parts.0) ∙ current)
 
-    none-left : (kind : EventKind) (e : Event) → ((at : ℕ) → at < places s kind → passing c s role (candidate s session kind at) ≡ None) → IsCandidate c s session kind e → IsUseful c s role e → ⊥
+    none-left : (kind : EventKind) (e : Event) → ((at : ℕ) → at < places s session kind → passing c s role (candidate s session kind at) ≡ None) → IsCandidate c s session kind e → IsUseful c s role e → ⊥
     none-left kind e none place useful = passing-none (candidate s session kind place.at) e place.there (useful-passes e useful) (none place.at place.within)
 
     -- its maker is the session
@@ -145,7 +162,7 @@ module _ (c : Configuration) (s : State) (role : Role) where
     made-by other e maker useful = one-current role s other session (ap (is_maker_of role s) (sym maker) ∙ useful.maker) current
 
     -- if none passes at any place, no event of the kind is useful
-    pub none-found : (kind : EventKind) → ((at : ℕ) → at < places s kind → passing c s role (candidate s session kind at) ≡ None) → NoneOf c s role kind
+    pub none-found : (kind : EventKind) → ((at : ℕ) → at < places s session kind → passing c s role (candidate s session kind at) ≡ None) → NoneOf c s role kind
     none-found (kind_of.Request kind) none = λ other r useful.
         let same : other ≡ session = made-by other (request_event kind other r) (request-maker kind other r) useful in
         let mine : IsUseful c s role (request_event kind session r) = subst (λ (x : SessionId). IsUseful c s role (request_event kind x r)) same useful in
@@ -160,6 +177,6 @@ module _ (c : Configuration) (s : State) (role : Role) where
         none-left (kind_of.Job kind) (job_event kind session j) none (job-candidate c s session kind j mine.accepted) mine
 
     -- the first candidate of the kind that passes is a choice among the kind
-    pub first-chooses : (kind : EventKind) (o : Option Event) → IsFirstThatPasses c s role (places s kind) (candidate s session kind) o → ChoosesOf c s role kind o
+    pub first-chooses : (kind : EventKind) (o : Option Event) → IsFirstThatPasses c s role (places s session kind) (candidate s session kind) o → ChoosesOf c s role kind o
     first-chooses kind None none = none-found kind none
     first-chooses kind (Some e) first = first-useful kind e first

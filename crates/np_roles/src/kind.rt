@@ -1,6 +1,7 @@
 //! Kinds of events, by what they name.
 
 ghost use Rattle.std.specs.Prelude.{◌≡◌};
+ghost use Rattle.np_roles.specs.Candidates.{is_from_request_queue, is_from_node_queue};
 ghost use Rattle.np_roles.specs.Kinds.{request_event, node_event, job_event};
 
 use np_event::Event;
@@ -89,5 +90,27 @@ pub fn job_event(kind: JobKind, session: SessionId, job: JobId) -> Event
         JobKind::Take => Event::Take { session, job },
         JobKind::Finish => Event::Finish { session, job },
         JobKind::Release => Event::Release { session, job },
+    }
+}
+
+/// Whether the machine accepts the event only from a session in the request's queue.
+pub(crate) fn is_from_request_queue(kind: RequestKind) -> bool
+    ensures { result ≡ is_from_request_queue kind }
+{
+    match kind {
+        RequestKind::Lock | RequestKind::FailDeclined => false,
+        RequestKind::Unlock | RequestKind::Accept | RequestKind::Create => true,
+        RequestKind::Fulfil | RequestKind::Reset => true,
+    }
+}
+
+/// Whether the machine accepts the event only from a session in the node's queue.
+pub(crate) fn is_from_node_queue(kind: NodeKind) -> bool
+    ensures { result ≡ is_from_node_queue kind }
+{
+    match kind {
+        NodeKind::Lock => false,
+        NodeKind::Unlock | NodeKind::Start | NodeKind::End(_) => true,
+        NodeKind::MarkDeleting | NodeKind::Gone | NodeKind::Free => true,
     }
 }

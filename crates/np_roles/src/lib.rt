@@ -3,10 +3,12 @@
 //!
 //! A role has rows (`Rows`), which say whether an event is useful as far as the role is concerned.
 //! The candidates of a kind of event (`EventKind`) are the events of the current session that name
-//! what is in the kind's table, place by place. A candidate is tested by the machine's judge and
-//! then by its row, and the first that passes is chosen. Releases have a search of their own
-//! (`first_release`), which tests only the jobs that have a handle. `specs/Choices` says what a
-//! choice returns: a useful event (np_useful), or none if and only if there is none.
+//! what is in the kind's table, place by place; where the machine accepts an event only from a
+//! session in the queue of what it names, they name only what the session queues for. A candidate
+//! is tested by the machine's judge and then by its row, and the first that passes is chosen.
+//! Releases have a search of their own (`first_release`), which tests only the jobs that have a
+//! handle. `specs/Choices` says what a choice returns: a useful event (np_useful), or none if and
+//! only if there is none.
 #![tactic(auto)]
 
 mod first;

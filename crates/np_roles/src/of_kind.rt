@@ -3,17 +3,22 @@
 ghost use Rattle.std.specs.Prelude.{◌≡◌, true};
 ghost use Rattle.np_fits.specs.Fits.{Fits};
 ghost use Rattle.np_useful.specs.Sessions.{is_current};
-ghost use Rattle.np_roles.specs.Candidates.{places, candidate};
+ghost use Rattle.np_roles.specs.declared.kind.EventKind.TheVariants as kind_of;
+ghost use Rattle.np_roles.specs.Candidates.{places, candidate, request_named, node_named};
 ghost use Rattle.np_roles.specs.Choices.{ChoosesOf, ChoosesOfAny};
 
 use crate::first::{Candidates, first_that_passes};
-use crate::kind::{EventKind, job_event, node_event, request_event};
+use crate::kind::{
+    EventKind, NodeKind, RequestKind, is_from_node_queue, is_from_request_queue, job_event,
+    node_event, request_event,
+};
 use crate::rows::Rows;
 use np_event::Event;
 use np_look::Look;
-use np_text::{JobId, SessionId};
+use np_text::{JobId, NodeId, RequestId, SessionId};
 
-/// The session's events of the kind, by the places of the kind's table.
+/// The session's events of the kind, by place. Where the machine accepts the event only from a
+/// session in the queue of what it names, only what the session queues for is named.
 #[derive(Clone, Copy)]
 struct OfKind {
     session: SessionId,
@@ -21,25 +26,25 @@ struct OfKind {
 }
 
 impl Candidates for OfKind {
-    ghost places = { λ of c s. places s of.kind };
+    ghost places = { λ of c s. places s of.session of.kind };
 
     ghost candidate = { λ of c s at. candidate s of.session of.kind at };
 
     fn places<L: Look>(&self, look: &L) -> u32 {
         match self.kind {
-            EventKind::Request(_) => look.requests(),
-            EventKind::Node(_) => look.nodes(),
+            EventKind::Request(kind) => request_places(look, self.session, kind),
+            EventKind::Node(kind) => node_places(look, self.session, kind),
             EventKind::Job(_) => look.jobs(),
         }
     }
 
     fn candidate<L: Look>(&self, look: &L, at: u32) -> Option<Event> {
         match self.kind {
-            EventKind::Request(kind) => match look.request_at(at) {
+            EventKind::Request(kind) => match request_named(look, self.session, kind, at) {
                 None => None,
                 Some(request) => Some(request_event(kind, self.session, request)),
             },
-            EventKind::Node(kind) => match look.node_at(at) {
+            EventKind::Node(kind) => match node_named(look, self.session, kind, at) {
                 None => None,
                 Some(node) => Some(node_event(kind, self.session, node)),
             },
@@ -51,9 +56,59 @@ impl Candidates for OfKind {
     }
 }
 
+/// How many requests the session's events of the kind may name.
+fn request_places<L: Look>(look: &L, session: SessionId, kind: RequestKind) -> u32
+    ensures { result ≡ places (L.state look.now) session (kind_of.Request kind) }
+{
+    if is_from_request_queue(kind) {
+        look.queued_requests(session)
+    } else {
+        look.requests()
+    }
+}
+
+/// How many nodes the session's events of the kind may name.
+fn node_places<L: Look>(look: &L, session: SessionId, kind: NodeKind) -> u32
+    ensures { result ≡ places (L.state look.now) session (kind_of.Node kind) }
+{
+    if is_from_node_queue(kind) {
+        look.queued_nodes(session)
+    } else {
+        look.nodes()
+    }
+}
+
+/// The request at a place among those that the session's events of the kind may name.
+fn request_named<L: Look>(
+    look: &L,
+    session: SessionId,
+    kind: RequestKind,
+    at: u32,
+) -> Option<RequestId>
+    ensures { result ≡ request_named (L.state look.now) session kind at }
+{
+    if is_from_request_queue(kind) {
+        look.queued_request_at(session, at)
+    } else {
+        look.request_at(at)
+    }
+}
+
+/// The node at a place among those that the session's events of the kind may name.
+fn node_named<L: Look>(look: &L, session: SessionId, kind: NodeKind, at: u32) -> Option<NodeId>
+    ensures { result ≡ node_named (L.state look.now) session kind at }
+{
+    if is_from_node_queue(kind) {
+        look.queued_node_at(session, at)
+    } else {
+        look.node_at(at)
+    }
+}
+
 /// The first useful event of the kind that the current session may make, in the order of the kind's
 /// table, or `None` if and only if no event of the kind is useful. It tests each candidate up to
-/// the first that passes.
+/// the first that passes: the requests or nodes in whose queues the session is, and all of them
+/// only for locks and for requests that every pool declined.
 pub fn first_of_kind<L: Look, R: Rows>(
     look: &L,
     rows: &R,
