@@ -5,5 +5,6 @@ pub mod Currents
 pub mod Openings
 pub mod Searches
 pub mod Releases
+pub mod NodeLocks
 pub mod Wholes
 pub mod Unfinished

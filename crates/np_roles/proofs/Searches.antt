@@ -37,7 +37,7 @@ use Rattle.np_roles.proofs.Currents.{one-current}
 
 -- ## an accepted event names something that is at a place
 
-entry-of : {X Y : Type 0} (f : X → Y) (o : Option X) → (option_map f o ≡ None → ⊥) → (x : X) × (o ≡ Some x)
+pub entry-of : {X Y : Type 0} (f : X → Y) (o : Option X) → (option_map f o ≡ None → ⊥) → (x : X) × (o ≡ Some x)
 entry-of f None there = absurd (there refl)
 entry-of f (Some x) there = (x, refl)
 
