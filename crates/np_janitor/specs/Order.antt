@@ -1,5 +1,7 @@
--- in which order a janitor's kinds of events are tried
-use Rattle.std.specs.Prelude.{List, [], ◌∷◌, ◌++◌}
+-- in which order a janitor's kinds of events are tried, and which nodes it may lock
+use Rattle.std.specs.Prelude.{List, [], ◌∷◌, ◌++◌, Bool, ◌==◌, ◌&&◌, is_none}
+use Rattle.np_text.specs.declared.id.PoolId.{PoolId}
+use Rattle.np_look.specs.declared.asked.NodeView.{NodeView}
 use Rattle.np_roles.specs.declared.kind.EventKind.{EventKind}
 use Rattle.np_roles.specs.declared.kind.EventKind.TheVariants.{Request, Node, Job}
 use Rattle.np_roles.specs.declared.kind.RequestKind.TheVariants as of_request
@@ -25,3 +27,7 @@ after_release = Request of_request.Lock ∷ Node of_node.Lock ∷ []
 -- all of them, in order (own)
 abbrev pub janitor_order : List EventKind
 janitor_order = before_finish ++ Job of_job.Finish ∷ Job of_job.Release ∷ after_release
+
+-- a node of the pool that nobody holds (own)
+abbrev pub is_free_of : PoolId → NodeView → Bool
+is_free_of p v = (v.kept.pool.0 == p.0) && is_none v.holder

@@ -19,10 +19,11 @@ ghost use Rattle.np_janitor.specs.Finishes.{ChoosesFinish};
 
 use crate::cleanable::{PoolPause, is_cleanable};
 use np_event::Event;
-use np_look::Look;
+use np_look::{Look, NodeView};
 use np_roles::{
-    EventKind, NodeKind, RequestKind, Rows, choose_opening, current_session, first_of_kinds,
-    first_release, has_some_handle, is_same_role, is_stopped, may_open, passes,
+    EventKind, NodeKind, NodeTest, RequestKind, Rows, choose_opening, current_session,
+    first_node_lock, first_of_kind, first_of_kinds, first_release, has_some_handle, is_same_role,
+    is_stopped, may_open, passes,
 };
 use np_text::{
     JobId, NodeId, PoolId, REQUESTERS, RequestId, RequestState, RequesterId, Role, SessionId,
@@ -39,11 +40,21 @@ const BEFORE_FINISH: [EventKind; 7] = [
     EventKind::Request(RequestKind::FailDeclined),
 ];
 
-/// The kinds that are tried after finish and release, in the order of the crate's table.
-const AFTER_RELEASE: [EventKind; 2] = [
-    EventKind::Request(RequestKind::Lock),
-    EventKind::Node(NodeKind::Lock),
-];
+/// A node of the pool that nobody holds.
+#[derive(Clone, Copy)]
+struct FreeOf {
+    pool: PoolId,
+}
+
+impl NodeTest for FreeOf {
+    ghost use Rattle.np_janitor.specs.Order.{is_free_of};
+
+    ghost such = { λ t v. is_free_of t.pool v };
+
+    fn is_such(&self, view: &NodeView) -> bool {
+        view.kept.pool.0 == self.pool.0 && view.holder.is_none()
+    }
+}
 
 /// Whether the request exists and is pending, and the pool serves it.
 fn is_served<L: Look>(look: &L, pool: PoolId, request: RequestId) -> bool
@@ -247,5 +258,10 @@ pub fn choose_janitor<L: Look>(look: &L, pool: PoolId) -> Option<Event>
     if found.is_some() {
         return found;
     }
-    first_of_kinds(look, &rows, session, &AFTER_RELEASE)
+    let lock = EventKind::Request(RequestKind::Lock);
+    let found = first_of_kind(look, &rows, session, lock);
+    if found.is_some() {
+        return found;
+    }
+    first_node_lock(look, &rows, session, FreeOf { pool })
 }

@@ -25,10 +25,11 @@
 //!
 //! In a state of `r` requests, `n` nodes and `s` sessions, a janitor's choice determines once
 //! whether the pool is paused. What only a session in a queue may do is tested on the requests and
-//! nodes in whose queues the janitor's session is; fail-declined and the locks, which are last, are
-//! tested on all of them once. Then there are the finish of each job that is not over of a requester
-//! that stopped for good, and the release of each job that has a handle. So the cost grows with
-//! `r + n`, and with the number of those jobs. The jobs that are not over are found by a reader of
+//! nodes in whose queues the janitor's session is; fail-declined and lock-request are tested on each
+//! request, and lock-node on each node of its pool that nobody holds, for which it reads every node
+//! once. Then there are the finish of each job that is not over of a requester that stopped for
+//! good, and the release of each job that has a handle. So the cost grows with `r + n`, and with the
+//! number of those jobs. The jobs that are not over are found by a reader of
 //! `Look`, which is a lookup if the state keeps an index. A test of a node determines whether
 //! another pool is paused only if the janitor waits at a node of that pool. The cost of the reaper's
 //! choice grows with `s`, and with the faults of the configuration for each session that is not
