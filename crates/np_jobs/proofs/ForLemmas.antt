@@ -1,31 +1,37 @@
 -- a node of a request that is handed over is determined by its allocation
 use Rattle.std.proofs.Common.{◌≡◌, ◌<◌, ℕ, zero, suc, List, [], ◌∷◌, length, refl, sym, ap, ◌∙◌, arith, Option, Some, None, Bool, true, false}
-use Rattle.std.specs.Prelude.{slice_get, ◌&&◌}
+use Rattle.std.specs.Prelude.{slice_get, ◌&&◌, not, is_ok}
 use Rattle.std.specs.Option.{option_map, option_map_or}
 use Rattle.std.specs.List.{AllByRecursion}
 use Rattle.std.proofs.lemmas.Bool.Decides.{nat_tests}
 use Rattle.std.proofs.lemmas.Option.{slice_get_within}
 use Rattle.np_text.specs.declared.id.NodeId.{NodeId}
+use Rattle.np_text.specs.declared.id.SessionId.{SessionId}
 use Rattle.np_text.specs.declared.id.RequestId.{RequestId}
 use Rattle.np_text.specs.declared.id.RequesterId.{RequesterId}
+use Rattle.np_text.specs.declared.id.Role.TheVariants.{Requester}
 use Rattle.np_site.specs.Configuration.{Configuration}
 use Rattle.np_record.specs.declared.record.NodeRecord.{NodeRecord}
 use Rattle.np_lists.specs.Rising.{Rises}
 use Rattle.np_lists.proofs.EditLemmas.{list_any-there}
+use Rattle.np_event.specs.declared.event.Event.TheVariants as ev
 use Rattle.np_changes.specs.Asked.{asked_of}
-use Rattle.np_machine.specs.Entries.{RequestEntry}
+use Rattle.np_machine.specs.Entries.{RequestEntry, NodeEntry}
 use Rattle.np_machine.specs.Order.{is_id_before}
-use Rattle.np_machine.specs.Kinds.{is_fulfilled}
+use Rattle.np_machine.specs.Kinds.{is_fulfilled, is_ready}
 use Rattle.np_machine.specs.Safe.{OwnsItsLabels, FulfilledOwn, IsGiven}
 use Rattle.np_machine.specs.State.{State}
-use Rattle.np_machine.specs.Tables.{is_request, same_request, request_entry, request_in, node_in}
+use Rattle.np_machine.specs.Step.{judge}
+use Rattle.np_machine.specs.Tables.{is_request, same_request, request_entry, request_in, is_queued, node_entry, node_in, node_queue}
 use Rattle.np_changes.specs.Planned.{IsReached}
 use Rattle.np_safe.proofs.Runs.{invariant-Runs, fulfilled-Runs}
 use Rattle.np_safe.proofs.Places.{PassesAt, any-place, node-place, place-there}
 use Rattle.np_safe.proofs.Lookups.{same_request-is, same_request-self}
+use Rattle.np_look.specs.Views.{node_view}
 use Rattle.np_useful.specs.Rows.{is_listed}
 use Rattle.np_useful.specs.Requester.{is_handed_over, is_for}
-use Rattle.np_jobs.specs.Given.{has_given, is_given}
+use Rattle.np_roles.specs.Passing.{passes}
+use Rattle.np_jobs.specs.Given.{has_given, is_given, is_ready_allocated}
 
 -- ## requests, each number once
 
@@ -77,11 +83,12 @@ and-second : (a b : Bool) → (a && b) ≡ true → b ≡ true
 and-second true b is = is
 and-second false b is = absurd cc
 
--- the node exists, and is allocated to a request that is handed over and lists it
+-- the node exists, is ready, and is allocated to a request that is handed over and lists it
 pub record IsHanded (s : State) (n : NodeId) (e : RequestEntry) : Type 0 where
   pub found : request_in e.id s.requests ≡ Some e.kept
   pub node : NodeRecord
   pub stands : node_in n s.nodes ≡ Some node
+  pub ready : is_ready node.state ≡ true
   pub allocated : node.allocated_to ≡ Some e.id
 
 named : (r : RequestId) (o : Option RequestId) → is_request r o ≡ true → o ≡ Some r
@@ -97,7 +104,7 @@ module _ (c : Configuration) (s : State) (q : RequesterId) (n : NodeId) (rise : 
       let within : place.0 < length e.kept.labels = omega (arith, owns.as_many, slice_get_within e.kept.nodes place.0 n place.1) in
       let label = place-there e.kept.labels place.0 within in
       let is : IsGiven s e.id owns.pool n label.0 = owns.each place.0 n label.0 place.1 label.1 in
-      record { found = found; node = is.node; stands = is.stands; allocated = named e.id is.node.allocated_to is.allocated }
+      record { found = found; node = is.node; stands = is.stands; ready = is.ready; allocated = named e.id is.node.allocated_to is.allocated }
 
   -- if the node is for the requester, there is such a request
   pub record IsFound : Type 0 where
@@ -125,6 +132,16 @@ module _ (c : Configuration) (s : State) (q : RequesterId) (n : NodeId) (rise : 
   -- a node that does not exist is for nobody
   pub for-none : node_in n s.nodes ≡ None → is_for c s q n ≡ false
   for-none none = none_by (is_for c s q n) refl none
+
+  -- a node that is for the requester is ready and allocated
+  pub for-given : is_for c s q n ≡ true → (e : NodeEntry) → node_entry n s.nodes ≡ Some e → is_ready_allocated (node_view e) ≡ true
+  for-given is e there =
+      let found = found_for is in
+      let stands : node_in n s.nodes ≡ Some e.kept = ap (option_map (λ (x : NodeEntry). x.kept)) there in
+      let same : found.handed_to.node ≡ e.kept = (let told : Some found.handed_to.node ≡ Some e.kept = sym found.handed_to.stands ∙ stands in cc) in
+      let ready : is_ready e.kept.state ≡ true = ap (λ (x : NodeRecord). is_ready x.state) (sym same) ∙ found.handed_to.ready in
+      let allocated : e.kept.allocated_to ≡ Some found.entry.id = ap (λ (x : NodeRecord). x.allocated_to) (sym same) ∙ found.handed_to.allocated in
+      rw (ready, allocated) refl
 
   module _ (k : NodeRecord) (stands : node_in n s.nodes ≡ Some k) where
     there : is_for c s q n ≡ true → is_given c s q n k ≡ true
@@ -158,3 +175,9 @@ ids-rise c s reached = (invariant-Runs c reached.journal s reached.runs).numbere
 
 pub all-own : (c : Configuration) (s : State) → IsReached c s → FulfilledOwn s
 all-own c s reached = λ r request found fulfilled. fulfilled-Runs c reached.journal s reached.runs r request found fulfilled
+
+-- a node whose lock passes is ready and allocated
+pub lock-given : (c : Configuration) (s : State) (q : RequesterId) (session : SessionId) (n : NodeId) → IsReached c s → (e : NodeEntry) → node_entry n s.nodes ≡ Some e → passes c s (Requester q) (ev.LockNode session n) ≡ true → is_ready_allocated (node_view e) ≡ true
+lock-given c s q session n reached e there passed =
+    let row : (is_for c s q n && not (is_queued session (node_queue n s.nodes))) ≡ true = and-second (is_ok (judge c s (ev.LockNode session n))) (is_for c s q n && not (is_queued session (node_queue n s.nodes))) passed in
+    for-given c s q n (ids-rise c s reached) (all-own c s reached) (and-first (is_for c s q n) (not (is_queued session (node_queue n s.nodes))) row) e there

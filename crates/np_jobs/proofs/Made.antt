@@ -14,11 +14,12 @@ use Rattle.np_machine.specs.State.{State}
 use Rattle.np_useful.specs.Useful.{IsUseful}
 use Rattle.np_useful.specs.Sessions.{is_current}
 use Rattle.np_roles.specs.declared.kind.EventKind.{EventKind}
-use Rattle.np_roles.specs.declared.kind.EventKind.TheVariants.{Job}
+use Rattle.np_roles.specs.declared.kind.EventKind.TheVariants.{Node, Job}
+use Rattle.np_roles.specs.declared.kind.NodeKind.TheVariants as of_node
 use Rattle.np_roles.specs.declared.kind.JobKind.TheVariants as of_job
 use Rattle.np_roles.specs.Choices.{Chooses, ChoosesOf, ChoosesOfAny, NoneOpens, NoneOf}
 use Rattle.np_roles.proofs.Wholes.{kinds-choose}
-use Rattle.np_jobs.specs.Steps.{steps, on_nodes, rest}
+use Rattle.np_jobs.specs.Steps.{steps, leaving, rest}
 
 none : false ≡ true → ⊥
 none is = cc
@@ -67,9 +68,12 @@ all-kinds : (c : Configuration) (s : State) (role : Role) (one other : List Even
 all-kinds c s role [] other first second = second
 all-kinds c s role (kind ∷ one) other first second = (first.0, all-kinds c s role one other first.1 second)
 
--- if no step and no release is useful, the kinds on nodes decide
-pub all-choose : (c : Configuration) (s : State) (q : RequesterId) (session : SessionId) → is_current (Requester q) session s ≡ true → (found : Option Event) → ChoosesOfAny c s (Requester q) steps found → is_some found ≡ false → (release : Option Event) → ChoosesOf c s (Requester q) (Job of_job.Release) release → is_some release ≡ false → (o : Option Event) → ChoosesOfAny c s (Requester q) on_nodes o → Chooses c s (Requester q) o
-all-choose c s q session current None first is None second fails None third = kinds-choose c s (Requester q) (steps ++ rest) (requester-law c s q) session current None (all-kinds c s (Requester q) steps rest first (second, third))
-all-choose c s q session current None first is None second fails (Some e) third = third
-all-choose c s q session current None first is (Some e) second fails o third = absurd cc
-all-choose c s q session current (Some e) first is release second fails o third = absurd cc
+-- if no step, no release and no leaving is useful, the lock of a node decides
+pub all-choose : (c : Configuration) (s : State) (q : RequesterId) (session : SessionId) → is_current (Requester q) session s ≡ true → (found : Option Event) → ChoosesOfAny c s (Requester q) steps found → is_some found ≡ false → (release : Option Event) → ChoosesOf c s (Requester q) (Job of_job.Release) release → is_some release ≡ false → (left : Option Event) → ChoosesOfAny c s (Requester q) leaving left → is_some left ≡ false → (o : Option Event) → ChoosesOf c s (Requester q) (Node of_node.Lock) o → Chooses c s (Requester q) o
+all-choose c s q session current None first is None second fails None third stays None fourth =
+    kinds-choose c s (Requester q) (steps ++ rest) (requester-law c s q) session current None
+    (all-kinds c s (Requester q) steps rest first (second, all-kinds c s (Requester q) leaving (Node of_node.Lock ∷ []) third (fourth, tt)))
+all-choose c s q session current None first is None second fails None third stays (Some e) fourth = fourth
+all-choose c s q session current None first is None second fails (Some e) third stays o fourth = absurd cc
+all-choose c s q session current None first is (Some e) second fails left third stays o fourth = absurd cc
+all-choose c s q session current (Some e) first is release second fails left third stays o fourth = absurd cc

@@ -1,5 +1,5 @@
 -- what a requester may do next with a job that is not over
-use Rattle.std.specs.Prelude.{◌≡◌, List, [], ◌∷◌, false, Option, Some, None}
+use Rattle.std.specs.Prelude.{◌≡◌, ◌++◌, List, [], ◌∷◌, false, Option, Some, None}
 use Rattle.np_text.specs.declared.id.SessionId.{SessionId}
 use Rattle.np_text.specs.declared.id.RequesterId.{RequesterId}
 use Rattle.np_text.specs.declared.id.JobId.{JobId}
@@ -20,13 +20,13 @@ use Rattle.np_roles.specs.Passing.{passes}
 abbrev pub steps : List EventKind
 steps = Job of_job.Finish ∷ Job of_job.Take ∷ Job of_job.Acquire ∷ Job of_job.Submit ∷ []
 
--- the kinds that are tried on each node (own)
-abbrev pub on_nodes : List EventKind
-on_nodes = Node (of_node.End end.Used) ∷ Node (of_node.End end.Hold) ∷ Node of_node.Unlock ∷ Node of_node.Lock ∷ []
+-- the kinds that are tried on each node in whose queue the session is (own)
+abbrev pub leaving : List EventKind
+leaving = Node (of_node.End end.Used) ∷ Node (of_node.End end.Hold) ∷ Node of_node.Unlock ∷ []
 
 -- the kinds that are tried after the steps (own)
 abbrev pub rest : List EventKind
-rest = Job of_job.Release ∷ on_nodes
+rest = Job of_job.Release ∷ (leaving ++ (Node of_node.Lock ∷ []))
 
 -- none of the session's events of these kinds on the job passes (own)
 pub record IsPassed (c : Configuration) (s : State) (q : RequesterId) (session : SessionId) (j : JobId) : Type 0 where

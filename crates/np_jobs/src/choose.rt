@@ -7,21 +7,24 @@ ghost use Rattle.np_fits.specs.Fits.{Fits};
 ghost use Rattle.np_machine.specs.Session.{is_role};
 ghost use Rattle.np_roles.specs.Choices.{Chooses};
 
+use crate::node::ReadyAllocated;
 use crate::rows::RequesterRows;
 use crate::unfinished::next_with_unfinished;
 use np_event::Event;
 use np_look::Look;
 use np_roles::{
-    EventKind, NodeKind, choose_opening, current_session, first_of_kinds, first_release,
+    EventKind, NodeKind, choose_opening, current_session, first_node_lock, first_of_kinds,
+    first_release,
 };
 use np_text::{EndAs, RequesterId, Role};
 
 /// A useful event of the requester, or `None` if and only if there is none. It takes no memory. It
 /// looks up each of the requester's jobs that is not over, and judges at most three events for each
 /// of these that has begun or is in the window. Then it judges one event for each handle that a job
-/// has, three for each node in whose queue its session is, and one for each node, up to the first
-/// that is useful. An event on a node costs a few lookups, however many requests there are; how a
-/// node that the requester uses is to be left is found by a search of all jobs.
+/// has, and three for each node in whose queue its session is. Last it reads every node, and judges
+/// one event for each ready node that is allocated to a request. It stops at the first event that
+/// is useful. An event on a node costs a few lookups, however many requests there are; how a node
+/// that the requester uses is to be left is found by a search of all jobs.
 pub fn choose_requester<L: Look>(look: &L, requester: RequesterId) -> Option<Event>
     requires there { is_role (L.site look.now) (Requester requester) ≡ true }
     requires reached { IsReached (L.site look.now) (L.state look.now) }
@@ -40,7 +43,7 @@ pub fn choose_requester<L: Look>(look: &L, requester: RequesterId) -> Option<Eve
     if release.is_some() {
         return release;
     }
-    first_of_kinds(
+    let leaving = first_of_kinds(
         look,
         &rows,
         session,
@@ -48,7 +51,10 @@ pub fn choose_requester<L: Look>(look: &L, requester: RequesterId) -> Option<Eve
             EventKind::Node(NodeKind::End(EndAs::Used)),
             EventKind::Node(NodeKind::End(EndAs::Hold)),
             EventKind::Node(NodeKind::Unlock),
-            EventKind::Node(NodeKind::Lock),
         ],
-    )
+    );
+    if leaving.is_some() {
+        return leaving;
+    }
+    first_node_lock(look, &rows, session, ReadyAllocated)
 }

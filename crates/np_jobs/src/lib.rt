@@ -7,7 +7,7 @@
 //! | finish, take, acquire, submit | each of its jobs that has begun or is in the window, in order |
 //! | release | each job that has a handle |
 //! | end-node, unlock-node | each node in whose queue its session is, by number |
-//! | lock-node | each node, by number |
+//! | lock-node | each ready node that is allocated, by number |
 //! | open a session | if it has none |
 //!
 //! A job that is over, or that is new and past the window, has no useful event of the first four, and

@@ -11,9 +11,24 @@ ghost use Rattle.np_useful.specs.Rows.{node_is};
 ghost use Rattle.np_jobs.specs.Given.{has_given, is_given};
 
 use np_changes::Asked;
-use np_look::Look;
+use np_look::{Look, NodeView};
 use np_record::NodeRecord;
+use np_roles::NodeTest;
 use np_text::{EndAs, JobId, NodeId, NodeState, Phase, RequestId, RequestState, RequesterId};
+
+/// A ready node that is allocated to a request. Each node that is for a requester is one.
+#[derive(Clone, Copy)]
+pub(crate) struct ReadyAllocated;
+
+impl NodeTest for ReadyAllocated {
+    ghost use Rattle.np_jobs.specs.Given.{is_ready_allocated};
+
+    ghost such = { λ test view. is_ready_allocated view };
+
+    fn is_such(&self, view: &NodeView) -> bool {
+        view.kept.state == NodeState::Ready && view.kept.allocated_to.is_some()
+    }
+}
 
 /// Whether it is a job of the requester that has asked for its nodes.
 fn is_asked_by<L: Look>(look: &L, requester: RequesterId, id: JobId) -> bool
