@@ -3,4 +3,5 @@ pub mod Finds
 pub mod Reasons
 pub mod Spares
 pub mod Sums
+pub mod Locks
 pub mod Launchers

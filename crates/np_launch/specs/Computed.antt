@@ -1,5 +1,5 @@
 -- the events of a launcher that name more than a request, a node or a job, by place
-use Rattle.std.specs.Prelude.{ℕ, Bool, true, false, ◌&&◌, ◌==◌, not, if◌then◌else◌, Option, Some, None, is_some, length, find, slice_get, is_ok, option_and_then}
+use Rattle.std.specs.Prelude.{ℕ, Bool, true, false, ◌==◌, if◌then◌else◌, Option, Some, None, is_some, length, find, slice_get, is_ok, option_and_then}
 use Rattle.std.specs.Option.{option_map, option_map_or}
 use Rattle.np_text.specs.declared.id.SessionId.{SessionId}
 use Rattle.np_text.specs.declared.id.PoolId.{PoolId}
@@ -18,13 +18,12 @@ use Rattle.np_machine.specs.Entries.{NodeEntry}
 use Rattle.np_machine.specs.Order.{is_pending_by}
 use Rattle.np_machine.specs.Plan.{outcome_of}
 use Rattle.np_machine.specs.Reasons.{next_label, first_unoffered, never_fits, is_spent}
-use Rattle.np_machine.specs.Tables.{session_of, is_session_of}
+use Rattle.np_machine.specs.Tables.{session_of, request_in, node_in}
 use Rattle.np_machine.specs.Tenants.{tenant_never_fits}
 use Rattle.np_machine.specs.State.{State}
 use Rattle.np_machine.specs.Step.{judge}
-use Rattle.np_look.specs.Views.{request_view, node_view}
-use Rattle.np_look.specs.Readers.{free_ready_of}
-use Rattle.np_useful.specs.Rows.{request_is, is_complete}
+use Rattle.np_look.specs.Readers.{free_ready_of, queued_requests, queued_nodes}
+use Rattle.np_useful.specs.Rows.{request_is}
 use Rattle.np_launch.specs.declared.computed.ComputedKind.{ComputedKind}
 use Rattle.np_launch.specs.declared.computed.ComputedKind.TheVariants as computed
 
@@ -85,32 +84,34 @@ has_spare s session r = option_map_or (has_free_ready s r) (pool_of s session) f
 
 -- ## the events, by place
 
--- the simulated cloud's report on the last attempt of the node at a place
+-- the simulated cloud's report on the last attempt of the node at a place, of those in whose queues
+-- the session is
 abbrev pub done_at : Configuration → State → PoolId → SessionId → ℕ → Option Event
 done_at c s p session at =
-    option_map (λ v. ev.Done session v.id v.kept.attempts (outcome_of c p v.kept.start)) (option_map node_view (slice_get s.nodes at))
+    option_and_then (λ n. option_map (λ k. ev.Done session n k.attempts (outcome_of c p k.start)) (node_in n s.nodes)) (slice_get (queued_nodes session s) at)
 
--- the request at a place, if the pool serves it and it is not complete, with its first ready node
+-- the request at a place, of those in whose queues the session is, with its first ready node, if the
+-- pool serves it
 abbrev pub take_ready_at : Configuration → State → PoolId → SessionId → ℕ → Option Event
 take_ready_at c s p session at =
-    option_and_then (λ v. if is_pending_by p v.kept && not (is_complete v.kept) then option_map (λ n. ev.TakeReady session v.id n) (first_takable c s session v.id) else None) (option_map request_view (slice_get s.requests at))
+    option_and_then (λ r. option_and_then (λ k. if is_pending_by p k then option_map (λ n. ev.TakeReady session r n) (first_takable c s session r) else None) (request_in r s.requests)) (slice_get (queued_requests session s) at)
 
--- the request at a place, if the session holds it, with its first reason
+-- the request at a place, of those in whose queues the session is, with its first reason
 abbrev pub decline_at : Configuration → State → PoolId → SessionId → ℕ → Option Event
 decline_at c s p session at =
-    option_and_then (λ v. if is_session_of session v.holder then option_map (λ why. ev.Decline session v.id why) (first_reason c s p v.kept) else None) (option_map request_view (slice_get s.requests at))
+    option_and_then (λ r. option_and_then (λ k. option_map (λ why. ev.Decline session r why) (first_reason c s p k)) (request_in r s.requests)) (slice_get (queued_requests session s) at)
 
 -- the label at a place
 abbrev pub min_ready_at : Configuration → SessionId → ℕ → Option Event
 min_ready_at c session at = option_map (λ _. ev.MinReady session (record { 0 = at })) (slice_get c.labels at)
 
 -- how many places the kind has
-abbrev pub computed_places : Configuration → State → ComputedKind → ℕ
-computed_places c s computed.Register = 1
-computed_places c s computed.Done = length s.nodes
-computed_places c s computed.TakeReady = length s.requests
-computed_places c s computed.Decline = length s.requests
-computed_places c s computed.MinReady = length c.labels
+abbrev pub computed_places : Configuration → State → SessionId → ComputedKind → ℕ
+computed_places c s session computed.Register = 1
+computed_places c s session computed.Done = length (queued_nodes session s)
+computed_places c s session computed.TakeReady = length (queued_requests session s)
+computed_places c s session computed.Decline = length (queued_requests session s)
+computed_places c s session computed.MinReady = length c.labels
 
 -- the session's event of the kind at a place
 abbrev pub computed_at : Configuration → State → PoolId → SessionId → ComputedKind → ℕ → Option Event

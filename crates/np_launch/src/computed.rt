@@ -10,12 +10,12 @@ ghost use Rattle.np_useful.specs.Launcher.{may_take_ready, is_first_reason};
 ghost use Rattle.np_useful.specs.Rows.{request_is};
 ghost use Rattle.np_launch.specs.Computed.{same_reason, is_reason, first_reason, pool_of, has_free_ready, has_spare, first_takable, done_at, take_ready_at, decline_at, min_ready_at, computed_places, computed_at};
 
-use crate::request::{is_complete, is_pending_by, is_spent, outcome_of};
+use crate::request::{is_served_by, is_spent, outcome_of};
 use np_changes::Asked;
 use np_config::Config;
 use np_decision::decide;
 use np_event::Event;
-use np_look::{Look, asked_of, first_unoffered, is_too_much, tenant_never_fits};
+use np_look::{Look, first_unoffered, is_too_much, tenant_never_fits};
 use np_roles::Candidates;
 use np_text::{LabelId, NodeId, PoolId, Reason, RequestId, Role, SessionId};
 
@@ -81,7 +81,7 @@ fn has_spare<L: Look>(look: &L, session: SessionId, request: RequestId) -> bool
 }
 
 /// The first node that the session may allocate to the request. It tests every node up to that one,
-/// but only if the pool has a spare node.
+/// but only if the pool has a spare node for the request, which one reader answers.
 fn first_takable<L: Look>(look: &L, session: SessionId, request: RequestId) -> Option<NodeId>
     requires { Fits (L.site look.now) (L.state look.now) }
     ensures { result ≡ first_takable (L.site look.now) (L.state look.now) session request }
@@ -159,62 +159,66 @@ pub(crate) fn is_first_reason<L: Look>(
     }
 }
 
-/// The simulated cloud's report on the last attempt of the node at a place.
+/// The simulated cloud's report on the last attempt of the node at a place, of the nodes in whose
+/// queues the session is.
 fn done_at<L: Look>(look: &L, pool: PoolId, session: SessionId, at: u32) -> Option<Event>
     ensures { result ≡ done_at (L.site look.now) (L.state look.now) pool session at }
 {
-    let Some(view) = look.node_view(at) else {
+    let Some(node) = look.queued_node_at(session, at) else {
+        return None;
+    };
+    let Some(kept) = look.node(node) else {
         return None;
     };
     Some(Event::Done {
         session,
-        node: view.id,
-        attempt: view.kept.attempts,
-        outcome: outcome_of(look.config(), pool, view.kept.start),
+        node,
+        attempt: kept.attempts,
+        outcome: outcome_of(look.config(), pool, kept.start),
     })
 }
 
-/// The request at a place, if the pool serves it and it is not complete, with its first ready node.
+/// The request at a place, of those in whose queues the session is, with its first ready node, if
+/// the pool serves it.
 fn take_ready_at<L: Look>(look: &L, pool: PoolId, session: SessionId, at: u32) -> Option<Event>
     requires { Fits (L.site look.now) (L.state look.now) }
     ensures { result ≡ take_ready_at (L.site look.now) (L.state look.now) pool session at }
 {
-    let Some(view) = look.request_view(at) else {
+    let Some(request) = look.queued_request_at(session, at) else {
         return None;
     };
-    if !is_pending_by(pool, &view.kept) || is_complete(&view.kept) {
+    let Some(asked) = look.asked(request) else {
+        return None;
+    };
+    if !is_served_by(pool, &asked) {
         return None;
     }
-    match first_takable(look, session, view.id) {
+    match first_takable(look, session, request) {
         None => None,
         Some(node) => Some(Event::TakeReady {
             session,
-            request: view.id,
+            request,
             node,
         }),
     }
 }
 
-/// The request at a place, if the session holds it, with its first reason.
+/// The request at a place, of those in whose queues the session is, with its first reason.
 fn decline_at<L: Look>(look: &L, pool: PoolId, session: SessionId, at: u32) -> Option<Event>
     requires { Fits (L.site look.now) (L.state look.now) }
     ensures { result ≡ decline_at (L.site look.now) (L.state look.now) pool session at }
 {
-    let Some(view) = look.request_view(at) else {
+    let Some(request) = look.queued_request_at(session, at) else {
         return None;
     };
-    let held = match view.holder {
-        None => false,
-        Some(other) => other.0 == session.0,
-    };
-    if !held {
+    let Some(asked) = look.asked(request) else {
         return None;
-    }
-    match first_reason(look, pool, &asked_of(&view.kept)) {
+    };
+    match first_reason(look, pool, &asked) {
         None => None,
         Some(reason) => Some(Event::Decline {
             session,
-            request: view.id,
+            request,
             reason,
         }),
     }
@@ -284,7 +288,9 @@ fn min_ready_at(config: &Config, session: SessionId, at: u32) -> Option<Event>
     }
 }
 
-/// The session's events of the kind, by place.
+/// The session's events of the kind, by place. The machine accepts a report, an allocation and a
+/// decline only from the session that holds the node or the request, so only what the session
+/// queues for is named.
 #[derive(Clone, Copy)]
 pub(crate) struct OfComputed {
     pub(crate) pool: PoolId,
@@ -293,15 +299,17 @@ pub(crate) struct OfComputed {
 }
 
 impl Candidates for OfComputed {
-    ghost places = { λ of c s. computed_places c s of.kind };
+    ghost places = { λ of c s. computed_places c s of.session of.kind };
 
     ghost candidate = { λ of c s at. computed_at c s of.pool of.session of.kind at };
 
     fn places<L: Look>(&self, look: &L) -> u32 {
         match self.kind {
             ComputedKind::Register => 1,
-            ComputedKind::Done => look.nodes(),
-            ComputedKind::TakeReady | ComputedKind::Decline => look.requests(),
+            ComputedKind::Done => look.queued_nodes(self.session),
+            ComputedKind::TakeReady | ComputedKind::Decline => {
+                look.queued_requests(self.session)
+            }
             ComputedKind::MinReady => label_count(look.config()),
         }
     }

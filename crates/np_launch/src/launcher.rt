@@ -8,7 +8,9 @@ ghost use Rattle.np_fits.specs.Fits.{Fits};
 ghost use Rattle.np_useful.specs.Sessions.{is_current};
 ghost use Rattle.np_useful.specs.Launcher.{may_take_ready, is_by_registrant, registered_row};
 ghost use Rattle.np_useful.specs.Rows.{request_is, has_failed_node};
-ghost use Rattle.np_roles.specs.Choices.{Chooses};
+ghost use Rattle.np_roles.specs.declared.kind.EventKind.TheVariants.{Request};
+ghost use Rattle.np_roles.specs.declared.kind.RequestKind.TheVariants.{Lock};
+ghost use Rattle.np_roles.specs.Choices.{Chooses, ChoosesOf};
 ghost use Rattle.np_launch.specs.Choices.{launcher_order, ChoosesComputed, ChoosesLaunched, ChoosesOfAnyKind};
 
 use crate::computed::{ComputedKind, OfComputed, is_first_reason, may_take_ready};
@@ -19,7 +21,7 @@ use np_event::Event;
 use np_look::Look;
 use np_roles::{
     EventKind, NodeKind, RequestKind, Rows, choose_opening, current_session, first_of_kind,
-    first_that_passes, is_same_role, may_open,
+    first_that_passes, is_same_role, may_open, passes,
 };
 use np_text::{PoolId, RequestId, Role, SessionId};
 
@@ -154,6 +156,28 @@ fn first_of_computed<L: Look>(
     )
 }
 
+/// The lock of the first request that the pool's launcher may take up, if that is useful, or `None`
+/// if and only if no lock of a request is useful: the machine accepts the lock of no other request.
+/// It costs one search for that request, and the test of one event, whose judge makes the search
+/// again.
+fn first_lock<L: Look>(look: &L, rows: &LauncherRows, session: SessionId) -> Option<Event>
+    requires reached { IsReached (L.site look.now) (L.state look.now) }
+    requires fits { Fits (L.site look.now) (L.state look.now) }
+    requires current { is_current (Launcher rows.now.pool) session (L.state look.now) ≡ true }
+    ensures { ChoosesOf (L.site look.now) (L.state look.now) (Launcher rows.now.pool)
+        (Request Lock) result }
+{
+    let Some(request) = look.first_of(rows.pool) else {
+        return None;
+    };
+    let event = Event::LockRequest { session, request };
+    if passes(look, rows, event) {
+        Some(event)
+    } else {
+        None
+    }
+}
+
 /// The first useful event of the kind, or `None` if and only if there is none.
 fn first_launched<L: Look>(
     look: &L,
@@ -167,6 +191,7 @@ fn first_launched<L: Look>(
     ensures { ChoosesLaunched (L.site look.now) (L.state look.now) rows.now.pool kind result }
 {
     match kind {
+        LaunchKind::Plain(EventKind::Request(RequestKind::Lock)) => first_lock(look, rows, session),
         LaunchKind::Plain(plain) => first_of_kind(look, rows, session, plain),
         LaunchKind::Computed(computed) => first_of_computed(look, rows, session, computed),
     }
@@ -194,10 +219,12 @@ fn first_of_any<L: Look>(
 }
 
 /// A useful event of the pool's launcher, the first in the order of the crate's table, or `None` if
-/// and only if there is none. Its cost grows with the number of requests, nodes and labels, and, if
-/// the launcher has no session, with the number of sessions. For a node that may be started, and
-/// for a request that may be locked, it may scan all requests, and for a request that the pool
-/// serves all nodes up to a ready one.
+/// and only if there is none. Its cost grows with the number of requests and nodes in whose queues
+/// the launcher's session is, and with the number of labels; if the launcher has no session, with
+/// the number of sessions. It searches for the first open request, and tests the lock of that one.
+/// It scans all requests for a node that may be started and for a lock that the machine accepts,
+/// and all nodes up to a ready one for a request that the pool serves while the pool has a ready
+/// node for it.
 pub fn choose_launcher<L: Look>(look: &L, pool: PoolId) -> Option<Event>
     requires reached { IsReached (L.site look.now) (L.state look.now) }
     requires fits { Fits (L.site look.now) (L.state look.now) }

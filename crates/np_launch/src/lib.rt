@@ -24,12 +24,19 @@
 //! reads each request at most once. `rows` has the conditions of whole rows, `computed` the events
 //! that name more than a request or a node, and `launcher` the choice.
 //!
-//! In a state of `r` requests, `n` nodes and `l` labels, a choice tests each request, node and
-//! label a few times. Whether a node that the launcher holds is still needed costs a lookup of the
-//! node and one of the request that it is allocated to: in a state that a run reaches, no other
-//! pending request has it in its list. A test of a node that may be started, or of a request that
-//! may be locked, scans all requests. One reader answers whether the pool has a ready node for a
-//! request; only if it has one are the nodes up to it scanned.
+//! A choice costs what the launcher's own session queues for, and not all that there is: for each
+//! kind of event it tests the requests or nodes in whose queues the session is, and each of these
+//! takes a few lookups. Whether such a node is still needed costs a lookup of the node and one of
+//! the request that it is allocated to: in a state that a run reaches, no other pending request has
+//! it in its list. For a lock it searches once for the first open request, and tests that one alone,
+//! whose judge makes the search again. For min-ready it tests each label. These scans are left:
+//!
+//! - all requests, up to the one that needs it, for each node that may be started;
+//! - all requests, once for each of three questions, if the machine accepts the lock of the first;
+//! - all nodes up to the first that may be taken, for each request that the pool serves, if the pool
+//!   has a ready node of the request's next label, which one reader answers;
+//! - what the readers of `Look` scan for a search and for a label (the count of ready nodes, what
+//!   the pool uses), where a representation keeps no index or number for it.
 #![tactic(auto)]
 
 mod computed;

@@ -2,16 +2,18 @@
 
 ghost use Rattle.std.specs.Prelude.{◌≡◌, ◌==◌, ◌&&◌, not, is_none};
 ghost use Rattle.std.specs.List.{list_any};
-ghost use Rattle.np_machine.specs.Kinds.{is_requested};
+ghost use Rattle.np_machine.specs.Kinds.{is_requested, is_pending};
 ghost use Rattle.np_machine.specs.Tables.{is_session_of};
-ghost use Rattle.np_machine.specs.Order.{is_pending_by, is_declined_by};
+ghost use Rattle.np_machine.specs.Order.{is_pool, is_pending_by, is_declined_by};
 ghost use Rattle.np_machine.specs.Plan.{fail_starts_of, outcome_of};
 ghost use Rattle.np_machine.specs.Reasons.{is_spent};
+ghost use Rattle.np_changes.specs.Asked.{new_record};
 ghost use Rattle.np_useful.specs.Launcher.{same_outcome, is_as_planned, is_done_with};
 ghost use Rattle.np_useful.specs.Rows.{request_is, is_listed, is_complete, has_failed_node};
 ghost use Rattle.np_fits.specs.Fits.{Fits};
 ghost use Rattle.np_launch.specs.Allocated.{has_pending_request};
 
+use np_changes::Asked;
 use np_config::Config;
 use np_event::Outcome;
 use np_look::{Look, is_declined_by};
@@ -22,11 +24,25 @@ use np_text::{NodeId, NodeState, PoolId, RequestId, RequestState, SessionId};
 pub fn is_pending_by(pool: PoolId, request: &RequestRecord) -> bool
     ensures { result ≡ is_pending_by pool request.now }
 {
-    let own = match request.pool {
+    is_pending_in(pool, request.state, request.pool)
+}
+
+/// Whether the request is pending, and this pool serves it. Its declines are not read.
+pub(crate) fn is_served_by(pool: PoolId, asked: &Asked) -> bool
+    ensures { result ≡ is_pending_by pool (new_record asked.now) }
+{
+    is_pending_in(pool, asked.state, asked.pool)
+}
+
+/// Whether a request in this state is pending, and the pool that serves it is this one.
+fn is_pending_in(pool: PoolId, state: RequestState, server: Option<PoolId>) -> bool
+    ensures { result ≡ (is_pending state && is_pool pool server) }
+{
+    let own = match server {
         None => false,
         Some(other) => other.0 == pool.0,
     };
-    request.state == RequestState::Pending && own
+    state == RequestState::Pending && own
 }
 
 /// Whether the node is allocated to a request that is pending, and that this pool serves. It costs
