@@ -11,7 +11,8 @@ use np_event::{Done, Entry, Event, Outcome, Reply};
 use np_index::Index;
 use np_look::Look;
 use np_text::{JobId, NoMemory, NodeId, PoolId, RequesterId, Role, SessionId};
-use std::alloc::Global;
+use std::alloc::{AllocGlobal, Global};
+use std::process::Abort;
 use std::test::Fail;
 
 // One pool, one label, one job.
@@ -207,45 +208,57 @@ fn is_at_rest(board: &Board) -> bool {
         && board.judge(Event::Tick) == Reply::Done(Done::Plain)
 }
 
-#[test]
-fn a_job_is_served_and_its_server_swept(rt: HostRuntime) -> Result<(), Fail> {
-    let mut alone = Alone {
-        object: new_board(rt.alloc(), SITE)?,
-    };
-    serve(&mut alone)?;
-    let (unmanned, kept) = sweep_early(&mut alone)?;
+// The whole life of the one job. The board is borrowed, so that a check that fails need not end it.
+fn live<R: AllocGlobal + Abort>(rt: &R, alone: &mut Alone<Board>) -> Result<(), Fail>
+    requires { is_legal alone.old.object.configuration alone.old.object.journal ≡ true }
+{
+    serve(alone)?;
+    let (unmanned, kept) = sweep_early(alone)?;
     assert_eq!(rt; unmanned, Turn::Idle, "no janitor");
     assert_eq!(rt; kept, Turn::Idle, "kept");
-    act_all(&mut alone, REQUESTER)?;
+    act_all(alone, REQUESTER)?;
     let due = Turn::DueNode {
         node: NodeId(0),
         server: Some(1),
     };
-    assert_eq!(rt; act_until_due(&mut alone)?, due);
+    assert_eq!(rt; act_until_due(alone)?, due);
     assert!(rt; !is_at_rest(&alone.object));
     assert!(rt;
         has_unfinished(rt.alloc(), &alone.object, None, None)?,
         "served"
     );
-    let (due, first, second) = sweep_late(&mut alone)?;
+    let (due, first, second) = sweep_late(alone)?;
     assert_eq!(rt; due, Turn::Idle, "removed");
     assert!(rt; is_removal(first), "{first:?}");
     assert_eq!(rt; second, Turn::Swept);
-    act_all(&mut alone, REQUESTER)?;
+    act_all(alone, REQUESTER)?;
     assert_eq!(rt; alone.turn(Ask::Act(Role::Reaper))?, Turn::Idle);
     assert!(rt; is_at_rest(&alone.object));
     Ok(())
 }
 
 #[test]
-fn a_withdrawn_job_is_listed_no_more(rt: HostRuntime) -> Result<(), Fail> {
-    let mut board = new_board(rt.alloc(), SITE_OF_TWO)?;
+fn a_job_is_served_and_its_server_swept(rt: HostRuntime) -> Result<(), Fail> {
+    let mut alone = Alone {
+        object: new_board(rt.alloc(), SITE)?,
+    };
+    live(&rt, &mut alone)
+}
+
+// The entries are recorded, and after each the board lists the jobs that are not over.
+fn step<R: AllocGlobal + Abort>(rt: &R, board: &mut Board) -> Result<(), Fail> {
     for (event, first, second) in STEPS {
         board.apply(event)?;
         assert!(rt;
-            has_unfinished(rt.alloc(), &board, first, second)?,
+            has_unfinished(rt.alloc(), board, first, second)?,
             "{event:?}"
         );
     }
     Ok(())
+}
+
+#[test]
+fn a_withdrawn_job_is_listed_no_more(rt: HostRuntime) -> Result<(), Fail> {
+    let mut board = new_board(rt.alloc(), SITE_OF_TWO)?;
+    step(&rt, &mut board)
 }
