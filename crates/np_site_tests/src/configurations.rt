@@ -201,16 +201,18 @@ fn each_fault_of_a_tenant_is_told(rt: HostRuntime) -> Result<(), Fail> {
     Ok(())
 }
 
-#[test]
-fn tenants_are_read_and_printed(rt: HostRuntime) -> Result<(), Fail> {
-    let alloc = rt.alloc();
-    let rows =
-        "[{\"max-cores\":2,\"max-ram\":3,\"max-servers\":1,\"name\":\"t\"},{\"max-cores\":0,\"name\":\"u\"},{\"name\":\"v\"}]";
+// A site with these tenants and two jobs, one of the last tenant and one of the default.
+fn read_tenants(alloc: Global, rows: &str) -> Result<Config, Fail> {
     let more = format!(in alloc;
         ",\"tenants\":{rows},\"requesters\":[{{\"name\":\"z\",\"jobs\":[{{\"name\":\"j\",\"labels\":[\"a\"],\"tenant\":\"v\"}},{{\"name\":\"k\",\"labels\":[\"a\"],\"tenant\":\"default\"}}]}}]"
     )?;
     let text = with_top(alloc, more.as_str())?;
-    let config = read(alloc, text.as_bytes())?;
+    read(alloc, text.as_bytes())
+}
+
+// The tenants by number, and the tenant of each job. The configuration is borrowed, so that a check
+// that fails need not end it.
+fn check_tenants(rt: &(impl AllocGlobal + Abort), config: &Config) -> Result<(), Fail> {
     for (number, name) in [(0, "default"), (1, "t"), (2, "u"), (3, "v")] {
         let Some(tenant) = config.tenant(TenantId(number)) else {
             return Err(Fail::from("no tenant"));
@@ -224,6 +226,12 @@ fn tenants_are_read_and_printed(rt: HostRuntime) -> Result<(), Fail> {
         };
         assert_eq!(rt; job.tenant, tenant);
     }
+    Ok(())
+}
+
+// The whole text of the configuration with these tenants.
+fn check_printed(rt: &(impl AllocGlobal + Abort), config: &Config, rows: &str) -> Result<(), Fail> {
+    let alloc = rt.alloc();
     let same =
         "\"priority\":\"normal\",\"relative-priority\":0,\"resources-first\":false,\"semaphores\":[]";
     let canonical = format!(in alloc;
@@ -232,6 +240,15 @@ fn tenants_are_read_and_printed(rt: HostRuntime) -> Result<(), Fail> {
     let printed = config.to_json(alloc)?;
     assert!(rt; printed.as_slice() == canonical.as_bytes());
     Ok(())
+}
+
+#[test]
+fn tenants_are_read_and_printed(rt: HostRuntime) -> Result<(), Fail> {
+    let rows =
+        "[{\"max-cores\":2,\"max-ram\":3,\"max-servers\":1,\"name\":\"t\"},{\"max-cores\":0,\"name\":\"u\"},{\"name\":\"v\"}]";
+    let config = read_tenants(rt.alloc(), rows)?;
+    check_tenants(&rt, &config)?;
+    check_printed(&rt, &config, rows)
 }
 
 #[test]
