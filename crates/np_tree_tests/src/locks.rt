@@ -11,7 +11,8 @@ use np_lock::{
 };
 use np_path::{Path, PathFault};
 use np_tree::{Expect, Mode, Op, Tree, TreeFault, TreeRefusal};
-use std::alloc::Global;
+use std::alloc::{AllocGlobal, Global};
+use std::process::Abort;
 use std::test::Fail;
 
 // A call of a lock.
@@ -237,28 +238,34 @@ fn is_bad(alloc: Global, text: &str, place: usize) -> bool {
     }
 }
 
-#[test]
-fn sessions_take_turns(rt: HostRuntime) -> Result<(), Fail> {
+// A tree, turns at one of its locks, and the end of session 1. The tree is borrowed, so that a check
+// that fails need not end it; so are all trees below.
+fn take_turns<R: AllocGlobal + Abort>(rt: &R, tree: &mut Tree) -> Result<(), Fail> {
     let alloc = rt.alloc();
-    let mut tree = Tree::new(alloc)?;
-    assert!(rt; begins(&mut tree, 3), "sessions");
-    assert!(rt; makes_tree(alloc, &mut tree), "the tree");
+    assert!(rt; begins(tree, 3), "sessions");
+    assert!(rt; makes_tree(alloc, tree), "the tree");
     let spent = Err(TreeRefusal::SequenceSpent);
     let exists = Err(TreeRefusal::NodeExists);
-    assert!(rt; makes_under(alloc, &mut tree, "/q", spent), "below /q");
-    assert!(rt; makes(alloc, &mut tree, "/", PLAIN, exists), "/");
-    assert!(rt; deletes(alloc, &mut tree, "/", Err(ROOT_KEPT)), "/ goes");
-    assert!(rt; makes(alloc, &mut tree, "/k", PLAIN, Ok("/k")), "/k");
-    assert!(rt; tell_all_at(alloc, &mut tree, "/k", &TURNS), "turns");
+    assert!(rt; makes_under(alloc, tree, "/q", spent), "below /q");
+    assert!(rt; makes(alloc, tree, "/", PLAIN, exists), "/");
+    assert!(rt; deletes(alloc, tree, "/", Err(ROOT_KEPT)), "/ goes");
+    assert!(rt; makes(alloc, tree, "/k", PLAIN, Ok("/k")), "/k");
+    assert!(rt; tell_all_at(alloc, tree, "/k", &TURNS), "turns");
     assert!(rt; tree.end_session(1), "1 ends");
     assert!(rt; tree.exists("/e").is_none(), "/e is gone");
     assert!(rt;
-        sets(alloc, &mut tree, "/a", Expect::Any, Err(EXPIRED)),
+        sets(alloc, tree, "/a", Expect::Any, Err(EXPIRED)),
         "1 is over"
     );
     assert!(rt; is_bad(alloc, "/a//b", 3), "an empty element");
     assert!(rt; is_bad(alloc, "/a/..", 3), "dots");
     Ok(())
+}
+
+#[test]
+fn sessions_take_turns(rt: HostRuntime) -> Result<(), Fail> {
+    let mut tree = Tree::new(rt.alloc())?;
+    take_turns(&rt, &mut tree)
 }
 
 // Each call, of sessions 1 to 3 of four.
@@ -306,21 +313,23 @@ const SPENT: [(u32, Call, Told); 2] = [
     (2, Call::TryLock, Told::No(TreeRefusal::SequenceSpent)),
 ];
 
+// The three tables, each at its path.
+fn take_calls<R: AllocGlobal + Abort>(rt: &R, tree: &mut Tree) -> Result<(), Fail> {
+    let alloc = rt.alloc();
+    assert!(rt; begins(tree, 4), "sessions");
+    assert!(rt; makes(alloc, tree, "/k", PLAIN, Ok("/k")), "/k");
+    assert!(rt; makes(alloc, tree, "/s", PLAIN, Ok("/s")), "/s");
+    assert!(rt; raises(alloc, tree, "/s", 2_147_483_648), "/s is spent");
+    assert!(rt; tell_all_at(alloc, tree, "/k", &CALLS), "/k");
+    assert!(rt; tell_all_at(alloc, tree, "/zz", &NOWHERE), "/zz");
+    assert!(rt; tell_all_at(alloc, tree, "/s", &SPENT), "/s");
+    Ok(())
+}
+
 #[test]
 fn each_call_of_a_lock(rt: HostRuntime) -> Result<(), Fail> {
-    let alloc = rt.alloc();
-    let mut tree = Tree::new(alloc)?;
-    assert!(rt; begins(&mut tree, 4), "sessions");
-    assert!(rt; makes(alloc, &mut tree, "/k", PLAIN, Ok("/k")), "/k");
-    assert!(rt; makes(alloc, &mut tree, "/s", PLAIN, Ok("/s")), "/s");
-    assert!(rt;
-        raises(alloc, &mut tree, "/s", 2_147_483_648),
-        "/s is spent"
-    );
-    assert!(rt; tell_all_at(alloc, &mut tree, "/k", &CALLS), "/k");
-    assert!(rt; tell_all_at(alloc, &mut tree, "/zz", &NOWHERE), "/zz");
-    assert!(rt; tell_all_at(alloc, &mut tree, "/s", &SPENT), "/s");
-    Ok(())
+    let mut tree = Tree::new(rt.alloc())?;
+    take_calls(&rt, &mut tree)
 }
 
 fn does(alloc: Global, tree: &mut Tree, session: u32, part: Op) -> bool
@@ -337,31 +346,43 @@ fn owner(tree: &Tree, path: &str) -> Option<u32> {
     tree.child_stat(path, 0)?.owner
 }
 
-#[test]
-fn parts_of_a_lock(rt: HostRuntime) -> Result<(), Fail> {
-    let alloc = rt.alloc();
-    let mut tree = Tree::new(alloc)?;
-    assert!(rt; begins(&mut tree, 2), "sessions");
-    assert!(rt; makes(alloc, &mut tree, "/k", PLAIN, Ok("/k")), "/k");
-    assert!(rt; makes(alloc, &mut tree, "/l", PLAIN, Ok("/l")), "/l");
-    let dir = Path::new(alloc, "/k")?;
-    let part = enqueue_op(alloc, &dir)?;
-    assert!(rt; does(alloc, &mut tree, 2, part), "2 joins /k");
-    assert_eq!(rt; owner(&tree, "/k"), Some(2));
+// Session 2 joins /k by a part.
+fn join<R: AllocGlobal + Abort>(rt: &R, tree: &mut Tree, dir: &Path) -> Result<(), Fail> {
+    let part = enqueue_op(rt.alloc(), dir)?;
+    assert!(rt; does(rt.alloc(), tree, 2, part), "2 joins /k");
+    assert_eq!(rt; owner(tree, "/k"), Some(2));
+    Ok(())
+}
 
-    let dir = Path::new(alloc, "/l")?;
-    assert!(rt; is_lock(&tree, &dir), "/l");
-    assert!(rt; release_op(&tree, 2, &dir)?.is_none(), "2 is not in /l");
-    assert!(rt;
-        enqueue(&mut tree, 2, &dir) == Ok(Place::Held),
-        "2 joins /l"
-    );
-    let Some(part) = release_op(&tree, 2, &dir)? else {
+// Session 2 leaves /l by a part, once it is in.
+fn leave<R: AllocGlobal + Abort>(rt: &R, tree: &mut Tree, dir: &Path) -> Result<(), Fail> {
+    assert!(rt; is_lock(tree, dir), "/l");
+    assert!(rt; release_op(tree, 2, dir)?.is_none(), "2 is not in /l");
+    assert!(rt; enqueue(tree, 2, dir) == Ok(Place::Held), "2 joins /l");
+    let Some(part) = release_op(tree, 2, dir)? else {
         return Ok(());
     };
-    assert!(rt; does(alloc, &mut tree, 2, part), "2 leaves /l");
-    assert_eq!(rt; owner(&tree, "/l"), None);
+    assert!(rt; does(rt.alloc(), tree, 2, part), "2 leaves /l");
+    assert_eq!(rt; owner(tree, "/l"), None);
     Ok(())
+}
+
+// The same two on a new tree.
+fn join_and_leave<R: AllocGlobal + Abort>(rt: &R, tree: &mut Tree) -> Result<(), Fail> {
+    let alloc = rt.alloc();
+    assert!(rt; begins(tree, 2), "sessions");
+    assert!(rt; makes(alloc, tree, "/k", PLAIN, Ok("/k")), "/k");
+    assert!(rt; makes(alloc, tree, "/l", PLAIN, Ok("/l")), "/l");
+    let dir = Path::new(alloc, "/k")?;
+    join(rt, tree, &dir)?;
+    let dir = Path::new(alloc, "/l")?;
+    leave(rt, tree, &dir)
+}
+
+#[test]
+fn parts_of_a_lock(rt: HostRuntime) -> Result<(), Fail> {
+    let mut tree = Tree::new(rt.alloc())?;
+    join_and_leave(&rt, &mut tree)
 }
 
 fn enqueue_all(tree: &mut Tree, dir: &Path, count: u32) -> bool
@@ -382,18 +403,27 @@ const LAST: [(u32, Call, Told); 3] = [
     (1, Call::Holder, Told::Session(Some(2))),
 ];
 
+// 340 sessions in one queue.
+fn fill<R: Abort>(rt: &R, tree: &mut Tree, dir: &Path) -> Result<(), Fail> {
+    assert!(rt; is_lock(tree, dir), "nobody waits");
+    assert!(rt; enqueue(tree, 1, dir) == Ok(Place::Held), "1 holds");
+    assert!(rt; enqueue_all(tree, dir, 340), "the others wait");
+    assert!(rt; tell_all(tree, dir, &LAST), "the last and the next");
+    Ok(())
+}
+
+// The same on a new tree.
+fn grow<R: AllocGlobal + Abort>(rt: &R, tree: &mut Tree) -> Result<(), Fail> {
+    assert!(rt; begins(tree, 340), "sessions");
+    assert!(rt; makes(rt.alloc(), tree, "/k", PLAIN, Ok("/k")), "/k");
+    let dir = Path::new(rt.alloc(), "/k")?;
+    fill(rt, tree, &dir)
+}
+
 #[test]
 fn a_queue_at_full_size(rt: HostRuntime) -> Result<(), Fail> {
-    let alloc = rt.alloc();
-    let mut tree = Tree::new(alloc)?;
-    assert!(rt; begins(&mut tree, 340), "sessions");
-    assert!(rt; makes(alloc, &mut tree, "/k", PLAIN, Ok("/k")), "/k");
-    let dir = Path::new(alloc, "/k")?;
-    assert!(rt; is_lock(&tree, &dir), "nobody waits");
-    assert!(rt; enqueue(&mut tree, 1, &dir) == Ok(Place::Held), "1 holds");
-    assert!(rt; enqueue_all(&mut tree, &dir, 340), "the others wait");
-    assert!(rt; tell_all(&mut tree, &dir, &LAST), "the last and the next");
-    Ok(())
+    let mut tree = Tree::new(rt.alloc())?;
+    grow(&rt, &mut tree)
 }
 
 #[test]

@@ -1,12 +1,13 @@
 //! What no clause says: that calls succeed with ample memory, at numbers and at items that are
 //! themselves seen as lists.
 
-ghost use Rattle.std.specs.Prelude.{◌≡◌, ◌+◌, ◌<◌, IfOk, length, nat_lt};
+ghost use Rattle.std.specs.Prelude.{◌≡◌, ◌+◌, ◌<◌, [], ◌∷◌, IfOk, length, nat_lt};
 
 use np_shelf::{Change, Piece, Probe, Shelf};
-use std::alloc::{AllocError, Global};
+use std::alloc::{AllocError, AllocGlobal, Global};
 use std::marker::Model;
 use std::mem;
+use std::process::Abort;
 use std::test::Fail;
 
 /// A name, seen as its bytes.
@@ -99,9 +100,11 @@ fn named(alloc: Global, text: &str) -> Result<Piece<Name>, AllocError>
     Piece::new(alloc, Name { text })
 }
 
-#[test]
-fn numbers_by_place(rt: HostRuntime) -> Result<(), Fail> {
-    let mut shelf = filled(rt.alloc(), &[10, 20, 30])?;
+// What is read of three numbers. The shelf is borrowed, so that a check that fails need not end it;
+// so are the shelves below.
+fn read<R: Abort>(rt: &R, shelf: &Shelf<u32>) -> Result<(), Fail>
+    requires { shelf.now ≡ 10 ∷ 20 ∷ 30 ∷ [] }
+{
     assert!(rt; !shelf.is_empty());
     assert_eq!(rt; shelf.len(), 3);
     for (place, want) in [(0, Some(10)), (1, Some(20)), (2, Some(30)), (3, None)] {
@@ -110,6 +113,13 @@ fn numbers_by_place(rt: HostRuntime) -> Result<(), Fail> {
     for (below, want) in [(5, 0), (10, 0), (11, 1), (30, 2), (31, 3)] {
         assert_eq!(rt; shelf.place(&Below(below)), want, "below {below}");
     }
+    Ok(())
+}
+
+// The second goes to the front, and is taken from there.
+fn move_second<R: Abort>(rt: &R, shelf: &mut Shelf<u32>) -> Result<(), Fail>
+    requires { shelf.old ≡ 10 ∷ 20 ∷ 30 ∷ [] }
+{
     let piece = shelf.remove(1);
     assert_eq!(rt; *piece.item(), 20);
     assert_eq!(rt; shelf.at(1).copied(), Some(30));
@@ -119,13 +129,25 @@ fn numbers_by_place(rt: HostRuntime) -> Result<(), Fail> {
 }
 
 #[test]
-fn rows_and_names(rt: HostRuntime) -> Result<(), Fail> {
-    let mut names = Shelf::new();
+fn numbers_by_place(rt: HostRuntime) -> Result<(), Fail> {
+    let mut shelf = filled(rt.alloc(), &[10, 20, 30])?;
+    read(&rt, &shelf)?;
+    move_second(&rt, &mut shelf)
+}
+
+// Two names, one of which a row has until it gets the other.
+fn swap_names<R: AllocGlobal + Abort>(
+    rt: &R,
+    names: &mut Shelf<Name>,
+    rows: &mut Shelf<Row>,
+) -> Result<(), Fail>
+    requires names { names.old ≡ [] }
+    requires rows { rows.old ≡ [] }
+{
     names.insert(0, named(rt.alloc(), "elm")?);
     names.insert(1, named(rt.alloc(), "maple")?);
     assert_eq!(rt; names.place(&Shorter(4)), 1);
     let name = names.remove(0).into_item();
-    let mut rows = Shelf::new();
     rows.insert(0, Piece::new(rt.alloc(), Row { name, count: 7 })?);
     let mut count = Count(9);
     rows.change(0, &mut count);
@@ -140,8 +162,14 @@ fn rows_and_names(rt: HostRuntime) -> Result<(), Fail> {
 }
 
 #[test]
-fn a_thousand_at_both_ends(rt: HostRuntime) -> Result<(), Fail> {
-    let mut shelf = Shelf::new();
+fn rows_and_names(rt: HostRuntime) -> Result<(), Fail> {
+    let mut names = Shelf::new();
+    let mut rows = Shelf::new();
+    swap_names(&rt, &mut names, &mut rows)
+}
+
+// A thousand numbers come and go, the even ones at the front.
+fn fill_and_empty<R: AllocGlobal + Abort>(rt: &R, shelf: &mut Shelf<u32>) -> Result<(), Fail> {
     for item in 0..1_000_u32 {
         assert_eq!(rt; shelf.len(), item as usize);
         let place = if item % 2 == 0 { 0 } else { shelf.len() };
@@ -156,10 +184,14 @@ fn a_thousand_at_both_ends(rt: HostRuntime) -> Result<(), Fail> {
     Ok(())
 }
 
-// A list that is never balanced would be 200,000 boxes deep.
 #[test]
-fn many_items_at_one_end(rt: HostRuntime) -> Result<(), Fail> {
+fn a_thousand_at_both_ends(rt: HostRuntime) -> Result<(), Fail> {
     let mut shelf = Shelf::new();
+    fill_and_empty(&rt, &mut shelf)
+}
+
+// 200,000 numbers, each put behind the last.
+fn fill<R: AllocGlobal + Abort>(rt: &R, shelf: &mut Shelf<u32>) -> Result<(), Fail> {
     for item in 0..200_000_u32 {
         assert_eq!(rt; shelf.len(), item as usize);
         shelf.insert(shelf.len(), Piece::new(rt.alloc(), item)?);
@@ -168,4 +200,11 @@ fn many_items_at_one_end(rt: HostRuntime) -> Result<(), Fail> {
         assert_eq!(rt; shelf.at(below as usize).copied().unwrap_or(200_000), below);
     }
     Ok(())
+}
+
+// A list that is never balanced would be 200,000 boxes deep.
+#[test]
+fn many_items_at_one_end(rt: HostRuntime) -> Result<(), Fail> {
+    let mut shelf = Shelf::new();
+    fill(&rt, &mut shelf)
 }

@@ -10,7 +10,8 @@ use np_tree::{
     calls_keep_the_nodes_whole, calls_keep_the_tree, ephemerals_have_no_children,
     nodes_stand_in_order, worked_rows,
 };
-use std::alloc::{AllocError, Global};
+use std::alloc::{AllocError, AllocGlobal, Global};
+use std::process::Abort;
 use std::test::Fail;
 
 // A call with no bytes.
@@ -271,24 +272,29 @@ const ROWS: [(u32, Call, Told); 45] = [
     (1, Call::Create("/k", PLAIN), Told::Path("/k")),
 ];
 
+// The rows, and the ends of the sessions. The tree is borrowed, so that a check that fails need not
+// end it; so are all trees below.
+fn take_calls<R: AllocGlobal + Abort>(rt: &R, tree: &mut Tree) -> Result<(), Fail> {
+    for want in [1, 2, 3] {
+        assert!(rt; begins(tree, want), "{want} begins");
+    }
+    assert!(rt; ends(tree, 2), "2 ends");
+    for (session, call, told) in ROWS {
+        assert!(rt; tells(rt.alloc(), tree, session, call, told), "{call:?}");
+    }
+    assert_eq!(rt; counter(tree, "/q"), Some(2_147_483_648));
+    // Ten creates, a set, two deletes, and the end of session 2.
+    assert_eq!(rt; changes(tree), 14);
+    assert!(rt; ends(tree, 3) && stat(tree, "/e").is_some(), "3 ends");
+    assert!(rt; ends(tree, 1) && stat(tree, "/e").is_none(), "1 ends");
+    assert!(rt; !ends(tree, 1), "1 is over");
+    Ok(())
+}
+
 #[test]
 fn calls_in_turn(rt: HostRuntime) -> Result<(), Fail> {
-    let alloc = rt.alloc();
-    let mut tree = Tree::new(alloc)?;
-    for want in [1, 2, 3] {
-        assert!(rt; begins(&mut tree, want), "{want} begins");
-    }
-    assert!(rt; ends(&mut tree, 2), "2 ends");
-    for (session, call, told) in ROWS {
-        assert!(rt; tells(alloc, &mut tree, session, call, told), "{call:?}");
-    }
-    assert_eq!(rt; counter(&tree, "/q"), Some(2_147_483_648));
-    // Ten creates, a set, two deletes, and the end of session 2.
-    assert_eq!(rt; changes(&tree), 14);
-    assert!(rt; ends(&mut tree, 3) && stat(&tree, "/e").is_some(), "3 ends");
-    assert!(rt; ends(&mut tree, 1) && stat(&tree, "/e").is_none(), "1 ends");
-    assert!(rt; !ends(&mut tree, 1), "1 is over");
-    Ok(())
+    let mut tree = Tree::new(rt.alloc())?;
+    take_calls(&rt, &mut tree)
 }
 
 // A part of a call, with no bytes.
@@ -362,6 +368,23 @@ fn does(tree: &mut Tree, ops: &Vec<Op>) -> bool
     }
 }
 
+// The same two of the parts of calls.
+fn stops_at(
+    alloc: Global,
+    tree: &mut Tree,
+    calls: &[Call],
+    index: u32,
+    refusal: TreeRefusal,
+) -> Result<bool, Fail> {
+    let ops = parts_of(alloc, calls)?;
+    Ok(stops(tree, &ops, index, refusal))
+}
+
+fn does_all(alloc: Global, tree: &mut Tree, calls: &[Call]) -> Result<bool, Fail> {
+    let ops = parts_of(alloc, calls)?;
+    Ok(does(tree, &ops))
+}
+
 // A part of each kind; the fifth fails at first.
 const PARTS: [Call; 5] = [
     Call::Delete("/a/e", ANY),
@@ -398,40 +421,38 @@ const A_LATER: Stat = Stat {
     children: 0,
 };
 
-#[test]
-fn parts_are_all_done_or_none(rt: HostRuntime) -> Result<(), Fail> {
+// The five parts, of which none is done; then all but the fifth; then a check alone.
+fn run_parts<R: AllocGlobal + Abort>(rt: &R, tree: &mut Tree) -> Result<(), Fail> {
     let alloc = rt.alloc();
-    let mut tree = Tree::new(alloc)?;
-    assert!(rt; begins(&mut tree, 1), "1 begins");
+    assert!(rt; begins(tree, 1), "1 begins");
     for (path, mode) in [("/a", PLAIN), ("/a/e", Mode::Ephemeral)] {
         let call = Call::Create(path, mode);
-        assert!(rt;
-            tells(alloc, &mut tree, 1, call, Told::Path(path)),
-            "{path}"
-        );
+        assert!(rt; tells(alloc, tree, 1, call, Told::Path(path)), "{path}");
     }
-    let ops = parts_of(alloc, &PARTS)?;
-    assert!(rt;
-        stops(&mut tree, &ops, 4, TreeRefusal::BadVersion { kept: 0 }),
-        "the last"
-    );
-    assert!(rt; holds(&tree, "/a", b"", A), "/a");
-    assert!(rt; holds(&tree, "/a/e", b"", EPHEMERAL), "/a/e");
-    assert!(rt; stat(&tree, "/c").is_none(), "/c");
-    assert_eq!(rt; counter(&tree, "/a"), Some(0));
-    assert_eq!(rt; changes(&tree), 2);
+    let stopped = stops_at(alloc, tree, &PARTS, 4, TreeRefusal::BadVersion { kept: 0 })?;
+    assert!(rt; stopped, "the last");
+    assert!(rt; holds(tree, "/a", b"", A), "/a");
+    assert!(rt; holds(tree, "/a/e", b"", EPHEMERAL), "/a/e");
+    assert!(rt; stat(tree, "/c").is_none(), "/c");
+    assert_eq!(rt; counter(tree, "/a"), Some(0));
+    assert_eq!(rt; changes(tree), 2);
 
     let (front, _) = PARTS.split_at(4);
-    let ops = parts_of(alloc, front)?;
-    assert!(rt; does(&mut tree, &ops), "all are done");
-    assert_eq!(rt; counter(&tree, "/a"), Some(1));
-    assert_eq!(rt; changes(&tree), 3);
-    let ops = parts_of(alloc, &[Call::Check("/c", ANY)])?;
-    assert!(rt; does(&mut tree, &ops), "checks alone");
-    assert_eq!(rt; changes(&tree), 3);
-    assert!(rt; ends(&mut tree, 1), "1 ends");
-    assert!(rt; holds(&tree, "/a", b"", A_LATER), "/a");
+    assert!(rt; does_all(alloc, tree, front)?, "all are done");
+    assert_eq!(rt; counter(tree, "/a"), Some(1));
+    assert_eq!(rt; changes(tree), 3);
+    let checks = [Call::Check("/c", ANY)];
+    assert!(rt; does_all(alloc, tree, &checks)?, "checks alone");
+    assert_eq!(rt; changes(tree), 3);
+    assert!(rt; ends(tree, 1), "1 ends");
+    assert!(rt; holds(tree, "/a", b"", A_LATER), "/a");
     Ok(())
+}
+
+#[test]
+fn parts_are_all_done_or_none(rt: HostRuntime) -> Result<(), Fail> {
+    let mut tree = Tree::new(rt.alloc())?;
+    run_parts(&rt, &mut tree)
 }
 
 const PARENTS: [&str; 6] = ["/a", "/a-", "/a/c", "/a/B", "/a/c/d", "/a/c-"];
@@ -456,22 +477,26 @@ fn has_child(tree: &Tree, path: &str, at: u32, want: Option<&str>) -> bool {
     tree.child_at(path, at) == want && tree.child_stat(path, at).is_some() == want.is_some()
 }
 
-#[test]
-fn children_stand_in_byte_order(rt: HostRuntime) -> Result<(), Fail> {
-    let alloc = rt.alloc();
-    let mut tree = Tree::new(alloc)?;
-    assert!(rt; begins(&mut tree, 1), "1 begins");
+// The parents are made, and then each child is where it is to be.
+fn list_children<R: AllocGlobal + Abort>(rt: &R, tree: &mut Tree) -> Result<(), Fail> {
+    assert!(rt; begins(tree, 1), "1 begins");
     for path in PARENTS {
         let call = Call::Create(path, PLAIN);
         assert!(rt;
-            tells(alloc, &mut tree, 1, call, Told::Path(path)),
+            tells(rt.alloc(), tree, 1, call, Told::Path(path)),
             "{path}"
         );
     }
     for (path, at, want) in CHILDREN {
-        assert!(rt; has_child(&tree, path, at, want), "{at} of {path}");
+        assert!(rt; has_child(tree, path, at, want), "{at} of {path}");
     }
     Ok(())
+}
+
+#[test]
+fn children_stand_in_byte_order(rt: HostRuntime) -> Result<(), Fail> {
+    let mut tree = Tree::new(rt.alloc())?;
+    list_children(&rt, &mut tree)
 }
 
 // A prefix of 54 bytes, so that its sequence nodes have names of 64.
@@ -500,35 +525,54 @@ fn children(tree: &Tree, path: &str) -> u32 {
     }
 }
 
-#[test]
-fn a_tree_at_full_size(rt: HostRuntime) -> Result<(), Fail> {
-    let alloc = rt.alloc();
-    let mut tree = Tree::new(alloc)?;
-    assert!(rt; begins(&mut tree, 1), "1 begins");
-    let call = Call::Create("/q", PLAIN);
-    assert!(rt; tells(alloc, &mut tree, 1, call, Told::Path("/q")), "/q");
-    let path = Path::new(alloc, LONG)?;
-    assert!(rt; creates_many(&mut tree, &path, b"7", 300), "300 nodes");
+// 340 nodes with names of 64 bytes.
+fn fill<R: AllocGlobal + Abort>(rt: &R, tree: &mut Tree, path: &Path) -> Result<(), Fail> {
+    assert!(rt; creates_many(tree, path, b"7", 300), "300 nodes");
     let calls = [Call::Create(LONG, Mode::EphemeralSequential); 40];
-    let ops = parts_of(alloc, &calls)?;
-    assert!(rt; does(&mut tree, &ops), "40 parts");
-    assert_eq!(rt; children(&tree, "/q"), 340);
+    assert!(rt; does_all(rt.alloc(), tree, &calls)?, "40 parts");
+    assert_eq!(rt; children(tree, "/q"), 340);
     assert!(rt; tree.child_stat("/q", 339).is_some(), "the last child");
+    Ok(())
+}
+
+// One byte too many is refused, and the most a node may have are taken.
+fn write<R: Abort>(
+    rt: &R,
+    tree: &mut Tree,
+    top: &Path,
+    path: &Path,
+    large: &[u8],
+    most: &[u8],
+) -> Result<(), Fail> {
+    let refused = Told::No(TreeRefusal::TooLarge);
+    assert!(rt; sets(tree, top, large, refused), "65,537 bytes");
+    assert!(rt; sets(tree, top, most, Told::Version(1)), "65,536 bytes");
+    assert!(rt; !creates_many(tree, path, large, 1), "65,537 bytes");
+    assert!(rt; creates_many(tree, path, most, 1), "65,536 bytes");
+    assert!(rt; ends(tree, 1), "1 ends");
+    assert_eq!(rt; children(tree, "/q"), 0);
+    Ok(())
+}
+
+// The same two on a new tree.
+fn grow<R: AllocGlobal + Abort>(rt: &R, tree: &mut Tree) -> Result<(), Fail> {
+    let alloc = rt.alloc();
+    assert!(rt; begins(tree, 1), "1 begins");
+    let call = Call::Create("/q", PLAIN);
+    assert!(rt; tells(alloc, tree, 1, call, Told::Path("/q")), "/q");
+    let path = Path::new(alloc, LONG)?;
+    fill(rt, tree, &path)?;
 
     let large = vec![in alloc; 7u8; 65_537]?;
     let (most, _) = large.split_at(65_536);
-    let refused = Told::No(TreeRefusal::TooLarge);
     let top = Path::new(alloc, "/q")?;
-    assert!(rt; sets(&mut tree, &top, &large, refused), "65,537 bytes");
-    assert!(rt;
-        sets(&mut tree, &top, most, Told::Version(1)),
-        "65,536 bytes"
-    );
-    assert!(rt; !creates_many(&mut tree, &path, &large, 1), "65,537 bytes");
-    assert!(rt; creates_many(&mut tree, &path, most, 1), "65,536 bytes");
-    assert!(rt; ends(&mut tree, 1), "1 ends");
-    assert_eq!(rt; children(&tree, "/q"), 0);
-    Ok(())
+    write(rt, tree, &top, &path, &large, most)
+}
+
+#[test]
+fn a_tree_at_full_size(rt: HostRuntime) -> Result<(), Fail> {
+    let mut tree = Tree::new(rt.alloc())?;
+    grow(&rt, &mut tree)
 }
 
 // ZooKeeper's codes.
