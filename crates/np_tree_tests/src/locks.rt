@@ -367,7 +367,7 @@ fn leave<R: AllocGlobal + Abort>(rt: &R, tree: &mut Tree, dir: &Path) -> Result<
     Ok(())
 }
 
-// The same two on a new tree.
+// Session 2 joins one lock and leaves another, each by a part, on a new tree.
 fn join_and_leave<R: AllocGlobal + Abort>(rt: &R, tree: &mut Tree) -> Result<(), Fail> {
     let alloc = rt.alloc();
     assert!(rt; begins(tree, 2), "sessions");

@@ -368,7 +368,7 @@ fn does(tree: &mut Tree, ops: &Vec<Op>) -> bool
     }
 }
 
-// The same two of the parts of calls.
+// `stops` and `does` for the parts of these calls, whose vector goes with them.
 fn stops_at(
     alloc: Global,
     tree: &mut Tree,
@@ -554,7 +554,7 @@ fn write<R: Abort>(
     Ok(())
 }
 
-// The same two on a new tree.
+// The nodes, and then the bytes, of a new tree.
 fn grow<R: AllocGlobal + Abort>(rt: &R, tree: &mut Tree) -> Result<(), Fail> {
     let alloc = rt.alloc();
     assert!(rt; begins(tree, 1), "1 begins");
