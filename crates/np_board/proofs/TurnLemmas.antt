@@ -1,5 +1,6 @@
 -- what a turn leaves
-use Rattle.std.proofs.Common.{◌≡◌, ◌∙◌, ℕ, true, false, List, ◌++◌, Option, Some, None, Result, Ok, Err, IfOk, OnErr, refl, sym, ap, subst, append-nil}
+use Rattle.std.proofs.Common.{◌≡◌, ◌∙◌, ◌<◌, length, arith, ◌∷◌, [], ℕ, true, false, List, ◌++◌, Option, Some, None, Result, Ok, Err, IfOk, OnErr, refl, sym, ap, subst, append-nil}
+use Rattle.std.proofs.lemmas.Bool.Decides.{nat_tests}
 use Rattle.np_text.specs.declared.memory.NoMemory.{NoMemory}
 use Rattle.np_text.specs.declared.id.SessionId.{SessionId}
 use Rattle.np_text.specs.declared.id.PoolId.{PoolId}
@@ -10,10 +11,12 @@ use Rattle.np_site.specs.Configuration.{Configuration}
 use Rattle.np_event.specs.declared.event.Event.{Event}
 use Rattle.np_event.specs.declared.event.Event.TheVariants as ev
 use Rattle.np_event.specs.declared.entry.Entry.{Entry}
+use Rattle.np_event.specs.declared.reply.Reply.{Reply}
 use Rattle.np_machine.specs.State.{State}
+use Rattle.np_machine.specs.Step.{judge, reply_of}
 use Rattle.np_machine.specs.History.{after, Runs}
 use Rattle.np_machine.specs.Node.{is_swept}
-use Rattle.np_rules.specs.Ran.{Ran}
+use Rattle.np_rules.specs.Ran.{Ran, answer_of, applied, has_room}
 use Rattle.np_desk.specs.Turned.{entries_of}
 use Rattle.np_useful.specs.Sessions.{is_current}
 use Rattle.np_useful.specs.Useful.{IsUseful}
@@ -50,6 +53,18 @@ none-taken m ask t none answer = record {
   configuration = refl;
   journal = sym (ap (λ (o : Option Entry). m.journal ++ entries_of o) none ∙ append-nil m.journal);
 }
+
+-- ## an event that happens
+
+pub do-taken : (old new : Ran) (e : Event) (r : Reply) → Runs old.configuration old.journal old.state → length old.journal < 262144 → r ≡ answer_of old e → new ≡ applied old e → IsTaken old (asks.Do e) (turn.Did (record { event = e; reply = r })) new
+do-taken old new e r runs room replied is =
+    let roomy : has_room old ≡ true = grind (arith, nat_tests) in
+    let reply : r ≡ reply_of (judge old.configuration old.state e) = replied ∙ rw roomy refl in
+    record {
+      answer = (refl, record { room = room; reply = reply ∙ ap (λ (s : State). reply_of (judge old.configuration s e)) (sym runs.ends) });
+      configuration = ap (λ (m : Ran). m.configuration) is;
+      journal = ap (λ (m : Ran). m.journal) is ∙ rw roomy (ap (λ (x : Reply). old.journal ++ record { event = e; reply = x } ∷ []) (sym reply));
+    }
 
 -- ## a role's event
 

@@ -19,10 +19,10 @@ use crate::due::{due_node, is_wanted};
 use np_choices::{choose, is_settled};
 use np_config::Config;
 use np_event::{Entry, Event, Reply};
-use np_index::Index;
+use np_index::{Index, Indexed};
 use np_look::Look;
 use np_roles::current_session;
-use np_rules::Plain;
+use np_rules::{JournalKeeper, VecKeeper};
 use np_text::{JOURNAL_ENTRIES, NoMemory, NodeId, PoolId, Role};
 use std::alloc::Global;
 use std::marker::Model;
@@ -31,21 +31,15 @@ use std::marker::Model;
 /// index beside its state, with which it answers readers.
 #[derive(Drop)]
 pub struct Board {
-    plain: Plain,
-    index: Index,
+    machine: JournalKeeper<Indexed<VecKeeper>>,
 }
 
 impl Model for Board {
-    ghost use Rattle.std.specs.Prelude.{length};
-    ghost use Rattle.np_index.specs.Index.{IsIndexOf};
-    ghost use Rattle.np_rules.specs.Ran.{IsRun, Ran};
+    ghost use Rattle.np_rules.specs.Ran.{Ran};
 
     ghost Value = { Ran };
 
-    ghost view = { λ b. b.plain };
-
-    ghost invariant = { λ b. IsRun b.plain (length b.plain.journal)
-        × IsIndexOf b.plain.configuration b.plain.state b.index };
+    ghost view = { λ b. b.machine };
 }
 
 impl Board {
@@ -58,9 +52,10 @@ impl Board {
         }) }
     {
         config.soundness();
-        let plain = Plain::new(alloc, config)?;
-        let index = Index::rebuild(alloc, &plain)?;
-        Ok(Board { plain, index })
+        let keeper = VecKeeper::new(alloc, config)?;
+        let indexed = Indexed::new(alloc, keeper)?;
+        let machine = JournalKeeper::begin(alloc, indexed);
+        Ok(Board { machine })
     }
 
     /// The journal leads to the state, and the configuration leaves room for every run. The call
@@ -69,28 +64,28 @@ impl Board {
         ensures site { IsFitSite self.now.configuration }
         ensures runs { Runs self.now.configuration self.now.journal self.now.state }
     {
-        let _plain = &self.plain;
+        self.machine.soundness();
     }
 
     /// What was recorded, the first entry first.
     pub fn journal(&self) -> &[Entry]
         ensures { result.now ≡ self.now.journal }
     {
-        self.plain.journal()
+        self.machine.journal()
     }
 
     /// The index of the state. It takes no memory.
     pub fn index(&self) -> &Index
         ensures { IsIndexOf self.now.configuration self.now.state result.now }
     {
-        &self.index
+        self.machine.keeper().index()
     }
 
     /// The reply to the event: `Full` if the journal has 262,144 entries. It takes no memory.
     pub fn judge(&self, event: Event) -> Reply
         ensures { result ≡ answer_of self.now event }
     {
-        self.plain.judge(event)
+        self.machine.judge(event)
     }
 
     /// The event happens: its reply is recorded with it, and the state is the one after it. If the
@@ -101,8 +96,7 @@ impl Board {
         ensures err { OnErr result (self.new ≡ self.old) }
         ensures runs { Runs self.new.configuration self.new.journal self.new.state }
     {
-        let reply = self.plain.apply(event)?;
-        self.index.note(&self.plain, Entry { event, reply });
+        let reply = self.machine.apply(event)?;
         Ok(reply)
     }
 
@@ -133,7 +127,8 @@ impl Board {
         ensures turn { IfOk result (λ t. IsTaken self.old (asks.Do event) t self.new) }
         ensures err { OnErr result (self.new ≡ self.old) }
     {
-        if self.plain.journal().len() >= JOURNAL_ENTRIES {
+        self.soundness();
+        if self.machine.journal().len() >= JOURNAL_ENTRIES {
             return Ok(Turn::Full);
         }
         let reply = self.apply(event)?;
@@ -141,8 +136,8 @@ impl Board {
     }
 
     /// A node of the pool that is being deleted and held by the pool's janitor, or `Idle` if and
-    /// only if there is none. It scans the sessions from the newest to the janitor's, and then
-    /// every node up to that one.
+    /// only if there is none. It scans the sessions from the newest to the janitor's, and then the
+    /// nodes in whose queues that session is, up to the due one.
     fn due(&self, pool: PoolId) -> Turn
         ensures { answers_due self.now.configuration self.now.journal pool result }
     {
@@ -150,11 +145,14 @@ impl Board {
         let Some(session) = current_session(self, Role::Janitor(pool)) else {
             return Turn::Idle;
         };
-        match due_node(self, pool, session) {
+        let Some(node) = due_node(self, pool, session) else {
+            return Turn::Idle;
+        };
+        match self.node(node) {
             None => Turn::Idle,
-            Some(view) => Turn::DueNode {
-                node: view.id,
-                server: view.kept.server,
+            Some(kept) => Turn::DueNode {
+                node,
+                server: kept.server,
             },
         }
     }

@@ -1,13 +1,12 @@
 //! What the turns read of a state.
 
-ghost use Rattle.std.specs.Prelude.{◌≡◌, find};
-ghost use Rattle.std.specs.Option.{option_map};
+ghost use Rattle.std.specs.Prelude.{◌≡◌, false, true, IfSome, None};
+ghost use Rattle.np_text.specs.declared.id.NodeId.{NodeId};
 ghost use Rattle.np_machine.specs.Tables.{is_session_of};
 ghost use Rattle.np_machine.specs.Node.{is_server, is_wanted};
-ghost use Rattle.np_look.specs.Views.{node_view};
-ghost use Rattle.np_board.specs.Due.{is_due, is_due_view};
+ghost use Rattle.np_board.specs.Due.{is_due};
 
-use np_look::{Look, NodeView};
+use np_look::Look;
 use np_text::{NodeId, NodeState, PoolId, SessionId};
 
 /// Whether the option names this session.
@@ -20,26 +19,33 @@ fn is_session_of(session: SessionId, found: Option<SessionId>) -> bool
     }
 }
 
-/// Whether the node is of the pool, is being deleted, and is held by the session.
-fn is_due(pool: PoolId, session: SessionId, view: &NodeView) -> bool
-    ensures { result ≡ is_due_view pool session view.now }
+/// Whether the node is there, is of the pool and is being deleted, and is held by the session.
+fn is_due<L: Look>(look: &L, pool: PoolId, session: SessionId, node: NodeId) -> bool
+    ensures { result ≡ is_due pool session node (L.state look.now) }
 {
-    view.kept.pool.0 == pool.0
-        && view.kept.state == NodeState::Deleting
-        && is_session_of(session, view.holder)
+    match look.node(node) {
+        None => false,
+        Some(kept) => {
+            kept.pool.0 == pool.0
+                && kept.state == NodeState::Deleting
+                && is_session_of(session, look.node_holder(node))
+        }
+    }
 }
 
-/// The first node of the pool that is being deleted and held by the session. It scans every node up
-/// to that one, or all if there is none.
-pub(crate) fn due_node<L: Look>(look: &L, pool: PoolId, session: SessionId) -> Option<NodeView>
-    ensures { result ≡ option_map node_view (find (is_due pool session) (L.state look.now).nodes) }
+/// The first node of the pool that is being deleted and held by the session. It looks at each node
+/// in whose queue the session is, up to that one, or at all of them if there is none.
+pub(crate) fn due_node<L: Look>(look: &L, pool: PoolId, session: SessionId) -> Option<NodeId>
+    ensures some { IfSome result (λ n. is_due pool session n (L.state look.now) ≡ true) }
+    ensures none { result ≡ None
+        → (n : NodeId) → is_due pool session n (L.state look.now) ≡ false }
 {
-    for at in 0..look.nodes() {
-        let Some(view) = look.node_view(at) else {
+    for at in 0..look.queued_nodes(session) {
+        let Some(node) = look.queued_node_at(session, at) else {
             return None;
         };
-        if is_due(pool, session, &view) {
-            return Some(view);
+        if is_due(look, pool, session, node) {
+            return Some(node);
         }
     }
     None

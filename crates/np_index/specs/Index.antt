@@ -1,24 +1,46 @@
 -- what an index has, and when it is the index of a state
-use Rattle.std.specs.Prelude.{◌≡◌, List, [], slice_get, unwrap_or}
+use Rattle.std.specs.Prelude.{◌≡◌, ◌<◌, ◌+◌, List, length}
 use Rattle.np_text.specs.declared.id.JobId.{JobId}
+use Rattle.np_text.specs.declared.id.NodeId.{NodeId}
+use Rattle.np_text.specs.declared.id.RequestId.{RequestId}
 use Rattle.np_text.specs.declared.id.RequesterId.{RequesterId}
+use Rattle.np_text.specs.declared.id.SessionId.{SessionId}
 use Rattle.np_site.specs.Configuration.{Configuration}
 use Rattle.np_machine.specs.State.{State}
-use Rattle.np_look.specs.Readers.{unfinished_from}
+use Rattle.np_look.specs.Readers.{unfinished_from, queued_requests, queued_nodes}
+use Rattle.np_index.specs.Lists.{list_at}
 
 -- the parts of an index (own)
 pub record IndexParts : Type 0 where
-  -- for each requester its jobs that are not over
+  -- for each requester, by its place, its jobs that are not over
   pub unfinished : List (List JobId)
-
--- the requester's list; a requester that does not exist has no jobs
-abbrev pub list_of : RequesterId → List (List JobId) → List JobId
-list_of q lists = unwrap_or (slice_get lists q.0) []
+  -- for each session, by its number, the requests in whose queues it is
+  pub requests : List (List RequestId)
+  -- for each session, by its number, the nodes in whose queues it is
+  pub nodes : List (List NodeId)
 
 -- the list of each requester has its jobs that are not over, in job order
 pub record AreUnfinished (c : Configuration) (s : State) (lists : List (List JobId)) : Type 0 where
-  pub each : (q : RequesterId) → list_of q lists ≡ unfinished_from c q 0 s.jobs
+  pub each : (q : RequesterId) → list_at q.0 lists ≡ unfinished_from c q 0 s.jobs
+
+-- the list of each session has the requests in whose queues it is, in order; there is one for each
+-- session that was begun
+pub record AreRequestsOf (s : State) (lists : List (List RequestId)) : Type 0 where
+  pub each : (session : SessionId) → list_at session.0 lists ≡ queued_requests session s
+  pub many : length s.sessions < length lists
+
+-- the same for nodes
+pub record AreNodesOf (s : State) (lists : List (List NodeId)) : Type 0 where
+  pub each : (session : SessionId) → list_at session.0 lists ≡ queued_nodes session s
+  pub many : length s.sessions < length lists
 
 -- each part says what the state says
 pub record IsIndexOf (c : Configuration) (s : State) (index : IndexParts) : Type 0 where
   pub unfinished : AreUnfinished c s index.unfinished
+  pub requests : AreRequestsOf s index.requests
+  pub nodes : AreNodesOf s index.nodes
+
+-- there is room for one more session
+pub record HasRoom (s : State) (index : IndexParts) : Type 0 where
+  pub requests : length s.sessions + 1 < length index.requests
+  pub nodes : length s.sessions + 1 < length index.nodes

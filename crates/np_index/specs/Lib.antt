@@ -1,3 +1,5 @@
-pub mod Keys
+pub mod Lists
+pub mod Waits
 pub mod Index
-pub mod Steps
+pub mod Unfinished
+pub mod Changed

@@ -1,24 +1,29 @@
 //! The index of a state.
 
-ghost use Rattle.std.specs.Prelude.{◌≡◌, IfOk};
+ghost use Rattle.std.specs.Prelude.{◌≡◌, IfOk, OnOk, length};
 ghost use Rattle.np_machine.specs.State.{State};
+ghost use Rattle.np_changes.specs.Planned.{IsReached};
+ghost use Rattle.np_fits.specs.Fits.{Fits};
 ghost use Rattle.np_site.specs.Configuration.{Configuration};
-ghost use Rattle.np_look.specs.Readers.{unfinished_of};
-ghost use Rattle.np_index.specs.Index.{IsIndexOf};
-ghost use Rattle.np_index.specs.Steps.{IsLaterBy};
+ghost use Rattle.np_look.specs.Readers.{queued_nodes, queued_requests, unfinished_of};
+ghost use Rattle.np_index.specs.Index.{AreNodesOf, AreRequestsOf, HasRoom, IsIndexOf};
 
-use crate::keys::JobTable;
-use crate::unfinished::{list_unfinished, note_unfinished};
-use np_event::Entry;
+use crate::lists::list_of;
+use crate::unfinished::list_unfinished;
+use np_keys::{ByNode, ByRequest, JobTable};
 use np_look::Look;
-use np_text::{JobId, NoMemory, RequesterId};
-use std::alloc::Global;
+use np_table::KeyTable;
+use np_text::{JobId, NoMemory, NodeId, RequestId, RequesterId, SessionId};
+use std::alloc::{AllocError, Global};
 use std::marker::Model;
 
-/// What a board keeps next to its state, so that readers need not search the state.
+/// What stands beside a state, so that readers need not search the state.
 #[derive(Drop)]
 pub struct Index {
-    unfinished: Vec<JobTable>,
+    pub(crate) alloc: Global,
+    pub(crate) unfinished: Vec<JobTable>,
+    pub(crate) requests: Vec<KeyTable<ByRequest>>,
+    pub(crate) nodes: Vec<KeyTable<ByNode>>,
 }
 
 impl Model for Index {
@@ -26,28 +31,116 @@ impl Model for Index {
 
     ghost Value = { IndexParts };
 
-    ghost view = { λ index. record { unfinished = index.unfinished.items } };
+    ghost view = { λ index. record {
+      unfinished = index.unfinished.items;
+      requests = index.requests.items;
+      nodes = index.nodes.items;
+    } };
+}
+
+/// The requests in whose queues the session is.
+fn list_requests<L: Look>(
+    alloc: Global,
+    look: &L,
+    session: SessionId,
+) -> Result<KeyTable<ByRequest>, AllocError>
+    requires { IsReached (L.site look.now) (L.state look.now) }
+    ensures { IfOk result (λ list. list ≡ queued_requests session (L.state look.now)) }
+{
+    let mut list = KeyTable::new(alloc);
+    for at in 0..look.queued_requests(session) {
+        if let Some(request) = look.queued_request_at(session, at) {
+            list.insert(request)?;
+        }
+    }
+    Ok(list)
+}
+
+/// The nodes in whose queues the session is.
+fn list_nodes<L: Look>(
+    alloc: Global,
+    look: &L,
+    session: SessionId,
+) -> Result<KeyTable<ByNode>, AllocError>
+    requires { IsReached (L.site look.now) (L.state look.now) }
+    ensures { IfOk result (λ list. list ≡ queued_nodes session (L.state look.now)) }
+{
+    let mut list = KeyTable::new(alloc);
+    for at in 0..look.queued_nodes(session) {
+        if let Some(node) = look.queued_node_at(session, at) {
+            list.insert(node)?;
+        }
+    }
+    Ok(list)
+}
+
+/// The requests of each session, by number.
+fn requests_by_session<L: Look>(
+    alloc: Global,
+    look: &L,
+) -> Result<Vec<KeyTable<ByRequest>>, AllocError>
+    requires reached { IsReached (L.site look.now) (L.state look.now) }
+    requires fits { Fits (L.site look.now) (L.state look.now) }
+    ensures { IfOk result (λ lists. AreRequestsOf (L.state look.now) lists.items) }
+{
+    let mut lists = Vec::new(alloc);
+    for number in 0..look.sessions() + 1 {
+        lists.push(list_requests(alloc, look, SessionId(number))?)?;
+    }
+    Ok(lists)
+}
+
+/// The nodes of each session, by number.
+fn nodes_by_session<L: Look>(alloc: Global, look: &L) -> Result<Vec<KeyTable<ByNode>>, AllocError>
+    requires reached { IsReached (L.site look.now) (L.state look.now) }
+    requires fits { Fits (L.site look.now) (L.state look.now) }
+    ensures { IfOk result (λ lists. AreNodesOf (L.state look.now) lists.items) }
+{
+    let mut lists = Vec::new(alloc);
+    for number in 0..look.sessions() + 1 {
+        lists.push(list_nodes(alloc, look, SessionId(number))?)?;
+    }
+    Ok(lists)
 }
 
 impl Index {
-    /// The index of the state. It reads each job once; a job that is not over also costs a binary
-    /// search among those of its requester.
+    /// The index of the state. It reads each job once, and for each session what it queues for.
     pub fn rebuild<L: Look>(alloc: Global, look: &L) -> Result<Index, NoMemory>
+        requires reached { IsReached (L.site look.now) (L.state look.now) }
+        requires fits { Fits (L.site look.now) (L.state look.now) }
         ensures { IfOk result (λ index. IsIndexOf (L.site look.now) (L.state look.now) index) }
     {
         let unfinished = list_unfinished(alloc, look)?;
-        Ok(Index { unfinished })
+        let requests = requests_by_session(alloc, look)?;
+        let nodes = nodes_by_session(alloc, look)?;
+        Ok(Index {
+            alloc,
+            unfinished,
+            requests,
+            nodes,
+        })
     }
 
-    /// The index of a state becomes that of the state after an entry. It takes no memory. Only an
-    /// entry that ends a job costs more than reading its event: a binary search among the jobs of
-    /// its requester that are not over, and a move of those after it.
-    pub fn note<L: Look>(&mut self, after: &L, entry: Entry)
-        ensures { (s : State) → IsIndexOf (L.site after.now) s self.old
-            → IsLaterBy (L.site after.now) s entry.event (L.state after.now)
-            → IsIndexOf (L.site after.now) (L.state after.now) self.new }
+    /// Where its lists take memory.
+    pub(crate) fn alloc(&self) -> Global {
+        self.alloc
+    }
+
+    /// Makes room for one more session: its lists are empty. Whether or not memory runs out, it is
+    /// the index of the same states.
+    pub(crate) fn make_room(&mut self, sessions: u32) -> Result<(), AllocError>
+        ensures same { (c : Configuration) (s : State) → IsIndexOf c s self.old → IsIndexOf c s self.new }
+        ensures room { OnOk result ((c : Configuration) (s : State) → IsIndexOf c s self.old
+            → length s.sessions ≡ sessions → HasRoom s self.new) }
     {
-        note_unfinished(&mut self.unfinished, after, entry.event);
+        let wanted = sessions as usize + 2;
+        if self.requests.len() < wanted {
+            self.requests.push(KeyTable::new(self.alloc))?;
+        }
+        if self.nodes.len() < wanted {
+            self.nodes.push(KeyTable::new(self.alloc))?;
+        }
+        Ok(())
     }
 
     /// The job at a place among those of the requester that are not over, in order of their numbers.
@@ -56,9 +149,25 @@ impl Index {
         ensures { (c : Configuration) (s : State) → IsIndexOf c s self.now
             → result ≡ unfinished_of c requester at s }
     {
-        match self.unfinished.get(requester.0 as usize) {
-            None => None,
-            Some(jobs) => jobs.rows().get(at as usize).copied(),
-        }
+        list_of(&self.unfinished, requester.0 as usize)
+            .get(at as usize)
+            .copied()
+    }
+
+    /// The requests in whose queues the session is, by priority and then sequence. It costs one
+    /// lookup.
+    pub fn requests_of(&self, session: SessionId) -> &[RequestId]
+        ensures { (c : Configuration) (s : State) → IsIndexOf c s self.now
+            → result.now ≡ queued_requests session s }
+    {
+        list_of(&self.requests, session.0 as usize)
+    }
+
+    /// The nodes in whose queues the session is, by number. It costs one lookup.
+    pub fn nodes_of(&self, session: SessionId) -> &[NodeId]
+        ensures { (c : Configuration) (s : State) → IsIndexOf c s self.now
+            → result.now ≡ queued_nodes session s }
+    {
+        list_of(&self.nodes, session.0 as usize)
     }
 }

@@ -1,17 +1,26 @@
-//! What a board keeps next to its state, so that its readers need not search the state.
+//! What stands beside a state so that its readers need not search it.
 //!
-//! `Index::rebuild` makes the index of any state, and `Index::note` updates it from a state to the
-//! one after an entry; `specs/Index` says when it is the index of a state. Each part answers a
-//! reader of `Look` (np_look) with a lookup:
+//! `Index` has the parts below; `specs/Index` says when they are the index of a state. Each part
+//! answers readers of `Look` (np_look) with a lookup:
 //!
-//! | part | reader |
+//! | part | readers |
 //! |---|---|
 //! | `unfinished`, for each requester its jobs that are not over | `unfinished` |
+//! | `requests`, for each session the requests in whose queues it is | `queued_requests`, `queued_request_at` |
+//! | `nodes`, for each session the nodes in whose queues it is | `queued_nodes`, `queued_node_at` |
+//!
+//! `Indexed` joins an index to anything that keeps a state. It answers these readers from the index
+//! and the others from the keeper, and makes each change in both: first what may take memory, in the
+//! index and then in the keeper, and then the rest of the index, which can't fail.
 #![tactic(auto)]
 
+mod change;
 mod index;
-mod jobs;
-mod keys;
+mod indexed;
+mod lists;
+mod queues;
 mod unfinished;
+mod waits;
 
 pub use index::Index;
+pub use indexed::Indexed;

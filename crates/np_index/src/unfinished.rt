@@ -1,27 +1,18 @@
 //! The jobs of each requester that are not over.
 
-ghost use Rattle.std.specs.Prelude.{◌≡◌, IfOk};
-ghost use Rattle.np_machine.specs.State.{State};
+ghost use Rattle.std.specs.Prelude.{◌≡◌, ◌≤◌, [], List, length, replicate, IfOk};
+ghost use Rattle.np_text.specs.declared.id.JobId.{JobId};
+ghost use Rattle.np_index.specs.Changed.{unfinished_changed};
 ghost use Rattle.np_index.specs.Index.{AreUnfinished};
-ghost use Rattle.np_index.specs.Steps.{IsLaterBy, has_ended, job_ended_by};
+ghost use Rattle.np_index.specs.Unfinished.{has_ended};
 
-use crate::jobs::{drop_job, no_jobs, push_job};
-use crate::keys::JobTable;
-use np_event::Event;
+use crate::lists::{push_at, remove_at};
+use np_changes::JobsChange;
+use np_config::Config;
+use np_keys::JobTable;
 use np_look::Look;
-use np_text::{JobId, Phase};
+use np_text::{JobId, Phase, RequesterId};
 use std::alloc::{AllocError, Global};
-
-/// The job that the event may end.
-fn job_ended_by(event: Event) -> Option<JobId>
-    ensures { result ≡ job_ended_by event }
-{
-    match event {
-        Event::Finish { job, .. } => Some(job),
-        Event::Withdraw { job, .. } => Some(job),
-        _ => None,
-    }
-}
 
 /// Whether the job exists and is over.
 fn has_ended<L: Look>(look: &L, job: JobId) -> bool
@@ -31,6 +22,21 @@ fn has_ended<L: Look>(look: &L, job: JobId) -> bool
         None => false,
         Some(kept) => kept.phase == Phase::Over,
     }
+}
+
+/// A table for each requester, with no job.
+fn no_jobs(alloc: Global, config: &Config) -> Result<Vec<JobTable>, AllocError>
+    requires { length config.now.requesters ≤ 16 }
+    ensures { IfOk result (λ lists.
+        lists.items ≡ replicate {A = List JobId} (length config.now.requesters) []) }
+{
+    let mut lists = Vec::new(alloc);
+    let mut count = 0;
+    while let Some(_) = config.requester(RequesterId(count)) {
+        lists.push(JobTable::new(alloc))?;
+        count += 1;
+    }
+    Ok(lists)
 }
 
 /// The jobs of each requester that are not over, by one scan of all jobs.
@@ -49,25 +55,24 @@ pub(crate) fn list_unfinished<L: Look>(alloc: Global, look: &L) -> Result<Vec<Jo
         let Some(row) = config.job(job) else {
             continue;
         };
-        push_job(&mut lists, row.requester, job)?;
+        push_at(&mut lists, row.requester.0 as usize, job)?;
     }
     Ok(lists)
 }
 
-/// The lists of a state become those of the state after an event.
-pub(crate) fn note_unfinished<L: Look>(lists: &mut Vec<JobTable>, after: &L, event: Event)
-    ensures { (s : State) → AreUnfinished (L.site after.now) s lists.old.items
-        → IsLaterBy (L.site after.now) s event (L.state after.now)
-        → AreUnfinished (L.site after.now) (L.state after.now) lists.new.items }
+/// A job that is over leaves the list of its requester: a binary search there, and a move of the
+/// jobs after it.
+pub(crate) fn settle_unfinished(lists: &mut Vec<JobTable>, config: &Config, change: &JobsChange)
+    ensures { lists.new.items ≡ unfinished_changed config.now change.now lists.old.items }
 {
-    let Some(job) = job_ended_by(event) else {
+    let JobsChange::Put { job, kept } = change else {
         return;
     };
-    if !has_ended(after, job) {
+    if kept.phase != Phase::Over {
         return;
     }
-    let Some(row) = after.config().job(job) else {
+    let Some(row) = config.job(*job) else {
         return;
     };
-    drop_job(lists, row.requester, job);
+    remove_at(lists, row.requester.0 as usize, job);
 }

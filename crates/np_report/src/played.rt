@@ -10,8 +10,9 @@ ghost use Rattle.np_report.specs.Script.{IsPlayable};
 
 use crate::print::text;
 use crate::script::Script;
+use np_decision::StateKeeper;
 use np_event::{Entry, Event, Reply};
-use np_rules::{Look, Plain};
+use np_rules::{JournalKeeper, Look, Plain};
 use np_text::NoMemory;
 use std::alloc::{AllocError, Global};
 
@@ -36,15 +37,15 @@ pub trait Machine: Look {
         ensures state { Self.state self.now ≡ (so_far self.now).state };
 }
 
-impl Machine for Plain {
+impl<K: StateKeeper + Drop> Machine for JournalKeeper<K> {
     ghost so_far = { λ m. m };
 
     fn apply(&mut self, event: Event) -> Result<Reply, AllocError> {
-        Plain::apply(self, event)
+        JournalKeeper::apply(self, event)
     }
 
     fn journal(&self) -> &[Entry] {
-        Plain::journal(self)
+        JournalKeeper::journal(self)
     }
 }
 

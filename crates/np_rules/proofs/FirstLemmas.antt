@@ -7,7 +7,6 @@ use Rattle.np_text.specs.declared.id.PoolId.{PoolId}
 use Rattle.np_site.specs.Configuration.{Configuration}
 use Rattle.np_machine.specs.Entries.{RequestEntry}
 use Rattle.np_machine.specs.State.{State}
-use Rattle.np_machine.specs.Order.{comes_before}
 use Rattle.np_machine.specs.First.{blocking, is_open_to, is_candidate, earlier, least}
 use Rattle.np_look.proofs.Walks.{take_there}
 use Rattle.np_look.proofs.Seen.{better, better_later, better_full, better_now}

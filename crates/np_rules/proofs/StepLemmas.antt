@@ -1,5 +1,5 @@
 -- one step more
-use Rattle.std.proofs.Common.{◌≡◌, ℕ, ◌+◌, ◌<◌, List, [], ◌∷◌, ◌++◌, length, ap, sym, ◌∙◌, arith, length-append}
+use Rattle.std.proofs.Common.{◌≡◌, ◌<◌, List, [], ◌∷◌, ◌++◌, length, ap, sym, ◌∙◌, arith, length-append}
 use Rattle.np_site.specs.Configuration.{Configuration}
 use Rattle.np_event.specs.declared.entry.Entry.{Entry}
 use Rattle.np_event.specs.declared.reply.Reply.{Reply}
@@ -22,9 +22,5 @@ Runs-next c journal s entry runs room replied =
     }
 
 -- the same for the machine
-pub IsRun-next : (m : Ran) (entries : ℕ) (entry : Entry) → IsRun m entries → length m.journal < 262144 → entry.reply ≡ reply_of (judge m.configuration m.state entry.event) → IsRun (record { configuration = m.configuration; journal = m.journal ++ entry ∷ []; state = next m.configuration m.state entry.event }) (entries + 1)
-IsRun-next m entries entry run room replied = record {
-  site = run.site;
-  runs = Runs-next m.configuration m.journal m.state entry run.runs room replied;
-  counted = let before = run.counted in simp length-append (omega arith);
-}
+pub IsRun-next : (m : Ran) (entry : Entry) → IsRun m → length m.journal < 262144 → entry.reply ≡ reply_of (judge m.configuration m.state entry.event) → IsRun (record { configuration = m.configuration; journal = m.journal ++ entry ∷ []; state = next m.configuration m.state entry.event })
+IsRun-next m entry run room replied = record { site = run.site; runs = Runs-next m.configuration m.journal m.state entry run.runs room replied }

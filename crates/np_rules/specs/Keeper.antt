@@ -1,15 +1,14 @@
 -- what is kept in vectors, and what bounds its lists
-use Rattle.std.specs.Prelude.{◌<◌, ◌^◌, ℕ, Bool, true, Option, Some, None, length}
+use Rattle.std.specs.Prelude.{◌<◌, ◌^◌, Bool, true, Option, Some, None, length}
 use Rattle.std.specs.List.{AllByRecursion}
 use Rattle.np_site.specs.Configuration.{Configuration}
 use Rattle.np_machine.specs.Entries.{RequestEntry}
 use Rattle.np_machine.specs.Order.{comes_before}
 use Rattle.np_machine.specs.State.{State}
 
--- a configuration, how many entries were recorded, and a state (own)
+-- a configuration and a state; no entries are recorded here (own)
 pub record Kept : Type 0 where
   pub configuration : Configuration
-  pub entries : ℕ
   pub state : State
 
 -- the length of each list is a number of 32 bits

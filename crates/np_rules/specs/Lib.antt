@@ -1,4 +1,3 @@
-pub mod Keys
 pub mod Tally
 pub mod CanChange
 pub mod TakenBack

@@ -1,5 +1,5 @@
 -- the machine with its journal
-use Rattle.std.specs.Prelude.{◌≡◌, ℕ, List, ◌++◌, ◌∷◌, [], Bool, if◌then◌else◌, nat_lt, length}
+use Rattle.std.specs.Prelude.{List, ◌++◌, ◌∷◌, [], Bool, if◌then◌else◌, nat_lt, length}
 use Rattle.np_site.specs.Configuration.{Configuration}
 use Rattle.np_event.specs.declared.event.Event.{Event}
 use Rattle.np_event.specs.declared.entry.Entry.{Entry}
@@ -32,8 +32,7 @@ applied m e = record m {
   state = if has_room m then next m.configuration m.state e else m.state;
 }
 
--- a run of the machine at a configuration whose numbers leave room, with its entries counted
-pub record IsRun (m : Ran) (entries : ℕ) : Type 0 where
+-- a run of the machine at a configuration whose numbers leave room
+pub record IsRun (m : Ran) : Type 0 where
   pub site : IsFitSite m.configuration
   pub runs : Runs m.configuration m.journal m.state
-  pub counted : entries ≡ length m.journal

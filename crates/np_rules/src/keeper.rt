@@ -1,6 +1,6 @@
 //! The machine's state in vectors.
 
-ghost use Rattle.std.specs.Prelude.{◌≡◌, ◌+◌, ◌<◌, ◌^◌, IfOk};
+ghost use Rattle.std.specs.Prelude.{◌≡◌, IfOk};
 ghost use Rattle.np_site.specs.Sound.{IsSound};
 ghost use Rattle.np_machine.specs.State.{start};
 
@@ -13,12 +13,11 @@ use np_decision::StateKeeper;
 use std::alloc::{AllocError, Global};
 use std::marker::Model;
 
-/// A configuration and a state over vectors, and how many entries were recorded.
+/// A configuration and a state over vectors.
 #[derive(Drop)]
 pub struct VecKeeper {
     pub(crate) config: Config,
     pub(crate) tables: Tables,
-    pub(crate) entries: u32,
 }
 
 impl Model for VecKeeper {
@@ -26,7 +25,7 @@ impl Model for VecKeeper {
 
     ghost Value = { Kept };
 
-    ghost view = { λ k. record { configuration = k.config; entries = k.entries; state = k.tables } };
+    ghost view = { λ k. record { configuration = k.config; state = k.tables } };
 
     ghost invariant = { λ k. IsCountable k.tables };
 }
@@ -40,24 +39,12 @@ pub(crate) fn is_sound(config: &Config)
 
 impl VecKeeper {
     /// The state before the first event.
-    pub(crate) fn new(alloc: Global, config: Config) -> Result<VecKeeper, AllocError>
-        ensures { IfOk result (λ k. k ≡ record { configuration = config; entries = 0; state = start config }) }
+    pub fn new(alloc: Global, config: Config) -> Result<VecKeeper, AllocError>
+        ensures { IfOk result (λ k. k ≡ record { configuration = config; state = start config }) }
     {
         is_sound(&config);
         let tables = Tables::start(alloc, &config)?;
-        Ok(VecKeeper {
-            config,
-            tables,
-            entries: 0,
-        })
-    }
-
-    /// One more entry was recorded.
-    pub(crate) fn count_entry(&mut self)
-        requires { self.old.entries + 1 < 2 ^ 32 }
-        ensures { self.new ≡ record self.old { entries = self.old.entries + 1 } }
-    {
-        self.entries += 1;
+        Ok(VecKeeper { config, tables })
     }
 }
 

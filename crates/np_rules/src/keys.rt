@@ -1,35 +1,25 @@
-//! The orders of the machine's tables: what a row is found by, and which row comes first.
+//! The orders of the machine's rows under locks: by their ids.
 
 ghost use Rattle.np_machine.specs.Entries.{NodeEntry, RequestEntry};
-ghost use Rattle.np_machine.specs.declared.state.Swept.{Swept};
 ghost use Rattle.np_machine.specs.Order.{is_id_before};
 ghost use Rattle.np_machine.specs.Tables.{same_request};
-ghost use Rattle.np_rules.specs.Keys.{is_job_before, job_equal, job_one_way, job_some_way, job_transitive, same_job, is_node_before, is_pair_before, node_equal, node_one_way, node_some_way, node_transitive, pair_equal, pair_one_way, pair_some_way, pair_transitive, request_equal, request_one_way, request_some_way, request_transitive, same_node, same_pair};
+ghost use Rattle.np_keys.specs.Keys.{is_node_before, node_equal, node_one_way, node_some_way, node_transitive, request_equal, request_one_way, request_some_way, request_transitive, same_node};
 
-use np_machine::{NodeEntry, RequestEntry, Swept};
+use np_keys::{ByNode, ByRequest};
+use np_machine::{NodeEntry, RequestEntry};
 use np_table::{KeyTable, Order};
-use np_text::{JobId, NodeId, RequestId};
+use np_text::{NodeId, RequestId};
 
-/// Nodes, by number.
-pub struct ByNode;
+/// Nodes under their locks, by number.
+pub struct ByNodeEntry;
 
-/// Requests, by priority and then sequence, which is the byte order of their ids' texts.
-pub struct ByRequest;
-
-/// Swept pairs, by node and then server.
-pub struct BySwept;
-
-/// Jobs, by number.
-pub struct ByJob;
+/// Requests under their locks, by priority and then sequence.
+pub struct ByRequestEntry;
 
 /// The requests under their locks.
-pub type RequestTable = KeyTable<ByRequest>;
-/// The swept pairs.
-pub type SweptTable = KeyTable<BySwept>;
-/// The jobs with a handle of a semaphore.
-pub type HandleTable = KeyTable<ByJob>;
+pub type RequestTable = KeyTable<ByRequestEntry>;
 
-impl Order for ByNode {
+impl Order for ByNodeEntry {
     type Key = NodeId;
 
     type Row = NodeEntry;
@@ -45,11 +35,11 @@ impl Order for ByNode {
     }
 
     fn is_before(first: NodeId, second: NodeId) -> bool {
-        first.0 < second.0
+        ByNode::is_before(first, second)
     }
 
     fn is_same(first: NodeId, second: NodeId) -> bool {
-        first.0 == second.0
+        ByNode::is_same(first, second)
     }
 
     ghost transitive = { node_transitive };
@@ -61,7 +51,7 @@ impl Order for ByNode {
     ghost equal = { node_equal };
 }
 
-impl Order for ByRequest {
+impl Order for ByRequestEntry {
     type Key = RequestId;
 
     type Row = RequestEntry;
@@ -77,15 +67,11 @@ impl Order for ByRequest {
     }
 
     fn is_before(first: RequestId, second: RequestId) -> bool {
-        if first.priority == second.priority {
-            first.seq < second.seq
-        } else {
-            first.priority < second.priority
-        }
+        ByRequest::is_before(first, second)
     }
 
     fn is_same(first: RequestId, second: RequestId) -> bool {
-        first.priority == second.priority && first.seq == second.seq
+        ByRequest::is_same(first, second)
     }
 
     ghost transitive = { request_transitive };
@@ -95,72 +81,4 @@ impl Order for ByRequest {
     ghost some_way = { request_some_way };
 
     ghost equal = { request_equal };
-}
-
-impl Order for BySwept {
-    type Key = Swept;
-
-    type Row = Swept;
-
-    ghost key = { λ pair. pair };
-
-    ghost before = { is_pair_before };
-
-    ghost same = { same_pair };
-
-    fn key(pair: &Swept) -> Swept {
-        *pair
-    }
-
-    fn is_before(first: Swept, second: Swept) -> bool {
-        if first.node.0 == second.node.0 {
-            first.server < second.server
-        } else {
-            first.node.0 < second.node.0
-        }
-    }
-
-    fn is_same(first: Swept, second: Swept) -> bool {
-        first.node.0 == second.node.0 && first.server == second.server
-    }
-
-    ghost transitive = { pair_transitive };
-
-    ghost one_way = { pair_one_way };
-
-    ghost some_way = { pair_some_way };
-
-    ghost equal = { pair_equal };
-}
-
-impl Order for ByJob {
-    type Key = JobId;
-
-    type Row = JobId;
-
-    ghost key = { λ job. job };
-
-    ghost before = { is_job_before };
-
-    ghost same = { same_job };
-
-    fn key(job: &JobId) -> JobId {
-        *job
-    }
-
-    fn is_before(first: JobId, second: JobId) -> bool {
-        first.0 < second.0
-    }
-
-    fn is_same(first: JobId, second: JobId) -> bool {
-        first.0 == second.0
-    }
-
-    ghost transitive = { job_transitive };
-
-    ghost one_way = { job_one_way };
-
-    ghost some_way = { job_some_way };
-
-    ghost equal = { job_equal };
 }

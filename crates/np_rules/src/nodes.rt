@@ -18,7 +18,7 @@ ghost use Rattle.np_machine.specs.Session.{node_left};
 ghost use Rattle.np_machine.specs.Tables.{all_freed, is_queued};
 
 use crate::change::{Free, Leave, TakeOver};
-use crate::keys::ByNode;
+use crate::keys::ByNodeEntry;
 use crate::tally::{
     add_one, count_freed, count_left, kind_place, move_one, number_at, spare_place, take_one,
     tally_place, zeros,
@@ -33,7 +33,7 @@ use std::marker::Model;
 /// place.
 #[derive(Drop)]
 pub struct NodeTable {
-    table: KeyTable<ByNode>,
+    table: KeyTable<ByNodeEntry>,
     numbers: Vec<usize>,
     spares: Vec<usize>,
 }

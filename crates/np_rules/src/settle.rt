@@ -13,7 +13,7 @@ ghost use Rattle.np_rules.specs.CanChange.{CanSettle, TakesEdit};
 
 use crate::change::handles::drop_handles;
 use crate::change::{Edit, Leave, Put};
-use crate::keys::{HandleTable, RequestTable};
+use crate::keys::RequestTable;
 use crate::nodes::NodeTable;
 use crate::tables::Tables;
 use np_changes::{
@@ -21,6 +21,7 @@ use np_changes::{
     SessionsChange,
 };
 use np_config::Config;
+use np_keys::JobTable;
 use np_machine::{Registration, SessionFacts};
 use np_record::{JobRecord, MarkRow, Marked};
 use np_table::always;
@@ -129,7 +130,7 @@ fn settle_jobs(jobs: &mut Vec<JobRecord>, change: &JobsChange)
     }
 }
 
-fn settle_handles(handles: &mut Vec<HandleTable>, config: &Config, change: HandlesChange)
+fn settle_handles(handles: &mut Vec<JobTable>, config: &Config, change: HandlesChange)
     ensures { handles.new.items ≡ handles_changed config.now change handles.old.items }
 {
     match change {
@@ -139,7 +140,7 @@ fn settle_handles(handles: &mut Vec<HandleTable>, config: &Config, change: Handl
 }
 
 /// The job gives all its handles back.
-fn release(handles: &mut Vec<HandleTable>, config: &Config, job: JobId)
+fn release(handles: &mut Vec<JobTable>, config: &Config, job: JobId)
     ensures { handles.new.items ≡
         all_without_handle job (semaphores_of config.now job) handles.old.items }
 {

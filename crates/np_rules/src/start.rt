@@ -4,10 +4,11 @@ ghost use Rattle.std.specs.Prelude.{◌≡◌, ◌≤◌, ◌<◌, List, [], len
 ghost use Rattle.np_text.specs.declared.id.JobId.{JobId};
 ghost use Rattle.np_machine.specs.State.{start, new_job, no_deeds};
 
-use crate::keys::{HandleTable, RequestTable, SweptTable};
+use crate::keys::RequestTable;
 use crate::nodes::NodeTable;
 use crate::tables::Tables;
 use np_config::Config;
+use np_keys::{JobTable, SweptTable};
 use np_record::{JobRecord, MarkRow, RoleRecord};
 use np_text::{JobId, Phase, PoolId, RequesterId, SemId};
 use std::alloc::{AllocError, Global};
@@ -89,12 +90,12 @@ fn new_jobs(alloc: Global, count: usize) -> Result<Vec<JobRecord>, AllocError>
 }
 
 /// `count` semaphores of which nobody has a handle.
-fn no_handles(alloc: Global, count: usize) -> Result<Vec<HandleTable>, AllocError>
+fn no_handles(alloc: Global, count: usize) -> Result<Vec<JobTable>, AllocError>
     ensures { IfOk result (λ handles. handles.items ≡ replicate {A = List JobId} count []) }
 {
     let mut handles = Vec::new(alloc);
     for _at in 0..count {
-        handles.push(HandleTable::new(alloc))?;
+        handles.push(JobTable::new(alloc))?;
     }
     Ok(handles)
 }

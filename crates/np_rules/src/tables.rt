@@ -6,8 +6,9 @@ ghost use Rattle.np_look.specs.Views.{node_view, request_view};
 ghost use Rattle.np_machine.specs.Node.{is_swept};
 ghost use Rattle.np_machine.specs.Tables.{handles_of, has_handle, node_entry, node_holder, registered, request_entry, request_holder, role_in, session_of};
 
-use crate::keys::{HandleTable, RequestTable, SweptTable};
+use crate::keys::RequestTable;
 use crate::nodes::NodeTable;
+use np_keys::{JobTable, SweptTable};
 use np_look::{NodeView, RequestView};
 use np_machine::{NodeEntry, Registration, RequestEntry, SessionFacts, Swept, holder_of};
 use np_record::{JobRecord, RoleRecord};
@@ -24,7 +25,7 @@ pub struct Tables {
     pub(crate) registrations: Vec<Registration>,
     pub(crate) requests: RequestTable,
     pub(crate) nodes: NodeTable,
-    pub(crate) handles: Vec<HandleTable>,
+    pub(crate) handles: Vec<JobTable>,
     pub(crate) jobs: Vec<JobRecord>,
     pub(crate) launchers: Vec<RoleRecord>,
     pub(crate) janitors: Vec<RoleRecord>,

@@ -1,4 +1,4 @@
-//! What can be read of the board: what its machine reports, and what its index has.
+//! What can be read of the board: what its machine reports.
 
 ghost use Rattle.std.specs.Prelude.{length};
 
@@ -21,206 +21,206 @@ impl Look for Board {
     ghost recorded = { λ b. length b.journal };
 
     fn config(&self) -> &Config {
-        self.plain.config()
+        self.machine.config()
     }
 
     fn entries(&self) -> u32 {
-        self.plain.entries()
+        self.machine.entries()
     }
 
     fn tick(&self) -> u32 {
-        self.plain.tick()
+        self.machine.tick()
     }
 
     fn session(&self, session: SessionId) -> Option<SessionFacts> {
-        self.plain.session(session)
+        self.machine.session(session)
     }
 
     fn sessions(&self) -> u32 {
-        self.plain.sessions()
+        self.machine.sessions()
     }
 
     fn registration(&self, pool: PoolId) -> Option<SessionId> {
-        self.plain.registration(pool)
+        self.machine.registration(pool)
     }
 
     fn registrations(&self) -> u32 {
-        self.plain.registrations()
+        self.machine.registrations()
     }
 
     fn registration_at(&self, at: u32) -> Option<Registration> {
-        self.plain.registration_at(at)
+        self.machine.registration_at(at)
     }
 
     fn requests(&self) -> u32 {
-        self.plain.requests()
+        self.machine.requests()
     }
 
     fn request_at(&self, at: u32) -> Option<RequestId> {
-        self.plain.request_at(at)
+        self.machine.request_at(at)
     }
 
     fn request_view(&self, at: u32) -> Option<RequestView> {
-        self.plain.request_view(at)
+        self.machine.request_view(at)
     }
 
     fn request(&self, request: RequestId) -> Option<RequestRecord> {
-        self.plain.request(request)
+        self.machine.request(request)
     }
 
     fn nodes(&self) -> u32 {
-        self.plain.nodes()
+        self.machine.nodes()
     }
 
     fn node_at(&self, at: u32) -> Option<NodeId> {
-        self.plain.node_at(at)
+        self.machine.node_at(at)
     }
 
     fn node_view(&self, at: u32) -> Option<NodeView> {
-        self.plain.node_view(at)
+        self.machine.node_view(at)
     }
 
     fn node(&self, node: NodeId) -> Option<NodeRecord> {
-        self.plain.node(node)
+        self.machine.node(node)
     }
 
     fn request_queue(&self, request: RequestId, at: u32) -> Option<SessionId> {
-        self.plain.request_queue(request, at)
+        self.machine.request_queue(request, at)
     }
 
     fn node_queue(&self, node: NodeId, at: u32) -> Option<SessionId> {
-        self.plain.node_queue(node, at)
+        self.machine.node_queue(node, at)
     }
 
     fn queued_requests(&self, session: SessionId) -> u32 {
-        self.plain.queued_requests(session)
+        self.machine.queued_requests(session)
     }
 
     fn queued_request_at(&self, session: SessionId, at: u32) -> Option<RequestId> {
-        self.plain.queued_request_at(session, at)
+        self.machine.queued_request_at(session, at)
     }
 
     fn queued_nodes(&self, session: SessionId) -> u32 {
-        self.plain.queued_nodes(session)
+        self.machine.queued_nodes(session)
     }
 
     fn queued_node_at(&self, session: SessionId, at: u32) -> Option<NodeId> {
-        self.plain.queued_node_at(session, at)
+        self.machine.queued_node_at(session, at)
     }
 
     fn handles(&self, semaphore: SemId) -> u32 {
-        self.plain.handles(semaphore)
+        self.machine.handles(semaphore)
     }
 
     fn handle_at(&self, semaphore: SemId, at: u32) -> Option<JobId> {
-        self.plain.handle_at(semaphore, at)
+        self.machine.handle_at(semaphore, at)
     }
 
     fn has_handle(&self, semaphore: SemId, job: JobId) -> bool {
-        self.plain.has_handle(semaphore, job)
+        self.machine.has_handle(semaphore, job)
     }
 
     fn jobs(&self) -> u32 {
-        self.plain.jobs()
+        self.machine.jobs()
     }
 
     fn job(&self, job: JobId) -> Option<JobRecord> {
-        self.plain.job(job)
+        self.machine.job(job)
     }
 
     fn role(&self, role: Role) -> Option<RoleRecord> {
-        self.plain.role(role)
+        self.machine.role(role)
     }
 
     fn swept(&self, node: NodeId, server: u64) -> bool {
-        self.plain.swept(node, server)
+        self.machine.swept(node, server)
     }
 
     fn next_request(&self) -> u32 {
-        self.plain.next_request()
+        self.machine.next_request()
     }
 
     fn next_node(&self) -> u32 {
-        self.plain.next_node()
+        self.machine.next_node()
     }
 
     fn asked(&self, request: RequestId) -> Option<Asked> {
-        self.plain.asked(request)
+        self.machine.asked(request)
     }
 
     fn is_declined(&self, request: RequestId, pool: PoolId) -> bool {
-        self.plain.is_declined(request, pool)
+        self.machine.is_declined(request, pool)
     }
 
     fn undeclined(&self, request: RequestId) -> u32 {
-        self.plain.undeclined(request)
+        self.machine.undeclined(request)
     }
 
     fn is_last_pool(&self, request: RequestId, pool: PoolId) -> bool {
-        self.plain.is_last_pool(request, pool)
+        self.machine.is_last_pool(request, pool)
     }
 
     fn request_holder(&self, request: RequestId) -> Option<SessionId> {
-        self.plain.request_holder(request)
+        self.machine.request_holder(request)
     }
 
     fn node_holder(&self, node: NodeId) -> Option<SessionId> {
-        self.plain.node_holder(node)
+        self.machine.node_holder(node)
     }
 
     fn ahead_at_node(&self, session: SessionId, node: NodeId) -> u32 {
-        self.plain.ahead_at_node(session, node)
+        self.machine.ahead_at_node(session, node)
     }
 
     fn waits_at_node(&self, session: SessionId, node: NodeId) -> bool {
-        self.plain.waits_at_node(session, node)
+        self.machine.waits_at_node(session, node)
     }
 
     fn blocking(&self, pool: PoolId, asked: &Asked) -> Option<TenantId> {
-        self.plain.blocking(pool, asked)
+        self.machine.blocking(pool, asked)
     }
 
     fn first_of(&self, pool: PoolId) -> Option<RequestId> {
-        self.plain.first_of(pool)
+        self.machine.first_of(pool)
     }
 
     fn used_by(&self, tenant: TenantId) -> Amount {
-        self.plain.used_by(tenant)
+        self.machine.used_by(tenant)
     }
 
     fn has_spent_min_ready(&self, pool: PoolId, label: LabelId) -> bool {
-        self.plain.has_spent_min_ready(pool, label)
+        self.machine.has_spent_min_ready(pool, label)
     }
 
     fn ready_count(&self, label: LabelId) -> u32 {
-        self.plain.ready_count(label)
+        self.machine.ready_count(label)
     }
 
     fn used(&self, pool: PoolId) -> Amount {
-        self.plain.used(pool)
+        self.machine.used(pool)
     }
 
     fn has_spare(&self, pool: PoolId, label: LabelId) -> bool {
-        self.plain.has_spare(pool, label)
+        self.machine.has_spare(pool, label)
     }
 
     fn free_ready(&self, pool: PoolId, label: LabelId, at: u32) -> Option<NodeId> {
-        self.plain.free_ready(pool, label, at)
+        self.machine.free_ready(pool, label, at)
     }
 
     fn is_paused(&self, pool: PoolId) -> bool {
-        self.plain.is_paused(pool)
+        self.machine.is_paused(pool)
     }
 
     fn unfinished(&self, requester: RequesterId, at: u32) -> Option<JobId> {
-        self.index.unfinished(requester, at)
+        self.machine.unfinished(requester, at)
     }
 
     fn owner(&self, node: NodeId) -> Option<JobId> {
-        self.plain.owner(node)
+        self.machine.owner(node)
     }
 
     fn has_live_session(&self, requester: RequesterId) -> bool {
-        self.plain.has_live_session(requester)
+        self.machine.has_live_session(requester)
     }
 }

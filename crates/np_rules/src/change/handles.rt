@@ -5,12 +5,12 @@ ghost use Rattle.np_lists.specs.Change.{change_at};
 ghost use Rattle.np_machine.specs.Semaphore.{all_with_handle, all_without_handle, with_handle, without_handle};
 ghost use Rattle.np_rules.specs.TakenBack.{taken_back};
 
-use crate::keys::HandleTable;
+use np_keys::JobTable;
 use np_text::{JobId, SemId};
 use std::alloc::AllocError;
 
 /// The job takes a handle, unless it has one; true if it was added.
-fn add_job(jobs: &mut HandleTable, job: JobId) -> Result<bool, AllocError>
+fn add_job(jobs: &mut JobTable, job: JobId) -> Result<bool, AllocError>
     ensures ok { OnOk result (jobs.new ≡ with_handle job jobs.old) }
     ensures undo { IfOk result (λ added.
         taken_back added job (with_handle job jobs.old) ≡ jobs.old) }
@@ -24,7 +24,7 @@ fn add_job(jobs: &mut HandleTable, job: JobId) -> Result<bool, AllocError>
 }
 
 /// The handle is taken back, if it was added.
-fn take_back_job(jobs: &mut HandleTable, job: JobId, added: bool)
+fn take_back_job(jobs: &mut JobTable, job: JobId, added: bool)
     ensures { jobs.new ≡ taken_back added job jobs.old }
 {
     if added {
@@ -34,7 +34,7 @@ fn take_back_job(jobs: &mut HandleTable, job: JobId, added: bool)
 
 /// The job has no handle any more. No clause of a table says that a key is there only once, so it
 /// is removed until it is gone.
-fn drop_job(jobs: &mut HandleTable, job: JobId)
+fn drop_job(jobs: &mut JobTable, job: JobId)
     ensures { jobs.new ≡ without_handle job jobs.old }
 {
     while jobs.has(job) {
@@ -43,7 +43,7 @@ fn drop_job(jobs: &mut HandleTable, job: JobId)
 }
 
 /// The job takes a handle of the semaphore, unless it has one; true if it was added.
-fn add_handle(handles: &mut Vec<HandleTable>, at: usize, job: JobId) -> Result<bool, AllocError>
+fn add_handle(handles: &mut Vec<JobTable>, at: usize, job: JobId) -> Result<bool, AllocError>
     ensures ok { OnOk result (handles.new.items ≡
         change_at at (with_handle job) handles.old.items) }
     ensures undo { IfOk result (λ added.
@@ -59,7 +59,7 @@ fn add_handle(handles: &mut Vec<HandleTable>, at: usize, job: JobId) -> Result<b
 }
 
 /// The handle of the semaphore is taken back, if it was added.
-fn take_back(handles: &mut Vec<HandleTable>, at: usize, job: JobId, added: bool)
+fn take_back(handles: &mut Vec<JobTable>, at: usize, job: JobId, added: bool)
     ensures { handles.new.items ≡ change_at at (taken_back added job) handles.old.items }
 {
     if at >= handles.len() {
@@ -71,7 +71,7 @@ fn take_back(handles: &mut Vec<HandleTable>, at: usize, job: JobId, added: bool)
 
 /// The job takes a handle of each of the semaphores, or of none.
 pub(crate) fn add_handles(
-    handles: &mut Vec<HandleTable>,
+    handles: &mut Vec<JobTable>,
     semaphores: &[SemId],
     job: JobId,
 ) -> Result<(), AllocError>
@@ -92,7 +92,7 @@ pub(crate) fn add_handles(
 }
 
 /// The job gives its handle of the semaphore back, if it has one.
-fn drop_handle(handles: &mut Vec<HandleTable>, at: usize, job: JobId)
+fn drop_handle(handles: &mut Vec<JobTable>, at: usize, job: JobId)
     ensures { handles.new.items ≡ change_at at (without_handle job) handles.old.items }
 {
     if at >= handles.len() {
@@ -103,7 +103,7 @@ fn drop_handle(handles: &mut Vec<HandleTable>, at: usize, job: JobId)
 }
 
 /// The job gives its handles of the semaphores back.
-pub(crate) fn drop_handles(handles: &mut Vec<HandleTable>, semaphores: &[SemId], job: JobId)
+pub(crate) fn drop_handles(handles: &mut Vec<JobTable>, semaphores: &[SemId], job: JobId)
     ensures { handles.new.items ≡ all_without_handle job semaphores.now handles.old.items }
 {
     for semaphore in semaphores {

@@ -1,4 +1,4 @@
-use Rattle.np_index.proofs.Noted.{IsMadeTo}
+use Rattle.np_index.proofs.Made.{IsMadeTo}
 use Rattle.np_index.proofs.unfinished.list_unfinished.Given as goal
 
 abbrev pub invariant-loop-number : goal.invariant-loop-number

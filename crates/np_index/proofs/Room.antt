@@ -1,0 +1,30 @@
+-- an index with one list more, which is empty: it is the index of the same states
+use Rattle.std.proofs.Common.{◌≡◌, ◌∙◌, List, [], ◌∷◌, ◌++◌, length, ap, arith, length-append}
+use Rattle.np_text.specs.declared.id.NodeId.{NodeId}
+use Rattle.np_text.specs.declared.id.RequestId.{RequestId}
+use Rattle.np_site.specs.Configuration.{Configuration}
+use Rattle.np_machine.specs.State.{State}
+use Rattle.np_index.specs.Index.{IndexParts, IsIndexOf}
+use Rattle.np_index.specs.Lists.{list_at}
+use Rattle.np_index.proofs.Places.{list_at-push}
+
+module _ (c : Configuration) (s : State) (index : IndexParts) (is : IsIndexOf c s index) where
+  pub requests-more : (lists : List (List RequestId)) (list : List RequestId) → lists ≡ index.requests ++ list ∷ [] → list ≡ [] → IsIndexOf c s (record index { requests = lists })
+  requests-more lists list more empty = let added : lists ≡ index.requests ++ [] ∷ [] = rw empty at more in record {
+    unfinished = is.unfinished;
+    requests = record {
+      each = λ x. ap (list_at x.0) added ∙ list_at-push x.0 index.requests ∙ is.requests.each x;
+      many = omega (arith, is.requests.many, simp length-append at (ap length added));
+    };
+    nodes = is.nodes;
+  }
+
+  pub nodes-more : (lists : List (List NodeId)) (list : List NodeId) → lists ≡ index.nodes ++ list ∷ [] → list ≡ [] → IsIndexOf c s (record index { nodes = lists })
+  nodes-more lists list more empty = let added : lists ≡ index.nodes ++ [] ∷ [] = rw empty at more in record {
+    unfinished = is.unfinished;
+    requests = is.requests;
+    nodes = record {
+      each = λ x. ap (list_at x.0) added ∙ list_at-push x.0 index.nodes ∙ is.nodes.each x;
+      many = omega (arith, is.nodes.many, simp length-append at (ap length added));
+    };
+  }

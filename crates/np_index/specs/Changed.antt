@@ -1,0 +1,92 @@
+-- what an event's changes make of the parts of an index
+use Rattle.std.specs.Prelude.{ℕ, Bool, if◌then◌else◌, List, [], ◌∷◌, Option, slice_get, option_and_then}
+use Rattle.std.specs.Option.{option_map_or}
+use Rattle.np_text.specs.declared.id.JobId.{JobId}
+use Rattle.np_text.specs.declared.id.NodeId.{NodeId}
+use Rattle.np_text.specs.declared.id.RequestId.{RequestId}
+use Rattle.np_text.specs.declared.id.SessionId.{SessionId}
+use Rattle.np_site.specs.Configuration.{Configuration}
+use Rattle.np_lists.specs.Change.{change_at}
+use Rattle.np_machine.specs.Kinds.{is_over}
+use Rattle.np_machine.specs.Order.{is_id_before}
+use Rattle.np_machine.specs.State.{State}
+use Rattle.np_machine.specs.Tables.{same_request, request_holder, node_queue}
+use Rattle.np_changes.specs.declared.changes.Changes.{Changes}
+use Rattle.np_changes.specs.declared.changes.JobsChange.{JobsChange}
+use Rattle.np_changes.specs.declared.changes.JobsChange.TheVariants as jobs
+use Rattle.np_keys.specs.Keys.{is_node_before, same_node, same_job}
+use Rattle.np_index.specs.declared.change.Added.{Added}
+use Rattle.np_index.specs.declared.waits.Wait.{Wait}
+use Rattle.np_index.specs.Index.{IndexParts}
+use Rattle.np_index.specs.Lists.{with_id, without_id, taken_back}
+use Rattle.np_index.specs.Waits.{joins_request, joins_node, leaves_request, leaves_node, removed_node, ending}
+
+-- ## the lists of sessions
+
+-- the session's list has the row
+abbrev pub lists_joined : {I : Type 0} → (I → I → Bool) → (I → I → Bool) → Option (Wait I) → List (List I) → List (List I)
+lists_joined before same wait lists = option_map_or (λ w. change_at w.session.0 (with_id before same w.id) lists) wait lists
+
+-- it has the row no longer, if that was added
+abbrev pub lists_taken_back : {I : Type 0} → (I → I → Bool) → Option (Wait I) → Bool → List (List I) → List (List I)
+lists_taken_back same wait added lists = option_map_or (λ w. change_at w.session.0 (taken_back same added w.id) lists) wait lists
+
+-- the session's list has the row no longer
+abbrev pub lists_left : {I : Type 0} → (I → I → Bool) → Option (Wait I) → List (List I) → List (List I)
+lists_left same wait lists = option_map_or (λ w. change_at w.session.0 (without_id same w.id) lists) wait lists
+
+-- nor has the list of any session of the queue
+abbrev pub lists_without : {I : Type 0} → (I → I → Bool) → I → List SessionId → List (List I) → List (List I)
+lists_without same i [] lists = lists
+lists_without same i (session ∷ queue) lists = lists_without same i queue (change_at session.0 (without_id same i) lists)
+
+-- if a row goes
+abbrev pub lists_removed : {I : Type 0} → (I → I → Bool) → Option I → List SessionId → List (List I) → List (List I)
+lists_removed same id queue lists = option_map_or (λ i. lists_without same i queue lists) id lists
+
+-- the list of the session is empty
+abbrev pub lists_ended : {I : Type 0} → Option SessionId → List (List I) → List (List I)
+lists_ended session lists = option_map_or (λ x. change_at x.0 (λ _. []) lists) session lists
+
+-- the queue of a node that goes
+abbrev pub queue_at : Option NodeId → State → List SessionId
+queue_at node s = option_map_or (λ n. node_queue n s.nodes) node []
+
+-- the holder of a request that goes
+abbrev pub holder_at : Option RequestId → State → Option SessionId
+holder_at request s = option_and_then (λ r. request_holder r s.requests) request
+
+-- ## jobs
+
+-- a job that is over leaves the list of its requester
+abbrev pub unfinished_changed : Configuration → JobsChange → List (List JobId) → List (List JobId)
+unfinished_changed c jobs.Same lists = lists
+unfinished_changed c (jobs.Put j kept) lists =
+    if is_over kept.phase
+    then option_map_or (λ row. change_at row.requester.0 (without_id same_job j) lists) (slice_get c.jobs j.0) lists
+    else lists
+unfinished_changed c (jobs.EndNode j n) lists = lists
+
+-- ## all parts
+
+-- with what grows; a new node has this number
+abbrev pub index_grown : Changes → ℕ → IndexParts → IndexParts
+index_grown ch next index = record index {
+  requests = lists_joined is_id_before same_request (joins_request ch.maker ch.grows) index.requests;
+  nodes = lists_joined is_node_before same_node (joins_node ch.maker ch.grows next) index.nodes;
+}
+
+-- without what was added
+abbrev pub index_taken_back : Changes → ℕ → Added → IndexParts → IndexParts
+index_taken_back ch next added index = record index {
+  requests = lists_taken_back same_request (joins_request ch.maker ch.grows) added.request index.requests;
+  nodes = lists_taken_back same_node (joins_node ch.maker ch.grows next) added.node index.nodes;
+}
+
+-- with the rest of the changes: a request that goes has this holder, a node that goes this queue
+abbrev pub index_settled : Configuration → Changes → Option SessionId → List SessionId → IndexParts → IndexParts
+index_settled c ch holder queue index = record {
+  unfinished = unfinished_changed c ch.jobs index.unfinished;
+  requests = lists_ended (ending ch.sessions) (lists_left same_request (leaves_request ch.maker ch.requests holder) index.requests);
+  nodes = lists_ended (ending ch.sessions) (lists_removed same_node (removed_node ch.nodes) queue (lists_left same_node (leaves_node ch.maker ch.nodes) index.nodes));
+}

@@ -1,0 +1,10 @@
+-- which jobs are over
+use Rattle.std.specs.Prelude.{Bool, false, slice_get}
+use Rattle.std.specs.Option.{option_map_or}
+use Rattle.np_text.specs.declared.id.JobId.{JobId}
+use Rattle.np_machine.specs.Kinds.{is_over}
+use Rattle.np_machine.specs.State.{State}
+
+-- the job exists and is over
+abbrev pub has_ended : State → JobId → Bool
+has_ended s j = option_map_or (λ kept. is_over kept.phase) (slice_get s.jobs j.0) false

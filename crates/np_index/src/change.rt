@@ -1,0 +1,74 @@
+//! What the changes of an event make of an index.
+
+ghost use Rattle.std.specs.Prelude.{◌≡◌, IfOk, OnErr, OnOk};
+ghost use Rattle.np_index.specs.Changed.{index_grown, index_settled, index_taken_back};
+
+use crate::index::Index;
+use crate::queues::{end, join, leave, remove, take_back};
+use crate::unfinished::settle_unfinished;
+use crate::waits::{ending, joins_node, joins_request, leaves_node, leaves_request, removed_node};
+use np_changes::Changes;
+use np_config::Config;
+use np_text::SessionId;
+use std::alloc::AllocError;
+
+/// Whether rows were added to lists of requests and of nodes.
+#[derive(Clone, Copy)]
+pub struct Added {
+    pub request: bool,
+    pub node: bool,
+}
+
+impl Index {
+    /// Adds what the changes let grow, before the state has changed. If memory runs out, nothing
+    /// changes.
+    pub(crate) fn grow(&mut self, changes: &Changes, next_node: u32) -> Result<Added, AllocError>
+        ensures ok { OnOk result (self.new ≡ index_grown changes.now next_node self.old) }
+        ensures undo { IfOk result (λ added.
+            index_taken_back changes.now next_node added self.new ≡ self.old) }
+        ensures err { OnErr result (self.new ≡ self.old) }
+    {
+        let joins = joins_request(changes.maker, &changes.grows);
+        let request = join(&mut self.requests, joins)?;
+        let wait = joins_node(changes.maker, &changes.grows, next_node);
+        match join(&mut self.nodes, wait) {
+            Ok(node) => Ok(Added { request, node }),
+            Err(fault) => {
+                take_back(&mut self.requests, joins, request);
+                Err(fault)
+            }
+        }
+    }
+
+    /// Takes out again what was added, since the state could not change.
+    pub(crate) fn take_back(&mut self, changes: &Changes, next_node: u32, added: Added)
+        ensures { self.new ≡ index_taken_back changes.now next_node added self.old }
+    {
+        let joins = joins_request(changes.maker, &changes.grows);
+        take_back(&mut self.requests, joins, added.request);
+        let wait = joins_node(changes.maker, &changes.grows, next_node);
+        take_back(&mut self.nodes, wait, added.node);
+    }
+
+    /// Makes the rest of the changes, after the state has changed. A request that went had this
+    /// holder, a node that went this queue.
+    pub(crate) fn settle(
+        &mut self,
+        config: &Config,
+        changes: &Changes,
+        holder: Option<SessionId>,
+        queue: &[SessionId],
+    )
+        ensures { self.new ≡ index_settled config.now changes.now holder queue.now self.old }
+    {
+        settle_unfinished(&mut self.unfinished, config, &changes.jobs);
+        let at_request = leaves_request(changes.maker, &changes.requests, holder);
+        leave(&mut self.requests, at_request);
+        let at_node = leaves_node(changes.maker, &changes.nodes);
+        leave(&mut self.nodes, at_node);
+        remove(&mut self.nodes, removed_node(&changes.nodes), queue);
+        let session = ending(&changes.sessions);
+        end(self.alloc, &mut self.requests, session);
+        end(self.alloc, &mut self.nodes, session);
+    }
+}

@@ -1,0 +1,10 @@
+//! Tables of ids: nodes and jobs by number, requests by priority and then sequence, swept pairs by node
+//! and then server.
+//!
+//! Tables of rows with such ids are sorted in the same orders (np_rules); `specs/Keys` has the facts
+//! about them.
+#![tactic(auto)]
+
+mod keys;
+
+pub use keys::{ByJob, ByNode, ByRequest, BySwept, JobTable, SweptTable};
