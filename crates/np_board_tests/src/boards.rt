@@ -81,24 +81,51 @@ fn new_board(alloc: Global, site: &str) -> Result<Board, NoMemory>
     Ok(board)
 }
 
-// The requester's jobs that are not over are these two, by the board's index and by a new one.
-fn has_unfinished(
-    alloc: Global,
-    board: &Board,
-    first: Option<JobId>,
-    second: Option<JobId>,
-) -> Result<bool, NoMemory> {
-    let made = Index::rebuild(alloc, board)?;
+// The requester's jobs that are not over are these two, by the board's index.
+fn has_unfinished(board: &Board, first: Option<JobId>, second: Option<JobId>) -> bool {
+    let index = board.index();
     let requester = RequesterId(0);
-    Ok(
-        board.index().unfinished(requester, 0) == first
-            && board.index().unfinished(requester, 1) == second
-            && made.unfinished(requester, 0) == first
-            && made.unfinished(requester, 1) == second,
-    )
+    index.unfinished(requester, 0) == first && index.unfinished(requester, 1) == second
 }
 
-// A start launches the server of its number.
+// The lists of the board's index are those of a new one.
+fn is_rebuilt(alloc: Global, board: &Board) -> Result<bool, NoMemory> {
+    board.soundness();
+    let made = Index::rebuild(alloc, board)?;
+    let kept = board.index();
+    for number in 0..16 {
+        let session = SessionId(number);
+        if made.requests_of(session) != kept.requests_of(session)
+            || made.nodes_of(session) != kept.nodes_of(session)
+        {
+            return Ok(false);
+        }
+    }
+    let requester = RequesterId(0);
+    Ok(has_unfinished(
+        board,
+        made.unfinished(requester, 0),
+        made.unfinished(requester, 1),
+    ))
+}
+
+// The end of the launch, if the entry is a start: the server of its number.
+fn launch(entry: Entry) -> Option<Event> {
+    let Event::Start { session, node } = entry.event else {
+        return None;
+    };
+    let Reply::Done(Done::Started { attempt, start }) = entry.reply else {
+        return None;
+    };
+    Some(Event::Done {
+        session,
+        node,
+        attempt,
+        outcome: Outcome::Launched(u64::from(start)),
+    })
+}
+
+// A start launches its server.
 fn report<T: Turns<Ask = Ask, Entry = Entry, Turn = Turn>>(
     turns: &mut T,
     entry: Entry,
@@ -106,18 +133,9 @@ fn report<T: Turns<Ask = Ask, Entry = Entry, Turn = Turn>>(
     requires ready { T.ready turns.old }
     ensures ready { T.ready turns.new }
 {
-    let Event::Start { session, node } = entry.event else {
-        return Ok(());
-    };
-    let Reply::Done(Done::Started { attempt, start }) = entry.reply else {
-        return Ok(());
-    };
-    turns.turn(Ask::Do(Event::Done {
-        session,
-        node,
-        attempt,
-        outcome: Outcome::Launched(u64::from(start)),
-    }))?;
+    if let Some(done) = launch(entry) {
+        turns.turn(Ask::Do(done))?;
+    }
     Ok(())
 }
 
@@ -223,10 +241,7 @@ fn live<R: AllocGlobal + Abort>(rt: &R, alone: &mut Alone<Board>) -> Result<(), 
     };
     assert_eq!(rt; act_until_due(alone)?, due);
     assert!(rt; !is_at_rest(&alone.object));
-    assert!(rt;
-        has_unfinished(rt.alloc(), &alone.object, None, None)?,
-        "served"
-    );
+    assert!(rt; has_unfinished(&alone.object, None, None), "served");
     let (due, first, second) = sweep_late(alone)?;
     assert_eq!(rt; due, Turn::Idle, "removed");
     assert!(rt; is_removal(first), "{first:?}");
@@ -249,10 +264,46 @@ fn a_job_is_served_and_its_server_swept(rt: HostRuntime) -> Result<(), Fail> {
 fn step<R: AllocGlobal + Abort>(rt: &R, board: &mut Board) -> Result<(), Fail> {
     for (event, first, second) in STEPS {
         board.apply(event)?;
-        assert!(rt;
-            has_unfinished(rt.alloc(), board, first, second)?,
-            "{event:?}"
-        );
+        assert!(rt; has_unfinished(board, first, second), "{event:?}");
+        assert!(rt; is_rebuilt(rt.alloc(), board)?, "{event:?}");
+    }
+    Ok(())
+}
+
+// The role acts, and a server that it starts is launched; whether it did anything.
+fn act(board: &mut Board, role: Role) -> Result<bool, NoMemory> {
+    let Turn::Did(entry) = board.act(role)? else {
+        return Ok(false);
+    };
+    if let Some(done) = launch(entry) {
+        board.apply(done)?;
+    }
+    Ok(true)
+}
+
+// The roles act by turns, and the session of this number ends in the fourth round; after each act the
+// index is that of the state.
+fn live_on<R: AllocGlobal + Abort>(rt: &R, board: &mut Board, ends: u32) -> Result<(), Fail> {
+    for round in 0..24 {
+        for role in [LAUNCHER, REQUESTER, JANITOR] {
+            let did = act(board, role)?;
+            assert!(rt; !did || is_rebuilt(rt.alloc(), board)?, "{round}");
+        }
+        if round == 3 {
+            let session = SessionId(ends);
+            board.apply(Event::Expire { session })?;
+            assert!(rt; is_rebuilt(rt.alloc(), board)?, "{session:?} ends");
+        }
+    }
+    assert!(rt; has_unfinished(board, None, None), "served");
+    Ok(())
+}
+
+#[test]
+fn the_index_is_that_of_the_state(rt: HostRuntime) -> Result<(), Fail> {
+    for ends in 1..4 {
+        let mut board = new_board(rt.alloc(), SITE_OF_TWO)?;
+        live_on(&rt, &mut board, ends)?;
     }
     Ok(())
 }

@@ -1,0 +1,8 @@
+use Rattle.np_fits.proofs.FitsRuns.{Fits-Runs}
+use Rattle.np_board_tests.proofs.boards.is_rebuilt.Goals as goal
+
+pub rebuild-requires-clause-reached : goal.rebuild-requires-clause-reached
+rebuild-requires-clause-reached c = record { journal = c.args.board.now.journal; runs = c.soundness.ensures.runs }
+
+pub rebuild-requires-clause-fits : goal.rebuild-requires-clause-fits
+rebuild-requires-clause-fits c = Fits-Runs _ _ _ c.soundness.ensures.site c.soundness.ensures.runs
