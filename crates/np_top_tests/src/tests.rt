@@ -14,7 +14,7 @@ mod streams;
 mod usual;
 
 use np_cloud::{Gate, OpenGate};
-use np_io::{MemSink, MemSource};
+use np_io::{MemSink, MemSource, Source};
 use np_text::split_sections;
 use np_top::poolsim;
 use std::alloc::{AllocError, Global};
@@ -55,6 +55,32 @@ struct Ran {
     err: MemSink,
 }
 
+/// Runs the words of a line over these streams. Launches pass the gate.
+fn run_over<R: Threads + Wait + Sync + AllocGlobal, S: Source, G: Gate + Sync>(
+    rt: &R,
+    gate: &G,
+    line: &str,
+    source: &mut S,
+    mut out: MemSink,
+    mut err: MemSink,
+) -> Result<Ran, AllocError> {
+    let alloc = rt.alloc();
+    let words = words_of(alloc, line)?;
+    let status = poolsim(
+        rt,
+        alloc,
+        words.as_slice(),
+        source,
+        &mut out,
+        &mut err,
+        gate,
+    );
+    Ok(Ran { status, out, err })
+}
+
+// No call of the source, of out or of err fails.
+const NONE: (&[u32], &[u32], &[u32]) = (&[], &[], &[]);
+
 /// Runs the words of a line. Launches pass the gate, and the source, out and err fail at these calls.
 fn run_by<R: Threads + Wait + Sync + AllocGlobal, G: Gate + Sync>(
     rt: &R,
@@ -64,13 +90,10 @@ fn run_by<R: Threads + Wait + Sync + AllocGlobal, G: Gate + Sync>(
     failing: (&[u32], &[u32], &[u32]),
 ) -> Result<Ran, AllocError> {
     let alloc = rt.alloc();
-    let words = words_of(alloc, line)?;
     let mut source = MemSource::new(input, plan(alloc, failing.0)?);
-    let mut out = MemSink::new(alloc, plan(alloc, failing.1)?);
-    let mut err = MemSink::new(alloc, plan(alloc, failing.2)?);
-    let words = words.as_slice();
-    let status = poolsim(rt, alloc, words, &mut source, &mut out, &mut err, gate);
-    Ok(Ran { status, out, err })
+    let out = MemSink::new(alloc, plan(alloc, failing.1)?);
+    let err = MemSink::new(alloc, plan(alloc, failing.2)?);
+    run_over(rt, gate, line, &mut source, out, err)
 }
 
 /// Runs the words of a line, with no launch held up.
@@ -85,8 +108,43 @@ fn run<R: Threads + Wait + Sync + AllocGlobal>(
 
 /// Plays a site, with no stream that fails.
 fn play<R: Threads + Wait + Sync + AllocGlobal>(rt: &R, site: &str) -> Result<Ran, AllocError> {
-    let none = (&[][..], &[][..], &[][..]);
-    run(rt, "run", site.as_bytes().to_vec(rt.alloc())?, none)
+    run(rt, "run", site.as_bytes().to_vec(rt.alloc())?, NONE)
+}
+
+/// Checks the status of a run, and what is on err. The run is borrowed, so that a check that fails
+/// need not end it; so is what the bodies of tests look at.
+fn check_end<R: Abort>(rt: &R, ran: &Ran, status: u8, err: &str, name: &str) {
+    assert_eq!(rt; ran.status, status, "{name}");
+    assert_eq!(rt;
+        std::str::from_utf8(ran.err.bytes()).ok(),
+        Some(err),
+        "{name}"
+    );
+}
+
+/// Checks all that a run comes to: its status, what is on out, and what is on err.
+fn check<R: Abort>(rt: &R, ran: &Ran, told: (u8, &str, &str), name: &str) {
+    let (status, out, err) = told;
+    check_end(rt, ran, status, err, name);
+    assert_eq!(rt;
+        std::str::from_utf8(ran.out.bytes()).ok(),
+        Some(out),
+        "{name}"
+    );
+}
+
+/// Runs the words of a line, and checks all that this comes to.
+fn expect<R: Threads + Wait + Sync + AllocGlobal + Abort>(
+    rt: &R,
+    line: &str,
+    input: Vec<u8>,
+    failing: (&[u32], &[u32], &[u32]),
+    told: (u8, &str, &str),
+    name: &str,
+) -> Result<(), Fail> {
+    let ran = run(rt, line, input, failing)?;
+    check(rt, &ran, told, name);
+    Ok(())
 }
 
 /// Audits what a run printed: it is the Text of a run.
@@ -94,12 +152,8 @@ fn audit_printed<R: Threads + Wait + Sync + AllocGlobal + Abort>(
     rt: &R,
     printed: &[u8],
 ) -> Result<(), Fail> {
-    let none = (&[][..], &[][..], &[][..]);
-    let audit = run(rt, "audit", printed.to_vec(rt.alloc())?, none)?;
-    assert_eq!(rt; audit.status, 0);
-    assert!(rt; audit.out.bytes() == b"yes\n".as_slice());
-    assert!(rt; audit.err.bytes().is_empty());
-    Ok(())
+    let input = printed.to_vec(rt.alloc())?;
+    expect(rt, "audit", input, NONE, (0, "yes\n", ""), "an audit")
 }
 
 /// The lines of the jobs' fates: what stands behind the last bar of a Text.
@@ -120,10 +174,30 @@ fn ends_of(alloc: Global, text: &[u8]) -> Result<Vec<&str>, Fail> {
     Ok(ends)
 }
 
+/// Checks that so many jobs have an end, and that each is served, or lost if any may be.
+fn check_ends<R: Abort>(rt: &R, ends: &[&str], jobs: usize, loses: bool, name: &str) {
+    assert_eq!(rt; ends.len(), jobs, "{name}");
+    for end in ends {
+        let served = *end == "served" || loses && *end == "lost";
+        assert!(rt; served, "{name}: {end}");
+    }
+}
+
+/// The site with these bytes behind it.
+fn site_with(alloc: Global, rest: &str) -> Result<Vec<u8>, AllocError> {
+    let mut text = SITE.as_bytes().to_vec(alloc)?;
+    text.extend_from_slice(rest.as_bytes())?;
+    Ok(text)
+}
+
 /// The script over the site, with these event lines.
 fn script(alloc: Global, lines: &str) -> Result<Vec<u8>, AllocError> {
-    let mut text = SITE.as_bytes().to_vec(alloc)?;
-    text.extend_from_slice(b"\n%%\n")?;
+    let mut text = site_with(alloc, "\n%%\n")?;
     text.extend_from_slice(lines.as_bytes())?;
     Ok(text)
+}
+
+/// The Text of that script, with these lines of events and replies.
+fn text_with(alloc: Global, lines: &str) -> Result<String, AllocError> {
+    format!(in alloc; "{CANONICAL}\n%%\n{lines}%%\nj0 z/j waiting new\n")
 }

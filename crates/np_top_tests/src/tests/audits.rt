@@ -1,7 +1,7 @@
 //! Audits of a small Text, and of what is almost one.
 
 use super::journals::text_of;
-use super::run;
+use super::{NONE, expect};
 use np_worked::REQUEST_JOURNALS;
 use std::process::Abort;
 use std::sync::Wait;
@@ -14,13 +14,10 @@ fn audit_fault<R: Threads + Wait + Sync + AllocGlobal + Abort>(
     bytes: &[u8],
     line: u32,
 ) -> Result<(), Fail> {
-    let none = (&[][..], &[][..], &[][..]);
-    let ran = run(rt, "audit", bytes.to_vec(rt.alloc())?, none)?;
     let told = format!(in rt.alloc(); "poolsim: audit: line {line}\n")?;
-    assert_eq!(rt; ran.status, 8, "{told}");
-    assert!(rt; ran.out.bytes().is_empty(), "{told}");
-    assert!(rt; ran.err.bytes() == told.as_bytes(), "{told}");
-    Ok(())
+    let told = told.as_str();
+    let input = bytes.to_vec(rt.alloc())?;
+    expect(rt, "audit", input, NONE, (8, "", told), told)
 }
 
 // What stands in the Text, what takes its place, and the line that is at fault then.
@@ -33,20 +30,34 @@ const CHANGES: [(&str, &str, u32); 6] = [
     ("asked\n", "asked\ntick = ok\n", 15),
 ];
 
+/// Audits the Text once one thing in it has taken another's place.
+fn audit_change<R: Threads + Wait + Sync + AllocGlobal + Abort>(
+    rt: &R,
+    text: &str,
+    change: (&str, &str, u32),
+) -> Result<(), Fail> {
+    let (from, to, line) = change;
+    let (before, after) = text.split_once(from).ok_or("not in the Text")?;
+    let changed = format!(in rt.alloc(); "{before}{to}{after}")?;
+    audit_fault(rt, changed.as_bytes(), line)
+}
+
+/// Audits the Text, what is almost it, and nothing.
+fn audit_all<R: Threads + Wait + Sync + AllocGlobal + Abort>(
+    rt: &R,
+    text: &str,
+) -> Result<(), Fail> {
+    let input = text.as_bytes().to_vec(rt.alloc())?;
+    expect(rt, "-- audit", input, NONE, (0, "yes\n", ""), "the Text")?;
+    for change in CHANGES {
+        audit_change(rt, text, change)?;
+    }
+    audit_fault(rt, b"", 1)
+}
+
 #[test]
 fn a_text_is_told_from_others(rt: HostRuntime) -> Result<(), Fail> {
-    let alloc = rt.alloc();
     let journal = REQUEST_JOURNALS.first().ok_or("no journal")?;
-    let text = text_of(alloc, journal)?;
-    let none = (&[][..], &[][..], &[][..]);
-    let ran = run(&rt, "-- audit", text.as_bytes().to_vec(alloc)?, none)?;
-    assert_eq!(rt; ran.status, 0);
-    assert!(rt; ran.out.bytes() == b"yes\n".as_slice());
-    assert!(rt; ran.err.bytes().is_empty());
-    for (from, to, line) in CHANGES {
-        let (before, after) = text.as_str().split_once(from).ok_or("not in the Text")?;
-        let changed = format!(in alloc; "{before}{to}{after}")?;
-        audit_fault(&rt, changed.as_bytes(), line)?;
-    }
-    audit_fault(&rt, b"", 1)
+    let text = text_of(rt.alloc(), journal)?;
+    audit_all(&rt, text.as_str())
 }

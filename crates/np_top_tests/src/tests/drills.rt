@@ -1,11 +1,14 @@
 //! Generated sites, played to their ends.
 
-use super::{run, run_by};
-use np_cloud::Gate;
+use super::{NONE, check, run_by};
+use np_cloud::{Gate, OpenGate};
 use np_text::PoolId;
 use std::alloc::{AllocError, Global};
+use std::process::Abort;
+use std::sync::Wait;
 use std::sync::atomic::{AtomicU64, Ordering};
 use std::test::Fail;
+use std::thread::Threads;
 
 // How often a launch looks for one of another pool.
 const LOOKS: u64 = 10_000_000;
@@ -58,6 +61,21 @@ fn summary(alloc: Global, jobs: u32, served: u32, failed: u32) -> Result<String,
     )
 }
 
+/// Drills, and checks the summary, with how many jobs there are, are served and fail. Launches pass
+/// the gate, and the streams fail at these calls.
+fn drill<R: Threads + Wait + Sync + AllocGlobal + Abort, G: Gate + Sync>(
+    rt: &R,
+    gate: &G,
+    line: &str,
+    failing: (&[u32], &[u32], &[u32]),
+    jobs: (u32, u32, u32),
+) -> Result<(), Fail> {
+    let told = summary(rt.alloc(), jobs.0, jobs.1, jobs.2)?;
+    let ran = run_by(rt, gate, line, Vec::new(rt.alloc()), failing)?;
+    check(rt, &ran, (0, told.as_str(), ""), line);
+    Ok(())
+}
+
 // Workers that play one after another never meet.
 #[test]
 fn a_drill_launches_side_by_side(rt: HostRuntime) -> Result<(), Fail> {
@@ -70,34 +88,27 @@ fn a_drill_launches_side_by_side(rt: HostRuntime) -> Result<(), Fail> {
         ],
         met: AtomicU64::new(0),
     };
-    let none = (&[][..], &[][..], &[][..]);
-    let ran = run_by(&rt, &gate, "drill 60", Vec::new(rt.alloc()), none)?;
-    assert_eq!(rt; ran.status, 0);
-    assert!(rt; ran.out.bytes() == summary(rt.alloc(), 60, 54, 6)?.as_bytes());
+    drill(&rt, &gate, "drill 60", NONE, (60, 54, 6))?;
     assert_eq!(rt; gate.met.load(Ordering::SeqCst), 1);
     Ok(())
 }
 
 // The words, and how many jobs there are, are served and fail.
-const DRILLS: [(&str, u32, u32, u32); 6] = [
-    ("drill 1", 1, 1, 0),
-    ("drill 5", 5, 5, 0),
-    ("drill -- 5", 5, 5, 0),
-    ("-- drill 5", 5, 5, 0),
-    ("drill 5 --", 5, 5, 0),
-    ("drill 2000", 2000, 1800, 200),
+const DRILLS: [(&str, (u32, u32, u32)); 6] = [
+    ("drill 1", (1, 1, 0)),
+    ("drill 5", (5, 5, 0)),
+    ("drill -- 5", (5, 5, 0)),
+    ("-- drill 5", (5, 5, 0)),
+    ("drill 5 --", (5, 5, 0)),
+    ("drill 2000", (2000, 1800, 200)),
 ];
 
 // A source that fails at its first call is never called.
 #[test]
 fn a_drill_prints_its_summary(rt: HostRuntime) -> Result<(), Fail> {
-    for (words, jobs, served, failed) in DRILLS {
+    for (words, jobs) in DRILLS {
         let failing = (&[1][..], &[][..], &[][..]);
-        let ran = run(&rt, words, Vec::new(rt.alloc()), failing)?;
-        assert_eq!(rt; ran.status, 0, "{words}");
-        let told = summary(rt.alloc(), jobs, served, failed)?;
-        assert!(rt; ran.out.bytes() == told.as_bytes(), "{words}");
-        assert!(rt; ran.err.bytes().is_empty(), "{words}");
+        drill(&rt, &OpenGate, words, failing, jobs)?;
     }
     Ok(())
 }

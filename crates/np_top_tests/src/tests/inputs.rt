@@ -1,8 +1,11 @@
 //! Inputs at fault before the first event line.
 
-use super::{SITE, run};
+use super::{NONE, SITE, expect, site_with};
 use std::alloc::{AllocError, Global};
+use std::process::Abort;
+use std::sync::Wait;
 use std::test::Fail;
+use std::thread::Threads;
 
 // Whole inputs of `replay`, the status and the line on err.
 const INPUTS: [(&str, u8, &str); 19] = [
@@ -78,11 +81,8 @@ const INPUTS: [(&str, u8, &str); 19] = [
 #[test]
 fn an_input_at_fault_is_told(rt: HostRuntime) -> Result<(), Fail> {
     for (input, status, told) in INPUTS {
-        let none = (&[][..], &[][..], &[][..]);
-        let ran = run(&rt, "replay", input.as_bytes().to_vec(rt.alloc())?, none)?;
-        assert_eq!(rt; ran.status, status, "{input}");
-        assert!(rt; ran.out.bytes().is_empty(), "{input}");
-        assert!(rt; ran.err.bytes() == told.as_bytes(), "{input}");
+        let bytes = input.as_bytes().to_vec(rt.alloc())?;
+        expect(&rt, "replay", bytes, NONE, (status, "", told), input)?;
     }
     Ok(())
 }
@@ -100,28 +100,22 @@ fn labels(alloc: Global, count: usize) -> Result<Vec<u8>, AllocError> {
     Ok(text)
 }
 
-// What stands in a name's place, and the line on err.
+/// Replays an input whose configuration is at fault.
+fn expect_fault<R: Threads + Wait + Sync + AllocGlobal + Abort>(
+    rt: &R,
+    input: Vec<u8>,
+    told: &str,
+    name: &str,
+) -> Result<(), Fail> {
+    expect(rt, "replay", input, NONE, (3, "", told), name)
+}
+
 #[test]
 fn a_list_a_name_or_a_bar_at_fault_is_told(rt: HostRuntime) -> Result<(), Fail> {
-    let mut bar = SITE.as_bytes().to_vec(rt.alloc())?;
-    bar.extend_from_slice(b"\n%")?;
-    let rows = [
-        (bar, "poolsim: configuration: not-json #\n"),
-        (
-            labels(rt.alloc(), 257)?,
-            "poolsim: configuration: too-many #/labels\n",
-        ),
-        (
-            b"{\"labels\":[{\"name\":\"\xff\"}]}".to_vec(rt.alloc())?,
-            "poolsim: configuration: not-json #\n",
-        ),
-    ];
-    for (input, told) in rows {
-        let none = (&[][..], &[][..], &[][..]);
-        let ran = run(&rt, "replay", input, none)?;
-        assert_eq!(rt; ran.status, 3, "{told}");
-        assert!(rt; ran.out.bytes().is_empty(), "{told}");
-        assert!(rt; ran.err.bytes() == told.as_bytes(), "{told}");
-    }
-    Ok(())
+    let not_json = "poolsim: configuration: not-json #\n";
+    let too_many = "poolsim: configuration: too-many #/labels\n";
+    expect_fault(&rt, site_with(rt.alloc(), "\n%")?, not_json, "a bar")?;
+    expect_fault(&rt, labels(rt.alloc(), 257)?, too_many, "a list")?;
+    let name = b"{\"labels\":[{\"name\":\"\xff\"}]}".to_vec(rt.alloc())?;
+    expect_fault(&rt, name, not_json, "a name")
 }

@@ -1,6 +1,6 @@
 //! The worked journals, from their scripts to their whole Texts.
 
-use super::run;
+use super::{NONE, expect};
 use np_worked::{
     FAILURE_JOURNALS, JOB_JOURNALS, Journal, NODE_JOURNALS, RARE_JOURNALS, REQUEST_JOURNALS,
     TENANT_JOURNALS,
@@ -11,10 +11,8 @@ use std::sync::Wait;
 use std::test::Fail;
 use std::thread::Threads;
 
-/// The script of a journal: its site and its events.
-pub(super) fn script_of(alloc: Global, journal: &Journal) -> Result<Vec<u8>, Fail> {
-    let mut text = journal.site.as_bytes().to_vec(alloc)?;
-    text.extend_from_slice(b"\n%%\n")?;
+/// Appends a journal's events.
+fn put_events(text: &mut Vec<u8>, journal: &Journal) -> Result<(), Fail> {
     for piece in journal.pieces {
         for line in *piece {
             let (event, _) = line.split_once(" = ").ok_or("a line without a reply")?;
@@ -22,6 +20,14 @@ pub(super) fn script_of(alloc: Global, journal: &Journal) -> Result<Vec<u8>, Fai
             text.push(b'\n')?;
         }
     }
+    Ok(())
+}
+
+/// The script of a journal: its site and its events.
+pub(super) fn script_of(alloc: Global, journal: &Journal) -> Result<Vec<u8>, Fail> {
+    let mut text = journal.site.as_bytes().to_vec(alloc)?;
+    text.extend_from_slice(b"\n%%\n")?;
+    put_events(&mut text, journal)?;
     Ok(text)
 }
 
@@ -31,39 +37,47 @@ fn put_line(text: &mut String, line: &str) -> Result<(), AllocError> {
     text.push('\n')
 }
 
+/// Appends a journal's Text.
+fn put_text(text: &mut String, journal: &Journal) -> Result<(), AllocError> {
+    put_line(text, journal.canonical)?;
+    put_line(text, "%%")?;
+    for piece in journal.pieces {
+        for line in *piece {
+            put_line(text, line)?;
+        }
+    }
+    put_line(text, "%%")?;
+    for fate in journal.fates {
+        put_line(text, fate)?;
+    }
+    Ok(())
+}
+
 /// The Text of a journal.
 pub(super) fn text_of(alloc: Global, journal: &Journal) -> Result<String, AllocError> {
     let mut text = String::new(alloc);
-    put_line(&mut text, journal.canonical)?;
-    put_line(&mut text, "%%")?;
-    for piece in journal.pieces {
-        for line in *piece {
-            put_line(&mut text, line)?;
-        }
-    }
-    put_line(&mut text, "%%")?;
-    for fate in journal.fates {
-        put_line(&mut text, fate)?;
-    }
+    put_text(&mut text, journal)?;
     Ok(text)
 }
 
-/// Replays each script, and compares the whole output.
+/// Replays a script, and compares the whole output.
+fn replay<R: Threads + Wait + Sync + AllocGlobal + Abort>(
+    rt: &R,
+    journal: &Journal,
+) -> Result<(), Fail> {
+    let text = text_of(rt.alloc(), journal)?;
+    let input = script_of(rt.alloc(), journal)?;
+    let told = (0, text.as_str(), "");
+    expect(rt, "replay", input, NONE, told, journal.name)
+}
+
+/// Replays each script.
 fn replay_all<R: Threads + Wait + Sync + AllocGlobal + Abort>(
     rt: &R,
     journals: &[Journal],
 ) -> Result<(), Fail> {
     for journal in journals {
-        let none = (&[][..], &[][..], &[][..]);
-        let ran = run(rt, "replay", script_of(rt.alloc(), journal)?, none)?;
-        assert_eq!(rt; ran.status, 0, "{}", journal.name);
-        assert_eq!(rt;
-            std::str::from_utf8(ran.out.bytes()).ok(),
-            Some(text_of(rt.alloc(), journal)?.as_str()),
-            "{}",
-            journal.name
-        );
-        assert!(rt; ran.err.bytes().is_empty(), "{}", journal.name);
+        replay(rt, journal)?;
     }
     Ok(())
 }

@@ -1,6 +1,6 @@
 //! The longest input that is read, and one byte more.
 
-use super::run;
+use super::{NONE, expect};
 use std::process::Abort;
 use std::sync::Wait;
 use std::test::Fail;
@@ -17,14 +17,24 @@ fn read_spaces<R: Threads + Wait + Sync + AllocGlobal + Abort>(
     status: u8,
     told: &str,
 ) -> Result<(), Fail> {
-    for (spaces, status, told) in [(LONGEST, status, told), (LONGEST + 1, 5, TOO_LONG)] {
-        let none = (&[][..], &[][..], &[][..]);
-        let ran = run(rt, command, vec![in rt.alloc(); b' '; spaces]?, none)?;
-        assert_eq!(rt; ran.status, status, "{spaces} spaces");
-        assert!(rt; ran.out.bytes().is_empty(), "{spaces} spaces");
-        assert!(rt; ran.err.bytes() == told.as_bytes(), "{spaces} spaces");
-    }
-    Ok(())
+    let longest = vec![in rt.alloc(); b' '; LONGEST]?;
+    expect(
+        rt,
+        command,
+        longest,
+        NONE,
+        (status, "", told),
+        "67108864 spaces",
+    )?;
+    let longer = vec![in rt.alloc(); b' '; LONGEST + 1]?;
+    expect(
+        rt,
+        command,
+        longer,
+        NONE,
+        (5, "", TOO_LONG),
+        "67108865 spaces",
+    )
 }
 
 #[test]

@@ -1,10 +1,13 @@
 //! Launches of two pools side by side.
 
-use super::{audit_printed, run_by};
+use super::{NONE, Ran, audit_printed, check_end, run_by};
 use np_cloud::Gate;
 use np_text::PoolId;
+use std::process::Abort;
+use std::sync::Wait;
 use std::sync::atomic::{AtomicU64, Ordering};
 use std::test::Fail;
+use std::thread::Threads;
 
 // How often a launch looks for the other pool's.
 const LOOKS: u64 = 100_000_000;
@@ -41,6 +44,19 @@ impl Gate for Meeting {
 const PAIR: &str =
     r#"{"labels":[{"name":"a","min-ready":1},{"name":"b","min-ready":1}],"providers":[{"name":"c","pools":[{"name":"m","labels":[{"name":"a"}]},{"name":"n","labels":[{"name":"b"}]}]}]}"#;
 
+/// Both pools' launches came, and neither looked in vain.
+fn check_meeting<R: Threads + Wait + Sync + AllocGlobal + Abort>(
+    rt: &R,
+    gate: &Meeting,
+    ran: &Ran,
+) -> Result<(), Fail> {
+    check_end(rt, ran, 0, "", "two pools");
+    assert_eq!(rt; gate.in_vain.load(Ordering::SeqCst), 0);
+    assert_eq!(rt; gate.first.load(Ordering::SeqCst), 1);
+    assert_eq!(rt; gate.second.load(Ordering::SeqCst), 1);
+    audit_printed(rt, ran.out.bytes())
+}
+
 // Workers that play one after another never pass.
 #[test]
 fn launches_run_side_by_side(rt: HostRuntime) -> Result<(), Fail> {
@@ -49,11 +65,6 @@ fn launches_run_side_by_side(rt: HostRuntime) -> Result<(), Fail> {
         second: AtomicU64::new(0),
         in_vain: AtomicU64::new(0),
     };
-    let none = (&[][..], &[][..], &[][..]);
-    let ran = run_by(&rt, &gate, "run", PAIR.as_bytes().to_vec(rt.alloc())?, none)?;
-    assert_eq!(rt; ran.status, 0);
-    assert_eq!(rt; gate.in_vain.load(Ordering::SeqCst), 0);
-    assert_eq!(rt; gate.first.load(Ordering::SeqCst), 1);
-    assert_eq!(rt; gate.second.load(Ordering::SeqCst), 1);
-    audit_printed(&rt, ran.out.bytes())
+    let ran = run_by(&rt, &gate, "run", PAIR.as_bytes().to_vec(rt.alloc())?, NONE)?;
+    check_meeting(&rt, &gate, &ran)
 }

@@ -1,7 +1,11 @@
 //! The words of a command, and event lines.
 
-use super::{CANONICAL, SITE, run, script};
+use super::{NONE, Ran, check_end, expect, run, script, site_with, text_with};
+use std::alloc::AllocError;
+use std::process::Abort;
+use std::sync::Wait;
 use std::test::Fail;
+use std::thread::Threads;
 
 const USAGE: &str = "poolsim: usage: poolsim replay | run | audit | drill N\n";
 
@@ -31,21 +35,23 @@ const WORDS: [(&str, u8, &str); 22] = [
     ("5 drill", 2, USAGE),
 ];
 
-#[test]
-fn words_are_a_command_or_not(rt: HostRuntime) -> Result<(), Fail> {
+/// Each of the words, where a command prints this Text.
+fn try_words<R: Threads + Wait + Sync + AllocGlobal + Abort>(
+    rt: &R,
+    text: &str,
+) -> Result<(), Fail> {
     for (words, status, told) in WORDS {
-        let none = (&[][..], &[][..], &[][..]);
-        let ran = run(&rt, words, script(rt.alloc(), "")?, none)?;
-        assert_eq!(rt; ran.status, status, "{words}");
-        let mut printed = String::new(rt.alloc());
-        if status == 0 {
-            printed.push_str(CANONICAL)?;
-            printed.push_str("\n%%\n%%\nj0 z/j waiting new\n")?;
-        }
-        assert!(rt; ran.out.bytes() == printed.as_bytes(), "{words}");
-        assert!(rt; ran.err.bytes() == told.as_bytes(), "{words}");
+        let printed = if status == 0 { text } else { "" };
+        let input = script(rt.alloc(), "")?;
+        expect(rt, words, input, NONE, (status, printed, told), words)?;
     }
     Ok(())
+}
+
+#[test]
+fn words_are_a_command_or_not(rt: HostRuntime) -> Result<(), Fail> {
+    let text = text_with(rt.alloc(), "")?;
+    try_words(&rt, text.as_str())
 }
 
 // Event lines, and the line on err.
@@ -65,60 +71,71 @@ const FAULTS: [(&str, &str); 13] = [
     ("tick\nexpire s1 now", "line 2: wrong-count"),
 ];
 
+/// Replays event lines, the first at fault of which is told so.
+fn expect_fault<R: Threads + Wait + Sync + AllocGlobal + Abort>(
+    rt: &R,
+    lines: &str,
+    told: &str,
+) -> Result<(), Fail> {
+    let line = format!(in rt.alloc(); "poolsim: script: {told}\n")?;
+    let input = script(rt.alloc(), lines)?;
+    expect(rt, "replay", input, NONE, (4, "", line.as_str()), lines)
+}
+
 #[test]
 fn an_event_line_at_fault_is_told(rt: HostRuntime) -> Result<(), Fail> {
     for (lines, told) in FAULTS {
-        let none = (&[][..], &[][..], &[][..]);
-        let ran = run(&rt, "replay", script(rt.alloc(), lines)?, none)?;
-        assert_eq!(rt; ran.status, 4, "{lines}");
-        assert!(rt; ran.out.bytes().is_empty(), "{lines}");
-        let line = format!(in rt.alloc(); "poolsim: script: {told}\n")?;
-        assert!(rt; ran.err.bytes() == line.as_bytes(), "{lines}");
+        expect_fault(&rt, lines, told)?;
     }
     Ok(())
 }
 
 #[test]
 fn the_last_line_may_lack_its_newline(rt: HostRuntime) -> Result<(), Fail> {
-    let none = (&[][..], &[][..], &[][..]);
-    let ran = run(&rt, "replay", script(rt.alloc(), "tick\ntick")?, none)?;
-    let mut printed = String::from_str(rt.alloc(), CANONICAL)?;
-    printed.push_str("\n%%\ntick = ok\ntick = ok\n%%\nj0 z/j waiting new\n")?;
-    assert_eq!(rt; ran.status, 0);
-    assert!(rt; ran.out.bytes() == printed.as_bytes());
-    Ok(())
+    let text = text_with(rt.alloc(), "tick = ok\ntick = ok\n")?;
+    let input = script(rt.alloc(), "tick\ntick")?;
+    let told = (0, text.as_str(), "");
+    expect(&rt, "replay", input, NONE, told, "the last line")
 }
 
 #[test]
 fn the_bar_may_lack_its_newline(rt: HostRuntime) -> Result<(), Fail> {
-    let none = (&[][..], &[][..], &[][..]);
-    let mut input = SITE.as_bytes().to_vec(rt.alloc())?;
-    input.extend_from_slice(b"\n%%")?;
-    let ran = run(&rt, "replay", input, none)?;
-    let mut printed = String::from_str(rt.alloc(), CANONICAL)?;
-    printed.push_str("\n%%\n%%\nj0 z/j waiting new\n")?;
-    assert_eq!(rt; ran.status, 0);
-    assert!(rt; ran.out.bytes() == printed.as_bytes());
+    let text = text_with(rt.alloc(), "")?;
+    let input = site_with(rt.alloc(), "\n%%")?;
+    expect(
+        &rt,
+        "replay",
+        input,
+        NONE,
+        (0, text.as_str(), ""),
+        "the bar",
+    )
+}
+
+/// Appends so many lines `tick`.
+fn put_ticks(text: &mut Vec<u8>, count: usize) -> Result<(), AllocError> {
+    for _ in 0..count {
+        text.extend_from_slice(b"tick\n")?;
+    }
     Ok(())
 }
 
-// How many lines `tick` come, the status and the line on err.
-const TICKS: [(usize, u8, &str); 2] = [
-    (262_144, 0, ""),
-    (262_145, 4, "poolsim: script: line 262145: too-many\n"),
-];
+/// Replays so many lines `tick`.
+fn replay_ticks<R: Threads + Wait + Sync + AllocGlobal>(
+    rt: &R,
+    count: usize,
+) -> Result<Ran, AllocError> {
+    let mut input = script(rt.alloc(), "")?;
+    put_ticks(&mut input, count)?;
+    run(rt, "replay", input, NONE)
+}
 
 #[test]
 fn a_script_has_as_many_lines_as_a_journal(rt: HostRuntime) -> Result<(), Fail> {
-    for (ticks, status, told) in TICKS {
-        let mut input = script(rt.alloc(), "")?;
-        for _ in 0..ticks {
-            input.extend_from_slice(b"tick\n")?;
-        }
-        let none = (&[][..], &[][..], &[][..]);
-        let ran = run(&rt, "replay", input, none)?;
-        assert_eq!(rt; ran.status, status, "{ticks} lines");
-        assert!(rt; ran.err.bytes() == told.as_bytes(), "{ticks} lines");
-    }
+    let ran = replay_ticks(&rt, 262_144)?;
+    check_end(&rt, &ran, 0, "", "262144 lines");
+    let ran = replay_ticks(&rt, 262_145)?;
+    let told = "poolsim: script: line 262145: too-many\n";
+    check_end(&rt, &ran, 4, told, "262145 lines");
     Ok(())
 }

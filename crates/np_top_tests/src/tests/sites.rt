@@ -1,7 +1,10 @@
 //! Small sites, played to their ends.
 
-use super::{audit_printed, fates_of, play, run};
+use super::{NONE, Ran, audit_printed, check_end, expect, fates_of, play};
+use std::process::Abort;
+use std::sync::Wait;
 use std::test::Fail;
+use std::thread::Threads;
 
 // One pool, one label, and nobody who asks for it.
 const EMPTY: &str =
@@ -20,11 +23,8 @@ tick = ok
 #[test]
 fn an_empty_site_is_played(rt: HostRuntime) -> Result<(), Fail> {
     for words in ["run", "-- run"] {
-        let none = (&[][..], &[][..], &[][..]);
-        let ran = run(&rt, words, EMPTY.as_bytes().to_vec(rt.alloc())?, none)?;
-        assert_eq!(rt; ran.status, 0);
-        assert_eq!(rt; std::str::from_utf8(ran.out.bytes()).ok(), Some(EMPTY_TEXT));
-        assert!(rt; ran.err.bytes().is_empty());
+        let input = EMPTY.as_bytes().to_vec(rt.alloc())?;
+        expect(&rt, words, input, NONE, (0, EMPTY_TEXT, ""), words)?;
     }
     Ok(())
 }
@@ -37,22 +37,24 @@ const HOLD: &str =
 const SPENT: &str =
     r#"{"labels":[{"name":"a"}],"providers":[{"name":"c","pools":[{"name":"m","fail-starts":[1,2,3],"labels":[{"name":"a"}]}]},{"name":"d","pools":[{"name":"m","labels":[{"name":"a"}]}]}],"requesters":[{"name":"z","jobs":[{"name":"j","labels":["a"]}]}]}"#;
 
-#[test]
-fn a_held_node_leaves_no_room(rt: HostRuntime) -> Result<(), Fail> {
-    let ran = play(&rt, HOLD)?;
-    assert_eq!(rt; ran.status, 1);
+/// The first job is served, and the second waits.
+fn check_held<R: Abort>(rt: &R, ran: &Ran) -> Result<(), Fail> {
+    check_end(rt, ran, 1, "", "a held node");
     let fates = fates_of(ran.out.bytes())?;
     assert_eq!(rt; fates, "j0 z/j served p0 n0 n1\nj1 z/k waiting asked\n");
-    assert!(rt; ran.err.bytes().is_empty());
     Ok(())
 }
 
-// The second pool serves the job, by whatever node, or the first declined before the second was
-// registered.
 #[test]
-fn retries_are_spent(rt: HostRuntime) -> Result<(), Fail> {
-    let ran = play(&rt, SPENT)?;
-    assert_eq!(rt; ran.status, 0);
+fn a_held_node_leaves_no_room(rt: HostRuntime) -> Result<(), Fail> {
+    let ran = play(&rt, HOLD)?;
+    check_held(&rt, &ran)
+}
+
+/// The second pool serves the job, by whatever node, or the first declined before the second was
+/// registered.
+fn check_spent<R: Abort>(rt: &R, ran: &Ran) -> Result<(), Fail> {
+    check_end(rt, ran, 0, "", "spent retries");
     let fates = fates_of(ran.out.bytes())?;
     let by_second = fates.starts_with("j0 z/j served p1 n") && fates.split(' ').count() == 5;
     assert!(rt;
@@ -60,6 +62,12 @@ fn retries_are_spent(rt: HostRuntime) -> Result<(), Fail> {
         "{fates}"
     );
     Ok(())
+}
+
+#[test]
+fn retries_are_spent(rt: HostRuntime) -> Result<(), Fail> {
+    let ran = play(&rt, SPENT)?;
+    check_spent(&rt, &ran)
 }
 
 // The failing calls of the source, of out and of err, the status, whether the Text is on out, and
@@ -75,12 +83,16 @@ const STREAMS: [(&[u32], &[u32], &[u32], u8, bool, &str); 5] = [
 #[test]
 fn a_stream_that_fails_is_told(rt: HostRuntime) -> Result<(), Fail> {
     for (source, out, err, status, whole, told) in STREAMS {
-        let input = EMPTY.as_bytes().to_vec(rt.alloc())?;
-        let ran = run(&rt, "run", input, (source, out, err))?;
-        assert_eq!(rt; ran.status, status, "{told}");
         let printed = if whole { EMPTY_TEXT } else { "" };
-        assert!(rt; ran.out.bytes() == printed.as_bytes(), "{told}");
-        assert!(rt; ran.err.bytes() == told.as_bytes(), "{told}");
+        let input = EMPTY.as_bytes().to_vec(rt.alloc())?;
+        expect(
+            &rt,
+            "run",
+            input,
+            (source, out, err),
+            (status, printed, told),
+            told,
+        )?;
     }
     Ok(())
 }
@@ -95,10 +107,8 @@ const FAULTS: [(&str, &str); 3] = [
 #[test]
 fn a_configuration_at_fault_is_told(rt: HostRuntime) -> Result<(), Fail> {
     for (site, told) in FAULTS {
-        let ran = play(&rt, site)?;
-        assert_eq!(rt; ran.status, 3, "{site}");
-        assert!(rt; ran.out.bytes().is_empty(), "{site}");
-        assert!(rt; ran.err.bytes() == told.as_bytes(), "{site}");
+        let input = site.as_bytes().to_vec(rt.alloc())?;
+        expect(&rt, "run", input, NONE, (3, "", told), site)?;
     }
     Ok(())
 }
@@ -108,10 +118,17 @@ fn a_configuration_at_fault_is_told(rt: HostRuntime) -> Result<(), Fail> {
 const AGEING: &str =
     r#"{"labels":[{"name":"a","min-ready":1,"max-ready-age":1},{"name":"b","min-ready":2,"max-ready-age":2},{"name":"c","min-ready":3,"max-ready-age":1},{"name":"d","min-ready":1,"max-ready-age":2}],"providers":[{"name":"c","pools":[{"name":"m","labels":[{"name":"a"},{"name":"b"},{"name":"c"},{"name":"d"}]}]}]}"#;
 
+/// The journal is full, and what was printed is the Text of a run.
+fn check_full<R: Threads + Wait + Sync + AllocGlobal + Abort>(
+    rt: &R,
+    ran: &Ran,
+) -> Result<(), Fail> {
+    check_end(rt, ran, 9, "poolsim: journal is full\n", "an ageing site");
+    audit_printed(rt, ran.out.bytes())
+}
+
 #[test]
 fn an_ageing_site_fills_its_journal(rt: HostRuntime) -> Result<(), Fail> {
     let ran = play(&rt, AGEING)?;
-    assert_eq!(rt; ran.status, 9);
-    assert!(rt; ran.err.bytes() == b"poolsim: journal is full\n".as_slice());
-    audit_printed(&rt, ran.out.bytes())
+    check_full(&rt, &ran)
 }

@@ -1,6 +1,6 @@
 //! A site under each of many single faults.
 
-use super::{audit_printed, ends_of, play};
+use super::{Ran, audit_printed, check_end, check_ends, ends_of, play};
 use std::process::Abort;
 use std::sync::Wait;
 use std::test::Fail;
@@ -20,22 +20,28 @@ const ROLES: [(&str, bool); 3] = [
 
 const KINDS: [&str; 2] = ["expire", "crash"];
 
-/// Plays the site under a fault to its end. Each job is served, or lost if the fault may lose one.
+/// A run has ended. Each job is served, or lost if the fault may lose one.
+fn check_survived<R: Threads + Wait + Sync + AllocGlobal + Abort>(
+    rt: &R,
+    ran: &Ran,
+    fault: &str,
+    loses: bool,
+) -> Result<(), Fail> {
+    check_end(rt, ran, 0, "", fault);
+    let ends = ends_of(rt.alloc(), ran.out.bytes())?;
+    check_ends(rt, ends.as_slice(), 6, loses, fault);
+    audit_printed(rt, ran.out.bytes())
+}
+
+/// Plays the site under a fault to its end.
 fn survive<R: Threads + Wait + Sync + AllocGlobal + Abort>(
     rt: &R,
     fault: &str,
     loses: bool,
 ) -> Result<(), Fail> {
-    let alloc = rt.alloc();
-    let site = format!(in alloc; "{STORM}{fault}")?;
+    let site = format!(in rt.alloc(); "{STORM}{fault}")?;
     let ran = play(rt, site.as_str())?;
-    assert_eq!(rt; ran.status, 0, "{fault}");
-    let ends = ends_of(alloc, ran.out.bytes())?;
-    assert_eq!(rt; ends.len(), 6, "{fault}");
-    for end in ends {
-        assert!(rt; end == "served" || loses && end == "lost", "{fault}: {end}");
-    }
-    audit_printed(rt, ran.out.bytes())
+    check_survived(rt, &ran, fault, loses)
 }
 
 #[test]

@@ -1,13 +1,14 @@
 //! Streams that fail, and a source that tells nothing.
 
-use super::{CANONICAL, run, script, words_of};
+use super::{check, expect, run_over, script, text_with};
 use np_cloud::OpenGate;
-use np_io::{MemSink, MemSource, StdSource};
-use np_top::poolsim;
-use std::alloc::{AllocError, Global};
+use np_io::{MemSink, MemSource, Source, StdSource};
 use std::io;
 use std::io::Read;
+use std::process::Abort;
+use std::sync::Wait;
 use std::test::Fail;
+use std::thread::Threads;
 
 // The failing calls of the source, of out and of err, the words, the status, whether the Text is on
 // out, and the line on err. The second call of a sink finishes it.
@@ -32,47 +33,52 @@ const STREAMS: [(&[u32], &[u32], &[u32], &str, u8, bool, &str); 10] = [
     ),
 ];
 
-/// The Text of the site without events.
-fn text(alloc: Global) -> Result<String, AllocError> {
-    let mut text = String::from_str(alloc, CANONICAL)?;
-    text.push_str("\n%%\n%%\nj0 z/j waiting new\n")?;
-    Ok(text)
-}
-
-#[test]
-fn a_stream_that_fails_is_told(rt: HostRuntime) -> Result<(), Fail> {
+/// Each of the streams, where the whole Text is this.
+fn try_streams<R: Threads + Wait + Sync + AllocGlobal + Abort>(
+    rt: &R,
+    text: &str,
+) -> Result<(), Fail> {
     for (source, out, err, line, status, whole, told) in STREAMS {
-        let ran = run(&rt, line, script(rt.alloc(), "")?, (source, out, err))?;
-        let mut printed = String::new(rt.alloc());
-        if whole {
-            printed = text(rt.alloc())?;
-        }
-        assert_eq!(rt; ran.status, status, "{line}");
-        assert!(rt; ran.out.bytes() == printed.as_bytes(), "{line}");
-        assert!(rt; ran.err.bytes() == told.as_bytes(), "{line}");
+        let printed = if whole { text } else { "" };
+        let input = script(rt.alloc(), "")?;
+        expect(
+            rt,
+            line,
+            input,
+            (source, out, err),
+            (status, printed, told),
+            line,
+        )?;
     }
     Ok(())
 }
 
 #[test]
-fn a_text_is_cut_short_where_out_fails(rt: HostRuntime) -> Result<(), Fail> {
-    let words = words_of(rt.alloc(), "replay")?;
-    let mut source = MemSource::new(script(rt.alloc(), "")?, Vec::new(rt.alloc()));
-    let mut out = MemSink::in_pieces(rt.alloc(), Vec::from_array(rt.alloc(), [3])?, 5);
-    let mut err = MemSink::new(rt.alloc(), Vec::new(rt.alloc()));
-    let status = poolsim(
-        &rt,
-        rt.alloc(),
-        words.as_slice(),
-        &mut source,
-        &mut out,
-        &mut err,
-        &OpenGate,
-    );
-    assert_eq!(rt; status, 6);
-    assert!(rt; out.bytes() == b"{\"faults\":".as_slice());
-    assert!(rt; err.bytes() == b"poolsim: write fault\n".as_slice());
+fn a_stream_that_fails_is_told(rt: HostRuntime) -> Result<(), Fail> {
+    let text = text_with(rt.alloc(), "")?;
+    try_streams(&rt, text.as_str())
+}
+
+/// Replays what comes from this source, and checks all that this comes to.
+fn expect_over<R: Threads + Wait + Sync + AllocGlobal + Abort, S: Source>(
+    rt: &R,
+    source: &mut S,
+    out: MemSink,
+    told: (u8, &str, &str),
+    name: &str,
+) -> Result<(), Fail> {
+    let err = MemSink::new(rt.alloc(), Vec::new(rt.alloc()));
+    let ran = run_over(rt, &OpenGate, "replay", source, out, err)?;
+    check(rt, &ran, told, name);
     Ok(())
+}
+
+#[test]
+fn a_text_is_cut_short_where_out_fails(rt: HostRuntime) -> Result<(), Fail> {
+    let mut source = MemSource::new(script(rt.alloc(), "")?, Vec::new(rt.alloc()));
+    let out = MemSink::in_pieces(rt.alloc(), Vec::from_array(rt.alloc(), [3])?, 5);
+    let told = (6, "{\"faults\":", "poolsim: write fault\n");
+    expect_over(&rt, &mut source, out, told, "out fails")
 }
 
 /// A terminal: its bytes, an end, and then more bytes.
@@ -92,27 +98,23 @@ impl Read for Terminal<'_> {
     }
 }
 
-#[test]
-fn what_comes_after_the_end_is_no_input(rt: HostRuntime) -> Result<(), Fail> {
-    let words = words_of(rt.alloc(), "replay")?;
-    let input = script(rt.alloc(), "")?;
+/// Replays this script from a terminal, where another byte comes after the end. The Text is this.
+fn replay_terminal<R: Threads + Wait + Sync + AllocGlobal + Abort>(
+    rt: &R,
+    script: &[u8],
+    text: &str,
+) -> Result<(), Fail> {
     let mut source = StdSource::new(Terminal {
-        bytes: input.as_slice(),
+        bytes: script,
         later: b"[",
     });
-    let mut out = MemSink::new(rt.alloc(), Vec::new(rt.alloc()));
-    let mut err = MemSink::new(rt.alloc(), Vec::new(rt.alloc()));
-    let status = poolsim(
-        &rt,
-        rt.alloc(),
-        words.as_slice(),
-        &mut source,
-        &mut out,
-        &mut err,
-        &OpenGate,
-    );
-    assert_eq!(rt; status, 0);
-    assert!(rt; out.bytes() == text(rt.alloc())?.as_bytes());
-    assert!(rt; err.bytes().is_empty());
-    Ok(())
+    let out = MemSink::new(rt.alloc(), Vec::new(rt.alloc()));
+    expect_over(rt, &mut source, out, (0, text, ""), "a terminal")
+}
+
+#[test]
+fn what_comes_after_the_end_is_no_input(rt: HostRuntime) -> Result<(), Fail> {
+    let input = script(rt.alloc(), "")?;
+    let text = text_with(rt.alloc(), "")?;
+    replay_terminal(&rt, input.as_slice(), text.as_str())
 }

@@ -1,8 +1,11 @@
 //! A usual site: many labels, pools and jobs, semaphores, and some faults.
 
-use super::{audit_printed, ends_of, play};
+use super::{Ran, audit_printed, check_end, check_ends, ends_of, play};
 use std::alloc::{AllocError, Global};
+use std::process::Abort;
+use std::sync::Wait;
 use std::test::Fail;
+use std::thread::Threads;
 
 const LABELS: usize = 12;
 
@@ -67,21 +70,30 @@ const SEMAPHORES: &str = r#"{"name":"deploy","max":1},{"name":"stage","max":2}"#
 const FAULTS: &str =
     r#"{"role":"launcher","name":"a/one","kind":"expire","after":10},{"role":"launcher","name":"b/two","kind":"crash","after":15},{"role":"requester","name":"zuul","kind":"expire","after":60}"#;
 
-#[test]
-fn a_usual_site_is_played(rt: HostRuntime) -> Result<(), Fail> {
-    let alloc = rt.alloc();
+/// The site.
+fn site(alloc: Global) -> Result<String, AllocError> {
     let labels = labels(alloc, r#","min-ready":2"#)?;
     let providers = providers(alloc)?;
     let jobs = jobs(alloc)?;
-    let site = format!(in alloc;
+    format!(in alloc;
         "{{\"labels\":[{labels}],\"providers\":[{providers}],\"semaphores\":[{SEMAPHORES}],\"requesters\":[{{\"name\":\"zuul\",\"jobs\":[{jobs}]}}],\"faults\":[{FAULTS}]}}"
-    )?;
+    )
+}
+
+/// Each job is served or lost, and what was printed is the Text of a run.
+fn check_usual<R: Threads + Wait + Sync + AllocGlobal + Abort>(
+    rt: &R,
+    ran: &Ran,
+) -> Result<(), Fail> {
+    check_end(rt, ran, 0, "", "a usual site");
+    let ends = ends_of(rt.alloc(), ran.out.bytes())?;
+    check_ends(rt, ends.as_slice(), JOBS, true, "a usual site");
+    audit_printed(rt, ran.out.bytes())
+}
+
+#[test]
+fn a_usual_site_is_played(rt: HostRuntime) -> Result<(), Fail> {
+    let site = site(rt.alloc())?;
     let ran = play(&rt, site.as_str())?;
-    assert_eq!(rt; ran.status, 0);
-    let ends = ends_of(alloc, ran.out.bytes())?;
-    assert_eq!(rt; ends.len(), JOBS);
-    for end in ends {
-        assert!(rt; end == "served" || end == "lost", "{end}");
-    }
-    audit_printed(&rt, ran.out.bytes())
+    check_usual(&rt, &ran)
 }
