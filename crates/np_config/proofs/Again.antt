@@ -1,25 +1,23 @@
 -- the value of a sound configuration is read as that configuration
-use Rattle.std.proofs.Common.{◌≡◌, ℕ, ◌+◌, ◌-◌, ◌<◌, ◌≤◌, ◌⊎◌, inl, inr, zero, suc, Bool, true, false, cond, not, List, [], ◌∷◌, ◌++◌, codes, map, length, length-append, take, get_or, nat_le, nat_lt, Option, Some, None, Result, Ok, Err, IfSome, decimal, refl, sym, ap, ◌∙◌, subst, append_assoc, append-nil, arith}
-use Rattle.std.specs.Prelude.{All, filter, slice_get, position, ◌==◌, ◌&&◌}
+use Rattle.std.proofs.Common.{◌≡◌, ℕ, ◌+◌, ◌<◌, ◌≤◌, zero, suc, Bool, true, false, List, [], ◌∷◌, ◌++◌, codes, map, length, take, nat_le, nat_lt, Option, Some, None, Ok, IfSome, decimal, refl, sym, ap, ◌∙◌, subst, append_assoc, append-nil, arith}
+use Rattle.std.specs.Prelude.{slice_get, position, ◌==◌}
 use Rattle.std.specs.List.{list_any, position_or_len}
 use Rattle.std.specs.Option.{option_map, option_map_or}
 use Rattle.np_amount.specs.declared.amount.Limit.{Limit}
 use Rattle.std.proofs.lemmas.Bool.{or_parts}
 use Rattle.std.specs.Str.{bytes_eq}
 use Rattle.std.proofs.lemmas.Bool.Decides.{nat_tests}
-use Rattle.serde_json.specs.Data.{Data, Items, array, string, object}
+use Rattle.serde_json.specs.Data.{Data}
 use Rattle.serde_json.specs.Events.{items_len}
 use Rattle.serde_json.specs.Find.{get}
 use Rattle.serde_json.specs.View.{items_of}
 use Rattle.np_text.specs.declared.id.LabelId.{LabelId}
 use Rattle.np_text.specs.declared.id.SemId.{SemId}
-use Rattle.np_text.specs.Name.{is_name_text}
-use Rattle.np_json.specs.declared.fault.ConfigFault.{ConfigFault}
 use Rattle.np_json.specs.declared.leaf.Length.{Length}
-use Rattle.np_lists.specs.Refusals.{◌>>=◌, ◌>>◌}
+use Rattle.np_lists.specs.Refusals.{◌>>=◌}
 use Rattle.np_json.specs.Reading.{below}
-use Rattle.np_json.specs.Leaf.{whole_value, whole_or, name_at, named_at, new_name, required}
-use Rattle.np_json.specs.Rows.{ReadsItem, items_from, list_at, list_required, list_maybe}
+use Rattle.np_json.specs.Leaf.{whole_value, name_at, named_at, new_name}
+use Rattle.np_json.specs.Rows.{ReadsItem, items_from, list_at}
 use Rattle.np_json.proofs.Takes.{ok}
 use Rattle.np_text.specs.declared.limit.TheConstants.{MIN_READY, AGE, HANDLES, START_NUMBER, NODE_CORES, NODE_RAM, POOL_SERVERS, POOL_CORES, POOL_RAM}
 use Rattle.np_site.specs.declared.row.Label.{Label}
@@ -28,8 +26,7 @@ use Rattle.np_site.specs.declared.row.Offer.{Offer}
 use Rattle.np_site.specs.Configuration.{Configuration}
 use Rattle.np_config.specs.Names.{label_named, semaphore_named}
 use Rattle.np_config.specs.Labels.{label_row, label_at, semaphore_at}
-use Rattle.np_config.specs.Providers.{limit_at, label_for, label_value, offer_label, offer_amount, offer_at, start_at, offers_at, starts_at}
-use Rattle.np_site.specs.Sound.{is_unoffered, is_above}
+use Rattle.np_config.specs.Providers.{limit_at, label_for, label_value, offer_label, offer_amount, offer_at, start_at}
 use Rattle.np_lists.specs.EachAfter.{EachAfter}
 use Rattle.np_site.specs.Sound.{HasNewName, IsLabel, IsSem, IsOffer, IsStart, IsLimit}
 use Rattle.np_config.specs.Canonical.{count, list_data, label_data, label_name, semaphore_name, semaphore_data, offer_data}

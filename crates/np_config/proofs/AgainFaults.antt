@@ -1,5 +1,5 @@
 -- the values of faults are read as those
-use Rattle.std.proofs.Common.{◌≡◌, ℕ, ◌+◌, ◌<◌, ◌≤◌, zero, suc, Bool, true, false, List, [], ◌∷◌, ◌++◌, codes, map, length, Option, Some, None, Result, Ok, Err, refl, sym, ap, ◌∙◌, subst, arith}
+use Rattle.std.proofs.Common.{◌≡◌, ℕ, ◌<◌, zero, suc, true, List, [], ◌∷◌, ◌++◌, codes, map, length, Option, Some, None, Ok, refl, sym, ap, ◌∙◌, arith}
 use Rattle.std.specs.Prelude.{slice_get, position, nat_lt}
 use Rattle.std.specs.Option.{option_map, option_map_or}
 use Rattle.std.specs.Str.{bytes_eq}
@@ -9,19 +9,16 @@ use Rattle.np_text.specs.declared.id.PoolId.{PoolId}
 use Rattle.np_text.specs.declared.id.RequesterId.{RequesterId}
 use Rattle.np_text.specs.declared.id.Role.{Role}
 use Rattle.np_text.specs.declared.id.Role.TheVariants as role
-use Rattle.np_json.specs.declared.fault.ConfigFault.{ConfigFault}
-use Rattle.np_lists.specs.Refusals.{◌>>=◌, ◌>>◌}
 use Rattle.np_json.specs.Leaf.{whole_required}
 use Rattle.np_site.specs.Word.{fault_kind_word, fault_kind_of}
 use Rattle.np_site.specs.declared.row.Requester.{Requester}
-use Rattle.np_site.specs.declared.row.Pool.{Pool}
 use Rattle.np_site.specs.declared.row.Fault.{Fault}
 use Rattle.np_site.specs.declared.row.FaultKind.{FaultKind}
 use Rattle.np_site.specs.declared.row.FaultKind.TheVariants.{Expire, Crash, Stop}
 use Rattle.np_site.specs.Configuration.{Configuration}
 use Rattle.np_config.specs.Names.{pool_name, pool_names, pool_named, requester_named, IsUnused}
 use Rattle.np_config.specs.Requesters.{word_value}
-use Rattle.np_config.specs.Faults.{role_named, required_word, role_at, fault_at}
+use Rattle.np_config.specs.Faults.{required_word, role_at, fault_at}
 use Rattle.np_lists.specs.EachAfter.{EachAfter}
 use Rattle.np_site.specs.Sound.{IsRequester, IsRole, IsFault, AreProviders}
 use Rattle.np_config.specs.Canonical.{full_name, requester_name, fault_data}

@@ -1,17 +1,15 @@
 -- the values of jobs and requesters are read as those
-use Rattle.std.proofs.Common.{◌≡◌, ℕ, ◌+◌, ◌<◌, ◌≤◌, ◌⊎◌, inl, inr, Bool, true, false, List, [], ◌∷◌, ◌++◌, codes, map, length, length-append, Option, Some, None, Result, Ok, Err, decimal, refl, sym, ap, ◌∙◌, subst, append_assoc, append-nil, arith, suc}
-use Rattle.std.specs.Prelude.{All, filter, nat_lt, ◌==◌}
-use Rattle.std.proofs.lemmas.List.Elements.{All-nil, All-cons, All-head, All-tail}
-use Rattle.serde_json.specs.Data.{Data, string, no_members}
+use Rattle.std.proofs.Common.{◌≡◌, ℕ, ◌+◌, ◌≤◌, inl, inr, List, [], ◌∷◌, ◌++◌, codes, length, length-append, Some, Ok, decimal, refl, sym, ap, ◌∙◌, subst, append_assoc, append-nil, arith, suc}
+use Rattle.std.specs.Prelude.{All, nat_lt}
+use Rattle.std.proofs.lemmas.List.Elements.{All-head, All-tail}
+use Rattle.serde_json.specs.Data.{string, no_members}
 use Rattle.serde_json.specs.View.{items_of}
 use Rattle.np_text.specs.declared.id.LabelId.{LabelId}
 use Rattle.np_text.specs.declared.id.SemId.{SemId}
 use Rattle.np_text.specs.declared.id.RequesterId.{RequesterId}
 use Rattle.np_text.specs.declared.word.EndAs.{EndAs}
 use Rattle.np_text.specs.declared.word.EndAs.TheVariants.{Used, Hold}
-use Rattle.np_json.specs.declared.fault.ConfigFault.{ConfigFault}
 use Rattle.np_json.specs.declared.leaf.Length.{Length}
-use Rattle.np_lists.specs.Refusals.{◌>>=◌, ◌>>◌}
 use Rattle.np_json.specs.Reading.{below as under}
 use Rattle.np_json.specs.Leaf.{name_at, named_at, new_name}
 use Rattle.np_json.specs.Rows.{items_from, list_at, list_required, list_maybe}
@@ -19,8 +17,6 @@ use Rattle.np_json.proofs.Takes.{ok}
 use Rattle.np_text.specs.declared.limit.TheConstants.{JOBS, JOB_LABELS, JOB_SEMAPHORES, WINDOW, RELATIVE_PRIORITY}
 use Rattle.np_json.specs.Leaf.{at_most, one_to, behind}
 use Rattle.np_text.specs.Word.{end_as_word, end_as_of}
-use Rattle.np_site.specs.declared.row.Label.{Label}
-use Rattle.np_site.specs.declared.row.Sem.{Sem}
 use Rattle.np_site.specs.declared.row.Requester.{Requester}
 use Rattle.np_site.specs.declared.row.Job.{Job}
 use Rattle.np_config.specs.declared.requesters.JobsOf.{JobsOf}
@@ -31,7 +27,7 @@ use Rattle.np_config.specs.Providers.{label_value, label_for}
 use Rattle.np_config.specs.Requesters.{wanted_at, taken_at, semaphore_for, priority_of, word_value, wants_at, takes_at, demand_at, job_row, job_at, jobs_at, requester_row, requester_at}
 use Rattle.np_lists.specs.EachAfter.{EachAfter}
 use Rattle.np_site.specs.Sound.{IsLabel, IsSem, IsTenant, IsWanted, IsTaken, IsPriority, IsJob, IsRequester, AreRequesters}
-use Rattle.np_config.specs.Canonical.{count, list_data, label_name, semaphore_name, priority_word, job_tenant, job_data, jobs_of, requester_data, placed}
+use Rattle.np_config.specs.Canonical.{list_data, label_name, semaphore_name, priority_word, job_tenant, job_data, jobs_of, requester_data, placed}
 use Rattle.np_site.proofs.Owners.{below, below-more, rows_of}
 use Rattle.np_config.proofs.Again.{whole_again, up_to_again, list_again, label_reference, semaphore_reference}
 use Rattle.np_config.proofs.Members.{keys-given, get-given}

@@ -1,34 +1,20 @@
 -- the values of pools and providers are read as those
-use Rattle.std.proofs.Common.{◌≡◌, ℕ, ◌+◌, ◌-◌, ◌<◌, ◌≤◌, ◌⊎◌, inl, inr, zero, suc, Bool, true, false, cond, not, List, [], ◌∷◌, ◌++◌, codes, map, length, length-append, take, drop, get_or, nat_le, nat_lt, Option, Some, None, Result, Ok, Err, IfSome, decimal, refl, sym, ap, ◌∙◌, subst, append_assoc, append-nil, arith}
-use Rattle.std.specs.Prelude.{All, filter, slice_get, ◌==◌}
-use Rattle.std.specs.List.{list_any}
-use Rattle.std.specs.Str.{bytes_eq}
-use Rattle.std.proofs.lemmas.Bool.Decides.{nat_tests}
-use Rattle.std.proofs.lemmas.List.Elements.{All-nil, All-cons, All-head, All-tail, All-filter}
-use Rattle.serde_json.specs.Data.{Data, Items, array, string, object, member, no_members}
-use Rattle.serde_json.specs.Events.{items_len}
+use Rattle.std.proofs.Common.{◌≡◌, ℕ, ◌+◌, ◌≤◌, List, [], ◌∷◌, ◌++◌, codes, map, length, Ok, decimal, refl, sym, ap, arith}
+use Rattle.serde_json.specs.Data.{Data, string, member, no_members}
 use Rattle.serde_json.specs.View.{items_of}
-use Rattle.np_amount.specs.declared.amount.Limit.{Limit}
-use Rattle.np_text.specs.Name.{is_name_text}
-use Rattle.np_json.specs.declared.fault.ConfigFault.{ConfigFault}
 use Rattle.np_json.specs.declared.leaf.Length.{Length}
-use Rattle.np_lists.specs.Refusals.{◌>>=◌, ◌>>◌}
 use Rattle.np_json.specs.Reading.{below}
 use Rattle.np_json.specs.Leaf.{at_most, name_at, named_at, new_name}
 use Rattle.np_text.specs.declared.limit.TheConstants.{LABELS, FAIL_STARTS}
 use Rattle.np_json.specs.Rows.{ReadsItem, items_from, list_at, list_required, list_maybe}
 use Rattle.np_json.proofs.Takes.{ok}
-use Rattle.np_site.specs.declared.row.Label.{Label}
-use Rattle.np_site.specs.declared.row.Provider.{Provider}
 use Rattle.np_site.specs.declared.row.Pool.{Pool}
-use Rattle.np_site.specs.declared.row.Offer.{Offer}
 use Rattle.np_config.specs.declared.providers.PoolsOf.{PoolsOf}
-use Rattle.np_config.specs.declared.providers.Providers.{Providers}
 use Rattle.np_site.specs.Configuration.{Configuration}
 use Rattle.np_config.specs.Keys.{pool_keys}
 use Rattle.np_config.specs.Providers.{offer_at, start_at, offers_at, starts_at, pool_row, pool_at}
 use Rattle.np_lists.specs.EachAfter.{EachAfter}
-use Rattle.np_site.specs.Sound.{HasNewName, IsLabel, IsOffer, IsStart, IsPool, IsProvider}
+use Rattle.np_site.specs.Sound.{IsLabel, IsOffer, IsStart, IsPool}
 use Rattle.np_config.specs.Canonical.{count, list_data, offer_data, pool_data}
 use Rattle.np_config.proofs.Members.{keys-limit, get-limit_other, get-servers, get-cores, get-ram}
 use Rattle.np_config.proofs.Again.{most_test, items_len-of, list_again, limit_again, offer_again, start_again}

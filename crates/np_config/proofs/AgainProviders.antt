@@ -1,23 +1,17 @@
 -- the values of providers are read as those, with their pools
-use Rattle.std.proofs.Common.{◌≡◌, ℕ, ◌+◌, ◌<◌, ◌≤◌, Bool, true, false, cond, List, [], ◌∷◌, ◌++◌, codes, map, length, length-append, Option, Some, None, Result, Ok, Err, IfSome, decimal, refl, sym, ap, ◌∙◌, subst, append_assoc, append-nil, arith, suc}
-use Rattle.std.specs.Prelude.{All, filter, nat_lt, ◌==◌}
+use Rattle.std.proofs.Common.{◌≡◌, ℕ, ◌+◌, ◌≤◌, List, [], ◌∷◌, ◌++◌, codes, length, length-append, Ok, decimal, refl, sym, ap, ◌∙◌, subst, append_assoc, append-nil, arith, suc}
+use Rattle.std.specs.Prelude.{All, nat_lt}
 use Rattle.std.specs.Option.{option_map}
-use Rattle.std.specs.Str.{bytes_eq}
-use Rattle.std.proofs.lemmas.Bool.Decides.{nat_tests}
-use Rattle.std.proofs.lemmas.List.Elements.{All-nil, All-cons, All-head, All-tail}
-use Rattle.serde_json.specs.Data.{Data, Items, string, object, member, no_members}
+use Rattle.std.proofs.lemmas.List.Elements.{All-head, All-tail}
+use Rattle.serde_json.specs.Data.{string, member, no_members}
 use Rattle.serde_json.specs.View.{items_of}
-use Rattle.np_text.specs.Name.{is_name_text}
-use Rattle.np_json.specs.declared.fault.ConfigFault.{ConfigFault}
 use Rattle.np_json.specs.declared.leaf.Length.{Length}
-use Rattle.np_lists.specs.Refusals.{◌>>=◌, ◌>>◌}
 use Rattle.np_json.specs.Reading.{below as under}
 use Rattle.np_json.specs.Leaf.{name_at, named_at, new_name}
 use Rattle.np_json.specs.Rows.{items_from, list_at, list_required}
 use Rattle.np_json.proofs.Takes.{ok}
 use Rattle.np_text.specs.declared.limit.TheConstants.{POOLS, LAUNCHES, CONCURRENCY}
 use Rattle.np_json.specs.Leaf.{one_to, behind}
-use Rattle.np_site.specs.declared.row.Label.{Label}
 use Rattle.np_site.specs.declared.row.Provider.{Provider}
 use Rattle.np_site.specs.declared.row.Pool.{Pool}
 use Rattle.np_config.specs.declared.providers.PoolsOf.{PoolsOf}
@@ -26,9 +20,9 @@ use Rattle.np_site.specs.Configuration.{Configuration}
 use Rattle.np_config.specs.Keys.{provider_keys}
 use Rattle.np_config.specs.Providers.{pool_at, provider_row, pools_at, provider_at}
 use Rattle.np_lists.specs.EachAfter.{EachAfter}
-use Rattle.np_site.specs.Sound.{StandsByOwner, IsLabel, IsPool, IsProvider, AreProviders}
+use Rattle.np_site.specs.Sound.{IsLabel, IsPool, IsProvider, AreProviders}
 use Rattle.np_config.specs.Canonical.{count, list_data, pool_data, pools_of, provider_data, placed}
-use Rattle.np_site.proofs.Owners.{of, below, below-more, below-none, below-all, rows_of}
+use Rattle.np_site.proofs.Owners.{below, below-more, rows_of}
 use Rattle.np_lists.proofs.Each.{length-filter_at_most}
 use Rattle.np_lists.proofs.KeptLemmas.{All-filter_number}
 use Rattle.np_config.proofs.Members.{keys-given, get-other, get-given}

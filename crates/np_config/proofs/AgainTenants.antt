@@ -1,19 +1,17 @@
 -- the values of tenants are read as those, and so are the tenants of jobs
-use Rattle.std.proofs.Common.{◌≡◌, ℕ, ◌+◌, ◌<◌, ◌≤◌, zero, suc, Bool, true, false, cond, not, List, [], ◌∷◌, ◌++◌, codes, length, Option, Some, None, Result, Ok, Err, refl, sym, ap, ◌∙◌, subst, arith}
-use Rattle.std.specs.Prelude.{slice_get, ◌==◌}
-use Rattle.std.specs.Option.{option_map, option_map_or}
+use Rattle.std.proofs.Common.{◌≡◌, ℕ, ◌+◌, ◌<◌, ◌≤◌, zero, suc, Bool, true, false, cond, List, [], ◌∷◌, ◌++◌, codes, length, Some, None, Ok, refl, ap, arith}
+use Rattle.std.specs.Prelude.{◌==◌}
+use Rattle.std.specs.Option.{option_map_or}
 use Rattle.std.specs.Str.{bytes_eq}
 use Rattle.std.proofs.lemmas.Bool.Decides.{nat_tests}
-use Rattle.serde_json.specs.Data.{Data, string, member, no_members}
+use Rattle.serde_json.specs.Data.{string, member, no_members}
 use Rattle.np_text.specs.declared.id.TenantId.{TenantId}
 use Rattle.np_text.specs.declared.limit.TheConstants.{TENANTS}
-use Rattle.np_json.specs.declared.fault.ConfigFault.{ConfigFault}
-use Rattle.np_lists.specs.Refusals.{◌>>=◌, ◌>>◌}
 use Rattle.np_json.specs.Leaf.{at_most, name_at, named_at, new_name}
 use Rattle.np_json.specs.Rows.{list_at}
 use Rattle.np_json.proofs.Takes.{ok}
 use Rattle.np_site.specs.declared.row.Tenant.{Tenant}
-use Rattle.np_site.specs.Configuration.{Configuration, default_name, default_tenant, tenant_of}
+use Rattle.np_site.specs.Configuration.{Configuration, default_name}
 use Rattle.np_site.specs.Sound.{IsTenant}
 use Rattle.np_lists.specs.EachAfter.{EachAfter}
 use Rattle.np_config.specs.Keys.{tenant_keys}

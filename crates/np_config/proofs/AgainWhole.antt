@@ -1,18 +1,15 @@
 -- the text of a sound configuration is read as that configuration
-use Rattle.std.proofs.Common.{◌≡◌, ℕ, ◌+◌, ◌<◌, ◌≤◌, Bool, true, List, [], ◌∷◌, ◌++◌, codes, map, length, Option, Some, Result, Ok, Err, refl, sym, ap, ◌∙◌, subst, arith, suc}
+use Rattle.std.proofs.Common.{◌≡◌, ℕ, ◌+◌, ◌≤◌, List, [], ◌∷◌, codes, length, Some, Ok, refl, ap, ◌∙◌, subst, arith, suc}
 use Rattle.std.specs.Str.{IsUtf8}
-use Rattle.std.proofs.lemmas.List.{length-map}
-use Rattle.serde_json.specs.Data.{Data, Items, array, no_members}
+use Rattle.serde_json.specs.Data.{Data, array, no_members}
 use Rattle.serde_json.specs.Events.{items_len}
 use Rattle.serde_json.specs.Read.{read}
 use Rattle.serde_json.specs.View.{items_of}
-use Rattle.np_json.specs.declared.fault.ConfigFault.{ConfigFault}
 use Rattle.np_json.specs.declared.leaf.Length.{Length}
-use Rattle.np_lists.specs.Refusals.{◌>>=◌, ◌>>◌}
 use Rattle.np_json.specs.Reading.{below as under}
 use Rattle.np_json.specs.Rows.{ReadsItem, items_from, list_at, list_required, list_maybe}
 use Rattle.np_json.proofs.Takes.{ok}
-use Rattle.np_text.specs.declared.limit.TheConstants.{LABELS, PROVIDERS, SEMAPHORES, TENANTS, REQUESTERS, FAULTS, AGE}
+use Rattle.np_text.specs.declared.limit.TheConstants.{LABELS, PROVIDERS, SEMAPHORES, REQUESTERS, FAULTS, AGE}
 use Rattle.np_json.specs.Leaf.{at_most, one_to}
 use Rattle.np_site.specs.declared.row.Provider.{Provider}
 use Rattle.np_site.specs.declared.row.Pool.{Pool}
@@ -29,7 +26,7 @@ use Rattle.np_config.specs.Requesters.{requester_at}
 use Rattle.np_config.specs.Faults.{fault_at}
 use Rattle.np_config.specs.Walk.{configuration_at, reads}
 use Rattle.np_site.specs.Sound.{IsLabel, IsSem, IsPool, IsJob, IsFault, IsSound}
-use Rattle.np_config.specs.Canonical.{count, list_data, label_data, provider_data, semaphore_data, list_if_any, tenant_data, requester_data, fault_data, placed, configuration_data}
+use Rattle.np_config.specs.Canonical.{label_data, provider_data, semaphore_data, list_if_any, tenant_data, requester_data, fault_data, placed, configuration_data}
 use Rattle.np_site.proofs.Owners.{below, below-none, below-all}
 use Rattle.np_config.proofs.Parsed.{parsed-some}
 use Rattle.np_lists.proofs.EachAfterLemmas.{EachAfter-from_all}

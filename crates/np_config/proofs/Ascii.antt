@@ -1,8 +1,8 @@
 -- the names of a configuration are ASCII
-use Rattle.std.proofs.Common.{◌≡◌, ℕ, ◌+◌, ◌<◌, zero, suc, length, List, [], ◌∷◌, ◌++◌, true, Option, Some, None, Result, Ok, Err, refl, sym, ap, ◌∙◌, subst, arith}
+use Rattle.std.proofs.Common.{◌≡◌, ℕ, zero, suc, length, List, [], ◌∷◌, ◌++◌, Option, Some, None, refl, subst, arith}
 use Rattle.std.specs.Prelude.{slice_get, All}
 use Rattle.std.specs.Option.{option_map_or}
-use Rattle.std.specs.Str.{IsAscii, IsUtf8}
+use Rattle.std.specs.Str.{IsAscii}
 use Rattle.std.proofs.lemmas.Str.{IsUtf8-from_ascii}
 use Rattle.std.proofs.lemmas.Str.Ascii.{IsAscii-nil, IsAscii-cons}
 use Rattle.np_text.specs.Name.{is_name_text}
@@ -14,14 +14,11 @@ use Rattle.np_site.specs.declared.row.Requester.{Requester}
 use Rattle.np_site.specs.declared.row.Provider.{Provider}
 use Rattle.np_site.specs.declared.row.Pool.{Pool}
 use Rattle.np_site.specs.declared.row.Job.{Job}
-use Rattle.np_text.specs.declared.id.LabelId.{LabelId}
-use Rattle.np_text.specs.declared.id.SemId.{SemId}
 use Rattle.np_text.specs.declared.id.TenantId.{TenantId}
-use Rattle.np_text.specs.declared.id.RequesterId.{RequesterId}
 use Rattle.np_site.specs.Configuration.{Configuration, default_name, default_tenant, tenant_of}
 use Rattle.np_config.specs.Names.{pool_name}
 use Rattle.np_lists.specs.EachAfter.{EachAfter}
-use Rattle.np_site.specs.Sound.{StandsByOwner, HasNewName, IsSound, IsLabel, IsSem, IsTenant, IsRequester, IsProvider, IsPool, IsJob}
+use Rattle.np_site.specs.Sound.{StandsByOwner, IsSound, IsLabel, IsSem, IsTenant, IsRequester, IsProvider, IsPool, IsJob}
 use Rattle.np_lists.proofs.EachAfterLemmas.{All-from_each}
 
 -- the row at a place has what each row has

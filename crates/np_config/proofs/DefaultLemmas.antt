@@ -1,7 +1,6 @@
 -- an object without an optional key reads as the object with its default put in
-use Rattle.std.proofs.Common.{◌≡◌, ℕ, ◌+◌, ◌≤◌, List, [], ◌∷◌, codes, false, true, length, nat_le, None, refl, arith}
-use Rattle.serde_json.specs.Data.{Data, boolean, string, object, Members, put}
-use Rattle.serde_json.specs.Find.{get}
+use Rattle.std.proofs.Common.{ℕ, ◌+◌, ◌≤◌, List, codes, false, length, refl, arith}
+use Rattle.serde_json.specs.Data.{boolean, string}
 use Rattle.np_text.specs.declared.limit.TheConstants.{JOBS}
 use Rattle.np_json.specs.Leaf.{name_at, named_at}
 use Rattle.np_json.specs.Rows.{items_from, list_at, list_required, list_maybe}

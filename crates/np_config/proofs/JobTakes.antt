@@ -1,5 +1,5 @@
 -- requesters and jobs that were read
-use Rattle.std.proofs.Common.{◌≡◌, ℕ, ◌+◌, ◌<◌, ◌≤◌, ◌⊎◌, inl, inr, Bool, true, false, cond, List, [], ◌∷◌, ◌++◌, codes, length, length-append, Option, Some, None, Result, Ok, Err, refl, sym, ap, ◌∙◌, subst, append-nil, arith}
+use Rattle.std.proofs.Common.{◌≡◌, ℕ, ◌+◌, ◌<◌, ◌≤◌, inl, inr, Bool, true, false, cond, List, [], ◌∷◌, ◌++◌, codes, length, length-append, Option, Some, None, Result, Ok, refl, sym, ap, ◌∙◌, subst, append-nil, arith}
 use Rattle.std.specs.Prelude.{All}
 use Rattle.std.specs.Option.{option_map_or}
 use Rattle.std.specs.Str.{bytes_eq}
@@ -15,7 +15,7 @@ use Rattle.np_text.specs.declared.word.EndAs.TheVariants.{Used}
 use Rattle.np_json.specs.declared.fault.ConfigKind.TheVariants.{Repeated, UnknownName}
 use Rattle.np_json.specs.declared.fault.ConfigFault.{ConfigFault}
 use Rattle.np_json.specs.declared.leaf.Length.{Length}
-use Rattle.np_lists.specs.Refusals.{◌>>=◌, ◌>>◌, need, found}
+use Rattle.np_lists.specs.Refusals.{◌>>=◌, ◌>>◌, need}
 use Rattle.np_json.specs.Reading.{fault, below}
 use Rattle.np_json.specs.Leaf.{text_value, named_at, whole_or, flag_or}
 use Rattle.np_lists.proofs.RefusalLemmas.{bind-ok, need-ok, found-ok, found-some}

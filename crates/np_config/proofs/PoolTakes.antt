@@ -1,9 +1,9 @@
 -- providers and pools that were read
-use Rattle.std.proofs.Common.{◌≡◌, ℕ, ◌+◌, ◌<◌, ◌≤◌, ◌⊎◌, inl, inr, true, List, [], ◌∷◌, ◌++◌, codes, length, length-append, Option, Some, None, Result, Ok, Err, IfSome, refl, sym, ap, ◌∙◌, subst, append-nil, arith}
+use Rattle.std.proofs.Common.{◌≡◌, ℕ, ◌+◌, ◌<◌, ◌≤◌, inl, inr, true, List, [], ◌∷◌, ◌++◌, codes, length, length-append, Option, Some, None, Result, Ok, IfSome, refl, ap, ◌∙◌, subst, append-nil, arith}
 use Rattle.std.specs.Prelude.{All, filter, ◌==◌}
 use Rattle.std.proofs.lemmas.Bool.Decides.{nat_tests}
 use Rattle.std.proofs.lemmas.Bool.{cases_lt}
-use Rattle.std.proofs.lemmas.List.Elements.{All-nil, All-cons, All-push, All-append, All-weaker}
+use Rattle.std.proofs.lemmas.List.Elements.{All-nil, All-push, All-append, All-weaker}
 use Rattle.serde_json.specs.Data.{Data}
 use Rattle.np_amount.specs.declared.amount.Limit.{Limit}
 use Rattle.np_json.specs.declared.fault.ConfigFault.{ConfigFault}
@@ -23,7 +23,7 @@ use Rattle.np_config.specs.declared.providers.PoolsOf.{PoolsOf}
 use Rattle.np_config.specs.declared.providers.Providers.{Providers}
 use Rattle.np_config.specs.Providers.{limit_at, offers_at, starts_at, pool_row, pool_at, provider_row, pools_at, provider_at}
 use Rattle.np_lists.specs.EachAfter.{EachAfter}
-use Rattle.np_site.specs.Sound.{StandsByOwner, HasNewName, IsLimit, IsOffer, IsStart, IsPool, IsProvider, AreProviders}
+use Rattle.np_site.specs.Sound.{StandsByOwner, IsLimit, IsOffer, IsStart, IsPool, IsProvider, AreProviders}
 use Rattle.np_lists.proofs.EachAfterLemmas.{EachAfter-push, EachAfter-append}
 use Rattle.std.proofs.lemmas.List.Elements.{filter-append}
 use Rattle.np_lists.proofs.KeptLemmas.{filter-keeps_all}

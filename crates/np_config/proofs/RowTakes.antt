@@ -1,5 +1,5 @@
 -- labels, semaphores, offers and starts that were read
-use Rattle.std.proofs.Common.{◌≡◌, ℕ, ◌+◌, ◌<◌, ◌≤◌, List, [], ◌∷◌, ◌++◌, codes, Bool, true, false, not, length, length-append, Option, Some, None, Result, Ok, Err, IfSome, refl, sym, ap, ◌∙◌, subst, arith}
+use Rattle.std.proofs.Common.{◌≡◌, ℕ, ◌+◌, ◌<◌, ◌≤◌, List, [], ◌∷◌, ◌++◌, codes, Bool, true, false, length, length-append, Some, Result, Ok, refl, sym, ap, ◌∙◌, subst, arith}
 use Rattle.std.specs.Prelude.{position, All}
 use Rattle.std.proofs.lemmas.List.Elements.{All-nil, All-push}
 use Rattle.std.specs.List.{list_any}
@@ -13,9 +13,9 @@ use Rattle.np_json.specs.declared.fault.ConfigKind.TheVariants.{OutOfRange, Repe
 use Rattle.np_json.specs.declared.fault.ConfigFault.{ConfigFault}
 use Rattle.np_lists.specs.Refusals.{◌>>=◌, ◌>>◌, need}
 use Rattle.np_json.specs.Reading.{fault, below}
-use Rattle.np_json.specs.Leaf.{object_at, required, text_value, named_at, whole_value, whole_or, whole_maybe}
+use Rattle.np_json.specs.Leaf.{object_at, required, text_value, named_at, whole_value, whole_or}
 use Rattle.np_lists.proofs.RefusalLemmas.{bind-ok, rest-ok, need-ok, found-ok}
-use Rattle.np_json.proofs.Takes.{ok, same_ok, whole_value-takes, whole_or-takes, whole_maybe-takes, named_at-takes, list_required-takes, list_maybe-takes}
+use Rattle.np_json.proofs.Takes.{ok, same_ok, whole_value-takes, whole_or-takes, named_at-takes, list_required-takes, list_maybe-takes}
 use Rattle.np_text.specs.declared.limit.TheConstants.{LABELS, FAIL_STARTS, MIN_READY, AGE, NODE_CORES, NODE_RAM, START_NUMBER, HANDLES}
 use Rattle.np_json.specs.Leaf.{at_most}
 use Rattle.np_config.specs.Keys.{label_keys, offer_keys, semaphore_keys}

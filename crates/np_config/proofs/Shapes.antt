@@ -1,21 +1,17 @@
 -- the value of a configuration has no float, and nests a few levels deep
-use Rattle.std.proofs.Common.{◌≡◌, ℕ, ◌+◌, ◌≤◌, List, [], ◌∷◌, ◌++◌, codes, map, Bool, true, false, cond, ◌||◌, length, Option, Some, None, IfSome, refl, sym, ap, ◌∙◌, arith}
+use Rattle.std.proofs.Common.{◌≡◌, ℕ, ◌+◌, ◌≤◌, List, [], ◌∷◌, codes, map, Bool, true, false, cond, length, Option, Some, None, IfSome, refl, ◌∙◌, arith}
 use Rattle.std.specs.Prelude.{◌==◌}
-use Rattle.serde_json.specs.Data.{Data, string, array, object, Members, member, no_members, depth, items_depth, members_depth}
+use Rattle.serde_json.specs.Data.{Data, string, Members, member, no_members, depth, items_depth, members_depth}
 use Rattle.serde_json.specs.View.{items_of}
 use Rattle.serde_json.specs.Written.{has_float, items_have_float, members_have_float}
 use Rattle.np_text.specs.declared.id.LabelId.{LabelId}
 use Rattle.np_text.specs.declared.id.SemId.{SemId}
 use Rattle.np_text.specs.declared.id.TenantId.{TenantId}
-use Rattle.np_site.specs.declared.row.Label.{Label}
 use Rattle.np_site.specs.declared.row.Provider.{Provider}
 use Rattle.np_site.specs.declared.row.Pool.{Pool}
-use Rattle.np_site.specs.declared.row.Offer.{Offer}
-use Rattle.np_site.specs.declared.row.Sem.{Sem}
 use Rattle.np_site.specs.declared.row.Tenant.{Tenant}
 use Rattle.np_site.specs.declared.row.Requester.{Requester}
 use Rattle.np_site.specs.declared.row.Job.{Job}
-use Rattle.np_site.specs.declared.row.Fault.{Fault}
 use Rattle.np_site.specs.Configuration.{Configuration}
 use Rattle.np_amount.specs.declared.amount.Limit.{Limit}
 use Rattle.np_config.specs.Canonical.{count, given, given_count, given_limit, list_data, list_if_any, label_data, label_name, semaphore_name, tenant_name, tenant_data, job_tenant, offer_data, pool_data, pools_of, provider_data, placed, semaphore_data, job_data, jobs_of, requester_data, fault_data, configuration_data}

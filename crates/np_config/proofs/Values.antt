@@ -1,5 +1,5 @@
 -- rows as values
-use Rattle.std.proofs.Common.{append-nil, suc, arith, length-take-le, ◌≤◌, ◌≡◌, ℕ, ◌+◌, ◌<◌, List, [], ◌∷◌, ◌++◌, Bool, true, false, cond, map, take, length, get_or, refl, sym, ap, ◌∙◌}
+use Rattle.std.proofs.Common.{append-nil, suc, arith, length-take-le, ◌≤◌, ◌≡◌, ℕ, ◌+◌, ◌<◌, List, [], ◌∷◌, ◌++◌, Bool, true, false, map, take, length, get_or, refl, sym, ap, ◌∙◌}
 use Rattle.std.specs.Prelude.{filter}
 use Rattle.std.proofs.lemmas.List.{map-append, take_more}
 use Rattle.serde_json.specs.Data.{Data}

@@ -1,7 +1,7 @@
 -- where the walk through a configuration stops late, and where it ends
-use Rattle.std.proofs.Common.{◌≡◌, ℕ, List, [], codes, Result, Ok, Err, refl}
+use Rattle.std.proofs.Common.{◌≡◌, ℕ, List, [], codes, Result, Ok, refl}
 use Rattle.serde_json.specs.Data.{Data}
-use Rattle.np_lists.specs.Refusals.{◌>>=◌, ◌>>◌}
+use Rattle.np_lists.specs.Refusals.{◌>>=◌}
 use Rattle.np_text.specs.declared.limit.TheConstants.{AGE}
 use Rattle.np_json.specs.declared.fault.ConfigFault.{ConfigFault}
 use Rattle.np_json.specs.declared.fault.ConfigRead.{ConfigRead}

@@ -1,6 +1,6 @@
 -- a configuration that was read is sound
-use Rattle.std.proofs.Common.{◌≡◌, ℕ, ◌+◌, ◌<◌, ◌≤◌, Bool, true, false, cond, List, [], ◌∷◌, ◌++◌, codes, map, length, Option, Some, None, Result, Ok, Err, IfOk, refl, sym, ap, ◌∙◌, subst, arith}
-use Rattle.std.specs.Prelude.{position, All, ◌^◌}
+use Rattle.std.proofs.Common.{◌≡◌, ℕ, ◌+◌, ◌<◌, ◌≤◌, List, [], ◌∷◌, ◌++◌, codes, length, Option, Some, None, Result, Ok, Err, IfOk, refl, subst, arith}
+use Rattle.std.specs.Prelude.{All, ◌^◌}
 use Rattle.std.specs.Option.{option_map}
 use Rattle.std.specs.Str.{bytes_eq}
 use Rattle.std.proofs.lemmas.List.{length-map}
@@ -9,11 +9,10 @@ use Rattle.np_text.specs.declared.id.Role.{Role}
 use Rattle.np_text.specs.declared.id.Role.TheVariants as role
 use Rattle.np_json.specs.declared.fault.ConfigKind.TheVariants.{NotJson, UnknownName}
 use Rattle.np_json.specs.declared.fault.ConfigFault.{ConfigFault}
-use Rattle.np_lists.specs.Refusals.{◌>>=◌, ◌>>◌}
+use Rattle.np_lists.specs.Refusals.{◌>>=◌}
 use Rattle.np_json.specs.declared.fault.ConfigRead.{ConfigRead}
 use Rattle.np_json.specs.Reading.{Gives, fault, below}
 use Rattle.np_json.specs.Leaf.{object_at, required, text_value, whole_or, whole_required}
-use Rattle.np_json.specs.Rows.{list_required, list_maybe}
 use Rattle.np_lists.proofs.RefusalLemmas.{bind-ok, rest-ok, found-ok, found-some}
 use Rattle.np_json.proofs.Takes.{ok, same_ok, whole_or-takes, whole_required-takes, list_required-takes, list_maybe-takes}
 use Rattle.np_text.specs.declared.limit.TheConstants.{LABELS, PROVIDERS, SEMAPHORES, TENANTS, REQUESTERS, FAULTS, AGE, FAULT_ACTS}
@@ -22,8 +21,6 @@ use Rattle.np_config.specs.Keys.{top_keys, fault_keys}
 use Rattle.np_text.specs.Word.{role_kind_of}
 use Rattle.np_site.specs.Word.{fault_kind_of}
 use Rattle.np_site.specs.declared.row.Label.{Label}
-use Rattle.np_site.specs.declared.row.Provider.{Provider}
-use Rattle.np_site.specs.declared.row.Pool.{Pool}
 use Rattle.np_site.specs.declared.row.Sem.{Sem}
 use Rattle.np_site.specs.declared.row.Tenant.{Tenant}
 use Rattle.np_site.specs.declared.row.Requester.{Requester}
@@ -227,5 +224,3 @@ pub ruleset read_soundly = (reads-takes)
 pub gives_ok : {X : Type 0} (P : X → Type 0) (result : Result X ConfigRead) (read : Result X ConfigFault) → ((x : X) → read ≡ Ok x → P x) → Gives (λ x. x) result read → IfOk result P
 gives_ok P (Ok x) read says gives = says x gives
 gives_ok P (Err e) read says gives = tt
-
-pub ruleset taken = (configuration-takes)

@@ -1,6 +1,6 @@
 -- the one text of a configuration: compact JSON, keys in byte order, every default written except
 -- an empty list of tenants and a job's tenant `default`, an absent limit left absent (own)
-use Rattle.std.specs.Prelude.{ℕ, ◌+◌, ◌==◌, List, [], ◌∷◌, codes, length, map, filter, slice_get, Bool, Option, Some, None, if◌then◌else◌}
+use Rattle.std.specs.Prelude.{ℕ, ◌+◌, ◌==◌, List, [], ◌∷◌, codes, length, map, filter, slice_get, Option, Some, None, if◌then◌else◌}
 use Rattle.std.specs.Option.{option_map, option_map_or}
 use Rattle.serde_json.specs.Data.{Data, number, unsigned, boolean, string, array, object, Members, no_members, member}
 use Rattle.serde_json.specs.View.{items_of}

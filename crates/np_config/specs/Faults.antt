@@ -1,5 +1,5 @@
 -- planned faults, as they are read (own)
-use Rattle.std.specs.Prelude.{ℕ, List, [], ◌∷◌, ◌++◌, codes, Bool, if◌then◌else◌, Option, Some, None, Result, Ok, Err}
+use Rattle.std.specs.Prelude.{ℕ, List, [], ◌∷◌, ◌++◌, codes, Option, Result, Ok}
 use Rattle.std.specs.Option.{option_map}
 use Rattle.serde_json.specs.Data.{Data}
 use Rattle.np_text.specs.declared.id.Role.{Role}
@@ -8,11 +8,10 @@ use Rattle.np_text.specs.declared.limit.TheConstants.{FAULT_ACTS}
 use Rattle.np_text.specs.declared.word.RoleKind.{RoleKind}
 use Rattle.np_text.specs.declared.word.RoleKind.TheVariants as kind
 use Rattle.np_text.specs.Word.{role_kind_of}
-use Rattle.np_json.specs.declared.fault.ConfigKind.TheVariants.{UnknownName}
 use Rattle.np_json.specs.declared.fault.ConfigFault.{ConfigFault}
-use Rattle.np_lists.specs.Refusals.{◌>>=◌, ◌>>◌, found}
+use Rattle.np_lists.specs.Refusals.{◌>>=◌, ◌>>◌}
 use Rattle.np_json.specs.Reading.{below}
-use Rattle.np_json.specs.Leaf.{object_at, required, text_value, whole_required}
+use Rattle.np_json.specs.Leaf.{object_at, required, whole_required}
 use Rattle.np_json.specs.Rows.{ReadsItem}
 use Rattle.np_site.specs.declared.row.Requester.{Requester}
 use Rattle.np_site.specs.declared.row.Fault.{Fault}

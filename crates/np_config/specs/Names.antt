@@ -1,5 +1,5 @@
 -- what a name stands for
-use Rattle.std.specs.Prelude.{◌≡◌, false, ℕ, List, [], ◌∷◌, ◌+◌, ◌++◌, codes, map, Bool, if◌then◌else◌, position, slice_get, Option, Some, None}
+use Rattle.std.specs.Prelude.{◌≡◌, false, ℕ, List, [], ◌∷◌, ◌+◌, ◌++◌, map, if◌then◌else◌, position, slice_get, Option, Some}
 use Rattle.std.specs.List.{list_any}
 use Rattle.std.specs.Option.{option_map, option_map_or}
 use Rattle.std.specs.Str.{bytes_eq}

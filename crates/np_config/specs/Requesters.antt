@@ -1,6 +1,5 @@
 -- requesters and their jobs, as they are read
-use Rattle.std.specs.Prelude.{ℕ, ◌==◌, List, [], ◌∷◌, ◌++◌, codes, length, Bool, false, not, if◌then◌else◌, Option, Some, None, Result, Ok, Err}
-use Rattle.std.specs.List.{list_any}
+use Rattle.std.specs.Prelude.{ℕ, List, [], ◌∷◌, ◌++◌, codes, length, false, if◌then◌else◌, Option, Some, None, Result, Ok}
 use Rattle.std.specs.Option.{option_map_or}
 use Rattle.std.specs.Str.{bytes_eq}
 use Rattle.serde_json.specs.Data.{Data}
@@ -8,7 +7,6 @@ use Rattle.serde_json.specs.Find.{get}
 use Rattle.np_text.specs.declared.id.LabelId.{LabelId}
 use Rattle.np_text.specs.declared.id.SemId.{SemId}
 use Rattle.np_text.specs.declared.id.RequesterId.{RequesterId}
-use Rattle.np_text.specs.declared.word.EndAs.{EndAs}
 use Rattle.np_text.specs.declared.word.EndAs.TheVariants.{Used}
 use Rattle.np_text.specs.declared.limit.TheConstants.{JOBS, JOB_LABELS, JOB_SEMAPHORES, WINDOW, RELATIVE_PRIORITY}
 use Rattle.np_text.specs.Word.{end_as_of}
@@ -27,7 +25,7 @@ use Rattle.np_config.specs.declared.requesters.Demand.{Demand}
 use Rattle.np_config.specs.declared.requesters.JobsOf.{JobsOf}
 use Rattle.np_config.specs.declared.requesters.Requesters.{Requesters}
 use Rattle.np_site.specs.Sound.{is_untaken}
-use Rattle.np_config.specs.Names.{label_named, semaphore_named, tenant_id, tenant_named}
+use Rattle.np_config.specs.Names.{semaphore_named, tenant_id, tenant_named}
 use Rattle.np_config.specs.Keys.{requester_keys, job_keys}
 use Rattle.np_config.specs.Providers.{label_value}
 

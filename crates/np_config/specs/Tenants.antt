@@ -1,9 +1,7 @@
 -- tenants, as they are read (Zuul's word; the keys are own, with the limits of a pool)
-use Rattle.std.specs.Prelude.{ℕ, List, [], ◌∷◌, ◌++◌, codes, Bool, not, Result, Ok, Err}
+use Rattle.std.specs.Prelude.{List, [], ◌∷◌, ◌++◌, codes, not, Ok}
 use Rattle.std.specs.Str.{bytes_eq}
-use Rattle.serde_json.specs.Data.{Data}
 use Rattle.np_json.specs.declared.fault.ConfigKind.TheVariants.{Repeated}
-use Rattle.np_json.specs.declared.fault.ConfigFault.{ConfigFault}
 use Rattle.np_lists.specs.Refusals.{◌>>=◌, ◌>>◌, need}
 use Rattle.np_json.specs.Reading.{fault, below}
 use Rattle.np_json.specs.Leaf.{named_at}

@@ -1,9 +1,6 @@
 -- a text with every optional key absent, what it is read as, and its canonical text
-use Rattle.std.specs.Prelude.{ℕ, List, [], ◌∷◌, ◌++◌, codes, false, Option, None}
+use Rattle.std.specs.Prelude.{ℕ, List, [], ◌∷◌, ◌++◌, codes, false, None}
 use Rattle.np_text.specs.declared.id.LabelId.{LabelId}
-use Rattle.np_text.specs.declared.id.TenantId.{TenantId}
-use Rattle.np_text.specs.declared.id.PoolId.{PoolId}
-use Rattle.np_text.specs.declared.id.RequesterId.{RequesterId}
 use Rattle.np_text.specs.declared.id.Role.TheVariants.{Janitor}
 use Rattle.np_text.specs.declared.word.EndAs.TheVariants.{Used}
 use Rattle.np_site.specs.declared.row.FaultKind.TheVariants.{Stop}

@@ -1,6 +1,6 @@
 //! Reading a configuration as a whole.
 
-ghost use Rattle.std.specs.Prelude.{◌≡◌, ◌<◌, ◌^◌, [], map, length, IfOk};
+ghost use Rattle.std.specs.Prelude.{◌≡◌, ◌<◌, ◌^◌, [], Ok, codes, map, length, IfOk};
 ghost use Rattle.serde_json.specs.View.{view};
 ghost use Rattle.np_json.specs.Reading.{Gives};
 ghost use Rattle.np_config.specs.Names.{pool_name, pool_names, IsUnused};
@@ -131,10 +131,48 @@ fn faults_of(alloc: Global, roles: &Roles, value: &Value) -> Result<Items<Fault>
     rows_maybe(alloc, roles, b"", "faults", length, value, none)
 }
 
+ghost use Rattle.np_text.specs.declared.limit.TheConstants.{AGE};
+ghost use Rattle.np_json.specs.Leaf.{object_at, whole_or};
+ghost use Rattle.np_config.specs.Keys.{top_keys};
 ghost use Rattle.np_config.specs.Walk.{labels_at, providers_at, semaphores_at, tenants_at, requesters_at, faults_at, configuration_at, reads};
 
+/// The configuration that a JSON value is, or its first fault. What is read of it before the
+/// requesters is given, and has no fault.
+fn rest_of(
+    alloc: Global,
+    age: u32,
+    supply: Providers,
+    known: Known,
+    value: &Value,
+) -> Result<Config, ConfigRead>
+    requires keys { object_at [] top_keys (view value.now) ≡ Ok tt }
+    requires labels { labels_at (view value.now) ≡ Ok known.labels.table }
+    requires age { whole_or [] (codes "max-hold-age") 0 AGE 0 (view value.now) ≡ Ok age }
+    requires providers { providers_at known.labels.table (view value.now) ≡ Ok supply }
+    requires semaphores { semaphores_at (view value.now) ≡ Ok known.semaphores }
+    requires tenants { tenants_at (view value.now) ≡ Ok known.tenants }
+    ensures { Gives (λ c. c) result (configuration_at (view value.now)) }
+{
+    let demand = requesters_of(alloc, &known, value)?;
+    let roles = roles_of(alloc, &supply, demand.requesters)?;
+    let faults = faults_of(alloc, &roles, value)?;
+    let config = Config::of_parts(
+        alloc,
+        known.labels.table.into_rows(),
+        supply.providers.into_rows(),
+        supply.pools.into_vec(),
+        known.semaphores.into_rows(),
+        known.tenants.into_rows(),
+        roles.requesters.into_rows(),
+        demand.jobs.into_vec(),
+        faults.into_vec(),
+        age,
+    )?;
+    Ok(config)
+}
+
 /// The configuration that a JSON value is, or its first fault.
-#[tactic(auto, using(np_json::proofs::Binds::exits, crate::proofs::WalkTakes::taken), unfolding(crate::specs::Walk::configuration_at))]
+#[tactic(auto, using(np_json::proofs::Binds::exits), unfolding(crate::specs::Walk::configuration_at))]
 fn configuration_of(alloc: Global, value: &Value) -> Result<Config, ConfigRead>
     ensures { Gives (λ c. c) result (configuration_at (view value.now)) }
 {
@@ -158,22 +196,7 @@ fn configuration_of(alloc: Global, value: &Value) -> Result<Config, ConfigRead>
         semaphores,
         tenants,
     };
-    let demand = requesters_of(alloc, &known, value)?;
-    let roles = roles_of(alloc, &supply, demand.requesters)?;
-    let faults = faults_of(alloc, &roles, value)?;
-    let config = Config::of_parts(
-        alloc,
-        known.labels.table.into_rows(),
-        supply.providers.into_rows(),
-        supply.pools.into_vec(),
-        known.semaphores.into_rows(),
-        known.tenants.into_rows(),
-        roles.requesters.into_rows(),
-        demand.jobs.into_vec(),
-        faults.into_vec(),
-        age,
-    )?;
-    Ok(config)
+    rest_of(alloc, age, supply, known, value)
 }
 
 /// The configuration that bytes are, or their first fault.

@@ -1,4 +1,4 @@
-use Rattle.std.proofs.Common.{◌≡◌, ◌∙◌, sym}
+use Rattle.std.proofs.Common.{◌∙◌, sym}
 use Rattle.std.specs.Str.{bytes_eq}
 use Rattle.np_json.proofs.Lists.{position-map}
 use Rattle.np_config.proofs.faults.pool_place.Goals as goal

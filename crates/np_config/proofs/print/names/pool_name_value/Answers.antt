@@ -1,5 +1,4 @@
-use Rattle.std.proofs.Common.{◌≡◌, ◌∙◌, sym}
-use Rattle.np_config.specs.Names.{pool_name}
+use Rattle.std.proofs.Common.{sym}
 use Rattle.np_config.proofs.Ascii.{pool_name-ascii}
 use Rattle.np_config.proofs.print.names.pool_name_value.Goals as goal
 

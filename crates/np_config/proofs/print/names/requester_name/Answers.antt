@@ -1,4 +1,4 @@
-use Rattle.std.proofs.Common.{◌≡◌, ap, sym}
+use Rattle.std.proofs.Common.{sym}
 use Rattle.std.specs.Str.{IsAscii}
 use Rattle.np_config.proofs.Ascii.{requester-ascii}
 use Rattle.np_config.proofs.print.names.requester_name.Goals as goal

@@ -1,7 +1,6 @@
-use Rattle.std.proofs.Common.{◌≡◌, ◌∙◌, ap, sym}
+use Rattle.std.proofs.Common.{◌∙◌, ap}
 use Rattle.serde_json.proofs.Views.{view-Object}
 use Rattle.serde_json.specs.Data.{object}
-use Rattle.serde_json.specs.View.{members_view}
 use Rattle.np_config.proofs.Members.{tenant_members}
 use Rattle.np_config.proofs.print.rows.TenantShown.value.Goals as goal
 
