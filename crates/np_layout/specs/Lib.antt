@@ -1,0 +1,5 @@
+pub mod Rows
+pub mod Layout
+pub mod First
+pub mod Worked
+pub mod Laws

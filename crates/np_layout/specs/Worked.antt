@@ -1,0 +1,156 @@
+-- a worked state, the tree that lays it out, and trees that do not
+use Rattle.std.specs.Prelude.{ℕ, true, false, List, [], ◌∷◌, ◌++◌, codes, map, Some, None}
+use Rattle.np_text.specs.declared.word.NodeState.TheVariants as node_state
+use Rattle.np_text.specs.declared.word.Phase.TheVariants as phase
+use Rattle.np_text.specs.declared.word.RequestState.TheVariants as request_state
+use Rattle.np_record.specs.declared.record.JobRecord.{JobRecord}
+use Rattle.np_record.specs.declared.record.NodeRecord.{NodeRecord}
+use Rattle.np_record.specs.declared.record.RequestRecord.{RequestRecord}
+use Rattle.np_machine.specs.State.{State, new_job, no_deeds}
+use Rattle.np_tree.specs.TreeState.{TreeState, new_tree}
+use Rattle.np_tree.specs.After.{after_end, after_set}
+use Rattle.np_tree.specs.Calls.{after_begin}
+use Rattle.np_tree.specs.Multi.{after_parts}
+use Rattle.np_nodes.specs.declared.kind.Expect.TheVariants.{Any}
+use Rattle.np_nodes.specs.declared.kind.Mode.TheVariants.{Ephemeral, EphemeralSequential, Persistent, PersistentSequential}
+use Rattle.np_nodes.specs.declared.op.Op.{Op}
+use Rattle.np_nodes.specs.declared.op.Op.TheVariants as op
+use Rattle.np_worked.specs.Site.{session, job, label, node, pool, tenant, request, launcher, janitor, requester}
+use Rattle.np_layout.specs.First.{first_directories, make}
+
+-- ## the state
+
+-- pending at pool 0, which is to give it node 1
+abbrev pub asked : RequestRecord
+asked = record {
+  declined = [];
+  job = Some (job 0);
+  labels = label 0 ∷ [];
+  nodes = node 1 ∷ [];
+  pinned = None;
+  pool = Some (pool 0);
+  relative_priority = 0;
+  state = request_state.Pending;
+}
+
+abbrev pub in_building : NodeRecord
+in_building = record {
+  allocated_to = Some (request 200 0);
+  attempts = 1;
+  in_flight = true;
+  label = label 0;
+  pool = pool 0;
+  server = None;
+  since = 3;
+  start = 2;
+  state = node_state.Building;
+  tenant = Some (tenant 0);
+}
+
+abbrev pub asking : JobRecord
+asking = record { ending = None; nodes = []; phase = phase.Asked; pool = None; request = Some (request 200 0) }
+
+-- launcher 0 serves the request of job 0, at whose lock the requester waits; the janitor's session has
+-- ended. The jobs 2 and 10 have handles, and the servers 9 and 10 of node 0 were swept: the order of
+-- their names is another one
+abbrev pub worked : State
+worked = record {
+  tick = 12;
+  sessions =
+      record { role = launcher 0; live = true; mute = false }
+      ∷ record { role = janitor 0; live = false; mute = true }
+      ∷ record { role = requester 0; live = true; mute = false }
+      ∷ [];
+  registrations = record { pool = pool 0; session = session 1 } ∷ [];
+  requests = record { id = request 200 0; kept = asked; queue = session 1 ∷ session 3 ∷ [] } ∷ [];
+  nodes = record { id = node 1; kept = in_building; queue = session 1 ∷ [] } ∷ [];
+  handles = (job 2 ∷ job 10 ∷ []) ∷ [];
+  jobs = asking ∷ new_job ∷ [];
+  launchers = no_deeds ∷ [];
+  janitors = no_deeds ∷ [];
+  requesters = no_deeds ∷ [];
+  swept = record { node = node 0; server = 9 } ∷ record { node = node 0; server = 10 } ∷ [];
+  next_request = 1;
+  next_node = 2;
+}
+
+-- ## the tree
+
+abbrev pub file : List ℕ → List ℕ → Op
+file path bytes = op.Create path bytes Persistent
+
+abbrev pub no_deeds_text : List ℕ
+no_deeds_text = codes "{\"acts\":0,\"starts\":0,\"strikes\":0}"
+
+-- what the tree's first session makes; node 0 was there and is gone
+abbrev pub housekeeping : List Op
+housekeeping =
+    map (make []) first_directories
+    ++ file (codes "/zuul/semaphores/0") []
+    ∷ file (codes "/zuul/semaphores/0/10") []
+    ∷ file (codes "/zuul/semaphores/0/2") []
+    ∷ file (codes "/poolsim/jobs/0") (codes "{\"nodes\":[],\"phase\":\"asked\",\"request\":\"200-0000000000\"}")
+    ∷ file (codes "/poolsim/jobs/1") (codes "{\"nodes\":[],\"phase\":\"new\"}")
+    ∷ file (codes "/poolsim/roles/launcher-0") no_deeds_text
+    ∷ file (codes "/poolsim/roles/janitor-0") no_deeds_text
+    ∷ file (codes "/poolsim/roles/requester-0") no_deeds_text
+    ∷ file (codes "/poolsim/sessions/0000000001") (codes "{\"mute\":false,\"role\":\"launcher-0\"}")
+    ∷ file (codes "/poolsim/sessions/0000000002") (codes "{\"mute\":true,\"role\":\"janitor-0\"}")
+    ∷ file (codes "/poolsim/sessions/0000000003") (codes "{\"mute\":false,\"role\":\"requester-0\"}")
+    ∷ file (codes "/poolsim/swept/0000000000-9") []
+    ∷ file (codes "/poolsim/swept/0000000000-10") []
+    ∷ file (codes "/poolsim/tick") (codes "12")
+    ∷ op.CreateUnder (codes "/nodepool/nodes") [] PersistentSequential
+    ∷ op.Delete (codes "/nodepool/nodes/0000000000") Any
+    ∷ []
+
+-- the requester makes the request and its lock
+abbrev pub asking_parts : List Op
+asking_parts =
+    op.Create (codes "/nodepool/requests/200-") (codes "{\"declined\":[],\"job\":0,\"labels\":[0],\"nodes\":[1],\"pool\":0,\"relative-priority\":0,\"state\":\"pending\"}") PersistentSequential
+    ∷ file (codes "/nodepool/requests-lock/200-0000000000") []
+    ∷ []
+
+-- a session waits at the request's lock
+abbrev pub wait : Op
+wait = op.Create (codes "/nodepool/requests-lock/200-0000000000/lock-") [] EphemeralSequential
+
+-- the launcher makes its registration, and the node with its lock, which it holds; the node is spelled
+-- as before there were tenants
+abbrev pub serving_parts : List Op
+serving_parts =
+    op.Create (codes "/nodepool/launchers/0") [] Ephemeral
+    ∷ op.CreateUnder (codes "/nodepool/nodes") (codes "{\"allocated-to\":\"200-0000000000\",\"attempts\":1,\"in-flight\":true,\"label\":0,\"pool\":0,\"since\":3,\"start\":2,\"state\":\"building\"}") PersistentSequential
+    ∷ file (codes "/nodepool/nodes/0000000001/lock") []
+    ∷ op.Create (codes "/nodepool/nodes/0000000001/lock/lock-") [] EphemeralSequential
+    ∷ []
+
+-- the tree's first session and the machine's three have begun
+abbrev pub begun_tree : TreeState
+begun_tree = after_begin (after_begin (after_begin (after_begin new_tree)))
+
+abbrev pub served_tree : TreeState
+served_tree = after_parts (after_parts (after_parts begun_tree 1 housekeeping) 4 asking_parts) 2 serving_parts
+
+-- the launcher waits before the requester
+abbrev pub queued_tree : TreeState
+queued_tree = after_parts (after_parts served_tree 2 (wait ∷ [])) 4 (wait ∷ [])
+
+-- and the janitor's session has ended
+abbrev pub worked_tree : TreeState
+worked_tree = after_end queued_tree 3
+
+-- ## trees that do not lay it out
+
+abbrev pub another_tick : TreeState
+another_tick = after_set worked_tree (codes "/poolsim/tick") (codes "13")
+
+-- the requester waits before the launcher
+abbrev pub another_holder : TreeState
+another_holder = after_end (after_parts (after_parts served_tree 4 (wait ∷ [])) 2 (wait ∷ [])) 3
+
+abbrev pub lock_of_no_request : TreeState
+lock_of_no_request = after_parts worked_tree 1 (file (codes "/nodepool/requests-lock/200-0000000001") [] ∷ [])
+
+abbrev pub node_below_a_pair : TreeState
+node_below_a_pair = after_parts worked_tree 1 (file (codes "/poolsim/swept/0000000000-9/x") [] ∷ [])

@@ -1,0 +1,13 @@
+//! How the coordination tree lays a state of the machine out.
+//!
+//! `specs/Layout` says when a tree lays a state out: the rows of each directory are those of one
+//! table of the state, with their bytes and owners, and nothing else is there. `specs/Rows` has the
+//! row of each record, lock and mark, and `specs/First` the call that makes the tree before the first
+//! event. The laws are public functions that do nothing: their contracts are the laws.
+#![tactic(auto)]
+
+mod laws;
+
+pub use laws::{
+    a_worked_tree_lays_out_its_state, first_trees_lay_out_the_start, other_trees_do_not,
+};
