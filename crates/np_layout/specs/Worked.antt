@@ -52,7 +52,7 @@ asking = record { ending = None; nodes = []; phase = phase.Asked; pool = None; r
 
 -- launcher 0 serves the request of job 0, at whose lock the requester waits; the janitor's session has
 -- ended. The jobs 2 and 10 have handles, and the servers 9 and 10 of node 0 were swept: the order of
--- their names is another one
+-- their names is another one. No run leads to this state: it is made up to tell the clauses apart
 abbrev pub worked : State
 worked = record {
   tick = 12;
