@@ -7,8 +7,6 @@
 
 mod amount;
 mod law;
-#[cfg(test)]
-mod tests;
 
 pub use amount::{Amount, Limit};
 pub use law::{

@@ -109,6 +109,3 @@ impl<T: Item, const N: usize> Row<T, N> {
         true
     }
 }
-
-#[cfg(test)]
-mod tests;

@@ -39,6 +39,3 @@ pub use request::{read_request, request_text};
 pub use word::{
     EndAs, Ending, NodeState, Phase, Reason, ReasonKind, RequestState, RoleKind, put_reason,
 };
-
-#[cfg(test)]
-mod tests;

@@ -1,6 +1,6 @@
 //! Rows of the records, filled up to their rooms.
 
-use crate::record::{DeclineRow, Declined, LabelRow, MarkRow, Marked, NodeRow};
+use np_record::{DeclineRow, Declined, LabelRow, MarkRow, Marked, NodeRow};
 use np_text::{JOB_LABELS, LabelId, NodeId, POOLS, PoolId, Reason};
 
 #[test]

@@ -1,4 +1,8 @@
-use super::*;
+use np_text::{
+    EndAs, Ending, LabelId, NoMemory, NodeId, NodeState, Phase, Reason, RequestId, RequestState,
+    RoleKind, is_name, line_at, put_number, put_reason, read_number, read_request, request_text,
+    split_sections, ten_digits,
+};
 use std::alloc::AllocError;
 use std::test::Fail;
 

@@ -1,4 +1,4 @@
-use crate::{
+use np_amount::{
     Amount, Limit, amounts_add_up, smaller_amounts_fit, times_are_sums, totals_are_sums,
     totals_follow_their_list,
 };
