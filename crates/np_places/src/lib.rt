@@ -13,8 +13,6 @@ mod buffer;
 mod laws;
 mod path_text;
 mod place;
-#[cfg(test)]
-mod tests;
 
 pub use laws::{
     names_stand_in_order, no_two_places_share_a_path, paths_are_in_the_grammar,

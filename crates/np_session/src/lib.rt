@@ -8,8 +8,6 @@
 
 mod fault;
 mod sessions;
-#[cfg(test)]
-mod tests;
 
 pub use fault::SessionFault;
 pub use sessions::Sessions;

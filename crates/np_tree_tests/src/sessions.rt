@@ -1,4 +1,4 @@
-use crate::{SessionFault, Sessions};
+use np_session::{SessionFault, Sessions};
 use std::test::Fail;
 
 // The calls in turn on sessions 1 to 3, of which 2 went mute and 3 is over: the session, whether it

@@ -1,6 +1,6 @@
 //! Places and their texts.
 
-use crate::{PathText, Place, to_path};
+use np_places::{PathText, Place, to_path};
 use np_text::{JobId, NodeId, PoolId, RequestId, Role, SemId, SessionId};
 use std::test::Fail;
 
