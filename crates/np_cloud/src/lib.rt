@@ -14,8 +14,6 @@ mod inventory;
 mod law;
 mod script;
 mod sim;
-#[cfg(test)]
-mod tests;
 
 pub use clouds::simulated_clouds;
 pub use driver::{Driver, Launch, LaunchFault, RemoveFailed, Server, Tag};

@@ -5,4 +5,3 @@ mod Accounts
 mod TurnSteps
 mod PassSteps
 mod DeskSteps
-mod SplitLemmas

@@ -5,4 +5,3 @@ pub mod Turned
 pub mod Share
 pub mod Rule
 pub mod Step
-pub mod Counter

@@ -15,8 +15,6 @@ mod on_desk;
 mod pass;
 mod rule;
 mod step;
-#[cfg(test)]
-mod tests;
 mod turns;
 mod view;
 

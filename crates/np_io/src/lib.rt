@@ -17,8 +17,6 @@ mod sink;
 mod source;
 mod std_sink;
 mod std_source;
-#[cfg(test)]
-mod tests;
 mod whole;
 
 pub use mem_sink::MemSink;

@@ -1,8 +1,8 @@
 use Rattle.std.proofs.Common.{◌≡◌, [], ◌∷◌, ◌++◌, suc, length, length-append, ap, ◌∙◌, sym, subst, arith}
-use Rattle.np_desk.specs.Counter.{AreSplit, zeros}
 use Rattle.np_desk.specs.Part.{first_half, second_half}
-use Rattle.np_desk.proofs.SplitLemmas.{split_more}
-use Rattle.np_desk.proofs.tests.split_off.Goals as goal
+use Rattle.np_desk_tests.specs.Counter.{AreSplit, zeros}
+use Rattle.np_desk_tests.proofs.SplitLemmas.{split_more}
+use Rattle.np_desk_tests.proofs.desks.split_off.Goals as goal
 
 pub loop-preserved : goal.loop-preserved
 loop-preserved c =

@@ -1,7 +1,7 @@
 use Rattle.std.proofs.Common.{◌≡◌, [], ◌∷◌, ◌++◌, suc, length, length-append, ap, ◌∙◌, arith}
-use Rattle.np_desk.specs.Counter.{zeros}
-use Rattle.np_desk.proofs.SplitLemmas.{split_less}
-use Rattle.np_desk.proofs.tests.many_threads.Goals as goal
+use Rattle.np_desk_tests.specs.Counter.{zeros}
+use Rattle.np_desk_tests.proofs.SplitLemmas.{split_less}
+use Rattle.np_desk_tests.proofs.desks.many_threads.Goals as goal
 
 pub loop-last-preserved : goal.loop-last-preserved
 loop-last-preserved g c =

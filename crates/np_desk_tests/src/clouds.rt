@@ -1,6 +1,6 @@
 //! What no clause says: that calls succeed with ample memory.
 
-use crate::{
+use np_cloud::{
     Driver, Gate, LaunchFault, OpenGate, RemoveFailed, ScriptDriver, Server, SimDriver, Tag,
 };
 use np_config::Config;

@@ -1,4 +1,4 @@
--- For tests alone: a counter with a limit, whose history is what was asked, and passes in a list.
+-- A counter with a limit, whose history is what was asked, and passes in a list.
 use Rattle.std.specs.Prelude.{◌≡◌, ℕ, ◌+◌, ◌<◌, ◌≤◌, List, [], ◌∷◌, length, slice_index_or, Option, Some, None, zero, suc, Bool, false, nat_lt, MatchOption}
 use Rattle.np_desk.specs.Part.{second_half}
 use Rattle.np_desk.specs.Pass.{DeskView, PassView, IsOf}

@@ -1,7 +1,7 @@
 //! What no clause says: that calls succeed with ample memory, that output is finished, and what the
 //! adapters do over readers and writers of std.
 
-use crate::{
+use np_io::{
     MemSink, MemSource, ReadAll, ReadFailed, Sink, Source, StdSink, StdSource, WriteFailed,
     read_all, write_all,
 };

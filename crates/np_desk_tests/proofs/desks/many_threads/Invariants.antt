@@ -1,7 +1,7 @@
 use Rattle.std.proofs.Common.{◌≡◌, [], ◌∷◌, length}
-use Rattle.np_desk.specs.Counter.{AreSplit, zeros}
 use Rattle.np_desk.specs.Pass.{IsOf}
-use Rattle.np_desk.proofs.tests.many_threads.Given as goal
+use Rattle.np_desk_tests.specs.Counter.{AreSplit, zeros}
+use Rattle.np_desk_tests.proofs.desks.many_threads.Given as goal
 
 abbrev pub invariant-loop-last : goal.invariant-loop-last
 invariant-loop-last g l = record {

@@ -1,11 +1,11 @@
--- For tests alone: passes that were split off one after another, in a list.
+-- Passes that were split off one after another, in a list.
 use Rattle.std.proofs.Common.{◌≡◌, ℕ, zero, suc, ◌<◌, List, [], ◌∷◌, ◌++◌, length, sym, refl, subst, arith, length-append}
 use Rattle.std.specs.Prelude.{slice_index_or}
 use mathlib.Core.Logic.{dite}
 use native.Mathlib.Decide.{ℕ_discrete}
-use Rattle.np_desk.specs.Counter.{AreSplit, zeros}
 use Rattle.np_desk.specs.Part.{second_half}
 use Rattle.np_desk.specs.Pass.{DeskView, PassView, IsOf}
+use Rattle.np_desk_tests.specs.Counter.{AreSplit, zeros}
 
 module _ {A : Type 0} where
   index_front : (l m : List A) (i : ℕ) (x : A) → i < length l → slice_index_or (l ++ m) i x ≡ slice_index_or l i x

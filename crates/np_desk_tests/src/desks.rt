@@ -1,9 +1,9 @@
 ghost use Rattle.std.specs.Prelude.{◌≡◌, ◌≤◌, ◌+◌, ◌<◌, ◌^◌, [], ◌∷◌, length, IfOk};
-ghost use Rattle.np_desk.specs.Counter.{is_legal, Answers, recorded, AreSplit, zeros};
 ghost use Rattle.np_desk.specs.Part.{IsWhole};
 ghost use Rattle.np_desk.specs.Pass.{IsOf};
+ghost use Rattle.np_desk_tests.specs.Counter.{is_legal, Answers, recorded, AreSplit, zeros};
 
-use crate::{Alone, Desk, OnDesk, Pass, SeqObject, Turns};
+use np_desk::{Alone, Desk, OnDesk, Pass, SeqObject, Turns};
 use np_text::NoMemory;
 use std::alloc::Global;
 use std::sync::Wait;
