@@ -14,6 +14,3 @@ mod law;
 
 pub use finding::{Finding, audit};
 pub use law::bytes_have_one_finding;
-
-#[cfg(test)]
-mod tests;

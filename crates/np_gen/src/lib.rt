@@ -10,8 +10,6 @@ mod job;
 mod law;
 mod site;
 mod supply;
-#[cfg(test)]
-mod tests;
 
 pub use law::{a_worked_draw, one_job_in_ten_asks_for_nine};
 pub use site::drill;

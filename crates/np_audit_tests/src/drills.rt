@@ -1,7 +1,7 @@
 //! No clause says that memory suffices: it does, also for the largest site. The text of a small site
 //! was made by another program, written after the same description.
 
-use crate::drill;
+use np_gen::drill;
 use np_text::JobId;
 use std::alloc::{AllocError, Global};
 use std::test::Fail;

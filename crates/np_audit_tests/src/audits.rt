@@ -1,6 +1,6 @@
 //! What no clause says: that bytes are audited wherever there is memory; and worked Texts.
 
-use crate::{Finding, audit};
+use np_audit::{Finding, audit};
 use std::alloc::{AllocError, Global};
 use std::test::Fail;
 
