@@ -32,53 +32,82 @@ fn put_tenants(alloc: Global, text: &mut String, count: u32) -> Result<(), Alloc
     text.push_str("]")
 }
 
-// As many rows of each kind as there may be, and names as long as they may be.
-fn largest(alloc: Global) -> Result<String, AllocError> {
-    let mut text = String::new(alloc);
-    put_labels(alloc, &mut text, 256)?;
-    text.push_str(
-        ",\"providers\":[{\"name\":\"c\",\"pools\":[{\"name\":\"m\",\"labels\":[{\"name\":\"a\"}],\"fail-starts\":[1",
-    )?;
+// The numbers of 4,096 starts that fail.
+fn put_starts(alloc: Global, text: &mut String) -> Result<(), AllocError> {
+    text.push_str("1")?;
     for i in 2..4097u32 {
         let start = format!(in alloc; ",{i}")?;
         text.push_str(start.as_str())?;
     }
-    text.push_str("]}]}")?;
+    Ok(())
+}
+
+// Providers of one pool each, behind the first.
+fn put_providers(alloc: Global, text: &mut String) -> Result<(), AllocError> {
     for i in 1..64u32 {
         let provider = format!(in alloc;
             ",{{\"name\":\"{LONG}{i}\",\"pools\":[{{\"name\":\"{LONG}\",\"labels\":[{{\"name\":\"a\"}}]}}]}}"
         )?;
         text.push_str(provider.as_str())?;
     }
-    text.push_str("]")?;
-    put_tenants(alloc, &mut text, 64)?;
-    text.push_str(
-        ",\"requesters\":[{\"name\":\"z\",\"jobs\":[{\"name\":\"j\",\"labels\":[\"a\"]}]}",
-    )?;
+    Ok(())
+}
+
+// A requester's jobs behind its first.
+fn put_jobs(alloc: Global, text: &mut String, requester: u32) -> Result<(), AllocError> {
+    for j in 1..273u32 {
+        let job = format!(in alloc;
+            ",{{\"name\":\"{LONG}{j}\",\"labels\":[\"{LONG}{requester}\",\"a\"],\"tenant\":\"{LONG}{requester}\"}}"
+        )?;
+        text.push_str(job.as_str())?;
+    }
+    Ok(())
+}
+
+// Requesters with their jobs, behind the first.
+fn put_requesters(alloc: Global, text: &mut String) -> Result<(), AllocError> {
     for q in 1..16u32 {
         let requester = format!(in alloc;
             ",{{\"name\":\"{LONG}{q}\",\"jobs\":[{{\"name\":\"j\",\"labels\":[\"a\"]}}"
         )?;
         text.push_str(requester.as_str())?;
-        for j in 1..273u32 {
-            let job = format!(in alloc;
-                ",{{\"name\":\"{LONG}{j}\",\"labels\":[\"{LONG}{q}\",\"a\"],\"tenant\":\"{LONG}{q}\"}}"
-            )?;
-            text.push_str(job.as_str())?;
-        }
+        put_jobs(alloc, text, q)?;
         text.push_str("]}")?;
     }
-    text.push_str(
-        "],\"faults\":[{\"role\":\"requester\",\"name\":\"z\",\"kind\":\"stop\",\"after\":0}",
-    )?;
+    Ok(())
+}
+
+// 1,023 faults behind the first.
+fn put_faults(alloc: Global, text: &mut String) -> Result<(), AllocError> {
     for i in 1..1024u32 {
         let fault = format!(in alloc;
             ",{{\"role\":\"launcher\",\"name\":\"c/m\",\"kind\":\"crash\",\"after\":{i}}}"
         )?;
         text.push_str(fault.as_str())?;
     }
-    text.push_str("]}")?;
-    Ok(text)
+    Ok(())
+}
+
+// As many rows of each kind as there may be, and names as long as they may be.
+fn put_largest(alloc: Global, text: &mut String) -> Result<(), AllocError> {
+    put_labels(alloc, text, 256)?;
+    text.push_str(
+        ",\"providers\":[{\"name\":\"c\",\"pools\":[{\"name\":\"m\",\"labels\":[{\"name\":\"a\"}],\"fail-starts\":[",
+    )?;
+    put_starts(alloc, text)?;
+    text.push_str("]}]}")?;
+    put_providers(alloc, text)?;
+    text.push_str("]")?;
+    put_tenants(alloc, text, 64)?;
+    text.push_str(
+        ",\"requesters\":[{\"name\":\"z\",\"jobs\":[{\"name\":\"j\",\"labels\":[\"a\"]}]}",
+    )?;
+    put_requesters(alloc, text)?;
+    text.push_str(
+        "],\"faults\":[{\"role\":\"requester\",\"name\":\"z\",\"kind\":\"stop\",\"after\":0}",
+    )?;
+    put_faults(alloc, text)?;
+    text.push_str("]}")
 }
 
 fn read(alloc: Global, text: &[u8]) -> Result<Config, Fail> {
@@ -91,7 +120,8 @@ fn read(alloc: Global, text: &[u8]) -> Result<Config, Fail> {
 #[test]
 fn the_largest_configuration_is_read_and_printed(rt: HostRuntime) -> Result<(), Fail> {
     let alloc = rt.alloc();
-    let text = largest(alloc)?;
+    let mut text = String::new(alloc);
+    put_largest(alloc, &mut text)?;
     let printed = read(alloc, text.as_bytes())?.to_json(alloc)?;
     let again = read(alloc, printed.as_slice())?.to_json(alloc)?;
     assert!(rt; printed.as_slice() == again.as_slice());

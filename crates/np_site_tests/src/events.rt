@@ -6,6 +6,7 @@ use np_text::{
     EndAs, Ending, JobId, LabelId, NodeId, NodeState, Phase, PoolId, Reason, RequestId,
     RequestState, RequesterId, Role, SemId, SessionId,
 };
+use std::process::Abort;
 use std::test::Fail;
 
 const S: SessionId = SessionId(1);
@@ -409,82 +410,81 @@ const REPLIES: [(&[u8], Reply); 55] = [
     ),
 ];
 
+// The line is read as the event, and the event is written as the line.
+fn check_event(rt: &(impl AllocGlobal + Abort), line: &[u8], event: Event) -> Result<(), Fail> {
+    assert!(rt; read_event(line) == Ok(event), "{line:?} is read");
+    assert!(rt; event_has_line(event), "{line:?}");
+    let mut out = Vec::new(rt.alloc());
+    assert!(rt; put_event(&mut out, event).is_ok(), "{line:?} is written");
+    assert_eq!(rt; out.as_slice(), line);
+    Ok(())
+}
+
 #[test]
 fn events_are_read_and_written(rt: HostRuntime) -> Result<(), Fail> {
-    for (line, event) in EVENTS {
-        assert_eq!(rt; read_event(line), Ok(event), "{line:?}");
-        assert!(rt; event_has_line(event), "{event:?}");
-        let mut out = Vec::from_slice(rt.alloc(), b"\n")?;
-        assert_eq!(rt; put_event(&mut out, event), Ok(()), "{event:?}");
-        assert_eq!(rt;
-            out.as_slice().split_at(1.min(out.len())).1,
-            line,
-            "{event:?}"
-        );
+    for (line, event) in &EVENTS {
+        check_event(&rt, line, *event)?;
     }
+    Ok(())
+}
+
+// The same of an entry.
+fn check_entry(rt: &(impl AllocGlobal + Abort), line: &[u8], entry: Entry) -> Result<(), Fail> {
+    assert!(rt; read_entry(line) == Some(entry), "{line:?} is read");
+    assert!(rt; entry_has_line(entry), "{line:?}");
+    let mut out = Vec::new(rt.alloc());
+    assert!(rt; put_entry(&mut out, entry).is_ok(), "{line:?} is written");
+    assert_eq!(rt; out.as_slice(), line);
     Ok(())
 }
 
 #[test]
 fn replies_are_read_and_written(rt: HostRuntime) -> Result<(), Fail> {
-    for (text, reply) in REPLIES {
+    for (text, reply) in &REPLIES {
         let entry = Entry {
             event: Event::Tick,
-            reply,
+            reply: *reply,
         };
         let mut line = Vec::from_slice(rt.alloc(), b"tick = ")?;
         line.extend_from_slice(text)?;
-        assert_eq!(rt; read_entry(&line), Some(entry), "{text:?}");
-        assert!(rt; entry_has_line(entry), "{reply:?}");
-        let mut out = Vec::new(rt.alloc());
-        assert_eq!(rt; put_entry(&mut out, entry), Ok(()), "{reply:?}");
-        assert_eq!(rt; out.as_slice(), line.as_slice(), "{reply:?}");
+        check_entry(&rt, &line, entry)?;
     }
     Ok(())
 }
 
 #[test]
 fn journal_lines_tell_of_tenants(rt: HostRuntime) -> Result<(), Fail> {
-    let rows: [(&[u8], Event, Reply); 3] = [
-        (
-            b"revise s2 j0 5 = ok",
-            Event::Revise {
-                session: SessionId(2),
-                job: JobId(0),
-                relative: 5,
-            },
-            Reply::Done(Done::Plain),
-        ),
-        (
-            b"accept s1 200-0000000000 = refused tenant-never-fits",
-            Event::Accept {
-                session: S,
-                request: R,
-            },
-            Reply::Refused(Refusal::TenantNeverFits),
-        ),
-        (
-            b"create s1 200-0000000000 = refused tenant-short 1 0 8",
-            Event::Create {
-                session: S,
-                request: R,
-            },
-            Reply::Refused(Refusal::TenantShort {
-                instances: 1,
-                cores: 0,
-                ram: 8,
-            }),
-        ),
-    ];
-    for (line, event, reply) in rows {
-        let entry = Entry { event, reply };
-        assert_eq!(rt; read_entry(line), Some(entry), "{line:?}");
-        assert!(rt; entry_has_line(entry), "{entry:?}");
-        let mut out = Vec::new(rt.alloc());
-        assert_eq!(rt; put_entry(&mut out, entry), Ok(()), "{entry:?}");
-        assert_eq!(rt; out.as_slice(), line, "{entry:?}");
-    }
-    Ok(())
+    let revise = Entry {
+        event: Event::Revise {
+            session: SessionId(2),
+            job: JobId(0),
+            relative: 5,
+        },
+        reply: Reply::Done(Done::Plain),
+    };
+    check_entry(&rt, b"revise s2 j0 5 = ok", revise)?;
+    let accept = Entry {
+        event: Event::Accept {
+            session: S,
+            request: R,
+        },
+        reply: Reply::Refused(Refusal::TenantNeverFits),
+    };
+    let never = b"accept s1 200-0000000000 = refused tenant-never-fits";
+    check_entry(&rt, never, accept)?;
+    let create = Entry {
+        event: Event::Create {
+            session: S,
+            request: R,
+        },
+        reply: Reply::Refused(Refusal::TenantShort {
+            instances: 1,
+            cores: 0,
+            ram: 8,
+        }),
+    };
+    let short = b"create s1 200-0000000000 = refused tenant-short 1 0 8";
+    check_entry(&rt, short, create)
 }
 
 #[test]
@@ -553,8 +553,8 @@ fn the_first_fault_is_named(rt: HostRuntime) {
         (b"end-node x n0 foo", BadArgument { word: 2 }),
         (b"end-node s1 n0 foo", BadArgument { word: 4 }),
     ];
-    for (line, fault) in ROWS {
-        assert_eq!(rt; read_event(line), Err(fault), "{line:?}");
+    for (line, fault) in &ROWS {
+        assert!(rt; read_event(line) == Err(*fault), "{line:?}");
     }
 }
 
@@ -577,7 +577,7 @@ fn other_lines_are_no_entries(rt: HostRuntime) {
         b"tick = refused tenant-never-fits 1",
     ];
     for line in ROWS {
-        assert_eq!(rt; read_entry(line), None, "{line:?}");
+        assert!(rt; read_entry(line).is_none(), "{line:?}");
     }
 }
 
@@ -626,11 +626,8 @@ fn a_failed_node_looks_like_a_failed_request(rt: HostRuntime) -> Result<(), Fail
     };
     let mut out = Vec::new(rt.alloc());
     assert!(rt; entry_has_line(node));
-    assert_eq!(rt; put_entry(&mut out, node), Ok(()));
-    assert_eq!(rt;
-        out.as_slice(),
-        b"start s1 n0 = refused wrong-state failed".as_slice()
-    );
-    assert_eq!(rt; read_entry(&out), Some(request));
+    assert!(rt; put_entry(&mut out, node).is_ok());
+    assert!(rt; out.as_slice() == b"start s1 n0 = refused wrong-state failed".as_slice());
+    assert!(rt; read_entry(&out) == Some(request));
     Ok(())
 }
