@@ -6,6 +6,11 @@ pub mod OfNodes
 pub mod OfRequests
 pub mod Overs
 pub mod OfJobs
+pub mod Firsts
+pub mod JobNodes
+pub mod Unused
+pub mod OfOwners
+pub mod ByNode
 pub mod Made
 pub mod Copied
 pub mod Begun

@@ -17,6 +17,7 @@ module _ (c : Configuration) (s : State) (index : IndexParts) (is : IsIndexOf c 
       many = omega (arith, is.requests.many, simp length-append at (ap length added));
     };
     nodes = is.nodes;
+    owners = is.owners;
   }
 
   pub nodes-more : (lists : List (List NodeId)) (list : List NodeId) → lists ≡ index.nodes ++ list ∷ [] → list ≡ [] → IsIndexOf c s (record index { nodes = lists })
@@ -27,4 +28,5 @@ module _ (c : Configuration) (s : State) (index : IndexParts) (is : IsIndexOf c 
       each = λ x. ap (list_at x.0) added ∙ list_at-push x.0 index.nodes ∙ is.nodes.each x;
       many = omega (arith, is.nodes.many, simp length-append at (ap length added));
     };
+    owners = is.owners;
   }

@@ -40,9 +40,11 @@ use Rattle.np_index.specs.Waits.{by, joins_request, joins_node, leaves_request, 
 use Rattle.np_index.proofs.Begun.{begun-within}
 use Rattle.np_index.proofs.OfJobs.{unfinished-changed}
 use Rattle.np_index.proofs.OfNodes.{nodes-grown, nodes-changed, nodes-left}
+use Rattle.np_index.proofs.OfOwners.{owners-changed}
 use Rattle.np_index.proofs.OfRequests.{leaves, requests-grown, requests-changed, requests-left}
 use Rattle.np_index.proofs.Places.{list_joined, list_left, list_removed, list_ended, at-joined, at-left, at-without, at-ended, length-joined, length-left, length-removed, length-ended}
 use Rattle.np_index.proofs.Rows.{waiting, rows-absent}
+use Rattle.np_index.proofs.Unused.{AreUnused, unused-reached}
 
 -- ## sessions
 
@@ -196,9 +198,9 @@ module _ (c : Configuration) (s : State) (ch : Changes) (old : Invariant c s) (g
 
 -- ## all parts
 
-pub index-changed : (c : Configuration) (s : State) (ch : Changes) (index : IndexParts) → Invariant c s → Premises c s ch → IsIndexOf c s index → HasRoom s index
+pub index-changed : (c : Configuration) (s : State) (ch : Changes) (index : IndexParts) → Invariant c s → AreUnused s → Premises c s ch → IsIndexOf c s index → HasRoom s index
     → IsIndexOf c (changed c ch s) (index_settled c ch (holder_at (removed_request ch.requests) s) (queue_at (removed_node ch.nodes) s) (index_grown ch s.next_node index))
-index-changed c s ch index old given is room = record {
+index-changed c s ch index old unused given is room = record {
   unfinished = unfinished-changed c s ch index.unfinished given.jobs is.unfinished;
   requests = record {
     each = λ x. request-list c s ch old given x index.requests (is.requests.each x) is.requests.many;
@@ -215,6 +217,7 @@ index-changed c s ch index old given is room = record {
         let queue = queue_at (removed_node ch.nodes) s in
         omega (arith, session-more c s ch, room.nodes, length-ended (ending ch.sessions) (lists_removed same_node (removed_node ch.nodes) queue fewer), length-removed same_node (removed_node ch.nodes) queue fewer, length-left same_node (leaves_node ch.maker ch.nodes) more, length-joined is_node_before same_node (joins_node ch.maker ch.grows s.next_node) index.nodes);
   };
+  owners = owners-changed c s ch old unused given index.owners is.owners;
 }
 
 -- as a keeper changes: what was read of the state before, and what was made of the index
@@ -224,5 +227,5 @@ pub index-after : (c site conf : Configuration) (s t : State) (ch : Changes) (ne
     → grown ≡ index_grown ch next room → settled ≡ index_settled conf ch holder queue grown → conf ≡ site → site ≡ c → t ≡ changed c ch s → IsIndexOf site t settled
 index-after c site conf s t ch next holder queue room grown settled reached planned is has_room next_is holder_is queue_is grown_is settled_is conf_is site_is t_is =
     rw (settled_is, grown_is, next_is, holder_is, queue_is, conf_is, site_is, t_is)
-    (index-changed c s ch room (invariant-Runs c reached.journal s reached.runs)
+    (index-changed c s ch room (invariant-Runs c reached.journal s reached.runs) (unused-reached c s reached)
     (subst (Premises c s) (sym planned.plan) (premises c s planned.event planned.accepted)) is has_room)

@@ -1,17 +1,20 @@
 -- what an event's changes make of the parts of an index
-use Rattle.std.specs.Prelude.{ℕ, Bool, if◌then◌else◌, List, [], ◌∷◌, Option, slice_get, option_and_then}
+use Rattle.std.specs.Prelude.{ℕ, ◌-◌, Bool, if◌then◌else◌, List, [], ◌∷◌, ◌++◌, Option, Some, None, length, take, slice_get, slice_set, option_and_then}
 use Rattle.std.specs.Option.{option_map_or}
 use Rattle.np_text.specs.declared.id.JobId.{JobId}
 use Rattle.np_text.specs.declared.id.NodeId.{NodeId}
 use Rattle.np_text.specs.declared.id.RequestId.{RequestId}
 use Rattle.np_text.specs.declared.id.SessionId.{SessionId}
 use Rattle.np_site.specs.Configuration.{Configuration}
+use Rattle.np_record.specs.declared.record.Marked.{Marked}
 use Rattle.np_lists.specs.Change.{change_at}
-use Rattle.np_machine.specs.Kinds.{is_over}
+use Rattle.np_machine.specs.Kinds.{is_over, is_using}
 use Rattle.np_machine.specs.Order.{is_id_before}
 use Rattle.np_machine.specs.State.{State}
 use Rattle.np_machine.specs.Tables.{same_request, request_holder, node_queue}
 use Rattle.np_changes.specs.declared.changes.Changes.{Changes}
+use Rattle.np_changes.specs.declared.changes.Growth.{Growth}
+use Rattle.np_changes.specs.declared.changes.Growth.TheVariants as grow
 use Rattle.np_changes.specs.declared.changes.JobsChange.{JobsChange}
 use Rattle.np_changes.specs.declared.changes.JobsChange.TheVariants as jobs
 use Rattle.np_keys.specs.Keys.{is_node_before, same_node, same_job}
@@ -67,6 +70,29 @@ unfinished_changed c (jobs.Put j kept) lists =
     else lists
 unfinished_changed c (jobs.EndNode j n) lists = lists
 
+-- ## the owners of nodes
+
+-- a new node has a place at the end, and no owner
+abbrev pub owners_grown : Growth → List (Option JobId) → List (Option JobId)
+owners_grown (grow.Node kept) owners = owners ++ None ∷ []
+owners_grown growth owners = owners
+
+-- its place leaves the end again
+abbrev pub owners_taken_back : Growth → List (Option JobId) → List (Option JobId)
+owners_taken_back (grow.Node kept) owners = take (length owners - 1) owners
+owners_taken_back growth owners = owners
+
+-- at the place of each of the nodes is the job
+abbrev pub owners_with : JobId → List Marked → List (Option JobId) → List (Option JobId)
+owners_with j [] owners = owners
+owners_with j (m ∷ nodes) owners = owners_with j nodes (slice_set owners m.node.0 (Some j))
+
+-- a job that is using its nodes is their owner: only by taking them over does a job get nodes
+abbrev pub owners_changed : JobsChange → List (Option JobId) → List (Option JobId)
+owners_changed jobs.Same owners = owners
+owners_changed (jobs.Put j kept) owners = if is_using kept.phase then owners_with j kept.nodes owners else owners
+owners_changed (jobs.EndNode j n) owners = owners
+
 -- ## all parts
 
 -- with what grows; a new node has this number
@@ -74,6 +100,7 @@ abbrev pub index_grown : Changes → ℕ → IndexParts → IndexParts
 index_grown ch next index = record index {
   requests = lists_joined is_id_before same_request (joins_request ch.maker ch.grows) index.requests;
   nodes = lists_joined is_node_before same_node (joins_node ch.maker ch.grows next) index.nodes;
+  owners = owners_grown ch.grows index.owners;
 }
 
 -- without what was added
@@ -81,6 +108,7 @@ abbrev pub index_taken_back : Changes → ℕ → Added → IndexParts → Index
 index_taken_back ch next added index = record index {
   requests = lists_taken_back same_request (joins_request ch.maker ch.grows) added.request index.requests;
   nodes = lists_taken_back same_node (joins_node ch.maker ch.grows next) added.node index.nodes;
+  owners = owners_taken_back ch.grows index.owners;
 }
 
 -- with the rest of the changes: a request that goes has this holder, a node that goes this queue
@@ -89,4 +117,5 @@ index_settled c ch holder queue index = record {
   unfinished = unfinished_changed c ch.jobs index.unfinished;
   requests = lists_ended (ending ch.sessions) (lists_left same_request (leaves_request ch.maker ch.requests holder) index.requests);
   nodes = lists_ended (ending ch.sessions) (lists_removed same_node (removed_node ch.nodes) queue (lists_left same_node (leaves_node ch.maker ch.nodes) index.nodes));
+  owners = owners_changed ch.jobs index.owners;
 }

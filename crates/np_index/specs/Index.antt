@@ -1,5 +1,5 @@
 -- what an index has, and when it is the index of a state
-use Rattle.std.specs.Prelude.{◌≡◌, ◌<◌, ◌+◌, List, length}
+use Rattle.std.specs.Prelude.{◌≡◌, ◌<◌, ◌+◌, ℕ, List, Option, None, length, slice_get, unwrap_or}
 use Rattle.np_text.specs.declared.id.JobId.{JobId}
 use Rattle.np_text.specs.declared.id.NodeId.{NodeId}
 use Rattle.np_text.specs.declared.id.RequestId.{RequestId}
@@ -7,6 +7,7 @@ use Rattle.np_text.specs.declared.id.RequesterId.{RequesterId}
 use Rattle.np_text.specs.declared.id.SessionId.{SessionId}
 use Rattle.np_site.specs.Configuration.{Configuration}
 use Rattle.np_machine.specs.State.{State}
+use Rattle.np_changes.specs.Readers.{owner_of}
 use Rattle.np_look.specs.Readers.{unfinished_from, queued_requests, queued_nodes}
 use Rattle.np_index.specs.Lists.{list_at}
 
@@ -18,6 +19,8 @@ pub record IndexParts : Type 0 where
   pub requests : List (List RequestId)
   -- for each session, by its number, the nodes in whose queues it is
   pub nodes : List (List NodeId)
+  -- for each node, by its number, the job that has it
+  pub owners : List (Option JobId)
 
 -- the list of each requester has its jobs that are not over, in job order
 pub record AreUnfinished (c : Configuration) (s : State) (lists : List (List JobId)) : Type 0 where
@@ -34,11 +37,22 @@ pub record AreNodesOf (s : State) (lists : List (List NodeId)) : Type 0 where
   pub each : (session : SessionId) → list_at session.0 lists ≡ queued_nodes session s
   pub many : length s.sessions < length lists
 
+-- the job at the place; there is none past the end
+abbrev pub owner_at : ℕ → List (Option JobId) → Option JobId
+owner_at at owners = unwrap_or (slice_get owners at) None
+
+-- at the number of each node is the job that has it; there is a place for each number that a node
+-- was given, and those begin at 0
+pub record AreOwners (s : State) (owners : List (Option JobId)) : Type 0 where
+  pub each : (n : NodeId) → owner_at n.0 owners ≡ owner_of n s.jobs
+  pub many : length owners ≡ s.next_node
+
 -- each part says what the state says
 pub record IsIndexOf (c : Configuration) (s : State) (index : IndexParts) : Type 0 where
   pub unfinished : AreUnfinished c s index.unfinished
   pub requests : AreRequestsOf s index.requests
   pub nodes : AreNodesOf s index.nodes
+  pub owners : AreOwners s index.owners
 
 -- there is room for one more session
 pub record HasRoom (s : State) (index : IndexParts) : Type 0 where

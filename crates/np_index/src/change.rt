@@ -4,6 +4,7 @@ ghost use Rattle.std.specs.Prelude.{◌≡◌, IfOk, OnErr, OnOk};
 ghost use Rattle.np_index.specs.Changed.{index_grown, index_settled, index_taken_back};
 
 use crate::index::Index;
+use crate::owners::{grow_owners, settle_owners, take_back_owner};
 use crate::queues::{end, join, leave, remove, take_back};
 use crate::unfinished::settle_unfinished;
 use crate::waits::{ending, joins_node, joins_request, leaves_node, leaves_request, removed_node};
@@ -31,13 +32,19 @@ impl Index {
         let joins = joins_request(changes.maker, &changes.grows);
         let request = join(&mut self.requests, joins)?;
         let wait = joins_node(changes.maker, &changes.grows, next_node);
-        match join(&mut self.nodes, wait) {
-            Ok(node) => Ok(Added { request, node }),
+        let node = match join(&mut self.nodes, wait) {
+            Ok(node) => node,
             Err(fault) => {
                 take_back(&mut self.requests, joins, request);
-                Err(fault)
+                return Err(fault);
             }
+        };
+        if let Err(fault) = grow_owners(&mut self.owners, &changes.grows) {
+            take_back(&mut self.nodes, wait, node);
+            take_back(&mut self.requests, joins, request);
+            return Err(fault);
         }
+        Ok(Added { request, node })
     }
 
     /// Takes out again what was added, since the state could not change.
@@ -48,6 +55,7 @@ impl Index {
         take_back(&mut self.requests, joins, added.request);
         let wait = joins_node(changes.maker, &changes.grows, next_node);
         take_back(&mut self.nodes, wait, added.node);
+        take_back_owner(&mut self.owners, &changes.grows);
     }
 
     /// Makes the rest of the changes, after the state has changed. A request that went had this
@@ -70,5 +78,6 @@ impl Index {
         let session = ending(&changes.sessions);
         end(self.alloc, &mut self.requests, session);
         end(self.alloc, &mut self.nodes, session);
+        settle_owners(&mut self.owners, &changes.jobs);
     }
 }

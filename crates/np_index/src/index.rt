@@ -3,12 +3,14 @@
 ghost use Rattle.std.specs.Prelude.{◌≡◌, IfOk, OnOk, length};
 ghost use Rattle.np_machine.specs.State.{State};
 ghost use Rattle.np_changes.specs.Planned.{IsReached};
+ghost use Rattle.np_changes.specs.Readers.{owner_of};
 ghost use Rattle.np_fits.specs.Fits.{Fits};
 ghost use Rattle.np_site.specs.Configuration.{Configuration};
 ghost use Rattle.np_look.specs.Readers.{queued_nodes, queued_requests, unfinished_of};
 ghost use Rattle.np_index.specs.Index.{AreNodesOf, AreRequestsOf, HasRoom, IsIndexOf};
 
 use crate::lists::list_of;
+use crate::owners::list_owners;
 use crate::unfinished::list_unfinished;
 use np_keys::{ByNode, ByRequest, JobTable};
 use np_look::Look;
@@ -24,6 +26,7 @@ pub struct Index {
     pub(crate) unfinished: Vec<JobTable>,
     pub(crate) requests: Vec<KeyTable<ByRequest>>,
     pub(crate) nodes: Vec<KeyTable<ByNode>>,
+    pub(crate) owners: Vec<Option<JobId>>,
 }
 
 impl Model for Index {
@@ -35,6 +38,7 @@ impl Model for Index {
       unfinished = index.unfinished.items;
       requests = index.requests.items;
       nodes = index.nodes.items;
+      owners = index.owners.items;
     } };
 }
 
@@ -104,7 +108,9 @@ fn nodes_by_session<L: Look>(alloc: Global, look: &L) -> Result<Vec<KeyTable<ByN
 }
 
 impl Index {
-    /// The index of the state. It reads each job once, and for each session what it queues for.
+    /// The index of the state. It reads each job once, and asks the keeper for what each session
+    /// queues for and for the owner of each node that was made. A keeper that scans reads all queues
+    /// for each answer of the first kind, and all jobs for each node.
     pub fn rebuild<L: Look>(alloc: Global, look: &L) -> Result<Index, NoMemory>
         requires reached { IsReached (L.site look.now) (L.state look.now) }
         requires fits { Fits (L.site look.now) (L.state look.now) }
@@ -113,11 +119,13 @@ impl Index {
         let unfinished = list_unfinished(alloc, look)?;
         let requests = requests_by_session(alloc, look)?;
         let nodes = nodes_by_session(alloc, look)?;
+        let owners = list_owners(alloc, look)?;
         Ok(Index {
             alloc,
             unfinished,
             requests,
             nodes,
+            owners,
         })
     }
 
@@ -169,5 +177,13 @@ impl Index {
             → result.now ≡ queued_nodes session s }
     {
         list_of(&self.nodes, session.0 as usize)
+    }
+
+    /// The job that has the node. It costs one lookup.
+    pub fn owner(&self, node: NodeId) -> Option<JobId>
+        ensures { (c : Configuration) (s : State) → IsIndexOf c s self.now
+            → result ≡ owner_of node s.jobs }
+    {
+        *self.owners.get(node.0 as usize)?
     }
 }

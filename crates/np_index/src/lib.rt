@@ -8,6 +8,7 @@
 //! | `unfinished`, for each requester its jobs that are not over | `unfinished` |
 //! | `requests`, for each session the requests in whose queues it is | `queued_requests`, `queued_request_at` |
 //! | `nodes`, for each session the nodes in whose queues it is | `queued_nodes`, `queued_node_at` |
+//! | `owners`, for each node the job that has it | `owner` |
 //!
 //! `Indexed` joins an index to anything that keeps a state. It answers these readers from the index
 //! and the others from the keeper, and makes each change in both: first what may take memory, in the
@@ -18,6 +19,7 @@ mod change;
 mod index;
 mod indexed;
 mod lists;
+mod owners;
 mod queues;
 mod unfinished;
 mod waits;

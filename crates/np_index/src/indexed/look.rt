@@ -229,7 +229,7 @@ impl<K: StateKeeper + Drop> Look for Indexed<K> {
     }
 
     fn owner(&self, node: NodeId) -> Option<JobId> {
-        self.keeper.owner(node)
+        self.index.owner(node)
     }
 
     fn has_live_session(&self, requester: RequesterId) -> bool {
