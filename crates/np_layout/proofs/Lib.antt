@@ -5,3 +5,8 @@ pub mod FirstBlocks
 pub mod FirstDirectories
 pub mod FirstLists
 pub mod FirstTrees
+pub mod Elsewhere
+pub mod SetLists
+pub mod SetSteps
+pub mod SetTicks
+pub mod SetJobs

@@ -3,3 +3,4 @@ pub mod Layout
 pub mod First
 pub mod Worked
 pub mod Laws
+pub mod Sets

@@ -2,6 +2,7 @@
 
 ghost use Rattle.np_layout.specs.Laws.{FirstCallsAreAccepted, FirstTreesLayOut};
 ghost use Rattle.np_layout.specs.Layout.{LaysOut};
+ghost use Rattle.np_layout.specs.Sets.{JobChangesLayOut, JobsLayOut, TicksLayOut};
 ghost use Rattle.np_layout.specs.Worked.{another_holder, another_tick, lock_of_no_request, node_below_a_pair, queued_tree, worked, worked_tree};
 
 /// The first tree of each sound site lays out the state before the first event, and the one call
@@ -24,4 +25,15 @@ pub fn other_trees_do_not()
     ensures ended { LaysOut worked queued_tree → ⊥ }
     ensures lock { LaysOut worked lock_of_no_request → ⊥ }
     ensures below { LaysOut worked node_below_a_pair → ⊥ }
+{}
+
+/// A set of the tick lays out the state with that tick.
+pub fn sets_of_the_tick_lay_out()
+    ensures { TicksLayOut }
+{}
+
+/// A set of a job's record lays out the state with that record, and no other row changes.
+pub fn sets_of_jobs_lay_out()
+    ensures put { JobsLayOut }
+    ensures change { JobChangesLayOut }
 {}

@@ -1,0 +1,112 @@
+-- one set of the bytes of a good place
+use Rattle.std.proofs.Common.{◌≡◌, ℕ, ◌+◌, ◌≤◌, Bool, true, false, List, [], length, map, Some, Result, Ok, Err, refl, sym, ap, ◌∙◌, subst}
+use Rattle.std.specs.Prelude.{IsOk}
+use Rattle.std.specs.List.{AllByRecursion, list_any}
+use Rattle.std.specs.Option.{option_map}
+use Rattle.std.specs.Str.{bytes_eq}
+use Rattle.np_lists.specs.Change.{change_first}
+use Rattle.np_lists.specs.Refusals.{◌>>=◌}
+use Rattle.np_lists.proofs.Each.{all-mapped}
+use Rattle.np_lists.proofs.FoundLemmas.{found-change_first}
+use Rattle.np_path.specs.Parts.{below, name_of, parent_of}
+use Rattle.np_session.specs.Known.{is_in}
+use Rattle.np_nodes.specs.TreeState.{TreeState}
+use Rattle.np_nodes.specs.After.{after_part, next_change, with_bytes}
+use Rattle.np_nodes.specs.Answer.{part_answer, set_answer}
+use Rattle.np_nodes.specs.Nodes.{at_path, is_at}
+use Rattle.np_nodes.specs.declared.kind.Expect.TheVariants.{Any}
+use Rattle.np_nodes.specs.declared.node.Node.{Node}
+use Rattle.np_nodes.specs.declared.op.OpDone.TheVariants as done
+use Rattle.np_nodes.specs.declared.refusal.TreeRefusal.{TreeRefusal}
+use Rattle.np_nodes.proofs.PlaceLemmas.{bytes_eq-from, bytes_eq-is, bytes_eq-not}
+use Rattle.np_tree.specs.Whole.{IsWhole}
+use Rattle.np_views.specs.Several.{HasRoomFor}
+use Rattle.np_views.specs.Views.{Row, find_named, is_named, row_with, rows_at, seen_at, seen_in}
+use Rattle.np_views.proofs.GoesLemmas.{seen-node, sets-go}
+use Rattle.np_views.proofs.RelationLemmas.{rows-rise, seen-is-row}
+use Rattle.np_views.proofs.RoomLemmas.{room-gives}
+use Rattle.np_views.proofs.RowLemmas.{rows-changed, rows-changed_other}
+use Rattle.np_places.specs.Place.{IsGood, above, path_of, place_name}
+use Rattle.np_places.specs.declared.place.Place.{Place}
+use Rattle.np_places.proofs.AboveLemmas.{IsGood-above, is_path-of, parts-of}
+use Rattle.np_places.proofs.ChildLemmas.{same_names}
+use Rattle.np_layout.specs.Layout.{HasLeaves, under}
+use Rattle.np_layout.specs.Sets.{set}
+use Rattle.np_layout.proofs.Elsewhere.{Stays, beside-apart}
+use Rattle.np_layout.proofs.SetLists.{any-found, put-first, put-name, put_bytes}
+
+-- ## names
+
+-- siblings have different names
+pub named-other : (p q : Place) → IsGood p → IsGood q → above q ≡ above p → (q ≡ p → ⊥) → bytes_eq (place_name q) (place_name p) ≡ false
+named-other p q p_good q_good over apart = bytes_eq-not (place_name q) (place_name p) (λ same. apart (same_names q p q_good p_good over same))
+
+-- a place has its name
+pub named-here : (p : Place) → bytes_eq (place_name p) (place_name p) ≡ true
+named-here p = bytes_eq-from (place_name p) (place_name p) refl
+
+-- ## what is set
+
+-- in one directory the row of a name has other bytes, and everything else is as it was
+pub record SetsRow (dir p : Place) (bytes : List ℕ) (t u : TreeState) : Type 0 where
+  pub stays : Stays dir t u
+  pub first : under dir u ≡ change_first (is_named (place_name p)) (row_with bytes) (under dir t)
+  pub each : under dir u ≡ map (put_bytes (place_name p) bytes) (under dir t)
+  pub leaves : HasLeaves dir t → HasLeaves dir u
+
+-- no rows stay no rows
+empty-by : (dir path : List ℕ) (t u : TreeState) (change : List Row → List Row) (b : Bool) → bytes_eq path dir ≡ b → change [] ≡ [] → rows_at u dir ≡ change (rows_at t dir) → ((path ≡ dir → ⊥) → rows_at u path ≡ rows_at t path) → rows_at t path ≡ [] → rows_at u path ≡ []
+empty-by dir path t u change true is none here others empty =
+    let same = bytes_eq-is path dir is in
+    ap (rows_at u) same ∙ here ∙ ap (λ (d : List ℕ). change (rows_at t d)) (sym same) ∙ ap change empty ∙ none
+empty-by dir path t u change false is none here others empty = others (λ same. let both = bytes_eq-from path dir same in absurd cc) ∙ empty
+
+-- a set of the bytes of a good place does that
+pub sets-row : (t : TreeState) (w : ℕ) (dir p : Place) (bytes : List ℕ) → IsGood p → above p ≡ Some dir → IsWhole t.nodes → SetsRow dir p bytes t (after_part t w (set bytes p))
+sets-row t w dir p bytes good over whole =
+    let u : TreeState = after_part t w (set bytes p) in
+    let f : Node → Node = with_bytes (next_change t) bytes in
+    let name : List ℕ = place_name p in
+    let parent : parent_of (path_of p) ≡ Some (path_of dir) = (parts-of p good).0 ∙ ap (option_map path_of) over in
+    let dir_good = IsGood-above p dir good over in
+    let others : (other : List ℕ) → (other ≡ path_of dir → ⊥) → rows_at u other ≡ rows_at t other = λ other apart. rows-changed_other other (path_of dir) (path_of p) apart parent f (λ _. refl) t.nodes in
+    let first : under dir u ≡ change_first (is_named name) (row_with bytes) (under dir t) =
+    rows-changed (path_of dir) (path_of p) (is_path-of p good) parent f (row_with bytes) (λ _. refl) (λ _. refl) t.nodes whole.paths
+    ∙ ap (λ (last : List ℕ). change_first (is_named last) (row_with bytes) (under dir t)) (parts-of p good).1 in
+    let empty : (path : List ℕ) → rows_at t path ≡ [] → rows_at u path ≡ [] =
+    λ path. empty-by (path_of dir) path t u (change_first (is_named name) (row_with bytes)) (bytes_eq path (path_of dir)) refl refl first (others path) in
+    let each : under dir u ≡ map (put_bytes name bytes) (under dir t) = first ∙ put-first name bytes (under dir t) (rows-rise t (path_of dir) whole) in
+    record {
+      stays = record {
+        live = refl;
+        begun = refl;
+        rows = λ other other_good beside. others (path_of other) (beside-apart other dir other_good dir_good beside);
+        empty = empty;
+        counters = λ other. found-change_first (option_map (λ (n : Node). n.facts.counter)) (is_at (path_of p)) (is_at other) f (λ _. refl) (λ _. refl) t.nodes;
+      };
+      first = first;
+      each = each;
+      leaves = λ leaves. subst (λ (rows : List Row). AllByRecursion (λ row. rows_at u (below (path_of dir) row.name) ≡ []) rows) (sym each)
+          (all-mapped (λ (row : Row). rows_at t (below (path_of dir) row.name) ≡ []) (λ (row : Row). rows_at u (below (path_of dir) row.name) ≡ []) (put_bytes name bytes) (under dir t)
+          (λ row none. ap (λ (n : List ℕ). rows_at u (below (path_of dir) n)) (put-name name bytes row) ∙ empty (below (path_of dir) row.name) none) leaves);
+    }
+
+-- ## what is accepted
+
+ok-set : (r : Result ℕ TreeRefusal) (version : ℕ) → r ≡ Ok version → IsOk (r >>= λ version. Ok (done.Set version))
+ok-set (Ok v) version is = refl
+ok-set (Err refusal) version is = absurd cc
+
+-- the set of a good place whose row is there
+pub set-goes : (t : TreeState) (dir p : Place) (bytes : List ℕ) → IsGood p → above p ≡ Some dir → IsWhole t.nodes → list_any (is_named (place_name p)) (under dir t) ≡ true →
+    (w : ℕ) → is_in t.live w ≡ true → length bytes ≤ 65_536 → HasRoomFor 1 t → IsOk (part_answer t w (set bytes p))
+set-goes t dir p bytes good over whole any w live short room =
+    let parent : parent_of (path_of p) ≡ Some (path_of dir) = (parts-of p good).0 ∙ ap (option_map path_of) over in
+    let row = any-found (is_named (place_name p)) (under dir t) any in
+    let found : find_named (name_of (path_of p)) (under dir t) ≡ Some row.0 = ap (λ (name : List ℕ). find_named name (under dir t)) (parts-of p good).1 ∙ row.1 in
+    let seen : seen_at t (path_of p) ≡ Some (seen_in row.0) = seen-is-row t (path_of p) (path_of dir) whole (is_path-of p good) parent ∙ ap (option_map seen_in) found in
+    let node = seen-node (at_path t.nodes (path_of p)) (seen_in row.0) seen in
+    let version = ap (option_map (λ (n : Node). n.facts.version)) node.1 in
+    let has = room-gives t 0 room in
+    ok-set (set_answer t w (path_of p) bytes Any) (node.0.facts.version + 1)
+    (sets-go t w (path_of p) bytes node.0.facts.version live version short has.change (has.version (path_of p) node.0.facts.version version))

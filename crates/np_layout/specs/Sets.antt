@@ -1,0 +1,61 @@
+-- what one set of a node's bytes does: if a tree lays a state out, the set of the record of a place to
+-- another record's text lays out the state with that record, and the set is accepted
+use Rattle.std.specs.Prelude.{◌≡◌, ◌<◌, ◌≤◌, ◌^◌, ℕ, true, List, length, slice_get, Some, IsOk}
+use Rattle.std.specs.Fmt.{decimal}
+use Rattle.std.specs.List.{AllByRecursion}
+use Rattle.np_text.specs.declared.id.JobId.{JobId}
+use Rattle.np_lists.specs.Change.{change_at}
+use Rattle.np_session.specs.Known.{is_in}
+use Rattle.np_nodes.specs.TreeState.{TreeState}
+use Rattle.np_nodes.specs.Answer.{part_answer}
+use Rattle.np_nodes.specs.After.{after_part}
+use Rattle.np_nodes.specs.declared.kind.Expect.TheVariants.{Any}
+use Rattle.np_nodes.specs.declared.op.Op.{Op}
+use Rattle.np_nodes.specs.declared.op.Op.TheVariants as op
+use Rattle.np_tree.specs.Whole.{IsWhole}
+use Rattle.np_views.specs.Several.{HasRoomFor}
+use Rattle.np_record.specs.declared.record.JobRecord.{JobRecord}
+use Rattle.np_spelling.specs.Spelling.{job_text}
+use Rattle.np_machine.specs.State.{State}
+use Rattle.np_machine.specs.Tables.{put_job}
+use Rattle.np_places.specs.Place.{IsGood, path_of}
+use Rattle.np_places.specs.declared.place.Place.{Place}
+use Rattle.np_places.specs.declared.place.Place.TheVariants.{Request, Node, Job, Tick}
+use Rattle.np_layout.specs.Layout.{LaysOut}
+
+-- each record and each lock of the state has a place whose ids have a text
+pub record HasGoodIds (s : State) : Type 0 where
+  pub sessions : length s.sessions < 2 ^ 32
+  pub requests : AllByRecursion (λ e. IsGood (Request e.id)) s.requests
+  pub nodes : AllByRecursion (λ e. IsGood (Node e.id)) s.nodes
+  pub semaphores : length s.handles ≤ 2 ^ 16
+  pub jobs : length s.jobs ≤ 2 ^ 32
+  pub launchers : length s.launchers ≤ 2 ^ 16
+  pub janitors : length s.janitors ≤ 2 ^ 16
+  pub requesters : length s.requesters ≤ 2 ^ 16
+
+-- the bytes of a place are set, whatever its version
+abbrev pub set : List ℕ → Place → Op
+set bytes p = op.Set (path_of p) bytes Any
+
+-- the set lays out the state, whichever session makes it; and it is accepted if the session is live,
+-- the bytes fit a node and there is room for one part more
+pub record SetLaysOut (s : State) (t : TreeState) (p : Place) (bytes : List ℕ) : Type 0 where
+  pub lays : (w : ℕ) → LaysOut s (after_part t w (set bytes p))
+  pub goes : (w : ℕ) → is_in t.live w ≡ true → length bytes ≤ 65_536 → HasRoomFor 1 t → IsOk (part_answer t w (set bytes p))
+
+-- ## the laws
+
+-- the tick is another
+abbrev pub TicksLayOut : Type 0
+TicksLayOut = (s : State) (t : TreeState) (tick : ℕ) → IsWhole t.nodes → HasGoodIds s → LaysOut s t → SetLaysOut (record s { tick = tick }) t Tick (decimal tick)
+
+-- a job's record is another
+abbrev pub JobsLayOut : Type 0
+JobsLayOut = (s : State) (t : TreeState) (j : JobId) (old kept : JobRecord) → IsWhole t.nodes → HasGoodIds s → LaysOut s t → slice_get s.jobs j.0 ≡ Some old →
+    SetLaysOut (record s { jobs = put_job j kept s.jobs }) t (Job j) (job_text kept)
+
+-- a job's record is changed
+abbrev pub JobChangesLayOut : Type 0
+JobChangesLayOut = (s : State) (t : TreeState) (j : JobId) (change : JobRecord → JobRecord) (old : JobRecord) → IsWhole t.nodes → HasGoodIds s → LaysOut s t → slice_get s.jobs j.0 ≡ Some old →
+    SetLaysOut (record s { jobs = change_at j.0 change s.jobs }) t (Job j) (job_text (change old))
