@@ -8,5 +8,7 @@ pub mod FirstTrees
 pub mod Elsewhere
 pub mod SetLists
 pub mod SetSteps
+pub mod SetTables
 pub mod SetTicks
 pub mod SetJobs
+pub mod SetRoles

@@ -1,5 +1,5 @@
 -- a set of a job's record
-use Rattle.std.proofs.Common.{◌≡◌, ℕ, ◌<◌, Bool, false, cond, List, length, map, Some, refl, ap, ◌∙◌, subst, arith}
+use Rattle.std.proofs.Common.{◌≡◌, ℕ, ◌+◌, List, length, map, Some, refl, ap, ◌∙◌, subst, arith}
 use Rattle.std.specs.Prelude.{slice_get}
 use Rattle.std.specs.List.{list_any}
 use Rattle.np_text.specs.declared.id.JobId.{JobId}
@@ -8,7 +8,7 @@ use Rattle.np_lists.proofs.ChangeLemmas.{change_at-set}
 use Rattle.np_nodes.specs.TreeState.{TreeState}
 use Rattle.np_nodes.specs.After.{after_part}
 use Rattle.np_tree.specs.Whole.{IsWhole}
-use Rattle.np_views.specs.Views.{Row, is_named, row_with}
+use Rattle.np_views.specs.Views.{Row, is_named}
 use Rattle.np_record.specs.declared.record.JobRecord.{JobRecord}
 use Rattle.np_spelling.specs.Spelling.{job_text}
 use Rattle.np_machine.specs.State.{State}
@@ -19,32 +19,37 @@ use Rattle.np_layout.specs.Layout.{LaysOut}
 use Rattle.np_layout.specs.Rows.{by_name, job_row, rows_from}
 use Rattle.np_layout.specs.Sets.{HasGoodIds, JobChangesLayOut, JobsLayOut, SetLaysOut, set}
 use Rattle.np_layout.proofs.Elsewhere.{frame-stays, launchers-stay, live-stays, node_locks-stay, nodes-stay, request_locks-stay, requests-stay, roles-stay, semaphores-stay, sessions-stay, swept-stay}
-use Rattle.np_layout.proofs.SetLists.{any-by_name, by_name-each, put-name, put_bytes, rows_from-any, rows_from-change, within}
-use Rattle.np_layout.proofs.SetSteps.{named-here, named-other, set-goes, sets-row}
+use Rattle.np_layout.proofs.SetLists.{any-by_name, by_name-each, put-name, put_bytes, within}
+use Rattle.np_layout.proofs.SetSteps.{set-goes, sets-row}
+use Rattle.np_layout.proofs.SetTables.{IsTable, table-any, table-change, table-good}
+
+-- the place of each job, and its number
+abbrev job_at : ℕ → Place
+job_at n = Job (record { 0 = n })
+
+abbrev job_number : Place → ℕ
+job_number (Job j) = j.0
+job_number other = 0
 
 module _ (s : State) (t : TreeState) (j : JobId) (change : JobRecord → JobRecord) (old : JobRecord) (whole : IsWhole t.nodes) (good : HasGoodIds s) (lays : LaysOut s t) (there : slice_get s.jobs j.0 ≡ Some old) where
   abbrev bytes : List ℕ
   bytes = job_text (change old)
 
-  -- the job has a good place
-  job-good : IsGood (Job j)
-  job-good = let few = good.jobs in let low = within s.jobs j.0 old there in omega arith
+  -- jobs are a table
+  is-jobs : IsTable job_at job_number Jobs 0 s.jobs
+  is-jobs = record { good = λ n low. let few = good.jobs in omega arith; over = λ n. refl; numbers = λ n. refl }
 
-  -- the rows of the other jobs have other names
-  other-jobs : (n : ℕ) (kept : JobRecord) → n < length s.jobs → (n ≡ j.0 → ⊥) → is_named (place_name (Job j)) (job_row n kept) ≡ false
-  other-jobs n kept low apart =
-      let few = good.jobs in
-      named-other (Job j) (Job (record { 0 = n })) job-good (omega arith) refl (λ same. apart (ap number same)) where
-        number : Place → ℕ
-        number (Job other) = other.0
-        number other = 0
+  first : 0 + j.0 ≡ j.0
+  first = omega arith
+
+  job-good : IsGood (Job j)
+  job-good = table-good job_at job_number Jobs 0 s.jobs is-jobs job_text j.0 j.0 old first there
 
   -- the job's row alone changes
   job-rows : map (put_bytes (place_name (Job j)) bytes) (by_name (rows_from job_row 0 s.jobs)) ≡ by_name (rows_from job_row 0 (change_at j.0 change s.jobs))
   job-rows =
       by_name-each (put_bytes (place_name (Job j)) bytes) (put-name (place_name (Job j)) bytes) (rows_from job_row 0 s.jobs)
-      ∙ ap by_name (rows_from-change job_row (place_name (Job j)) bytes (length s.jobs) j.0 other-jobs change s.jobs 0 j.0 old (omega arith) (omega arith) there
-      (ap (λ (b : Bool). cond b (row_with bytes (job_row j.0 old)) (job_row j.0 old)) (named-here (Job j))))
+      ∙ ap by_name (table-change job_at job_number Jobs 0 s.jobs is-jobs job_text j.0 j.0 old first there change)
 
   job-lays : (w : ℕ) → LaysOut (record s { jobs = change_at j.0 change s.jobs }) (after_part t w (set bytes (Job j)))
   job-lays w =
@@ -72,7 +77,7 @@ module _ (s : State) (t : TreeState) (j : JobId) (change : JobRecord → JobReco
     lays = job-lays;
     goes = λ w. set-goes t Jobs (Job j) bytes job-good refl whole
         (ap (list_any (is_named (place_name (Job j)))) lays.jobs.rows ∙ any-by_name (is_named (place_name (Job j))) (rows_from job_row 0 s.jobs)
-        ∙ rows_from-any job_row (is_named (place_name (Job j))) s.jobs 0 j.0 j.0 old (omega arith) there (named-here (Job j))) w;
+        ∙ table-any job_at job_number Jobs 0 s.jobs is-jobs job_text j.0 j.0 old first there) w;
   }
 
 pub job_changes-lay-out : JobChangesLayOut

@@ -4,6 +4,7 @@ use Rattle.std.specs.Prelude.{◌≡◌, ◌<◌, ◌≤◌, ◌^◌, ℕ, true,
 use Rattle.std.specs.Fmt.{decimal}
 use Rattle.std.specs.List.{AllByRecursion}
 use Rattle.np_text.specs.declared.id.JobId.{JobId}
+use Rattle.np_text.specs.declared.id.Role.{Role}
 use Rattle.np_lists.specs.Change.{change_at}
 use Rattle.np_session.specs.Known.{is_in}
 use Rattle.np_nodes.specs.TreeState.{TreeState}
@@ -15,10 +16,12 @@ use Rattle.np_nodes.specs.declared.op.Op.TheVariants as op
 use Rattle.np_tree.specs.Whole.{IsWhole}
 use Rattle.np_views.specs.Several.{HasRoomFor}
 use Rattle.np_record.specs.declared.record.JobRecord.{JobRecord}
-use Rattle.np_spelling.specs.Spelling.{job_text}
+use Rattle.np_record.specs.declared.record.RoleRecord.{RoleRecord}
+use Rattle.np_spelling.specs.Spelling.{job_text, role_text}
 use Rattle.np_machine.specs.State.{State}
-use Rattle.np_machine.specs.Tables.{put_job}
+use Rattle.np_machine.specs.Tables.{change_role, put_job, role_in}
 use Rattle.np_places.specs.Place.{IsGood, path_of}
+use Rattle.np_places.specs.Roles.{place_of_role}
 use Rattle.np_places.specs.declared.place.Place.{Place}
 use Rattle.np_places.specs.declared.place.Place.TheVariants.{Request, Node, Job, Tick}
 use Rattle.np_layout.specs.Layout.{LaysOut}
@@ -59,3 +62,8 @@ JobsLayOut = (s : State) (t : TreeState) (j : JobId) (old kept : JobRecord) → 
 abbrev pub JobChangesLayOut : Type 0
 JobChangesLayOut = (s : State) (t : TreeState) (j : JobId) (change : JobRecord → JobRecord) (old : JobRecord) → IsWhole t.nodes → HasGoodIds s → LaysOut s t → slice_get s.jobs j.0 ≡ Some old →
     SetLaysOut (record s { jobs = change_at j.0 change s.jobs }) t (Job j) (job_text (change old))
+
+-- the record of a role is changed: a launcher's, a janitor's or a requester's
+abbrev pub RolesLayOut : Type 0
+RolesLayOut = (s : State) (t : TreeState) (role : Role) (p : Place) (change : RoleRecord → RoleRecord) (old : RoleRecord) → IsWhole t.nodes → HasGoodIds s → LaysOut s t → place_of_role role ≡ Some p → role_in role s ≡ Some old →
+    SetLaysOut (change_role change role s) t p (role_text (change old))

@@ -2,7 +2,7 @@
 
 ghost use Rattle.np_layout.specs.Laws.{FirstCallsAreAccepted, FirstTreesLayOut};
 ghost use Rattle.np_layout.specs.Layout.{LaysOut};
-ghost use Rattle.np_layout.specs.Sets.{JobChangesLayOut, JobsLayOut, TicksLayOut};
+ghost use Rattle.np_layout.specs.Sets.{JobChangesLayOut, JobsLayOut, RolesLayOut, TicksLayOut};
 ghost use Rattle.np_layout.specs.Worked.{another_holder, another_tick, lock_of_no_request, node_below_a_pair, queued_tree, worked, worked_tree};
 
 /// The first tree of each sound site lays out the state before the first event, and the one call
@@ -36,4 +36,10 @@ pub fn sets_of_the_tick_lay_out()
 pub fn sets_of_jobs_lay_out()
     ensures put { JobsLayOut }
     ensures change { JobChangesLayOut }
+{}
+
+/// A set of a role's record lays out the state with that record: a launcher's, a janitor's or a
+/// requester's.
+pub fn sets_of_roles_lay_out()
+    ensures { RolesLayOut }
 {}

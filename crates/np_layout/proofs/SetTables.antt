@@ -1,0 +1,44 @@
+-- the rows of a list when the record of one member changes
+use Rattle.std.proofs.Common.{◌≡◌, ℕ, ◌+◌, ◌<◌, Bool, true, cond, List, length, map, Some, refl, sym, ap, ◌∙◌, inr, arith}
+use Rattle.std.specs.Prelude.{slice_get}
+use Rattle.std.specs.List.{list_any}
+use Rattle.np_lists.specs.Change.{change_at}
+use Rattle.np_views.specs.Views.{Row, is_named, row_with}
+use Rattle.np_places.specs.Place.{IsGood, above, place_name}
+use Rattle.np_places.specs.declared.place.Place.{Place}
+use Rattle.np_layout.specs.Rows.{persistent, rows_from}
+use Rattle.np_layout.proofs.SetLists.{put_bytes, rows_from-any, rows_from-change, rows_from-others, within}
+use Rattle.np_layout.proofs.SetSteps.{named-here, named-other}
+
+-- the members' places are good, in one directory, and have numbers from the first one on
+pub record IsTable {A : Type 0} (place : ℕ → Place) (number : Place → ℕ) (dir : Place) (first : ℕ) (list : List A) : Type 0 where
+  pub good : (n : ℕ) → n < first + length list → IsGood (place n)
+  pub over : (n : ℕ) → above (place n) ≡ Some dir
+  pub numbers : (n : ℕ) → number (place n) ≡ n
+
+module _ {A : Type 0} (place : ℕ → Place) (number : Place → ℕ) (dir : Place) (first : ℕ) (list : List A) (is : IsTable place number dir first list) (text : A → List ℕ) where
+  abbrev row_of : ℕ → A → Row
+  row_of n a = persistent (place n) (text a)
+
+  -- a place of another kind is none of theirs
+  pub table-others : (p : Place) (bytes : List ℕ) → IsGood p → above p ≡ Some dir → ((n : ℕ) → place n ≡ p → ⊥) → map (put_bytes (place_name p) bytes) (rows_from row_of first list) ≡ rows_from row_of first list
+  table-others p bytes good over apart =
+      rows_from-others row_of (place_name p) bytes (first + length list) (first + length list)
+      (λ n a low other. named-other p (place n) good (is.good n low) (is.over n ∙ sym over) (apart n)) list first (omega arith) (inr (omega arith))
+
+  module _ (at k : ℕ) (old : A) (same : first + at ≡ k) (there : slice_get list at ≡ Some old) where
+    -- the place of a member is good
+    pub table-good : IsGood (place k)
+    table-good = let low = within list at old there in is.good k (omega arith)
+
+    -- its row is there
+    pub table-any : list_any (is_named (place_name (place k))) (rows_from row_of first list) ≡ true
+    table-any = rows_from-any row_of (is_named (place_name (place k))) list first at k old same there (named-here (place k))
+
+    -- its row alone changes
+    pub table-change : (change : A → A) → map (put_bytes (place_name (place k)) (text (change old))) (rows_from row_of first list) ≡ rows_from row_of first (change_at at change list)
+    table-change change =
+        rows_from-change row_of (place_name (place k)) (text (change old)) (first + length list) k
+        (λ n a low other. named-other (place k) (place n) table-good (is.good n low) (is.over n ∙ sym (is.over k)) (λ equal. other (sym (is.numbers n) ∙ ap number equal ∙ is.numbers k)))
+        change list first at old (omega arith) same there
+        (ap (λ (b : Bool). cond b (row_with (text (change old)) (row_of k old)) (row_of k old)) (named-here (place k)))
