@@ -12,3 +12,4 @@ pub mod SetTables
 pub mod SetTicks
 pub mod SetJobs
 pub mod SetRoles
+pub mod SetSessions

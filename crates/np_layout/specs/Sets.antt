@@ -1,11 +1,14 @@
 -- what one set of a node's bytes does: if a tree lays a state out, the set of the record of a place to
 -- another record's text lays out the state with that record, and the set is accepted
-use Rattle.std.specs.Prelude.{◌≡◌, ◌<◌, ◌≤◌, ◌^◌, ℕ, true, List, length, slice_get, Some, IsOk}
+use Rattle.std.specs.Prelude.{◌≡◌, ◌==◌, ◌<◌, ◌≤◌, ◌^◌, ℕ, true, List, length, slice_get, Some, IsOk}
 use Rattle.std.specs.Fmt.{decimal}
 use Rattle.std.specs.List.{AllByRecursion}
 use Rattle.np_text.specs.declared.id.JobId.{JobId}
+use Rattle.np_text.specs.declared.id.NodeId.{NodeId}
+use Rattle.np_text.specs.declared.id.RequestId.{RequestId}
 use Rattle.np_text.specs.declared.id.Role.{Role}
-use Rattle.np_lists.specs.Change.{change_at}
+use Rattle.np_text.specs.declared.id.SessionId.{SessionId}
+use Rattle.np_lists.specs.Change.{change_at, change_first}
 use Rattle.np_session.specs.Known.{is_in}
 use Rattle.np_nodes.specs.TreeState.{TreeState}
 use Rattle.np_nodes.specs.Answer.{part_answer}
@@ -16,14 +19,18 @@ use Rattle.np_nodes.specs.declared.op.Op.TheVariants as op
 use Rattle.np_tree.specs.Whole.{IsWhole}
 use Rattle.np_views.specs.Several.{HasRoomFor}
 use Rattle.np_record.specs.declared.record.JobRecord.{JobRecord}
+use Rattle.np_record.specs.declared.record.NodeRecord.{NodeRecord}
+use Rattle.np_record.specs.declared.record.RequestRecord.{RequestRecord}
 use Rattle.np_record.specs.declared.record.RoleRecord.{RoleRecord}
-use Rattle.np_spelling.specs.Spelling.{job_text, role_text}
+use Rattle.np_spelling.specs.Spelling.{SpellsNode, job_text, request_record_text, role_text, session_text}
+use Rattle.np_machine.specs.Session.{muted}
 use Rattle.np_machine.specs.State.{State}
-use Rattle.np_machine.specs.Tables.{change_role, put_job, role_in}
+use Rattle.np_machine.specs.Tables.{change_role, change_session, node_in, put_job, request_in, role_in, same_request, session_of}
+use Rattle.np_machine.specs.declared.state.SessionFacts.{SessionFacts}
 use Rattle.np_places.specs.Place.{IsGood, path_of}
 use Rattle.np_places.specs.Roles.{place_of_role}
 use Rattle.np_places.specs.declared.place.Place.{Place}
-use Rattle.np_places.specs.declared.place.Place.TheVariants.{Request, Node, Job, Tick}
+use Rattle.np_places.specs.declared.place.Place.TheVariants.{Request, Node, Job, Session, Tick}
 use Rattle.np_layout.specs.Layout.{LaysOut}
 
 -- each record and each lock of the state has a place whose ids have a text
@@ -67,3 +74,19 @@ JobChangesLayOut = (s : State) (t : TreeState) (j : JobId) (change : JobRecord �
 abbrev pub RolesLayOut : Type 0
 RolesLayOut = (s : State) (t : TreeState) (role : Role) (p : Place) (change : RoleRecord → RoleRecord) (old : RoleRecord) → IsWhole t.nodes → HasGoodIds s → LaysOut s t → place_of_role role ≡ Some p → role_in role s ≡ Some old →
     SetLaysOut (change_role change role s) t p (role_text (change old))
+
+-- a session makes no more events
+abbrev pub MutesLayOut : Type 0
+MutesLayOut = (s : State) (t : TreeState) (session : SessionId) (facts : SessionFacts) → IsWhole t.nodes → HasGoodIds s → LaysOut s t → session_of session s ≡ Some facts →
+    SetLaysOut (record s { sessions = change_session session muted s.sessions }) t (Session session) (session_text (record { mute = true; role = facts.role }))
+
+-- a request's record is changed
+abbrev pub RequestsLayOut : Type 0
+RequestsLayOut = (s : State) (t : TreeState) (r : RequestId) (change : RequestRecord → RequestRecord) (old : RequestRecord) → IsWhole t.nodes → HasGoodIds s → LaysOut s t → request_in r s.requests ≡ Some old →
+    SetLaysOut (record s { requests = change_first (λ e. same_request e.id r) (λ e. record e { kept = change e.kept }) s.requests }) t (Request r) (request_record_text (change old))
+
+-- a node's record is changed, whichever way the bytes spell the new one: those before may be spelled
+-- as before there were tenants
+abbrev pub NodesLayOut : Type 0
+NodesLayOut = (s : State) (t : TreeState) (n : NodeId) (change : NodeRecord → NodeRecord) (old : NodeRecord) (bytes : List ℕ) → IsWhole t.nodes → HasGoodIds s → LaysOut s t → node_in n s.nodes ≡ Some old → SpellsNode (change old) bytes →
+    SetLaysOut (record s { nodes = change_first (λ e. e.id.0 == n.0) (λ e. record e { kept = change e.kept }) s.nodes }) t (Node n) bytes

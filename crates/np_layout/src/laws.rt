@@ -2,7 +2,7 @@
 
 ghost use Rattle.np_layout.specs.Laws.{FirstCallsAreAccepted, FirstTreesLayOut};
 ghost use Rattle.np_layout.specs.Layout.{LaysOut};
-ghost use Rattle.np_layout.specs.Sets.{JobChangesLayOut, JobsLayOut, RolesLayOut, TicksLayOut};
+ghost use Rattle.np_layout.specs.Sets.{JobChangesLayOut, JobsLayOut, MutesLayOut, RolesLayOut, TicksLayOut};
 ghost use Rattle.np_layout.specs.Worked.{another_holder, another_tick, lock_of_no_request, node_below_a_pair, queued_tree, worked, worked_tree};
 
 /// The first tree of each sound site lays out the state before the first event, and the one call
@@ -42,4 +42,9 @@ pub fn sets_of_jobs_lay_out()
 /// requester's.
 pub fn sets_of_roles_lay_out()
     ensures { RolesLayOut }
+{}
+
+/// A set of a session's record to mute lays out the state in which that session is.
+pub fn sets_of_sessions_lay_out()
+    ensures { MutesLayOut }
 {}

@@ -1,0 +1,113 @@
+-- a set of a session's record
+use Rattle.std.proofs.Common.{◌≡◌, ℕ, zero, suc, ◌+◌, ◌-◌, ◌<◌, Bool, true, false, cond, List, [], ◌∷◌, length, map, Option, Some, None, refl, sym, ap, ◌∙◌, arith}
+use Rattle.std.specs.Prelude.{◌==◌, slice_get}
+use Rattle.std.specs.List.{list_any, range_with_len}
+use Rattle.std.proofs.lemmas.Bool.{eqb-false}
+use Rattle.np_text.specs.declared.id.SessionId.{SessionId}
+use Rattle.np_lists.specs.Change.{change_at}
+use Rattle.np_lists.proofs.ChangeLemmas.{length-change_at}
+use Rattle.np_session.specs.Known.{is_in}
+use Rattle.np_nodes.specs.TreeState.{TreeState}
+use Rattle.np_nodes.specs.After.{after_part}
+use Rattle.np_tree.specs.Whole.{IsWhole}
+use Rattle.np_views.specs.Views.{Row, is_named}
+use Rattle.np_spelling.specs.Spelling.{session_text}
+use Rattle.np_machine.specs.Session.{muted}
+use Rattle.np_machine.specs.State.{State}
+use Rattle.np_machine.specs.Tables.{change_session, session_of}
+use Rattle.np_machine.specs.declared.state.SessionFacts.{SessionFacts}
+use Rattle.np_places.specs.Place.{IsGood, place_name}
+use Rattle.np_places.specs.declared.place.Place.{Place}
+use Rattle.np_places.specs.declared.place.Place.TheVariants.{Poolsim, Sessions, Session}
+use Rattle.np_layout.specs.Layout.{AreLive, LaysOut}
+use Rattle.np_layout.specs.Rows.{rows_from, session_row}
+use Rattle.np_layout.specs.Sets.{HasGoodIds, MutesLayOut, set}
+use Rattle.np_layout.proofs.Elsewhere.{frame-stays, jobs-stay, launchers-stay, live-stays, node_locks-stay, nodes-stay, request_locks-stay, requests-stay, roles-stay, semaphores-stay, swept-stay}
+use Rattle.np_layout.proofs.SetLists.{put_bytes}
+use Rattle.np_layout.proofs.SetSteps.{set-goes, sets-row}
+use Rattle.np_layout.proofs.SetTables.{IsTable, table-any, table-change, table-good}
+
+-- the place of each session, and its number
+abbrev session_at : ℕ → Place
+session_at n = Session (record { 0 = n })
+
+abbrev session_number : Place → ℕ
+session_number (Session session) = session.0
+session_number other = 0
+
+abbrev text : SessionFacts → List ℕ
+text facts = session_text (record { mute = facts.mute; role = facts.role })
+
+-- a session that goes mute stays live
+mute-live : (at : ℕ) (sessions : List SessionFacts) → map (λ (f : SessionFacts). f.live) (change_at at muted sessions) ≡ map (λ f. f.live) sessions
+mute-live at [] = refl
+mute-live zero (f ∷ sessions) = refl
+mute-live (suc at) (f ∷ sessions) = ap (λ (flags : List Bool). f.live ∷ flags) (mute-live at sessions)
+
+mutes-live : (at : ℕ) (sessions : List SessionFacts) (t : TreeState) → AreLive sessions t → AreLive (change_at at muted sessions) t
+mutes-live at sessions t are =
+    let same = length-change_at at muted sessions in
+    record {
+      begun = are.begun ∙ ap (λ (n : ℕ). n + 1) (sym same);
+      first = are.first;
+      each = ap (λ (n : ℕ). map (is_in t.live) (range_with_len 2 n)) same ∙ are.each ∙ sym (mute-live at sessions);
+    }
+
+-- sessions count from one
+session-by : (o : Option SessionFacts) (facts : SessionFacts) (b : Bool) → cond b None o ≡ Some facts → (b ≡ false) × (o ≡ Some facts)
+session-by o facts true is = absurd cc
+session-by o facts false is = (refl, is)
+
+module _ (s : State) (t : TreeState) (session : SessionId) (facts : SessionFacts) (whole : IsWhole t.nodes) (good : HasGoodIds s) (lays : LaysOut s t) (is : session_of session s ≡ Some facts) where
+  abbrev at : ℕ
+  at = session.0 - 1
+
+  abbrev bytes : List ℕ
+  bytes = session_text (record { mute = true; role = facts.role })
+
+  -- sessions are a table
+  is-sessions : IsTable session_at session_number Sessions 1 s.sessions
+  is-sessions = record { good = λ n low. let few = good.sessions in omega arith; over = λ n. refl; numbers = λ n. refl }
+
+  there : slice_get s.sessions (session.0 - 1) ≡ Some facts
+  there = (session-by (slice_get s.sessions (session.0 - 1)) facts (session.0 == 0) is).1
+
+  first : 1 + (session.0 - 1) ≡ session.0
+  first = let not_zero = eqb-false session.0 0 (session-by (slice_get s.sessions (session.0 - 1)) facts (session.0 == 0) is).0 in omega arith
+
+  session-good : IsGood (Session session)
+  session-good = table-good session_at session_number Sessions 1 s.sessions is-sessions text at session.0 facts first there
+
+  session-lays : (w : ℕ) → LaysOut (record s { sessions = change_session session muted s.sessions }) (after_part t w (set bytes (Session session)))
+  session-lays w =
+      let u : TreeState = after_part t w (set bytes (Session session)) in
+      let sets = sets-row t w Sessions (Session session) bytes session-good refl whole in
+      let stays = sets.stays in
+      record {
+        frame = frame-stays Sessions t u stays s.tick s.tick refl refl refl refl (stays.rows Poolsim tt refl ∙ lays.frame.poolsim) lays.frame;
+        requests = requests-stay Sessions t u stays s.requests s.next_request refl lays.requests;
+        request_locks = request_locks-stay Sessions t u stays s.requests good.requests refl refl lays.request_locks;
+        nodes = nodes-stay Sessions t u stays s.nodes s.next_node refl lays.nodes;
+        node_locks = node_locks-stay Sessions t u stays s.nodes good.nodes refl refl lays.node_locks;
+        launchers = launchers-stay Sessions t u stays s.registrations refl lays.launchers;
+        semaphores = semaphores-stay Sessions t u stays s.handles good.semaphores refl refl lays.semaphores;
+        jobs = jobs-stay Sessions t u stays s.jobs refl lays.jobs;
+        roles = roles-stay Sessions t u stays s.launchers s.janitors s.requesters refl lays.roles;
+        sessions = record {
+          rows =
+              sets.each ∙ ap (λ (rows : List Row). map (put_bytes (place_name (Session session)) bytes) rows) lays.sessions.rows
+              ∙ table-change session_at session_number Sessions 1 s.sessions is-sessions text at session.0 facts first there muted;
+          leaves = sets.leaves lays.sessions.leaves;
+        };
+        swept = swept-stay Sessions t u stays s.swept refl lays.swept;
+        live = mutes-live at s.sessions u (live-stays Sessions t u stays s.sessions lays.live);
+      }
+
+-- a set of a session's record to mute lays out the state in which it is
+pub mutes-lay-out : MutesLayOut
+mutes-lay-out s t session facts whole good lays is = record {
+  lays = session-lays s t session facts whole good lays is;
+  goes = λ w. set-goes t Sessions (Session session) (session_text (record { mute = true; role = facts.role })) (session-good s t session facts whole good lays is) refl whole
+      (ap (list_any (is_named (place_name (Session session)))) lays.sessions.rows
+      ∙ table-any session_at session_number Sessions 1 s.sessions (is-sessions s t session facts whole good lays is) text (session.0 - 1) session.0 facts (first s t session facts whole good lays is) (there s t session facts whole good lays is)) w;
+}
