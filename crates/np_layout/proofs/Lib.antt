@@ -13,3 +13,5 @@ pub mod SetTicks
 pub mod SetJobs
 pub mod SetRoles
 pub mod SetSessions
+pub mod SetRequests
+pub mod SetNodes

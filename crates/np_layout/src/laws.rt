@@ -2,7 +2,7 @@
 
 ghost use Rattle.np_layout.specs.Laws.{FirstCallsAreAccepted, FirstTreesLayOut};
 ghost use Rattle.np_layout.specs.Layout.{LaysOut};
-ghost use Rattle.np_layout.specs.Sets.{JobChangesLayOut, JobsLayOut, MutesLayOut, RolesLayOut, TicksLayOut};
+ghost use Rattle.np_layout.specs.Sets.{JobChangesLayOut, JobsLayOut, MutesLayOut, NodesLayOut, RequestsLayOut, RolesLayOut, TicksLayOut};
 ghost use Rattle.np_layout.specs.Worked.{another_holder, another_tick, lock_of_no_request, node_below_a_pair, queued_tree, worked, worked_tree};
 
 /// The first tree of each sound site lays out the state before the first event, and the one call
@@ -47,4 +47,14 @@ pub fn sets_of_roles_lay_out()
 /// A set of a session's record to mute lays out the state in which that session is.
 pub fn sets_of_sessions_lay_out()
     ensures { MutesLayOut }
+{}
+
+/// A set of a request's record lays out the state with that record.
+pub fn sets_of_requests_lay_out()
+    ensures { RequestsLayOut }
+{}
+
+/// A set of a node's record lays out the state with that record, whichever way the bytes spell it.
+pub fn sets_of_nodes_lay_out()
+    ensures { NodesLayOut }
 {}
