@@ -1,5 +1,5 @@
 -- a set of a job's record
-use Rattle.std.proofs.Common.{◌≡◌, ℕ, ◌+◌, List, length, map, Some, refl, ap, ◌∙◌, subst, arith}
+use Rattle.std.proofs.Common.{◌≡◌, ℕ, ◌+◌, List, map, Some, refl, ap, ◌∙◌, subst, arith}
 use Rattle.std.specs.Prelude.{slice_get}
 use Rattle.std.specs.List.{list_any}
 use Rattle.np_text.specs.declared.id.JobId.{JobId}

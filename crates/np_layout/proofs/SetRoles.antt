@@ -1,12 +1,11 @@
 -- a set of the record of a role
-use Rattle.std.proofs.Common.{◌≡◌, ℕ, ◌+◌, Bool, true, false, ◌||◌, List, ◌++◌, map, Some, refl, ap, ◌∙◌, subst, arith}
+use Rattle.std.proofs.Common.{◌≡◌, ℕ, Bool, true, false, ◌||◌, List, ◌++◌, map, Some, refl, ap, ◌∙◌, subst, arith}
 use Rattle.std.specs.Prelude.{slice_get}
 use Rattle.std.specs.List.{list_any}
 use Rattle.std.proofs.lemmas.List.{map-append}
 use Rattle.std.proofs.lemmas.List.Folds.{list_any-append}
 use Rattle.np_text.specs.declared.id.PoolId.{PoolId}
 use Rattle.np_text.specs.declared.id.RequesterId.{RequesterId}
-use Rattle.np_text.specs.declared.id.Role.{Role}
 use Rattle.np_text.specs.declared.id.Role.TheVariants as role
 use Rattle.np_lists.specs.Change.{change_at}
 use Rattle.np_nodes.specs.TreeState.{TreeState}
@@ -16,9 +15,8 @@ use Rattle.np_views.specs.Views.{Row, is_named}
 use Rattle.np_record.specs.declared.record.RoleRecord.{RoleRecord}
 use Rattle.np_spelling.specs.Spelling.{role_text}
 use Rattle.np_machine.specs.State.{State}
-use Rattle.np_machine.specs.Tables.{change_role, role_in}
+use Rattle.np_machine.specs.Tables.{change_role}
 use Rattle.np_places.specs.Place.{IsGood, above, place_name}
-use Rattle.np_places.specs.Roles.{place_of_role}
 use Rattle.np_places.specs.declared.place.Place.{Place}
 use Rattle.np_places.specs.declared.place.Place.TheVariants.{Poolsim, Roles, LauncherRole, JanitorRole, RequesterRole}
 use Rattle.np_layout.specs.Layout.{LaysOut}

@@ -1,5 +1,5 @@
 -- a set of a session's record
-use Rattle.std.proofs.Common.{◌≡◌, ℕ, zero, suc, ◌+◌, ◌-◌, ◌<◌, Bool, true, false, cond, List, [], ◌∷◌, length, map, Option, Some, None, refl, sym, ap, ◌∙◌, arith}
+use Rattle.std.proofs.Common.{◌≡◌, ℕ, zero, suc, ◌+◌, ◌-◌, Bool, true, false, cond, List, [], ◌∷◌, map, Option, Some, None, refl, sym, ap, ◌∙◌, arith}
 use Rattle.std.specs.Prelude.{◌==◌, slice_get}
 use Rattle.std.specs.List.{list_any, range_with_len}
 use Rattle.std.proofs.lemmas.Bool.{eqb-false}
@@ -20,7 +20,6 @@ use Rattle.np_places.specs.Place.{IsGood, place_name}
 use Rattle.np_places.specs.declared.place.Place.{Place}
 use Rattle.np_places.specs.declared.place.Place.TheVariants.{Poolsim, Sessions, Session}
 use Rattle.np_layout.specs.Layout.{AreLive, LaysOut}
-use Rattle.np_layout.specs.Rows.{rows_from, session_row}
 use Rattle.np_layout.specs.Sets.{HasGoodIds, MutesLayOut, set}
 use Rattle.np_layout.proofs.Elsewhere.{frame-stays, jobs-stay, launchers-stay, live-stays, node_locks-stay, nodes-stay, request_locks-stay, requests-stay, roles-stay, semaphores-stay, swept-stay}
 use Rattle.np_layout.proofs.SetLists.{put_bytes}

@@ -3,7 +3,11 @@
 //! `specs/Layout` says when a tree lays a state out: the rows of each directory are those of one
 //! table of the state, with their bytes and owners, and nothing else is there. `specs/Rows` has the
 //! row of each record, lock and mark, and `specs/First` the call that makes the tree before the first
-//! event. The laws are public functions that do nothing: their contracts are the laws.
+//! event. `specs/Sets` says what one set of a node's bytes does: if a tree lays a state out, the
+//! set of a record to another record's text lays out the state with that record, and the set is
+//! accepted.
+//!
+//! The laws are public functions that do nothing: their contracts are the laws.
 #![tactic(auto)]
 
 mod laws;
