@@ -44,6 +44,13 @@ impl<K: StateKeeper + Drop> Indexed<K> {
         Ok(Indexed { keeper, index })
     }
 
+    /// What keeps the state.
+    pub fn keeper(&self) -> &K
+        ensures { result.now ≡ self.now }
+    {
+        &self.keeper
+    }
+
     /// The index of the state. It takes no memory.
     pub fn index(&self) -> &Index
         ensures { IsIndexOf (K.site self.now) (K.state self.now) result.now }
