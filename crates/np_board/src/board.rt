@@ -81,6 +81,17 @@ impl Board {
         self.machine.keeper().index()
     }
 
+    /// What keeps the state beside the index. Most readers ask it, and not the machine over it: a call
+    /// on that type is proved with all readers of each type that it is made of.
+    fn vectors(&self) -> &VecKeeper
+        ensures { result.now ≡ record {
+          configuration = self.now.configuration;
+          state = self.now.state;
+        } }
+    {
+        self.machine.keeper().keeper()
+    }
+
     /// The reply to the event: `Full` if the journal has 262,144 entries. It takes no memory.
     pub fn judge(&self, event: Event) -> Reply
         ensures { result ≡ answer_of self.now event }

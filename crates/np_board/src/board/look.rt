@@ -1,4 +1,4 @@
-//! What can be read of the board: what its machine reports.
+//! What can be read of the board: what its index has, and else what the vectors report.
 
 ghost use Rattle.std.specs.Prelude.{length};
 
@@ -21,7 +21,7 @@ impl Look for Board {
     ghost recorded = { λ b. length b.journal };
 
     fn config(&self) -> &Config {
-        self.machine.config()
+        self.vectors().config()
     }
 
     fn entries(&self) -> u32 {
@@ -29,67 +29,67 @@ impl Look for Board {
     }
 
     fn tick(&self) -> u32 {
-        self.machine.tick()
+        self.vectors().tick()
     }
 
     fn session(&self, session: SessionId) -> Option<SessionFacts> {
-        self.machine.session(session)
+        self.vectors().session(session)
     }
 
     fn sessions(&self) -> u32 {
-        self.machine.sessions()
+        self.vectors().sessions()
     }
 
     fn registration(&self, pool: PoolId) -> Option<SessionId> {
-        self.machine.registration(pool)
+        self.vectors().registration(pool)
     }
 
     fn registrations(&self) -> u32 {
-        self.machine.registrations()
+        self.vectors().registrations()
     }
 
     fn registration_at(&self, at: u32) -> Option<Registration> {
-        self.machine.registration_at(at)
+        self.vectors().registration_at(at)
     }
 
     fn requests(&self) -> u32 {
-        self.machine.requests()
+        self.vectors().requests()
     }
 
     fn request_at(&self, at: u32) -> Option<RequestId> {
-        self.machine.request_at(at)
+        self.vectors().request_at(at)
     }
 
     fn request_view(&self, at: u32) -> Option<RequestView> {
-        self.machine.request_view(at)
+        self.vectors().request_view(at)
     }
 
     fn request(&self, request: RequestId) -> Option<RequestRecord> {
-        self.machine.request(request)
+        self.vectors().request(request)
     }
 
     fn nodes(&self) -> u32 {
-        self.machine.nodes()
+        self.vectors().nodes()
     }
 
     fn node_at(&self, at: u32) -> Option<NodeId> {
-        self.machine.node_at(at)
+        self.vectors().node_at(at)
     }
 
     fn node_view(&self, at: u32) -> Option<NodeView> {
-        self.machine.node_view(at)
+        self.vectors().node_view(at)
     }
 
     fn node(&self, node: NodeId) -> Option<NodeRecord> {
-        self.machine.node(node)
+        self.vectors().node(node)
     }
 
     fn request_queue(&self, request: RequestId, at: u32) -> Option<SessionId> {
-        self.machine.request_queue(request, at)
+        self.vectors().request_queue(request, at)
     }
 
     fn node_queue(&self, node: NodeId, at: u32) -> Option<SessionId> {
-        self.machine.node_queue(node, at)
+        self.vectors().node_queue(node, at)
     }
 
     fn queued_requests(&self, session: SessionId) -> u32 {
@@ -97,7 +97,7 @@ impl Look for Board {
     }
 
     fn queued_request_at(&self, session: SessionId, at: u32) -> Option<RequestId> {
-        self.machine.queued_request_at(session, at)
+        self.index().requests_of(session).get(at as usize).copied()
     }
 
     fn queued_nodes(&self, session: SessionId) -> u32 {
@@ -105,122 +105,122 @@ impl Look for Board {
     }
 
     fn queued_node_at(&self, session: SessionId, at: u32) -> Option<NodeId> {
-        self.machine.queued_node_at(session, at)
+        self.index().nodes_of(session).get(at as usize).copied()
     }
 
     fn handles(&self, semaphore: SemId) -> u32 {
-        self.machine.handles(semaphore)
+        self.vectors().handles(semaphore)
     }
 
     fn handle_at(&self, semaphore: SemId, at: u32) -> Option<JobId> {
-        self.machine.handle_at(semaphore, at)
+        self.vectors().handle_at(semaphore, at)
     }
 
     fn has_handle(&self, semaphore: SemId, job: JobId) -> bool {
-        self.machine.has_handle(semaphore, job)
+        self.vectors().has_handle(semaphore, job)
     }
 
     fn jobs(&self) -> u32 {
-        self.machine.jobs()
+        self.vectors().jobs()
     }
 
     fn job(&self, job: JobId) -> Option<JobRecord> {
-        self.machine.job(job)
+        self.vectors().job(job)
     }
 
     fn role(&self, role: Role) -> Option<RoleRecord> {
-        self.machine.role(role)
+        self.vectors().role(role)
     }
 
     fn swept(&self, node: NodeId, server: u64) -> bool {
-        self.machine.swept(node, server)
+        self.vectors().swept(node, server)
     }
 
     fn next_request(&self) -> u32 {
-        self.machine.next_request()
+        self.vectors().next_request()
     }
 
     fn next_node(&self) -> u32 {
-        self.machine.next_node()
+        self.vectors().next_node()
     }
 
     fn asked(&self, request: RequestId) -> Option<Asked> {
-        self.machine.asked(request)
+        self.vectors().asked(request)
     }
 
     fn is_declined(&self, request: RequestId, pool: PoolId) -> bool {
-        self.machine.is_declined(request, pool)
+        self.vectors().is_declined(request, pool)
     }
 
     fn undeclined(&self, request: RequestId) -> u32 {
-        self.machine.undeclined(request)
+        self.vectors().undeclined(request)
     }
 
     fn is_last_pool(&self, request: RequestId, pool: PoolId) -> bool {
-        self.machine.is_last_pool(request, pool)
+        self.vectors().is_last_pool(request, pool)
     }
 
     fn request_holder(&self, request: RequestId) -> Option<SessionId> {
-        self.machine.request_holder(request)
+        self.vectors().request_holder(request)
     }
 
     fn node_holder(&self, node: NodeId) -> Option<SessionId> {
-        self.machine.node_holder(node)
+        self.vectors().node_holder(node)
     }
 
     fn ahead_at_node(&self, session: SessionId, node: NodeId) -> u32 {
-        self.machine.ahead_at_node(session, node)
+        self.vectors().ahead_at_node(session, node)
     }
 
     fn waits_at_node(&self, session: SessionId, node: NodeId) -> bool {
-        self.machine.waits_at_node(session, node)
+        self.vectors().waits_at_node(session, node)
     }
 
     fn blocking(&self, pool: PoolId, asked: &Asked) -> Option<TenantId> {
-        self.machine.blocking(pool, asked)
+        self.vectors().blocking(pool, asked)
     }
 
     fn first_of(&self, pool: PoolId) -> Option<RequestId> {
-        self.machine.first_of(pool)
+        self.vectors().first_of(pool)
     }
 
     fn used_by(&self, tenant: TenantId) -> Amount {
-        self.machine.used_by(tenant)
+        self.vectors().used_by(tenant)
     }
 
     fn has_spent_min_ready(&self, pool: PoolId, label: LabelId) -> bool {
-        self.machine.has_spent_min_ready(pool, label)
+        self.vectors().has_spent_min_ready(pool, label)
     }
 
     fn ready_count(&self, label: LabelId) -> u32 {
-        self.machine.ready_count(label)
+        self.vectors().ready_count(label)
     }
 
     fn used(&self, pool: PoolId) -> Amount {
-        self.machine.used(pool)
+        self.vectors().used(pool)
     }
 
     fn has_spare(&self, pool: PoolId, label: LabelId) -> bool {
-        self.machine.has_spare(pool, label)
+        self.vectors().has_spare(pool, label)
     }
 
     fn free_ready(&self, pool: PoolId, label: LabelId, at: u32) -> Option<NodeId> {
-        self.machine.free_ready(pool, label, at)
+        self.vectors().free_ready(pool, label, at)
     }
 
     fn is_paused(&self, pool: PoolId) -> bool {
-        self.machine.is_paused(pool)
+        self.vectors().is_paused(pool)
     }
 
     fn unfinished(&self, requester: RequesterId, at: u32) -> Option<JobId> {
-        self.machine.unfinished(requester, at)
+        self.index().unfinished(requester, at)
     }
 
     fn owner(&self, node: NodeId) -> Option<JobId> {
-        self.machine.owner(node)
+        self.index().owner(node)
     }
 
     fn has_live_session(&self, requester: RequesterId) -> bool {
-        self.machine.has_live_session(requester)
+        self.vectors().has_live_session(requester)
     }
 }
