@@ -1,26 +1,23 @@
--- what stays of a layout if only rows of one directory change, and no node is made or gone
-use Rattle.std.proofs.Common.{◌≡◌, ℕ, zero, suc, ◌+◌, ◌≤◌, ◌^◌, eqb, eq-eqb, true, false, map, List, [], ◌∷◌, ◌++◌, length, ap, ◌∙◌, sym, subst, arith}
+-- what stays of a layout if only rows of some directories change
+use Rattle.std.proofs.Common.{◌≡◌, ℕ, zero, suc, ◌+◌, ◌≤◌, ◌^◌, eqb, eq-eqb, Bool, true, false, ◌||◌, map, List, [], ◌∷◌, ◌++◌, length, Some, refl, ap, ◌∙◌, sym, subst, arith}
 use Rattle.std.specs.Fmt.{decimal}
-use Rattle.std.specs.List.{AllByRecursion, AllZip, range_with_len}
-use Rattle.np_lists.proofs.Each.{all-weaker}
+use Rattle.std.specs.List.{AllByRecursion, AllZip, list_any, range_with_len}
 use Rattle.np_text.specs.declared.id.JobId.{JobId}
+use Rattle.np_text.specs.declared.id.SemId.{SemId}
 use Rattle.np_text.specs.declared.id.SessionId.{SessionId}
-use Rattle.np_path.specs.Parts.{below}
 use Rattle.np_session.specs.Known.{is_in}
 use Rattle.np_nodes.specs.TreeState.{TreeState}
-use Rattle.np_tree.specs.Read.{counter_at}
-use Rattle.np_views.specs.Views.{Row, rows_at}
+use Rattle.np_views.specs.Views.{Row}
 use Rattle.np_record.specs.declared.record.JobRecord.{JobRecord}
 use Rattle.np_record.specs.declared.record.RoleRecord.{RoleRecord}
 use Rattle.np_machine.specs.Entries.{NodeEntry, RequestEntry}
 use Rattle.np_machine.specs.declared.state.Registration.{Registration}
 use Rattle.np_machine.specs.declared.state.SessionFacts.{SessionFacts}
 use Rattle.np_machine.specs.declared.state.Swept.{Swept}
-use Rattle.np_places.specs.Place.{IsGood, path_of}
+use Rattle.np_places.specs.Place.{IsGood}
 use Rattle.np_places.specs.declared.place.Place.{Place}
 use Rattle.np_places.specs.declared.place.Place.TheVariants.{Root, Nodepool, Requests, Request, RequestLocks, RequestLock, Nodes, Node, NodeLock, Launchers, Zuul, Semaphores, Semaphore, Poolsim, Jobs, Roles, Sessions, SweptPairs, Tick}
-use Rattle.np_places.proofs.ChildLemmas.{same_paths}
-use Rattle.np_layout.specs.Layout.{AreJobs, AreLaunchers, AreLive, AreNodeLocks, AreNodes, AreRequestLocks, AreRequests, AreRoles, AreSemaphores, AreSessions, AreSwept, HasHandles, HasLeaves, IsFrame, IsNodeRow, IsQueue, IsWait, directories, under}
+use Rattle.np_layout.specs.Layout.{AreJobs, AreLaunchers, AreLive, AreNodeLocks, AreNodes, AreRequestLocks, AreRequests, AreRoles, AreSemaphores, AreSessions, AreSwept, HasHandles, HasLeaves, IsFrame, IsNodeRow, IsQueue, IsWait, directories, next_under, under}
 use Rattle.np_layout.specs.Rows.{persistent}
 
 -- a number for each kind of place with something below it; zero for the others
@@ -44,106 +41,160 @@ directory Sessions = 16
 directory SweptPairs = 17
 directory other = 0
 
--- the places are of two kinds
-abbrev pub IsBeside : Place → Place → Type 0
-IsBeside p q = eqb (directory p) (directory q) ≡ false
+-- what is true of everything is true of each member
+pub all-true : {A : Type 0} (P : A → Type 0) → ((a : A) → P a) → (list : List A) → AllByRecursion P list
+all-true P each [] = tt
+all-true P each (a ∷ list) = (each a, all-true P each list)
 
--- so their paths are different
-pub beside-apart : (p q : Place) → IsGood p → IsGood q → IsBeside p q → path_of p ≡ path_of q → ⊥
-beside-apart p q p_good q_good beside same =
-    let both = eq-eqb (directory p) (directory q) (ap directory (same_paths p q p_good q_good same)) in
-    absurd cc
+-- none of the places is of its kind
+abbrev pub IsBeside : Place → List Place → Type 0
+IsBeside p dirs = list_any (λ dir. eqb (directory p) (directory dir)) dirs ≡ false
 
--- other directories, the counters and the sessions are as they were
-pub record Stays (dir : Place) (t u : TreeState) : Type 0 where
+-- it is none of the places
+abbrev pub IsApart : Place → List Place → Type 0
+IsApart p dirs = AllByRecursion (λ dir. p ≡ dir → ⊥) dirs
+
+apart-by : (p dir : Place) (b c : Bool) → eqb (directory p) (directory dir) ≡ b → (b || c) ≡ false → (p ≡ dir → ⊥) × (c ≡ false)
+apart-by p dir true c is none = absurd cc
+apart-by p dir false c is none = (λ same. let itself : eqb (directory p) (directory p) ≡ true = eq-eqb (directory p) (directory p) refl in let other = ap (λ (q : Place). eqb (directory p) (directory q)) same in absurd cc, none)
+
+-- a place of another kind is another place
+pub beside-apart : (p : Place) (dirs : List Place) → IsBeside p dirs → IsApart p dirs
+beside-apart p [] beside = tt
+beside-apart p (dir ∷ dirs) beside =
+    let both = apart-by p dir (eqb (directory p) (directory dir)) (list_any (λ dir. eqb (directory p) (directory dir)) dirs) refl beside in
+    (both.0, beside-apart p dirs both.1)
+
+-- places with children that have nothing below them
+abbrev pub has_leaves : Place → Bool
+has_leaves Requests = true
+has_leaves (Semaphore x) = true
+has_leaves Jobs = true
+has_leaves Roles = true
+has_leaves Sessions = true
+has_leaves SweptPairs = true
+has_leaves other = false
+
+-- other directories with their counters, and the sessions, are as they were
+pub record Stays (dirs : List Place) (t u : TreeState) : Type 0 where
   pub live : u.live ≡ t.live
   pub begun : u.begun ≡ t.begun
-  pub rows : (other : Place) → IsGood other → IsBeside other dir → under other u ≡ under other t
-  pub empty : (path : List ℕ) → rows_at t path ≡ [] → rows_at u path ≡ []
-  pub counters : (path : List ℕ) → counter_at u path ≡ counter_at t path
+  pub rows : (other : Place) → IsGood other → IsApart other dirs → under other u ≡ under other t
+  pub leaves : (other : Place) → IsGood other → has_leaves other ≡ true → IsApart other dirs → HasLeaves other t → HasLeaves other u
+  pub counters : (other : Place) (next : ℕ) → IsGood other → IsApart other dirs → next_under other t ≡ Some next → next_under other u ≡ Some next
 
-module _ (dir : Place) (t u : TreeState) (stays : Stays dir t u) where
-  -- nothing is below the rows of a directory that stays
-  pub leaves-stay : (p : Place) → under p u ≡ under p t → HasLeaves p t → HasLeaves p u
-  leaves-stay p same leaves =
-      subst (λ (rows : List Row). AllByRecursion (λ row. rows_at u (below (path_of p) row.name) ≡ []) rows) (sym same)
-      (all-weaker (λ (row : Row). rows_at t (below (path_of p) row.name) ≡ []) (λ (row : Row). rows_at u (below (path_of p) row.name) ≡ []) (λ row none. stays.empty (below (path_of p) row.name) none) (under p t) leaves)
+-- what stays in each of two steps stays in both
+pub stays-more : (dir : Place) (dirs : List Place) (t v u : TreeState) → Stays (dir ∷ []) t v → Stays dirs v u → Stays (dir ∷ dirs) t u
+stays-more dir dirs t v u one more = record {
+  live = more.live ∙ one.live;
+  begun = more.begun ∙ one.begun;
+  rows = λ other good apart. more.rows other good apart.1 ∙ one.rows other good (apart.0, tt);
+  leaves = λ other good has apart leaves. more.leaves other good has apart.1 (one.leaves other good has (apart.0, tt) leaves);
+  counters = λ other next good apart is. more.counters other next good apart.1 (one.counters other next good (apart.0, tt) is);
+}
 
-  -- the directories that are always there, with the tick
-  pub frame-stays : (old new : ℕ) → IsBeside Root dir → IsBeside Nodepool dir → IsBeside Zuul dir → IsBeside Tick dir →
+module _ (dirs : List Place) (t u : TreeState) (stays : Stays dirs t u) where
+  -- a directory of another kind
+  pub rows-stay : (p : Place) → IsGood p → IsBeside p dirs → under p u ≡ under p t
+  rows-stay p good beside = stays.rows p good (beside-apart p dirs beside)
+
+  leaves-stay : (p : Place) → IsGood p → has_leaves p ≡ true → IsBeside p dirs → HasLeaves p t → HasLeaves p u
+  leaves-stay p good has beside = stays.leaves p good has (beside-apart p dirs beside)
+
+  counter-stays : (p : Place) (next : ℕ) → IsGood p → IsBeside p dirs → next_under p t ≡ Some next → next_under p u ≡ Some next
+  counter-stays p next good beside = stays.counters p next good (beside-apart p dirs beside)
+
+  -- the directories that are always there, with another tick
+  pub tick-stays : (old new : ℕ) → IsBeside Root dirs → IsBeside Nodepool dirs → IsBeside Zuul dirs → IsBeside Tick dirs →
       under Poolsim u ≡ directories (Jobs ∷ Roles ∷ Sessions ∷ SweptPairs ∷ []) ++ persistent Tick (decimal new) ∷ [] → IsFrame old t → IsFrame new u
-  frame-stays old new root nodepool zuul leaf poolsim frame = record {
-    root = stays.rows Root tt root ∙ frame.root;
-    nodepool = stays.rows Nodepool tt nodepool ∙ frame.nodepool;
-    zuul = stays.rows Zuul tt zuul ∙ frame.zuul;
+  tick-stays old new root nodepool zuul leaf poolsim frame = record {
+    root = rows-stay Root tt root ∙ frame.root;
+    nodepool = rows-stay Nodepool tt nodepool ∙ frame.nodepool;
+    zuul = rows-stay Zuul tt zuul ∙ frame.zuul;
     poolsim = poolsim;
-    leaf = stays.rows Tick tt leaf ∙ frame.leaf;
+    leaf = rows-stay Tick tt leaf ∙ frame.leaf;
   }
 
+  -- the directories that are always there, with the tick
+  pub frame-stays : (tick : ℕ) → IsBeside Root dirs → IsBeside Nodepool dirs → IsBeside Zuul dirs → IsBeside Tick dirs → IsBeside Poolsim dirs → IsFrame tick t → IsFrame tick u
+  frame-stays tick root nodepool zuul leaf poolsim frame = tick-stays tick tick root nodepool zuul leaf (rows-stay Poolsim tt poolsim ∙ frame.poolsim) frame
+
   -- the queue of a lock
-  queue-stays : (lock : Place) (queue : List SessionId) → IsGood lock → IsBeside lock dir → IsQueue lock queue t → IsQueue lock queue u
-  queue-stays lock queue good beside is = record {
+  pub queue-stays : (lock : Place) (queue : List SessionId) → IsGood lock → IsApart lock dirs → IsQueue lock queue t → IsQueue lock queue u
+  queue-stays lock queue good apart is = record {
     next = is.next;
-    gives = stays.counters (path_of lock) ∙ is.gives;
-    waits = subst (λ (rows : List Row). AllZip (IsWait is.next) rows queue) (sym (stays.rows lock good beside)) is.waits;
+    gives = stays.counters lock is.next good apart is.gives;
+    waits = subst (λ (rows : List Row). AllZip (IsWait is.next) rows queue) (sym (stays.rows lock good apart)) is.waits;
   }
 
   -- the records of requests
-  pub requests-stay : (entries : List RequestEntry) (next : ℕ) → IsBeside Requests dir → AreRequests entries next t → AreRequests entries next u
-  requests-stay entries next beside are =
-      let same = stays.rows Requests tt beside in
-      record { rows = same ∙ are.rows; leaves = leaves-stay Requests same are.leaves; gives = stays.counters (path_of Requests) ∙ are.gives }
+  pub requests-stay : (entries : List RequestEntry) (next : ℕ) → IsBeside Requests dirs → AreRequests entries next t → AreRequests entries next u
+  requests-stay entries next beside are = record { rows = rows-stay Requests tt beside ∙ are.rows; leaves = leaves-stay Requests tt refl beside are.leaves; gives = counter-stays Requests next tt beside are.gives }
+
+  -- the queues of requests
+  pub request_queues-stay : (entries : List RequestEntry) → AllByRecursion (λ e. IsGood (Request e.id)) entries → AllByRecursion (λ e. IsApart (RequestLock e.id) dirs) entries → AllByRecursion (λ e. IsQueue (RequestLock e.id) e.queue t) entries →
+      AllByRecursion (λ e. IsQueue (RequestLock e.id) e.queue u) entries
+  request_queues-stay [] good apart all = tt
+  request_queues-stay (e ∷ entries) good apart all = (queue-stays (RequestLock e.id) e.queue good.0 apart.0 all.0, request_queues-stay entries good.1 apart.1 all.1)
 
   -- the locks of requests
-  pub request_locks-stay : (entries : List RequestEntry) → AllByRecursion (λ e. IsGood (Request e.id)) entries → IsBeside RequestLocks dir → eqb 5 (directory dir) ≡ false → AreRequestLocks entries t → AreRequestLocks entries u
-  request_locks-stay entries good beside each_beside are = record { rows = stays.rows RequestLocks tt beside ∙ are.rows; queues = queues entries good are.queues } where
-    queues : (list : List RequestEntry) → AllByRecursion (λ e. IsGood (Request e.id)) list → AllByRecursion (λ e. IsQueue (RequestLock e.id) e.queue t) list → AllByRecursion (λ e. IsQueue (RequestLock e.id) e.queue u) list
-    queues [] all_good all = tt
-    queues (e ∷ list) all_good all = (queue-stays (RequestLock e.id) e.queue all_good.0 each_beside all.0, queues list all_good.1 all.1)
-
-  -- the records of nodes
-  pub nodes-stay : (entries : List NodeEntry) (next : ℕ) → IsBeside Nodes dir → AreNodes entries next t → AreNodes entries next u
-  nodes-stay entries next beside are = record {
-    rows = subst (λ (rows : List Row). AllZip IsNodeRow rows entries) (sym (stays.rows Nodes tt beside)) are.rows;
-    gives = stays.counters (path_of Nodes) ∙ are.gives;
+  pub request_locks-stay : (entries : List RequestEntry) → AllByRecursion (λ e. IsGood (Request e.id)) entries → IsBeside RequestLocks dirs → list_any (λ dir. eqb 5 (directory dir)) dirs ≡ false → AreRequestLocks entries t → AreRequestLocks entries u
+  request_locks-stay entries good beside each_beside are = record {
+    rows = rows-stay RequestLocks tt beside ∙ are.rows;
+    queues = request_queues-stay entries good (all-true (λ (e : RequestEntry). IsApart (RequestLock e.id) dirs) (λ e. beside-apart (RequestLock e.id) dirs each_beside) entries) are.queues;
   }
 
-  -- the locks of nodes
-  pub node_locks-stay : (entries : List NodeEntry) → AllByRecursion (λ e. IsGood (Node e.id)) entries → eqb 7 (directory dir) ≡ false → eqb 8 (directory dir) ≡ false → AreNodeLocks entries t → AreNodeLocks entries u
-  node_locks-stay [] good beside lock_beside are = tt
-  node_locks-stay (e ∷ entries) good beside lock_beside are = (
-    record { rows = stays.rows (Node e.id) good.0 beside ∙ are.0.rows; queue = queue-stays (NodeLock e.id) e.queue good.0 lock_beside are.0.queue },
-    node_locks-stay entries good.1 beside lock_beside are.1,
+  -- the records of nodes
+  pub nodes-stay : (entries : List NodeEntry) (next : ℕ) → IsBeside Nodes dirs → AreNodes entries next t → AreNodes entries next u
+  nodes-stay entries next beside are = record {
+    rows = subst (λ (rows : List Row). AllZip IsNodeRow rows entries) (sym (rows-stay Nodes tt beside)) are.rows;
+    gives = counter-stays Nodes next tt beside are.gives;
+  }
+
+  -- the locks of some nodes
+  pub node_queues-stay : (entries : List NodeEntry) → AllByRecursion (λ e. IsGood (Node e.id)) entries → AllByRecursion (λ e. IsApart (Node e.id) dirs × IsApart (NodeLock e.id) dirs) entries → AreNodeLocks entries t → AreNodeLocks entries u
+  node_queues-stay [] good apart are = tt
+  node_queues-stay (e ∷ entries) good apart are = (
+    record { rows = stays.rows (Node e.id) good.0 apart.0.0 ∙ are.0.rows; queue = queue-stays (NodeLock e.id) e.queue good.0 apart.0.1 are.0.queue },
+    node_queues-stay entries good.1 apart.1 are.1,
   )
 
+  -- the locks of nodes
+  pub node_locks-stay : (entries : List NodeEntry) → AllByRecursion (λ e. IsGood (Node e.id)) entries → list_any (λ dir. eqb 7 (directory dir)) dirs ≡ false → list_any (λ dir. eqb 8 (directory dir)) dirs ≡ false → AreNodeLocks entries t → AreNodeLocks entries u
+  node_locks-stay entries good beside lock_beside are =
+      node_queues-stay entries good (all-true (λ (e : NodeEntry). IsApart (Node e.id) dirs × IsApart (NodeLock e.id) dirs) (λ e. (beside-apart (Node e.id) dirs beside, beside-apart (NodeLock e.id) dirs lock_beside)) entries) are
+
   -- the registrations of launchers
-  pub launchers-stay : (registrations : List Registration) → IsBeside Launchers dir → AreLaunchers registrations t → AreLaunchers registrations u
-  launchers-stay registrations beside are = stays.rows Launchers tt beside ∙ are
+  pub launchers-stay : (registrations : List Registration) → IsBeside Launchers dirs → AreLaunchers registrations t → AreLaunchers registrations u
+  launchers-stay registrations beside are = rows-stay Launchers tt beside ∙ are
+
+  -- the handles of a semaphore
+  pub handles-stay : (handles : List (List JobId)) (x : SemId) → IsGood (Semaphore x) → IsApart (Semaphore x) dirs → HasHandles handles t x → HasHandles handles u x
+  handles-stay handles x good apart has = record { rows = stays.rows (Semaphore x) good apart ∙ has.rows; leaves = stays.leaves (Semaphore x) good refl apart has.leaves }
 
   -- the semaphores with their handles
-  pub semaphores-stay : (handles : List (List JobId)) → length handles ≤ 2 ^ 16 → IsBeside Semaphores dir → eqb 12 (directory dir) ≡ false → AreSemaphores handles t → AreSemaphores handles u
-  semaphores-stay handles few beside each_beside are = record { rows = stays.rows Semaphores tt beside ∙ are.rows; each = each (length handles) 0 (omega arith) are.each } where
+  pub semaphores-stay : (handles : List (List JobId)) → length handles ≤ 2 ^ 16 → IsBeside Semaphores dirs → list_any (λ dir. eqb 12 (directory dir)) dirs ≡ false → AreSemaphores handles t → AreSemaphores handles u
+  semaphores-stay handles few beside each_beside are = record { rows = rows-stay Semaphores tt beside ∙ are.rows; each = each (length handles) 0 (omega arith) are.each } where
     each : (count at : ℕ) → at + count ≤ 2 ^ 16 → AllByRecursion (λ at. HasHandles handles t (record { 0 = at })) (range_with_len at count) → AllByRecursion (λ at. HasHandles handles u (record { 0 = at })) (range_with_len at count)
     each zero at within all = tt
     each (suc count) at within all =
-        let same = stays.rows (Semaphore (record { 0 = at })) (omega arith) each_beside in
-        (record { rows = same ∙ all.0.rows; leaves = leaves-stay (Semaphore (record { 0 = at })) same all.0.leaves }, each count (at + 1) (omega arith) all.1)
+        (handles-stay handles (record { 0 = at }) (omega arith) (beside-apart (Semaphore (record { 0 = at })) dirs each_beside) all.0, each count (at + 1) (omega arith) all.1)
 
   -- the records of jobs
-  pub jobs-stay : (jobs : List JobRecord) → IsBeside Jobs dir → AreJobs jobs t → AreJobs jobs u
-  jobs-stay jobs beside are = let same = stays.rows Jobs tt beside in record { rows = same ∙ are.rows; leaves = leaves-stay Jobs same are.leaves }
+  pub jobs-stay : (jobs : List JobRecord) → IsBeside Jobs dirs → AreJobs jobs t → AreJobs jobs u
+  jobs-stay jobs beside are = record { rows = rows-stay Jobs tt beside ∙ are.rows; leaves = leaves-stay Jobs tt refl beside are.leaves }
 
   -- the records of roles
-  pub roles-stay : (launchers janitors requesters : List RoleRecord) → IsBeside Roles dir → AreRoles launchers janitors requesters t → AreRoles launchers janitors requesters u
-  roles-stay launchers janitors requesters beside are = let same = stays.rows Roles tt beside in record { rows = same ∙ are.rows; leaves = leaves-stay Roles same are.leaves }
+  pub roles-stay : (launchers janitors requesters : List RoleRecord) → IsBeside Roles dirs → AreRoles launchers janitors requesters t → AreRoles launchers janitors requesters u
+  roles-stay launchers janitors requesters beside are = record { rows = rows-stay Roles tt beside ∙ are.rows; leaves = leaves-stay Roles tt refl beside are.leaves }
 
   -- the records of sessions
-  pub sessions-stay : (sessions : List SessionFacts) → IsBeside Sessions dir → AreSessions sessions t → AreSessions sessions u
-  sessions-stay sessions beside are = let same = stays.rows Sessions tt beside in record { rows = same ∙ are.rows; leaves = leaves-stay Sessions same are.leaves }
+  pub sessions-stay : (sessions : List SessionFacts) → IsBeside Sessions dirs → AreSessions sessions t → AreSessions sessions u
+  sessions-stay sessions beside are = record { rows = rows-stay Sessions tt beside ∙ are.rows; leaves = leaves-stay Sessions tt refl beside are.leaves }
 
   -- the swept pairs
-  pub swept-stay : (swept : List Swept) → IsBeside SweptPairs dir → AreSwept swept t → AreSwept swept u
-  swept-stay swept beside are = let same = stays.rows SweptPairs tt beside in record { rows = same ∙ are.rows; leaves = leaves-stay SweptPairs same are.leaves }
+  pub swept-stay : (swept : List Swept) → IsBeside SweptPairs dirs → AreSwept swept t → AreSwept swept u
+  swept-stay swept beside are = record { rows = rows-stay SweptPairs tt beside ∙ are.rows; leaves = leaves-stay SweptPairs tt refl beside are.leaves }
 
   -- the sessions that are live
   pub live-stays : (sessions : List SessionFacts) → AreLive sessions t → AreLive sessions u

@@ -32,12 +32,12 @@ use Rattle.np_layout.specs.Rows.{persistent}
 use Rattle.np_layout.proofs.FirstKinds.{Makes, apart-kinds, kind}
 
 -- a create that is accepted is a part that is accepted
-ok-part : (r : Result (List ℕ) TreeRefusal) (made : List ℕ) → r ≡ Ok made → IsOk (r >>= λ path. Ok (done.Created path))
+pub ok-part : (r : Result (List ℕ) TreeRefusal) (made : List ℕ) → r ≡ Ok made → IsOk (r >>= λ path. Ok (done.Created path))
 ok-part (Ok path) made is = refl
 ok-part (Err refusal) made is = absurd cc
 
 -- a create that is accepted is done
-done-part : (r : Result (List ℕ) TreeRefusal) (made : List ℕ) → r ≡ Ok made → (r >>= λ path. Ok (done.Created path)) ≡ Ok (done.Created made)
+pub done-part : (r : Result (List ℕ) TreeRefusal) (made : List ℕ) → r ≡ Ok made → (r >>= λ path. Ok (done.Created path)) ≡ Ok (done.Created made)
 done-part r made is = ap (λ (x : Result (List ℕ) TreeRefusal). x >>= λ path. Ok (done.Created path)) is
 
 -- a persistent child leaves its parent's counter

@@ -7,6 +7,11 @@ pub mod FirstLists
 pub mod FirstTrees
 pub mod Elsewhere
 pub mod SetLists
+pub mod CreateLists
+pub mod CreateSteps
+pub mod CreateHandles
+pub mod CreateSwept
+pub mod CreateLaunchers
 pub mod SetSteps
 pub mod SetTables
 pub mod SetTicks

@@ -1,5 +1,5 @@
 -- a set of a job's record
-use Rattle.std.proofs.Common.{◌≡◌, ℕ, ◌+◌, List, map, Some, refl, ap, ◌∙◌, subst, arith}
+use Rattle.std.proofs.Common.{◌≡◌, ℕ, ◌+◌, List, [], ◌∷◌, map, Some, refl, ap, ◌∙◌, subst, arith}
 use Rattle.std.specs.Prelude.{slice_get}
 use Rattle.std.specs.List.{list_any}
 use Rattle.np_text.specs.declared.id.JobId.{JobId}
@@ -57,18 +57,18 @@ module _ (s : State) (t : TreeState) (j : JobId) (change : JobRecord → JobReco
       let sets = sets-row t w Jobs (Job j) bytes job-good refl whole in
       let stays = sets.stays in
       record {
-        frame = frame-stays Jobs t u stays s.tick s.tick refl refl refl refl (stays.rows Poolsim tt refl ∙ lays.frame.poolsim) lays.frame;
-        requests = requests-stay Jobs t u stays s.requests s.next_request refl lays.requests;
-        request_locks = request_locks-stay Jobs t u stays s.requests good.requests refl refl lays.request_locks;
-        nodes = nodes-stay Jobs t u stays s.nodes s.next_node refl lays.nodes;
-        node_locks = node_locks-stay Jobs t u stays s.nodes good.nodes refl refl lays.node_locks;
-        launchers = launchers-stay Jobs t u stays s.registrations refl lays.launchers;
-        semaphores = semaphores-stay Jobs t u stays s.handles good.semaphores refl refl lays.semaphores;
+        frame = frame-stays (Jobs ∷ []) t u stays s.tick refl refl refl refl refl lays.frame;
+        requests = requests-stay (Jobs ∷ []) t u stays s.requests s.next_request refl lays.requests;
+        request_locks = request_locks-stay (Jobs ∷ []) t u stays s.requests good.requests refl refl lays.request_locks;
+        nodes = nodes-stay (Jobs ∷ []) t u stays s.nodes s.next_node refl lays.nodes;
+        node_locks = node_locks-stay (Jobs ∷ []) t u stays s.nodes good.nodes refl refl lays.node_locks;
+        launchers = launchers-stay (Jobs ∷ []) t u stays s.registrations refl lays.launchers;
+        semaphores = semaphores-stay (Jobs ∷ []) t u stays s.handles good.semaphores refl refl lays.semaphores;
         jobs = record { rows = sets.each ∙ ap (λ (rows : List Row). map (put_bytes (place_name (Job j)) bytes) rows) lays.jobs.rows ∙ job-rows; leaves = sets.leaves lays.jobs.leaves };
-        roles = roles-stay Jobs t u stays s.launchers s.janitors s.requesters refl lays.roles;
-        sessions = sessions-stay Jobs t u stays s.sessions refl lays.sessions;
-        swept = swept-stay Jobs t u stays s.swept refl lays.swept;
-        live = live-stays Jobs t u stays s.sessions lays.live;
+        roles = roles-stay (Jobs ∷ []) t u stays s.launchers s.janitors s.requesters refl lays.roles;
+        sessions = sessions-stay (Jobs ∷ []) t u stays s.sessions refl lays.sessions;
+        swept = swept-stay (Jobs ∷ []) t u stays s.swept refl lays.swept;
+        live = live-stays (Jobs ∷ []) t u stays s.sessions lays.live;
       }
 
   -- a set of a job's record lays out the state with that record

@@ -28,10 +28,10 @@ use Rattle.np_layout.proofs.SetSteps.{named-other, set-goes, sets-row}
 
 -- ## a node's name is its own
 
-same-is : (a b : NodeId) → (a.0 == b.0) ≡ true → a ≡ b
+pub same-is : (a b : NodeId) → (a.0 == b.0) ≡ true → a ≡ b
 same-is a b same = let number : a.0 ≡ b.0 = grind (arith, nat_tests) in ap (λ (n : ℕ). record { 0 = n }) number
 
-same-self : (a : NodeId) → (a.0 == a.0) ≡ true
+pub same-self : (a : NodeId) → (a.0 == a.0) ≡ true
 same-self a = grind (arith, nat_tests)
 
 abbrev id_of : Place → NodeId
@@ -111,21 +111,21 @@ module _ (n : NodeId) (change : NodeRecord → NodeRecord) (old : NodeRecord) (b
         let sets = sets-row t w Nodes (Node n) bytes n-good refl whole in
         let stays = sets.stays in
         record {
-          frame = frame-stays Nodes t u stays s.tick s.tick refl refl refl refl (stays.rows Poolsim tt refl ∙ lays.frame.poolsim) lays.frame;
-          requests = requests-stay Nodes t u stays s.requests s.next_request refl lays.requests;
-          request_locks = request_locks-stay Nodes t u stays s.requests good.requests refl refl lays.request_locks;
+          frame = frame-stays (Nodes ∷ []) t u stays s.tick refl refl refl refl refl lays.frame;
+          requests = requests-stay (Nodes ∷ []) t u stays s.requests s.next_request refl lays.requests;
+          request_locks = request_locks-stay (Nodes ∷ []) t u stays s.requests good.requests refl refl lays.request_locks;
           nodes = record {
             rows = subst (λ (rows : List Row). AllZip IsNodeRow rows (change_first is_it with_change s.nodes)) (sym sets.first) (node-rows (under Nodes t) s.nodes good.nodes n-good lays.nodes.rows there);
-            gives = stays.counters (path_of Nodes) ∙ lays.nodes.gives;
+            gives = sets.counter ∙ lays.nodes.gives;
           };
-          node_locks = all-change_first (HasNodeLock u) is_it with_change s.nodes (λ e has. record { rows = has.rows; queue = has.queue }) (node_locks-stay Nodes t u stays s.nodes good.nodes refl refl lays.node_locks);
-          launchers = launchers-stay Nodes t u stays s.registrations refl lays.launchers;
-          semaphores = semaphores-stay Nodes t u stays s.handles good.semaphores refl refl lays.semaphores;
-          jobs = jobs-stay Nodes t u stays s.jobs refl lays.jobs;
-          roles = roles-stay Nodes t u stays s.launchers s.janitors s.requesters refl lays.roles;
-          sessions = sessions-stay Nodes t u stays s.sessions refl lays.sessions;
-          swept = swept-stay Nodes t u stays s.swept refl lays.swept;
-          live = live-stays Nodes t u stays s.sessions lays.live;
+          node_locks = all-change_first (HasNodeLock u) is_it with_change s.nodes (λ e has. record { rows = has.rows; queue = has.queue }) (node_locks-stay (Nodes ∷ []) t u stays s.nodes good.nodes refl refl lays.node_locks);
+          launchers = launchers-stay (Nodes ∷ []) t u stays s.registrations refl lays.launchers;
+          semaphores = semaphores-stay (Nodes ∷ []) t u stays s.handles good.semaphores refl refl lays.semaphores;
+          jobs = jobs-stay (Nodes ∷ []) t u stays s.jobs refl lays.jobs;
+          roles = roles-stay (Nodes ∷ []) t u stays s.launchers s.janitors s.requesters refl lays.roles;
+          sessions = sessions-stay (Nodes ∷ []) t u stays s.sessions refl lays.sessions;
+          swept = swept-stay (Nodes ∷ []) t u stays s.swept refl lays.swept;
+          live = live-stays (Nodes ∷ []) t u stays s.sessions lays.live;
         }
 
 -- a set of a node's record lays out the state with that record, in either spelling of it

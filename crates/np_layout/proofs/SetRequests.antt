@@ -29,14 +29,14 @@ use Rattle.np_layout.proofs.SetSteps.{named-other, set-goes, sets-row}
 
 -- ## a request's name is its own
 
-same-is : (a b : RequestId) → same_request a b ≡ true → a ≡ b
+pub same-is : (a b : RequestId) → same_request a b ≡ true → a ≡ b
 same-is a b same =
     let priority : a.priority ≡ b.priority = grind (arith, nat_tests) in
     let seq : a.seq ≡ b.seq = grind (arith, nat_tests) in
     let id : record { priority = a.priority; seq = a.seq } ≡ record { priority = b.priority; seq = b.seq } = rw (priority, seq) refl in
     id
 
-same-self : (a : RequestId) → same_request a a ≡ true
+pub same-self : (a : RequestId) → same_request a a ≡ true
 same-self a = grind (arith, nat_tests)
 
 abbrev id_of : Place → RequestId
@@ -122,24 +122,24 @@ module _ (r : RequestId) (change : RequestRecord → RequestRecord) (old : Reque
         let sets = sets-row t w Requests (Request r) bytes r-good refl whole in
         let stays = sets.stays in
         record {
-          frame = frame-stays Requests t u stays s.tick s.tick refl refl refl refl (stays.rows Poolsim tt refl ∙ lays.frame.poolsim) lays.frame;
+          frame = frame-stays (Requests ∷ []) t u stays s.tick refl refl refl refl refl lays.frame;
           requests = record {
             rows =
                 sets.first ∙ ap (change_first (is_named (place_name (Request r))) (row_with bytes)) lays.requests.rows
                 ∙ request-rows s.requests good.requests r-good there;
             leaves = sets.leaves lays.requests.leaves;
-            gives = stays.counters (path_of Requests) ∙ lays.requests.gives;
+            gives = sets.counter ∙ lays.requests.gives;
           };
-          request_locks = locks-change s.requests u (request_locks-stay Requests t u stays s.requests good.requests refl refl lays.request_locks);
-          nodes = nodes-stay Requests t u stays s.nodes s.next_node refl lays.nodes;
-          node_locks = node_locks-stay Requests t u stays s.nodes good.nodes refl refl lays.node_locks;
-          launchers = launchers-stay Requests t u stays s.registrations refl lays.launchers;
-          semaphores = semaphores-stay Requests t u stays s.handles good.semaphores refl refl lays.semaphores;
-          jobs = jobs-stay Requests t u stays s.jobs refl lays.jobs;
-          roles = roles-stay Requests t u stays s.launchers s.janitors s.requesters refl lays.roles;
-          sessions = sessions-stay Requests t u stays s.sessions refl lays.sessions;
-          swept = swept-stay Requests t u stays s.swept refl lays.swept;
-          live = live-stays Requests t u stays s.sessions lays.live;
+          request_locks = locks-change s.requests u (request_locks-stay (Requests ∷ []) t u stays s.requests good.requests refl refl lays.request_locks);
+          nodes = nodes-stay (Requests ∷ []) t u stays s.nodes s.next_node refl lays.nodes;
+          node_locks = node_locks-stay (Requests ∷ []) t u stays s.nodes good.nodes refl refl lays.node_locks;
+          launchers = launchers-stay (Requests ∷ []) t u stays s.registrations refl lays.launchers;
+          semaphores = semaphores-stay (Requests ∷ []) t u stays s.handles good.semaphores refl refl lays.semaphores;
+          jobs = jobs-stay (Requests ∷ []) t u stays s.jobs refl lays.jobs;
+          roles = roles-stay (Requests ∷ []) t u stays s.launchers s.janitors s.requesters refl lays.roles;
+          sessions = sessions-stay (Requests ∷ []) t u stays s.sessions refl lays.sessions;
+          swept = swept-stay (Requests ∷ []) t u stays s.swept refl lays.swept;
+          live = live-stays (Requests ∷ []) t u stays s.sessions lays.live;
         }
 
 -- a set of a request's record lays out the state with that record

@@ -1,5 +1,5 @@
 -- a set of the record of a role
-use Rattle.std.proofs.Common.{◌≡◌, ℕ, Bool, true, false, ◌||◌, List, ◌++◌, map, Some, refl, ap, ◌∙◌, subst, arith}
+use Rattle.std.proofs.Common.{◌≡◌, ℕ, Bool, true, false, ◌||◌, List, [], ◌∷◌, ◌++◌, map, Some, refl, ap, ◌∙◌, subst, arith}
 use Rattle.std.specs.Prelude.{slice_get}
 use Rattle.std.specs.List.{list_any}
 use Rattle.std.proofs.lemmas.List.{map-append}
@@ -95,14 +95,14 @@ module _ (s : State) (t : TreeState) (whole : IsWhole t.nodes) (good : HasGoodId
       let sets = sets-row t w Roles p bytes p_good over whole in
       let stays = sets.stays in
       record {
-        frame = frame-stays Roles t u stays s.tick s.tick refl refl refl refl (stays.rows Poolsim tt refl ∙ lays.frame.poolsim) lays.frame;
-        requests = requests-stay Roles t u stays s.requests s.next_request refl lays.requests;
-        request_locks = request_locks-stay Roles t u stays s.requests good.requests refl refl lays.request_locks;
-        nodes = nodes-stay Roles t u stays s.nodes s.next_node refl lays.nodes;
-        node_locks = node_locks-stay Roles t u stays s.nodes good.nodes refl refl lays.node_locks;
-        launchers = launchers-stay Roles t u stays s.registrations refl lays.launchers;
-        semaphores = semaphores-stay Roles t u stays s.handles good.semaphores refl refl lays.semaphores;
-        jobs = jobs-stay Roles t u stays s.jobs refl lays.jobs;
+        frame = frame-stays (Roles ∷ []) t u stays s.tick refl refl refl refl refl lays.frame;
+        requests = requests-stay (Roles ∷ []) t u stays s.requests s.next_request refl lays.requests;
+        request_locks = request_locks-stay (Roles ∷ []) t u stays s.requests good.requests refl refl lays.request_locks;
+        nodes = nodes-stay (Roles ∷ []) t u stays s.nodes s.next_node refl lays.nodes;
+        node_locks = node_locks-stay (Roles ∷ []) t u stays s.nodes good.nodes refl refl lays.node_locks;
+        launchers = launchers-stay (Roles ∷ []) t u stays s.registrations refl lays.launchers;
+        semaphores = semaphores-stay (Roles ∷ []) t u stays s.handles good.semaphores refl refl lays.semaphores;
+        jobs = jobs-stay (Roles ∷ []) t u stays s.jobs refl lays.jobs;
         roles = record {
           rows =
               sets.each ∙ ap (λ (list : List Row). map (put_bytes (place_name p) bytes) list) lays.roles.rows
@@ -110,9 +110,9 @@ module _ (s : State) (t : TreeState) (whole : IsWhole t.nodes) (good : HasGoodId
               ∙ ap by_name rows;
           leaves = sets.leaves lays.roles.leaves;
         };
-        sessions = sessions-stay Roles t u stays s.sessions refl lays.sessions;
-        swept = swept-stay Roles t u stays s.swept refl lays.swept;
-        live = live-stays Roles t u stays s.sessions lays.live;
+        sessions = sessions-stay (Roles ∷ []) t u stays s.sessions refl lays.sessions;
+        swept = swept-stay (Roles ∷ []) t u stays s.swept refl lays.swept;
+        live = live-stays (Roles ∷ []) t u stays s.sessions lays.live;
       }
 
   role-set : (p : Place) (bytes : List ℕ) (launchers janitors requesters : List RoleRecord) → IsGood p → above p ≡ Some Roles →

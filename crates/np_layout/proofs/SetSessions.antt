@@ -83,23 +83,23 @@ module _ (s : State) (t : TreeState) (session : SessionId) (facts : SessionFacts
       let sets = sets-row t w Sessions (Session session) bytes session-good refl whole in
       let stays = sets.stays in
       record {
-        frame = frame-stays Sessions t u stays s.tick s.tick refl refl refl refl (stays.rows Poolsim tt refl ∙ lays.frame.poolsim) lays.frame;
-        requests = requests-stay Sessions t u stays s.requests s.next_request refl lays.requests;
-        request_locks = request_locks-stay Sessions t u stays s.requests good.requests refl refl lays.request_locks;
-        nodes = nodes-stay Sessions t u stays s.nodes s.next_node refl lays.nodes;
-        node_locks = node_locks-stay Sessions t u stays s.nodes good.nodes refl refl lays.node_locks;
-        launchers = launchers-stay Sessions t u stays s.registrations refl lays.launchers;
-        semaphores = semaphores-stay Sessions t u stays s.handles good.semaphores refl refl lays.semaphores;
-        jobs = jobs-stay Sessions t u stays s.jobs refl lays.jobs;
-        roles = roles-stay Sessions t u stays s.launchers s.janitors s.requesters refl lays.roles;
+        frame = frame-stays (Sessions ∷ []) t u stays s.tick refl refl refl refl refl lays.frame;
+        requests = requests-stay (Sessions ∷ []) t u stays s.requests s.next_request refl lays.requests;
+        request_locks = request_locks-stay (Sessions ∷ []) t u stays s.requests good.requests refl refl lays.request_locks;
+        nodes = nodes-stay (Sessions ∷ []) t u stays s.nodes s.next_node refl lays.nodes;
+        node_locks = node_locks-stay (Sessions ∷ []) t u stays s.nodes good.nodes refl refl lays.node_locks;
+        launchers = launchers-stay (Sessions ∷ []) t u stays s.registrations refl lays.launchers;
+        semaphores = semaphores-stay (Sessions ∷ []) t u stays s.handles good.semaphores refl refl lays.semaphores;
+        jobs = jobs-stay (Sessions ∷ []) t u stays s.jobs refl lays.jobs;
+        roles = roles-stay (Sessions ∷ []) t u stays s.launchers s.janitors s.requesters refl lays.roles;
         sessions = record {
           rows =
               sets.each ∙ ap (λ (rows : List Row). map (put_bytes (place_name (Session session)) bytes) rows) lays.sessions.rows
               ∙ table-change session_at session_number Sessions 1 s.sessions is-sessions text at session.0 facts first there muted;
           leaves = sets.leaves lays.sessions.leaves;
         };
-        swept = swept-stay Sessions t u stays s.swept refl lays.swept;
-        live = mutes-live at s.sessions u (live-stays Sessions t u stays s.sessions lays.live);
+        swept = swept-stay (Sessions ∷ []) t u stays s.swept refl lays.swept;
+        live = mutes-live at s.sessions u (live-stays (Sessions ∷ []) t u stays s.sessions lays.live);
       }
 
 -- a set of a session's record to mute lays out the state in which it is

@@ -1,12 +1,12 @@
 -- one set of the bytes of a good place
-use Rattle.std.proofs.Common.{◌≡◌, ℕ, ◌+◌, ◌≤◌, Bool, true, false, List, [], length, map, Some, Result, Ok, Err, refl, sym, ap, ◌∙◌, subst}
+use Rattle.std.proofs.Common.{◌≡◌, ℕ, ◌+◌, ◌≤◌, Bool, true, false, List, [], ◌∷◌, length, map, Some, Result, Ok, Err, refl, sym, ap, ◌∙◌, subst}
 use Rattle.std.specs.Prelude.{IsOk}
 use Rattle.std.specs.List.{AllByRecursion, list_any}
 use Rattle.std.specs.Option.{option_map}
 use Rattle.std.specs.Str.{bytes_eq}
 use Rattle.np_lists.specs.Change.{change_first}
 use Rattle.np_lists.specs.Refusals.{◌>>=◌}
-use Rattle.np_lists.proofs.Each.{all-mapped}
+use Rattle.np_lists.proofs.Each.{all-mapped, all-weaker}
 use Rattle.np_lists.proofs.FoundLemmas.{found-change_first}
 use Rattle.np_path.specs.Parts.{below, name_of, parent_of}
 use Rattle.np_session.specs.Known.{is_in}
@@ -19,6 +19,7 @@ use Rattle.np_nodes.specs.declared.node.Node.{Node}
 use Rattle.np_nodes.specs.declared.op.OpDone.TheVariants as done
 use Rattle.np_nodes.specs.declared.refusal.TreeRefusal.{TreeRefusal}
 use Rattle.np_nodes.proofs.PlaceLemmas.{bytes_eq-from, bytes_eq-is, bytes_eq-not}
+use Rattle.np_tree.specs.Read.{counter_at}
 use Rattle.np_tree.specs.Whole.{IsWhole}
 use Rattle.np_views.specs.Several.{HasRoomFor}
 use Rattle.np_views.specs.Views.{Row, find_named, is_named, row_with, rows_at, seen_at, seen_in}
@@ -29,10 +30,10 @@ use Rattle.np_views.proofs.RowLemmas.{rows-changed, rows-changed_other}
 use Rattle.np_places.specs.Place.{IsGood, above, path_of, place_name}
 use Rattle.np_places.specs.declared.place.Place.{Place}
 use Rattle.np_places.proofs.AboveLemmas.{IsGood-above, is_path-of, parts-of}
-use Rattle.np_places.proofs.ChildLemmas.{same_names}
-use Rattle.np_layout.specs.Layout.{HasLeaves, under}
+use Rattle.np_places.proofs.ChildLemmas.{same_names, same_paths}
+use Rattle.np_layout.specs.Layout.{HasLeaves, next_under, under}
 use Rattle.np_layout.specs.Sets.{set}
-use Rattle.np_layout.proofs.Elsewhere.{Stays, beside-apart}
+use Rattle.np_layout.proofs.Elsewhere.{IsApart, Stays}
 use Rattle.np_layout.proofs.SetLists.{any-found, put-first, put-name, put_bytes}
 
 -- ## names
@@ -49,10 +50,11 @@ named-here p = bytes_eq-from (place_name p) (place_name p) refl
 
 -- in one directory the row of a name has other bytes, and everything else is as it was
 pub record SetsRow (dir p : Place) (bytes : List ℕ) (t u : TreeState) : Type 0 where
-  pub stays : Stays dir t u
+  pub stays : Stays (dir ∷ []) t u
   pub first : under dir u ≡ change_first (is_named (place_name p)) (row_with bytes) (under dir t)
   pub each : under dir u ≡ map (put_bytes (place_name p) bytes) (under dir t)
   pub leaves : HasLeaves dir t → HasLeaves dir u
+  pub counter : next_under dir u ≡ next_under dir t
 
 -- no rows stay no rows
 empty-by : (dir path : List ℕ) (t u : TreeState) (change : List Row → List Row) (b : Bool) → bytes_eq path dir ≡ b → change [] ≡ [] → rows_at u dir ≡ change (rows_at t dir) → ((path ≡ dir → ⊥) → rows_at u path ≡ rows_at t path) → rows_at t path ≡ [] → rows_at u path ≡ []
@@ -70,6 +72,10 @@ sets-row t w dir p bytes good over whole =
     let parent : parent_of (path_of p) ≡ Some (path_of dir) = (parts-of p good).0 ∙ ap (option_map path_of) over in
     let dir_good = IsGood-above p dir good over in
     let others : (other : List ℕ) → (other ≡ path_of dir → ⊥) → rows_at u other ≡ rows_at t other = λ other apart. rows-changed_other other (path_of dir) (path_of p) apart parent f (λ _. refl) t.nodes in
+    let other_rows : (other : Place) → IsGood other → IsApart other (dir ∷ []) → under other u ≡ under other t =
+    λ other other_good apart. others (path_of other) (λ same. apart.0 (same_paths other dir other_good dir_good same)) in
+    let counters : (path : List ℕ) → counter_at u path ≡ counter_at t path =
+    λ path. found-change_first (option_map (λ (n : Node). n.facts.counter)) (is_at (path_of p)) (is_at path) f (λ _. refl) (λ _. refl) t.nodes in
     let first : under dir u ≡ change_first (is_named name) (row_with bytes) (under dir t) =
     rows-changed (path_of dir) (path_of p) (is_path-of p good) parent f (row_with bytes) (λ _. refl) (λ _. refl) t.nodes whole.paths
     ∙ ap (λ (last : List ℕ). change_first (is_named last) (row_with bytes) (under dir t)) (parts-of p good).1 in
@@ -80,10 +86,13 @@ sets-row t w dir p bytes good over whole =
       stays = record {
         live = refl;
         begun = refl;
-        rows = λ other other_good beside. others (path_of other) (beside-apart other dir other_good dir_good beside);
-        empty = empty;
-        counters = λ other. found-change_first (option_map (λ (n : Node). n.facts.counter)) (is_at (path_of p)) (is_at other) f (λ _. refl) (λ _. refl) t.nodes;
+        rows = other_rows;
+        leaves = λ other other_good has apart leaves.
+            subst (λ (rows : List Row). AllByRecursion (λ row. rows_at u (below (path_of other) row.name) ≡ []) rows) (sym (other_rows other other_good apart))
+            (all-weaker (λ (row : Row). rows_at t (below (path_of other) row.name) ≡ []) (λ (row : Row). rows_at u (below (path_of other) row.name) ≡ []) (λ row none. empty (below (path_of other) row.name) none) (under other t) leaves);
+        counters = λ other next other_good apart is. counters (path_of other) ∙ is;
       };
+      counter = counters (path_of dir);
       first = first;
       each = each;
       leaves = λ leaves. subst (λ (rows : List Row). AllByRecursion (λ row. rows_at u (below (path_of dir) row.name) ≡ []) rows) (sym each)

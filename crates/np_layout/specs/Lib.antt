@@ -4,3 +4,4 @@ pub mod First
 pub mod Worked
 pub mod Laws
 pub mod Sets
+pub mod Creates

@@ -30,7 +30,7 @@ use Rattle.np_machine.specs.declared.state.SessionFacts.{SessionFacts}
 use Rattle.np_places.specs.Place.{IsGood, path_of}
 use Rattle.np_places.specs.Roles.{place_of_role}
 use Rattle.np_places.specs.declared.place.Place.{Place}
-use Rattle.np_places.specs.declared.place.Place.TheVariants.{Request, Node, Job, Session, Tick}
+use Rattle.np_places.specs.declared.place.Place.TheVariants.{Request, Node, Launcher, Job, Session, Swept, Tick}
 use Rattle.np_layout.specs.Layout.{LaysOut}
 
 -- each record and each lock of the state has a place whose ids have a text
@@ -38,11 +38,14 @@ pub record HasGoodIds (s : State) : Type 0 where
   pub sessions : length s.sessions < 2 ^ 32
   pub requests : AllByRecursion (λ e. IsGood (Request e.id)) s.requests
   pub nodes : AllByRecursion (λ e. IsGood (Node e.id)) s.nodes
+  pub registrations : AllByRecursion (λ g. IsGood (Launcher g.pool)) s.registrations
   pub semaphores : length s.handles ≤ 2 ^ 16
+  pub handles : AllByRecursion (λ jobs. AllByRecursion (λ j. IsGood (Job j)) jobs) s.handles
   pub jobs : length s.jobs ≤ 2 ^ 32
   pub launchers : length s.launchers ≤ 2 ^ 16
   pub janitors : length s.janitors ≤ 2 ^ 16
   pub requesters : length s.requesters ≤ 2 ^ 16
+  pub swept : AllByRecursion (λ pair. IsGood (Swept pair.node pair.server)) s.swept
 
 -- the bytes of a place are set, whatever its version
 abbrev pub set : List ℕ → Place → Op

@@ -1,5 +1,6 @@
 //! Laws of the layout. Each function does nothing: its contract is the law.
 
+ghost use Rattle.np_layout.specs.Creates.{HandlesLayOut, RegistrationsLayOut, SweptPairsLayOut};
 ghost use Rattle.np_layout.specs.Laws.{FirstCallsAreAccepted, FirstTreesLayOut};
 ghost use Rattle.np_layout.specs.Layout.{LaysOut};
 ghost use Rattle.np_layout.specs.Sets.{JobChangesLayOut, JobsLayOut, MutesLayOut, NodesLayOut, RequestsLayOut, RolesLayOut, TicksLayOut};
@@ -57,4 +58,20 @@ pub fn sets_of_requests_lay_out()
 /// A set of a node's record lays out the state with that record, whichever way the bytes spell it.
 pub fn sets_of_nodes_lay_out()
     ensures { NodesLayOut }
+{}
+
+/// A create of a semaphore's handle for a job that has none lays out the state in which the job has.
+pub fn creates_of_handles_lay_out()
+    ensures { HandlesLayOut }
+{}
+
+/// A create of a swept pair that is not there lays out the state in which it is.
+pub fn creates_of_swept_pairs_lay_out()
+    ensures { SweptPairsLayOut }
+{}
+
+/// A create of a launcher's registration, by its session, lays out the state in which it is
+/// registered, if nobody is registered for the pool.
+pub fn creates_of_registrations_lay_out()
+    ensures { RegistrationsLayOut }
 {}

@@ -13,7 +13,7 @@
 mod laws;
 
 pub use laws::{
-    a_worked_tree_lays_out_its_state, first_trees_lay_out_the_start, other_trees_do_not,
+    a_worked_tree_lays_out_its_state, creates_of_handles_lay_out, creates_of_registrations_lay_out, creates_of_swept_pairs_lay_out, first_trees_lay_out_the_start, other_trees_do_not,
     sets_of_jobs_lay_out, sets_of_nodes_lay_out, sets_of_requests_lay_out, sets_of_roles_lay_out,
     sets_of_sessions_lay_out, sets_of_the_tick_lay_out,
 };
