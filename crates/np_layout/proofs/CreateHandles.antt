@@ -190,7 +190,7 @@ module _ (s : State) (t : TreeState) (w : ℕ) (x : SemId) (j : JobId) (whole : 
         roles = roles-stay dirs t u stays s.launchers s.janitors s.requesters refl lays.roles;
         sessions = sessions-stay dirs t u stays s.sessions refl lays.sessions;
         swept = swept-stay dirs t u stays s.swept refl lays.swept;
-        live = live-stays dirs t u stays s.sessions lays.live;
+        live = live-stays t u step.creates.live step.creates.begun s.sessions lays.live;
       }
 
 -- a create of a handle lays out the state in which the job has it

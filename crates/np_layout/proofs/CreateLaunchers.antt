@@ -102,7 +102,7 @@ module _ (s : State) (t : TreeState) (session : SessionId) (p : PoolId) (whole :
         roles = roles-stay dirs t u stays s.launchers s.janitors s.requesters refl lays.roles;
         sessions = sessions-stay dirs t u stays s.sessions refl lays.sessions;
         swept = swept-stay dirs t u stays s.swept refl lays.swept;
-        live = live-stays dirs t u stays s.sessions lays.live;
+        live = live-stays t u step.creates.live step.creates.begun s.sessions lays.live;
       }
 
 -- a create of a registration lays out the state in which the launcher is registered

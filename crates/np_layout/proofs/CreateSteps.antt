@@ -46,6 +46,8 @@ use Rattle.np_layout.proofs.FirstSteps.{done-part, ok-part}
 
 -- a directory has one row more, with nothing below it, and everything else is as it was
 pub record CreatesRow (dir p : Place) (mode : Mode) (row : Row) (t u : TreeState) : Type 0 where
+  pub live : u.live ≡ t.live
+  pub begun : u.begun ≡ t.begun
   pub stays : Stays (dir ∷ []) t u
   pub whole : IsWhole u.nodes
   pub rows : under dir u ≡ with_row row (under dir t)
@@ -99,9 +101,9 @@ created t w part dir p mode row made good over top named whole is_part free answ
     λ other other_good apart. shows.other_rows (path_of other) (λ same. apart.0 (same_paths other dir other_good dir_good same)) in
     let dir_over : parent_of (path_of dir) ≡ option_map path_of (above dir) = (parts-of dir dir_good).0 in
     record {
+      live = ap (λ (v : TreeState). v.live) alone;
+      begun = ap (λ (v : TreeState). v.begun) alone;
       stays = record {
-        live = ap (λ (v : TreeState). v.live) alone;
-        begun = ap (λ (v : TreeState). v.begun) alone;
         rows = other_rows;
         leaves = λ other other_good has apart leaves.
             subst (λ (rows : List Row). AllByRecursion (λ row. rows_at u (below (path_of other) row.name) ≡ []) rows) (sym (other_rows other other_good apart))

@@ -103,7 +103,7 @@ module _ (s : State) (t : TreeState) (w : ℕ) (n : NodeId) (server : ℕ) (whol
               ∙ ap (λ (b : Bool). by_name (map swept_row (cond b s.swept (insert_before (is_pair_after n server) pair_made s.swept)))) (sym new);
           leaves = step.creates.leaves lays.swept.leaves;
         };
-        live = live-stays dirs t u stays s.sessions lays.live;
+        live = live-stays t u step.creates.live step.creates.begun s.sessions lays.live;
       }
 
 -- a create of a swept pair lays out the state in which it is swept

@@ -75,10 +75,8 @@ has_leaves Sessions = true
 has_leaves SweptPairs = true
 has_leaves other = false
 
--- other directories with their counters, and the sessions, are as they were
+-- other directories with their counters are as they were
 pub record Stays (dirs : List Place) (t u : TreeState) : Type 0 where
-  pub live : u.live ≡ t.live
-  pub begun : u.begun ≡ t.begun
   pub rows : (other : Place) → IsGood other → IsApart other dirs → under other u ≡ under other t
   pub leaves : (other : Place) → IsGood other → has_leaves other ≡ true → IsApart other dirs → HasLeaves other t → HasLeaves other u
   pub counters : (other : Place) (next : ℕ) → IsGood other → IsApart other dirs → next_under other t ≡ Some next → next_under other u ≡ Some next
@@ -86,8 +84,6 @@ pub record Stays (dirs : List Place) (t u : TreeState) : Type 0 where
 -- what stays in each of two steps stays in both
 pub stays-more : (dir : Place) (dirs : List Place) (t v u : TreeState) → Stays (dir ∷ []) t v → Stays dirs v u → Stays (dir ∷ dirs) t u
 stays-more dir dirs t v u one more = record {
-  live = more.live ∙ one.live;
-  begun = more.begun ∙ one.begun;
   rows = λ other good apart. more.rows other good apart.1 ∙ one.rows other good (apart.0, tt);
   leaves = λ other good has apart leaves. more.leaves other good has apart.1 (one.leaves other good has (apart.0, tt) leaves);
   counters = λ other next good apart is. more.counters other next good apart.1 (one.counters other next good (apart.0, tt) is);
@@ -196,12 +192,12 @@ module _ (dirs : List Place) (t u : TreeState) (stays : Stays dirs t u) where
   pub swept-stay : (swept : List Swept) → IsBeside SweptPairs dirs → AreSwept swept t → AreSwept swept u
   swept-stay swept beside are = record { rows = rows-stay SweptPairs tt beside ∙ are.rows; leaves = leaves-stay SweptPairs tt refl beside are.leaves }
 
-  -- the sessions that are live
-  pub live-stays : (sessions : List SessionFacts) → AreLive sessions t → AreLive sessions u
-  live-stays sessions are =
-      let same = sym stays.live in
-      record {
-        begun = stays.begun ∙ are.begun;
-        first = subst (λ (list : List ℕ). is_in list 1 ≡ true) same are.first;
-        each = subst (λ (list : List ℕ). map (is_in list) (range_with_len 2 (length sessions)) ≡ map (λ f. f.live) sessions) same are.each;
-      }
+-- the sessions that are live
+pub live-stays : (t u : TreeState) → u.live ≡ t.live → u.begun ≡ t.begun → (sessions : List SessionFacts) → AreLive sessions t → AreLive sessions u
+live-stays t u live begun sessions are =
+    let same = sym live in
+    record {
+      begun = begun ∙ are.begun;
+      first = subst (λ (list : List ℕ). is_in list 1 ≡ true) same are.first;
+      each = subst (λ (list : List ℕ). map (is_in list) (range_with_len 2 (length sessions)) ≡ map (λ f. f.live) sessions) same are.each;
+    }

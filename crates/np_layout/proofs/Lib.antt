@@ -12,6 +12,12 @@ pub mod CreateSteps
 pub mod CreateHandles
 pub mod CreateSwept
 pub mod CreateLaunchers
+pub mod CreateWaits
+pub mod CreateRequestWaits
+pub mod CreateNodeWaits
+pub mod CreateSessions
+pub mod CreateRequests
+pub mod CreateNodes
 pub mod SetSteps
 pub mod SetTables
 pub mod SetTicks

@@ -68,7 +68,7 @@ module _ (s : State) (t : TreeState) (j : JobId) (change : JobRecord → JobReco
         roles = roles-stay (Jobs ∷ []) t u stays s.launchers s.janitors s.requesters refl lays.roles;
         sessions = sessions-stay (Jobs ∷ []) t u stays s.sessions refl lays.sessions;
         swept = swept-stay (Jobs ∷ []) t u stays s.swept refl lays.swept;
-        live = live-stays (Jobs ∷ []) t u stays s.sessions lays.live;
+        live = live-stays t u sets.live sets.begun s.sessions lays.live;
       }
 
   -- a set of a job's record lays out the state with that record

@@ -125,7 +125,7 @@ module _ (n : NodeId) (change : NodeRecord → NodeRecord) (old : NodeRecord) (b
           roles = roles-stay (Nodes ∷ []) t u stays s.launchers s.janitors s.requesters refl lays.roles;
           sessions = sessions-stay (Nodes ∷ []) t u stays s.sessions refl lays.sessions;
           swept = swept-stay (Nodes ∷ []) t u stays s.swept refl lays.swept;
-          live = live-stays (Nodes ∷ []) t u stays s.sessions lays.live;
+          live = live-stays t u sets.live sets.begun s.sessions lays.live;
         }
 
 -- a set of a node's record lays out the state with that record, in either spelling of it

@@ -43,7 +43,7 @@ abbrev id_of : Place → RequestId
 id_of (Request id) = id
 id_of other = record { priority = 0; seq = 0 }
 
-named-by : (r id : RequestId) (b : Bool) → same_request id r ≡ b → IsGood (Request r) → IsGood (Request id) → bytes_eq (place_name (Request id)) (place_name (Request r)) ≡ b
+pub named-by : (r id : RequestId) (b : Bool) → same_request id r ≡ b → IsGood (Request r) → IsGood (Request id) → bytes_eq (place_name (Request id)) (place_name (Request r)) ≡ b
 named-by r id true same r_good id_good = bytes_eq-from (place_name (Request id)) (place_name (Request r)) (ap (λ (x : RequestId). place_name (Request x)) (same-is id r same))
 named-by r id false same r_good id_good =
     named-other (Request r) (Request id) r_good id_good refl (λ equal.
@@ -139,7 +139,7 @@ module _ (r : RequestId) (change : RequestRecord → RequestRecord) (old : Reque
           roles = roles-stay (Requests ∷ []) t u stays s.launchers s.janitors s.requesters refl lays.roles;
           sessions = sessions-stay (Requests ∷ []) t u stays s.sessions refl lays.sessions;
           swept = swept-stay (Requests ∷ []) t u stays s.swept refl lays.swept;
-          live = live-stays (Requests ∷ []) t u stays s.sessions lays.live;
+          live = live-stays t u sets.live sets.begun s.sessions lays.live;
         }
 
 -- a set of a request's record lays out the state with that record

@@ -112,7 +112,7 @@ module _ (s : State) (t : TreeState) (whole : IsWhole t.nodes) (good : HasGoodId
         };
         sessions = sessions-stay (Roles ∷ []) t u stays s.sessions refl lays.sessions;
         swept = swept-stay (Roles ∷ []) t u stays s.swept refl lays.swept;
-        live = live-stays (Roles ∷ []) t u stays s.sessions lays.live;
+        live = live-stays t u sets.live sets.begun s.sessions lays.live;
       }
 
   role-set : (p : Place) (bytes : List ℕ) (launchers janitors requesters : List RoleRecord) → IsGood p → above p ≡ Some Roles →

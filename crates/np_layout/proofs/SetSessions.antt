@@ -99,7 +99,7 @@ module _ (s : State) (t : TreeState) (session : SessionId) (facts : SessionFacts
           leaves = sets.leaves lays.sessions.leaves;
         };
         swept = swept-stay (Sessions ∷ []) t u stays s.swept refl lays.swept;
-        live = mutes-live at s.sessions u (live-stays (Sessions ∷ []) t u stays s.sessions lays.live);
+        live = mutes-live at s.sessions u (live-stays t u sets.live sets.begun s.sessions lays.live);
       }
 
 -- a set of a session's record to mute lays out the state in which it is

@@ -50,6 +50,8 @@ named-here p = bytes_eq-from (place_name p) (place_name p) refl
 
 -- in one directory the row of a name has other bytes, and everything else is as it was
 pub record SetsRow (dir p : Place) (bytes : List ℕ) (t u : TreeState) : Type 0 where
+  pub live : u.live ≡ t.live
+  pub begun : u.begun ≡ t.begun
   pub stays : Stays (dir ∷ []) t u
   pub first : under dir u ≡ change_first (is_named (place_name p)) (row_with bytes) (under dir t)
   pub each : under dir u ≡ map (put_bytes (place_name p) bytes) (under dir t)
@@ -83,9 +85,9 @@ sets-row t w dir p bytes good over whole =
     λ path. empty-by (path_of dir) path t u (change_first (is_named name) (row_with bytes)) (bytes_eq path (path_of dir)) refl refl first (others path) in
     let each : under dir u ≡ map (put_bytes name bytes) (under dir t) = first ∙ put-first name bytes (under dir t) (rows-rise t (path_of dir) whole) in
     record {
+      live = refl;
+      begun = refl;
       stays = record {
-        live = refl;
-        begun = refl;
         rows = other_rows;
         leaves = λ other other_good has apart leaves.
             subst (λ (rows : List Row). AllByRecursion (λ row. rows_at u (below (path_of other) row.name) ≡ []) rows) (sym (other_rows other other_good apart))

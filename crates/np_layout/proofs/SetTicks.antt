@@ -34,7 +34,7 @@ tick-lays s t tick w whole good lays =
       roles = roles-stay (Poolsim ∷ []) t u stays s.launchers s.janitors s.requesters refl lays.roles;
       sessions = sessions-stay (Poolsim ∷ []) t u stays s.sessions refl lays.sessions;
       swept = swept-stay (Poolsim ∷ []) t u stays s.swept refl lays.swept;
-      live = live-stays (Poolsim ∷ []) t u stays s.sessions lays.live;
+      live = live-stays t u sets.live sets.begun s.sessions lays.live;
     }
 
 -- a set of the tick lays out the state with that tick

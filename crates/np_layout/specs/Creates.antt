@@ -1,27 +1,38 @@
 -- what grows: if a tree lays a state out, the creates of a record, a lock or a mark lay out the state in
 -- which it is, and each of them is accepted
-use Rattle.std.specs.Prelude.{◌≡◌, ◌<◌, ◌^◌, ℕ, true, false, List, [], ◌∷◌, length, None}
+use Rattle.std.specs.Prelude.{◌≡◌, ◌<◌, ◌≤◌, ◌+◌, ◌^◌, ℕ, true, false, List, [], ◌∷◌, ◌++◌, codes, length, Some, None}
+use Rattle.std.specs.Fmt.{decimal}
+use Rattle.std.specs.List.{AllByRecursion}
 use Rattle.np_text.specs.declared.id.JobId.{JobId}
 use Rattle.np_text.specs.declared.id.NodeId.{NodeId}
 use Rattle.np_text.specs.declared.id.PoolId.{PoolId}
+use Rattle.np_text.specs.declared.id.RequestId.{RequestId}
+use Rattle.np_text.specs.declared.id.Role.{Role}
 use Rattle.np_text.specs.declared.id.SemId.{SemId}
 use Rattle.np_text.specs.declared.id.SessionId.{SessionId}
 use Rattle.np_lists.specs.Change.{change_at}
+use Rattle.np_path.specs.Parts.{below}
 use Rattle.np_session.specs.Known.{is_in}
 use Rattle.np_nodes.specs.TreeState.{TreeState}
+use Rattle.np_nodes.specs.Calls.{after_begin}
 use Rattle.np_nodes.specs.Multi.{after_parts}
-use Rattle.np_nodes.specs.declared.kind.Mode.TheVariants.{Ephemeral}
+use Rattle.np_nodes.specs.declared.kind.Mode.TheVariants.{Ephemeral, EphemeralSequential, PersistentSequential}
 use Rattle.np_nodes.specs.declared.op.Op.{Op}
 use Rattle.np_nodes.specs.declared.op.Op.TheVariants as op
 use Rattle.np_tree.specs.Whole.{IsWhole}
 use Rattle.np_views.specs.Several.{Goes, HasRoomFor}
+use Rattle.np_record.specs.declared.record.NodeRecord.{NodeRecord}
+use Rattle.np_record.specs.declared.record.RequestRecord.{RequestRecord}
+use Rattle.np_spelling.specs.Spelling.{SpellsNode, request_record_text, session_text}
+use Rattle.np_machine.specs.Entries.{NodeEntry, RequestEntry}
 use Rattle.np_machine.specs.Node.{is_swept, with_pair}
-use Rattle.np_machine.specs.Request.{registers}
+use Rattle.np_machine.specs.Request.{insert_request, next_id, registers}
 use Rattle.np_machine.specs.Semaphore.{with_handle}
 use Rattle.np_machine.specs.State.{State}
-use Rattle.np_machine.specs.Tables.{has_handle, registered}
+use Rattle.np_machine.specs.Tables.{has_handle, is_queued, joined, node_entry, node_queue, put_node_queue, put_request_queue, registered, request_entry, request_queue}
 use Rattle.np_places.specs.Place.{IsGood, path_of}
-use Rattle.np_places.specs.declared.place.Place.TheVariants.{Launcher, Handle, Swept}
+use Rattle.np_places.specs.declared.place.Place.{Place}
+use Rattle.np_places.specs.declared.place.Place.TheVariants.{Requests, Request, RequestLock, Nodes, NodeLock, Launcher, Handle, Session, Swept}
 use Rattle.np_layout.specs.First.{make}
 use Rattle.np_layout.specs.Layout.{LaysOut}
 use Rattle.np_layout.specs.Rows.{tree_session}
@@ -31,6 +42,22 @@ use Rattle.np_layout.specs.Sets.{HasGoodIds}
 pub record PartsLayOut (s : State) (t : TreeState) (w : ℕ) (parts : List Op) : Type 0 where
   pub goes : Goes t w parts (after_parts t w parts)
   pub lays : LaysOut s (after_parts t w parts)
+
+-- a wait in the queue of a lock, by its session (ZooKeeper Recipes, Locks)
+abbrev pub wait_at : Place → Op
+wait_at lock = op.Create (below (path_of lock) (codes "lock-")) [] EphemeralSequential
+
+-- what a request's name begins with: its number follows (Nodepool developer guide: `200-0000000000`)
+abbrev pub request_prefix : RequestId → List ℕ
+request_prefix r = decimal r.priority ++ codes "-"
+
+-- a request's record and its lock
+abbrev pub request_parts : RequestId → List ℕ → List Op
+request_parts r bytes = op.Create (below (path_of Requests) (request_prefix r)) bytes PersistentSequential ∷ make [] (RequestLock r) ∷ []
+
+-- a node's record, its lock, and the wait of its maker
+abbrev pub node_parts : NodeId → List ℕ → List Op
+node_parts n bytes = op.CreateUnder (path_of Nodes) bytes PersistentSequential ∷ make [] (NodeLock n) ∷ wait_at (NodeLock n) ∷ []
 
 -- ## the laws
 
@@ -48,3 +75,32 @@ SweptPairsLayOut = (s : State) (t : TreeState) (w : ℕ) (n : NodeId) (server : 
 abbrev pub RegistrationsLayOut : Type 0
 RegistrationsLayOut = (s : State) (t : TreeState) (session : SessionId) (p : PoolId) → IsWhole t.nodes → HasGoodIds s → LaysOut s t → is_in t.live (tree_session session) ≡ true → HasRoomFor 1 t → IsGood (Launcher p) → registered p s.registrations ≡ None →
     PartsLayOut (registers s session p) t (tree_session session) (op.Create (path_of (Launcher p)) [] Ephemeral ∷ [])
+
+-- a session waits at a request's lock, and was not in its queue
+abbrev pub RequestWaitsLayOut : Type 0
+RequestWaitsLayOut = (s : State) (t : TreeState) (session : SessionId) (r : RequestId) (e : RequestEntry) → IsWhole t.nodes → HasGoodIds s → LaysOut s t → is_in t.live (tree_session session) ≡ true → HasRoomFor 1 t →
+    request_entry r s.requests ≡ Some e → is_queued session e.queue ≡ false →
+    PartsLayOut (record s { requests = put_request_queue r (joined session (request_queue r s.requests)) s.requests }) t (tree_session session) (wait_at (RequestLock r) ∷ [])
+
+-- a session waits at a node's lock, and was not in its queue
+abbrev pub NodeWaitsLayOut : Type 0
+NodeWaitsLayOut = (s : State) (t : TreeState) (session : SessionId) (n : NodeId) (e : NodeEntry) → IsWhole t.nodes → HasGoodIds s → LaysOut s t → is_in t.live (tree_session session) ≡ true → HasRoomFor 1 t →
+    node_entry n s.nodes ≡ Some e → is_queued session e.queue ≡ false →
+    PartsLayOut (record s { nodes = put_node_queue n (joined session (node_queue n s.nodes)) s.nodes }) t (tree_session session) (wait_at (NodeLock n) ∷ [])
+
+-- a session begins, and the tree's first session makes its record
+abbrev pub SessionsLayOut : Type 0
+SessionsLayOut = (s : State) (t : TreeState) (role : Role) → IsWhole t.nodes → HasGoodIds s → LaysOut s t → HasRoomFor 1 t → length s.sessions + 1 < 2 ^ 32 → length (session_text (record { mute = false; role = role })) ≤ 65_536 →
+    PartsLayOut (record s { sessions = s.sessions ++ record { role = role; live = true; mute = false } ∷ [] }) (after_begin t) 1 (make (session_text (record { mute = false; role = role })) (Session (record { 0 = length s.sessions + 1 })) ∷ [])
+
+-- a request is made under the next number, whichever session makes it: its lock's queue is empty
+abbrev pub GrownRequestsLayOut : Type 0
+GrownRequestsLayOut = (s : State) (t : TreeState) (w priority : ℕ) (kept : RequestRecord) → IsWhole t.nodes → HasGoodIds s → LaysOut s t → is_in t.live w ≡ true → HasRoomFor 2 t →
+    IsGood (Request (next_id priority s)) → length (request_record_text kept) ≤ 65_536 → request_entry (next_id priority s) s.requests ≡ None →
+    PartsLayOut (record s { requests = insert_request (record { id = next_id priority s; kept = kept; queue = [] }) s.requests; next_request = s.next_request + 1 }) t w (request_parts (next_id priority s) (request_record_text kept))
+
+-- a node is made under the next number, whichever way the bytes spell its record: its maker holds it
+abbrev pub GrownNodesLayOut : Type 0
+GrownNodesLayOut = (s : State) (t : TreeState) (session : SessionId) (kept : NodeRecord) (bytes : List ℕ) → IsWhole t.nodes → HasGoodIds s → LaysOut s t → is_in t.live (tree_session session) ≡ true → HasRoomFor 3 t →
+    SpellsNode kept bytes → length bytes ≤ 65_536 → AllByRecursion (λ e. e.id.0 < s.next_node) s.nodes →
+    PartsLayOut (record s { nodes = s.nodes ++ record { id = record { 0 = s.next_node }; kept = kept; queue = session ∷ [] } ∷ []; next_node = s.next_node + 1 }) t (tree_session session) (node_parts (record { 0 = s.next_node }) bytes)

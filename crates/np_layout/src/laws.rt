@@ -1,6 +1,6 @@
 //! Laws of the layout. Each function does nothing: its contract is the law.
 
-ghost use Rattle.np_layout.specs.Creates.{HandlesLayOut, RegistrationsLayOut, SweptPairsLayOut};
+ghost use Rattle.np_layout.specs.Creates.{GrownNodesLayOut, GrownRequestsLayOut, HandlesLayOut, NodeWaitsLayOut, RegistrationsLayOut, RequestWaitsLayOut, SessionsLayOut, SweptPairsLayOut};
 ghost use Rattle.np_layout.specs.Laws.{FirstCallsAreAccepted, FirstTreesLayOut};
 ghost use Rattle.np_layout.specs.Layout.{LaysOut};
 ghost use Rattle.np_layout.specs.Sets.{JobChangesLayOut, JobsLayOut, MutesLayOut, NodesLayOut, RequestsLayOut, RolesLayOut, TicksLayOut};
@@ -74,4 +74,34 @@ pub fn creates_of_swept_pairs_lay_out()
 /// registered, if nobody is registered for the pool.
 pub fn creates_of_registrations_lay_out()
     ensures { RegistrationsLayOut }
+{}
+
+/// A wait at a request's lock, by its session, lays out the state in which the session is the last
+/// of the queue, if it was not in it.
+pub fn waits_at_requests_lay_out()
+    ensures { RequestWaitsLayOut }
+{}
+
+/// A wait at a node's lock, by its session, lays out the state in which the session is the last of
+/// the queue, if it was not in it.
+pub fn waits_at_nodes_lay_out()
+    ensures { NodeWaitsLayOut }
+{}
+
+/// The begin of a session, and a create of its record by the tree's first session, lay out the
+/// state in which it has begun.
+pub fn begun_sessions_lay_out()
+    ensures { SessionsLayOut }
+{}
+
+/// The creates of a request's record and of its lock lay out the state in which the request is,
+/// under the next number and with an empty queue.
+pub fn grown_requests_lay_out()
+    ensures { GrownRequestsLayOut }
+{}
+
+/// The creates of a node's record, of its lock and of its maker's wait lay out the state in which
+/// the node is, under the next number, and its maker holds it.
+pub fn grown_nodes_lay_out()
+    ensures { GrownNodesLayOut }
 {}

@@ -5,7 +5,8 @@
 //! row of each record, lock and mark, and `specs/First` the call that makes the tree before the first
 //! event. `specs/Sets` says what one set of a node's bytes does: if a tree lays a state out, the
 //! set of a record to another record's text lays out the state with that record, and the set is
-//! accepted.
+//! accepted. `specs/Creates` says the same of what grows: a handle, a swept pair, a registration, a
+//! wait at a lock, a session, a request and a node, each made by the creates of its records and locks.
 //!
 //! The laws are public functions that do nothing: their contracts are the laws.
 #![tactic(auto)]
@@ -13,7 +14,10 @@
 mod laws;
 
 pub use laws::{
-    a_worked_tree_lays_out_its_state, creates_of_handles_lay_out, creates_of_registrations_lay_out, creates_of_swept_pairs_lay_out, first_trees_lay_out_the_start, other_trees_do_not,
-    sets_of_jobs_lay_out, sets_of_nodes_lay_out, sets_of_requests_lay_out, sets_of_roles_lay_out,
-    sets_of_sessions_lay_out, sets_of_the_tick_lay_out,
+    a_worked_tree_lays_out_its_state, begun_sessions_lay_out, creates_of_handles_lay_out,
+    creates_of_registrations_lay_out, creates_of_swept_pairs_lay_out, first_trees_lay_out_the_start,
+    grown_nodes_lay_out, grown_requests_lay_out, other_trees_do_not, sets_of_jobs_lay_out,
+    sets_of_nodes_lay_out, sets_of_requests_lay_out, sets_of_roles_lay_out,
+    sets_of_sessions_lay_out, sets_of_the_tick_lay_out, waits_at_nodes_lay_out,
+    waits_at_requests_lay_out,
 };

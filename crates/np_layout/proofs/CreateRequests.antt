@@ -1,0 +1,215 @@
+-- a create of a request's record, and then of its lock
+use Rattle.std.proofs.Common.{◌≡◌, ℕ, ◌+◌, ◌<◌, ◌≤◌, ◌^◌, Bool, true, false, cond, ◌&&◌, Less, Equal, Greater, List, [], ◌∷◌, ◌++◌, length, map, Option, Some, None, refl, sym, ap, ◌∙◌, subst, arith, append_assoc}
+use Rattle.std.specs.Prelude.{◌==◌, codes, find, nat_lt}
+use Rattle.std.specs.Fmt.{decimal}
+use Rattle.std.specs.Ordering.{nat_cmp, is_lt, ordering_then}
+use Rattle.std.specs.Cmp.Lexicographic.{slice_cmp}
+use Rattle.std.specs.List.{AllByRecursion, AllZip, list_all, list_any}
+use Rattle.std.specs.Option.{option_map}
+use Rattle.std.specs.Str.{bytes_eq}
+use Rattle.std.proofs.lemmas.List.Folds.{list_all-append}
+use Rattle.std.proofs.lemmas.Bool.{eqb-false, eqb-true}
+use Rattle.std.proofs.lemmas.Bool.Decides.{nat_tests}
+use Rattle.np_text.specs.Number.{ten_digits_of}
+use Rattle.np_text.specs.Request.{request_text_of}
+use Rattle.np_text.specs.declared.id.RequestId.{RequestId}
+use Rattle.np_text.specs.declared.id.SessionId.{SessionId}
+use Rattle.np_lists.specs.Change.{insert_before}
+use Rattle.np_lists.specs.Rising.{NonePass}
+use Rattle.np_lists.proofs.Each.{all-insert_before, all-map}
+use Rattle.np_lists.proofs.Halves.{none-find}
+use Rattle.np_path.specs.Grammar.{is_element}
+use Rattle.np_path.specs.Parts.{below}
+use Rattle.np_path.proofs.PartsLemmas.{is_path-below}
+use Rattle.np_path.proofs.PathLaws.{HasParts-below}
+use Rattle.np_session.specs.Known.{is_in}
+use Rattle.np_nodes.specs.TreeState.{TreeState}
+use Rattle.np_nodes.specs.After.{after_part}
+use Rattle.np_nodes.specs.declared.kind.Mode.TheVariants.{Persistent, PersistentSequential}
+use Rattle.np_nodes.specs.declared.op.Op.{Op}
+use Rattle.np_nodes.specs.declared.op.Op.TheVariants as op
+use Rattle.np_tree.specs.Whole.{IsWhole}
+use Rattle.np_views.specs.Goes.{owner_at}
+use Rattle.np_views.specs.Relations.{counter_after}
+use Rattle.np_views.specs.Several.{HasRoomFor}
+use Rattle.np_views.specs.Views.{Row, Seen, is_named, row_before, seen_at, with_row}
+use Rattle.np_views.proofs.RelationLemmas.{rows-rise}
+use Rattle.np_views.proofs.RoomLemmas.{room-falls, room-gives}
+use Rattle.np_record.specs.declared.record.RequestRecord.{RequestRecord}
+use Rattle.np_spelling.specs.Spelling.{request_record_text}
+use Rattle.np_machine.specs.Entries.{RequestEntry}
+use Rattle.np_machine.specs.Order.{is_id_before}
+use Rattle.np_machine.specs.Request.{insert_request, next_id}
+use Rattle.np_machine.specs.State.{State}
+use Rattle.np_machine.specs.Tables.{request_entry, same_request}
+use Rattle.np_places.specs.Place.{IsGood, above, path_of, place_name}
+use Rattle.np_places.specs.declared.place.Place.{Place}
+use Rattle.np_places.specs.declared.place.Place.TheVariants.{Nodepool, Requests, Request, RequestLocks, RequestLock}
+use Rattle.np_places.proofs.AboveLemmas.{is_path-of}
+use Rattle.np_places.proofs.NameLemmas.{is_element-plain, is_plain, is_plain_name, plain_name-decimal}
+use Rattle.np_places.proofs.OrderLemmas.{requests-rise}
+use Rattle.np_layout.specs.Creates.{GrownRequestsLayOut, request_parts, request_prefix}
+use Rattle.np_layout.specs.First.{make}
+use Rattle.np_layout.specs.Layout.{IsQueue, IsWait, LaysOut, under}
+use Rattle.np_layout.specs.Rows.{persistent, request_lock_row, request_row}
+use Rattle.np_layout.specs.Sets.{HasGoodIds}
+use Rattle.np_layout.proofs.CreateSteps.{CreatesRow, Step, counter-there, create-step, free-named, make-step, owner-there}
+use Rattle.np_layout.proofs.Elsewhere.{Stays, all-true, beside-apart, frame-stays, jobs-stay, launchers-stay, live-stays, node_locks-stay, nodes-stay, request_queues-stay, roles-stay, semaphores-stay, sessions-stay, stays-more, swept-stay, IsApart}
+use Rattle.np_layout.proofs.SetRequests.{named-by}
+
+-- ## rows in the order of requests
+
+order-by : (a b c d : Bool) → (a ≡ true → b ≡ false) → is_lt (ordering_then (cond a Less (cond b Equal Greater)) (cond c Less (cond d Equal Greater))) ≡ cond b c a
+order-by true true c d apart = absurd (let other = apart refl in cc)
+order-by true false c d apart = refl
+order-by false true true d apart = refl
+order-by false true false true apart = refl
+order-by false true false false apart = refl
+order-by false false c d apart = refl
+
+-- the order of names is that of requests
+id-before : (a b : RequestId) → IsGood (Request a) → IsGood (Request b) → row_before (persistent (Request a) []) (persistent (Request b) []) ≡ is_id_before a b
+id-before a b a_good b_good = ap is_lt (requests-rise a b a_good b_good) ∙ order-by (nat_lt a.priority b.priority) (a.priority == b.priority) (nat_lt a.seq b.seq) (a.seq == b.seq) (λ is. grind (arith, nat_tests))
+
+insert-by : (row : RequestEntry → Row) (new e : RequestEntry) (list : List RequestEntry) (b : Bool) → with_row (row new) (map row list) ≡ map row (insert_request new list) →
+    cond b (row new ∷ row e ∷ map row list) (row e ∷ with_row (row new) (map row list)) ≡ map row (cond b (new ∷ e ∷ list) (e ∷ insert_request new list))
+insert-by row new e list true later = refl
+insert-by row new e list false later = ap (λ (rows : List Row). row e ∷ rows) later
+
+-- rows with the names of requests have one more where the request is put
+insert-rows : (row : RequestEntry → Row) → ((e : RequestEntry) → (row e).name ≡ request_text_of e.id) → (new : RequestEntry) (list : List RequestEntry) → IsGood (Request new.id) → AllByRecursion (λ e. IsGood (Request e.id)) list →
+    with_row (row new) (map row list) ≡ map row (insert_request new list)
+insert-rows row names new [] new_good good = refl
+insert-rows row names new (e ∷ list) new_good good =
+    let same : row_before (row new) (row e) ≡ is_id_before new.id e.id =
+    ap (λ (name : List ℕ). is_lt (slice_cmp nat_cmp name (row e).name)) (names new) ∙ ap (λ (name : List ℕ). is_lt (slice_cmp nat_cmp (request_text_of new.id) name)) (names e) ∙ id-before new.id e.id new_good good.0 in
+    ap (λ (b : Bool). cond b (row new ∷ row e ∷ map row list) (row e ∷ with_row (row new) (map row list))) same
+    ∙ insert-by row new e list (is_id_before new.id e.id) (insert-rows row names new list new_good good.1)
+
+-- ## the prefix of a request's name
+
+prefix-plain : (name : List ℕ) → is_plain_name name ≡ true → is_plain_name (name ++ 45 ∷ []) ≡ true
+prefix-plain [] plain = absurd cc
+prefix-plain (b ∷ name) plain = list_all-append is_plain (b ∷ name) (45 ∷ []) ∙ ap (λ (c : Bool). c && list_all is_plain (45 ∷ [])) plain
+
+is_element-prefix : (r : RequestId) → IsGood (Request r) → is_element (request_prefix r) ≡ true
+is_element-prefix r good = let most = good.most in is_element-plain (request_prefix r) (prefix-plain (decimal r.priority) (plain_name-decimal r.priority (omega arith)))
+
+prefix-name : (r : RequestId) → request_prefix r ++ ten_digits_of r.seq ≡ place_name (Request r)
+unfolding request_text_of
+prefix-name r = append_assoc (decimal r.priority) (45 ∷ []) (ten_digits_of r.seq)
+
+module _ (s : State) (t : TreeState) (w priority : ℕ) (kept : RequestRecord) (whole : IsWhole t.nodes) (good : HasGoodIds s) (lays : LaysOut s t) (live : is_in t.live w ≡ true) (room : HasRoomFor 2 t)
+    (r_good : IsGood (Request (next_id priority s))) (short : length (request_record_text kept) ≤ 65_536) (new : request_entry (next_id priority s) s.requests ≡ None) where
+  abbrev r : RequestId
+  r = next_id priority s
+
+  abbrev entry : RequestEntry
+  entry = record { id = r; kept = kept; queue = [] }
+
+  abbrev bytes : List ℕ
+  bytes = request_record_text kept
+
+  abbrev part : Op
+  part = op.Create (below (path_of Requests) (request_prefix r)) bytes PersistentSequential
+
+  -- no other request has its name
+  others : (row : RequestEntry → Row) → ((e : RequestEntry) → (row e).name ≡ place_name (Request e.id)) → (list : List RequestEntry) → AllByRecursion (λ e. IsGood (Request e.id)) list → NonePass (λ (e : RequestEntry). same_request e.id r) list →
+      NonePass (is_named (place_name (Request r))) (map row list)
+  others row names [] all_good none = tt
+  others row names (e ∷ list) all_good none = (
+    ap (λ (name : List ℕ). bytes_eq name (place_name (Request r))) (names e) ∙ named-by r e.id false none.0 r_good all_good.0,
+    others row names list all_good.1 none.1,
+  )
+
+  none : NonePass (λ (e : RequestEntry). same_request e.id r) s.requests
+  none = none-find (λ (e : RequestEntry). same_request e.id r) s.requests new
+
+  owner : owner_at t (path_of Requests) ≡ Some None
+  owner = owner-there t Nodepool Requests whole tt refl (ap (list_any (is_named (place_name Requests))) lays.frame.nodepool)
+      (subst (λ (rows : List Row). AllByRecursion (λ row. row.owner ≡ None) rows) (sym lays.frame.nodepool) (refl, (refl, (refl, (refl, tt)))))
+
+  locks-owner : owner_at t (path_of RequestLocks) ≡ Some None
+  locks-owner = owner-there t Nodepool RequestLocks whole tt refl (ap (list_any (is_named (place_name RequestLocks))) lays.frame.nodepool)
+      (subst (λ (rows : List Row). AllByRecursion (λ row. row.owner ≡ None) rows) (sym lays.frame.nodepool) (refl, (refl, (refl, (refl, tt)))))
+
+  first : Step Requests (Request r) PersistentSequential (request_row entry) t w part
+  first =
+      let parts = HasParts-below (path_of Requests) (request_prefix r) (is_path-of Requests tt) (is_element-prefix r r_good) in
+      subst (λ (name : List ℕ). Step Requests (Request r) PersistentSequential (record { name = name; bytes = bytes; owner = None }) t w part) (prefix-name r)
+      (create-step t w Requests (Request r) (below (path_of Requests) (request_prefix r)) (request_prefix r) bytes PersistentSequential s.next_request r_good refl refl
+      (is_path-below (path_of Requests) (request_prefix r) (is_path-of Requests tt) (is_element-prefix r r_good)) parts.above parts.last (prefix-name r) short
+      (record {
+        whole = whole;
+        live = live;
+        owner = owner;
+        gives = lays.requests.gives;
+        free = free-named t Requests (Request r) whole r_good refl (subst (λ (rows : List Row). NonePass (is_named (place_name (Request r))) rows) (sym lays.requests.rows) (others request_row (λ e. refl) s.requests good.requests none));
+        room = room-gives t 1 room;
+      }))
+
+  abbrev v : TreeState
+  v = after_part t w part
+
+  second : Step RequestLocks (RequestLock r) Persistent (request_lock_row entry) v w (make [] (RequestLock r))
+  second =
+      let v_owner : owner_at v (path_of RequestLocks) ≡ Some None = ap (option_map (λ (seen : Seen). seen.owner)) (first.creates.other_seen RequestLocks tt (λ same. absurd cc)) ∙ locks-owner in
+      let counter = counter-there v RequestLocks v_owner in
+      make-step v w RequestLocks (RequestLock r) [] Persistent counter.0 r_good refl refl refl (omega arith)
+      (record {
+        whole = first.creates.whole;
+        live = ap (λ (list : List ℕ). is_in list w) first.creates.live ∙ live;
+        owner = v_owner;
+        gives = counter.1;
+        free = first.creates.other_seen (RequestLock r) r_good (λ same. absurd cc)
+            ∙ free-named t RequestLocks (RequestLock r) whole r_good refl (subst (λ (rows : List Row). NonePass (is_named (place_name (RequestLock r))) rows) (sym lays.request_locks.rows) (others request_lock_row (λ e. refl) s.requests good.requests none));
+        room = room-gives v 0 (room-falls t w part 1 room);
+      })
+
+  abbrev u : TreeState
+  u = after_part v w (make [] (RequestLock r))
+
+  stays : Stays (Requests ∷ RequestLocks ∷ []) t u
+  stays = stays-more Requests (RequestLocks ∷ []) t v u first.creates.stays second.creates.stays
+
+  lock-queue : IsQueue (RequestLock r) [] u
+  lock-queue = record { next = 0; gives = second.creates.new; waits = subst (λ (rows : List Row). AllZip (IsWait 0) rows []) (sym second.creates.empty) tt }
+
+  request-lays : LaysOut (record s { requests = insert_request entry s.requests; next_request = s.next_request + 1 }) u
+  request-lays =
+      let dirs : List Place = Requests ∷ RequestLocks ∷ [] in
+      let aside : IsApart Requests (RequestLocks ∷ []) = beside-apart Requests (RequestLocks ∷ []) refl in
+      let back : IsApart RequestLocks (Requests ∷ []) = beside-apart RequestLocks (Requests ∷ []) refl in
+      record {
+        frame = frame-stays dirs t u stays s.tick refl refl refl refl refl lays.frame;
+        requests = record {
+          rows =
+              second.creates.stays.rows Requests tt aside ∙ first.creates.rows ∙ ap (with_row (request_row entry)) lays.requests.rows
+              ∙ insert-rows request_row (λ e. refl) entry s.requests r_good good.requests;
+          leaves = second.creates.stays.leaves Requests tt refl aside (first.creates.leaves lays.requests.leaves);
+          gives = second.creates.stays.counters Requests (s.next_request + 1) tt aside (first.creates.counter ∙ ap (option_map (counter_after PersistentSequential)) lays.requests.gives);
+        };
+        request_locks = record {
+          rows =
+              second.creates.rows ∙ ap (with_row (request_lock_row entry)) (first.creates.stays.rows RequestLocks tt back ∙ lays.request_locks.rows)
+              ∙ insert-rows request_lock_row (λ e. refl) entry s.requests r_good good.requests;
+          queues = all-insert_before (λ (e : RequestEntry). IsQueue (RequestLock e.id) e.queue u) (λ (e : RequestEntry). is_id_before r e.id) entry s.requests lock-queue
+              (request_queues-stay dirs t u stays s.requests good.requests (all-true (λ (e : RequestEntry). IsApart (RequestLock e.id) dirs) (λ e. beside-apart (RequestLock e.id) dirs refl) s.requests) lays.request_locks.queues);
+        };
+        nodes = nodes-stay dirs t u stays s.nodes s.next_node refl lays.nodes;
+        node_locks = node_locks-stay dirs t u stays s.nodes good.nodes refl refl lays.node_locks;
+        launchers = launchers-stay dirs t u stays s.registrations refl lays.launchers;
+        semaphores = semaphores-stay dirs t u stays s.handles good.semaphores refl refl lays.semaphores;
+        jobs = jobs-stay dirs t u stays s.jobs refl lays.jobs;
+        roles = roles-stay dirs t u stays s.launchers s.janitors s.requesters refl lays.roles;
+        sessions = sessions-stay dirs t u stays s.sessions refl lays.sessions;
+        swept = swept-stay dirs t u stays s.swept refl lays.swept;
+        live = live-stays t u (second.creates.live ∙ first.creates.live) (second.creates.begun ∙ first.creates.begun) s.sessions lays.live;
+      }
+
+-- creates of a request's record and of its lock lay out the state in which the request is
+pub grown_requests-lay-out : GrownRequestsLayOut
+grown_requests-lay-out s t w priority kept whole good lays live room r_good short new = record {
+  goes = ((first s t w priority kept whole good lays live room r_good short new).ok, ((second s t w priority kept whole good lays live room r_good short new).ok, refl));
+  lays = request-lays s t w priority kept whole good lays live room r_good short new;
+}

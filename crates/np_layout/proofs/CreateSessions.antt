@@ -1,0 +1,199 @@
+-- a session begins, and the tree's first session makes its record
+use Rattle.std.proofs.Common.{◌≡◌, ℕ, zero, suc, ◌+◌, ◌<◌, ◌≤◌, ◌^◌, Bool, true, false, ◌||◌, List, [], ◌∷◌, ◌++◌, length, map, Some, None, refl, sym, ap, ◌∙◌, subst, arith}
+use Rattle.std.specs.Prelude.{◌==◌}
+use Rattle.std.specs.Ordering.{nat_cmp, is_lt}
+use Rattle.std.specs.List.{AllByRecursion, list_any, range_with_len}
+use Rattle.std.proofs.lemmas.Bool.Decides.{nat_tests}
+use Rattle.np_text.specs.declared.id.Role.{Role}
+use Rattle.np_text.proofs.OrderLemmas.{nat_cmp-less, nat_cmp-more, slice_cmp-ten}
+use Rattle.np_lists.specs.Rising.{NonePass}
+use Rattle.np_lists.proofs.ChangeLemmas.{insert_before-end}
+use Rattle.np_session.specs.Known.{is_in}
+use Rattle.np_nodes.specs.TreeState.{TreeState}
+use Rattle.np_nodes.specs.After.{after_part}
+use Rattle.np_nodes.specs.Calls.{after_begin}
+use Rattle.np_nodes.specs.declared.kind.Mode.TheVariants.{Persistent}
+use Rattle.np_tree.specs.Whole.{IsWhole}
+use Rattle.np_views.specs.Goes.{owner_at}
+use Rattle.np_views.specs.Several.{HasRoomFor}
+use Rattle.np_views.specs.Views.{Row, is_named, row_before, with_row}
+use Rattle.np_views.proofs.RoomLemmas.{room-gives}
+use Rattle.np_views.proofs.SiblingLemmas.{other-name}
+use Rattle.np_spelling.specs.Spelling.{session_text}
+use Rattle.np_machine.specs.State.{State}
+use Rattle.np_machine.specs.declared.state.SessionFacts.{SessionFacts}
+use Rattle.np_places.specs.Place.{IsGood, path_of, place_name}
+use Rattle.np_places.specs.declared.place.Place.{Place}
+use Rattle.np_places.specs.declared.place.Place.TheVariants.{Poolsim, Sessions, Session}
+use Rattle.np_layout.specs.Creates.{SessionsLayOut}
+use Rattle.np_layout.specs.First.{make}
+use Rattle.np_layout.specs.Layout.{AreLive, LaysOut, under}
+use Rattle.np_layout.specs.Rows.{rows_from, session_row}
+use Rattle.np_layout.specs.Sets.{HasGoodIds}
+use Rattle.np_layout.proofs.CreateSteps.{Step, counter-there, free-named, make-step, owner-there}
+use Rattle.np_layout.proofs.Elsewhere.{Stays, frame-stays, jobs-stay, launchers-stay, node_locks-stay, nodes-stay, request_locks-stay, requests-stay, roles-stay, semaphores-stay, swept-stay}
+
+-- ## one member more at the end
+
+or-none : (b : Bool) → (b || false) ≡ b
+or-none true = refl
+or-none false = refl
+
+or-true : (b : Bool) → (b || true) ≡ true
+or-true true = refl
+or-true false = refl
+
+or-join : (a b c : Bool) → (a || (b || c)) ≡ ((a || b) || c)
+or-join true b c = refl
+or-join false b c = refl
+
+any-push : {A : Type 0} (p : A → Bool) (list : List A) (a : A) → list_any p (list ++ a ∷ []) ≡ (list_any p list || p a)
+any-push p [] a = or-none (p a)
+any-push p (b ∷ list) a = ap (λ (c : Bool). p b || c) (any-push p list a) ∙ or-join (p b) (list_any p list) (p a)
+
+map-push : {A B : Type 0} (f : A → B) (list : List A) (a : A) → map f (list ++ a ∷ []) ≡ map f list ++ f a ∷ []
+map-push f [] a = refl
+map-push f (b ∷ list) a = ap (λ (rest : List _). f b ∷ rest) (map-push f list a)
+
+length-push : {A : Type 0} (list : List A) (a : A) → length (list ++ a ∷ []) ≡ suc (length list)
+length-push [] a = refl
+length-push (b ∷ list) a = ap suc (length-push list a)
+
+range-push : (count at : ℕ) → range_with_len at (suc count) ≡ range_with_len at count ++ (at + count) ∷ []
+range-push zero at = let same : at ≡ at + zero = omega arith in ap (λ (n : ℕ). n ∷ []) same
+range-push (suc count) at =
+    let same : (at + 1) + count ≡ at + suc count = omega arith in
+    ap (λ (rest : List ℕ). at ∷ rest) (range-push count (at + 1) ∙ ap (λ (n : ℕ). range_with_len (at + 1) count ++ n ∷ []) same)
+
+rows_from-push : {A : Type 0} (row : ℕ → A → Row) (list : List A) (at : ℕ) (a : A) → rows_from row at (list ++ a ∷ []) ≡ rows_from row at list ++ row (at + length list) a ∷ []
+rows_from-push row [] at a = let same : at ≡ at + zero = omega arith in ap (λ (n : ℕ). row n a ∷ []) same
+rows_from-push row (b ∷ list) at a =
+    let same : (at + 1) + length list ≡ at + suc (length list) = omega arith in
+    ap (λ (rest : List Row). row at b ∷ rest) (rows_from-push row list (at + 1) a ∙ ap (λ (n : ℕ). rows_from row (at + 1) list ++ row n a ∷ []) same)
+
+-- ## the new record is the last
+
+number-before : (k new : ℕ) (f g : SessionFacts) → k < new → new < 2 ^ 32 → row_before (session_row k f) (session_row new g) ≡ true
+number-before k new f g low small = ap is_lt (slice_cmp-ten k new (omega arith) small ∙ nat_cmp-less k new low)
+
+number-after : (k new : ℕ) (f g : SessionFacts) → k < new → new < 2 ^ 32 → row_before (session_row new g) (session_row k f) ≡ false
+number-after k new f g low small = ap is_lt (slice_cmp-ten new k small (omega arith) ∙ nat_cmp-more new k low)
+
+none-after : (list : List SessionFacts) (at new : ℕ) (g : SessionFacts) → at + length list ≤ new → new < 2 ^ 32 → NonePass (λ other. row_before (session_row new g) other) (rows_from session_row at list)
+none-after [] at new g within small = tt
+none-after (f ∷ list) at new g within small = (number-after at new f g (omega arith) small, none-after list (at + 1) new g (omega arith) small)
+
+none-named : (list : List SessionFacts) (at new : ℕ) (g : SessionFacts) → at + length list ≤ new → new < 2 ^ 32 → NonePass (is_named (session_row new g).name) (rows_from session_row at list)
+none-named [] at new g within small = tt
+none-named (f ∷ list) at new g within small = (other-name (session_row at f) (session_row new g) (number-before at new f g (omega arith) small), none-named list (at + 1) new g (omega arith) small)
+
+-- ## who is live
+
+-- a lower number is as it was
+live-each : (live : List ℕ) (count at new : ℕ) → at + count ≤ new → map (is_in (live ++ new ∷ [])) (range_with_len at count) ≡ map (is_in live) (range_with_len at count)
+live-each live zero at new within = refl
+live-each live (suc count) at new within =
+    let other : (new == at) ≡ false = grind (arith, nat_tests) in
+    let here : is_in (live ++ new ∷ []) at ≡ is_in live at = any-push (λ (s : ℕ). s == at) live new ∙ ap (λ (b : Bool). is_in live at || b) other ∙ or-none (is_in live at) in
+    ap (λ (b : Bool). b ∷ map (is_in (live ++ new ∷ [])) (range_with_len (at + 1) count)) here ∙ ap (λ (rest : List Bool). is_in live at ∷ rest) (live-each live count (at + 1) new (omega arith))
+
+new-live : (live : List ℕ) (new : ℕ) → is_in (live ++ new ∷ []) new ≡ true
+new-live live new = let itself : (new == new) ≡ true = grind (arith, nat_tests) in any-push (λ (s : ℕ). s == new) live new ∙ ap (λ (b : Bool). is_in live new || b) itself ∙ or-true (is_in live new)
+
+old-live : (live : List ℕ) (new k : ℕ) → is_in live k ≡ true → is_in (live ++ new ∷ []) k ≡ true
+old-live live new k is = any-push (λ (s : ℕ). s == k) live new ∙ ap (λ (b : Bool). b || (new == k)) is
+
+begun-live : (sessions : List SessionFacts) (role : Role) (t u : TreeState) → u.live ≡ (after_begin t).live → u.begun ≡ (after_begin t).begun → AreLive sessions t → AreLive (sessions ++ record { role = role; live = true; mute = false } ∷ []) u
+begun-live sessions role t u live begun are =
+    let f : SessionFacts = record { role = role; live = true; mute = false } in
+    let n : ℕ = length sessions in
+    let long : length (sessions ++ f ∷ []) ≡ suc n = length-push sessions f in
+    let new : t.begun + 1 ≡ 2 + n = let is = are.begun in omega arith in
+    let is_live : u.live ≡ t.live ++ (2 + n) ∷ [] = live ∙ ap (λ (k : ℕ). t.live ++ k ∷ []) new in
+    record {
+      begun = begun ∙ (let is = are.begun in let same = long in let sum : t.begun + 1 ≡ length (sessions ++ f ∷ []) + 1 = omega arith in sum);
+      first = ap (λ (list : List ℕ). is_in list 1) is_live ∙ old-live t.live (2 + n) 1 are.first;
+      each =
+          ap (λ (list : List ℕ). map (is_in list) (range_with_len 2 (length (sessions ++ f ∷ [])))) is_live
+          ∙ ap (λ (k : ℕ). map (is_in (t.live ++ (2 + n) ∷ [])) (range_with_len 2 k)) long
+          ∙ ap (map (is_in (t.live ++ (2 + n) ∷ []))) (range-push n 2)
+          ∙ map-push (is_in (t.live ++ (2 + n) ∷ [])) (range_with_len 2 n) (2 + n)
+          ∙ ap (λ (b : Bool). map (is_in (t.live ++ (2 + n) ∷ [])) (range_with_len 2 n) ++ b ∷ []) (new-live t.live (2 + n))
+          ∙ ap (λ (flags : List Bool). flags ++ true ∷ []) (live-each t.live n 2 (2 + n) (omega arith) ∙ are.each)
+          ∙ sym (map-push (λ (g : SessionFacts). g.live) sessions f);
+    }
+
+module _ (s : State) (t : TreeState) (role : Role) (whole : IsWhole t.nodes) (good : HasGoodIds s) (lays : LaysOut s t) (room : HasRoomFor 1 t) (small : length s.sessions + 1 < 2 ^ 32) (short : length (session_text (record { mute = false; role = role })) ≤ 65_536) where
+  abbrev new : ℕ
+  new = length s.sessions + 1
+
+  abbrev facts : SessionFacts
+  facts = record { role = role; live = true; mute = false }
+
+  abbrev place : Place
+  place = Session (record { 0 = new })
+
+  abbrev bytes : List ℕ
+  bytes = session_text (record { mute = false; role = role })
+
+  abbrev from : TreeState
+  from = after_begin t
+
+  owner : owner_at from (path_of Sessions) ≡ Some None
+  owner = owner-there from Poolsim Sessions whole tt refl (ap (list_any (is_named (place_name Sessions))) lays.frame.poolsim)
+      (subst (λ (rows : List Row). AllByRecursion (λ row. row.owner ≡ None) rows) (sym lays.frame.poolsim) (refl, (refl, (refl, (refl, (refl, tt))))))
+
+  from-room : HasRoomFor 1 from
+  from-room = record { change = room.change; versions = room.versions; counters = room.counters; rows = room.rows; few = room.few }
+
+  step : Step Sessions place Persistent (session_row new facts) from 1 (make bytes place)
+  step =
+      let counter = counter-there from Sessions owner in
+      make-step from 1 Sessions place bytes Persistent counter.0 small refl refl refl short
+      (record {
+        whole = whole;
+        live = old-live t.live (t.begun + 1) 1 lays.live.first;
+        owner = owner;
+        gives = counter.1;
+        free = free-named from Sessions place whole small refl (subst (λ (rows : List Row). NonePass (is_named (place_name place)) rows) (sym lays.sessions.rows) (none-named s.sessions 1 new facts (omega arith) small));
+        room = room-gives from 0 from-room;
+      })
+
+  abbrev u : TreeState
+  u = after_part from 1 (make bytes place)
+
+  -- the begin changes no node
+  stays : Stays (Sessions ∷ []) t u
+  stays = record { rows = step.creates.stays.rows; leaves = step.creates.stays.leaves; counters = step.creates.stays.counters }
+
+  session-lays : LaysOut (record s { sessions = s.sessions ++ facts ∷ [] }) u
+  session-lays =
+      let dirs : List Place = Sessions ∷ [] in
+      let last : 1 + length s.sessions ≡ new = omega arith in
+      record {
+        frame = frame-stays dirs t u stays s.tick refl refl refl refl refl lays.frame;
+        requests = requests-stay dirs t u stays s.requests s.next_request refl lays.requests;
+        request_locks = request_locks-stay dirs t u stays s.requests good.requests refl refl lays.request_locks;
+        nodes = nodes-stay dirs t u stays s.nodes s.next_node refl lays.nodes;
+        node_locks = node_locks-stay dirs t u stays s.nodes good.nodes refl refl lays.node_locks;
+        launchers = launchers-stay dirs t u stays s.registrations refl lays.launchers;
+        semaphores = semaphores-stay dirs t u stays s.handles good.semaphores refl refl lays.semaphores;
+        jobs = jobs-stay dirs t u stays s.jobs refl lays.jobs;
+        roles = roles-stay dirs t u stays s.launchers s.janitors s.requesters refl lays.roles;
+        sessions = record {
+          rows =
+              step.creates.rows ∙ ap (with_row (session_row new facts)) lays.sessions.rows
+              ∙ insert_before-end (λ other. row_before (session_row new facts) other) (session_row new facts) (rows_from session_row 1 s.sessions) (none-after s.sessions 1 new facts (omega arith) small)
+              ∙ sym (rows_from-push session_row s.sessions 1 facts ∙ ap (λ (n : ℕ). rows_from session_row 1 s.sessions ++ session_row n facts ∷ []) last);
+          leaves = step.creates.leaves lays.sessions.leaves;
+        };
+        swept = swept-stay dirs t u stays s.swept refl lays.swept;
+        live = begun-live s.sessions role t u step.creates.live step.creates.begun lays.live;
+      }
+
+-- the begin of a session and a create of its record lay out the state in which it has begun
+pub sessions-lay-out : SessionsLayOut
+sessions-lay-out s t role whole good lays room small short = record {
+  goes = ((step s t role whole good lays room small short).ok, refl);
+  lays = session-lays s t role whole good lays room small short;
+}
