@@ -27,13 +27,13 @@ use Rattle.np_machine.specs.Tables.{handles_of, has_handle}
 use Rattle.np_places.specs.Place.{IsGood, path_of, place_name}
 use Rattle.np_places.specs.declared.place.Place.{Place}
 use Rattle.np_places.specs.declared.place.Place.TheVariants.{Semaphores, Semaphore, Handle, Job}
-use Rattle.np_layout.specs.Creates.{HandlesLayOut, PartsLayOut}
+use Rattle.np_layout.specs.Creates.{HandlesLayOut}
 use Rattle.np_layout.specs.First.{make}
-use Rattle.np_layout.specs.Layout.{HasHandles, LaysOut, under}
+use Rattle.np_layout.specs.Layout.{HasHandles, LaysOut}
 use Rattle.np_layout.specs.Rows.{by_name, handle_row, places, semaphore_row}
 use Rattle.np_layout.specs.Sets.{HasGoodIds}
 use Rattle.np_layout.proofs.CreateLists.{by_name-insert}
-use Rattle.np_layout.proofs.CreateSteps.{CanMake, Step, counter-there, free-named, make-step, owner-there}
+use Rattle.np_layout.proofs.CreateSteps.{Step, counter-there, free-named, make-step, owner-there}
 use Rattle.np_layout.proofs.Elsewhere.{frame-stays, handles-stay, jobs-stay, launchers-stay, live-stays, node_locks-stay, nodes-stay, request_locks-stay, requests-stay, roles-stay, rows-stay, sessions-stay, swept-stay}
 use Rattle.np_layout.proofs.FirstLists.{all-put}
 use Rattle.np_layout.proofs.SetLists.{any-by_name}
@@ -107,7 +107,7 @@ module _ (s : State) (t : TreeState) (w : ℕ) (x : SemId) (j : JobId) (whole : 
   others [] all_good none = tt
   others (k ∷ list) all_good none = (
     named-other (Handle x j) (Handle x k) j-good (x-good, all_good.0) refl
-    (λ equal. let itself : (k.0 == k.0) ≡ true = grind (arith, nat_tests) in let same = ap (λ (q : Place). k.0 == job_of q) equal in let none_here = none.0 in absurd cc),
+        (λ equal. let itself : (k.0 == k.0) ≡ true = grind (arith, nat_tests) in let same = ap (λ (q : Place). k.0 == job_of q) equal in let none_here = none.0 in absurd cc),
     others list all_good.1 none.1,
   )
 

@@ -1,5 +1,5 @@
 -- a create of a launcher's registration
-use Rattle.std.proofs.Common.{◌≡◌, ℕ, ◌≤◌, Bool, true, false, List, [], ◌∷◌, map, Option, Some, None, refl, sym, ap, ◌∙◌, subst, arith}
+use Rattle.std.proofs.Common.{◌≡◌, ℕ, true, false, List, [], ◌∷◌, map, Option, Some, None, refl, sym, ap, ◌∙◌, subst, arith}
 use Rattle.std.specs.Prelude.{◌==◌, find, nat_lt}
 use Rattle.std.specs.List.{AllByRecursion, list_any}
 use Rattle.std.specs.Option.{option_map}
@@ -59,7 +59,7 @@ module _ (s : State) (t : TreeState) (session : SessionId) (p : PoolId) (whole :
   others [] all_good none = tt
   others (g ∷ list) all_good none = (
     named-other place (Launcher g.pool) is_good all_good.0 refl
-    (λ equal. let itself : (g.pool.0 == g.pool.0) ≡ true = grind (arith, nat_tests) in let same = ap (λ (q : Place). g.pool.0 == pool_of q) equal in let none_here = none.0 in absurd cc),
+        (λ equal. let itself : (g.pool.0 == g.pool.0) ≡ true = grind (arith, nat_tests) in let same = ap (λ (q : Place). g.pool.0 == pool_of q) equal in let none_here = none.0 in absurd cc),
     others list all_good.1 none.1,
   )
 

@@ -1,6 +1,6 @@
 -- a wait at a node's lock
-use Rattle.std.proofs.Common.{◌≡◌, ℕ, Bool, true, false, cond, List, [], ◌∷◌, ◌++◌, map, Option, Some, None, refl, sym, ap, ◌∙◌, subst}
-use Rattle.std.specs.Prelude.{◌==◌, find}
+use Rattle.std.proofs.Common.{◌≡◌, Bool, true, false, cond, List, [], ◌∷◌, ◌++◌, Option, Some, None, refl, sym, ap, ◌∙◌, subst}
+use Rattle.std.specs.Prelude.{◌==◌}
 use Rattle.std.specs.List.{AllByRecursion, AllZip, list_any}
 use Rattle.std.specs.Option.{option_map_or}
 use Rattle.np_text.specs.declared.id.NodeId.{NodeId}
@@ -16,7 +16,7 @@ use Rattle.np_nodes.proofs.PlaceLemmas.{bytes_eq-from}
 use Rattle.np_tree.specs.Whole.{IsWhole}
 use Rattle.np_views.specs.Goes.{owner_at}
 use Rattle.np_views.specs.Several.{HasRoomFor}
-use Rattle.np_views.specs.Views.{Row, is_named, name_before, row_before}
+use Rattle.np_views.specs.Views.{Row, is_named, row_before}
 use Rattle.np_views.proofs.RelationLemmas.{rows-rise}
 use Rattle.np_views.proofs.RoomLemmas.{room-gives}
 use Rattle.np_views.proofs.SiblingLemmas.{other-name_back}

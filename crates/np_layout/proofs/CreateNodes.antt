@@ -1,9 +1,8 @@
 -- a create of a node's record, then of its lock, and then of its maker's wait
-use Rattle.std.proofs.Common.{◌≡◌, ℕ, ◌+◌, ◌<◌, ◌≤◌, ◌^◌, true, false, List, [], ◌∷◌, ◌++◌, length, Option, Some, None, refl, sym, ap, ◌∙◌, subst, arith}
-use Rattle.std.specs.Ordering.{nat_cmp, is_lt}
+use Rattle.std.proofs.Common.{◌≡◌, ℕ, ◌+◌, ◌<◌, ◌≤◌, ◌^◌, true, false, List, [], ◌∷◌, ◌++◌, length, Some, None, refl, sym, ap, ◌∙◌, subst, arith}
+use Rattle.std.specs.Ordering.{is_lt}
 use Rattle.std.specs.List.{AllByRecursion, AllZip, list_any}
 use Rattle.std.specs.Option.{option_map}
-use Rattle.std.specs.Str.{bytes_eq}
 use Rattle.np_text.specs.declared.id.NodeId.{NodeId}
 use Rattle.np_text.specs.declared.id.SessionId.{SessionId}
 use Rattle.np_text.proofs.OrderLemmas.{nat_cmp-less, nat_cmp-more, slice_cmp-ten}
@@ -82,13 +81,12 @@ zip-push row e (other ∷ rows) (x ∷ entries) is zip = (zip.0, zip-push row e 
 apart : (n : NodeId) (entries : List NodeEntry) → AllByRecursion (λ e. e.id.0 < n.0) entries → AllByRecursion (λ e. IsApart (Node e.id) (Nodes ∷ Node n ∷ NodeLock n ∷ []) × IsApart (NodeLock e.id) (Nodes ∷ Node n ∷ NodeLock n ∷ [])) entries
 apart n [] low = tt
 apart n (e ∷ entries) low =
-    let less = low.0 in
-    (
-    (
-    ((λ same. absurd cc), ((λ same. let equal = ap (λ (p : Place). (id_of p).0) same in absurd (omega arith)), ((λ same. absurd cc), tt))),
-    ((λ same. absurd cc), ((λ same. absurd cc), ((λ same. let equal = ap (λ (p : Place). (id_of p).0) same in absurd (omega arith)), tt))),
-    ),
-    apart n entries low.1,
+    let less = low.0 in (
+      (
+        ((λ same. absurd cc), ((λ same. let equal = ap (λ (p : Place). (id_of p).0) same in absurd (omega arith)), ((λ same. absurd cc), tt))),
+        ((λ same. absurd cc), ((λ same. absurd cc), ((λ same. let equal = ap (λ (p : Place). (id_of p).0) same in absurd (omega arith)), tt))),
+      ),
+      apart n entries low.1,
     )
 
 module _ (s : State) (t : TreeState) (session : SessionId) (kept : NodeRecord) (bytes : List ℕ) (whole : IsWhole t.nodes) (good : HasGoodIds s) (lays : LaysOut s t) (live : is_in t.live (tree_session session) ≡ true) (room : HasRoomFor 3 t)

@@ -1,6 +1,6 @@
 -- a create of a request's record, and then of its lock
-use Rattle.std.proofs.Common.{◌≡◌, ℕ, ◌+◌, ◌<◌, ◌≤◌, ◌^◌, Bool, true, false, cond, ◌&&◌, Less, Equal, Greater, List, [], ◌∷◌, ◌++◌, length, map, Option, Some, None, refl, sym, ap, ◌∙◌, subst, arith, append_assoc}
-use Rattle.std.specs.Prelude.{◌==◌, codes, find, nat_lt}
+use Rattle.std.proofs.Common.{◌≡◌, ℕ, ◌+◌, ◌≤◌, Bool, true, false, cond, ◌&&◌, Less, Equal, Greater, List, [], ◌∷◌, ◌++◌, length, map, Some, None, refl, sym, ap, ◌∙◌, subst, arith, append_assoc}
+use Rattle.std.specs.Prelude.{◌==◌, nat_lt}
 use Rattle.std.specs.Fmt.{decimal}
 use Rattle.std.specs.Ordering.{nat_cmp, is_lt, ordering_then}
 use Rattle.std.specs.Cmp.Lexicographic.{slice_cmp}
@@ -8,15 +8,12 @@ use Rattle.std.specs.List.{AllByRecursion, AllZip, list_all, list_any}
 use Rattle.std.specs.Option.{option_map}
 use Rattle.std.specs.Str.{bytes_eq}
 use Rattle.std.proofs.lemmas.List.Folds.{list_all-append}
-use Rattle.std.proofs.lemmas.Bool.{eqb-false, eqb-true}
 use Rattle.std.proofs.lemmas.Bool.Decides.{nat_tests}
 use Rattle.np_text.specs.Number.{ten_digits_of}
 use Rattle.np_text.specs.Request.{request_text_of}
 use Rattle.np_text.specs.declared.id.RequestId.{RequestId}
-use Rattle.np_text.specs.declared.id.SessionId.{SessionId}
-use Rattle.np_lists.specs.Change.{insert_before}
 use Rattle.np_lists.specs.Rising.{NonePass}
-use Rattle.np_lists.proofs.Each.{all-insert_before, all-map}
+use Rattle.np_lists.proofs.Each.{all-insert_before}
 use Rattle.np_lists.proofs.Halves.{none-find}
 use Rattle.np_path.specs.Grammar.{is_element}
 use Rattle.np_path.specs.Parts.{below}
@@ -32,8 +29,7 @@ use Rattle.np_tree.specs.Whole.{IsWhole}
 use Rattle.np_views.specs.Goes.{owner_at}
 use Rattle.np_views.specs.Relations.{counter_after}
 use Rattle.np_views.specs.Several.{HasRoomFor}
-use Rattle.np_views.specs.Views.{Row, Seen, is_named, row_before, seen_at, with_row}
-use Rattle.np_views.proofs.RelationLemmas.{rows-rise}
+use Rattle.np_views.specs.Views.{Row, Seen, is_named, row_before, with_row}
 use Rattle.np_views.proofs.RoomLemmas.{room-falls, room-gives}
 use Rattle.np_record.specs.declared.record.RequestRecord.{RequestRecord}
 use Rattle.np_spelling.specs.Spelling.{request_record_text}
@@ -42,18 +38,18 @@ use Rattle.np_machine.specs.Order.{is_id_before}
 use Rattle.np_machine.specs.Request.{insert_request, next_id}
 use Rattle.np_machine.specs.State.{State}
 use Rattle.np_machine.specs.Tables.{request_entry, same_request}
-use Rattle.np_places.specs.Place.{IsGood, above, path_of, place_name}
+use Rattle.np_places.specs.Place.{IsGood, path_of, place_name}
 use Rattle.np_places.specs.declared.place.Place.{Place}
 use Rattle.np_places.specs.declared.place.Place.TheVariants.{Nodepool, Requests, Request, RequestLocks, RequestLock}
 use Rattle.np_places.proofs.AboveLemmas.{is_path-of}
 use Rattle.np_places.proofs.NameLemmas.{is_element-plain, is_plain, is_plain_name, plain_name-decimal}
 use Rattle.np_places.proofs.OrderLemmas.{requests-rise}
-use Rattle.np_layout.specs.Creates.{GrownRequestsLayOut, request_parts, request_prefix}
+use Rattle.np_layout.specs.Creates.{GrownRequestsLayOut, request_prefix}
 use Rattle.np_layout.specs.First.{make}
-use Rattle.np_layout.specs.Layout.{IsQueue, IsWait, LaysOut, under}
+use Rattle.np_layout.specs.Layout.{IsQueue, IsWait, LaysOut}
 use Rattle.np_layout.specs.Rows.{persistent, request_lock_row, request_row}
 use Rattle.np_layout.specs.Sets.{HasGoodIds}
-use Rattle.np_layout.proofs.CreateSteps.{CreatesRow, Step, counter-there, create-step, free-named, make-step, owner-there}
+use Rattle.np_layout.proofs.CreateSteps.{Step, counter-there, create-step, free-named, make-step, owner-there}
 use Rattle.np_layout.proofs.Elsewhere.{Stays, all-true, beside-apart, frame-stays, jobs-stay, launchers-stay, live-stays, node_locks-stay, nodes-stay, request_queues-stay, roles-stay, semaphores-stay, sessions-stay, stays-more, swept-stay, IsApart}
 use Rattle.np_layout.proofs.SetRequests.{named-by}
 

@@ -1,7 +1,7 @@
 -- a session begins, and the tree's first session makes its record
 use Rattle.std.proofs.Common.{◌≡◌, ℕ, zero, suc, ◌+◌, ◌<◌, ◌≤◌, ◌^◌, Bool, true, false, ◌||◌, List, [], ◌∷◌, ◌++◌, length, map, Some, None, refl, sym, ap, ◌∙◌, subst, arith}
 use Rattle.std.specs.Prelude.{◌==◌}
-use Rattle.std.specs.Ordering.{nat_cmp, is_lt}
+use Rattle.std.specs.Ordering.{is_lt}
 use Rattle.std.specs.List.{AllByRecursion, list_any, range_with_len}
 use Rattle.std.proofs.lemmas.Bool.Decides.{nat_tests}
 use Rattle.np_text.specs.declared.id.Role.{Role}
@@ -22,12 +22,12 @@ use Rattle.np_views.proofs.SiblingLemmas.{other-name}
 use Rattle.np_spelling.specs.Spelling.{session_text}
 use Rattle.np_machine.specs.State.{State}
 use Rattle.np_machine.specs.declared.state.SessionFacts.{SessionFacts}
-use Rattle.np_places.specs.Place.{IsGood, path_of, place_name}
+use Rattle.np_places.specs.Place.{path_of, place_name}
 use Rattle.np_places.specs.declared.place.Place.{Place}
 use Rattle.np_places.specs.declared.place.Place.TheVariants.{Poolsim, Sessions, Session}
 use Rattle.np_layout.specs.Creates.{SessionsLayOut}
 use Rattle.np_layout.specs.First.{make}
-use Rattle.np_layout.specs.Layout.{AreLive, LaysOut, under}
+use Rattle.np_layout.specs.Layout.{AreLive, LaysOut}
 use Rattle.np_layout.specs.Rows.{rows_from, session_row}
 use Rattle.np_layout.specs.Sets.{HasGoodIds}
 use Rattle.np_layout.proofs.CreateSteps.{Step, counter-there, free-named, make-step, owner-there}

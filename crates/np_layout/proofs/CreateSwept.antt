@@ -1,6 +1,5 @@
 -- a create of a swept pair
-use Rattle.std.proofs.Common.{◌≡◌, ℕ, ◌≤◌, Bool, true, false, cond, ◌&&◌, List, [], ◌∷◌, map, Some, None, refl, sym, ap, ◌∙◌, subst, arith}
-use Rattle.std.specs.Prelude.{◌==◌}
+use Rattle.std.proofs.Common.{◌≡◌, ℕ, Bool, true, false, cond, List, [], ◌∷◌, map, Some, None, refl, sym, ap, ◌∙◌, subst, arith}
 use Rattle.std.specs.List.{AllByRecursion, list_any}
 use Rattle.std.proofs.lemmas.Bool.Decides.{nat_tests}
 use Rattle.np_text.specs.declared.id.NodeId.{NodeId}
@@ -56,7 +55,7 @@ module _ (s : State) (t : TreeState) (w : ℕ) (n : NodeId) (server : ℕ) (whol
   others [] all_good none = tt
   others (pair ∷ list) all_good none = (
     named-other place (SweptPlace pair.node pair.server) is_good all_good.0 refl
-    (λ equal. let itself = pair-self pair in let same = ap (λ (q : Place). is_pair (node_of q) (server_of q) pair) equal in let none_here = none.0 in absurd cc),
+        (λ equal. let itself = pair-self pair in let same = ap (λ (q : Place). is_pair (node_of q) (server_of q) pair) equal in let none_here = none.0 in absurd cc),
     others list all_good.1 none.1,
   )
 

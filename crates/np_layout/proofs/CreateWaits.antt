@@ -1,8 +1,7 @@
 -- a wait at a lock
-use Rattle.std.proofs.Common.{◌≡◌, ℕ, ◌+◌, ◌<◌, ◌≤◌, ◌^◌, Bool, true, false, cond, ◌||◌, List, [], ◌∷◌, ◌++◌, length, map, Option, Some, None, refl, sym, ap, ◌∙◌, subst, arith}
+use Rattle.std.proofs.Common.{◌≡◌, ℕ, ◌+◌, ◌<◌, ◌^◌, Bool, true, false, cond, ◌||◌, List, [], ◌∷◌, ◌++◌, map, Option, Some, None, refl, sym, ap, ◌∙◌, subst, arith}
 use Rattle.std.specs.Prelude.{codes, find}
-use Rattle.std.specs.Ordering.{nat_cmp, is_lt}
-use Rattle.std.specs.Cmp.Lexicographic.{slice_cmp}
+use Rattle.std.specs.Ordering.{is_lt}
 use Rattle.std.specs.List.{AllByRecursion, AllZip, list_any}
 use Rattle.std.specs.Option.{option_map}
 use Rattle.np_text.specs.Number.{ten_digits_of}
@@ -22,7 +21,7 @@ use Rattle.np_tree.specs.Whole.{IsWhole}
 use Rattle.np_views.specs.Goes.{owner_at}
 use Rattle.np_views.specs.Relations.{counter_after}
 use Rattle.np_views.specs.Several.{HasRoom}
-use Rattle.np_views.specs.Views.{Row, is_named, row_before, with_row}
+use Rattle.np_views.specs.Views.{Row, is_named, row_before}
 use Rattle.np_views.proofs.SiblingLemmas.{other-name}
 use Rattle.np_places.specs.Place.{IsGood, above, path_of, place_name}
 use Rattle.np_places.specs.declared.place.Place.{Place}
@@ -30,7 +29,7 @@ use Rattle.np_places.proofs.AboveLemmas.{IsGood-above, is_path-of}
 use Rattle.np_layout.specs.Creates.{wait_at}
 use Rattle.np_layout.specs.Layout.{IsQueue, IsWait, under}
 use Rattle.np_layout.specs.Rows.{tree_session, wait_row}
-use Rattle.np_layout.proofs.CreateSteps.{CanMake, Step, create-step, free-named, over_leaves}
+use Rattle.np_layout.proofs.CreateSteps.{Step, create-step, free-named, over_leaves}
 
 -- the places of the waits at a lock
 pub record IsLock (lock : Place) (wait : ℕ → Place) : Type 0 where

@@ -26,3 +26,15 @@ pub mod SetRoles
 pub mod SetSessions
 pub mod SetRequests
 pub mod SetNodes
+pub mod Beside
+pub mod DeleteLists
+pub mod DeleteSteps
+pub mod DeleteHandles
+pub mod DeleteOnce
+pub mod DeleteQueues
+pub mod DeleteRequestWaits
+pub mod DeleteNodeWaits
+pub mod DeleteEnds
+pub mod DeleteParts
+pub mod DeleteRequests
+pub mod DeleteNodes

@@ -14,7 +14,7 @@ use Rattle.np_spelling.specs.Spelling.{job_text}
 use Rattle.np_machine.specs.State.{State}
 use Rattle.np_places.specs.Place.{IsGood, place_name}
 use Rattle.np_places.specs.declared.place.Place.{Place}
-use Rattle.np_places.specs.declared.place.Place.TheVariants.{Poolsim, Jobs, Job}
+use Rattle.np_places.specs.declared.place.Place.TheVariants.{Jobs, Job}
 use Rattle.np_layout.specs.Layout.{LaysOut}
 use Rattle.np_layout.specs.Rows.{by_name, job_row, rows_from}
 use Rattle.np_layout.specs.Sets.{HasGoodIds, JobChangesLayOut, JobsLayOut, SetLaysOut, set}

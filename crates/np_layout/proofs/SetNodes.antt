@@ -18,9 +18,9 @@ use Rattle.np_spelling.specs.Spelling.{SpellsNode}
 use Rattle.np_machine.specs.Entries.{NodeEntry}
 use Rattle.np_machine.specs.State.{State}
 use Rattle.np_machine.specs.Tables.{node_in}
-use Rattle.np_places.specs.Place.{IsGood, path_of, place_name}
+use Rattle.np_places.specs.Place.{IsGood, place_name}
 use Rattle.np_places.specs.declared.place.Place.{Place}
-use Rattle.np_places.specs.declared.place.Place.TheVariants.{Poolsim, Nodes, Node}
+use Rattle.np_places.specs.declared.place.Place.TheVariants.{Nodes, Node}
 use Rattle.np_layout.specs.Layout.{HasNodeLock, IsNodeRow, LaysOut, under}
 use Rattle.np_layout.specs.Sets.{HasGoodIds, NodesLayOut, set}
 use Rattle.np_layout.proofs.Elsewhere.{frame-stays, jobs-stay, launchers-stay, live-stays, node_locks-stay, request_locks-stay, requests-stay, roles-stay, semaphores-stay, sessions-stay, swept-stay}
@@ -38,7 +38,7 @@ abbrev id_of : Place → NodeId
 id_of (Node id) = id
 id_of other = record { 0 = 0 }
 
-named-by : (n id : NodeId) (b : Bool) → (id.0 == n.0) ≡ b → IsGood (Node n) → IsGood (Node id) → bytes_eq (place_name (Node id)) (place_name (Node n)) ≡ b
+pub named-by : (n id : NodeId) (b : Bool) → (id.0 == n.0) ≡ b → IsGood (Node n) → IsGood (Node id) → bytes_eq (place_name (Node id)) (place_name (Node n)) ≡ b
 named-by n id true same n_good id_good = bytes_eq-from (place_name (Node id)) (place_name (Node n)) (ap (λ (x : NodeId). place_name (Node x)) (same-is id n same))
 named-by n id false same n_good id_good =
     named-other (Node n) (Node id) n_good id_good refl (λ equal.

@@ -18,9 +18,9 @@ use Rattle.np_spelling.specs.Spelling.{request_record_text}
 use Rattle.np_machine.specs.Entries.{RequestEntry}
 use Rattle.np_machine.specs.State.{State}
 use Rattle.np_machine.specs.Tables.{request_in, same_request}
-use Rattle.np_places.specs.Place.{IsGood, path_of, place_name}
+use Rattle.np_places.specs.Place.{IsGood, place_name}
 use Rattle.np_places.specs.declared.place.Place.{Place}
-use Rattle.np_places.specs.declared.place.Place.TheVariants.{Poolsim, Requests, Request, RequestLock}
+use Rattle.np_places.specs.declared.place.Place.TheVariants.{Requests, Request, RequestLock}
 use Rattle.np_layout.specs.Layout.{AreRequestLocks, IsQueue, LaysOut}
 use Rattle.np_layout.specs.Rows.{request_lock_row, request_row}
 use Rattle.np_layout.specs.Sets.{HasGoodIds, RequestsLayOut, set}

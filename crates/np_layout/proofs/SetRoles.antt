@@ -18,7 +18,7 @@ use Rattle.np_machine.specs.State.{State}
 use Rattle.np_machine.specs.Tables.{change_role}
 use Rattle.np_places.specs.Place.{IsGood, above, place_name}
 use Rattle.np_places.specs.declared.place.Place.{Place}
-use Rattle.np_places.specs.declared.place.Place.TheVariants.{Poolsim, Roles, LauncherRole, JanitorRole, RequesterRole}
+use Rattle.np_places.specs.declared.place.Place.TheVariants.{Roles, LauncherRole, JanitorRole, RequesterRole}
 use Rattle.np_layout.specs.Layout.{LaysOut}
 use Rattle.np_layout.specs.Rows.{by_name, janitor_role_row, launcher_role_row, requester_role_row, rows_from}
 use Rattle.np_layout.specs.Sets.{HasGoodIds, RolesLayOut, SetLaysOut, set}

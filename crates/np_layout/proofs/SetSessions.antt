@@ -18,7 +18,7 @@ use Rattle.np_machine.specs.Tables.{change_session, session_of}
 use Rattle.np_machine.specs.declared.state.SessionFacts.{SessionFacts}
 use Rattle.np_places.specs.Place.{IsGood, place_name}
 use Rattle.np_places.specs.declared.place.Place.{Place}
-use Rattle.np_places.specs.declared.place.Place.TheVariants.{Poolsim, Sessions, Session}
+use Rattle.np_places.specs.declared.place.Place.TheVariants.{Sessions, Session}
 use Rattle.np_layout.specs.Layout.{AreLive, LaysOut}
 use Rattle.np_layout.specs.Sets.{HasGoodIds, MutesLayOut, set}
 use Rattle.np_layout.proofs.Elsewhere.{frame-stays, jobs-stay, launchers-stay, live-stays, node_locks-stay, nodes-stay, request_locks-stay, requests-stay, roles-stay, semaphores-stay, swept-stay}

@@ -59,7 +59,7 @@ pub record SetsRow (dir p : Place) (bytes : List ℕ) (t u : TreeState) : Type 0
   pub counter : next_under dir u ≡ next_under dir t
 
 -- no rows stay no rows
-empty-by : (dir path : List ℕ) (t u : TreeState) (change : List Row → List Row) (b : Bool) → bytes_eq path dir ≡ b → change [] ≡ [] → rows_at u dir ≡ change (rows_at t dir) → ((path ≡ dir → ⊥) → rows_at u path ≡ rows_at t path) → rows_at t path ≡ [] → rows_at u path ≡ []
+pub empty-by : (dir path : List ℕ) (t u : TreeState) (change : List Row → List Row) (b : Bool) → bytes_eq path dir ≡ b → change [] ≡ [] → rows_at u dir ≡ change (rows_at t dir) → ((path ≡ dir → ⊥) → rows_at u path ≡ rows_at t path) → rows_at t path ≡ [] → rows_at u path ≡ []
 empty-by dir path t u change true is none here others empty =
     let same = bytes_eq-is path dir is in
     ap (rows_at u) same ∙ here ∙ ap (λ (d : List ℕ). change (rows_at t d)) (sym same) ∙ ap change empty ∙ none

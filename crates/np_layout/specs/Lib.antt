@@ -5,3 +5,4 @@ pub mod Worked
 pub mod Laws
 pub mod Sets
 pub mod Creates
+pub mod Deletes

@@ -1,6 +1,7 @@
 //! Laws of the layout. Each function does nothing: its contract is the law.
 
 ghost use Rattle.np_layout.specs.Creates.{GrownNodesLayOut, GrownRequestsLayOut, HandlesLayOut, NodeWaitsLayOut, RegistrationsLayOut, RequestWaitsLayOut, SessionsLayOut, SweptPairsLayOut};
+ghost use Rattle.np_layout.specs.Deletes.{HandlesGoLayOut, NodeWaitsGoLayOut, NodesGoLayOut, RequestWaitsGoLayOut, RequestsGoLayOut, SessionEndsLayOut};
 ghost use Rattle.np_layout.specs.Laws.{FirstCallsAreAccepted, FirstTreesLayOut};
 ghost use Rattle.np_layout.specs.Layout.{LaysOut};
 ghost use Rattle.np_layout.specs.Sets.{JobChangesLayOut, JobsLayOut, MutesLayOut, NodesLayOut, RequestsLayOut, RolesLayOut, TicksLayOut};
@@ -104,4 +105,34 @@ pub fn grown_requests_lay_out()
 /// the node is, under the next number, and its maker holds it.
 pub fn grown_nodes_lay_out()
     ensures { GrownNodesLayOut }
+{}
+
+/// A delete of a job's handle of a semaphore lays out the state in which the job has none.
+pub fn deletes_of_handles_lay_out()
+    ensures { HandlesGoLayOut }
+{}
+
+/// A delete of a wait for a request lays out the state in which the session is not in its queue.
+pub fn deletes_of_request_waits_lay_out()
+    ensures { RequestWaitsGoLayOut }
+{}
+
+/// A delete of a wait for a node lays out the state in which the session is not in its queue.
+pub fn deletes_of_node_waits_lay_out()
+    ensures { NodeWaitsGoLayOut }
+{}
+
+/// The end of a session lays out the state in which it has ended, in no queue and not registered.
+pub fn ends_of_sessions_lay_out()
+    ensures { SessionEndsLayOut }
+{}
+
+/// The deletes of a request's waits, its lock and its record go, and lay out the state without it.
+pub fn deletes_of_requests_lay_out()
+    ensures { RequestsGoLayOut }
+{}
+
+/// The deletes of a node's waits, its lock and its record go, and lay out the state without it.
+pub fn deletes_of_nodes_lay_out()
+    ensures { NodesGoLayOut }
 {}

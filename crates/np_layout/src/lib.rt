@@ -7,6 +7,8 @@
 //! set of a record to another record's text lays out the state with that record, and the set is
 //! accepted. `specs/Creates` says the same of what grows: a handle, a swept pair, a registration, a
 //! wait at a lock, a session, a request and a node, each made by the creates of its records and locks.
+//! `specs/Deletes` says the same of what goes: a handle, a wait, a request or a node with its waits, and
+//! a session that ends.
 //!
 //! The laws are public functions that do nothing: their contracts are the laws.
 #![tactic(auto)]
@@ -15,7 +17,9 @@ mod laws;
 
 pub use laws::{
     a_worked_tree_lays_out_its_state, begun_sessions_lay_out, creates_of_handles_lay_out,
-    creates_of_registrations_lay_out, creates_of_swept_pairs_lay_out, first_trees_lay_out_the_start,
+    creates_of_registrations_lay_out, creates_of_swept_pairs_lay_out, deletes_of_handles_lay_out,
+    deletes_of_node_waits_lay_out, deletes_of_nodes_lay_out, deletes_of_request_waits_lay_out,
+    deletes_of_requests_lay_out, ends_of_sessions_lay_out, first_trees_lay_out_the_start,
     grown_nodes_lay_out, grown_requests_lay_out, other_trees_do_not, sets_of_jobs_lay_out,
     sets_of_nodes_lay_out, sets_of_requests_lay_out, sets_of_roles_lay_out,
     sets_of_sessions_lay_out, sets_of_the_tick_lay_out, waits_at_nodes_lay_out,

@@ -1,0 +1,174 @@
+-- a job gives its handle of a semaphore back
+use Rattle.std.proofs.Common.{◌≡◌, ℕ, zero, suc, ◌+◌, ◌<◌, ◌≤◌, ◌^◌, Bool, true, false, not, ◌||◌, List, [], ◌∷◌, length, map, Option, Some, None, unwrap_or, refl, sym, ap, ◌∙◌, subst, arith}
+use Rattle.std.specs.Prelude.{◌==◌, filter, find, slice_get}
+use Rattle.std.specs.List.{AllByRecursion, list_any, range_with_len}
+use Rattle.std.specs.Option.{option_map}
+use Rattle.std.specs.Str.{bytes_eq}
+use Rattle.std.proofs.lemmas.Bool.{eqb-false}
+use Rattle.std.proofs.lemmas.Bool.Decides.{nat_tests}
+use Rattle.np_text.specs.declared.id.JobId.{JobId}
+use Rattle.np_text.specs.declared.id.SemId.{SemId}
+use Rattle.np_lists.specs.Change.{change_at}
+use Rattle.np_lists.specs.Rising.{Rises}
+use Rattle.np_lists.proofs.ChangeLemmas.{length-change_at, slice_get-change_at, slice_get-change_at_other}
+use Rattle.np_lists.proofs.Each.{all-weaker}
+use Rattle.np_nodes.specs.TreeState.{TreeState}
+use Rattle.np_nodes.specs.After.{after_part}
+use Rattle.np_nodes.proofs.PlaceLemmas.{bytes_eq-from}
+use Rattle.np_views.specs.Views.{Row, is_named, row_before}
+use Rattle.np_views.proofs.RelationLemmas.{rows-rise}
+use Rattle.np_machine.specs.Semaphore.{without_handle}
+use Rattle.np_machine.specs.State.{State}
+use Rattle.np_machine.specs.Tables.{handles_of, has_handle, is_among}
+use Rattle.np_places.specs.Place.{IsGood, path_of, place_name}
+use Rattle.np_places.specs.declared.place.Place.{Place}
+use Rattle.np_places.specs.declared.place.Place.TheVariants.{Poolsim, Semaphores, Semaphore, Handle}
+use Rattle.np_layout.specs.Deletes.{HandlesGoLayOut, MayDelete, delete}
+use Rattle.np_layout.specs.Layout.{AreSemaphores, HasHandles, LaysOut, under}
+use Rattle.np_layout.specs.Rows.{by_name, handle_row, semaphore_row}
+use Rattle.np_layout.proofs.DeleteLists.{any-mapped, at-range, by_name-kept, filter-mapped}
+use Rattle.np_layout.proofs.DeleteSteps.{DeleteGoes, bare-leaf, delete-goes, is_other}
+use Rattle.np_layout.proofs.Beside.{frame-stays, jobs-stay, launchers-stay, leaves-stay, live-stays, node_locks-stay, nodes-stay, request_locks-stay, requests-stay, roles-stay, sessions-stay, swept-stay}
+use Rattle.np_layout.proofs.SetLists.{any-by_name, any-found}
+use Rattle.np_layout.proofs.SetSteps.{named-other}
+
+-- ## a handle's name is its own
+
+same-is : (a b : JobId) → (a.0 == b.0) ≡ true → a ≡ b
+same-is a b same = let number : a.0 ≡ b.0 = grind (arith, nat_tests) in ap (λ (n : ℕ). record { 0 = n }) number
+
+same-self : (a : JobId) → (a.0 == a.0) ≡ true
+same-self a = grind (arith, nat_tests)
+
+abbrev job_of : Place → JobId
+job_of (Handle x j) = j
+job_of other = record { 0 = 0 }
+
+named-by : (x : SemId) (j other : JobId) (b : Bool) → (other.0 == j.0) ≡ b → IsGood (Handle x j) → IsGood (Handle x other) → bytes_eq (place_name (Handle x other)) (place_name (Handle x j)) ≡ b
+named-by x j other true same j_good other_good = bytes_eq-from (place_name (Handle x other)) (place_name (Handle x j)) (ap (λ (k : JobId). place_name (Handle x k)) (same-is other j same))
+named-by x j other false same j_good other_good =
+    named-other (Handle x j) (Handle x other) j_good other_good refl (λ equal.
+    let itself = subst (λ (k : JobId). (other.0 == k.0) ≡ true) (ap job_of equal) (same-self other) in
+    absurd cc)
+
+-- the job is one of those in the list
+good-by : (x : SemId) (j other : JobId) (jobs : List JobId) (b : Bool) → (other.0 == j.0) ≡ b → (b || is_among j jobs) ≡ true → IsGood (Handle x other) → (is_among j jobs ≡ true → IsGood (Handle x j)) → IsGood (Handle x j)
+good-by x j other jobs true same any good later = subst (λ (k : JobId). IsGood (Handle x k)) (same-is other j same) good
+good-by x j other jobs false same any good later = later any
+
+handle-good : (x : SemId) (j : JobId) (jobs : List JobId) → AllByRecursion (λ other. IsGood (Handle x other)) jobs → is_among j jobs ≡ true → IsGood (Handle x j)
+handle-good x j [] good any = absurd cc
+handle-good x j (other ∷ jobs) good any = good-by x j other jobs (other.0 == j.0) refl any good.0 (handle-good x j jobs good.1)
+
+-- ## the handles of one semaphore
+
+-- a semaphore with a handle is one of the site's
+in-range : (j : JobId) (handles : List (List JobId)) (at : ℕ) → is_among j (unwrap_or (slice_get handles at) []) ≡ true → at < length handles
+in-range j [] at any = absurd cc
+in-range j (jobs ∷ handles) zero any = omega arith
+in-range j (jobs ∷ handles) (suc at) any = let later = in-range j handles at any in omega arith
+
+without-or : (j : JobId) (o : Option (List JobId)) → unwrap_or (option_map (without_handle j) o) [] ≡ without_handle j (unwrap_or o [])
+without-or j None = refl
+without-or j (Some jobs) = refl
+
+-- the semaphore's own handles change
+here : (x : SemId) (j : JobId) (handles : List (List JobId)) → handles_of x (change_at x.0 (without_handle j) handles) ≡ without_handle j (handles_of x handles)
+here x j handles = ap (λ (o : Option (List JobId)). unwrap_or o []) (slice_get-change_at x.0 (without_handle j) handles) ∙ without-or j (slice_get handles x.0)
+
+-- those of others do not
+elsewhere : (x : SemId) (at : ℕ) (j : JobId) (handles : List (List JobId)) → (at ≡ x.0 → ⊥) → handles_of (record { 0 = at }) (change_at x.0 (without_handle j) handles) ≡ handles_of (record { 0 = at }) handles
+elsewhere x at j handles apart = ap (λ (o : Option (List JobId)). unwrap_or o []) (slice_get-change_at_other x.0 at (without_handle j) handles apart)
+
+abbrev semaphore_of : Place → ℕ
+semaphore_of (Semaphore x) = x.0
+semaphore_of other = 0
+
+module _ (s : State) (t : TreeState) (w : ℕ) (x : SemId) (j : JobId) (may : MayDelete s t w) (good : AllByRecursion (λ other. IsGood (Handle x other)) (handles_of x s.handles)) (has : has_handle j s.handles x ≡ true) where
+  abbrev jobs : List JobId
+  jobs = handles_of x s.handles
+
+  abbrev p : Place
+  p = Handle x j
+
+  abbrev u : TreeState
+  u = after_part t w (delete p)
+
+  abbrev name : List ℕ
+  name = place_name p
+
+  p-good : IsGood p
+  p-good = handle-good x j jobs good has
+
+  -- what the tree has below the semaphore
+  x-has : HasHandles s.handles t x
+  x-has = at-range (λ at. HasHandles s.handles t (record { 0 = at })) (length s.handles) 0 x.0 (omega arith) (let low = in-range j s.handles x.0 has in omega arith) may.lays.semaphores.each
+
+  names : AllByRecursion (λ other. is_named name (handle_row x other) ≡ (other.0 == j.0)) jobs
+  names = all-weaker (λ (other : JobId). IsGood (Handle x other)) (λ (other : JobId). is_named name (handle_row x other) ≡ (other.0 == j.0)) (λ other other_good. named-by x j other (other.0 == j.0) refl p-good other_good) jobs good
+
+  row : (r : Row) × (find (is_named name) (under (Semaphore x) t) ≡ Some r)
+  row = any-found (is_named name) (under (Semaphore x) t)
+      (ap (list_any (is_named name)) x-has.rows ∙ any-by_name (is_named name) (map (handle_row x) jobs) ∙ any-mapped (handle_row x) (is_named name) (λ other. other.0 == j.0) jobs names ∙ has)
+
+  deletes : DeleteGoes t w (Semaphore x) p
+  deletes = delete-goes t w (Semaphore x) p row.0 p-good refl refl may.whole may.live may.room.change row.1 (bare-leaf t (Semaphore x) p row.0 refl x-has.leaves row.1)
+
+  abbrev handles : List (List JobId)
+  handles = change_at x.0 (without_handle j) s.handles
+
+  -- the handles of the semaphore are those without the job's
+  rows-here : under (Semaphore x) u ≡ by_name (map (handle_row x) (handles_of x handles))
+  rows-here =
+      deletes.row.rows ∙ ap (filter (is_other name)) x-has.rows
+      ∙ by_name-kept (is_other name) (map (handle_row x) jobs) (subst (Rises row_before) x-has.rows (rows-rise t (path_of (Semaphore x)) may.whole))
+      ∙ ap by_name (filter-mapped (handle_row x) (is_other name) (λ other. not (other.0 == j.0)) jobs
+      (all-weaker (λ (other : JobId). is_named name (handle_row x other) ≡ (other.0 == j.0)) (λ (other : JobId). is_other name (handle_row x other) ≡ not (other.0 == j.0)) (λ other same. ap not same) jobs names)
+      ∙ ap (map (handle_row x)) (sym (here x j s.handles)))
+
+  one-by : (at : ℕ) (b : Bool) → (at == x.0) ≡ b → at < 2 ^ 16 → HasHandles s.handles t (record { 0 = at }) → HasHandles handles u (record { 0 = at })
+  one-by at true same low is =
+      let number : x.0 ≡ at = grind (arith, nat_tests) in
+      subst (λ (k : ℕ). HasHandles handles u (record { 0 = k })) number (record { rows = rows-here; leaves = deletes.row.leaves x-has.leaves })
+  one-by at false same low is =
+      let apart = eqb-false at x.0 same in
+      let stay = deletes.row.others (Semaphore (record { 0 = at })) low (λ equal. apart (ap semaphore_of equal)) in
+      record {
+        rows = stay ∙ is.rows ∙ ap (λ (list : List JobId). by_name (map (handle_row (record { 0 = at })) list)) (sym (elsewhere x at j s.handles apart));
+        leaves = leaves-stay (Semaphore x) t u deletes.row.stays (Semaphore (record { 0 = at })) stay is.leaves;
+      }
+
+  each : (count at : ℕ) → at + count ≤ 2 ^ 16 → AllByRecursion (λ at. HasHandles s.handles t (record { 0 = at })) (range_with_len at count) → AllByRecursion (λ at. HasHandles handles u (record { 0 = at })) (range_with_len at count)
+  each zero at within all = tt
+  each (suc count) at within all = (one-by at (at == x.0) refl (omega arith) all.0, each count (at + 1) (omega arith) all.1)
+
+  semaphores : AreSemaphores handles u
+  semaphores =
+      let same = length-change_at x.0 (without_handle j) s.handles in
+      record {
+        rows = deletes.row.stays.rows Semaphores tt refl ∙ may.lays.semaphores.rows ∙ ap (λ (n : ℕ). by_name (map semaphore_row (range_with_len 0 n))) (sym same);
+        each = subst (λ (n : ℕ). AllByRecursion (λ at. HasHandles handles u (record { 0 = at })) (range_with_len 0 n)) (sym same) (each (length s.handles) 0 (let few = may.good.semaphores in omega arith) may.lays.semaphores.each);
+      }
+
+  handle-lays : LaysOut (record s { handles = handles }) u
+  handle-lays =
+      let stays = deletes.row.stays in
+      let lays = may.lays in
+      record {
+        frame = frame-stays (Semaphore x) t u stays s.tick s.tick refl refl refl refl (stays.rows Poolsim tt refl ∙ lays.frame.poolsim) lays.frame;
+        requests = requests-stay (Semaphore x) t u stays s.requests s.next_request refl lays.requests;
+        request_locks = request_locks-stay (Semaphore x) t u stays s.requests may.good.requests refl refl lays.request_locks;
+        nodes = nodes-stay (Semaphore x) t u stays s.nodes s.next_node refl lays.nodes;
+        node_locks = node_locks-stay (Semaphore x) t u stays s.nodes may.good.nodes refl refl lays.node_locks;
+        launchers = launchers-stay (Semaphore x) t u stays s.registrations refl lays.launchers;
+        semaphores = semaphores;
+        jobs = jobs-stay (Semaphore x) t u stays s.jobs refl lays.jobs;
+        roles = roles-stay (Semaphore x) t u stays s.launchers s.janitors s.requesters refl lays.roles;
+        sessions = sessions-stay (Semaphore x) t u stays s.sessions refl lays.sessions;
+        swept = swept-stay (Semaphore x) t u stays s.swept refl lays.swept;
+        live = live-stays (Semaphore x) t u stays s.sessions lays.live;
+      }
+
+-- the delete of a handle lays out the state in which the job has none
+pub handles-lay-out : HandlesGoLayOut
+handles-lay-out s t w x j may good has = record { goes = (deletes s t w x j may good has).goes; lays = handle-lays s t w x j may good has }

@@ -1,0 +1,104 @@
+-- lists in which at most one member passes a test: it is changed or left out, and the others stay
+use Rattle.std.proofs.Common.{◌≡◌, ℕ, Bool, true, false, not, cond, List, [], ◌∷◌, map, refl, sym, ap, ◌∙◌, subst}
+use Rattle.std.specs.Prelude.{filter}
+use Rattle.std.specs.List.{AllByRecursion, AllZip}
+use Rattle.np_lists.specs.Change.{change_first, remove_first}
+use Rattle.np_lists.specs.Rising.{NonePass, Rises}
+use Rattle.np_lists.proofs.FilterLemmas.{filter-not_none}
+use Rattle.np_nodes.proofs.PlaceLemmas.{bytes_eq-is}
+use Rattle.np_views.specs.Views.{Row, is_named, row_before}
+use Rattle.np_views.proofs.SiblingLemmas.{other-name_back}
+
+-- no member after one that passes does
+abbrev pub IsOnce : {A : Type 0} → (A → Bool) → List A → Type 0
+IsOnce p [] = Unit {0}
+IsOnce p (a ∷ list) = (p a ≡ true → NonePass p list) × IsOnce p list
+
+-- the row of each member has the name if the member passes
+abbrev pub Tells : {A : Type 0} → List ℕ → (A → Bool) → List Row → List A → Type 0
+Tells name p rows list = AllZip (λ row a. is_named name row ≡ p a) rows list
+
+-- ## from rows in order
+
+-- the rows of members have the name as these tell
+pub tells-mapped : {A : Type 0} (name : List ℕ) (p : A → Bool) (row : A → Row) (list : List A) → AllByRecursion (λ a. is_named name (row a) ≡ p a) list → Tells name p (map row list) list
+tells-mapped name p row [] all = tt
+tells-mapped name p row (a ∷ list) all = (all.0, tells-mapped name p row list all.1)
+
+module _ {A : Type 0} (name : List ℕ) (p : A → Bool) where
+  none-after : (row : Row) (rows : List Row) (list : List A) → is_named name row ≡ true → AllByRecursion (λ other. row_before row other ≡ true) rows → Tells name p rows list → NonePass p list
+  none-after row [] [] is before tells = tt
+  none-after row [] (a ∷ list) is before tells = absurd tells
+  none-after row (other ∷ rows) [] is before tells = absurd tells
+  none-after row (other ∷ rows) (a ∷ list) is before tells = (
+    sym tells.0 ∙ subst (λ (n : List ℕ). is_named n other ≡ false) (bytes_eq-is row.name name is) (other-name_back row other before.0),
+    none-after row rows list is before.1 tells.1,
+  )
+
+  -- among rows in order a name is there once
+  pub once-told : (rows : List Row) (list : List A) → Rises row_before rows → Tells name p rows list → IsOnce p list
+  once-told [] [] rises tells = tt
+  once-told [] (a ∷ list) rises tells = absurd tells
+  once-told (row ∷ rows) [] rises tells = absurd tells
+  once-told (row ∷ rows) (a ∷ list) rises tells = ((λ passes. none-after row rows list (tells.0 ∙ passes) rises.0 tells.1), once-told rows list rises.1 tells.1)
+
+-- ## the one is changed or left out
+
+module _ {A : Type 0} (p : A → Bool) where
+  removed-by : (a : A) (list : List A) (b : Bool) → p a ≡ b → (p a ≡ true → NonePass p list) → filter (λ x. not (p x)) list ≡ remove_first p list → cond (not b) (a ∷ filter (λ x. not (p x)) list) (filter (λ x. not (p x)) list) ≡ cond b list (a ∷ remove_first p list)
+  removed-by a list true is none later = filter-not_none p list (none is)
+  removed-by a list false is none later = ap (λ (xs : List A). a ∷ xs) later
+
+  -- all that do not pass are all but the first that does
+  pub filter-removed : (list : List A) → IsOnce p list → filter (λ x. not (p x)) list ≡ remove_first p list
+  filter-removed [] once = refl
+  filter-removed (a ∷ list) once = removed-by a list (p a) refl once.0 (filter-removed list once.1)
+
+  module _ (f : A → A) where
+    module _ (G P Q : A → Type 0) (one : (a : A) → p a ≡ true → G a → P a → Q (f a)) (others : (a : A) → p a ≡ false → G a → P a → Q a) where
+      all-others : (list : List A) → NonePass p list → AllByRecursion G list → AllByRecursion P list → AllByRecursion Q list
+      all-others [] none good all = tt
+      all-others (a ∷ list) none good all = (others a none.0 good.0 all.0, all-others list none.1 good.1 all.1)
+
+      change-by : (a : A) (list : List A) (b : Bool) → p a ≡ b → (p a ≡ true → NonePass p list) → AllByRecursion G (a ∷ list) → AllByRecursion P (a ∷ list) → AllByRecursion Q (change_first p f list) → AllByRecursion Q (cond b (f a ∷ list) (a ∷ change_first p f list))
+      change-by a list true is none good all later = (one a is good.0 all.0, all-others list (none is) good.1 all.1)
+      change-by a list false is none good all later = (others a is good.0 all.0, later)
+
+      -- one thing is true of the one when it is changed, another of the others
+      pub change-one : (list : List A) → IsOnce p list → AllByRecursion G list → AllByRecursion P list → AllByRecursion Q (change_first p f list)
+      change-one [] once good all = tt
+      change-one (a ∷ list) once good all = change-by a list (p a) refl once.0 good all (change-one list once.1 good.1 all.1)
+
+    same-by : (row : A → Row) (a : A) (list rest : List A) (b : Bool) → row (f a) ≡ row a → map row rest ≡ map row list → map row (cond b (f a ∷ list) (a ∷ rest)) ≡ row a ∷ map row list
+    same-by row a list rest true same later = ap (λ (r : Row). r ∷ map row list) same
+    same-by row a list rest false same later = ap (λ (rows : List Row). row a ∷ rows) later
+
+    -- a change that keeps rows keeps all of them
+    pub map-change_first : (row : A → Row) → ((a : A) → row (f a) ≡ row a) → (list : List A) → map row (change_first p f list) ≡ map row list
+    map-change_first row same [] = refl
+    map-change_first row same (a ∷ list) = same-by row a list (change_first p f list) (p a) (same a) (map-change_first row same list)
+
+    module _ (R : Row → A → Type 0) (keeps : (row : Row) (a : A) → R row a → R row (f a)) where
+      zip-by : (row : Row) (rows : List Row) (a : A) (list : List A) (b : Bool) → R row a → AllZip R rows list → AllZip R rows (change_first p f list) → AllZip R (row ∷ rows) (cond b (f a ∷ list) (a ∷ change_first p f list))
+      zip-by row rows a list true is all later = (keeps row a is, all)
+      zip-by row rows a list false is all later = (is, later)
+
+      pub zip-change_first : (rows : List Row) (list : List A) → AllZip R rows list → AllZip R rows (change_first p f list)
+      zip-change_first [] [] all = tt
+      zip-change_first [] (a ∷ list) all = absurd all
+      zip-change_first (row ∷ rows) [] all = absurd all
+      zip-change_first (row ∷ rows) (a ∷ list) all = zip-by row rows a list (p a) all.0 all.1 (zip-change_first rows list all.1)
+
+  -- rows and members are left out together
+  module _ (R : Row → A → Type 0) (test : Row → Bool) where
+    both-by : (row : Row) (rows : List Row) (a : A) (list : List A) (b c : Bool) → b ≡ c → R row a → AllZip R rows list → AllZip R (cond (not b) (row ∷ rows) rows) (cond (not c) (a ∷ list) list)
+    both-by row rows a list true true same is all = all
+    both-by row rows a list true false same is all = absurd cc
+    both-by row rows a list false true same is all = absurd cc
+    both-by row rows a list false false same is all = (is, all)
+
+    pub zip-filter : (rows : List Row) (list : List A) → AllZip (λ row a. test row ≡ p a) rows list → AllZip R rows list → AllZip R (filter (λ row. not (test row)) rows) (filter (λ a. not (p a)) list)
+    zip-filter [] [] tells all = tt
+    zip-filter [] (a ∷ list) tells all = absurd all
+    zip-filter (row ∷ rows) [] tells all = absurd all
+    zip-filter (row ∷ rows) (a ∷ list) tells all = both-by row (filter (λ r. not (test r)) rows) a (filter (λ x. not (p x)) list) (test row) (p a) tells.0 all.0 (zip-filter rows list tells.1 all.1)

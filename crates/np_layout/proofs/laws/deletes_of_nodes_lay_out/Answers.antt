@@ -1,0 +1,5 @@
+use Rattle.np_layout.proofs.DeleteNodes.{nodes_go-lay-out}
+use Rattle.np_layout.proofs.laws.deletes_of_nodes_lay_out.Goals as goal
+
+pub returns : goal.returns
+returns c = nodes_go-lay-out
