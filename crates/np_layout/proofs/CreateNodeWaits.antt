@@ -128,7 +128,7 @@ module _ (s : State) (t : TreeState) (session : SessionId) (n : NodeId) (e : Nod
   }
 
   apart : (x : NodeEntry) → (NodeLock x.id ≡ NodeLock n → ⊥) → Before x → HasNodeLock u x
-  apart x other before = record { rows = rows-still x before; queue = queue-stays (NodeLock n ∷ []) t u one.step.creates.stays (NodeLock x.id) x.queue before.0 (other, tt) before.1.queue }
+  apart x other before = record { rows = rows-still x before; queue = queue-stays (NodeLock n ∷ []) t u one.step.creates.stays (NodeLock x.id) x.queue before.0 refl (other, tt) before.1.queue }
 
   earlier : (x : NodeEntry) → is_it x ≡ false → Before x → HasNodeLock u x
   earlier x other = apart x (λ same. let itself = same-self x.id in let equal = ap (λ (p : Place). x.id.0 == (id_of p).0) same in absurd cc)

@@ -175,7 +175,7 @@ module _ (s : State) (t : TreeState) (session : SessionId) (kept : NodeRecord) (
           rows = subst (λ (rows : List Row). AllZip IsNodeRow rows (s.nodes ++ entry ∷ []))
               (sym (later.rows Nodes tt aside ∙ first.creates.rows ∙ insert_before-end (λ other. row_before (persistent (Node n) bytes) other) (persistent (Node n) bytes) (under Nodes t) (none-after n bytes (under Nodes t) s.nodes n-good low lays.nodes.rows)))
               (zip-push (persistent (Node n) bytes) entry (under Nodes t) s.nodes (record { is = refl; spells = spells }) lays.nodes.rows);
-          gives = later.counters Nodes (s.next_node + 1) tt aside (first.creates.counter ∙ ap (option_map (counter_after PersistentSequential)) lays.nodes.gives);
+          gives = later.counters Nodes (s.next_node + 1) tt refl aside (first.creates.counter ∙ ap (option_map (counter_after PersistentSequential)) lays.nodes.gives);
         };
         node_locks = all-push (HasNodeLock u) s.nodes entry (node_queues-stay dirs t u stays s.nodes good.nodes (apart n s.nodes low) lays.node_locks) lock;
         launchers = launchers-stay dirs t u stays s.registrations refl lays.launchers;

@@ -90,7 +90,7 @@ module _ (s : State) (t : TreeState) (session : SessionId) (r : RequestId) (e : 
   here before = subst (λ (id : RequestId). IsQueue (RequestLock id) queue u) (sym e-is) (subst (λ (list : List SessionId). IsQueue (RequestLock r) list u) (sym queue-is) one.joins)
 
   apart : (x : RequestEntry) → (RequestLock x.id ≡ RequestLock r → ⊥) → Before x → After x
-  apart x other before = queue-stays (RequestLock r ∷ []) t u one.step.creates.stays (RequestLock x.id) x.queue before.0 (other, tt) before.1
+  apart x other before = queue-stays (RequestLock r ∷ []) t u one.step.creates.stays (RequestLock x.id) x.queue before.0 refl (other, tt) before.1
 
   earlier : (x : RequestEntry) → is_it x ≡ false → Before x → After x
   earlier x other = apart x (λ same. let itself = same-self x.id in let equal = ap (λ (p : Place). same_request x.id (id_of p)) same in absurd cc)

@@ -183,7 +183,7 @@ module _ (s : State) (t : TreeState) (w priority : ℕ) (kept : RequestRecord) (
               second.creates.stays.rows Requests tt aside ∙ first.creates.rows ∙ ap (with_row (request_row entry)) lays.requests.rows
               ∙ insert-rows request_row (λ e. refl) entry s.requests r_good good.requests;
           leaves = second.creates.stays.leaves Requests tt refl aside (first.creates.leaves lays.requests.leaves);
-          gives = second.creates.stays.counters Requests (s.next_request + 1) tt aside (first.creates.counter ∙ ap (option_map (counter_after PersistentSequential)) lays.requests.gives);
+          gives = second.creates.stays.counters Requests (s.next_request + 1) tt refl aside (first.creates.counter ∙ ap (option_map (counter_after PersistentSequential)) lays.requests.gives);
         };
         request_locks = record {
           rows =

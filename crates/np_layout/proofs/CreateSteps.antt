@@ -108,7 +108,7 @@ created t w part dir p mode row made good over top named whole is_part free answ
             (still-none t u (path_of other) (under other t)
             (λ path path_over none. shows.other_rows path (λ same. over-is other (above dir) other_good (above-is_good dir dir_good) (sym dir_over ∙ ap parent_of (sym same) ∙ path_over) top has) ∙ none)
             (rows-below t (path_of other) whole) leaves);
-        counters = λ other next other_good apart is.
+        counters = λ other next other_good has apart is.
             shows.other_counter (path_of other) (λ same. apart.0 (same_paths other dir other_good dir_good same))
             (λ same. no-counter (at_path t.nodes (path_of other)) next (ap (at_path t.nodes) (same ∙ joined) ∙ seen-none (at_path t.nodes (path_of p)) free) is)
             ∙ is;

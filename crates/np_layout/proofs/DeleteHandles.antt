@@ -22,13 +22,13 @@ use Rattle.np_machine.specs.State.{State}
 use Rattle.np_machine.specs.Tables.{handles_of, has_handle, is_among}
 use Rattle.np_places.specs.Place.{IsGood, path_of, place_name}
 use Rattle.np_places.specs.declared.place.Place.{Place}
-use Rattle.np_places.specs.declared.place.Place.TheVariants.{Poolsim, Semaphores, Semaphore, Handle}
+use Rattle.np_places.specs.declared.place.Place.TheVariants.{Semaphores, Semaphore, Handle}
 use Rattle.np_layout.specs.Deletes.{HandlesGoLayOut, MayDelete, delete}
 use Rattle.np_layout.specs.Layout.{AreSemaphores, HasHandles, LaysOut, under}
 use Rattle.np_layout.specs.Rows.{by_name, handle_row, semaphore_row}
 use Rattle.np_layout.proofs.DeleteLists.{any-mapped, at-range, by_name-kept, filter-mapped}
 use Rattle.np_layout.proofs.DeleteSteps.{DeleteGoes, bare-leaf, delete-goes, is_other}
-use Rattle.np_layout.proofs.Beside.{frame-stays, jobs-stay, launchers-stay, leaves-stay, live-stays, node_locks-stay, nodes-stay, request_locks-stay, requests-stay, roles-stay, sessions-stay, swept-stay}
+use Rattle.np_layout.proofs.Elsewhere.{frame-stays, handles-stay, jobs-stay, launchers-stay, live-stays, node_locks-stay, nodes-stay, request_locks-stay, requests-stay, roles-stay, rows-stay, sessions-stay, swept-stay}
 use Rattle.np_layout.proofs.SetLists.{any-by_name, any-found}
 use Rattle.np_layout.proofs.SetSteps.{named-other}
 
@@ -112,7 +112,7 @@ module _ (s : State) (t : TreeState) (w : ℕ) (x : SemId) (j : JobId) (may : Ma
       (ap (list_any (is_named name)) x-has.rows ∙ any-by_name (is_named name) (map (handle_row x) jobs) ∙ any-mapped (handle_row x) (is_named name) (λ other. other.0 == j.0) jobs names ∙ has)
 
   deletes : DeleteGoes t w (Semaphore x) p
-  deletes = delete-goes t w (Semaphore x) p row.0 p-good refl refl may.whole may.live may.room.change row.1 (bare-leaf t (Semaphore x) p row.0 refl x-has.leaves row.1)
+  deletes = delete-goes t w (Semaphore x) p row.0 p-good refl may.whole may.live may.room.change row.1 (bare-leaf t (Semaphore x) p row.0 refl x-has.leaves row.1)
 
   abbrev handles : List (List JobId)
   handles = change_at x.0 (without_handle j) s.handles
@@ -132,10 +132,10 @@ module _ (s : State) (t : TreeState) (w : ℕ) (x : SemId) (j : JobId) (may : Ma
       subst (λ (k : ℕ). HasHandles handles u (record { 0 = k })) number (record { rows = rows-here; leaves = deletes.row.leaves x-has.leaves })
   one-by at false same low is =
       let apart = eqb-false at x.0 same in
-      let stay = deletes.row.others (Semaphore (record { 0 = at })) low (λ equal. apart (ap semaphore_of equal)) in
+      let still = handles-stay (Semaphore x ∷ []) t u deletes.row.stays s.handles (record { 0 = at }) low ((λ equal. apart (ap semaphore_of equal)), tt) is in
       record {
-        rows = stay ∙ is.rows ∙ ap (λ (list : List JobId). by_name (map (handle_row (record { 0 = at })) list)) (sym (elsewhere x at j s.handles apart));
-        leaves = leaves-stay (Semaphore x) t u deletes.row.stays (Semaphore (record { 0 = at })) stay is.leaves;
+        rows = still.rows ∙ ap (λ (list : List JobId). by_name (map (handle_row (record { 0 = at })) list)) (sym (elsewhere x at j s.handles apart));
+        leaves = still.leaves;
       }
 
   each : (count at : ℕ) → at + count ≤ 2 ^ 16 → AllByRecursion (λ at. HasHandles s.handles t (record { 0 = at })) (range_with_len at count) → AllByRecursion (λ at. HasHandles handles u (record { 0 = at })) (range_with_len at count)
@@ -146,27 +146,28 @@ module _ (s : State) (t : TreeState) (w : ℕ) (x : SemId) (j : JobId) (may : Ma
   semaphores =
       let same = length-change_at x.0 (without_handle j) s.handles in
       record {
-        rows = deletes.row.stays.rows Semaphores tt refl ∙ may.lays.semaphores.rows ∙ ap (λ (n : ℕ). by_name (map semaphore_row (range_with_len 0 n))) (sym same);
+        rows = rows-stay (Semaphore x ∷ []) t u deletes.row.stays Semaphores tt refl ∙ may.lays.semaphores.rows ∙ ap (λ (n : ℕ). by_name (map semaphore_row (range_with_len 0 n))) (sym same);
         each = subst (λ (n : ℕ). AllByRecursion (λ at. HasHandles handles u (record { 0 = at })) (range_with_len 0 n)) (sym same) (each (length s.handles) 0 (let few = may.good.semaphores in omega arith) may.lays.semaphores.each);
       }
 
   handle-lays : LaysOut (record s { handles = handles }) u
   handle-lays =
+      let dirs : List Place = Semaphore x ∷ [] in
       let stays = deletes.row.stays in
       let lays = may.lays in
       record {
-        frame = frame-stays (Semaphore x) t u stays s.tick s.tick refl refl refl refl (stays.rows Poolsim tt refl ∙ lays.frame.poolsim) lays.frame;
-        requests = requests-stay (Semaphore x) t u stays s.requests s.next_request refl lays.requests;
-        request_locks = request_locks-stay (Semaphore x) t u stays s.requests may.good.requests refl refl lays.request_locks;
-        nodes = nodes-stay (Semaphore x) t u stays s.nodes s.next_node refl lays.nodes;
-        node_locks = node_locks-stay (Semaphore x) t u stays s.nodes may.good.nodes refl refl lays.node_locks;
-        launchers = launchers-stay (Semaphore x) t u stays s.registrations refl lays.launchers;
+        frame = frame-stays dirs t u stays s.tick refl refl refl refl refl lays.frame;
+        requests = requests-stay dirs t u stays s.requests s.next_request refl lays.requests;
+        request_locks = request_locks-stay dirs t u stays s.requests may.good.requests refl refl lays.request_locks;
+        nodes = nodes-stay dirs t u stays s.nodes s.next_node refl lays.nodes;
+        node_locks = node_locks-stay dirs t u stays s.nodes may.good.nodes refl refl lays.node_locks;
+        launchers = launchers-stay dirs t u stays s.registrations refl lays.launchers;
         semaphores = semaphores;
-        jobs = jobs-stay (Semaphore x) t u stays s.jobs refl lays.jobs;
-        roles = roles-stay (Semaphore x) t u stays s.launchers s.janitors s.requesters refl lays.roles;
-        sessions = sessions-stay (Semaphore x) t u stays s.sessions refl lays.sessions;
-        swept = swept-stay (Semaphore x) t u stays s.swept refl lays.swept;
-        live = live-stays (Semaphore x) t u stays s.sessions lays.live;
+        jobs = jobs-stay dirs t u stays s.jobs refl lays.jobs;
+        roles = roles-stay dirs t u stays s.launchers s.janitors s.requesters refl lays.roles;
+        sessions = sessions-stay dirs t u stays s.sessions refl lays.sessions;
+        swept = swept-stay dirs t u stays s.swept refl lays.swept;
+        live = live-stays t u deletes.row.live deletes.row.begun s.sessions lays.live;
       }
 
 -- the delete of a handle lays out the state in which the job has none

@@ -17,13 +17,13 @@ use Rattle.np_machine.specs.State.{State}
 use Rattle.np_machine.specs.Tables.{left, node_entry, node_queue, put_node_queue}
 use Rattle.np_places.specs.Place.{IsGood, path_of, place_name}
 use Rattle.np_places.specs.declared.place.Place.{Place}
-use Rattle.np_places.specs.declared.place.Place.TheVariants.{Node, NodeLock, NodeWait, Nodes, Poolsim}
+use Rattle.np_places.specs.declared.place.Place.TheVariants.{Node, NodeLock, NodeWait, Nodes}
 use Rattle.np_layout.specs.Deletes.{MayDelete, NodeWaitsGoLayOut, delete}
 use Rattle.np_layout.specs.Layout.{AreNodes, HasNodeLock, IsNodeRow, IsQueue, LaysOut, under}
 use Rattle.np_layout.proofs.DeleteOnce.{IsOnce, Tells, change-one, once-told, zip-change_first}
-use Rattle.np_layout.proofs.DeleteQueues.{queue-left, queue-other, wait-goes}
+use Rattle.np_layout.proofs.DeleteQueues.{queue-left, wait-goes}
 use Rattle.np_layout.proofs.DeleteSteps.{DeleteGoes}
-use Rattle.np_layout.proofs.Beside.{frame-stays, jobs-stay, launchers-stay, live-stays, nodes-stay, request_locks-stay, requests-stay, roles-stay, semaphores-stay, sessions-stay, swept-stay}
+use Rattle.np_layout.proofs.Elsewhere.{frame-stays, jobs-stay, launchers-stay, live-stays, node_lock-stays, nodes-stay, request_locks-stay, requests-stay, roles-stay, rows-stay, semaphores-stay, sessions-stay, swept-stay}
 use Rattle.np_layout.proofs.SetNodes.{named-by, same-is, same-self}
 
 -- ## the node among others
@@ -62,9 +62,9 @@ module _ (n : NodeId) where
 
 -- ## it has another queue
 
-module _ (s : State) (t : TreeState) (w : ℕ) (n : NodeId) (e : NodeEntry) (p : Place) (queue : List SessionId) (may : MayDelete s t w) (there : node_entry n s.nodes ≡ Some e) (goes : DeleteGoes t w (NodeLock n) p) (apart : (id : NodeId) → NodeLock id ≡ p → ⊥) (has : IsQueue (NodeLock n) queue (after_part t w (delete p))) where
+module _ (s : State) (t : TreeState) (w : ℕ) (n : NodeId) (e : NodeEntry) (number : ℕ) (queue : List SessionId) (may : MayDelete s t w) (there : node_entry n s.nodes ≡ Some e) (goes : DeleteGoes t w (NodeLock n) (NodeWait n number)) (has : IsQueue (NodeLock n) queue (after_part t w (delete (NodeWait n number)))) where
   abbrev u : TreeState
-  u = after_part t w (delete p)
+  u = after_part t w (delete (NodeWait n number))
 
   abbrev nodes : List NodeEntry
   nodes = put_node_queue n queue s.nodes
@@ -77,29 +77,29 @@ module _ (s : State) (t : TreeState) (w : ℕ) (n : NodeId) (e : NodeEntry) (p :
 
   locks : AllByRecursion (HasNodeLock u) nodes
   locks = change-one (is_node_it n) put (λ (x : NodeEntry). IsGood (Node x.id)) (HasNodeLock t) (HasNodeLock u)
-      (λ x is good old. record { rows = goes.row.stays.rows (Node x.id) good refl ∙ old.rows; queue = subst (λ (id : NodeId). IsQueue (NodeLock id) queue u) (sym (same-is x.id n is)) has })
-      (λ x other good old. record { rows = goes.row.stays.rows (Node x.id) good refl ∙ old.rows; queue = queue-other t u (NodeLock n) p (NodeLock x.id) x.queue good (node_lock-apart n x.id other) (apart x.id) goes.row old.queue })
+      (λ x is good old. record { rows = rows-stay (NodeLock n ∷ []) t u goes.row.stays (Node x.id) good refl ∙ old.rows; queue = subst (λ (id : NodeId). IsQueue (NodeLock id) queue u) (sym (same-is x.id n is)) has })
+      (λ x other good old. node_lock-stays (NodeLock n ∷ []) t u goes.row.stays x good ((λ same. cc), tt) (node_lock-apart n x.id other, tt) old)
       s.nodes (node-once n s t w may n-good) may.good.nodes may.lays.node_locks
 
   pub node_queue-lays : LaysOut (record s { nodes = nodes }) u
   node_queue-lays =
-      let dir : Place = NodeLock n in
+      let dirs : List Place = NodeLock n ∷ [] in
       let stays = goes.row.stays in
       let lays = may.lays in
-      let old : AreNodes s.nodes s.next_node u = nodes-stay dir t u stays s.nodes s.next_node refl lays.nodes in
+      let old : AreNodes s.nodes s.next_node u = nodes-stay dirs t u stays s.nodes s.next_node refl lays.nodes in
       record {
-        frame = frame-stays dir t u stays s.tick s.tick refl refl refl refl (stays.rows Poolsim tt refl ∙ lays.frame.poolsim) lays.frame;
-        requests = requests-stay dir t u stays s.requests s.next_request refl lays.requests;
-        request_locks = request_locks-stay dir t u stays s.requests may.good.requests refl refl lays.request_locks;
+        frame = frame-stays dirs t u stays s.tick refl refl refl refl refl lays.frame;
+        requests = requests-stay dirs t u stays s.requests s.next_request refl lays.requests;
+        request_locks = request_locks-stay dirs t u stays s.requests may.good.requests refl refl lays.request_locks;
         nodes = record { rows = zip-change_first (is_node_it n) put IsNodeRow (λ row x is. record { is = is.is; spells = is.spells }) (under Nodes u) s.nodes old.rows; gives = old.gives };
         node_locks = locks;
-        launchers = launchers-stay dir t u stays s.registrations refl lays.launchers;
-        semaphores = semaphores-stay dir t u stays s.handles may.good.semaphores refl refl lays.semaphores;
-        jobs = jobs-stay dir t u stays s.jobs refl lays.jobs;
-        roles = roles-stay dir t u stays s.launchers s.janitors s.requesters refl lays.roles;
-        sessions = sessions-stay dir t u stays s.sessions refl lays.sessions;
-        swept = swept-stay dir t u stays s.swept refl lays.swept;
-        live = live-stays dir t u stays s.sessions lays.live;
+        launchers = launchers-stay dirs t u stays s.registrations refl lays.launchers;
+        semaphores = semaphores-stay dirs t u stays s.handles may.good.semaphores refl refl lays.semaphores;
+        jobs = jobs-stay dirs t u stays s.jobs refl lays.jobs;
+        roles = roles-stay dirs t u stays s.launchers s.janitors s.requesters refl lays.roles;
+        sessions = sessions-stay dirs t u stays s.sessions refl lays.sessions;
+        swept = swept-stay dirs t u stays s.swept refl lays.swept;
+        live = live-stays t u goes.row.live goes.row.begun s.sessions lays.live;
       }
 
 -- the queue of the node in the tree
@@ -112,9 +112,9 @@ node-queue s t n e lays there =
 pub node_waits-lay-out : NodeWaitsGoLayOut
 node_waits-lay-out s t w n e session number at may good there distinct waits =
     let p : Place = NodeWait n number in
-    let goes = wait-goes s t w (NodeLock n) p session number at may good refl refl refl waits in
+    let goes = wait-goes s t w (NodeLock n) p session number at may good refl refl waits in
     record {
       goes = goes.goes;
-      lays = node_queue-lays s t w n e p (left session (node_queue n s.nodes)) may there goes (λ id same. cc)
-          (queue-left s t (after_part t w (delete p)) w (NodeLock n) p session number at (node_queue n s.nodes) may good.0 (λ same. cc) refl distinct (node-queue s t n e may.lays there) waits goes.row);
+      lays = node_queue-lays s t w n e number (left session (node_queue n s.nodes)) may there goes
+          (queue-left s t (after_part t w (delete p)) w (NodeLock n) p session number at (node_queue n s.nodes) may refl distinct (node-queue s t n e may.lays there) waits goes.row);
     }

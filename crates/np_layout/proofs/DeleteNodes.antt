@@ -22,16 +22,15 @@ use Rattle.np_layout.specs.Layout.{AreNodes, AreRequestLocks, AreRequests, HasNo
 use Rattle.np_layout.specs.Rows.{persistent}
 use Rattle.np_layout.proofs.DeleteNodeWaits.{found-node, is_node_it, node-good, node-once, node-queue, node-tells, node_lock-apart}
 use Rattle.np_layout.proofs.DeleteOnce.{IsOnce, Tells, filter-removed, zip-filter}
-use Rattle.np_layout.proofs.DeleteParts.{AreWaits, Cleared, RestLays, all-pair, parts-after, any-told, clear, found-any, not-true, queue-beside, rest-of, rest-stays}
-use Rattle.np_layout.proofs.DeleteQueues.{queue-other}
+use Rattle.np_layout.proofs.DeleteParts.{AreWaits, Cleared, RestLays, all-pair, parts-after, any-told, clear, found-any, not-true, rest-of, rest-stays}
 use Rattle.np_layout.proofs.DeleteSteps.{DeleteGoes, delete-goes, is_other}
-use Rattle.np_layout.proofs.Beside.{nodes-stay, request_locks-stay, requests-stay}
+use Rattle.np_layout.proofs.Elsewhere.{node_lock-stays, nodes-stay, request_locks-stay, requests-stay, rows-stay}
 use Rattle.np_layout.proofs.SetLists.{any-found}
 use Rattle.np_layout.proofs.SetNodes.{same-self}
 
 -- the waits of a node's lock
 node-waits : (n : NodeId) → IsGood (Node n) → AreWaits (NodeLock n) (NodeWait n)
-node-waits n good = record { good = λ number low. (good, low); over = λ number. refl; named = λ number. refl; low = refl }
+node-waits n good = record { good = λ number low. (good, low); over = λ number. refl; named = λ number. refl; none = λ number. refl }
 
 -- another id has another place
 node-apart : (n id : NodeId) → (id.0 == n.0) ≡ false → Node id ≡ Node n → ⊥
@@ -67,7 +66,7 @@ module _ (s : State) (t : TreeState) (w : ℕ) (n : NodeId) (e : NodeEntry) (may
   u = cleared.u
 
   live-u : is_in u.live w ≡ true
-  live-u = ap (λ (list : List ℕ). is_in list w) cleared.clears.stays.live ∙ may.live
+  live-u = ap (λ (list : List ℕ). is_in list w) cleared.clears.live ∙ may.live
 
   change-u : u.changes < 18_446_744_073_709_551_615
   change-u = let low = may.room.change in let same = cleared.clears.changes in omega arith
@@ -75,12 +74,12 @@ module _ (s : State) (t : TreeState) (w : ℕ) (n : NodeId) (e : NodeEntry) (may
   -- below the node there is its lock alone
   lock-rows : under (Node n) u ≡ directories (NodeLock n ∷ [])
   lock-rows =
-      cleared.clears.stays.rows (Node n) n-good refl
+      rows-stay (NodeLock n ∷ []) t u cleared.clears.stays (Node n) n-good refl
       ∙ subst (λ (id : NodeId). under (Node id) t ≡ directories (NodeLock id ∷ [])) (found-node n s.nodes e there) (all-find (HasNodeLock t) it s.nodes e may.lays.node_locks there).rows
 
   -- then its lock goes
   lock-goes : DeleteGoes u w (Node n) (NodeLock n)
-  lock-goes = delete-goes u w (Node n) (NodeLock n) (persistent (NodeLock n) []) n-good refl refl cleared.clears.whole live-u change-u (ap (find_named (place_name (NodeLock n))) lock-rows) cleared.clears.empty
+  lock-goes = delete-goes u w (Node n) (NodeLock n) (persistent (NodeLock n) []) n-good refl cleared.clears.whole live-u change-u (ap (find_named (place_name (NodeLock n))) lock-rows) cleared.clears.empty
 
   abbrev v : TreeState
   v = after_part u w (delete (NodeLock n))
@@ -89,7 +88,7 @@ module _ (s : State) (t : TreeState) (w : ℕ) (n : NodeId) (e : NodeEntry) (may
   bare = lock-goes.row.rows ∙ ap (filter (is_other (place_name (NodeLock n)))) lock-rows
 
   nodes-v : AreNodes s.nodes s.next_node v
-  nodes-v = nodes-stay (Node n) u v lock-goes.row.stays s.nodes s.next_node refl (nodes-stay (NodeLock n) t u cleared.clears.stays s.nodes s.next_node refl may.lays.nodes)
+  nodes-v = nodes-stay (Node n ∷ NodeLock n ∷ []) u v lock-goes.row.stays s.nodes s.next_node refl (nodes-stay (NodeLock n ∷ []) t u cleared.clears.stays s.nodes s.next_node refl may.lays.nodes)
 
   tell : Tells name it (under Nodes v) s.nodes
   tell = node-tells n (under Nodes v) s.nodes n-good may.good.nodes nodes-v.rows
@@ -99,7 +98,7 @@ module _ (s : State) (t : TreeState) (w : ℕ) (n : NodeId) (e : NodeEntry) (may
 
   -- and then its record
   record-goes : DeleteGoes v w Nodes (Node n)
-  record-goes = delete-goes v w Nodes (Node n) record-row.0 n-good refl refl lock-goes.row.whole live-u change-u record-row.1 bare
+  record-goes = delete-goes v w Nodes (Node n) record-row.0 n-good refl lock-goes.row.whole live-u change-u record-row.1 bare
 
   abbrev end : TreeState
   end = after_part v w (delete (Node n))
@@ -109,16 +108,9 @@ module _ (s : State) (t : TreeState) (w : ℕ) (n : NodeId) (e : NodeEntry) (may
   lock-end x kept has =
       let other = not-true (it x) kept in
       let apart : NodeLock x.id ≡ NodeLock n → ⊥ = node_lock-apart n x.id other in
-      let in_u = queue-beside t u (NodeLock n) (NodeLock x.id) x.queue has.0 apart (λ same. cc) cleared.clears has.1.queue in
-      let in_v = queue-other u v (Node n) (NodeLock n) (NodeLock x.id) x.queue has.0 (λ same. cc) apart lock-goes.row in_u in
-      record {
-        rows =
-            record-goes.row.others (Node x.id) has.0 (λ same. cc)
-            ∙ lock-goes.row.others (Node x.id) has.0 (node-apart n x.id other)
-            ∙ cleared.clears.others (Node x.id) has.0 (λ same. cc)
-            ∙ has.1.rows;
-        queue = queue-other v end Nodes (Node n) (NodeLock x.id) x.queue has.0 (λ same. cc) (λ same. cc) record-goes.row in_v;
-      }
+      let in_u = node_lock-stays (NodeLock n ∷ []) t u cleared.clears.stays x has.0 ((λ same. cc), tt) (apart, tt) has.1 in
+      let in_v = node_lock-stays (Node n ∷ NodeLock n ∷ []) u v lock-goes.row.stays x has.0 (node-apart n x.id other, ((λ same. cc), tt)) ((λ same. cc), (apart, tt)) in_u in
+      node_lock-stays (Nodes ∷ []) v end record-goes.row.stays x has.0 ((λ same. cc), tt) ((λ same. cc), tt) in_v
 
   locks : AllByRecursion (HasNodeLock end) (remove_first it s.nodes)
   locks = subst (AllByRecursion (HasNodeLock end)) (filter-removed it s.nodes once)
@@ -133,21 +125,21 @@ module _ (s : State) (t : TreeState) (w : ℕ) (n : NodeId) (e : NodeEntry) (may
 
   requests-end : AreRequests s.requests s.next_request end
   requests-end =
-      requests-stay Nodes v end record-goes.row.stays s.requests s.next_request refl
-      (requests-stay (Node n) u v lock-goes.row.stays s.requests s.next_request refl
-      (requests-stay (NodeLock n) t u cleared.clears.stays s.requests s.next_request refl may.lays.requests))
+      requests-stay (Nodes ∷ []) v end record-goes.row.stays s.requests s.next_request refl
+      (requests-stay (Node n ∷ NodeLock n ∷ []) u v lock-goes.row.stays s.requests s.next_request refl
+      (requests-stay (NodeLock n ∷ []) t u cleared.clears.stays s.requests s.next_request refl may.lays.requests))
 
   request_locks-end : AreRequestLocks s.requests end
   request_locks-end =
-      request_locks-stay Nodes v end record-goes.row.stays s.requests may.good.requests refl refl
-      (request_locks-stay (Node n) u v lock-goes.row.stays s.requests may.good.requests refl refl
-      (request_locks-stay (NodeLock n) t u cleared.clears.stays s.requests may.good.requests refl refl may.lays.request_locks))
+      request_locks-stay (Nodes ∷ []) v end record-goes.row.stays s.requests may.good.requests refl refl
+      (request_locks-stay (Node n ∷ NodeLock n ∷ []) u v lock-goes.row.stays s.requests may.good.requests refl refl
+      (request_locks-stay (NodeLock n ∷ []) t u cleared.clears.stays s.requests may.good.requests refl refl may.lays.request_locks))
 
   rest-end : RestLays s end
   rest-end =
-      rest-stays s Nodes v end may.good (omega arith) (omega arith) record-goes.row.stays
-      (rest-stays s (Node n) u v may.good (omega arith) (omega arith) lock-goes.row.stays
-      (rest-stays s (NodeLock n) t u may.good (omega arith) (omega arith) cleared.clears.stays (rest-of s t may.lays)))
+      rest-stays s (Nodes ∷ []) v end may.good ((omega arith, omega arith), tt) record-goes.row.live record-goes.row.begun record-goes.row.stays
+      (rest-stays s (Node n ∷ NodeLock n ∷ []) u v may.good ((omega arith, omega arith), ((omega arith, omega arith), tt)) lock-goes.row.live lock-goes.row.begun lock-goes.row.stays
+      (rest-stays s (NodeLock n ∷ []) t u may.good ((omega arith, omega arith), tt) cleared.clears.live cleared.clears.begun cleared.clears.stays (rest-of s t may.lays)))
 
   node-gone : LaysOut (record s { nodes = remove_node n s.nodes }) end
   node-gone =
@@ -156,7 +148,7 @@ module _ (s : State) (t : TreeState) (w : ℕ) (n : NodeId) (e : NodeEntry) (may
         frame = rest.frame;
         requests = requests-end;
         request_locks = request_locks-end;
-        nodes = record { rows = rows-end; gives = record-goes.row.stays.nodes ∙ nodes-v.gives };
+        nodes = record { rows = rows-end; gives = record-goes.row.counter ∙ nodes-v.gives };
         node_locks = locks;
         launchers = rest.launchers;
         semaphores = rest.semaphores;

@@ -26,16 +26,15 @@ use Rattle.np_views.proofs.SiblingLemmas.{other-name_back}
 use Rattle.np_machine.specs.State.{State}
 use Rattle.np_places.specs.Place.{IsGood, above, path_of, place_name}
 use Rattle.np_places.specs.declared.place.Place.{Place}
-use Rattle.np_places.specs.declared.place.Place.TheVariants.{Nodepool, Poolsim}
 use Rattle.np_places.proofs.AboveLemmas.{path_of-joined}
 use Rattle.np_layout.specs.Creates.{PartsLayOut}
 use Rattle.np_layout.specs.Deletes.{delete}
-use Rattle.np_layout.specs.Layout.{AreLaunchers, AreLive, AreJobs, AreRoles, AreSemaphores, AreSessions, AreSwept, IsFrame, IsQueue, IsWait, LaysOut, next_under, under}
+use Rattle.np_layout.specs.Layout.{AreLaunchers, AreLive, AreJobs, AreRoles, AreSemaphores, AreSessions, AreSwept, IsFrame, IsWait, LaysOut, under}
 use Rattle.np_layout.specs.Sets.{HasGoodIds}
 use Rattle.np_layout.proofs.DeleteOnce.{Tells}
 use Rattle.np_layout.proofs.DeleteQueues.{bare-owned}
 use Rattle.np_layout.proofs.DeleteSteps.{DeleteGoes, DeletesRow, delete-goes, is_other}
-use Rattle.np_layout.proofs.Beside.{IsBeside, Stays, directory, frame-stays, jobs-stay, launchers-stay, live-stays, roles-stay, semaphores-stay, sessions-stay, swept-stay}
+use Rattle.np_layout.proofs.Elsewhere.{Stays, directory, frame-stays, has_counter, jobs-stay, launchers-stay, live-stays, roles-stay, semaphores-stay, sessions-stay, stays-both, stays-same, swept-stay}
 
 -- ## lists
 
@@ -63,50 +62,26 @@ pub not-true : (b : Bool) → not b ≡ true → b ≡ false
 not-true true is = absurd cc
 not-true false is = refl
 
--- ## one change after another
-
-pub stays-same : (dir : Place) (t : TreeState) → Stays dir t t
-stays-same dir t = record {
-  live = refl;
-  begun = refl;
-  rows = λ other good beside. refl;
-  empty = λ path none. none;
-  requests = refl;
-  nodes = refl;
-  counters = λ other over good is_over beside. refl;
-}
-
-pub stays-both : (dir : Place) (t u v : TreeState) → Stays dir t u → Stays dir u v → Stays dir t v
-stays-both dir t u v first last = record {
-  live = last.live ∙ first.live;
-  begun = last.begun ∙ first.begun;
-  rows = λ other good beside. last.rows other good beside ∙ first.rows other good beside;
-  empty = λ path none. last.empty path (first.empty path none);
-  requests = last.requests ∙ first.requests;
-  nodes = last.nodes ∙ first.nodes;
-  counters = λ other over good is_over beside. last.counters other over good is_over beside ∙ first.counters other over good is_over beside;
-}
-
 -- ## a queue is cleared
 
 -- a lock has no rows, and everything else is as it was
 pub record Clears (lock : Place) (t u : TreeState) : Type 0 where
   pub whole : IsWhole u.nodes
-  pub stays : Stays lock t u
+  pub live : u.live ≡ t.live
+  pub begun : u.begun ≡ t.begun
+  pub stays : Stays (lock ∷ []) t u
   pub changes : u.changes ≡ t.changes
   pub empty : under lock u ≡ []
-  pub others : (other : Place) → IsGood other → (other ≡ lock → ⊥) → under other u ≡ under other t
-  pub counters : (other : Place) → IsGood other → (above other ≡ Some lock → ⊥) → next_under other u ≡ next_under other t
 
 -- one of its rows goes, and then the others
-clears-more : (t v u : TreeState) (lock p : Place) → above p ≡ Some lock → DeletesRow lock p t v → v.changes ≡ t.changes → Clears lock v u → Clears lock t u
-clears-more t v u lock p over row changes rest = record {
+clears-more : (t v u : TreeState) (lock p : Place) → has_counter p ≡ false → DeletesRow lock p t v → v.changes ≡ t.changes → Clears lock v u → Clears lock t u
+clears-more t v u lock p none row changes rest = record {
   whole = rest.whole;
-  stays = stays-both lock t v u row.stays rest.stays;
+  live = rest.live ∙ row.live;
+  begun = rest.begun ∙ row.begun;
+  stays = stays-both (lock ∷ []) t v u (subst (λ (b : Bool). Stays (lock ∷ cond b (p ∷ []) []) t v) none row.stays) rest.stays;
   changes = rest.changes ∙ changes;
   empty = rest.empty;
-  others = λ other other_good apart. rest.others other other_good apart ∙ row.others other other_good apart;
-  counters = λ other other_good apart. rest.counters other other_good apart ∙ row.counters other other_good (λ equal. apart (ap above equal ∙ over));
 }
 
 -- the deletes of its rows do that
@@ -120,7 +95,7 @@ pub record AreWaits (lock : Place) (place : ℕ → Place) : Type 0 where
   pub good : (number : ℕ) → number < 2 ^ 32 → IsGood (place number)
   pub over : (number : ℕ) → above (place number) ≡ Some lock
   pub named : (number : ℕ) → place_name (place number) ≡ codes "lock-" ++ ten_digits_of number
-  pub low : IsBeside Nodepool lock
+  pub none : (number : ℕ) → has_counter (place number) ≡ false
 
 -- the row of the name is the first
 first-gone : (name : List ℕ) (row : Row) (rows : List Row) → row.name ≡ name → Rises row_before (row ∷ rows) → filter (is_other name) (row ∷ rows) ≡ rows
@@ -149,7 +124,7 @@ module _ (w : ℕ) (lock : Place) (place : ℕ → Place) (are : AreWaits lock p
   clear [] [] t whole live change same all = record {
     u = t;
     goes = refl;
-    clears = record { whole = whole; stays = stays-same lock t; changes = refl; empty = same; others = λ other good apart. refl; counters = λ other good apart. refl };
+    clears = record { whole = whole; live = refl; begun = refl; stays = stays-same (lock ∷ []) t; changes = refl; empty = same };
   }
   clear (x ∷ queue) [] t whole live change same all = absurd all
   clear [] (row ∷ rows) t whole live change same all = absurd all
@@ -161,7 +136,7 @@ module _ (w : ℕ) (lock : Place) (place : ℕ → Place) (are : AreWaits lock p
       let named : row.name ≡ place_name p = ap (λ (r : Row). r.name) all.0.is ∙ sym (are.named number) in
       let found : find_named (place_name p) (under lock t) ≡ Some row = row-found t lock (place_name p) row rows same named in
       let bare = bare-owned t lock p row (x.0 + 1) good (are.over number) whole found (ap (λ (r : Row). r.owner) all.0.is) in
-      let one : DeleteGoes t w lock p = delete-goes t w lock p row good (are.over number) are.low whole live change found bare in
+      let one : DeleteGoes t w lock p = delete-goes t w lock p row good (are.over number) whole live change found bare in
       let v : TreeState = after_part t w (delete p) in
       let left : under lock v ≡ rows = rows-gone t v lock (place_name p) row rows whole same named one.row.rows in
       let rest : Cleared v w lock rows = clear queue rows v one.row.whole live change left all.1 in
@@ -169,16 +144,8 @@ module _ (w : ℕ) (lock : Place) (place : ℕ → Place) (are : AreWaits lock p
       record {
         u = rest.u;
         goes = subst (λ (at : List ℕ). IsOk (part_answer t w (op.Delete at Any)) × Goes (after_part t w (op.Delete at Any)) w (delete_parts (path_of lock) rows) rest.u) path (one.goes, rest.goes);
-        clears = clears-more t v rest.u lock p (are.over number) one.row refl rest.clears;
+        clears = clears-more t v rest.u lock p (are.none number) one.row refl rest.clears;
       }
-
--- the queues of other locks stay
-pub queue-beside : (t u : TreeState) (lock other : Place) (queue : List SessionId) → IsGood other → (other ≡ lock → ⊥) → (above other ≡ Some lock → ⊥) → Clears lock t u → IsQueue other queue t → IsQueue other queue u
-queue-beside t u lock other queue good apart not_below clears is = record {
-  next = is.next;
-  gives = clears.counters other good not_below ∙ is.gives;
-  waits = subst (λ (rows : List Row). AllZip (IsWait is.next) rows queue) (sym (clears.others other good apart)) is.waits;
-}
 
 -- ## the tables that are neither of requests nor of nodes
 
@@ -201,20 +168,32 @@ kind-below k d low high = grind (arith, nat_tests)
 kind-above : (k d : ℕ) → 9 ≤ k → d ≤ 8 → eqb k d ≡ false
 kind-above k d high low = grind (arith, nat_tests)
 
--- they stay if a directory of requests or of nodes changes
-pub rest-stays : (s : State) (dir : Place) (t u : TreeState) → HasGoodIds s → 3 ≤ directory dir → directory dir ≤ 8 → Stays dir t u → RestLays s t → RestLays s u
-rest-stays s dir t u good least most stays rest =
-    let up : (k : ℕ) → 9 ≤ k → eqb k (directory dir) ≡ false = λ k high. kind-above k (directory dir) high most in
-    let down : (k : ℕ) → k < 3 → eqb k (directory dir) ≡ false = λ k low. kind-below k (directory dir) low least in
+-- directories of requests or of nodes
+abbrev pub AreOfPool : List Place → Type 0
+AreOfPool dirs = AllByRecursion (λ dir. 3 ≤ directory dir × directory dir ≤ 8) dirs
+
+beside-below : (k : ℕ) → k < 3 → (dirs : List Place) → AreOfPool dirs → list_any (λ dir. eqb k (directory dir)) dirs ≡ false
+beside-below k low [] all = refl
+beside-below k low (dir ∷ dirs) all = ap (λ (b : Bool). b || list_any (λ dir. eqb k (directory dir)) dirs) (kind-below k (directory dir) low all.0.0) ∙ beside-below k low dirs all.1
+
+beside-above : (k : ℕ) → 9 ≤ k → (dirs : List Place) → AreOfPool dirs → list_any (λ dir. eqb k (directory dir)) dirs ≡ false
+beside-above k high [] all = refl
+beside-above k high (dir ∷ dirs) all = ap (λ (b : Bool). b || list_any (λ dir. eqb k (directory dir)) dirs) (kind-above k (directory dir) high all.0.1) ∙ beside-above k high dirs all.1
+
+-- they stay if directories of requests or of nodes change
+pub rest-stays : (s : State) (dirs : List Place) (t u : TreeState) → HasGoodIds s → AreOfPool dirs → u.live ≡ t.live → u.begun ≡ t.begun → Stays dirs t u → RestLays s t → RestLays s u
+rest-stays s dirs t u good pool live begun stays rest =
+    let up : (k : ℕ) → 9 ≤ k → list_any (λ dir. eqb k (directory dir)) dirs ≡ false = λ k high. beside-above k high dirs pool in
+    let down : (k : ℕ) → k < 3 → list_any (λ dir. eqb k (directory dir)) dirs ≡ false = λ k low. beside-below k low dirs pool in
     record {
-      frame = frame-stays dir t u stays s.tick s.tick (down 1 (omega arith)) (down 2 (omega arith)) (up 10 (omega arith)) (down 0 (omega arith)) (stays.rows Poolsim tt (up 13 (omega arith)) ∙ rest.frame.poolsim) rest.frame;
-      launchers = launchers-stay dir t u stays s.registrations (up 9 (omega arith)) rest.launchers;
-      semaphores = semaphores-stay dir t u stays s.handles good.semaphores (up 11 (omega arith)) (up 12 (omega arith)) rest.semaphores;
-      jobs = jobs-stay dir t u stays s.jobs (up 14 (omega arith)) rest.jobs;
-      roles = roles-stay dir t u stays s.launchers s.janitors s.requesters (up 15 (omega arith)) rest.roles;
-      sessions = sessions-stay dir t u stays s.sessions (up 16 (omega arith)) rest.sessions;
-      swept = swept-stay dir t u stays s.swept (up 17 (omega arith)) rest.swept;
-      live = live-stays dir t u stays s.sessions rest.live;
+      frame = frame-stays dirs t u stays s.tick (down 1 (omega arith)) (down 2 (omega arith)) (up 10 (omega arith)) (down 0 (omega arith)) (up 13 (omega arith)) rest.frame;
+      launchers = launchers-stay dirs t u stays s.registrations (up 9 (omega arith)) rest.launchers;
+      semaphores = semaphores-stay dirs t u stays s.handles good.semaphores (up 11 (omega arith)) (up 12 (omega arith)) rest.semaphores;
+      jobs = jobs-stay dirs t u stays s.jobs (up 14 (omega arith)) rest.jobs;
+      roles = roles-stay dirs t u stays s.launchers s.janitors s.requesters (up 15 (omega arith)) rest.roles;
+      sessions = sessions-stay dirs t u stays s.sessions (up 16 (omega arith)) rest.sessions;
+      swept = swept-stay dirs t u stays s.swept (up 17 (omega arith)) rest.swept;
+      live = live-stays t u live begun s.sessions rest.live;
     }
 
 -- what parts that go leave is the tree after them

@@ -21,7 +21,6 @@ use Rattle.np_views.proofs.SiblingLemmas.{other-name, other-name_back}
 use Rattle.np_machine.specs.Tables.{is_queued, is_session, left}
 use Rattle.np_places.specs.Place.{IsGood, above, path_of, place_name}
 use Rattle.np_places.specs.declared.place.Place.{Place}
-use Rattle.np_places.specs.declared.place.Place.TheVariants.{Nodepool}
 use Rattle.np_places.proofs.AboveLemmas.{is_path-of, parts-of}
 use Rattle.np_layout.specs.Deletes.{AreDistinct, MayDelete}
 use Rattle.np_machine.specs.State.{State}
@@ -29,7 +28,6 @@ use Rattle.np_layout.specs.Layout.{IsQueue, IsWait, under}
 use Rattle.np_layout.specs.Rows.{wait_row}
 use Rattle.np_layout.proofs.DeleteOnce.{zip-filter}
 use Rattle.np_layout.proofs.DeleteSteps.{DeleteGoes, DeletesRow, delete-goes, is_other}
-use Rattle.np_layout.proofs.Beside.{IsBeside}
 
 -- ## sessions
 
@@ -141,25 +139,17 @@ bare-owned t dir p row session good over whole there owned =
     ap (map row_of) (children_of-ephemeral t.nodes (path_of p) node.0 session whole.stand node.1 (is_owner ∙ owned))
 
 -- a wait can be deleted
-pub wait-goes : (s : State) (t : TreeState) (w : ℕ) (lock p : Place) (session : SessionId) (number at : ℕ) → MayDelete s t w → IsGood p → above p ≡ Some lock → IsBeside Nodepool lock → place_name p ≡ (wait_row number session).name → slice_get (under lock t) at ≡ Some (wait_row number session) → DeleteGoes t w lock p
-wait-goes s t w lock p session number at may good over low named there =
+pub wait-goes : (s : State) (t : TreeState) (w : ℕ) (lock p : Place) (session : SessionId) (number at : ℕ) → MayDelete s t w → IsGood p → above p ≡ Some lock → place_name p ≡ (wait_row number session).name → slice_get (under lock t) at ≡ Some (wait_row number session) → DeleteGoes t w lock p
+wait-goes s t w lock p session number at may good over named there =
     let row : Row = wait_row number session in
     let found : find_named (place_name p) (under lock t) ≡ Some row = ap (λ (name : List ℕ). find_named name (under lock t)) named ∙ found-at row (under lock t) at (rows-rise t (path_of lock) may.whole) there in
-    delete-goes t w lock p row good over low may.whole may.live may.room.change found (bare-owned t lock p row (session.0 + 1) good over may.whole found refl)
+    delete-goes t w lock p row good over may.whole may.live may.room.change found (bare-owned t lock p row (session.0 + 1) good over may.whole found refl)
 
 -- and its queue is without the session
-pub queue-left : (s : State) (t u : TreeState) (w : ℕ) (lock p : Place) (session : SessionId) (number at : ℕ) (queue : List SessionId) → MayDelete s t w → IsGood lock → (lock ≡ p → ⊥) → place_name p ≡ (wait_row number session).name → AreDistinct queue → IsQueue lock queue t → slice_get (under lock t) at ≡ Some (wait_row number session) → DeletesRow lock p t u → IsQueue lock (left session queue) u
-queue-left s t u w lock p session number at queue may good apart named distinct is there deletes = record {
+pub queue-left : (s : State) (t u : TreeState) (w : ℕ) (lock p : Place) (session : SessionId) (number at : ℕ) (queue : List SessionId) → MayDelete s t w → place_name p ≡ (wait_row number session).name → AreDistinct queue → IsQueue lock queue t → slice_get (under lock t) at ≡ Some (wait_row number session) → DeletesRow lock p t u → IsQueue lock (left session queue) u
+queue-left s t u w lock p session number at queue may named distinct is there deletes = record {
   next = is.next;
-  gives = deletes.counters lock good apart ∙ is.gives;
+  gives = deletes.counter ∙ is.gives;
   waits = subst (λ (rows : List Row). AllZip (IsWait is.next) rows (left session queue)) (sym (deletes.rows ∙ ap (λ (name : List ℕ). filter (is_other name) (under lock t)) named))
       (waits-left is.next number session (under lock t) queue at (rows-rise t (path_of lock) may.whole) distinct is.waits there);
-}
-
--- the queues of other locks stay
-pub queue-other : (t u : TreeState) (lock p other : Place) (queue : List SessionId) → IsGood other → (other ≡ lock → ⊥) → (other ≡ p → ⊥) → DeletesRow lock p t u → IsQueue other queue t → IsQueue other queue u
-queue-other t u lock p other queue good apart not_p deletes is = record {
-  next = is.next;
-  gives = deletes.counters other good not_p ∙ is.gives;
-  waits = subst (λ (rows : List Row). AllZip (IsWait is.next) rows queue) (sym (deletes.others other good apart)) is.waits;
 }

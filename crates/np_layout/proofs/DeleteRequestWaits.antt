@@ -1,5 +1,5 @@
 -- a session leaves a request's queue
-use Rattle.std.proofs.Common.{◌≡◌, ℕ, Bool, true, false, List, [], map, Option, Some, refl, sym, ap, ◌∙◌, subst}
+use Rattle.std.proofs.Common.{◌≡◌, ℕ, Bool, true, false, List, [], ◌∷◌, map, Option, Some, refl, sym, ap, ◌∙◌, subst}
 use Rattle.std.specs.List.{AllByRecursion}
 use Rattle.std.specs.Option.{option_map_or}
 use Rattle.np_text.specs.declared.id.RequestId.{RequestId}
@@ -16,14 +16,14 @@ use Rattle.np_machine.specs.State.{State}
 use Rattle.np_machine.specs.Tables.{left, put_request_queue, request_entry, request_queue, same_request}
 use Rattle.np_places.specs.Place.{IsGood, path_of, place_name}
 use Rattle.np_places.specs.declared.place.Place.{Place}
-use Rattle.np_places.specs.declared.place.Place.TheVariants.{Poolsim, Request, RequestLock, RequestLocks, RequestWait}
+use Rattle.np_places.specs.declared.place.Place.TheVariants.{Request, RequestLock, RequestLocks, RequestWait}
 use Rattle.np_layout.specs.Deletes.{MayDelete, RequestWaitsGoLayOut, delete}
 use Rattle.np_layout.specs.Layout.{AreRequests, IsQueue, LaysOut}
 use Rattle.np_layout.specs.Rows.{request_lock_row, request_row}
 use Rattle.np_layout.proofs.DeleteOnce.{IsOnce, change-one, map-change_first, once-told, tells-mapped}
-use Rattle.np_layout.proofs.DeleteQueues.{queue-left, queue-other, wait-goes}
+use Rattle.np_layout.proofs.DeleteQueues.{queue-left, wait-goes}
 use Rattle.np_layout.proofs.DeleteSteps.{DeleteGoes}
-use Rattle.np_layout.proofs.Beside.{frame-stays, jobs-stay, launchers-stay, live-stays, node_locks-stay, nodes-stay, requests-stay, roles-stay, semaphores-stay, sessions-stay, swept-stay}
+use Rattle.np_layout.proofs.Elsewhere.{frame-stays, jobs-stay, launchers-stay, live-stays, node_locks-stay, nodes-stay, queue-stays, requests-stay, roles-stay, rows-stay, semaphores-stay, sessions-stay, swept-stay}
 use Rattle.np_layout.proofs.SetRequests.{named-by, same-is, same-self}
 
 -- ## the request among others
@@ -60,9 +60,9 @@ module _ (r : RequestId) where
 
 -- ## it has another queue
 
-module _ (s : State) (t : TreeState) (w : ℕ) (r : RequestId) (e : RequestEntry) (p : Place) (queue : List SessionId) (may : MayDelete s t w) (there : request_entry r s.requests ≡ Some e) (goes : DeleteGoes t w (RequestLock r) p) (apart : (id : RequestId) → RequestLock id ≡ p → ⊥) (has : IsQueue (RequestLock r) queue (after_part t w (delete p))) where
+module _ (s : State) (t : TreeState) (w : ℕ) (r : RequestId) (e : RequestEntry) (number : ℕ) (queue : List SessionId) (may : MayDelete s t w) (there : request_entry r s.requests ≡ Some e) (goes : DeleteGoes t w (RequestLock r) (RequestWait r number)) (has : IsQueue (RequestLock r) queue (after_part t w (delete (RequestWait r number)))) where
   abbrev u : TreeState
-  u = after_part t w (delete p)
+  u = after_part t w (delete (RequestWait r number))
 
   abbrev requests : List RequestEntry
   requests = put_request_queue r queue s.requests
@@ -76,28 +76,28 @@ module _ (s : State) (t : TreeState) (w : ℕ) (r : RequestId) (e : RequestEntry
   queues : AllByRecursion (λ x. IsQueue (RequestLock x.id) x.queue u) requests
   queues = change-one (is_request_it r) put (λ (x : RequestEntry). IsGood (Request x.id)) (λ (x : RequestEntry). IsQueue (RequestLock x.id) x.queue t) (λ (x : RequestEntry). IsQueue (RequestLock x.id) x.queue u)
       (λ x is good old. subst (λ (id : RequestId). IsQueue (RequestLock id) queue u) (sym (same-is x.id r is)) has)
-      (λ x other good old. queue-other t u (RequestLock r) p (RequestLock x.id) x.queue good (lock-apart r x.id other) (apart x.id) goes.row old)
+      (λ x other good old. queue-stays (RequestLock r ∷ []) t u goes.row.stays (RequestLock x.id) x.queue good refl (lock-apart r x.id other, tt) old)
       s.requests (request-once r s t w may r-good) may.good.requests may.lays.request_locks.queues
 
   pub request_queue-lays : LaysOut (record s { requests = requests }) u
   request_queue-lays =
-      let dir : Place = RequestLock r in
+      let dirs : List Place = RequestLock r ∷ [] in
       let stays = goes.row.stays in
       let lays = may.lays in
-      let old : AreRequests s.requests s.next_request u = requests-stay dir t u stays s.requests s.next_request refl lays.requests in
+      let old : AreRequests s.requests s.next_request u = requests-stay dirs t u stays s.requests s.next_request refl lays.requests in
       record {
-        frame = frame-stays dir t u stays s.tick s.tick refl refl refl refl (stays.rows Poolsim tt refl ∙ lays.frame.poolsim) lays.frame;
+        frame = frame-stays dirs t u stays s.tick refl refl refl refl refl lays.frame;
         requests = record { rows = old.rows ∙ sym (map-change_first (is_request_it r) put request_row (λ x. refl) s.requests); leaves = old.leaves; gives = old.gives };
-        request_locks = record { rows = stays.rows RequestLocks tt refl ∙ lays.request_locks.rows ∙ sym (map-change_first (is_request_it r) put request_lock_row (λ x. refl) s.requests); queues = queues };
-        nodes = nodes-stay dir t u stays s.nodes s.next_node refl lays.nodes;
-        node_locks = node_locks-stay dir t u stays s.nodes may.good.nodes refl refl lays.node_locks;
-        launchers = launchers-stay dir t u stays s.registrations refl lays.launchers;
-        semaphores = semaphores-stay dir t u stays s.handles may.good.semaphores refl refl lays.semaphores;
-        jobs = jobs-stay dir t u stays s.jobs refl lays.jobs;
-        roles = roles-stay dir t u stays s.launchers s.janitors s.requesters refl lays.roles;
-        sessions = sessions-stay dir t u stays s.sessions refl lays.sessions;
-        swept = swept-stay dir t u stays s.swept refl lays.swept;
-        live = live-stays dir t u stays s.sessions lays.live;
+        request_locks = record { rows = rows-stay dirs t u stays RequestLocks tt refl ∙ lays.request_locks.rows ∙ sym (map-change_first (is_request_it r) put request_lock_row (λ x. refl) s.requests); queues = queues };
+        nodes = nodes-stay dirs t u stays s.nodes s.next_node refl lays.nodes;
+        node_locks = node_locks-stay dirs t u stays s.nodes may.good.nodes refl refl lays.node_locks;
+        launchers = launchers-stay dirs t u stays s.registrations refl lays.launchers;
+        semaphores = semaphores-stay dirs t u stays s.handles may.good.semaphores refl refl lays.semaphores;
+        jobs = jobs-stay dirs t u stays s.jobs refl lays.jobs;
+        roles = roles-stay dirs t u stays s.launchers s.janitors s.requesters refl lays.roles;
+        sessions = sessions-stay dirs t u stays s.sessions refl lays.sessions;
+        swept = swept-stay dirs t u stays s.swept refl lays.swept;
+        live = live-stays t u goes.row.live goes.row.begun s.sessions lays.live;
       }
 
 -- the queue of the request in the tree
@@ -110,9 +110,9 @@ request-queue s t r e lays there =
 pub request_waits-lay-out : RequestWaitsGoLayOut
 request_waits-lay-out s t w r e session number at may good there distinct waits =
     let p : Place = RequestWait r number in
-    let goes = wait-goes s t w (RequestLock r) p session number at may good refl refl refl waits in
+    let goes = wait-goes s t w (RequestLock r) p session number at may good refl refl waits in
     record {
       goes = goes.goes;
-      lays = request_queue-lays s t w r e p (left session (request_queue r s.requests)) may there goes (λ id same. cc)
-          (queue-left s t (after_part t w (delete p)) w (RequestLock r) p session number at (request_queue r s.requests) may good.0 (λ same. cc) refl distinct (request-queue s t r e may.lays there) waits goes.row);
+      lays = request_queue-lays s t w r e number (left session (request_queue r s.requests)) may there goes
+          (queue-left s t (after_part t w (delete p)) w (RequestLock r) p session number at (request_queue r s.requests) may refl distinct (request-queue s t r e may.lays there) waits goes.row);
     }

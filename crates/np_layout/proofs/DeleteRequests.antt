@@ -22,16 +22,15 @@ use Rattle.np_layout.specs.Layout.{AreNodeLocks, AreNodes, AreRequests, IsQueue,
 use Rattle.np_layout.specs.Rows.{request_lock_row, request_row}
 use Rattle.np_layout.proofs.DeleteLists.{any-mapped, filter-mapped}
 use Rattle.np_layout.proofs.DeleteOnce.{IsOnce, filter-removed}
-use Rattle.np_layout.proofs.DeleteParts.{AreWaits, Cleared, RestLays, all-pair, parts-after, clear, found-any, not-true, queue-beside, rest-of, rest-stays}
-use Rattle.np_layout.proofs.DeleteQueues.{queue-other}
+use Rattle.np_layout.proofs.DeleteParts.{AreWaits, Cleared, RestLays, all-pair, parts-after, clear, found-any, not-true, rest-of, rest-stays}
 use Rattle.np_layout.proofs.DeleteRequestWaits.{is_request_it, lock-apart, lock-names, request-good, request-once, request-queue}
 use Rattle.np_layout.proofs.DeleteSteps.{DeleteGoes, bare-leaf, delete-goes, is_other}
-use Rattle.np_layout.proofs.Beside.{node_locks-stay, nodes-stay, queue-stays, requests-stay}
+use Rattle.np_layout.proofs.Elsewhere.{node_locks-stay, nodes-stay, queue-stays, requests-stay, rows-stay}
 use Rattle.np_layout.proofs.SetLists.{any-found}
 
 -- the waits of a request's lock
 request-waits : (r : RequestId) → IsGood (Request r) → AreWaits (RequestLock r) (RequestWait r)
-request-waits r good = record { good = λ number low. (good, low); over = λ number. refl; named = λ number. refl; low = refl }
+request-waits r good = record { good = λ number low. (good, low); over = λ number. refl; named = λ number. refl; none = λ number. refl }
 
 module _ (s : State) (t : TreeState) (w : ℕ) (r : RequestId) (e : RequestEntry) (may : MayDelete s t w) (there : request_entry r s.requests ≡ Some e) where
   abbrev it : RequestEntry → Bool
@@ -60,7 +59,7 @@ module _ (s : State) (t : TreeState) (w : ℕ) (r : RequestId) (e : RequestEntry
   u = cleared.u
 
   live-u : is_in u.live w ≡ true
-  live-u = ap (λ (list : List ℕ). is_in list w) cleared.clears.stays.live ∙ may.live
+  live-u = ap (λ (list : List ℕ). is_in list w) cleared.clears.live ∙ may.live
 
   change-u : u.changes < 18_446_744_073_709_551_615
   change-u = let low = may.room.change in let same = cleared.clears.changes in omega arith
@@ -72,20 +71,20 @@ module _ (s : State) (t : TreeState) (w : ℕ) (r : RequestId) (e : RequestEntry
   any-it = found-any it e s.requests there
 
   lock-rows : under RequestLocks u ≡ map request_lock_row s.requests
-  lock-rows = cleared.clears.stays.rows RequestLocks tt refl ∙ may.lays.request_locks.rows
+  lock-rows = rows-stay (RequestLock r ∷ []) t u cleared.clears.stays RequestLocks tt refl ∙ may.lays.request_locks.rows
 
   lock-row : (row : Row) × (find (is_named name) (under RequestLocks u) ≡ Some row)
   lock-row = any-found (is_named name) (under RequestLocks u) (ap (list_any (is_named name)) lock-rows ∙ any-mapped request_lock_row (is_named name) it s.requests names ∙ any-it)
 
   -- then its lock goes
   lock-goes : DeleteGoes u w RequestLocks (RequestLock r)
-  lock-goes = delete-goes u w RequestLocks (RequestLock r) lock-row.0 r-good refl refl cleared.clears.whole live-u change-u lock-row.1 cleared.clears.empty
+  lock-goes = delete-goes u w RequestLocks (RequestLock r) lock-row.0 r-good refl cleared.clears.whole live-u change-u lock-row.1 cleared.clears.empty
 
   abbrev v : TreeState
   v = after_part u w (delete (RequestLock r))
 
   requests-v : AreRequests s.requests s.next_request v
-  requests-v = requests-stay RequestLocks u v lock-goes.row.stays s.requests s.next_request refl (requests-stay (RequestLock r) t u cleared.clears.stays s.requests s.next_request refl may.lays.requests)
+  requests-v = requests-stay (RequestLocks ∷ RequestLock r ∷ []) u v lock-goes.row.stays s.requests s.next_request refl (requests-stay (RequestLock r ∷ []) t u cleared.clears.stays s.requests s.next_request refl may.lays.requests)
 
   -- the records' names are those of the locks
   record-names : AllByRecursion (λ x. is_named name (request_row x) ≡ it x) s.requests
@@ -96,7 +95,7 @@ module _ (s : State) (t : TreeState) (w : ℕ) (r : RequestId) (e : RequestEntry
 
   -- and then its record
   record-goes : DeleteGoes v w Requests (Request r)
-  record-goes = delete-goes v w Requests (Request r) record-row.0 r-good refl refl lock-goes.row.whole live-u change-u record-row.1 (bare-leaf v Requests (Request r) record-row.0 refl requests-v.leaves record-row.1)
+  record-goes = delete-goes v w Requests (Request r) record-row.0 r-good refl lock-goes.row.whole live-u change-u record-row.1 (bare-leaf v Requests (Request r) record-row.0 refl requests-v.leaves record-row.1)
 
   abbrev end : TreeState
   end = after_part v w (delete (Request r))
@@ -105,9 +104,9 @@ module _ (s : State) (t : TreeState) (w : ℕ) (r : RequestId) (e : RequestEntry
   queue-end : (x : RequestEntry) → not (it x) ≡ true → IsGood (Request x.id) × IsQueue (RequestLock x.id) x.queue t → IsQueue (RequestLock x.id) x.queue end
   queue-end x kept has =
       let apart : RequestLock x.id ≡ RequestLock r → ⊥ = lock-apart r x.id (not-true (it x) kept) in
-      let in_u = queue-beside t u (RequestLock r) (RequestLock x.id) x.queue has.0 apart (λ same. cc) cleared.clears has.1 in
-      let in_v = queue-other u v RequestLocks (RequestLock r) (RequestLock x.id) x.queue has.0 (λ same. cc) apart lock-goes.row in_u in
-      queue-stays Requests v end record-goes.row.stays (RequestLock x.id) RequestLocks x.queue has.0 refl refl refl in_v
+      let in_u = queue-stays (RequestLock r ∷ []) t u cleared.clears.stays (RequestLock x.id) x.queue has.0 refl (apart, tt) has.1 in
+      let in_v = queue-stays (RequestLocks ∷ RequestLock r ∷ []) u v lock-goes.row.stays (RequestLock x.id) x.queue has.0 refl ((λ same. cc), (apart, tt)) in_u in
+      queue-stays (Requests ∷ []) v end record-goes.row.stays (RequestLock x.id) x.queue has.0 refl ((λ same. cc), tt) in_v
 
   queues : AllByRecursion (λ x. IsQueue (RequestLock x.id) x.queue end) (remove_first it s.requests)
   queues = subst (λ (list : List RequestEntry). AllByRecursion (λ x. IsQueue (RequestLock x.id) x.queue end) list) (filter-removed it s.requests once)
@@ -123,21 +122,21 @@ module _ (s : State) (t : TreeState) (w : ℕ) (r : RequestId) (e : RequestEntry
 
   nodes-end : AreNodes s.nodes s.next_node end
   nodes-end =
-      nodes-stay Requests v end record-goes.row.stays s.nodes s.next_node refl
-      (nodes-stay RequestLocks u v lock-goes.row.stays s.nodes s.next_node refl
-      (nodes-stay (RequestLock r) t u cleared.clears.stays s.nodes s.next_node refl may.lays.nodes))
+      nodes-stay (Requests ∷ []) v end record-goes.row.stays s.nodes s.next_node refl
+      (nodes-stay (RequestLocks ∷ RequestLock r ∷ []) u v lock-goes.row.stays s.nodes s.next_node refl
+      (nodes-stay (RequestLock r ∷ []) t u cleared.clears.stays s.nodes s.next_node refl may.lays.nodes))
 
   node_locks-end : AreNodeLocks s.nodes end
   node_locks-end =
-      node_locks-stay Requests v end record-goes.row.stays s.nodes may.good.nodes refl refl
-      (node_locks-stay RequestLocks u v lock-goes.row.stays s.nodes may.good.nodes refl refl
-      (node_locks-stay (RequestLock r) t u cleared.clears.stays s.nodes may.good.nodes refl refl may.lays.node_locks))
+      node_locks-stay (Requests ∷ []) v end record-goes.row.stays s.nodes may.good.nodes refl refl
+      (node_locks-stay (RequestLocks ∷ RequestLock r ∷ []) u v lock-goes.row.stays s.nodes may.good.nodes refl refl
+      (node_locks-stay (RequestLock r ∷ []) t u cleared.clears.stays s.nodes may.good.nodes refl refl may.lays.node_locks))
 
   rest-end : RestLays s end
   rest-end =
-      rest-stays s Requests v end may.good (omega arith) (omega arith) record-goes.row.stays
-      (rest-stays s RequestLocks u v may.good (omega arith) (omega arith) lock-goes.row.stays
-      (rest-stays s (RequestLock r) t u may.good (omega arith) (omega arith) cleared.clears.stays (rest-of s t may.lays)))
+      rest-stays s (Requests ∷ []) v end may.good ((omega arith, omega arith), tt) record-goes.row.live record-goes.row.begun record-goes.row.stays
+      (rest-stays s (RequestLocks ∷ RequestLock r ∷ []) u v may.good ((omega arith, omega arith), ((omega arith, omega arith), tt)) lock-goes.row.live lock-goes.row.begun lock-goes.row.stays
+      (rest-stays s (RequestLock r ∷ []) t u may.good ((omega arith, omega arith), tt) cleared.clears.live cleared.clears.begun cleared.clears.stays (rest-of s t may.lays)))
 
   request-gone : LaysOut (record s { requests = remove_request r s.requests }) end
   request-gone =
@@ -147,10 +146,10 @@ module _ (s : State) (t : TreeState) (w : ℕ) (r : RequestId) (e : RequestEntry
         requests = record {
           rows = record-goes.row.rows ∙ ap (filter (is_other name)) requests-v.rows ∙ rows-left request_row record-names;
           leaves = record-goes.row.leaves requests-v.leaves;
-          gives = record-goes.row.stays.requests ∙ requests-v.gives;
+          gives = record-goes.row.counter ∙ requests-v.gives;
         };
         request_locks = record {
-          rows = record-goes.row.stays.rows RequestLocks tt refl ∙ lock-goes.row.rows ∙ ap (filter (is_other name)) lock-rows ∙ rows-left request_lock_row names;
+          rows = rows-stay (Requests ∷ []) v end record-goes.row.stays RequestLocks tt refl ∙ lock-goes.row.rows ∙ ap (filter (is_other name)) lock-rows ∙ rows-left request_lock_row names;
           queues = queues;
         };
         nodes = nodes-end;

@@ -17,7 +17,7 @@ use Rattle.np_machine.specs.declared.state.Swept.{Swept}
 use Rattle.np_places.specs.Place.{IsGood}
 use Rattle.np_places.specs.declared.place.Place.{Place}
 use Rattle.np_places.specs.declared.place.Place.TheVariants.{Root, Nodepool, Requests, Request, RequestLocks, RequestLock, Nodes, Node, NodeLock, Launchers, Zuul, Semaphores, Semaphore, Poolsim, Jobs, Roles, Sessions, SweptPairs, Tick}
-use Rattle.np_layout.specs.Layout.{AreJobs, AreLaunchers, AreLive, AreNodeLocks, AreNodes, AreRequestLocks, AreRequests, AreRoles, AreSemaphores, AreSessions, AreSwept, HasHandles, HasLeaves, IsFrame, IsNodeRow, IsQueue, IsWait, directories, next_under, under}
+use Rattle.np_layout.specs.Layout.{AreJobs, AreLaunchers, AreLive, AreNodeLocks, AreNodes, AreRequestLocks, AreRequests, AreRoles, AreSemaphores, AreSessions, AreSwept, HasHandles, HasLeaves, HasNodeLock, IsFrame, IsNodeRow, IsQueue, IsWait, directories, next_under, under}
 use Rattle.np_layout.specs.Rows.{persistent}
 
 -- a number for each kind of place with something below it; zero for the others
@@ -75,18 +75,38 @@ has_leaves Sessions = true
 has_leaves SweptPairs = true
 has_leaves other = false
 
+-- places whose counters are of a layout
+abbrev pub has_counter : Place → Bool
+has_counter Requests = true
+has_counter (RequestLock id) = true
+has_counter Nodes = true
+has_counter (NodeLock n) = true
+has_counter other = false
+
 -- other directories with their counters are as they were
 pub record Stays (dirs : List Place) (t u : TreeState) : Type 0 where
   pub rows : (other : Place) → IsGood other → IsApart other dirs → under other u ≡ under other t
   pub leaves : (other : Place) → IsGood other → has_leaves other ≡ true → IsApart other dirs → HasLeaves other t → HasLeaves other u
-  pub counters : (other : Place) (next : ℕ) → IsGood other → IsApart other dirs → next_under other t ≡ Some next → next_under other u ≡ Some next
+  pub counters : (other : Place) (next : ℕ) → IsGood other → has_counter other ≡ true → IsApart other dirs → next_under other t ≡ Some next → next_under other u ≡ Some next
 
 -- what stays in each of two steps stays in both
 pub stays-more : (dir : Place) (dirs : List Place) (t v u : TreeState) → Stays (dir ∷ []) t v → Stays dirs v u → Stays (dir ∷ dirs) t u
 stays-more dir dirs t v u one more = record {
   rows = λ other good apart. more.rows other good apart.1 ∙ one.rows other good (apart.0, tt);
   leaves = λ other good has apart leaves. more.leaves other good has apart.1 (one.leaves other good has (apart.0, tt) leaves);
-  counters = λ other next good apart is. more.counters other next good apart.1 (one.counters other next good (apart.0, tt) is);
+  counters = λ other next good has apart is. more.counters other next good has apart.1 (one.counters other next good has (apart.0, tt) is);
+}
+
+-- nothing changes
+pub stays-same : (dirs : List Place) (t : TreeState) → Stays dirs t t
+stays-same dirs t = record { rows = λ other good apart. refl; leaves = λ other good has apart leaves. leaves; counters = λ other next good has apart is. is }
+
+-- what stays in each of two steps beside the same places
+pub stays-both : (dirs : List Place) (t v u : TreeState) → Stays dirs t v → Stays dirs v u → Stays dirs t u
+stays-both dirs t v u first last = record {
+  rows = λ other good apart. last.rows other good apart ∙ first.rows other good apart;
+  leaves = λ other good has apart leaves. last.leaves other good has apart (first.leaves other good has apart leaves);
+  counters = λ other next good has apart is. last.counters other next good has apart (first.counters other next good has apart is);
 }
 
 module _ (dirs : List Place) (t u : TreeState) (stays : Stays dirs t u) where
@@ -97,8 +117,8 @@ module _ (dirs : List Place) (t u : TreeState) (stays : Stays dirs t u) where
   leaves-stay : (p : Place) → IsGood p → has_leaves p ≡ true → IsBeside p dirs → HasLeaves p t → HasLeaves p u
   leaves-stay p good has beside = stays.leaves p good has (beside-apart p dirs beside)
 
-  counter-stays : (p : Place) (next : ℕ) → IsGood p → IsBeside p dirs → next_under p t ≡ Some next → next_under p u ≡ Some next
-  counter-stays p next good beside = stays.counters p next good (beside-apart p dirs beside)
+  counter-stays : (p : Place) (next : ℕ) → IsGood p → has_counter p ≡ true → IsBeside p dirs → next_under p t ≡ Some next → next_under p u ≡ Some next
+  counter-stays p next good has beside = stays.counters p next good has (beside-apart p dirs beside)
 
   -- the directories that are always there, with another tick
   pub tick-stays : (old new : ℕ) → IsBeside Root dirs → IsBeside Nodepool dirs → IsBeside Zuul dirs → IsBeside Tick dirs →
@@ -116,22 +136,22 @@ module _ (dirs : List Place) (t u : TreeState) (stays : Stays dirs t u) where
   frame-stays tick root nodepool zuul leaf poolsim frame = tick-stays tick tick root nodepool zuul leaf (rows-stay Poolsim tt poolsim ∙ frame.poolsim) frame
 
   -- the queue of a lock
-  pub queue-stays : (lock : Place) (queue : List SessionId) → IsGood lock → IsApart lock dirs → IsQueue lock queue t → IsQueue lock queue u
-  queue-stays lock queue good apart is = record {
+  pub queue-stays : (lock : Place) (queue : List SessionId) → IsGood lock → has_counter lock ≡ true → IsApart lock dirs → IsQueue lock queue t → IsQueue lock queue u
+  queue-stays lock queue good has apart is = record {
     next = is.next;
-    gives = stays.counters lock is.next good apart is.gives;
+    gives = stays.counters lock is.next good has apart is.gives;
     waits = subst (λ (rows : List Row). AllZip (IsWait is.next) rows queue) (sym (stays.rows lock good apart)) is.waits;
   }
 
   -- the records of requests
   pub requests-stay : (entries : List RequestEntry) (next : ℕ) → IsBeside Requests dirs → AreRequests entries next t → AreRequests entries next u
-  requests-stay entries next beside are = record { rows = rows-stay Requests tt beside ∙ are.rows; leaves = leaves-stay Requests tt refl beside are.leaves; gives = counter-stays Requests next tt beside are.gives }
+  requests-stay entries next beside are = record { rows = rows-stay Requests tt beside ∙ are.rows; leaves = leaves-stay Requests tt refl beside are.leaves; gives = counter-stays Requests next tt refl beside are.gives }
 
   -- the queues of requests
   pub request_queues-stay : (entries : List RequestEntry) → AllByRecursion (λ e. IsGood (Request e.id)) entries → AllByRecursion (λ e. IsApart (RequestLock e.id) dirs) entries → AllByRecursion (λ e. IsQueue (RequestLock e.id) e.queue t) entries →
       AllByRecursion (λ e. IsQueue (RequestLock e.id) e.queue u) entries
   request_queues-stay [] good apart all = tt
-  request_queues-stay (e ∷ entries) good apart all = (queue-stays (RequestLock e.id) e.queue good.0 apart.0 all.0, request_queues-stay entries good.1 apart.1 all.1)
+  request_queues-stay (e ∷ entries) good apart all = (queue-stays (RequestLock e.id) e.queue good.0 refl apart.0 all.0, request_queues-stay entries good.1 apart.1 all.1)
 
   -- the locks of requests
   pub request_locks-stay : (entries : List RequestEntry) → AllByRecursion (λ e. IsGood (Request e.id)) entries → IsBeside RequestLocks dirs → list_any (λ dir. eqb 5 (directory dir)) dirs ≡ false → AreRequestLocks entries t → AreRequestLocks entries u
@@ -144,16 +164,17 @@ module _ (dirs : List Place) (t u : TreeState) (stays : Stays dirs t u) where
   pub nodes-stay : (entries : List NodeEntry) (next : ℕ) → IsBeside Nodes dirs → AreNodes entries next t → AreNodes entries next u
   nodes-stay entries next beside are = record {
     rows = subst (λ (rows : List Row). AllZip IsNodeRow rows entries) (sym (rows-stay Nodes tt beside)) are.rows;
-    gives = counter-stays Nodes next tt beside are.gives;
+    gives = counter-stays Nodes next tt refl beside are.gives;
   }
+
+  -- the lock of a node
+  pub node_lock-stays : (e : NodeEntry) → IsGood (Node e.id) → IsApart (Node e.id) dirs → IsApart (NodeLock e.id) dirs → HasNodeLock t e → HasNodeLock u e
+  node_lock-stays e good apart lock_apart has = record { rows = stays.rows (Node e.id) good apart ∙ has.rows; queue = queue-stays (NodeLock e.id) e.queue good refl lock_apart has.queue }
 
   -- the locks of some nodes
   pub node_queues-stay : (entries : List NodeEntry) → AllByRecursion (λ e. IsGood (Node e.id)) entries → AllByRecursion (λ e. IsApart (Node e.id) dirs × IsApart (NodeLock e.id) dirs) entries → AreNodeLocks entries t → AreNodeLocks entries u
   node_queues-stay [] good apart are = tt
-  node_queues-stay (e ∷ entries) good apart are = (
-    record { rows = stays.rows (Node e.id) good.0 apart.0.0 ∙ are.0.rows; queue = queue-stays (NodeLock e.id) e.queue good.0 apart.0.1 are.0.queue },
-    node_queues-stay entries good.1 apart.1 are.1,
-  )
+  node_queues-stay (e ∷ entries) good apart are = (node_lock-stays e good.0 apart.0.0 apart.0.1 are.0, node_queues-stay entries good.1 apart.1 are.1)
 
   -- the locks of nodes
   pub node_locks-stay : (entries : List NodeEntry) → AllByRecursion (λ e. IsGood (Node e.id)) entries → list_any (λ dir. eqb 7 (directory dir)) dirs ≡ false → list_any (λ dir. eqb 8 (directory dir)) dirs ≡ false → AreNodeLocks entries t → AreNodeLocks entries u

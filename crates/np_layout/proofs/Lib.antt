@@ -26,7 +26,6 @@ pub mod SetRoles
 pub mod SetSessions
 pub mod SetRequests
 pub mod SetNodes
-pub mod Beside
 pub mod DeleteLists
 pub mod DeleteSteps
 pub mod DeleteHandles

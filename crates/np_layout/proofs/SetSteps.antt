@@ -92,7 +92,7 @@ sets-row t w dir p bytes good over whole =
         leaves = λ other other_good has apart leaves.
             subst (λ (rows : List Row). AllByRecursion (λ row. rows_at u (below (path_of other) row.name) ≡ []) rows) (sym (other_rows other other_good apart))
             (all-weaker (λ (row : Row). rows_at t (below (path_of other) row.name) ≡ []) (λ (row : Row). rows_at u (below (path_of other) row.name) ≡ []) (λ row none. empty (below (path_of other) row.name) none) (under other t) leaves);
-        counters = λ other next other_good apart is. counters (path_of other) ∙ is;
+        counters = λ other next other_good has apart is. counters (path_of other) ∙ is;
       };
       counter = counters (path_of dir);
       first = first;
