@@ -10,7 +10,7 @@ use Rattle.np_text.specs.declared.id.SemId.{SemId}
 use Rattle.np_lists.specs.Change.{change_at, insert_before}
 use Rattle.np_lists.specs.Rising.{NonePass}
 use Rattle.np_lists.proofs.ChangeLemmas.{length-change_at, slice_get-change_at, slice_get-change_at_other}
-use Rattle.np_lists.proofs.Each.{all-at, all-map}
+use Rattle.np_lists.proofs.Each.{all-at, all-map, all-weaker}
 use Rattle.np_lists.proofs.FilterLemmas.{none-list_any}
 use Rattle.np_session.specs.Known.{is_in}
 use Rattle.np_nodes.specs.TreeState.{TreeState}
@@ -36,7 +36,7 @@ use Rattle.np_layout.proofs.CreateLists.{by_name-insert}
 use Rattle.np_layout.proofs.CreateSteps.{Step, counter-there, free-named, make-step, owner-there}
 use Rattle.np_layout.proofs.Elsewhere.{frame-stays, handles-stay, jobs-stay, launchers-stay, live-stays, node_locks-stay, nodes-stay, request_locks-stay, requests-stay, roles-stay, rows-stay, sessions-stay, swept-stay}
 use Rattle.np_layout.proofs.FirstLists.{all-put}
-use Rattle.np_layout.proofs.SetLists.{any-by_name}
+use Rattle.np_layout.proofs.SetLists.{any-by_name, at-range}
 use Rattle.np_layout.proofs.SetSteps.{named-here, named-other}
 
 or-first : (b c : Bool) → b ≡ true → (b || c) ≡ true
@@ -57,20 +57,21 @@ range-any test row k zero at from low passes = absurd (omega arith)
 range-any test row k (suc count) at from low passes =
     range-by test row k at (list_any test (map row (range_with_len (at + 1) count))) (eqb k at) refl passes (λ other. range-any test row k count (at + 1) (omega arith) (omega arith) passes)
 
-number-by : (P : ℕ → Type 0) (k at : ℕ) (b : Bool) → eqb at k ≡ b → P at → ((at ≡ k → ⊥) → P k) → P k
-number-by P k at true is first later = subst P (eqb-true at k is) first
-number-by P k at false is first later = later (eqb-false at k is)
-
--- what is true of each number of a range is true of one of them
-range-at : (P : ℕ → Type 0) (k count at : ℕ) → at ≤ k → k < at + count → AllByRecursion P (range_with_len at count) → P k
-range-at P k zero at from low all = absurd (omega arith)
-range-at P k (suc count) at from low all = number-by P k at (eqb at k) refl all.0 (λ other. range-at P k count (at + 1) (omega arith) (omega arith) all.1)
-
 -- a list has a member at each place in it
 member : {A : Type 0} (list : List A) (at : ℕ) → at < length list → (a : A) × (slice_get list at ≡ Some a)
 member [] at low = absurd (omega arith)
 member (a ∷ list) zero low = (a, refl)
 member (a ∷ list) (suc at) low = member list at (omega arith)
+
+-- the handles of a semaphore have places
+pub handles-good : (s : State) (x : SemId) → HasGoodIds s → x.0 < length s.handles → AllByRecursion (λ k. IsGood (Handle x k)) (handles_of x s.handles)
+handles-good s x good low =
+    let there : (list : List JobId) × (slice_get s.handles x.0 ≡ Some list) = member s.handles x.0 low in
+    let jobs-is : handles_of x s.handles ≡ there.0 = ap (λ (o : Option (List JobId)). unwrap_or o []) there.1 in
+    let x-good : x.0 < 2 ^ 16 = (let few = good.semaphores in omega arith) in
+    subst (λ (list : List JobId). AllByRecursion (λ k. IsGood (Handle x k)) list) (sym jobs-is)
+    (all-weaker (λ (k : JobId). IsGood (Job k)) (λ (k : JobId). IsGood (Handle x k)) (λ k small. (x-good, small)) there.0
+    (all-at (λ (list : List JobId). AllByRecursion (λ k. IsGood (Job k)) list) s.handles x.0 there.0 good.handles there.1))
 
 abbrev job_of : Place → ℕ
 job_of (Handle x j) = j.0
@@ -99,14 +100,14 @@ module _ (s : State) (t : TreeState) (w : ℕ) (x : SemId) (j : JobId) (whole : 
   jobs-is : jobs ≡ there.0
   jobs-is = ap (λ (o : Option (List JobId)). unwrap_or o []) there.1
 
-  jobs-good : AllByRecursion (λ k. IsGood (Job k)) jobs
-  jobs-good = subst (λ (list : List JobId). AllByRecursion (λ k. IsGood (Job k)) list) (sym jobs-is) (all-at (λ (list : List JobId). AllByRecursion (λ k. IsGood (Job k)) list) s.handles x.0 there.0 good.handles there.1)
+  jobs-good : AllByRecursion (λ k. IsGood (Handle x k)) jobs
+  jobs-good = handles-good s x good low
 
   -- no other job's handle has its name
-  others : (list : List JobId) → AllByRecursion (λ k. IsGood (Job k)) list → NonePass (λ (k : JobId). k.0 == j.0) list → NonePass (is_named (place_name (Handle x j))) (map (handle_row x) list)
+  others : (list : List JobId) → AllByRecursion (λ k. IsGood (Handle x k)) list → NonePass (λ (k : JobId). k.0 == j.0) list → NonePass (is_named (place_name (Handle x j))) (map (handle_row x) list)
   others [] all_good none = tt
   others (k ∷ list) all_good none = (
-    named-other (Handle x j) (Handle x k) j-good (x-good, all_good.0) refl
+    named-other (Handle x j) (Handle x k) j-good all_good.0 refl
         (λ equal. let itself : (k.0 == k.0) ≡ true = grind (arith, nat_tests) in let same = ap (λ (q : Place). k.0 == job_of q) equal in let none_here = none.0 in absurd cc),
     others list all_good.1 none.1,
   )
@@ -115,7 +116,7 @@ module _ (s : State) (t : TreeState) (w : ℕ) (x : SemId) (j : JobId) (whole : 
   apart = others jobs jobs-good (none-list_any (λ (k : JobId). k.0 == j.0) jobs new)
 
   x-rows : HasHandles s.handles t x
-  x-rows = range-at (λ n. HasHandles s.handles t (record { 0 = n })) x.0 (length s.handles) 0 (omega arith) (omega arith) lays.semaphores.each
+  x-rows = at-range (λ n. HasHandles s.handles t (record { 0 = n })) (length s.handles) 0 x.0 (omega arith) (omega arith) lays.semaphores.each
 
   owner : owner_at t (path_of (Semaphore x)) ≡ Some None
   owner = owner-there t Semaphores (Semaphore x) whole x-good refl

@@ -26,10 +26,11 @@ use Rattle.np_places.specs.declared.place.Place.TheVariants.{Semaphores, Semapho
 use Rattle.np_layout.specs.Deletes.{HandlesGoLayOut, MayDelete, delete}
 use Rattle.np_layout.specs.Layout.{AreSemaphores, HasHandles, LaysOut, under}
 use Rattle.np_layout.specs.Rows.{by_name, handle_row, semaphore_row}
-use Rattle.np_layout.proofs.DeleteLists.{any-mapped, at-range, by_name-kept, filter-mapped}
+use Rattle.np_layout.proofs.CreateHandles.{handles-good}
+use Rattle.np_layout.proofs.DeleteLists.{any-mapped, by_name-kept, filter-mapped}
 use Rattle.np_layout.proofs.DeleteSteps.{DeleteGoes, bare-leaf, delete-goes, is_other}
 use Rattle.np_layout.proofs.Elsewhere.{frame-stays, handles-stay, jobs-stay, launchers-stay, live-stays, node_locks-stay, nodes-stay, request_locks-stay, requests-stay, roles-stay, rows-stay, sessions-stay, swept-stay}
-use Rattle.np_layout.proofs.SetLists.{any-by_name, any-found}
+use Rattle.np_layout.proofs.SetLists.{any-by_name, any-found, at-range}
 use Rattle.np_layout.proofs.SetSteps.{named-other}
 
 -- ## a handle's name is its own
@@ -84,7 +85,7 @@ abbrev semaphore_of : Place → ℕ
 semaphore_of (Semaphore x) = x.0
 semaphore_of other = 0
 
-module _ (s : State) (t : TreeState) (w : ℕ) (x : SemId) (j : JobId) (may : MayDelete s t w) (good : AllByRecursion (λ other. IsGood (Handle x other)) (handles_of x s.handles)) (has : has_handle j s.handles x ≡ true) where
+module _ (s : State) (t : TreeState) (w : ℕ) (x : SemId) (j : JobId) (may : MayDelete s t w) (has : has_handle j s.handles x ≡ true) where
   abbrev jobs : List JobId
   jobs = handles_of x s.handles
 
@@ -97,12 +98,18 @@ module _ (s : State) (t : TreeState) (w : ℕ) (x : SemId) (j : JobId) (may : Ma
   abbrev name : List ℕ
   name = place_name p
 
+  low : x.0 < length s.handles
+  low = in-range j s.handles x.0 has
+
+  good : AllByRecursion (λ other. IsGood (Handle x other)) jobs
+  good = handles-good s x may.good low
+
   p-good : IsGood p
   p-good = handle-good x j jobs good has
 
   -- what the tree has below the semaphore
   x-has : HasHandles s.handles t x
-  x-has = at-range (λ at. HasHandles s.handles t (record { 0 = at })) (length s.handles) 0 x.0 (omega arith) (let low = in-range j s.handles x.0 has in omega arith) may.lays.semaphores.each
+  x-has = at-range (λ at. HasHandles s.handles t (record { 0 = at })) (length s.handles) 0 x.0 (omega arith) (omega (arith, low)) may.lays.semaphores.each
 
   names : AllByRecursion (λ other. is_named name (handle_row x other) ≡ (other.0 == j.0)) jobs
   names = all-weaker (λ (other : JobId). IsGood (Handle x other)) (λ (other : JobId). is_named name (handle_row x other) ≡ (other.0 == j.0)) (λ other other_good. named-by x j other (other.0 == j.0) refl p-good other_good) jobs good
@@ -172,4 +179,4 @@ module _ (s : State) (t : TreeState) (w : ℕ) (x : SemId) (j : JobId) (may : Ma
 
 -- the delete of a handle lays out the state in which the job has none
 pub handles-lay-out : HandlesGoLayOut
-handles-lay-out s t w x j may good has = record { goes = (deletes s t w x j may good has).goes; lays = handle-lays s t w x j may good has }
+handles-lay-out s t w x j may has = record { goes = (deletes s t w x j may has).goes; lays = handle-lays s t w x j may has }

@@ -1,9 +1,7 @@
 -- the rows of a directory of which some are left out
-use Rattle.std.proofs.Common.{◌≡◌, ℕ, zero, suc, ◌+◌, ◌<◌, ◌≤◌, Bool, true, false, cond, List, [], ◌∷◌, map, refl, sym, ap, ◌∙◌, subst, arith}
-use Rattle.std.specs.Prelude.{◌==◌, filter}
-use Rattle.std.specs.List.{AllByRecursion, list_any, range_with_len}
-use Rattle.std.proofs.lemmas.Bool.{eqb-false}
-use Rattle.std.proofs.lemmas.Bool.Decides.{nat_tests}
+use Rattle.std.proofs.Common.{◌≡◌, Bool, true, false, cond, List, [], ◌∷◌, map, refl, sym, ap, ◌∙◌}
+use Rattle.std.specs.Prelude.{filter}
+use Rattle.std.specs.List.{AllByRecursion, list_any}
 use Rattle.np_lists.specs.Rising.{Rises}
 use Rattle.np_lists.proofs.Each.{all-filter}
 use Rattle.np_views.specs.Views.{Row, row_before, with_row}
@@ -91,13 +89,3 @@ module _ {A : Type 0} (row : A → Row) (test : Row → Bool) (own : A → Bool)
   pub any-mapped : (list : List A) → AllByRecursion (λ a. test (row a) ≡ own a) list → list_any test (map row list) ≡ list_any own list
   any-mapped [] all = refl
   any-mapped (a ∷ list) all = rw (all.0, any-mapped list all.1) refl
-
--- ## ranges
-
--- what is true of a range is true of each number in it
-pub at-range : (P : ℕ → Type 0) (count at k : ℕ) → at ≤ k → k < at + count → AllByRecursion P (range_with_len at count) → P k
-at-range P zero at k low high all = absurd (omega arith)
-at-range P (suc count) at k low high all = by at k (at == k) refl low all.0 (λ more. at-range P count (at + 1) k more (omega arith) all.1) where
-  by : (at k : ℕ) (b : Bool) → (at == k) ≡ b → at ≤ k → P at → (at + 1 ≤ k → P k) → P k
-  by at k true is low here later = let same : at ≡ k = grind (arith, nat_tests) in subst P same here
-  by at k false is low here later = let apart = eqb-false at k is in later (omega arith)

@@ -1,7 +1,9 @@
 -- the rows of a directory when one of them gets other bytes
 use Rattle.std.proofs.Common.{◌≡◌, ◌⊎◌, inl, inr, ℕ, zero, suc, ◌+◌, ◌<◌, ◌≤◌, Bool, true, false, cond, ◌||◌, List, [], ◌∷◌, length, map, Some, refl, sym, ap, ◌∙◌, subst, arith}
-use Rattle.std.specs.Prelude.{find, slice_get, if◌then◌else◌}
-use Rattle.std.specs.List.{AllByRecursion, list_any}
+use Rattle.std.specs.Prelude.{◌==◌, find, slice_get, if◌then◌else◌}
+use Rattle.std.specs.List.{AllByRecursion, list_any, range_with_len}
+use Rattle.std.proofs.lemmas.Bool.{eqb-false}
+use Rattle.std.proofs.lemmas.Bool.Decides.{nat_tests}
 use Rattle.np_lists.specs.Change.{change_at, change_first}
 use Rattle.np_lists.specs.Rising.{NonePass, Rises}
 use Rattle.np_lists.proofs.Each.{all-weaker}
@@ -146,3 +148,13 @@ rows_from-any row test (a ∷ list) at (suc j) k old same there passes =
       or_last : (b c : Bool) → c ≡ true → (b || c) ≡ true
       or_last true c is = refl
       or_last false c is = is
+
+-- ## ranges
+
+-- what is true of a range is true of each number in it
+pub at-range : (P : ℕ → Type 0) (count at k : ℕ) → at ≤ k → k < at + count → AllByRecursion P (range_with_len at count) → P k
+at-range P zero at k low high all = absurd (omega arith)
+at-range P (suc count) at k low high all = by at k (at == k) refl low all.0 (λ more. at-range P count (at + 1) k more (omega arith) all.1) where
+  by : (at k : ℕ) (b : Bool) → (at == k) ≡ b → at ≤ k → P at → (at + 1 ≤ k → P k) → P k
+  by at k true is low here later = let same : at ≡ k = grind (arith, nat_tests) in subst P same here
+  by at k false is low here later = let apart = eqb-false at k is in later (omega arith)

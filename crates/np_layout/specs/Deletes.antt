@@ -1,7 +1,6 @@
 -- what goes: if a tree lays a state out, the delete of the node of what goes lays out the state
 -- without it, and the delete is accepted
 use Rattle.std.specs.Prelude.{◌≡◌, ◌≤◌, ℕ, true, false, not, List, [], ◌∷◌, ◌++◌, filter, map, slice_get, Some, IsOk}
-use Rattle.std.specs.List.{AllByRecursion}
 use Rattle.np_text.specs.declared.id.JobId.{JobId}
 use Rattle.np_text.specs.declared.id.NodeId.{NodeId}
 use Rattle.np_text.specs.declared.id.RequestId.{RequestId}
@@ -21,7 +20,7 @@ use Rattle.np_machine.specs.Entries.{NodeEntry, RequestEntry}
 use Rattle.np_machine.specs.Semaphore.{without_handle}
 use Rattle.np_machine.specs.Session.{ended, node_left, request_left}
 use Rattle.np_machine.specs.State.{State}
-use Rattle.np_machine.specs.Tables.{change_session, handles_of, has_handle, is_queued, is_session, left, node_entry, node_queue, put_node_queue, put_request_queue, remove_node, remove_request, request_entry, request_queue}
+use Rattle.np_machine.specs.Tables.{change_session, has_handle, is_queued, is_session, left, node_entry, node_queue, put_node_queue, put_request_queue, remove_node, remove_request, request_entry, request_queue}
 use Rattle.np_places.specs.Place.{IsGood, path_of}
 use Rattle.np_places.specs.declared.place.Place.{Place}
 use Rattle.np_places.specs.declared.place.Place.TheVariants.{Handle, Node, NodeLock, NodeWait, Request, RequestLock, RequestWait}
@@ -51,7 +50,7 @@ pub record DeleteLaysOut (s : State) (t : TreeState) (w : ℕ) (p : Place) : Typ
 
 -- a job gives its handle of a semaphore back
 abbrev pub HandlesGoLayOut : Type 0
-HandlesGoLayOut = (s : State) (t : TreeState) (w : ℕ) (x : SemId) (j : JobId) → MayDelete s t w → AllByRecursion (λ other. IsGood (Handle x other)) (handles_of x s.handles) → has_handle j s.handles x ≡ true →
+HandlesGoLayOut = (s : State) (t : TreeState) (w : ℕ) (x : SemId) (j : JobId) → MayDelete s t w → has_handle j s.handles x ≡ true →
     DeleteLaysOut (record s { handles = change_at x.0 (without_handle j) s.handles }) t w (Handle x j)
 
 -- ## waits

@@ -33,7 +33,7 @@ use Rattle.np_places.specs.declared.place.Place.{Place}
 use Rattle.np_places.specs.declared.place.Place.TheVariants.{Request, Node, Launcher, Job, Session, Swept, Tick}
 use Rattle.np_layout.specs.Layout.{LaysOut}
 
--- each record and each lock of the state has a place whose ids have a text
+-- each record, lock, registration, handle and swept pair of the state has a place whose ids have a text
 pub record HasGoodIds (s : State) : Type 0 where
   pub sessions : length s.sessions < 2 ^ 32
   pub requests : AllByRecursion (λ e. IsGood (Request e.id)) s.requests
