@@ -1,0 +1,138 @@
+-- what grows by a record of its own: a session, a request and a node
+use Rattle.std.proofs.Common.{◌≡◌, ℕ, ◌+◌, ◌<◌, ◌≤◌, ◌^◌, Bool, true, false, ◌&&◌, ◌||◌, List, [], ◌∷◌, ◌++◌, length, None, refl, ap, ◌∙◌, inl, arith, length-append}
+use Rattle.std.specs.Prelude.{◌==◌}
+use Rattle.std.specs.Fmt.{decimal}
+use Rattle.std.specs.List.{AllByRecursion, list_all}
+use Rattle.std.proofs.lemmas.List.Folds.{list_all-append, list_any-append}
+use Rattle.np_text.specs.declared.id.NodeId.{NodeId}
+use Rattle.np_text.specs.declared.id.RequestId.{RequestId}
+use Rattle.np_text.specs.declared.id.Role.{Role}
+use Rattle.np_text.specs.declared.id.SessionId.{SessionId}
+use Rattle.np_lists.proofs.Each.{all-insert_before, all-push}
+use Rattle.np_path.specs.Grammar.{is_element}
+use Rattle.np_path.proofs.PartsLemmas.{is_path-below}
+use Rattle.np_session.specs.Known.{is_in}
+use Rattle.np_nodes.specs.TreeState.{TreeState}
+use Rattle.np_nodes.specs.Calls.{after_begin}
+use Rattle.np_nodes.specs.Multi.{after_parts}
+use Rattle.np_nodes.specs.declared.kind.Mode.TheVariants.{Persistent}
+use Rattle.np_nodes.specs.declared.op.Op.{Op}
+use Rattle.np_tree.specs.Whole.{IsPart}
+use Rattle.np_views.specs.Several.{HasRoomFor}
+use Rattle.np_views.proofs.ElsewhereLemmas.{goes-whole}
+use Rattle.np_views.proofs.RoomLemmas.{room-falls}
+use Rattle.np_record.specs.declared.record.NodeRecord.{NodeRecord}
+use Rattle.np_record.specs.declared.record.RequestRecord.{RequestRecord}
+use Rattle.np_spelling.specs.Spelling.{IsNode, node_text, request_record_text, session_text}
+use Rattle.np_machine.specs.Entries.{NodeEntry, RequestEntry}
+use Rattle.np_machine.specs.Order.{is_id_before}
+use Rattle.np_machine.specs.Request.{insert_request, next_id}
+use Rattle.np_machine.specs.State.{State}
+use Rattle.np_machine.specs.Tables.{request_entry}
+use Rattle.np_machine.specs.declared.state.SessionFacts.{SessionFacts}
+use Rattle.np_places.specs.Place.{IsGood, path_of}
+use Rattle.np_places.specs.declared.place.Place.TheVariants.{Requests, Request, RequestLock, Nodes, Node, NodeLock, Session}
+use Rattle.np_places.proofs.AboveLemmas.{is_path-of}
+use Rattle.np_places.proofs.NameLemmas.{is_element-plain, is_plain, is_plain_name, plain_name-decimal}
+use Rattle.np_layout.specs.Creates.{node_parts, request_parts, request_prefix}
+use Rattle.np_layout.specs.First.{make}
+use Rattle.np_layout.specs.Rows.{tree_session}
+use Rattle.np_layout.proofs.CreateNodes.{grown_nodes-lay-out}
+use Rattle.np_layout.proofs.CreateRequests.{grown_requests-lay-out}
+use Rattle.np_layout.proofs.CreateSessions.{sessions-lay-out}
+use Rattle.np_layout.specs.Sets.{HasGoodIds}
+use Rattle.np_enact.specs.Stands.{Enacts, Stands}
+use Rattle.np_enact.proofs.GoodIds.{good-nodes, good-requests}
+use Rattle.np_enact.proofs.StandsLemmas.{enacts-parts, live-after, part-create, part-wait, room-less, stands-less}
+
+-- ## a session
+
+-- a session that begins changes no node, and the tree's first session stays live
+begun-room : (t : TreeState) (more : ℕ) → HasRoomFor more t → HasRoomFor more (after_begin t)
+begun-room t more room = record { change = room.change; versions = room.versions; counters = room.counters; rows = room.rows; few = room.few }
+
+begun-live : (t : TreeState) (w : ℕ) → is_in t.live w ≡ true → is_in (after_begin t).live w ≡ true
+begun-live t w live = list_any-append (λ (s : ℕ). s == w) t.live ((t.begun + 1) ∷ []) ∙ ap (λ (b : Bool). b || is_in ((t.begun + 1) ∷ []) w) live
+
+good-session : (s : State) (facts : SessionFacts) → length s.sessions + 1 < 2 ^ 32 → HasGoodIds s → HasGoodIds (record s { sessions = s.sessions ++ facts ∷ [] })
+good-session s facts small good =
+    let long = length-append s.sessions (facts ∷ []) in
+    record {
+      sessions = omega arith;
+      requests = good.requests;
+      nodes = good.nodes;
+      registrations = good.registrations;
+      semaphores = good.semaphores;
+      handles = good.handles;
+      jobs = good.jobs;
+      launchers = good.launchers;
+      janitors = good.janitors;
+      requesters = good.requesters;
+      swept = good.swept;
+    }
+
+-- the begin of a session, and the create of its record by the tree's first session
+pub session-grows : (s : State) (t : TreeState) (role : Role) (more : ℕ) → Stands s t 1 (more + 1) → length s.sessions + 1 < 2 ^ 32 → length (session_text (record { mute = false; role = role })) ≤ 65_536 →
+    Enacts (after_begin t) 1 (make (session_text (record { mute = false; role = role })) (Session (record { 0 = length s.sessions + 1 })) ∷ []) (record s { sessions = s.sessions ++ record { role = role; live = true; mute = false } ∷ [] }) more
+session-grows s t role more stands small short =
+    let from : TreeState = after_begin t in
+    let part : Op = make (session_text (record { mute = false; role = role })) (Session (record { 0 = length s.sessions + 1 })) in
+    let lays = sessions-lay-out s t role stands.whole stands.good stands.lays (room-less t (more + 1) 1 (omega arith) stands.room) small short in
+    record {
+      goes = lays.goes;
+      leaves = record {
+        whole = goes-whole from (after_parts from 1 (part ∷ [])) 1 (part ∷ []) stands.whole (part-create (Session (record { 0 = length s.sessions + 1 })) (session_text (record { mute = false; role = role })) Persistent small, tt) lays.goes;
+        good = good-session s (record { role = role; live = true; mute = false }) small stands.good;
+        lays = lays.lays;
+        live = ap (λ (known : List ℕ). is_in known 1) (live-after from 1 (part ∷ [])) ∙ begun-live t 1 stands.live;
+        room = room-falls from 1 part more (begun-room t (more + 1) stands.room);
+      };
+    }
+
+-- ## a request
+
+prefix-plain : (name : List ℕ) → is_plain_name name ≡ true → is_plain_name (name ++ 45 ∷ []) ≡ true
+prefix-plain [] plain = absurd cc
+prefix-plain (b ∷ name) plain = list_all-append is_plain (b ∷ name) (45 ∷ []) ∙ ap (λ (c : Bool). c && list_all is_plain (45 ∷ [])) plain
+
+is_element-prefix : (r : RequestId) → IsGood (Request r) → is_element (request_prefix r) ≡ true
+is_element-prefix r good = let most = good.most in is_element-plain (request_prefix r) (prefix-plain (decimal r.priority) (plain_name-decimal r.priority (omega arith)))
+
+part-request : (r : RequestId) (bytes : List ℕ) → IsGood (Request r) → AllByRecursion IsPart (request_parts r bytes)
+part-request r bytes good = (
+  record { path = is_path-below (path_of Requests) (request_prefix r) (is_path-of Requests tt) (is_element-prefix r good); numbered = refl },
+  (part-create (RequestLock r) [] Persistent good, tt),
+)
+
+-- the creates of a request's record and of its lock
+pub request-grows : (s : State) (t : TreeState) (w priority : ℕ) (kept : RequestRecord) (more : ℕ) → Stands s t w (more + 2) → IsGood (Request (next_id priority s)) → length (request_record_text kept) ≤ 65_536 → request_entry (next_id priority s) s.requests ≡ None →
+    Enacts t w (request_parts (next_id priority s) (request_record_text kept)) (record s { requests = insert_request (record { id = next_id priority s; kept = kept; queue = [] }) s.requests; next_request = s.next_request + 1 }) more
+request-grows s t w priority kept more stands r_good short none =
+    let r : RequestId = next_id priority s in
+    let entry : RequestEntry = record { id = r; kept = kept; queue = [] } in
+    enacts-parts s (record s { requests = insert_request entry s.requests; next_request = s.next_request + 1 }) t w (request_parts r (request_record_text kept)) more
+    (stands-less s t w (more + 2) (2 + more) (omega arith) stands)
+    (good-requests s (insert_request entry s.requests) (s.next_request + 1) stands.good (all-insert_before (λ (e : RequestEntry). IsGood (Request e.id)) (λ (e : RequestEntry). is_id_before r e.id) entry s.requests r_good stands.good.requests))
+    (part-request r (request_record_text kept) r_good)
+    (grown_requests-lay-out s t w priority kept stands.whole stands.good stands.lays stands.live (room-less t (more + 2) 2 (omega arith) stands.room) r_good short none)
+
+-- ## a node
+
+part-node : (n : NodeId) (bytes : List ℕ) → IsGood (Node n) → AllByRecursion IsPart (node_parts n bytes)
+part-node n bytes good = (
+  record { path = is_path-of Nodes tt; numbered = refl },
+  (part-create (NodeLock n) [] Persistent good, (part-wait (NodeLock n) good, tt)),
+)
+
+-- the creates of a node's record, of its lock and of its maker's wait there
+pub node-grows : (s : State) (t : TreeState) (session : SessionId) (kept : NodeRecord) (more : ℕ) → Stands s t (tree_session session) (more + 3) → IsNode kept → length (node_text kept) ≤ 65_536 → s.next_node < 2 ^ 32 → AllByRecursion (λ e. e.id.0 < s.next_node) s.nodes →
+    Enacts t (tree_session session) (node_parts (record { 0 = s.next_node }) (node_text kept)) (record s { nodes = s.nodes ++ record { id = record { 0 = s.next_node }; kept = kept; queue = session ∷ [] } ∷ []; next_node = s.next_node + 1 }) more
+node-grows s t session kept more stands is_node short small low =
+    let w : ℕ = tree_session session in
+    let n : NodeId = record { 0 = s.next_node } in
+    let entry : NodeEntry = record { id = n; kept = kept; queue = session ∷ [] } in
+    enacts-parts s (record s { nodes = s.nodes ++ entry ∷ []; next_node = s.next_node + 1 }) t w (node_parts n (node_text kept)) more
+    (stands-less s t w (more + 3) (3 + more) (omega arith) stands)
+    (good-nodes s (s.nodes ++ entry ∷ []) (s.next_node + 1) stands.good (all-push (λ (e : NodeEntry). IsGood (Node e.id)) s.nodes entry stands.good.nodes small))
+    (part-node n (node_text kept) small)
+    (grown_nodes-lay-out s t session kept (node_text kept) stands.whole stands.good stands.lays stands.live (room-less t (more + 3) 3 (omega arith) stands.room) (is_node, inl refl) short low)

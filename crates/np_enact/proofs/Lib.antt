@@ -1,0 +1,16 @@
+pub mod StandsLemmas
+pub mod GoodIds
+pub mod Lengths
+pub mod Leaves
+pub mod RequestParts
+pub mod EachNode
+pub mod NodeParts
+pub mod HandleParts
+pub mod MarkParts
+pub mod RecordParts
+pub mod GrownRows
+pub mod GrownWaits
+pub mod GrowthParts
+pub mod Settled
+pub mod Calls
+pub mod Events

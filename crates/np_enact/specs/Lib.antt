@@ -1,0 +1,5 @@
+pub mod Parts
+pub mod Stands
+pub mod Ways
+pub mod Events
+pub mod Carried
