@@ -1,0 +1,15 @@
+pub mod Starts
+pub mod SiteRows
+pub mod Plans
+pub mod Facts
+pub mod Grows
+pub mod NodesReady
+pub mod SoundRows
+pub mod KnownRows
+pub mod SpelledRequests
+pub mod SpelledNodes
+pub mod SpelledJobs
+pub mod Spelled
+pub mod Readies
+pub mod OrderedLater
+pub mod Carried
