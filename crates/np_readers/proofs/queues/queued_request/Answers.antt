@@ -1,0 +1,21 @@
+use Rattle.std.proofs.Common.{◌≡◌, ◌∙◌, sym, ap, true, false, List, ℕ}
+use Rattle.std.specs.List.{list_any}
+use Rattle.np_views.specs.Views.{rows_at}
+use Rattle.np_places.specs.Place.{path_of}
+use Rattle.np_places.specs.declared.place.Place.TheVariants.{RequestLock}
+use Rattle.np_readers.proofs.QueueRows.{is_waiting, request-queued}
+use Rattle.np_readers.proofs.queues.queued_request.Goals as goal
+
+pub returns-then-waits : goal.returns-then-waits
+returns-then-waits c config s stored =
+    let t = c.args.tree.now in
+    let path : c.text.result.now ≡ path_of (RequestLock c.in_ok-request.request) = c.text.ensures ∙ c.of-lock.ensures in
+    request-queued config s t stored c.args.at c.args.session c.in_ok-request.request true (c.in_ok-request.ensures.request config s stored)
+    (ap (λ (p : List ℕ). list_any (is_waiting c.args.session) (rows_at t p)) (sym path) ∙ sym c.waits.ensures ∙ c.if-waits.true)
+
+pub returns-else-waits : goal.returns-else-waits
+returns-else-waits c config s stored =
+    let t = c.args.tree.now in
+    let path : c.text.result.now ≡ path_of (RequestLock c.in_ok-request.request) = c.text.ensures ∙ c.of-lock.ensures in
+    request-queued config s t stored c.args.at c.args.session c.in_ok-request.request false (c.in_ok-request.ensures.request config s stored)
+    (ap (λ (p : List ℕ). list_any (is_waiting c.args.session) (rows_at t p)) (sym path) ∙ sym c.waits.ensures ∙ c.if-waits.false)

@@ -1,0 +1,8 @@
+use Rattle.std.proofs.Common.{◌≡◌, drop}
+use Rattle.std.specs.List.{list_any}
+use Rattle.np_views.specs.Views.{rows_at}
+use Rattle.np_readers.proofs.QueueRows.{is_waiting}
+use Rattle.np_readers.proofs.queues.waits.Given as goal
+
+abbrev pub invariant-loop-at : goal.invariant-loop-at
+invariant-loop-at l = list_any (is_waiting l.session) (drop l.at (rows_at l.tree l.lock)) ≡ list_any (is_waiting l.session) (rows_at l.tree l.lock)

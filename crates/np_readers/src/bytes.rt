@@ -1,0 +1,59 @@
+//! The bytes and the stat at a place.
+
+ghost use Rattle.std.specs.Prelude.{◌≡◌, length, option_and_then};
+ghost use Rattle.std.specs.Option.{option_copied};
+ghost use Rattle.np_tree.specs.Read.{bytes_at, counter_at, stat_at};
+ghost use Rattle.np_tree.specs.Whole.{IsWhole};
+ghost use Rattle.np_views.specs.Views.{rows_at};
+ghost use Rattle.np_places.specs.Place.{IsGood, path_of};
+
+use np_places::{PathText, Place};
+use np_tree::{Stat, Tree};
+
+/// The bytes at a place, or `None` if there is no node.
+pub(crate) fn bytes_at(tree: &Tree, place: Place) -> Option<&[u8]>
+    requires { IsGood place }
+    ensures { option_copied result ≡ bytes_at tree.now (path_of place) }
+{
+    let path = PathText::of(place);
+    let (bytes, _) = tree.get(path.text())?;
+    Some(bytes)
+}
+
+/// The stat at a place, or `None` if there is no node.
+pub(crate) fn stat_at(tree: &Tree, place: Place) -> Option<Stat>
+    requires { IsGood place }
+    ensures { result ≡ stat_at tree.now (path_of place) }
+{
+    let path = PathText::of(place);
+    tree.exists(path.text())
+}
+
+/// The session that owns the node at a place. `None` if no session does, or if there is no node.
+pub(crate) fn owner_at(tree: &Tree, place: Place) -> Option<u32>
+    requires { IsGood place }
+    ensures { result
+        ≡ option_and_then (λ stat. stat.owner) (stat_at tree.now (path_of place)) }
+{
+    stat_at(tree, place)?.owner
+}
+
+/// How many children there are below a place.
+pub(crate) fn count_at(tree: &Tree, place: Place) -> u32
+    requires { IsGood place }
+    ensures { IsWhole tree.now.nodes → result ≡ length (rows_at tree.now (path_of place)) }
+{
+    match stat_at(tree, place) {
+        Some(stat) => stat.children,
+        None => 0,
+    }
+}
+
+/// The number that the next sequence node below a place gets, or `None` if there is no node.
+pub(crate) fn counter_at(tree: &Tree, place: Place) -> Option<u32>
+    requires { IsGood place }
+    ensures { result ≡ counter_at tree.now (path_of place) }
+{
+    let path = PathText::of(place);
+    tree.counter(path.text())
+}
