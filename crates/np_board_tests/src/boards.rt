@@ -93,6 +93,9 @@ fn is_rebuilt(alloc: Global, board: &Board) -> Result<bool, NoMemory> {
     board.soundness();
     let made = Index::rebuild(alloc, board)?;
     let kept = board.index();
+    if made.ranks() != kept.ranks() {
+        return Ok(false);
+    }
     for number in 0..16 {
         let session = SessionId(number);
         if made.requests_of(session) != kept.requests_of(session)

@@ -18,6 +18,7 @@ module _ (c : Configuration) (s : State) (index : IndexParts) (is : IsIndexOf c 
     };
     nodes = is.nodes;
     owners = is.owners;
+    ranks = is.ranks;
   }
 
   pub nodes-more : (lists : List (List NodeId)) (list : List NodeId) → lists ≡ index.nodes ++ list ∷ [] → list ≡ [] → IsIndexOf c s (record index { nodes = lists })
@@ -29,4 +30,5 @@ module _ (c : Configuration) (s : State) (index : IndexParts) (is : IsIndexOf c 
       many = omega (arith, is.nodes.many, simp length-append at (ap length added));
     };
     owners = is.owners;
+    ranks = is.ranks;
   }

@@ -33,7 +33,9 @@ use Rattle.np_safe.proofs.Numbered.{grown-numbered}
 use Rattle.np_safe.proofs.Runs.{invariant-Runs}
 use Rattle.np_keys.specs.Keys.{is_node_before, same_node, node_one_way, node_equal, request_one_way, request_equal}
 use Rattle.np_look.specs.Readers.{queued_requests, queued_nodes}
-use Rattle.np_index.specs.Changed.{lists_joined, lists_left, lists_removed, lists_ended, queue_at, holder_at, index_grown, index_settled}
+use Rattle.np_index.specs.declared.change.Numbers.{Numbers}
+use Rattle.np_index.specs.declared.ranks.Rank.{Rank}
+use Rattle.np_index.specs.Changed.{lists_joined, lists_left, lists_removed, lists_ended, queue_at, holder_at, lost_rank, index_grown, index_settled}
 use Rattle.np_index.specs.Index.{IndexParts, HasRoom, IsIndexOf}
 use Rattle.np_index.specs.Lists.{list_at, without_id}
 use Rattle.np_index.specs.Waits.{by, joins_request, joins_node, leaves_request, leaves_node, removed_node, removed_request, ending}
@@ -41,6 +43,7 @@ use Rattle.np_index.proofs.Begun.{begun-within}
 use Rattle.np_index.proofs.OfJobs.{unfinished-changed}
 use Rattle.np_index.proofs.OfNodes.{nodes-grown, nodes-changed, nodes-left}
 use Rattle.np_index.proofs.OfOwners.{owners-changed}
+use Rattle.np_index.proofs.OfRanks.{ranks-changed}
 use Rattle.np_index.proofs.OfRequests.{leaves, requests-grown, requests-changed, requests-left}
 use Rattle.np_index.proofs.Places.{list_joined, list_left, list_removed, list_ended, at-joined, at-left, at-without, at-ended, length-joined, length-left, length-removed, length-ended}
 use Rattle.np_index.proofs.Rows.{waiting, rows-absent}
@@ -198,8 +201,12 @@ module _ (c : Configuration) (s : State) (ch : Changes) (old : Invariant c s) (g
 
 -- ## all parts
 
+-- the numbers that a new request and a new node get
+abbrev numbers : State → Numbers
+numbers s = record { request = s.next_request; node = s.next_node }
+
 pub index-changed : (c : Configuration) (s : State) (ch : Changes) (index : IndexParts) → Invariant c s → AreUnused s → Premises c s ch → IsIndexOf c s index → HasRoom s index
-    → IsIndexOf c (changed c ch s) (index_settled c ch (holder_at (removed_request ch.requests) s) (queue_at (removed_node ch.nodes) s) (index_grown ch s.next_node index))
+    → IsIndexOf c (changed c ch s) (index_settled c ch (holder_at (removed_request ch.requests) s) (queue_at (removed_node ch.nodes) s) (lost_rank ch.requests s) (index_grown ch (numbers s) index))
 index-changed c s ch index old unused given is room = record {
   unfinished = unfinished-changed c s ch index.unfinished given.jobs is.unfinished;
   requests = record {
@@ -218,14 +225,15 @@ index-changed c s ch index old unused given is room = record {
         omega (arith, session-more c s ch, room.nodes, length-ended (ending ch.sessions) (lists_removed same_node (removed_node ch.nodes) queue fewer), length-removed same_node (removed_node ch.nodes) queue fewer, length-left same_node (leaves_node ch.maker ch.nodes) more, length-joined is_node_before same_node (joins_node ch.maker ch.grows s.next_node) index.nodes);
   };
   owners = owners-changed c s ch old unused given index.owners is.owners;
+  ranks = ranks-changed c s ch old given index.ranks is.ranks;
 }
 
 -- as a keeper changes: what was read of the state before, and what was made of the index
-pub index-after : (c site conf : Configuration) (s t : State) (ch : Changes) (next : ℕ) (holder : Option SessionId) (queue : List SessionId) (room grown settled : IndexParts)
+pub index-after : (c site conf : Configuration) (s t : State) (ch : Changes) (next : Numbers) (holder : Option SessionId) (queue : List SessionId) (rank : Option Rank) (room grown settled : IndexParts)
     → IsReached c s → IsPlanned c s ch → IsIndexOf c s room → HasRoom s room
-    → next ≡ s.next_node → holder ≡ holder_at (removed_request ch.requests) s → queue ≡ queue_at (removed_node ch.nodes) s
-    → grown ≡ index_grown ch next room → settled ≡ index_settled conf ch holder queue grown → conf ≡ site → site ≡ c → t ≡ changed c ch s → IsIndexOf site t settled
-index-after c site conf s t ch next holder queue room grown settled reached planned is has_room next_is holder_is queue_is grown_is settled_is conf_is site_is t_is =
-    rw (settled_is, grown_is, next_is, holder_is, queue_is, conf_is, site_is, t_is)
+    → next.request ≡ s.next_request → next.node ≡ s.next_node → holder ≡ holder_at (removed_request ch.requests) s → queue ≡ queue_at (removed_node ch.nodes) s → rank ≡ lost_rank ch.requests s
+    → grown ≡ index_grown ch next room → settled ≡ index_settled conf ch holder queue rank grown → conf ≡ site → site ≡ c → t ≡ changed c ch s → IsIndexOf site t settled
+index-after c site conf s t ch next holder queue rank room grown settled reached planned is has_room request_is node_is holder_is queue_is rank_is grown_is settled_is conf_is site_is t_is =
+    rw (settled_is, grown_is, request_is, node_is, holder_is, queue_is, rank_is, conf_is, site_is, t_is)
     (index-changed c s ch room (invariant-Runs c reached.journal s reached.runs) (unused-reached c s reached)
     (subst (Premises c s) (sym planned.plan) (premises c s planned.event planned.accepted)) is has_room)

@@ -7,10 +7,11 @@ ghost use Rattle.np_changes.specs.Readers.{owner_of};
 ghost use Rattle.np_fits.specs.Fits.{Fits};
 ghost use Rattle.np_site.specs.Configuration.{Configuration};
 ghost use Rattle.np_look.specs.Readers.{queued_nodes, queued_requests, unfinished_of};
-ghost use Rattle.np_index.specs.Index.{AreNodesOf, AreRequestsOf, HasRoom, IsIndexOf};
+ghost use Rattle.np_index.specs.Index.{AreNodesOf, AreRanks, AreRequestsOf, HasRoom, IsIndexOf};
 
 use crate::lists::list_of;
 use crate::owners::list_owners;
+use crate::ranks::{ByRank, Rank, list_ranks};
 use crate::unfinished::list_unfinished;
 use np_keys::{ByNode, ByRequest, JobTable};
 use np_look::Look;
@@ -27,6 +28,7 @@ pub struct Index {
     pub(crate) requests: Vec<KeyTable<ByRequest>>,
     pub(crate) nodes: Vec<KeyTable<ByNode>>,
     pub(crate) owners: Vec<Option<JobId>>,
+    pub(crate) ranks: KeyTable<ByRank>,
 }
 
 impl Model for Index {
@@ -39,6 +41,7 @@ impl Model for Index {
       requests = index.requests.items;
       nodes = index.nodes.items;
       owners = index.owners.items;
+      ranks = index.ranks;
     } };
 }
 
@@ -108,9 +111,9 @@ fn nodes_by_session<L: Look>(alloc: Global, look: &L) -> Result<Vec<KeyTable<ByN
 }
 
 impl Index {
-    /// The index of the state. It reads each job once, and asks the keeper for what each session
-    /// queues for and for the owner of each node that was made. A keeper that scans reads all queues
-    /// for each answer of the first kind, and all jobs for each node.
+    /// The index of the state. It reads each job and each request once, and asks the keeper for what
+    /// each session queues for and for the owner of each node that was made. A keeper that scans
+    /// reads all queues for each answer of the first kind, and all jobs for each node.
     pub fn rebuild<L: Look>(alloc: Global, look: &L) -> Result<Index, NoMemory>
         requires reached { IsReached (L.site look.now) (L.state look.now) }
         requires fits { Fits (L.site look.now) (L.state look.now) }
@@ -120,12 +123,14 @@ impl Index {
         let requests = requests_by_session(alloc, look)?;
         let nodes = nodes_by_session(alloc, look)?;
         let owners = list_owners(alloc, look)?;
+        let ranks = list_ranks(alloc, look)?;
         Ok(Index {
             alloc,
             unfinished,
             requests,
             nodes,
             owners,
+            ranks,
         })
     }
 
@@ -185,5 +190,13 @@ impl Index {
             → result ≡ owner_of node s.jobs }
     {
         *self.owners.get(node.0 as usize)?
+    }
+
+    /// The requests that are requested or pending, in the order in which launchers take them up: by
+    /// priority, then relative priority, then sequence. It takes no memory.
+    pub fn ranks(&self) -> &[Rank]
+        ensures { (c : Configuration) (s : State) → IsIndexOf c s self.now → AreRanks s result.now }
+    {
+        self.ranks.rows()
     }
 }

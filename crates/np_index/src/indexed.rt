@@ -7,8 +7,10 @@ ghost use Rattle.np_index.specs.Index.{IsIndexOf};
 
 mod look;
 
+use crate::change::Numbers;
 use crate::index::Index;
 use crate::queues::{holder_of, queue_of};
+use crate::ranks::lost_rank;
 use crate::waits::{removed_node, removed_request};
 use np_changes::Changes;
 use np_decision::StateKeeper;
@@ -66,14 +68,19 @@ impl<K: StateKeeper + Drop> StateKeeper for Indexed<K> {
         let holder = holder_of(&self.keeper, removed_request(&changes.requests));
         let alloc = self.index.alloc();
         let queue = queue_of(alloc, &self.keeper, removed_node(&changes.nodes))?;
-        let next_node = self.keeper.next_node();
-        let added = self.index.grow(changes, next_node)?;
+        let rank = lost_rank(&self.keeper, &changes.requests);
+        let next = Numbers {
+            request: self.keeper.next_request(),
+            node: self.keeper.next_node(),
+        };
+        let added = self.index.grow(changes, next)?;
         if let Err(fault) = self.keeper.change(changes) {
-            self.index.take_back(changes, next_node, added);
+            self.index.take_back(changes, next, added);
             return Err(fault);
         }
         let config = self.keeper.config();
-        self.index.settle(config, changes, holder, queue.as_slice());
+        self.index
+            .settle(config, changes, holder, queue.as_slice(), rank);
         Ok(())
     }
 }

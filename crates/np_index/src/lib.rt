@@ -9,6 +9,7 @@
 //! | `requests`, for each session the requests in whose queues it is | `queued_requests`, `queued_request_at` |
 //! | `nodes`, for each session the nodes in whose queues it is | `queued_nodes`, `queued_node_at` |
 //! | `owners`, for each node the job that has it | `owner` |
+//! | `ranks`, the requests that are requested or pending, in the order in which launchers take them up | `first_of` |
 //!
 //! `Indexed` joins an index to anything that keeps a state. It answers these readers from the index
 //! and the others from the keeper, and makes each change in both: first what may take memory, in the
@@ -16,13 +17,16 @@
 #![tactic(auto)]
 
 mod change;
+mod first;
 mod index;
 mod indexed;
 mod lists;
 mod owners;
 mod queues;
+mod ranks;
 mod unfinished;
 mod waits;
 
 pub use index::Index;
 pub use indexed::Indexed;
+pub use ranks::Rank;

@@ -181,7 +181,7 @@ impl Look for Board {
     }
 
     fn first_of(&self, pool: PoolId) -> Option<RequestId> {
-        self.vectors().first_of(pool)
+        self.machine.keeper().first_of(pool)
     }
 
     fn used_by(&self, tenant: TenantId) -> Amount {

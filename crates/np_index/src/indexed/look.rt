@@ -2,6 +2,7 @@
 
 ghost use Rattle.std.specs.Prelude.{◌≡◌, ◌≤◌};
 
+use crate::first::first_request;
 use crate::indexed::Indexed;
 use np_amount::Amount;
 use np_changes::Asked;
@@ -192,8 +193,10 @@ impl<K: StateKeeper + Drop> Look for Indexed<K> {
         self.keeper.blocking(pool, asked)
     }
 
+    /// The first request that the pool's launcher may take up. It costs a lookup for each request
+    /// before the answer that is not open to the pool, and what its tenant uses for each other one.
     fn first_of(&self, pool: PoolId) -> Option<RequestId> {
-        self.keeper.first_of(pool)
+        first_request(&self.keeper, pool, self.index.ranks())
     }
 
     fn used_by(&self, tenant: TenantId) -> Amount {
