@@ -13,3 +13,4 @@ pub mod Spelled
 pub mod Readies
 pub mod OrderedLater
 pub mod Carried
+pub mod Enacts

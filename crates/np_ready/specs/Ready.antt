@@ -1,5 +1,6 @@
 -- every accepted event is ready for the tree, and leaves a state that a tree can carry
-use Rattle.std.specs.Prelude.{◌≡◌, ◌<◌, ◌^◌, true, is_ok, IfSome}
+use Rattle.std.specs.Prelude.{◌≡◌, ◌<◌, ◌^◌, ◌+◌, ℕ, true, is_ok, IfSome}
+use Rattle.np_nodes.specs.TreeState.{TreeState}
 use Rattle.np_site.specs.Configuration.{Configuration}
 use Rattle.np_site.specs.Sound.{IsSound}
 use Rattle.np_event.specs.declared.event.Event.{Event}
@@ -20,8 +21,10 @@ use Rattle.np_fits.specs.Fits.{Fits}
 use Rattle.np_safe.specs.Parts.{Invariant}
 use Rattle.np_places.specs.Place.{IsGood}
 use Rattle.np_places.specs.declared.place.Place.TheVariants.{Swept}
-use Rattle.np_enact.specs.Carried.{IsCarried}
-use Rattle.np_enact.specs.Events.{IsReady, called}
+use Rattle.np_enact.specs.Carried.{IsCarried, IsStored}
+use Rattle.np_enact.specs.Events.{IsEnacted, IsReady, called}
+use Rattle.np_enact.specs.Parts.{enacted, writer}
+use Rattle.np_enact.specs.Stands.{Stands}
 use Rattle.np_enact.specs.Ways.{HasSpellings}
 
 -- ## numbers that come with an event are within their types
@@ -81,3 +84,8 @@ StartsAreCarried = (c : Configuration) → IsSound c → IsCarried c (start c)
 
 abbrev pub StepsAreCarried : Type 0
 StepsAreCarried = (c : Configuration) (s : State) (e : Event) → IsAccepted c s e → IsCarried c (next c s e)
+
+-- the tree enacts it: the call of its changes is accepted, and leaves a tree of the state after it
+abbrev pub EventsAreEnacted : Type 0
+EventsAreEnacted = (c : Configuration) (s : State) (e : Event) (t : TreeState) (more : ℕ) → IsAccepted c s e → Stands s t (writer (plan c s e).maker) (more + 64) → t.changes + 2 < 18_446_744_073_709_551_615 →
+    IsEnacted c (plan c s e) s t more × IsStored c (next c s e) (enacted c (plan c s e) s t)

@@ -7,6 +7,6 @@
 mod law;
 
 pub use law::{
-    every_accepted_event_is_ready, every_record_is_spelled, every_start_is_carried,
-    every_step_is_carried,
+    every_accepted_event_is_enacted, every_accepted_event_is_ready, every_record_is_spelled,
+    every_start_is_carried, every_step_is_carried,
 };
