@@ -1,0 +1,7 @@
+pub mod Spared
+pub mod Lives
+pub mod Enacted
+pub mod Laws
+pub mod Accepted
+pub mod Made
+pub mod FirstParts

@@ -1,0 +1,47 @@
+use Rattle.std.proofs.Common.{◌≡◌, ◌∙◌, length, List, ap, sym, subst, arith}
+use Rattle.std.specs.List.{list_all}
+use Rattle.np_nodes.specs.TreeState.{TreeState, new_tree}
+use Rattle.np_nodes.specs.Calls.{after_begin, with_spare}
+use Rattle.np_nodes.specs.Multi.{after_multi, after_parts, is_numbered}
+use Rattle.np_nodes.specs.declared.op.Op.{Op}
+use Rattle.np_views.specs.Several.{Goes}
+use Rattle.np_layout.specs.First.{first_parts}
+use Rattle.np_keeper.proofs.FirstParts.{decoded-first, first-few, first-goes-spared, first-numbered, held-first}
+use Rattle.np_keeper.proofs.start.first_tree.Goals as goal
+
+pub call-requires-clause-few : goal.call-requires-clause-few
+call-requires-clause-few c =
+    let ops : c.as_slice.result.now ≡ first_parts c.args.config.now = c.as_slice.ensures.value ∙ c.in_ok-ops.ensures in
+    let many : length c.as_slice.result.now ≡ length (first_parts c.args.config.now) = ap length ops in
+    let few = first-few c.args.config.now c.requires in
+    omega arith
+
+pub call-requires-clause-numbered : goal.call-requires-clause-numbered
+call-requires-clause-numbered c =
+    let ops : c.as_slice.result.now ≡ first_parts c.args.config.now = c.as_slice.ensures.value ∙ c.in_ok-ops.ensures in
+    ap (λ (list : List Op). list_all is_numbered list) ops ∙ first-numbered c.args.config.now
+
+pub call-requires-clause-goes : goal.call-requires-clause-goes
+call-requires-clause-goes c =
+    let ops : c.as_slice.result.now ≡ first_parts c.args.config.now = c.as_slice.ensures.value ∙ c.in_ok-ops.ensures in
+    subst (λ (list : List Op). Goes c.in_ok-tree.tree 1 list (after_parts c.in_ok-tree.tree 1 list)) (sym ops)
+    (subst (λ (t : TreeState). Goes t 1 (first_parts c.args.config.now) (after_parts t 1 (first_parts c.args.config.now))) (sym c.in_ok-tree.ensures)
+    (first-goes-spared c.args.config.now c.requires c.in_ok-tree.tree.spare))
+
+pub returns-clause-held : goal.returns-clause-held
+returns-clause-held c =
+    let ops : c.as_slice.result.now ≡ first_parts c.args.config.now = c.as_slice.ensures.value ∙ c.in_ok-ops.ensures in
+    let is : c.call.new.tree ≡ after_multi (with_spare (after_begin new_tree) c.in_ok-tree.tree.spare) 1 (first_parts c.args.config.now) =
+    c.in_ok-call.ensures.ok
+    ∙ ap (λ (list : List Op). after_multi c.in_ok-tree.tree 1 list) ops
+    ∙ ap (λ (t : TreeState). after_multi t 1 (first_parts c.args.config.now)) c.in_ok-tree.ensures in
+    held-first c.args.config.now c.requires c.call.new.tree c.in_ok-tree.tree.spare c.changes.ensures.tree.whole is
+
+pub returns-clause-state : goal.returns-clause-state
+returns-clause-state c =
+    let ops : c.as_slice.result.now ≡ first_parts c.args.config.now = c.as_slice.ensures.value ∙ c.in_ok-ops.ensures in
+    let is : c.call.new.tree ≡ after_multi (with_spare (after_begin new_tree) c.in_ok-tree.tree.spare) 1 (first_parts c.args.config.now) =
+    c.in_ok-call.ensures.ok
+    ∙ ap (λ (list : List Op). after_multi c.in_ok-tree.tree 1 list) ops
+    ∙ ap (λ (t : TreeState). after_multi t 1 (first_parts c.args.config.now)) c.in_ok-tree.ensures in
+    decoded-first c.args.config.now c.requires c.call.new.tree c.in_ok-tree.tree.spare c.changes.ensures.tree.whole is

@@ -1,0 +1,10 @@
+use Rattle.std.proofs.Common.{◌-◌, length, []}
+use Rattle.np_places.specs.declared.place.Place.TheVariants.{Semaphore}
+use Rattle.np_keeper.proofs.Made.{IsMade}
+use Rattle.np_keeper.proofs.start.push_semaphores.Given as goal
+
+abbrev pub invariant-loop-ops : goal.invariant-loop-ops
+invariant-loop-ops l = IsMade [] (λ n. Semaphore (record { 0 = n })) l.config.semaphores l.fn.ops.items l.ops.items l.at
+
+abbrev pub decreases-loop-ops : goal.decreases-loop-ops
+decreases-loop-ops l = length l.config.semaphores - l.at

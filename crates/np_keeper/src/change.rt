@@ -1,0 +1,127 @@
+//! The changes of an event, made in the tree.
+
+ghost use Rattle.std.specs.Prelude.{◌≡◌, ◌<◌, ◌≤◌, true, length, OnOk, OnErr};
+ghost use Rattle.std.specs.List.{list_all};
+ghost use Rattle.np_nodes.specs.Calls.{with_spare};
+ghost use Rattle.np_nodes.specs.Multi.{after_multi, after_parts, is_numbered};
+ghost use Rattle.np_views.specs.Several.{Goes};
+ghost use Rattle.np_changes.specs.Changes.{changed};
+ghost use Rattle.np_enact.specs.Parts.{with_begin, with_end, writer};
+ghost use Rattle.np_decode.specs.Decoded.{decoded};
+ghost use Rattle.np_keeper.specs.Keeper.{CanBegin, CanEnd, HasSpare, IsHeld, MayChange};
+
+use np_changes::{Changes, Growth, Maker, SessionsChange};
+use np_config::Config;
+use np_nodes::{MultiFault, Op};
+use np_steps::parts;
+use np_text::NoMemory;
+use np_tree::Tree;
+use std::alloc::Global;
+
+/// The tree's session that makes the changes: the maker's, or the first one if nobody makes them.
+fn writer_of(maker: Option<Maker>) -> u32
+    requires { writer maker < 4294967296 }
+    ensures { result ≡ writer maker }
+{
+    match maker {
+        Some(maker) => maker.session.0 + 1,
+        None => 1,
+    }
+}
+
+/// Takes the memory for the session that is opened, if one is.
+fn reserve(tree: &mut Tree, grows: &Growth) -> Result<(), NoMemory>
+    ensures same { tree.new ≡ with_spare tree.old tree.new.spare }
+    ensures ok { OnOk result (HasSpare grows.now tree.new) }
+{
+    if let Growth::Session { role: _ } = grows {
+        return tree.reserve_session();
+    }
+    Ok(())
+}
+
+/// One call of parts that are accepted. If memory runs out, nothing changes.
+pub(crate) fn call(tree: &mut Tree, session: u32, ops: &[Op]) -> Result<(), NoMemory>
+    requires few { length ops.now ≤ 4294967295 }
+    requires numbered { list_all is_numbered ops.now ≡ true }
+    requires goes { Goes tree.old session ops.now (after_parts tree.old session ops.now) }
+    ensures ok { OnOk result (tree.new ≡ after_multi tree.old session ops.now) }
+    ensures err { OnErr result (tree.new ≡ tree.old) }
+{
+    match tree.multi(session, ops) {
+        Ok(_) => Ok(()),
+        Err(MultiFault::NoMemory) => Err(NoMemory),
+        Err(
+            MultiFault::Refused {
+                index: _,
+                refusal: _,
+            },
+        ) => unreachable!(),
+    }
+}
+
+/// Begins the session that is opened, if one is.
+fn begin(tree: &mut Tree, grows: &Growth)
+    requires { CanBegin grows.now tree.old }
+    ensures { tree.new ≡ with_spare (with_begin grows.now tree.old) tree.new.spare }
+{
+    if let Growth::Session { role: _ } = grows {
+        match tree.begin_session() {
+            Ok(_) => {}
+            Err(_) => unreachable!(),
+        }
+    }
+}
+
+/// Ends the session that expires, if one does.
+fn end(tree: &mut Tree, change: &SessionsChange)
+    requires { CanEnd change.now tree.old }
+    ensures { tree.new ≡ with_end change.now tree.old }
+{
+    if let SessionsChange::End { session } = change {
+        tree.end_session(session.0 + 1);
+    }
+}
+
+/// Makes the changes of an event, for which memory for a session is there: one call, and then the
+/// session that is opened begins or the one that expires ends. If memory runs out, nothing changes.
+fn make_changes(
+    alloc: Global,
+    tree: &mut Tree,
+    config: &Config,
+    changes: &Changes,
+) -> Result<(), NoMemory>
+    requires held { IsHeld config.now tree.old }
+    requires low { tree.old.changes < 16777214 }
+    requires ready { MayChange config.now changes.now (decoded config.now tree.old) }
+    requires spare { HasSpare changes.now.grows tree.old }
+    ensures held { IsHeld config.now tree.new }
+    ensures ok { OnOk result (decoded config.now tree.new
+        ≡ changed config.now changes.now (decoded config.now tree.old)) }
+    ensures err { OnErr result (tree.new ≡ tree.old) }
+{
+    let ops = parts(alloc, tree, config, changes)?;
+    call(tree, writer_of(changes.maker), ops.as_slice())?;
+    begin(tree, &changes.grows);
+    end(tree, &changes.sessions);
+    Ok(())
+}
+
+/// Makes the changes of an event. If memory runs out, the state stays.
+pub(crate) fn enact(
+    alloc: Global,
+    tree: &mut Tree,
+    config: &Config,
+    changes: &Changes,
+) -> Result<(), NoMemory>
+    requires held { IsHeld config.now tree.old }
+    requires low { tree.old.changes < 16777214 }
+    requires ready { MayChange config.now changes.now (decoded config.now tree.old) }
+    ensures held { IsHeld config.now tree.new }
+    ensures ok { OnOk result (decoded config.now tree.new
+        ≡ changed config.now changes.now (decoded config.now tree.old)) }
+    ensures err { OnErr result (decoded config.now tree.new ≡ decoded config.now tree.old) }
+{
+    reserve(tree, &changes.grows)?;
+    make_changes(alloc, tree, config, changes)
+}

@@ -1,0 +1,111 @@
+-- the children of a node, as a tree's readers answer them
+use Rattle.std.proofs.Common.{◌≡◌, ℕ, zero, suc, Bool, true, false, cond, List, [], ◌∷◌, ◌++◌, drop, length, map, Option, Some, None, refl, sym, ap, ◌∙◌}
+use Rattle.std.specs.Prelude.{find, slice_get}
+use Rattle.std.specs.List.{list_any}
+use Rattle.std.specs.Option.{is_some, option_map, option_map_or}
+use Rattle.std.proofs.lemmas.List.{append_assoc, length-map}
+use Rattle.np_lists.proofs.FoundLemmas.{find-passes}
+use Rattle.np_text.specs.declared.id.SessionId.{SessionId}
+use Rattle.np_path.specs.Parts.{below, name_of}
+use Rattle.np_nodes.specs.TreeState.{TreeState}
+use Rattle.np_nodes.specs.Nodes.{at_path, children_of, is_at, is_owner, stat_of}
+use Rattle.np_nodes.specs.declared.kind.Expect.TheVariants.{Any}
+use Rattle.np_nodes.specs.declared.kind.Stat.{Stat}
+use Rattle.np_nodes.specs.declared.node.Node.{Node}
+use Rattle.np_nodes.specs.declared.op.Op.{Op}
+use Rattle.np_nodes.specs.declared.op.Op.TheVariants as op
+use Rattle.np_nodes.proofs.PlaceLemmas.{bytes_eq-is}
+use Rattle.np_tree.specs.Read.{child_name, stat_at}
+use Rattle.np_tree.specs.Whole.{IsWhole}
+use Rattle.np_views.specs.Several.{delete_parts}
+use Rattle.np_views.specs.Views.{Row, row_of, rows_at}
+use Rattle.np_views.proofs.RelationLemmas.{rows-nothing}
+use Rattle.np_layout.specs.Rows.{tree_session}
+
+-- ## how many there are
+
+none-there : (nodes : List Node) (o : Option Node) → option_map (stat_of nodes) o ≡ None → o ≡ None
+none-there nodes None is = refl
+none-there nodes (Some n) is = absurd cc
+
+count-by : (nodes : List Node) (dir : List ℕ) (o : Option Node) (stat : Stat) → at_path nodes dir ≡ o → option_map (stat_of nodes) o ≡ Some stat → stat.children ≡ length (children_of nodes dir)
+count-by nodes dir None stat there is = absurd cc
+count-by nodes dir (Some n) stat there is =
+    let same : stat ≡ stat_of nodes n = cc in
+    ap (λ (s : Stat). s.children) same ∙ ap (λ (p : List ℕ). length (children_of nodes p)) (bytes_eq-is n.path dir (find-passes (is_at dir) nodes n there))
+
+-- a stat counts the rows below its path
+pub rows-counted : (t : TreeState) (dir : List ℕ) (stat : Stat) → stat_at t dir ≡ Some stat → stat.children ≡ length (rows_at t dir)
+rows-counted t dir stat is = count-by t.nodes dir (at_path t.nodes dir) stat refl is ∙ sym (length-map (children_of t.nodes dir) row_of)
+
+-- and there are none if there is no stat
+pub rows-none : (t : TreeState) (dir : List ℕ) → IsWhole t.nodes → stat_at t dir ≡ None → rows_at t dir ≡ []
+rows-none t dir whole is = rows-nothing t.nodes dir whole.stand (none-there t.nodes (at_path t.nodes dir) is)
+
+-- ## one of them
+
+get-map : {A B : Type 0} (f : A → B) (list : List A) (at : ℕ) → slice_get (map f list) at ≡ option_map f (slice_get list at)
+get-map f [] at = refl
+get-map f (a ∷ list) zero = refl
+get-map f (a ∷ list) (suc at) = get-map f list at
+
+name-row : (o : Option Node) → option_map (λ (n : Node). name_of n.path) o ≡ option_map (λ (row : Row). row.name) (option_map row_of o)
+name-row None = refl
+name-row (Some n) = refl
+
+-- the child at a place is the row there
+pub name-at : (t : TreeState) (dir : List ℕ) (at : ℕ) → child_name t dir at ≡ option_map (λ (row : Row). row.name) (slice_get (rows_at t dir) at)
+name-at t dir at = name-row (slice_get (children_of t.nodes dir) at) ∙ sym (ap (option_map (λ (row : Row). row.name)) (get-map row_of (children_of t.nodes dir) at))
+
+-- ## the deletes of all
+
+parts-step : (dir : List ℕ) (rows : List Row) (at : ℕ) (name : List ℕ) → Some name ≡ option_map (λ (row : Row). row.name) (slice_get rows at) → op.Delete (below dir name) Any ∷ delete_parts dir (drop (suc at) rows) ≡ delete_parts dir (drop at rows)
+parts-step dir [] at name is = absurd cc
+parts-step dir (row ∷ rows) zero name is =
+    let same : name ≡ row.name = cc in
+    ap (λ (n : List ℕ). op.Delete (below dir n) Any ∷ delete_parts dir rows) same
+parts-step dir (row ∷ rows) (suc at) name is = parts-step dir rows at name is
+
+-- the child at a place is deleted, and then those after it
+pub deletes-step : (items : List Op) (dir : List ℕ) (t : TreeState) (at : ℕ) (name : List ℕ) → Some name ≡ child_name t dir at →
+    (items ++ op.Delete (below dir name) Any ∷ []) ++ delete_parts dir (drop (suc at) (rows_at t dir)) ≡ items ++ delete_parts dir (drop at (rows_at t dir))
+deletes-step items dir t at name is =
+    append_assoc items (op.Delete (below dir name) Any ∷ []) (delete_parts dir (drop (suc at) (rows_at t dir)))
+    ∙ ap (λ (parts : List Op). items ++ parts) (parts-step dir (rows_at t dir) at name (is ∙ name-at t dir at))
+
+past : (rows : List Row) (at : ℕ) → None ≡ option_map (λ (row : Row). row.name) (slice_get rows at) → drop at rows ≡ []
+past [] zero is = refl
+past [] (suc at) is = refl
+past (row ∷ rows) zero is = absurd cc
+past (row ∷ rows) (suc at) is = past rows at is
+
+-- past the last child there are none
+pub rows-past : (t : TreeState) (dir : List ℕ) (at : ℕ) → None ≡ child_name t dir at → drop at (rows_at t dir) ≡ []
+rows-past t dir at is = past (rows_at t dir) at (is ∙ name-at t dir at)
+
+-- ## the first that is a session's
+
+-- the rows of a lock that are a session's
+abbrev pub is_waiting : SessionId → Row → Bool
+is_waiting session row = is_owner (tree_session session) row.owner
+
+-- one place more
+pub find-step : {X : Type 0} (p : X → Bool) (xs : List X) (i : ℕ) → find p (drop i xs) ≡ cond (option_map_or p (slice_get xs i) false) (slice_get xs i) (find p (drop (suc i) xs))
+find-step p [] zero = refl
+find-step p [] (suc i) = refl
+find-step p (x ∷ xs) zero = refl
+find-step p (x ∷ xs) (suc i) = find-step p xs i
+
+some-any : {X : Type 0} (f : X → List ℕ) (p : X → Bool) (x : X) (xs : List X) (b : Bool) → p x ≡ b → is_some (option_map f (find p xs)) ≡ list_any p xs → is_some (option_map f (find p (x ∷ xs))) ≡ list_any p (x ∷ xs)
+some-any f p x xs true is rest = cc
+some-any f p x xs false is rest = cc
+
+-- one is found if there is any
+pub found-any : {X : Type 0} (f : X → List ℕ) (p : X → Bool) (xs : List X) → is_some (option_map f (find p xs)) ≡ list_any p xs
+found-any f p [] = refl
+found-any f p (x ∷ xs) = some-any f p x xs (p x) refl (found-any f p xs)
+
+-- a mapped option is there if the option is
+pub mapped-some : {A B : Type 0} (f : A → B) (o : Option A) → is_some o ≡ is_some (option_map f o)
+mapped-some f None = refl
+mapped-some f (Some a) = refl

@@ -1,0 +1,20 @@
+use Rattle.std.proofs.Common.{◌++◌, List, ap, ◌∙◌}
+use Rattle.std.specs.List.{list_all}
+use Rattle.np_nodes.specs.Multi.{is_numbered}
+use Rattle.np_nodes.specs.declared.op.Op.{Op}
+use Rattle.np_enact.specs.Parts.{grown_parts, settled_parts}
+use Rattle.np_decode.specs.Decoded.{decoded}
+use Rattle.np_steps.proofs.NumberedParts.{parts-numbered}
+use Rattle.np_steps.proofs.call.parts.Goals as goal
+
+pub returns-clause-numbered : goal.returns-clause-numbered
+returns-clause-numbered c =
+    let configuration = c.args.config.now in
+    let changes = c.args.changes.now in
+    let t = c.args.tree.now in
+    let s = decoded configuration t in
+    let all =
+    c.in_ok-push_settled.ensures
+    ∙ ap (λ (parts : List Op). parts ++ settled_parts configuration changes s t)
+    (c.in_ok-push_growth.ensures ∙ ap (λ (parts : List Op). parts ++ grown_parts configuration changes.maker changes.grows s) c.new-ops.ensures.items) in
+    ap (list_all is_numbered) all ∙ parts-numbered configuration changes s t

@@ -1,0 +1,14 @@
+use Rattle.std.proofs.Common.{◌∙◌, ◌++◌, ◌∷◌, [], Bool, Option, cond, sym, ap}
+use Rattle.np_changes.specs.declared.changes.Maker.{Maker}
+use Rattle.np_places.specs.declared.place.Place.TheVariants.{NodeLock}
+use Rattle.np_layout.specs.Creates.{wait_at}
+use Rattle.np_enact.specs.Parts.{by_session, join_parts}
+use Rattle.np_steps.proofs.Growing.{node-waits, on-ok}
+use Rattle.np_steps.proofs.grow.push_node_wait.Goals as goal
+
+pub returns-in-Some : goal.returns-in-Some
+returns-in-Some c config s e stored there = on-ok c.push_join.result
+    (λ joined. joined
+    ∙ ap (λ (b : Bool). c.args.ops.now.items ++ cond b [] (wait_at (NodeLock c.args.node) ∷ [])) (node-waits config s c.args.tree.now stored c.in-Some.maker.session c.args.node e there)
+    ∙ sym (ap (λ (who : Option Maker). c.args.ops.now.items ++ by_session who (join_parts (NodeLock c.args.node) e.queue)) c.in-Some.is))
+    c.push_join.ensures

@@ -1,0 +1,16 @@
+use Rattle.std.proofs.Common.{◌∙◌, ap, List, ℕ}
+use Rattle.std.specs.Option.{is_some, option_map}
+use Rattle.std.specs.Prelude.{find}
+use Rattle.np_views.specs.Views.{Row, rows_at}
+use Rattle.np_layout.specs.Layout.{under}
+use Rattle.np_steps.proofs.ChildRows.{found-any, is_waiting, mapped-some}
+use Rattle.np_steps.proofs.ops.waits.Goals as goal
+
+pub returns : goal.returns
+returns c =
+    let t = c.args.tree.now in
+    let p = is_waiting c.args.session in
+    c.is_some.ensures
+    ∙ mapped-some _ c.wait_name.result
+    ∙ ap is_some (c.wait_name.ensures ∙ ap (λ (q : List ℕ). option_map (λ (row : Row). row.name) (find p (rows_at t q))) (c.text.ensures ∙ c.of-path.ensures))
+    ∙ found-any (λ (row : Row). row.name) p (under c.args.lock t)

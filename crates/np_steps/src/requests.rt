@@ -1,0 +1,158 @@
+//! The parts for what happens to the requests.
+
+ghost use Rattle.std.specs.Prelude.{◌≡◌, ◌++◌, ◌∷◌, [], None, OnOk};
+ghost use Rattle.std.specs.List.{AllByRecursion};
+ghost use Rattle.np_spelling.specs.Spelling.{IsRequest, request_record_text};
+ghost use Rattle.np_machine.specs.Tables.{request_in};
+ghost use Rattle.np_changes.specs.Changes.{edited, requests_changed};
+ghost use Rattle.np_changes.specs.declared.changes.RequestsChange.TheVariants as requests;
+ghost use Rattle.np_places.specs.declared.place.Place.TheVariants.{Request, RequestLock};
+ghost use Rattle.np_layout.specs.Deletes.{request_deletes};
+ghost use Rattle.np_layout.specs.Sets.{set};
+ghost use Rattle.np_decode.specs.Decoded.{decoded};
+ghost use Rattle.np_enact.specs.Carried.{IsStored};
+ghost use Rattle.np_enact.specs.Parts.{leave_parts, requests_parts, where_there};
+
+use crate::ops::{push_delete, push_deletes, push_leave, push_set};
+use np_changes::{Maker, RequestEdit, RequestsChange};
+use np_config::Config;
+use np_nodes::Op;
+use np_places::Place;
+use np_readers::request;
+use np_record::{Declined, NodeRow, RequestRecord};
+use np_text::{NoMemory, RequestId, RequestState, SessionId};
+use np_tree::Tree;
+use std::alloc::Global;
+
+/// Puts the parts for a change of the requests behind others. If memory runs out nothing is
+/// promised of them.
+pub(crate) fn push_requests(
+    alloc: Global,
+    ops: &mut Vec<Op>,
+    tree: &Tree,
+    config: &Config,
+    maker: Option<Maker>,
+    change: &RequestsChange,
+) -> Result<(), NoMemory>
+    requires stored { IsStored config.now (decoded config.now tree.now) tree.now }
+    requires spelled { AllByRecursion (λ e. IsRequest e.kept)
+        (requests_changed maker change.now (decoded config.now tree.now).requests) }
+    ensures { OnOk result (ops.new.items ≡ ops.old.items
+        ++ requests_parts maker change.now (decoded config.now tree.now).requests tree.now) }
+{
+    match *change {
+        RequestsChange::Same => Ok(()),
+        RequestsChange::Edit { request, edit } => {
+            push_edit(alloc, ops, tree, config, request, edit)
+        }
+        RequestsChange::Remove { request } => push_removal(alloc, ops, tree, config, request),
+        RequestsChange::Leave { request } => match maker {
+            Some(maker) => push_leaving(alloc, ops, tree, config, maker.session, request),
+            None => Ok(()),
+        },
+    }
+}
+
+/// A set of the request's record, edited, if the request is there.
+fn push_edit(
+    alloc: Global,
+    ops: &mut Vec<Op>,
+    tree: &Tree,
+    config: &Config,
+    id: RequestId,
+    edit: RequestEdit,
+) -> Result<(), NoMemory>
+    requires stored { IsStored config.now (decoded config.now tree.now) tree.now }
+    requires spelled { AllByRecursion (λ e. IsRequest e.kept) (requests_changed None
+        (requests.Edit id edit) (decoded config.now tree.now).requests) }
+    ensures { OnOk result (ops.new.items ≡ ops.old.items
+        ++ where_there (request_in id (decoded config.now tree.now).requests)
+        (λ kept. set (request_record_text (edited edit kept)) (Request id) ∷ [])) }
+{
+    let Some(kept) = request(tree, id) else {
+        return Ok(());
+    };
+    let later = edited(edit, kept);
+    push_set(alloc, ops, Place::Request(id), &later)
+}
+
+/// The deletes of the request's waits, of its lock and of its record, if the request is there.
+fn push_removal(
+    alloc: Global,
+    ops: &mut Vec<Op>,
+    tree: &Tree,
+    config: &Config,
+    id: RequestId,
+) -> Result<(), NoMemory>
+    requires stored { IsStored config.now (decoded config.now tree.now) tree.now }
+    ensures { OnOk result (ops.new.items ≡ ops.old.items
+        ++ where_there (request_in id (decoded config.now tree.now).requests)
+        (λ kept. request_deletes id tree.now)) }
+{
+    let Some(_) = request(tree, id) else {
+        return Ok(());
+    };
+    push_deletes(alloc, ops, tree, Place::RequestLock(id))?;
+    push_delete(alloc, ops, Place::RequestLock(id))?;
+    push_delete(alloc, ops, Place::Request(id))
+}
+
+/// The delete of the session's wait for the request, if the request is there.
+fn push_leaving(
+    alloc: Global,
+    ops: &mut Vec<Op>,
+    tree: &Tree,
+    config: &Config,
+    session: SessionId,
+    id: RequestId,
+) -> Result<(), NoMemory>
+    requires stored { IsStored config.now (decoded config.now tree.now) tree.now }
+    ensures { OnOk result (ops.new.items ≡ ops.old.items
+        ++ where_there (request_in id (decoded config.now tree.now).requests)
+        (λ kept. leave_parts (RequestLock id) tree.now session)) }
+{
+    let Some(_) = request(tree, id) else {
+        return Ok(());
+    };
+    push_leave(alloc, ops, tree, Place::RequestLock(id), session)
+}
+
+/// The record, edited. What is edited can be spelled, so its rows have room.
+fn edited(edit: RequestEdit, kept: RequestRecord) -> RequestRecord
+    requires { IsRequest (edited edit kept) }
+    ensures { result ≡ edited edit kept }
+{
+    let mut later = kept;
+    match edit {
+        RequestEdit::Serve { pool } => {
+            later.pool = Some(pool);
+            later.state = RequestState::Pending;
+        }
+        RequestEdit::AddNode { node } => {
+            let _room = later.nodes.push(node);
+        }
+        RequestEdit::Decline {
+            pool,
+            reason,
+            failed,
+        } => {
+            let _room = later.declined.push(Declined { pool, reason });
+            later.nodes = NodeRow::new();
+            later.pool = None;
+            later.state = if failed {
+                RequestState::Failed
+            } else {
+                RequestState::Requested
+            };
+        }
+        RequestEdit::Fulfil => later.state = RequestState::Fulfilled,
+        RequestEdit::GiveBack => {
+            later.nodes = NodeRow::new();
+            later.pool = None;
+            later.state = RequestState::Requested;
+        }
+        RequestEdit::Fail => later.state = RequestState::Failed,
+        RequestEdit::Revise { relative } => later.relative_priority = relative,
+    }
+    later
+}
