@@ -54,7 +54,7 @@ slice_set-absent (y ∷ xs) zero x none = absurd cc
 slice_set-absent (y ∷ xs) (suc i) x none = ap (λ (ys : List _). y ∷ ys) (slice_set-absent xs i x none)
 
 -- what is there is what was put there
-slice_get-set : {X : Type 0} (xs : List X) (i : ℕ) (x old : X) → slice_get xs i ≡ Some old → slice_get (slice_set xs i x) i ≡ Some x
+pub slice_get-set : {X : Type 0} (xs : List X) (i : ℕ) (x old : X) → slice_get xs i ≡ Some old → slice_get (slice_set xs i x) i ≡ Some x
 slice_get-set [] i x old there = absurd cc
 slice_get-set (y ∷ xs) zero x old there = refl
 slice_get-set (y ∷ xs) (suc i) x old there = slice_get-set xs i x old there

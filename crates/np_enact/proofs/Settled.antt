@@ -81,7 +81,7 @@ gains-by c s ch p r request l n (inr made) = ap leaves_requests made.grows
 gains-leave : (c : Configuration) (s : State) (ch : Changes) (r : RequestId) (n : NodeId) → Gains c s ch r n → leaves_requests ch.grows ≡ true
 gains-leave c s ch r n gains = gains-by c s ch gains.pool r gains.request gains.label n gains.from
 
-edit-leaves : (c : Configuration) (s : State) (ch : Changes) (r : RequestId) (change : RequestEdit) → EditPremise c s ch r change → leaves_requests ch.grows ≡ true
+pub edit-leaves : (c : Configuration) (s : State) (ch : Changes) (r : RequestId) (change : RequestEdit) → EditPremise c s ch r change → leaves_requests ch.grows ≡ true
 edit-leaves c s ch r (edit.Serve p) premise = ap leaves_requests premise.same_size
 edit-leaves c s ch r (edit.AddNode n) premise = gains-leave c s ch r n premise.0
 edit-leaves c s ch r (edit.Decline p why failed) premise = ap leaves_requests premise.same_size
@@ -91,13 +91,13 @@ edit-leaves c s ch r edit.Fail premise = ap leaves_requests premise.same_size
 edit-leaves c s ch r (edit.Revise relative) premise = ap leaves_requests premise.same_size
 
 -- nothing grows when a request is removed
-removal-grows : (c : Configuration) (s : State) (ch : Changes) (r : RequestId) → RequestsPremise c s ch (requests.Remove r) → ch.grows ≡ grow.Nothing
+pub removal-grows : (c : Configuration) (s : State) (ch : Changes) (r : RequestId) → RequestsPremise c s ch (requests.Remove r) → ch.grows ≡ grow.Nothing
 removal-grows c s ch r (inl fulfilled) = fulfilled.fulfils.same_size
 removal-grows c s ch r (inr (inl takes)) = takes.same_size
 removal-grows c s ch r (inr (inr withdrawn)) = withdrawn.withdraws.same_size
 
 -- nothing grows when a request's nodes are freed
-freeing-grows : (c : Configuration) (s : State) (ch : Changes) (r : RequestId) (change : RequestsChange) → RequestsPremise c s ch change → EmptiesRequest r change → ch.grows ≡ grow.Nothing
+pub freeing-grows : (c : Configuration) (s : State) (ch : Changes) (r : RequestId) (change : RequestsChange) → RequestsPremise c s ch change → EmptiesRequest r change → ch.grows ≡ grow.Nothing
 freeing-grows c s ch r change premise (inl removes) = removal-grows c s ch r (subst (RequestsPremise c s ch) removes premise)
 freeing-grows c s ch r change premise (inr (inl gives)) =
     let may = subst (RequestsPremise c s ch) gives premise in
@@ -363,7 +363,7 @@ module _ (laws : TablesEnact) (c : Configuration) (ch : Changes) (s g : State) (
 
 -- ## read from the state before what grows
 
-same-jobs : (c : Configuration) (maker : Option Maker) (growth : Growth) (s : State) → (grown c maker growth s).jobs ≡ s.jobs
+pub same-jobs : (c : Configuration) (maker : Option Maker) (growth : Growth) (s : State) → (grown c maker growth s).jobs ≡ s.jobs
 same-jobs c maker grow.Nothing s = refl
 same-jobs c maker (grow.Session role) s = refl
 same-jobs c None (grow.Registration p) s = refl
@@ -391,7 +391,7 @@ same-tick c maker (grow.Handles j) s = refl
 same-tick c maker (grow.Swept n x) s = refl
 
 -- the records of roles stay
-same-roles : (c : Configuration) (maker : Option Maker) (growth : Growth) (s : State) → ((grown c maker growth s).launchers ≡ s.launchers) × (((grown c maker growth s).janitors ≡ s.janitors) × ((grown c maker growth s).requesters ≡ s.requesters))
+pub same-roles : (c : Configuration) (maker : Option Maker) (growth : Growth) (s : State) → ((grown c maker growth s).launchers ≡ s.launchers) × (((grown c maker growth s).janitors ≡ s.janitors) × ((grown c maker growth s).requesters ≡ s.requesters))
 same-roles c maker grow.Nothing s = (refl, (refl, refl))
 same-roles c maker (grow.Session role) s = (refl, (refl, refl))
 same-roles c None (grow.Registration p) s = (refl, (refl, refl))

@@ -74,7 +74,8 @@ pub live-after : (t : TreeState) (w : ℕ) (parts : List Op) → (after_parts t 
 live-after t w [] = refl
 live-after t w (part ∷ parts) = live-after (after_part t w part) w parts ∙ ap (λ (u : TreeState). u.live) (parts-change_nodes_alone t w part)
 
-room-after : (t : TreeState) (w : ℕ) (parts : List Op) (more : ℕ) → HasRoomFor (length parts + more) t → HasRoomFor more (after_parts t w parts)
+-- each part takes the room of one
+pub room-after : (t : TreeState) (w : ℕ) (parts : List Op) (more : ℕ) → HasRoomFor (length parts + more) t → HasRoomFor more (after_parts t w parts)
 room-after t w [] more room = subst (λ (k : ℕ). HasRoomFor k t) (omega arith) room
 room-after t w (part ∷ parts) more room =
     room-after (after_part t w part) w parts more (room-falls t w part (length parts + more) (subst (λ (k : ℕ). HasRoomFor k t) (omega arith) room))
@@ -91,7 +92,7 @@ stands-after later t w parts more whole live good proper lays room = record {
   };
 }
 
--- each part takes the room of one
+-- so parts of a law of the layout are enacted
 pub enacts-parts : (s later : State) (t : TreeState) (w : ℕ) (parts : List Op) (more : ℕ) → Stands s t w (length parts + more) → HasGoodIds later → AllByRecursion IsPart parts → PartsLayOut later t w parts → Enacts t w parts later more
 enacts-parts s later t w parts more stands good proper lays =
     stands-after later t w parts more stands.whole stands.live good proper lays (room-after t w parts more stands.room)

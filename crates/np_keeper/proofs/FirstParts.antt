@@ -24,6 +24,7 @@ use Rattle.np_machine.specs.State.{State, new_job, no_deeds, start}
 use Rattle.np_spelling.specs.Spelling.{job_text, role_text}
 use Rattle.np_layout.specs.First.{first_directories, first_parts, first_tree, make, make_each}
 use Rattle.np_layout.proofs.FirstTrees.{first-goes, first-lays}
+use Rattle.np_enact.proofs.StandsLemmas.{room-after}
 use Rattle.np_enact.specs.Carried.{IsStored}
 use Rattle.np_enact.proofs.Calls.{changes-after}
 use Rattle.np_enact.proofs.StandsLemmas.{room-less}
@@ -133,11 +134,6 @@ first-few c sound =
     omega arith
 
 -- ## the tree
-
-room-after : (t : TreeState) (w : ℕ) (parts : List Op) (more : ℕ) → HasRoomFor (length parts + more) t → HasRoomFor more (after_parts t w parts)
-room-after t w [] more room = subst (λ (k : ℕ). HasRoomFor k t) (omega arith) room
-room-after t w (part ∷ parts) more room =
-    room-after (after_part t w part) w parts more (room-falls t w part (length parts + more) (subst (λ (k : ℕ). HasRoomFor k t) (omega arith) room))
 
 room-begun : (more : ℕ) → more ≤ 2_147_483_648 → HasRoomFor more (after_begin new_tree)
 room-begun more few = record {

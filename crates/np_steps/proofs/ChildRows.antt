@@ -1,61 +1,18 @@
 -- the children of a node, as a tree's readers answer them
-use Rattle.std.proofs.Common.{◌≡◌, ℕ, zero, suc, Bool, true, false, cond, List, [], ◌∷◌, ◌++◌, drop, length, map, Option, Some, None, refl, sym, ap, ◌∙◌}
+use Rattle.std.proofs.Common.{◌≡◌, ℕ, zero, suc, Bool, true, false, cond, List, [], ◌∷◌, ◌++◌, drop, Option, Some, None, refl, ap, ◌∙◌}
 use Rattle.std.specs.Prelude.{find, slice_get}
 use Rattle.std.specs.List.{list_any}
 use Rattle.std.specs.Option.{is_some, option_map, option_map_or}
-use Rattle.std.proofs.lemmas.List.{append_assoc, length-map}
-use Rattle.np_lists.proofs.FoundLemmas.{find-passes}
-use Rattle.np_text.specs.declared.id.SessionId.{SessionId}
-use Rattle.np_path.specs.Parts.{below, name_of}
+use Rattle.std.proofs.lemmas.List.{append_assoc}
+use Rattle.np_path.specs.Parts.{below}
 use Rattle.np_nodes.specs.TreeState.{TreeState}
-use Rattle.np_nodes.specs.Nodes.{at_path, children_of, is_at, is_owner, stat_of}
 use Rattle.np_nodes.specs.declared.kind.Expect.TheVariants.{Any}
-use Rattle.np_nodes.specs.declared.kind.Stat.{Stat}
-use Rattle.np_nodes.specs.declared.node.Node.{Node}
 use Rattle.np_nodes.specs.declared.op.Op.{Op}
 use Rattle.np_nodes.specs.declared.op.Op.TheVariants as op
-use Rattle.np_nodes.proofs.PlaceLemmas.{bytes_eq-is}
-use Rattle.np_tree.specs.Read.{child_name, stat_at}
-use Rattle.np_tree.specs.Whole.{IsWhole}
+use Rattle.np_tree.specs.Read.{child_name}
 use Rattle.np_views.specs.Several.{delete_parts}
-use Rattle.np_views.specs.Views.{Row, row_of, rows_at}
-use Rattle.np_views.proofs.RelationLemmas.{rows-nothing}
-use Rattle.np_layout.specs.Rows.{tree_session}
-
--- ## how many there are
-
-none-there : (nodes : List Node) (o : Option Node) → option_map (stat_of nodes) o ≡ None → o ≡ None
-none-there nodes None is = refl
-none-there nodes (Some n) is = absurd cc
-
-count-by : (nodes : List Node) (dir : List ℕ) (o : Option Node) (stat : Stat) → at_path nodes dir ≡ o → option_map (stat_of nodes) o ≡ Some stat → stat.children ≡ length (children_of nodes dir)
-count-by nodes dir None stat there is = absurd cc
-count-by nodes dir (Some n) stat there is =
-    let same : stat ≡ stat_of nodes n = cc in
-    ap (λ (s : Stat). s.children) same ∙ ap (λ (p : List ℕ). length (children_of nodes p)) (bytes_eq-is n.path dir (find-passes (is_at dir) nodes n there))
-
--- a stat counts the rows below its path
-pub rows-counted : (t : TreeState) (dir : List ℕ) (stat : Stat) → stat_at t dir ≡ Some stat → stat.children ≡ length (rows_at t dir)
-rows-counted t dir stat is = count-by t.nodes dir (at_path t.nodes dir) stat refl is ∙ sym (length-map (children_of t.nodes dir) row_of)
-
--- and there are none if there is no stat
-pub rows-none : (t : TreeState) (dir : List ℕ) → IsWhole t.nodes → stat_at t dir ≡ None → rows_at t dir ≡ []
-rows-none t dir whole is = rows-nothing t.nodes dir whole.stand (none-there t.nodes (at_path t.nodes dir) is)
-
--- ## one of them
-
-get-map : {A B : Type 0} (f : A → B) (list : List A) (at : ℕ) → slice_get (map f list) at ≡ option_map f (slice_get list at)
-get-map f [] at = refl
-get-map f (a ∷ list) zero = refl
-get-map f (a ∷ list) (suc at) = get-map f list at
-
-name-row : (o : Option Node) → option_map (λ (n : Node). name_of n.path) o ≡ option_map (λ (row : Row). row.name) (option_map row_of o)
-name-row None = refl
-name-row (Some n) = refl
-
--- the child at a place is the row there
-pub name-at : (t : TreeState) (dir : List ℕ) (at : ℕ) → child_name t dir at ≡ option_map (λ (row : Row). row.name) (slice_get (rows_at t dir) at)
-name-at t dir at = name-row (slice_get (children_of t.nodes dir) at) ∙ sym (ap (option_map (λ (row : Row). row.name)) (get-map row_of (children_of t.nodes dir) at))
+use Rattle.np_views.specs.Views.{Row, rows_at}
+use Rattle.np_readers.proofs.Shown.{name-at}
 
 -- ## the deletes of all
 
@@ -84,10 +41,6 @@ pub rows-past : (t : TreeState) (dir : List ℕ) (at : ℕ) → None ≡ child_n
 rows-past t dir at is = past (rows_at t dir) at (is ∙ name-at t dir at)
 
 -- ## the first that is a session's
-
--- the rows of a lock that are a session's
-abbrev pub is_waiting : SessionId → Row → Bool
-is_waiting session row = is_owner (tree_session session) row.owner
 
 -- one place more
 pub find-step : {X : Type 0} (p : X → Bool) (xs : List X) (i : ℕ) → find p (drop i xs) ≡ cond (option_map_or p (slice_get xs i) false) (slice_get xs i) (find p (drop (suc i) xs))

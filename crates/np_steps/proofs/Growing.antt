@@ -1,7 +1,7 @@
 -- what a stored state says of what grows
-use Rattle.std.proofs.Common.{◌≡◌, ◌≢◌, ℕ, zero, suc, ◌+◌, Bool, true, false, ◌||◌, cond, List, [], ◌∷◌, ◌++◌, length, Option, Some, None, Result, Ok, Err, refl, sym, ap, ◌∙◌, subst, arith}
+use Rattle.std.proofs.Common.{◌≡◌, ◌≢◌, ℕ, zero, suc, Bool, true, false, ◌||◌, cond, List, [], ◌∷◌, ◌++◌, length, Option, Some, None, Result, Ok, Err, refl, sym, ap, ◌∙◌, subst, arith}
 use Rattle.std.specs.Prelude.{◌==◌, OnOk, filter, map, not, slice_get, unwrap_or}
-use Rattle.std.specs.List.{AllZip, list_any}
+use Rattle.std.specs.List.{list_any}
 use Rattle.std.specs.Option.{option_map}
 use Rattle.std.proofs.lemmas.Bool.Decides.{nat_tests}
 use Rattle.std.proofs.lemmas.List.{append_assoc, append-nil}
@@ -22,7 +22,6 @@ use Rattle.np_path.specs.Parts.{below}
 use Rattle.np_nodes.specs.declared.kind.Mode.TheVariants.{PersistentSequential}
 use Rattle.np_nodes.specs.declared.op.Op.{Op}
 use Rattle.np_nodes.specs.declared.op.Op.TheVariants as op
-use Rattle.np_views.specs.Views.{Row}
 use Rattle.np_site.specs.Configuration.{Configuration}
 use Rattle.np_site.specs.Sound.{IsJob, IsSound, IsTaken, StandsByOwner}
 use Rattle.np_site.specs.declared.row.Job.{Job}
@@ -32,35 +31,18 @@ use Rattle.np_machine.specs.Entries.{NodeEntry, RequestEntry}
 use Rattle.np_machine.specs.Node.{allocated}
 use Rattle.np_machine.specs.Semaphore.{with_handle}
 use Rattle.np_machine.specs.State.{State}
-use Rattle.np_machine.specs.Tables.{has_handle, is_among, is_queued, is_session, node_entry, node_in, request_entry, same_request}
+use Rattle.np_machine.specs.Tables.{has_handle, is_among, is_queued, node_entry, node_in, request_entry, same_request}
 use Rattle.np_changes.specs.declared.changes.Maker.{Maker}
 use Rattle.np_places.specs.Place.{IsGood, path_of}
 use Rattle.np_places.specs.declared.place.Place.TheVariants.{Handle, Node, NodeLock, Request, RequestLock, Requests}
 use Rattle.np_layout.specs.Creates.{request_parts, request_prefix}
 use Rattle.np_layout.specs.First.{make}
-use Rattle.np_layout.specs.Layout.{HasNodeLock, IsQueue, IsWait, under}
+use Rattle.np_layout.specs.Layout.{HasNodeLock, IsQueue, under}
 use Rattle.np_layout.specs.Sets.{set}
 use Rattle.np_layout.proofs.SetRequests.{same-is}
 use Rattle.np_enact.specs.Carried.{IsStored}
 use Rattle.np_enact.specs.Parts.{acquire_parts, allocate_parts, by_session, join_parts, where_there}
-use Rattle.np_steps.proofs.ChildRows.{is_waiting}
-
--- ## whether a session waits
-
-same-number : (m n : ℕ) → (m + 1 == n + 1) ≡ (m == n)
-same-number m n = grind (arith, nat_tests)
-
-wait-owner : (next : ℕ) (session : SessionId) (row : Row) (other : SessionId) → IsWait next row other → is_waiting session row ≡ is_session other session
-wait-owner next session row other wait = ap (is_waiting session) wait.is ∙ same-number other.0 session.0
-
--- a session waits at a lock if it is in its queue
-pub lock-any : (next : ℕ) (session : SessionId) (rows : List Row) (queue : List SessionId) → AllZip (IsWait next) rows queue → list_any (is_waiting session) rows ≡ is_queued session queue
-lock-any next session [] [] zip = refl
-lock-any next session [] (other ∷ queue) zip = absurd zip
-lock-any next session (row ∷ rows) [] zip = absurd zip
-lock-any next session (row ∷ rows) (other ∷ queue) zip =
-    ap (λ (b : Bool). b || list_any (is_waiting session) rows) (wait-owner next session row other zip.0)
-    ∙ ap (λ (b : Bool). is_session other session || b) (lock-any next session rows queue zip.1)
+use Rattle.np_readers.proofs.QueueRows.{is_waiting, lock-any}
 
 -- ## requests and nodes that are there
 

@@ -1,96 +1,27 @@
 -- what the parts for each table need follows from what the changes of an event need
-use Rattle.std.proofs.Common.{◌≡◌, List, ◌⊎◌, inl, inr, true, refl, ap, subst, Option, Some, None}
+use Rattle.std.proofs.Common.{◌≡◌, List, refl, ap, subst}
 use Rattle.std.specs.List.{AllByRecursion}
-use Rattle.np_text.specs.declared.id.LabelId.{LabelId}
-use Rattle.np_text.specs.declared.id.NodeId.{NodeId}
-use Rattle.np_text.specs.declared.id.PoolId.{PoolId}
-use Rattle.np_text.specs.declared.id.RequestId.{RequestId}
 use Rattle.np_site.specs.Configuration.{Configuration}
 use Rattle.np_record.specs.declared.record.JobRecord.{JobRecord}
-use Rattle.np_record.specs.declared.record.RequestRecord.{RequestRecord}
 use Rattle.np_record.specs.declared.record.RoleRecord.{RoleRecord}
 use Rattle.np_spelling.specs.Spelling.{IsJob, IsNode, IsRequest, IsRole}
 use Rattle.np_machine.specs.Entries.{NodeEntry, RequestEntry}
 use Rattle.np_machine.specs.State.{State}
 use Rattle.np_machine.specs.Tables.{change_janitor, change_launcher, change_requester}
 use Rattle.np_changes.specs.Changes.{grown, jobs_changed, nodes_changed, nodes_left, requests_changed, requests_left, with_deed}
-use Rattle.np_changes.specs.Premises.{EditPremise, EmptiesRequest, Gains, IsMade, IsTaken, NodesPremise, RequestsPremise}
+use Rattle.np_changes.specs.Premises.{NodesPremise, RequestsPremise}
 use Rattle.np_changes.specs.declared.changes.Changes.{Changes}
 use Rattle.np_changes.specs.declared.changes.Growth.{Growth}
 use Rattle.np_changes.specs.declared.changes.Growth.TheVariants as grow
-use Rattle.np_changes.specs.declared.changes.Maker.{Maker}
 use Rattle.np_changes.specs.declared.changes.NodesChange.{NodesChange}
 use Rattle.np_changes.specs.declared.changes.NodesChange.TheVariants as nodes
-use Rattle.np_changes.specs.declared.changes.RequestEdit.{RequestEdit}
-use Rattle.np_changes.specs.declared.changes.RequestEdit.TheVariants as edit
 use Rattle.np_changes.specs.declared.changes.RequestsChange.{RequestsChange}
 use Rattle.np_changes.specs.declared.changes.RequestsChange.TheVariants as requests
 use Rattle.np_changes.specs.declared.changes.SessionsChange.{SessionsChange}
 use Rattle.np_changes.specs.declared.changes.SessionsChange.TheVariants as sessions
 use Rattle.np_enact.specs.Events.{IsReady, in_call}
 use Rattle.np_enact.specs.Ways.{HasSpellings, with_deeds}
-use Rattle.np_enact.proofs.Settled.{leaves_requests, same-requests}
-
--- ## what grows beside a change of requests or nodes
-
-gains-by : (c : Configuration) (s : State) (ch : Changes) (p : PoolId) (r : RequestId) (request : RequestRecord) (l : LabelId) (n : NodeId) → IsTaken c s ch p r request l n ⊎ IsMade c s ch p r request l n → leaves_requests ch.grows ≡ true
-gains-by c s ch p r request l n (inl taken) = ap leaves_requests taken.grows
-gains-by c s ch p r request l n (inr made) = ap leaves_requests made.grows
-
-gains-leave : (c : Configuration) (s : State) (ch : Changes) (r : RequestId) (n : NodeId) → Gains c s ch r n → leaves_requests ch.grows ≡ true
-gains-leave c s ch r n gains = gains-by c s ch gains.pool r gains.request gains.label n gains.from
-
-edit-leaves : (c : Configuration) (s : State) (ch : Changes) (r : RequestId) (change : RequestEdit) → EditPremise c s ch r change → leaves_requests ch.grows ≡ true
-edit-leaves c s ch r (edit.Serve p) premise = ap leaves_requests premise.same_size
-edit-leaves c s ch r (edit.AddNode n) premise = gains-leave c s ch r n premise.0
-edit-leaves c s ch r (edit.Decline p why failed) premise = ap leaves_requests premise.same_size
-edit-leaves c s ch r edit.Fulfil premise = ap leaves_requests premise.0.same_size
-edit-leaves c s ch r edit.GiveBack premise = ap leaves_requests premise.same_size
-edit-leaves c s ch r edit.Fail premise = ap leaves_requests premise.same_size
-edit-leaves c s ch r (edit.Revise relative) premise = ap leaves_requests premise.same_size
-
--- nothing grows when a request is removed
-removal-grows : (c : Configuration) (s : State) (ch : Changes) (r : RequestId) → RequestsPremise c s ch (requests.Remove r) → ch.grows ≡ grow.Nothing
-removal-grows c s ch r (inl fulfilled) = fulfilled.fulfils.same_size
-removal-grows c s ch r (inr (inl takes)) = takes.same_size
-removal-grows c s ch r (inr (inr withdrawn)) = withdrawn.withdraws.same_size
-
--- nothing grows when a request's nodes are freed
-freeing-grows : (c : Configuration) (s : State) (ch : Changes) (r : RequestId) (change : RequestsChange) → RequestsPremise c s ch change → EmptiesRequest r change → ch.grows ≡ grow.Nothing
-freeing-grows c s ch r change premise (inl removes) = removal-grows c s ch r (subst (RequestsPremise c s ch) removes premise)
-freeing-grows c s ch r change premise (inr (inl gives)) =
-    let may = subst (RequestsPremise c s ch) gives premise in
-    may.same_size
-freeing-grows c s ch r change premise (inr (inr declines)) =
-    let may = subst (RequestsPremise c s ch) declines.3 premise in
-    may.same_size
-
-same-jobs : (c : Configuration) (maker : Option Maker) (growth : Growth) (s : State) → (grown c maker growth s).jobs ≡ s.jobs
-same-jobs c maker grow.Nothing s = refl
-same-jobs c maker (grow.Session role) s = refl
-same-jobs c None (grow.Registration p) s = refl
-same-jobs c (Some maker) (grow.Registration p) s = refl
-same-jobs c maker (grow.Request priority asked) s = refl
-same-jobs c maker (grow.Node kept) s = refl
-same-jobs c maker (grow.JoinRequest r) s = refl
-same-jobs c maker (grow.JoinNode n) s = refl
-same-jobs c maker (grow.Allocate n r tenant) s = refl
-same-jobs c maker (grow.Handles j) s = refl
-same-jobs c maker (grow.Swept n x) s = refl
-
--- the records of roles stay
-same-roles : (c : Configuration) (maker : Option Maker) (growth : Growth) (s : State) → ((grown c maker growth s).launchers ≡ s.launchers) × (((grown c maker growth s).janitors ≡ s.janitors) × ((grown c maker growth s).requesters ≡ s.requesters))
-same-roles c maker grow.Nothing s = (refl, (refl, refl))
-same-roles c maker (grow.Session role) s = (refl, (refl, refl))
-same-roles c None (grow.Registration p) s = (refl, (refl, refl))
-same-roles c (Some maker) (grow.Registration p) s = (refl, (refl, refl))
-same-roles c maker (grow.Request priority asked) s = (refl, (refl, refl))
-same-roles c maker (grow.Node kept) s = (refl, (refl, refl))
-same-roles c maker (grow.JoinRequest r) s = (refl, (refl, refl))
-same-roles c maker (grow.JoinNode n) s = (refl, (refl, refl))
-same-roles c maker (grow.Allocate n r tenant) s = (refl, (refl, refl))
-same-roles c maker (grow.Handles j) s = (refl, (refl, refl))
-same-roles c maker (grow.Swept n x) s = (refl, (refl, refl))
+use Rattle.np_enact.proofs.Settled.{edit-leaves, freeing-grows, removal-grows, same-jobs, same-requests, same-roles}
 
 -- no session ends in the call, so no queue is left
 requests-stay : (change : SessionsChange) (rows : List RequestEntry) → requests_left (in_call change) rows ≡ rows

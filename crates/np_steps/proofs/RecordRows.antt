@@ -37,6 +37,7 @@ use Rattle.np_places.specs.Roles.{place_of_role}
 use Rattle.np_places.specs.declared.place.Place.TheVariants.{Handle}
 use Rattle.np_layout.specs.Deletes.{delete}
 use Rattle.np_layout.specs.Sets.{set}
+use Rattle.np_enact.proofs.RecordParts.{slice_get-set}
 use Rattle.np_enact.specs.Parts.{release_parts, role_parts, where_there}
 use Rattle.np_enact.specs.Ways.{HasSpellings, with_deeds}
 use Rattle.np_readers.proofs.Stored.{kept_of}
@@ -51,11 +52,6 @@ there-parts f r later items o a is parts = subst (λ (x : Option _). OnOk r (lat
 -- there are none for what is not
 pub none-parts : {A : Type 0} (f : A → List Op) (items : List Op) (o : Option A) → None ≡ o → items ≡ items ++ where_there o f
 none-parts f items o is = subst (λ (x : Option _). items ≡ items ++ where_there x f) is (sym (append-nil items))
-
-slice_get-set : {X : Type 0} (xs : List X) (i : ℕ) (x old : X) → slice_get xs i ≡ Some old → slice_get (slice_set xs i x) i ≡ Some x
-slice_get-set [] i x old there = absurd cc
-slice_get-set (y ∷ xs) zero x old there = refl
-slice_get-set (y ∷ xs) (suc i) x old there = slice_get-set xs i x old there
 
 -- what was put is among those of which something is true
 pub put-sound : {X : Type 0} (P : X → Type 0) (xs : List X) (i : ℕ) (x old : X) → Some old ≡ slice_get xs i → AllByRecursion P (slice_set xs i x) → P x

@@ -1,5 +1,5 @@
 use Rattle.std.proofs.Common.{length, sym, ap}
-use Rattle.np_steps.proofs.ChildRows.{rows-counted, rows-none}
+use Rattle.np_readers.proofs.Shown.{rows-counted, rows-none}
 use Rattle.np_steps.proofs.ops.children.Goals as goal
 
 pub returns-in-Some : goal.returns-in-Some

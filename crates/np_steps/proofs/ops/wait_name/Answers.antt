@@ -2,7 +2,9 @@ use Rattle.std.proofs.Common.{◌≡◌, ◌∙◌, sym, ap, Bool, true, false, 
 use Rattle.std.specs.Prelude.{find, slice_get}
 use Rattle.std.specs.Option.{option_map, option_map_or}
 use Rattle.np_views.specs.Views.{Row, rows_at}
-use Rattle.np_steps.proofs.ChildRows.{find-step, is_waiting, name-at}
+use Rattle.np_readers.proofs.QueueRows.{is_waiting}
+use Rattle.np_readers.proofs.Shown.{name-at}
+use Rattle.np_steps.proofs.ChildRows.{find-step}
 use Rattle.np_steps.proofs.ops.wait_name.Goals as goal
 
 pub returns-then-waits_at : goal.returns-then-waits_at
