@@ -35,7 +35,7 @@ const ROLES: [Role; 6] = [
 const ROUNDS: u32 = 300;
 
 // A name and the configuration.
-const SITES: [(&str, &str); 5] = [
+const SITES: [(&str, &str); 8] = [
     (
         "a served job",
         r#"{"labels":[{"name":"small"}],"providers":[{"name":"cloud","pools":[{"name":"main","max-servers":2,"labels":[{"name":"small"}]}]}],"requesters":[{"name":"check","jobs":[{"name":"unit","labels":["small"]}]}]}"#,
@@ -55,6 +55,18 @@ const SITES: [(&str, &str); 5] = [
     (
         "no pool can give two machines",
         r#"{"labels":[{"name":"arm"},{"name":"intel"}],"providers":[{"name":"east","pools":[{"name":"main","labels":[{"name":"intel"}]}]},{"name":"west","pools":[{"name":"main","max-servers":1,"labels":[{"name":"arm"}]}]}],"requesters":[{"name":"check","jobs":[{"name":"pair","labels":["arm","arm"]}]}]}"#,
+    ),
+    (
+        "three failed starts are one node's attempts",
+        r#"{"labels":[{"name":"small"}],"providers":[{"name":"cloud","pools":[{"name":"main","labels":[{"name":"small"}],"fail-starts":[1,2,3,5]}]}],"requesters":[{"name":"check","window":1,"jobs":[{"name":"first","labels":["small"]},{"name":"second","labels":["small"]},{"name":"third","labels":["small"]}]}]}"#,
+    ),
+    (
+        "a node is held",
+        r#"{"labels":[{"name":"small"}],"providers":[{"name":"cloud","pools":[{"name":"main","labels":[{"name":"small"}]}]}],"requesters":[{"name":"check","jobs":[{"name":"unit","labels":["small"],"end":"hold"}]}]}"#,
+    ),
+    (
+        "a requester stops for good while it uses its node",
+        r#"{"labels":[{"name":"small"}],"providers":[{"name":"cloud","pools":[{"name":"main","labels":[{"name":"small"}]}]}],"requesters":[{"name":"check","jobs":[{"name":"unit","labels":["small"]}]}],"faults":[{"role":"requester","name":"check","kind":"stop","after":3}]}"#,
     ),
 ];
 
