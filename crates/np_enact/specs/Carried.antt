@@ -1,9 +1,10 @@
 -- what a tree needs of a state so that it can carry it: the state can be read from its tree
-use Rattle.std.specs.Prelude.{◌≡◌, ◌<◌, ◌^◌, ℕ, Bool, ◌==◌, if◌then◌else◌, nat_lt, List, length}
+use Rattle.std.specs.Prelude.{◌≡◌, ◌<◌, ◌^◌, ℕ, Bool, nat_lt, List, length}
 use Rattle.std.specs.List.{AllByRecursion}
 use Rattle.np_text.specs.declared.id.JobId.{JobId}
 use Rattle.np_lists.specs.Rising.{Rises}
 use Rattle.np_site.specs.Configuration.{Configuration}
+use Rattle.np_machine.specs.Node.{is_pair_after}
 use Rattle.np_machine.specs.State.{State}
 use Rattle.np_machine.specs.declared.state.Swept.{Swept}
 use Rattle.np_nodes.specs.TreeState.{TreeState}
@@ -14,7 +15,7 @@ use Rattle.np_enact.specs.Ways.{HasSpellings}
 
 -- by node, and then by server
 abbrev pub is_pair_before : Swept → Swept → Bool
-is_pair_before a b = if a.node.0 == b.node.0 then nat_lt a.server b.server else nat_lt a.node.0 b.node.0
+is_pair_before a b = is_pair_after a.node a.server b
 
 -- the jobs with a handle are in the order of their numbers, none twice, and exist
 pub record AreHolders (jobs : ℕ) (holders : List JobId) : Type 0 where

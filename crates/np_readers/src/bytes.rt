@@ -3,10 +3,10 @@
 ghost use Rattle.std.specs.Prelude.{◌≡◌, length, option_and_then};
 ghost use Rattle.std.specs.Option.{option_copied};
 ghost use Rattle.np_tree.specs.Read.{bytes_at, counter_at, stat_at};
-ghost use Rattle.np_tree.specs.Whole.{IsWhole};
 ghost use Rattle.np_views.specs.Views.{rows_at};
 ghost use Rattle.np_places.specs.Place.{IsGood, path_of};
 
+use crate::directory::children;
 use np_places::{PathText, Place};
 use np_tree::{Stat, Tree};
 
@@ -38,15 +38,12 @@ pub(crate) fn owner_at(tree: &Tree, place: Place) -> Option<u32>
     stat_at(tree, place)?.owner
 }
 
-/// How many children there are below a place.
+/// How many children there are below a place, and 0 if there is no node.
 pub(crate) fn count_at(tree: &Tree, place: Place) -> u32
     requires { IsGood place }
-    ensures { IsWhole tree.now.nodes → result ≡ length (rows_at tree.now (path_of place)) }
+    ensures { result ≡ length (rows_at tree.now (path_of place)) }
 {
-    match stat_at(tree, place) {
-        Some(stat) => stat.children,
-        None => 0,
-    }
+    children(tree, PathText::of(place).text())
 }
 
 /// The number that the next sequence node below a place gets, or `None` if there is no node.

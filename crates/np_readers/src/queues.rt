@@ -1,8 +1,7 @@
 //! The queues that a session is in, as a tree has them.
 
-ghost use Rattle.std.specs.Prelude.{◌≡◌, false, length, slice_get, option_and_then};
+ghost use Rattle.std.specs.Prelude.{◌≡◌, length, slice_get, option_and_then};
 ghost use Rattle.std.specs.List.{list_any};
-ghost use Rattle.std.specs.Option.{option_map_or};
 ghost use Rattle.np_enact.specs.Carried.{IsStored};
 ghost use Rattle.np_look.specs.Readers.{queued_nodes, queued_requests};
 ghost use Rattle.np_machine.specs.State.{State};
@@ -12,7 +11,7 @@ ghost use Rattle.np_readers.specs.Queues.{node_if_queued, request_if_queued};
 ghost use Rattle.np_site.specs.Configuration.{Configuration};
 ghost use Rattle.np_views.specs.Views.{rows_at};
 
-use crate::children::children;
+use crate::directory::{children, waits_at};
 use crate::node_table::node_at;
 use crate::request_table::request_at;
 use np_places::{PathText, Place};
@@ -129,26 +128,4 @@ fn waits(tree: &Tree, lock: &str, session: SessionId) -> bool
         }
     }
     false
-}
-
-/// Whether the child at a place is the session's.
-fn waits_at(tree: &Tree, lock: &str, session: SessionId, at: u32) -> bool
-    ensures { result ≡
-        option_map_or (λ row. is_owner (tree_session session) row.owner)
-        (slice_get (rows_at tree.now lock.now) at) false }
-{
-    match tree.child_stat(lock, at) {
-        Some(stat) => is_owner(stat.owner, session),
-        None => false,
-    }
-}
-
-/// Whether the owner is the session: the tree's number of a session is one more than its own.
-fn is_owner(owner: Option<u32>, session: SessionId) -> bool
-    ensures { result ≡ is_owner (tree_session session) owner }
-{
-    match owner {
-        Some(number) => number > 0 && number - 1 == session.0,
-        None => false,
-    }
 }

@@ -7,7 +7,7 @@ ghost use Rattle.np_machine.specs.State.{State};
 ghost use Rattle.np_machine.specs.Tables.{handles_of, has_handle};
 ghost use Rattle.np_site.specs.Configuration.{Configuration};
 
-use crate::children::children;
+use crate::bytes::count_at;
 use np_config::Config;
 use np_places::{PathText, Place};
 use np_text::{JobId, NodeId, SemId};
@@ -18,7 +18,7 @@ pub fn handles(tree: &Tree, semaphore: SemId) -> u32
     ensures { (c : Configuration) (s : State) → IsStored c s tree.now →
         result ≡ length (handles_of semaphore s.handles) }
 {
-    children(tree, PathText::of(Place::Semaphore(semaphore)).text())
+    count_at(tree, Place::Semaphore(semaphore))
 }
 
 /// Whether the job has a handle of the semaphore.

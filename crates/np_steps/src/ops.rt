@@ -1,8 +1,8 @@
 //! Single parts of a call, put behind others. If memory runs out, nothing is promised of the parts.
 
-ghost use Rattle.std.specs.Prelude.{◌≡◌, ◌++◌, ◌∷◌, [], false, codes, find, length, slice_get, IfOk, OnOk};
+ghost use Rattle.std.specs.Prelude.{◌≡◌, ◌++◌, ◌∷◌, [], codes, find, IfOk, OnOk};
 ghost use Rattle.std.specs.List.{list_any};
-ghost use Rattle.std.specs.Option.{option_copied, option_map, option_map_or};
+ghost use Rattle.std.specs.Option.{option_copied, option_map};
 ghost use Rattle.np_path.specs.Parts.{below};
 ghost use Rattle.np_nodes.specs.Nodes.{is_owner};
 ghost use Rattle.np_nodes.specs.declared.kind.Expect.TheVariants as expects;
@@ -21,6 +21,7 @@ ghost use Rattle.np_enact.specs.Parts.{leave_parts};
 use np_nodes::{Bytes, Expect, Mode, Op};
 use np_path::Path;
 use np_places::{PathText, Place, to_path};
+use np_readers::{children, waits_at};
 use np_spelling::Record;
 use np_text::{NoMemory, SessionId};
 use np_tree::Tree;
@@ -164,18 +165,6 @@ fn push_child_delete(ops: &mut Vec<Op>, dir: &Path, name: &str) -> Result<(), No
     Ok(())
 }
 
-/// How many children the node at a path has, and 0 if there is none.
-fn children(tree: &Tree, path: &str) -> u32
-    ensures { result ≡ length (rows_at tree.now path.now) }
-{
-    // The contract of `changes` also says what is always true of a tree.
-    let _ = tree.changes();
-    match tree.exists(path) {
-        Some(stat) => stat.children,
-        None => 0,
-    }
-}
-
 /// The name of the session's first wait at a lock. `None` if it does not wait there.
 fn wait_name<'a>(tree: &'a Tree, lock: &str, session: SessionId) -> Option<&'a str>
     ensures { option_copied result
@@ -188,26 +177,4 @@ fn wait_name<'a>(tree: &'a Tree, lock: &str, session: SessionId) -> Option<&'a s
         }
     }
     None
-}
-
-/// Whether the child at a place among its siblings is the session's.
-fn waits_at(tree: &Tree, lock: &str, session: SessionId, at: u32) -> bool
-    ensures { result
-        ≡ option_map_or (λ row. is_owner (tree_session session) row.owner)
-        (slice_get (rows_at tree.now lock.now) at) false }
-{
-    match tree.child_stat(lock, at) {
-        Some(stat) => is_owned(stat.owner, session),
-        None => false,
-    }
-}
-
-/// Whether the owner is the session: the tree's number of a session is one more than its own.
-fn is_owned(owner: Option<u32>, session: SessionId) -> bool
-    ensures { result ≡ is_owner (tree_session session) owner }
-{
-    match owner {
-        Some(number) => number > 0 && number - 1 == session.0,
-        None => false,
-    }
 }

@@ -3,4 +3,4 @@ use Rattle.np_readers.proofs.Stored.{jobs-counted}
 use Rattle.np_readers.proofs.job_table.jobs.Goals as goal
 
 pub returns : goal.returns
-returns c config s stored = c.count_at.ensures stored.whole ∙ jobs-counted config s c.args.tree.now stored
+returns c config s stored = c.count_at.ensures ∙ jobs-counted config s c.args.tree.now stored

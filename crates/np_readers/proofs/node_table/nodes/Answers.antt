@@ -3,4 +3,4 @@ use Rattle.np_readers.proofs.NodeReads.{nodes-counted}
 use Rattle.np_readers.proofs.node_table.nodes.Goals as goal
 
 pub returns : goal.returns
-returns c config s stored = c.count_at.ensures stored.whole ∙ nodes-counted config s c.args.tree.now stored
+returns c config s stored = c.count_at.ensures ∙ nodes-counted config s c.args.tree.now stored

@@ -3,4 +3,4 @@ use Rattle.np_readers.proofs.RequestReads.{requests-counted}
 use Rattle.np_readers.proofs.request_table.requests.Goals as goal
 
 pub returns : goal.returns
-returns c config s stored = c.count_at.ensures stored.whole ∙ requests-counted config s c.args.tree.now stored
+returns c config s stored = c.count_at.ensures ∙ requests-counted config s c.args.tree.now stored

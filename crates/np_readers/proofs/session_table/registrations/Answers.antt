@@ -3,4 +3,4 @@ use Rattle.np_readers.proofs.Stored.{registrations-counted}
 use Rattle.np_readers.proofs.session_table.registrations.Goals as goal
 
 pub returns : goal.returns
-returns c config s stored = c.count_at.ensures stored.whole ∙ registrations-counted config s c.args.tree.now stored
+returns c config s stored = c.count_at.ensures ∙ registrations-counted config s c.args.tree.now stored

@@ -3,4 +3,4 @@ use Rattle.np_readers.proofs.Stored.{sessions-counted}
 use Rattle.np_readers.proofs.session_table.sessions.Goals as goal
 
 pub returns : goal.returns
-returns c config s stored = c.count_at.ensures stored.whole ∙ sessions-counted config s c.args.tree.now stored
+returns c config s stored = c.count_at.ensures ∙ sessions-counted config s c.args.tree.now stored
