@@ -1,11 +1,11 @@
 -- a list from a place on, and up to a place
-use Rattle.std.proofs.Common.{◌≡◌, ◌<◌, ℕ, zero, suc, ◌+◌, ◌-◌, List, [], ◌∷◌, ◌++◌, length, take, drop, refl, ap, ◌∙◌, arith, Bool, true, false, cond, Option, Some, None}
+use Rattle.std.proofs.Common.{◌≡◌, ◌<◌, ◌≤◌, ℕ, zero, suc, ◌+◌, ◌-◌, List, [], ◌∷◌, ◌++◌, length, take, drop, map, refl, ap, sym, ◌∙◌, arith, Bool, true, false, cond, Option, Some, None}
 use Rattle.std.specs.Prelude.{slice_get, ◌||◌, ◌&&◌, count_by, filter}
 use Rattle.std.specs.Option.{option_map}
 use Rattle.std.specs.List.{list_any, list_all}
-use Rattle.std.proofs.lemmas.List.{take_more}
-use Rattle.std.proofs.lemmas.List.Sums.{sum_by-cons}
-use Rattle.std.proofs.lemmas.Option.{slice_get_within, get_or_from_slice_get}
+use Rattle.std.proofs.lemmas.List.{take_more, length-map}
+use Rattle.std.proofs.lemmas.List.Sums.{sum_by-cons, length-filter}
+use Rattle.std.proofs.lemmas.Option.{slice_get_within, slice_get_past, slice_get-map, get_or_from_slice_get}
 
 -- ## from a place on, by what is seen there
 
@@ -80,3 +80,24 @@ module _ {X Y : Type 0} (p : Y → Bool) (f : X → Y) (q : X → Bool) (same : 
 
 pub passed_past : {X : Type 0} (q : X → Bool) (xs : List X) (i left : ℕ) → slice_get xs i ≡ None → slice_get (filter q (drop i xs)) left ≡ None
 passed_past q xs i left is = rw (drop_past xs i is) refl
+
+-- at the end all that pass are counted
+pub counted : {X I : Type 0} (q : X → Bool) (id : X → I) (xs : List X) (i count : ℕ) → length xs ≤ i → count + count_by q (drop i xs) ≡ count_by q xs → count ≡ length (map id (filter q xs))
+counted q id xs i count past all =
+    let none : count_by q (drop i xs) ≡ 0 = rw (drop_past xs i (slice_get_past xs i past)) refl in
+    let every : count ≡ count_by q xs = omega (arith, none, all) in
+    every ∙ sym (length-map (filter q xs) id ∙ length-filter q xs)
+
+-- the one sought is what the view shows
+pub listed_here : {X Y I : Type 0} (p : Y → Bool) (f : X → Y) (q : X → Bool) → ((x : X) → q x ≡ p (f x)) → (id : Y → I) (xs : List X) (i left at : ℕ) (y : Y) → option_map f (slice_get xs i) ≡ Some y → p y ≡ true → left ≡ 0 → slice_get (filter q (drop i xs)) left ≡ slice_get (filter q xs) at → Some (id y) ≡ slice_get (map (λ x. id (f x)) (filter q xs)) at
+listed_here {X = X} p f q same id xs i left at y is passes last kept =
+    sym (slice_get-map (λ x. id (f x)) (filter q xs) at ∙ shown _ (ap (option_map f) (sym kept ∙ ap (slice_get (filter q (drop i xs))) last) ∙ passed_here p f q same xs i y is passes))
+  where
+    shown : (o : Option X) → option_map f o ≡ Some y → option_map (λ x. id (f x)) o ≡ Some (id y)
+    shown None has = absurd cc
+    shown (Some x) has = let here : f x ≡ y = cc in rw (← here) refl
+
+-- past the end there is none
+pub listed_past : {X I : Type 0} (q : X → Bool) (id : X → I) (xs : List X) (i left at : ℕ) → length xs ≤ i → slice_get (filter q (drop i xs)) left ≡ slice_get (filter q xs) at → None ≡ slice_get (map id (filter q xs)) at
+listed_past q id xs i left at past kept =
+    sym (slice_get-map id (filter q xs) at ∙ ap (option_map id) (sym kept ∙ passed_past q xs i left (slice_get_past xs i past)))

@@ -1,5 +1,5 @@
 -- what the readers of a state return, beyond the machine's own definitions
-use Rattle.std.specs.Prelude.{ℕ, suc, Bool, false, ◌==◌, ◌&&◌, ◌||◌, not, if◌then◌else◌, List, [], ◌∷◌, filter, map, Option, Some, None, is_some, is_none, option_and_then, slice_get}
+use Rattle.std.specs.Prelude.{ℕ, suc, Bool, false, ◌==◌, ◌&&◌, ◌||◌, not, if◌then◌else◌, List, [], ◌∷◌, filter, map, Option, Some, None, is_some, is_none, option_and_then, slice_get, length}
 use Rattle.std.specs.Option.{option_map, option_map_or}
 use Rattle.np_amount.specs.declared.amount.Amount.{Amount}
 use Rattle.np_amount.specs.declared.amount.Limit.{Limit}
@@ -17,10 +17,10 @@ use Rattle.np_record.specs.declared.record.RequestRecord.{RequestRecord}
 use Rattle.np_record.specs.declared.record.JobRecord.{JobRecord}
 use Rattle.np_machine.specs.Entries.{RequestEntry, NodeEntry}
 use Rattle.np_machine.specs.State.{State}
-use Rattle.np_machine.specs.Tables.{request_in, is_queued}
+use Rattle.np_machine.specs.Tables.{request_in, is_queued, holder}
 use Rattle.np_machine.specs.Count.{amount_of, limit_of}
 use Rattle.np_machine.specs.Tenants.{limit_of_tenant, tenant_of_request, is_tenant, amount_of_node, rest_of_request, is_pending_of}
-use Rattle.np_machine.specs.Kinds.{is_over}
+use Rattle.np_machine.specs.Kinds.{is_over, is_requested}
 use Rattle.np_machine.specs.Reasons.{next_label, is_spare}
 use Rattle.np_machine.specs.First.{may_fit}
 use Rattle.np_machine.specs.Order.{is_declined_by, is_pending_by}
@@ -103,3 +103,25 @@ queued_requests session s = map (λ e. e.id) (filter (λ e. is_queued session e.
 -- the nodes in whose queues the session is, by number
 abbrev pub queued_nodes : SessionId → State → List NodeId
 queued_nodes session s = map (λ e. e.id) (filter (λ e. is_queued session e.queue) s.nodes)
+
+-- ## requests and nodes of a kind
+
+-- the requests that are pending by the pool, by priority and then sequence
+abbrev pub pending_requests : PoolId → State → List RequestId
+pending_requests p s = map (λ e. e.id) (filter (λ e. is_pending_by p e.kept) s.requests)
+
+-- requested, and at least one pool declined it
+abbrev pub is_still_requested : RequestRecord → Bool
+is_still_requested request = is_requested request.state && not (length request.declined == 0)
+
+-- the requests that are requested, and that at least one pool declined
+abbrev pub declined_requests : State → List RequestId
+declined_requests s = map (λ e. e.id) (filter (λ e. is_still_requested e.kept) s.requests)
+
+-- a node of the pool that nobody holds
+abbrev pub is_unheld : PoolId → NodeEntry → Bool
+is_unheld p e = (e.kept.pool.0 == p.0) && is_none (holder e.queue)
+
+-- the nodes of the pool that nobody holds, by number
+abbrev pub unheld_nodes : PoolId → State → List NodeId
+unheld_nodes p s = map (λ e. e.id) (filter (is_unheld p) s.nodes)

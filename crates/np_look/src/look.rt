@@ -17,14 +17,15 @@ ghost use Rattle.np_fits.specs.Fits.{Fits};
 ghost use Rattle.np_changes.specs.Asked.{asked_of, new_record};
 ghost use Rattle.np_look.specs.Views.{request_view, node_view};
 ghost use Rattle.np_changes.specs.Readers.{owner_of};
-ghost use Rattle.np_look.specs.Readers.{is_declined, undeclined_of, is_last_pool_of, free_ready_of, unfinished_of, queued_requests, queued_nodes};
+ghost use Rattle.np_look.specs.Readers.{is_declined, undeclined_of, is_last_pool_of, free_ready_of, unfinished_of, queued_requests, queued_nodes, pending_requests, declined_requests, unheld_nodes};
 
 use crate::asked::{NodeView, RequestView};
 use crate::count::{NOTHING, amount_at};
 use crate::tenant::{amount_for, is_short_of, limited_tenant, rest_for};
 use crate::walk::{
     asked_of, declines_or_is, is_better, is_coming, is_declined_by, is_free_ready, is_live_of,
-    is_marked, is_spare, is_spent_min_ready, is_unfinished_job, one_if, short_label,
+    is_marked, is_pending_by, is_spare, is_spent_min_ready, is_still_requested, is_unfinished_job,
+    is_unheld, one_if, short_label,
 };
 use np_amount::Amount;
 use np_changes::Asked;
@@ -498,5 +499,104 @@ pub trait Look {
             }
         }
         false
+    }
+
+    /// How many requests are pending by the pool. This body scans every request.
+    fn pending_requests(&self, pool: PoolId) -> u32
+        ensures { result ≡ length (pending_requests pool (state self.now)) }
+    {
+        let mut count = 0;
+        for at in 0..self.requests() {
+            let Some(view) = self.request_view(at) else {
+                return 0;
+            };
+            count += one_if(is_pending_by(pool, &view.kept));
+        }
+        count
+    }
+
+    /// The request at a place among those that are pending by the pool, by priority and then
+    /// sequence. This body scans every request up to that one.
+    fn pending_request_at(&self, pool: PoolId, at: u32) -> Option<RequestId>
+        ensures { result ≡ slice_get (pending_requests pool (state self.now)) at }
+    {
+        let mut left = at;
+        for place in 0..self.requests() {
+            let view = self.request_view(place)?;
+            if !is_pending_by(pool, &view.kept) {
+                continue;
+            }
+            if left == 0 {
+                return Some(view.id);
+            }
+            left -= 1;
+        }
+        None
+    }
+
+    /// How many requests are requested and declined by some pool. This body scans every request.
+    fn declined_requests(&self) -> u32
+        ensures { result ≡ length (declined_requests (state self.now)) }
+    {
+        let mut count = 0;
+        for at in 0..self.requests() {
+            let Some(view) = self.request_view(at) else {
+                return 0;
+            };
+            count += one_if(is_still_requested(&view.kept));
+        }
+        count
+    }
+
+    /// The request at a place among those that are requested and declined by some pool, by priority
+    /// and then sequence. This body scans every request up to that one.
+    fn declined_request_at(&self, at: u32) -> Option<RequestId>
+        ensures { result ≡ slice_get (declined_requests (state self.now)) at }
+    {
+        let mut left = at;
+        for place in 0..self.requests() {
+            let view = self.request_view(place)?;
+            if !is_still_requested(&view.kept) {
+                continue;
+            }
+            if left == 0 {
+                return Some(view.id);
+            }
+            left -= 1;
+        }
+        None
+    }
+
+    /// How many nodes of the pool nobody holds. This body scans every node.
+    fn unheld_nodes(&self, pool: PoolId) -> u32
+        ensures { result ≡ length (unheld_nodes pool (state self.now)) }
+    {
+        let mut count = 0;
+        for at in 0..self.nodes() {
+            let Some(view) = self.node_view(at) else {
+                return 0;
+            };
+            count += one_if(is_unheld(pool, &view));
+        }
+        count
+    }
+
+    /// The node at a place among those of the pool that nobody holds, by number. This body scans
+    /// every node up to that one.
+    fn unheld_node_at(&self, pool: PoolId, at: u32) -> Option<NodeId>
+        ensures { result ≡ slice_get (unheld_nodes pool (state self.now)) at }
+    {
+        let mut left = at;
+        for place in 0..self.nodes() {
+            let view = self.node_view(place)?;
+            if !is_unheld(pool, &view) {
+                continue;
+            }
+            if left == 0 {
+                return Some(view.id);
+            }
+            left -= 1;
+        }
+        None
     }
 }

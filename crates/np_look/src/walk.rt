@@ -5,7 +5,7 @@ ghost use Rattle.std.specs.Prelude.{◌≡◌, ◌<◌, ◌≤◌, ◌^◌, ◌&
 ghost use Rattle.np_text.specs.declared.id.LabelId.{LabelId};
 ghost use Rattle.np_machine.specs.Count.{amount_of};
 ghost use Rattle.np_fits.specs.Fits.{AmountFits};
-ghost use Rattle.np_look.specs.Readers.{short_label, is_unfinished_job};
+ghost use Rattle.np_look.specs.Readers.{short_label, is_unfinished_job, is_still_requested, is_unheld};
 ghost use Rattle.np_machine.specs.Kinds.{is_requested, is_pending, is_failed, is_ready};
 ghost use Rattle.np_machine.specs.Tables.{is_marked};
 ghost use Rattle.np_machine.specs.Order.{comes_before, is_pool, is_pinned_away, is_declined_by, is_pending_by};
@@ -167,10 +167,25 @@ pub fn is_spare(pool: PoolId, label: LabelId, view: &NodeView) -> bool
         && view.kept.label.0 == label.0
 }
 
-fn is_pending_by(pool: PoolId, request: &RequestRecord) -> bool
+/// Whether the request is pending and the pool serves it.
+pub fn is_pending_by(pool: PoolId, request: &RequestRecord) -> bool
     ensures { result ≡ is_pending_by pool request.now }
 {
     request.state == RequestState::Pending && names_pool(pool, request.pool)
+}
+
+/// Whether the request is requested and at least one pool declined it.
+pub fn is_still_requested(request: &RequestRecord) -> bool
+    ensures { result ≡ is_still_requested request.now }
+{
+    request.state == RequestState::Requested && !request.declined.items().is_empty()
+}
+
+/// Whether it is a node of the pool that nobody holds.
+pub fn is_unheld(pool: PoolId, view: &NodeView) -> bool
+    ensures { result ≡ is_unheld pool (node_seen view.now) }
+{
+    view.kept.pool.0 == pool.0 && view.holder.is_none()
 }
 
 /// The next label of the request, if the pool serves it and has no room for a node of the label.

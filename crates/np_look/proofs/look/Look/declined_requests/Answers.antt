@@ -1,0 +1,26 @@
+use Rattle.std.proofs.Common.{◌≡◌, ◌<◌, ◌≤◌, sym, refl, cond, add-one, length, arith}
+use Rattle.np_machine.specs.Entries.{RequestEntry}
+use Rattle.np_look.specs.Readers.{is_still_requested}
+use Rattle.np_look.specs.Views.{request_view}
+use Rattle.np_look.specs.declared.asked.RequestView.{RequestView}
+use Rattle.np_look.proofs.Walks.{count_here, none_there, counted}
+use Rattle.np_look.proofs.look.Look.declined_requests.Goals as goal
+
+pub returns-in_default : goal.returns-in_default
+returns-in_default g c =
+    let within : c.loop-at.at < length (g.Self.Look.state c.args.self.now).requests = omega (arith, c.requests-at-end.ensures, c.loop-at-test.true) in
+    absurd (none_there request_view (g.Self.Look.state c.args.self.now).requests c.loop-at.at within (sym c.in_default.ensures))
+
+pub loop-at-preserved : goal.loop-at-preserved
+loop-at-preserved g c =
+    let step = count_here (λ (v : RequestView). is_still_requested v.kept) request_view (λ (e : RequestEntry). is_still_requested e.kept) (λ e. refl) (g.Self.Look.state c.args.self.now).requests c.loop-at.at c.in-Some.view (sym c.in-Some.ensures) in
+    let one : c.one_if-count.result ≡ cond (is_still_requested c.in-Some.view.kept) 1 0 = cc in
+    record {
+      few = omega (arith, c.one_if-count.ensures.few, c.loop-at.invariant.few);
+      all = rw add-one (omega (arith, step, one, c.loop-at.invariant.all));
+    }
+
+pub returns : goal.returns
+returns g c =
+    let past : length (g.Self.Look.state c.args.self.now).requests ≤ c.loop-at.at = omega (arith, c.requests-at-end.ensures, c.loop-at-test.false) in
+    counted (λ (e : RequestEntry). is_still_requested e.kept) (λ (e : RequestEntry). e.id) (g.Self.Look.state c.args.self.now).requests c.loop-at.at c.loop-at.count past c.loop-at.invariant.all
