@@ -1,22 +1,13 @@
 -- a janitor's useful events are of the kinds in the order
-use Rattle.std.proofs.Common.{◌≡◌, ◌∙◌, ◌++◌, Bool, true, false, List, [], ◌∷◌, Option, Some, None, refl, sym, ap}
-use Rattle.std.specs.Prelude.{◌&&◌, is_none, is_ok, is_some}
-use Rattle.std.specs.Option.{option_map, option_map_or}
+use Rattle.std.proofs.Common.{◌≡◌, ◌++◌, true, false, List, [], ◌∷◌, Option, Some, None}
+use Rattle.std.specs.Prelude.{is_some}
 use Rattle.std.specs.List.{AllByRecursion}
-use Rattle.np_text.specs.declared.id.NodeId.{NodeId}
 use Rattle.np_text.specs.declared.id.PoolId.{PoolId}
 use Rattle.np_text.specs.declared.id.Role.TheVariants.{Janitor}
 use Rattle.np_site.specs.Configuration.{Configuration}
 use Rattle.np_event.specs.declared.event.Event.{Event}
 use Rattle.np_event.specs.declared.event.Event.TheVariants as ev
-use Rattle.np_record.specs.declared.record.NodeRecord.{NodeRecord}
-use Rattle.np_machine.specs.Entries.{NodeEntry}
 use Rattle.np_machine.specs.State.{State}
-use Rattle.np_machine.specs.Step.{judge}
-use Rattle.np_machine.specs.Tables.{holder, node_entry, node_holder}
-use Rattle.np_look.specs.Views.{node_view}
-use Rattle.np_useful.specs.Cleanable.{is_cleanable}
-use Rattle.np_useful.specs.Rows.{is_node_of, node_is}
 use Rattle.np_useful.specs.Useful.{IsUseful}
 use Rattle.np_text.specs.declared.id.SessionId.{SessionId}
 use Rattle.np_useful.specs.Sessions.{is_current}
@@ -25,10 +16,9 @@ use Rattle.np_roles.specs.declared.kind.EventKind.TheVariants as kind_of
 use Rattle.np_roles.specs.declared.kind.JobKind.TheVariants as of_job
 use Rattle.np_roles.specs.declared.kind.NodeKind.TheVariants as of_node
 use Rattle.np_roles.specs.declared.kind.RequestKind.TheVariants as of_request
-use Rattle.np_roles.specs.Passing.{passes}
 use Rattle.np_roles.specs.Choices.{Chooses, NoneOpens, NoneOf, ChoosesOf, ChoosesOfAny}
 use Rattle.np_roles.proofs.Wholes.{kinds-choose}
-use Rattle.np_janitor.specs.Order.{janitor_order, before_finish, after_release, is_free_of}
+use Rattle.np_janitor.specs.Order.{janitor_order, before_fail, after_release}
 
 none : false ≡ true → ⊥
 none is = cc
@@ -84,38 +74,14 @@ module _ (c : Configuration) (s : State) (p : PoolId) where
   one-then kind None fails found other rest = (found, rest)
   one-then kind (Some e) fails found other rest = absurd cc
 
-  module _ (session : SessionId) (current : is_current (Janitor p) session s ≡ true) (before : Option Event) (first : ChoosesOfAny c s (Janitor p) before_finish before) (no_first : is_some before ≡ false) (finish : Option Event) (second : ChoosesOf c s (Janitor p) (kind_of.Job of_job.Finish) finish) (no_second : is_some finish ≡ false) (release : Option Event) (third : ChoosesOf c s (Janitor p) (kind_of.Job of_job.Release) release) (no_third : is_some release ≡ false) (lock : Option Event) (fourth : ChoosesOf c s (Janitor p) (kind_of.Request of_request.Lock) lock) (no_fourth : is_some lock ≡ false) where
+  module _ (session : SessionId) (current : is_current (Janitor p) session s ≡ true) (before : Option Event) (first : ChoosesOfAny c s (Janitor p) before_fail before) (no_first : is_some before ≡ false) (fail : Option Event) (declined : ChoosesOf c s (Janitor p) (kind_of.Request of_request.FailDeclined) fail) (no_declined : is_some fail ≡ false) (finish : Option Event) (second : ChoosesOf c s (Janitor p) (kind_of.Job of_job.Finish) finish) (no_second : is_some finish ≡ false) (release : Option Event) (third : ChoosesOf c s (Janitor p) (kind_of.Job of_job.Release) release) (no_third : is_some release ≡ false) (lock : Option Event) (fourth : ChoosesOf c s (Janitor p) (kind_of.Request of_request.Lock) lock) (no_fourth : is_some lock ≡ false) where
     -- if nothing was found before, the last search decides
     pub last-chooses : (o : Option Event) → ChoosesOf c s (Janitor p) (kind_of.Node of_node.Lock) o → Chooses c s (Janitor p) o
     last-chooses None last =
         kinds-choose c s (Janitor p) janitor_order (janitor-law c s p) session current None
-        (any-then before_finish before no_first first (kind_of.Job of_job.Finish ∷ kind_of.Job of_job.Release ∷ after_release)
+        (any-then before_fail before no_first first (kind_of.Request of_request.FailDeclined ∷ kind_of.Job of_job.Finish ∷ kind_of.Job of_job.Release ∷ after_release)
+        (one-then (kind_of.Request of_request.FailDeclined) fail no_declined declined (kind_of.Job of_job.Finish ∷ kind_of.Job of_job.Release ∷ after_release)
         (one-then (kind_of.Job of_job.Finish) finish no_second second (kind_of.Job of_job.Release ∷ after_release)
         (one-then (kind_of.Job of_job.Release) release no_third third after_release
-        (one-then (kind_of.Request of_request.Lock) lock no_fourth fourth (kind_of.Node of_node.Lock ∷ []) (last, tt)))))
+        (one-then (kind_of.Request of_request.Lock) lock no_fourth fourth (kind_of.Node of_node.Lock ∷ []) (last, tt))))))
     last-chooses (Some e) last = last
-
--- ## the nodes that may be locked
-
-and-parts : (t u : Bool) → (t && u) ≡ true → (t ≡ true) × (u ≡ true)
-and-parts true true is = (refl, refl)
-and-parts true false is = absurd cc
-and-parts false u is = absurd cc
-
-module _ (c : Configuration) (s : State) (p : PoolId) (session : SessionId) (n : NodeId) where
-  free-by : (e : NodeEntry) → node_entry n s.nodes ≡ Some e → (option_map_or (λ (x : NodeEntry). is_node_of p x.kept && is_cleanable c s x.kept) (node_entry n s.nodes) false && is_none (node_holder n s.nodes)) ≡ true → is_free_of p (node_view e) ≡ true
-  free-by e there is =
-      let parts = and-parts (option_map_or (λ (x : NodeEntry). is_node_of p x.kept && is_cleanable c s x.kept) (node_entry n s.nodes) false) (is_none (node_holder n s.nodes)) is in
-      let known : (is_node_of p e.kept && is_cleanable c s e.kept) ≡ true = ap (λ (o : Option NodeEntry). option_map_or (λ (x : NodeEntry). is_node_of p x.kept && is_cleanable c s x.kept) o false) (sym there) ∙ parts.0 in
-      let free : is_none (holder e.queue) ≡ true = ap (λ (o : Option NodeEntry). is_none (holder (option_map_or (λ (x : NodeEntry). x.queue) o []))) (sym there) ∙ parts.1 in
-      rw ((and-parts (is_node_of p e.kept) (is_cleanable c s e.kept) known).0, free) refl
-
-  row-by : (o : Option NodeEntry) → option_map_or (λ (k : NodeRecord). is_node_of p k && is_cleanable c s k) (option_map (λ (x : NodeEntry). x.kept) o) false ≡ option_map_or (λ (x : NodeEntry). is_node_of p x.kept && is_cleanable c s x.kept) o false
-  row-by None = refl
-  row-by (Some x) = refl
-
-  -- a node whose lock passes is the pool's, and nobody holds it
-  pub lock-free : (e : NodeEntry) → node_entry n s.nodes ≡ Some e → passes c s (Janitor p) (ev.LockNode session n) ≡ true → is_free_of p (node_view e) ≡ true
-  lock-free e there is =
-      let row : (node_is n s (λ k. is_node_of p k && is_cleanable c s k) && is_none (node_holder n s.nodes)) ≡ true = (and-parts (is_ok (judge c s (ev.LockNode session n))) (node_is n s (λ k. is_node_of p k && is_cleanable c s k) && is_none (node_holder n s.nodes)) is).1 in
-      free-by e there (ap (λ (b : Bool). b && is_none (node_holder n s.nodes)) (sym (row-by (node_entry n s.nodes))) ∙ row)

@@ -1,3 +1,4 @@
 pub mod Janitors
+pub mod Lists
 pub mod Strikes
 pub mod FinishLemmas

@@ -1,3 +1,4 @@
 pub mod Order
+pub mod Candidates
 pub mod Struck
 pub mod Finishes

@@ -11,50 +11,36 @@ ghost use Rattle.np_fits.specs.Fits.{Fits};
 ghost use Rattle.np_useful.specs.Cleanable.{is_cleanable};
 ghost use Rattle.np_useful.specs.Rows.{request_is, node_is, job_is, is_node_of, has_some_handle};
 ghost use Rattle.np_useful.specs.Sessions.{is_current, is_stopped};
-ghost use Rattle.np_roles.specs.declared.kind.EventKind.TheVariants.{Job};
-ghost use Rattle.np_roles.specs.declared.kind.JobKind.TheVariants.{Finish};
+ghost use Rattle.np_roles.specs.declared.kind.EventKind.TheVariants.{Request, Node, Job};
+ghost use Rattle.np_roles.specs.declared.kind.RequestKind.TheVariants as of_request;
+ghost use Rattle.np_roles.specs.declared.kind.NodeKind.TheVariants as of_node;
+ghost use Rattle.np_roles.specs.declared.kind.JobKind.TheVariants as of_job;
 ghost use Rattle.np_roles.specs.Choices.{Chooses, ChoosesOf};
 ghost use Rattle.np_janitor.specs.Order.{janitor_order};
 ghost use Rattle.np_janitor.specs.Finishes.{ChoosesFinish};
 
 use crate::cleanable::{PoolPause, is_cleanable};
+use crate::listed::{FailsOfDeclined, LocksOfPending, LocksOfUnheld};
 use np_event::Event;
-use np_look::{Look, NodeView};
+use np_look::Look;
 use np_roles::{
-    EventKind, NodeKind, NodeTest, RequestKind, Rows, choose_opening, current_session,
-    first_node_lock, first_of_kind, first_of_kinds, first_release, has_some_handle, is_same_role,
-    is_stopped, may_open, passes,
+    EventKind, NodeKind, RequestKind, Rows, choose_opening, current_session, first_of_kinds,
+    first_release, first_that_passes, has_some_handle, is_same_role, is_stopped, may_open, passes,
 };
 use np_text::{
     JobId, NodeId, PoolId, REQUESTERS, RequestId, RequestState, RequesterId, Role, SessionId,
 };
 
-/// The kinds that are tried before finish, in the order of the crate's table.
-const BEFORE_FINISH: [EventKind; 7] = [
+/// The kinds that are tried before fail-declined, in the order of the crate's table. The machine
+/// accepts them only from a session in the queue of what they name.
+const BEFORE_FAIL: [EventKind; 6] = [
     EventKind::Node(NodeKind::Gone),
     EventKind::Node(NodeKind::Free),
     EventKind::Node(NodeKind::MarkDeleting),
     EventKind::Node(NodeKind::Unlock),
     EventKind::Request(RequestKind::Reset),
     EventKind::Request(RequestKind::Unlock),
-    EventKind::Request(RequestKind::FailDeclined),
 ];
-
-/// A node of the pool that nobody holds.
-#[derive(Clone, Copy)]
-struct FreeOf {
-    pool: PoolId,
-}
-
-impl NodeTest for FreeOf {
-    ghost use Rattle.np_janitor.specs.Order.{is_free_of};
-
-    ghost such = { λ t v. is_free_of t.pool v };
-
-    fn is_such(&self, view: &NodeView) -> bool {
-        view.kept.pool.0 == self.pool.0 && view.holder.is_none()
-    }
-}
 
 /// Whether the request exists and is pending, and the pool serves it.
 fn is_served<L: Look>(look: &L, pool: PoolId, request: RequestId) -> bool
@@ -215,7 +201,7 @@ fn first_finish<L: Look>(look: &L, rows: &JanitorRows, session: SessionId) -> Op
         is_paused (L.site look.now) (L.state look.now) rows.now.known.pool }
     requires current { is_current (Janitor rows.now.known.pool) session (L.state look.now) ≡ true }
     ensures { ChoosesOf (L.site look.now) (L.state look.now) (Janitor rows.now.known.pool)
-        (Job Finish) result }
+        (Job of_job.Finish) result }
 {
     look.config().soundness();
     for at in 0..REQUESTERS as u16 {
@@ -227,11 +213,53 @@ fn first_finish<L: Look>(look: &L, rows: &JanitorRows, session: SessionId) -> Op
     None
 }
 
+/// The first useful failing of a request, by priority and then sequence, or `None` if and only if
+/// there is none. It tests the requests that are requested and that some pool declined.
+fn first_fail<L: Look>(look: &L, rows: &JanitorRows, session: SessionId) -> Option<Event>
+    requires fits { Fits (L.site look.now) (L.state look.now) }
+    requires known { rows.now.known.paused ≡
+        is_paused (L.site look.now) (L.state look.now) rows.now.known.pool }
+    requires current { is_current (Janitor rows.now.known.pool) session (L.state look.now) ≡ true }
+    ensures { ChoosesOf (L.site look.now) (L.state look.now) (Janitor rows.now.known.pool)
+        (Request of_request.FailDeclined) result }
+{
+    first_that_passes(look, rows, &FailsOfDeclined { session })
+}
+
+/// The first useful lock of a request, by priority and then sequence, or `None` if and only if
+/// there is none. It tests the requests that are pending by the pool.
+fn first_request_lock<L: Look>(look: &L, rows: &JanitorRows, session: SessionId) -> Option<Event>
+    requires fits { Fits (L.site look.now) (L.state look.now) }
+    requires known { rows.now.known.paused ≡
+        is_paused (L.site look.now) (L.state look.now) rows.now.known.pool }
+    requires current { is_current (Janitor rows.now.known.pool) session (L.state look.now) ≡ true }
+    ensures { ChoosesOf (L.site look.now) (L.state look.now) (Janitor rows.now.known.pool)
+        (Request of_request.Lock) result }
+{
+    let pool = rows.known.pool;
+    first_that_passes(look, rows, &LocksOfPending { session, pool })
+}
+
+/// The first useful lock of a node, by number, or `None` if and only if there is none. It tests the
+/// nodes of the pool that nobody holds.
+fn first_node_lock<L: Look>(look: &L, rows: &JanitorRows, session: SessionId) -> Option<Event>
+    requires fits { Fits (L.site look.now) (L.state look.now) }
+    requires known { rows.now.known.paused ≡
+        is_paused (L.site look.now) (L.state look.now) rows.now.known.pool }
+    requires current { is_current (Janitor rows.now.known.pool) session (L.state look.now) ≡ true }
+    ensures { ChoosesOf (L.site look.now) (L.state look.now) (Janitor rows.now.known.pool)
+        (Node of_node.Lock) result }
+{
+    let pool = rows.known.pool;
+    first_that_passes(look, rows, &LocksOfUnheld { session, pool })
+}
+
 /// A useful event of the pool's janitor, the first in the order of the crate's table, or `None` if
-/// and only if there is none. Its cost grows with the number of requests and nodes, with the jobs
-/// that are not over of the requesters that stopped for good, with the handles that jobs have, and,
-/// if the janitor has no session, with the number of sessions. It never scans pairs of them if the
-/// reader `unfinished` is a lookup.
+/// and only if there is none. Its cost grows with what its session queues for, with the requests
+/// that are pending by the pool and those that some pool declined, with the nodes of the pool that
+/// nobody holds, with the jobs that are not over of the requesters that stopped for good, and with
+/// the handles that jobs have: each of these is found by a lookup if the state keeps an index. It
+/// reads the sessions that began after the janitor's own, or all if it has none.
 pub fn choose_janitor<L: Look>(look: &L, pool: PoolId) -> Option<Event>
     requires fits { Fits (L.site look.now) (L.state look.now) }
     requires pool { is_role (L.site look.now) (Janitor pool) ≡ true }
@@ -246,7 +274,11 @@ pub fn choose_janitor<L: Look>(look: &L, pool: PoolId) -> Option<Event>
             paused: look.is_paused(pool),
         },
     };
-    let found = first_of_kinds(look, &rows, session, &BEFORE_FINISH);
+    let found = first_of_kinds(look, &rows, session, &BEFORE_FAIL);
+    if found.is_some() {
+        return found;
+    }
+    let found = first_fail(look, &rows, session);
     if found.is_some() {
         return found;
     }
@@ -258,10 +290,9 @@ pub fn choose_janitor<L: Look>(look: &L, pool: PoolId) -> Option<Event>
     if found.is_some() {
         return found;
     }
-    let lock = EventKind::Request(RequestKind::Lock);
-    let found = first_of_kind(look, &rows, session, lock);
+    let found = first_request_lock(look, &rows, session);
     if found.is_some() {
         return found;
     }
-    first_node_lock(look, &rows, session, FreeOf { pool })
+    first_node_lock(look, &rows, session)
 }

@@ -23,21 +23,29 @@
 //! The reaper first expires sessions, the oldest first, which frees what they hold, and then crashes
 //! those whose fault is due.
 //!
-//! In a state of `r` requests, `n` nodes and `s` sessions, a janitor's choice determines once
-//! whether the pool is paused. What only a session in a queue may do is tested on the requests and
-//! nodes in whose queues the janitor's session is; fail-declined and lock-request are tested on each
-//! request, and lock-node on each node of its pool that nobody holds, for which it reads every node
-//! once. Then there are the finish of each job that is not over of a requester that stopped for
-//! good, and the release of each job that has a handle. So the cost grows with `r + n`, and with the
-//! number of those jobs. The jobs that are not over are found by a reader of
-//! `Look`, which is a lookup if the state keeps an index. A test of a node determines whether
-//! another pool is paused only if the janitor waits at a node of that pool. The cost of the reaper's
-//! choice grows with `s`, and with the faults of the configuration for each session that is not
-//! over.
+//! A janitor's choice reads only what it may act on. It determines once whether the pool is paused.
+//! Then it tests, kind by kind and up to the first useful event,
+//!
+//! - the requests and nodes in whose queues its session is, for what only a session in a queue may
+//!   do,
+//! - the requests that are requested and that some pool declined, for fail-declined,
+//! - the jobs that are not over of each requester that stopped for good, for finish,
+//! - the jobs that have a handle, semaphore by semaphore, for release,
+//! - the requests that are pending by the pool, for lock-request, and
+//! - the nodes of the pool that nobody holds, for lock-node.
+//!
+//! Each of these lists is a reader of `Look`: if the state keeps an index, the reader is a lookup,
+//! and the choice costs nothing for the other requests, nodes and jobs. So its cost grows with the
+//! number of these, with the number of sessions that began after its own, or of all sessions if it
+//! has none, and with the limit of requesters and the configuration's faults and semaphores. A test
+//! of a node determines whether another pool is paused only if the janitor waits at a node of that
+//! pool. The cost of the reaper's choice grows with the number of sessions, and with the faults of
+//! the configuration for each session that is not over.
 #![tactic(auto)]
 
 mod cleanable;
 mod janitor;
+mod listed;
 mod reaper;
 
 pub use janitor::choose_janitor;

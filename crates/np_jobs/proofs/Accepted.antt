@@ -32,7 +32,7 @@ new_later phase.Asked is = absurd cc
 new_later phase.Using is = absurd cc
 new_later phase.Over is = absurd cc
 
-asked_later : (p : Phase) → is_asked p ≡ true → is_over p ≡ false
+pub asked_later : (p : Phase) → is_asked p ≡ true → is_over p ≡ false
 asked_later phase.New is = absurd cc
 asked_later phase.Asked is = refl
 asked_later phase.Using is = absurd cc

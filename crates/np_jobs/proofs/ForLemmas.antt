@@ -1,37 +1,31 @@
 -- a node of a request that is handed over is determined by its allocation
 use Rattle.std.proofs.Common.{◌≡◌, ◌<◌, ℕ, zero, suc, List, [], ◌∷◌, length, refl, sym, ap, ◌∙◌, arith, Option, Some, None, Bool, true, false}
-use Rattle.std.specs.Prelude.{slice_get, ◌&&◌, not, is_ok}
+use Rattle.std.specs.Prelude.{slice_get, ◌&&◌}
 use Rattle.std.specs.Option.{option_map, option_map_or}
 use Rattle.std.specs.List.{AllByRecursion}
 use Rattle.std.proofs.lemmas.Bool.Decides.{nat_tests}
 use Rattle.std.proofs.lemmas.Option.{slice_get_within}
 use Rattle.np_text.specs.declared.id.NodeId.{NodeId}
-use Rattle.np_text.specs.declared.id.SessionId.{SessionId}
 use Rattle.np_text.specs.declared.id.RequestId.{RequestId}
 use Rattle.np_text.specs.declared.id.RequesterId.{RequesterId}
-use Rattle.np_text.specs.declared.id.Role.TheVariants.{Requester}
 use Rattle.np_site.specs.Configuration.{Configuration}
 use Rattle.np_record.specs.declared.record.NodeRecord.{NodeRecord}
 use Rattle.np_lists.specs.Rising.{Rises}
 use Rattle.np_lists.proofs.EditLemmas.{list_any-there}
-use Rattle.np_event.specs.declared.event.Event.TheVariants as ev
 use Rattle.np_changes.specs.Asked.{asked_of}
-use Rattle.np_machine.specs.Entries.{RequestEntry, NodeEntry}
+use Rattle.np_machine.specs.Entries.{RequestEntry}
 use Rattle.np_machine.specs.Order.{is_id_before}
 use Rattle.np_machine.specs.Kinds.{is_fulfilled, is_ready}
 use Rattle.np_machine.specs.Safe.{OwnsItsLabels, FulfilledOwn, IsGiven}
 use Rattle.np_machine.specs.State.{State}
-use Rattle.np_machine.specs.Step.{judge}
-use Rattle.np_machine.specs.Tables.{is_request, same_request, request_entry, request_in, is_queued, node_entry, node_in, node_queue}
+use Rattle.np_machine.specs.Tables.{is_request, same_request, request_entry, request_in, node_in}
 use Rattle.np_changes.specs.Planned.{IsReached}
 use Rattle.np_safe.proofs.Runs.{invariant-Runs, fulfilled-Runs}
 use Rattle.np_safe.proofs.Places.{PassesAt, any-place, node-place, place-there}
 use Rattle.np_safe.proofs.Lookups.{same_request-is, same_request-self}
-use Rattle.np_look.specs.Views.{node_view}
 use Rattle.np_useful.specs.Rows.{is_listed}
 use Rattle.np_useful.specs.Requester.{is_handed_over, is_for}
-use Rattle.np_roles.specs.Passing.{passes}
-use Rattle.np_jobs.specs.Given.{has_given, is_given, is_ready_allocated}
+use Rattle.np_jobs.specs.Given.{has_given, is_given}
 
 -- ## requests, each number once
 
@@ -75,11 +69,11 @@ both true b there back = sym (there refl)
 both false true there back = absurd (let no : false ≡ true = back refl in cc)
 both false false there back = refl
 
-and-first : (a b : Bool) → (a && b) ≡ true → a ≡ true
+pub and-first : (a b : Bool) → (a && b) ≡ true → a ≡ true
 and-first true b is = refl
 and-first false b is = absurd cc
 
-and-second : (a b : Bool) → (a && b) ≡ true → b ≡ true
+pub and-second : (a b : Bool) → (a && b) ≡ true → b ≡ true
 and-second true b is = is
 and-second false b is = absurd cc
 
@@ -115,8 +109,8 @@ module _ (c : Configuration) (s : State) (q : RequesterId) (n : NodeId) (rise : 
     pub listed : is_listed n entry.kept ≡ true
     pub handed_to : IsHanded s n entry
 
-  found_for : is_for c s q n ≡ true → IsFound
-  found_for is =
+  pub found-for : is_for c s q n ≡ true → IsFound
+  found-for is =
       let at : PassesAt (λ (e : RequestEntry). is_handed_over c s q e && is_listed n e.kept) s.requests = any-place _ s.requests is in
       let over : is_handed_over c s q at.member ≡ true = and-first _ _ at.passes in
       let listed : is_listed n at.member.kept ≡ true = and-second _ _ at.passes in
@@ -125,7 +119,7 @@ module _ (c : Configuration) (s : State) (q : RequesterId) (n : NodeId) (rise : 
   none_by : (b : Bool) → is_for c s q n ≡ b → node_in n s.nodes ≡ None → is_for c s q n ≡ false
   none_by false is none = is
   none_by true is none =
-      let found = found_for is in
+      let found = found-for is in
       let no : None ≡ Some found.handed_to.node = sym none ∙ found.handed_to.stands in
       absurd cc
 
@@ -133,20 +127,10 @@ module _ (c : Configuration) (s : State) (q : RequesterId) (n : NodeId) (rise : 
   pub for-none : node_in n s.nodes ≡ None → is_for c s q n ≡ false
   for-none none = none_by (is_for c s q n) refl none
 
-  -- a node that is for the requester is ready and allocated
-  pub for-given : is_for c s q n ≡ true → (e : NodeEntry) → node_entry n s.nodes ≡ Some e → is_ready_allocated (node_view e) ≡ true
-  for-given is e there =
-      let found = found_for is in
-      let stands : node_in n s.nodes ≡ Some e.kept = ap (option_map (λ (x : NodeEntry). x.kept)) there in
-      let same : found.handed_to.node ≡ e.kept = (let told : Some found.handed_to.node ≡ Some e.kept = sym found.handed_to.stands ∙ stands in cc) in
-      let ready : is_ready e.kept.state ≡ true = ap (λ (x : NodeRecord). is_ready x.state) (sym same) ∙ found.handed_to.ready in
-      let allocated : e.kept.allocated_to ≡ Some found.entry.id = ap (λ (x : NodeRecord). x.allocated_to) (sym same) ∙ found.handed_to.allocated in
-      rw (ready, allocated) refl
-
   module _ (k : NodeRecord) (stands : node_in n s.nodes ≡ Some k) where
     there : is_for c s q n ≡ true → is_given c s q n k ≡ true
     there is =
-        let found = found_for is in
+        let found = found-for is in
         let same : found.handed_to.node ≡ k = (let told : Some found.handed_to.node ≡ Some k = sym found.handed_to.stands ∙ stands in cc) in
         let allocated : k.allocated_to ≡ Some found.entry.id = ap (λ (x : NodeRecord). x.allocated_to) (sym same) ∙ found.handed_to.allocated in
         rw (allocated, found.handed_to.found) (given_by found.entry found.over found.listed)
@@ -175,9 +159,3 @@ ids-rise c s reached = (invariant-Runs c reached.journal s reached.runs).numbere
 
 pub all-own : (c : Configuration) (s : State) → IsReached c s → FulfilledOwn s
 all-own c s reached = λ r request found fulfilled. fulfilled-Runs c reached.journal s reached.runs r request found fulfilled
-
--- a node whose lock passes is ready and allocated
-pub lock-given : (c : Configuration) (s : State) (q : RequesterId) (session : SessionId) (n : NodeId) → IsReached c s → (e : NodeEntry) → node_entry n s.nodes ≡ Some e → passes c s (Requester q) (ev.LockNode session n) ≡ true → is_ready_allocated (node_view e) ≡ true
-lock-given c s q session n reached e there passed =
-    let row : (is_for c s q n && not (is_queued session (node_queue n s.nodes))) ≡ true = and-second (is_ok (judge c s (ev.LockNode session n))) (is_for c s q n && not (is_queued session (node_queue n s.nodes))) passed in
-    for-given c s q n (ids-rise c s reached) (all-own c s reached) (and-first (is_for c s q n) (not (is_queued session (node_queue n s.nodes))) row) e there

@@ -3,3 +3,4 @@ pub mod ForLemmas
 pub mod Accepted
 pub mod StepLemmas
 pub mod Made
+pub mod LockLemmas

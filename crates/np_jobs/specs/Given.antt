@@ -1,5 +1,5 @@
 -- which nodes are for a requester, determined by what they are allocated to
-use Rattle.std.specs.Prelude.{Bool, false, ◌&&◌, [], is_some}
+use Rattle.std.specs.Prelude.{Bool, false, ◌&&◌, []}
 use Rattle.std.specs.Option.{option_map, option_map_or}
 use Rattle.std.specs.List.{list_any}
 use Rattle.np_text.specs.declared.id.RequesterId.{RequesterId}
@@ -9,8 +9,6 @@ use Rattle.np_site.specs.Configuration.{Configuration}
 use Rattle.np_record.specs.declared.record.NodeRecord.{NodeRecord}
 use Rattle.np_changes.specs.Asked.{asked_of, new_record}
 use Rattle.np_changes.specs.declared.asked.Asked.{Asked}
-use Rattle.np_look.specs.declared.asked.NodeView.{NodeView}
-use Rattle.np_machine.specs.Kinds.{is_ready}
 use Rattle.np_machine.specs.LiveHolder.{is_node}
 use Rattle.np_machine.specs.Tables.{request_in}
 use Rattle.np_machine.specs.State.{State}
@@ -24,7 +22,3 @@ has_given c s q n r asked = is_handed_over c s q (record { id = r; kept = new_re
 abbrev pub is_given : Configuration → State → RequesterId → NodeId → NodeRecord → Bool
 is_given c s q n k =
     option_map_or (λ r. option_map_or (has_given c s q n r) (option_map asked_of (request_in r s.requests)) false) k.allocated_to false
-
--- a ready node that is allocated to a request (own)
-abbrev pub is_ready_allocated : NodeView → Bool
-is_ready_allocated v = is_ready v.kept.state && is_some v.kept.allocated_to

@@ -7,24 +7,25 @@ ghost use Rattle.np_fits.specs.Fits.{Fits};
 ghost use Rattle.np_machine.specs.Session.{is_role};
 ghost use Rattle.np_roles.specs.Choices.{Chooses};
 
-use crate::node::ReadyAllocated;
+use crate::lock::first_lock;
 use crate::rows::RequesterRows;
 use crate::unfinished::next_with_unfinished;
 use np_event::Event;
 use np_look::Look;
 use np_roles::{
-    EventKind, NodeKind, choose_opening, current_session, first_node_lock, first_of_kinds,
-    first_release,
+    EventKind, NodeKind, choose_opening, current_session, first_of_kinds, first_release,
 };
 use np_text::{EndAs, RequesterId, Role};
 
 /// A useful event of the requester, or `None` if and only if there is none. It takes no memory. It
 /// looks up each of the requester's jobs that is not over, and judges at most three events for each
 /// of these that has begun or is in the window. Then it judges one event for each handle that a job
-/// has, and three for each node in whose queue its session is. Last it reads every node, and judges
-/// one event for each ready node that is allocated to a request. It stops at the first event that
-/// is useful. An event on a node costs a few lookups, however many requests there are; how a node
-/// that the requester uses is to be left is found by a search of all jobs.
+/// has, and three for each node in whose queue its session is. Last it looks up these jobs again,
+/// and the request of each that has asked for its nodes, and judges one event for each node of such
+/// a request that is fulfilled. It stops at the first event that is useful. An event on a node
+/// costs a few lookups, however many requests there are, if the readers `unfinished` and `owner`
+/// are lookups, as with an index. So the cost grows with the requester's jobs that are not over and
+/// the nodes that their requests have, and not with all nodes.
 pub fn choose_requester<L: Look>(look: &L, requester: RequesterId) -> Option<Event>
     requires there { is_role (L.site look.now) (Requester requester) ≡ true }
     requires reached { IsReached (L.site look.now) (L.state look.now) }
@@ -56,5 +57,5 @@ pub fn choose_requester<L: Look>(look: &L, requester: RequesterId) -> Option<Eve
     if leaving.is_some() {
         return leaving;
     }
-    first_node_lock(look, &rows, session, ReadyAllocated)
+    first_lock(look, &rows, session)
 }

@@ -11,24 +11,9 @@ ghost use Rattle.np_useful.specs.Rows.{node_is};
 ghost use Rattle.np_jobs.specs.Given.{has_given, is_given};
 
 use np_changes::Asked;
-use np_look::{Look, NodeView};
+use np_look::Look;
 use np_record::NodeRecord;
-use np_roles::NodeTest;
 use np_text::{EndAs, JobId, NodeId, NodeState, Phase, RequestId, RequestState, RequesterId};
-
-/// A ready node that is allocated to a request. Each node that is for a requester is one.
-#[derive(Clone, Copy)]
-pub(crate) struct ReadyAllocated;
-
-impl NodeTest for ReadyAllocated {
-    ghost use Rattle.np_jobs.specs.Given.{is_ready_allocated};
-
-    ghost such = { λ test view. is_ready_allocated view };
-
-    fn is_such(&self, view: &NodeView) -> bool {
-        view.kept.state == NodeState::Ready && view.kept.allocated_to.is_some()
-    }
-}
 
 /// Whether it is a job of the requester that has asked for its nodes.
 fn is_asked_by<L: Look>(look: &L, requester: RequesterId, id: JobId) -> bool
@@ -131,7 +116,8 @@ fn is_same_end(one: EndAs, other: EndAs) -> bool
     }
 }
 
-/// Whether the job that has the node leaves its nodes this way. It searches all jobs for the node.
+/// Whether the job that has the node leaves its nodes this way. It asks the reader `owner` for that
+/// job, which an index answers by one lookup.
 #[tactic(auto, using(np_look::proofs::OwnerLemmas::owner_at))]
 pub(crate) fn is_left_as<L: Look>(look: &L, node: NodeId, end: EndAs) -> bool
     ensures { result ≡ is_left_as (L.site look.now) (L.state look.now) node end }

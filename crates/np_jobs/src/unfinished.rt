@@ -20,7 +20,7 @@ use np_roles::passes;
 use np_text::{JobId, Phase, SessionId};
 
 /// Whether the job has asked for its nodes, and does not use them yet.
-fn is_asked(kept: &JobRecord) -> bool
+pub(crate) fn is_asked(kept: &JobRecord) -> bool
     ensures { result ≡ is_asked kept.now.phase }
 {
     kept.phase == Phase::Asked

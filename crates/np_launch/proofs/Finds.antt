@@ -1,25 +1,13 @@
--- the first member that passes, by what is seen at a place
-use Rattle.std.proofs.Common.{◌≡◌, ◌∙◌, ◌≤◌, ◌<◌, ℕ, zero, suc, Bool, true, false, List, [], ◌∷◌, length, drop, Option, Some, None, refl, ap, arith}
-use Rattle.std.specs.Prelude.{find, slice_get, is_some}
+-- the first member that passes a test
+use Rattle.std.proofs.Common.{◌≡◌, ◌∙◌, ◌≤◌, length, drop, ℕ, zero, suc, Bool, true, false, List, [], ◌∷◌, Option, Some, None, refl, sym, ap}
+use Rattle.std.specs.Prelude.{◌&&◌, ◌||◌, find, filter, map, slice_get, is_some, option_and_then, if◌then◌else◌}
 use Rattle.std.specs.Option.{option_map}
-use Rattle.std.specs.List.{list_any}
-
-module _ {X Y : Type 0} (p : Y → Bool) (f : X → Y) (q : X → Bool) (same : (x : X) → q x ≡ p (f x)) where
-  pub find-found : (xs : List X) (i : ℕ) (y : Y) → option_map f (slice_get xs i) ≡ Some y → p y ≡ true → option_map f (find q (drop i xs)) ≡ Some y
-  find-found [] i y is passes = absurd cc
-  find-found (x ∷ xs) zero y is passes = let here : f x ≡ y = cc in rw (same x, here, passes) (ap Some here)
-  find-found (x ∷ xs) (suc i) y is passes = find-found xs i y is passes
-
-  pub find-later : (xs : List X) (i : ℕ) (y : Y) → option_map f (slice_get xs i) ≡ Some y → p y ≡ false → find q (drop (suc i) xs) ≡ find q (drop i xs)
-  find-later [] i y is fails = absurd cc
-  find-later (x ∷ xs) zero y is fails = let here : f x ≡ y = cc in rw (same x, here, fails) refl
-  find-later (x ∷ xs) (suc i) y is fails = find-later xs i y is fails
-
-pub find-past : {X : Type 0} (q : X → Bool) (xs : List X) (i : ℕ) → slice_get xs i ≡ None → find q (drop i xs) ≡ None
-find-past q [] zero none = refl
-find-past q [] (suc i) none = refl
-find-past q (x ∷ xs) zero none = absurd cc
-find-past q (x ∷ xs) (suc i) none = find-past q xs i none
+use Rattle.std.specs.List.{AllByRecursion, list_any, remove}
+use Rattle.np_lists.specs.Rising.{Rises}
+use Rattle.np_lists.proofs.EditLemmas.{insert-remove}
+use Rattle.np_lists.proofs.FoundLemmas.{find-insert}
+use Rattle.np_lists.proofs.RisingLemmas.{none-remove}
+use Rattle.np_roles.proofs.Places.{any-here, drop-past}
 
 -- some member passes if there is a first one
 any-by : {X : Type 0} (q : X → Bool) (x : X) (xs : List X) (b : Bool) → q x ≡ b → list_any q xs ≡ is_some (find q xs) → list_any q (x ∷ xs) ≡ is_some (find q (x ∷ xs))
@@ -34,17 +22,6 @@ pub map-some : {X Y : Type 0} (f : X → Y) (o : Option X) → is_some (option_m
 map-some f None = refl
 map-some f (Some x) = refl
 
--- past the last place there is no member, and the first such place is the length
-pub end-there : {X : Type 0} (xs : List X) (i : ℕ) → i ≤ length xs → slice_get xs i ≡ None → i ≡ length xs
-end-there [] i low none = omega (arith, low)
-end-there (x ∷ xs) zero low none = absurd cc
-end-there (x ∷ xs) (suc i) low none = ap suc (end-there xs i (omega (arith, low)) none)
-
-pub before-end : {X : Type 0} (xs : List X) (i : ℕ) (x : X) → slice_get xs i ≡ Some x → i < length xs
-before-end [] i x there = absurd cc
-before-end (y ∷ xs) zero x there = omega arith
-before-end (y ∷ xs) (suc i) x there = let later = before-end xs i x there in omega (arith, later)
-
 some-by : {X : Type 0} (q : X → Bool) (x : X) (xs : List X) (b : Bool) → q x ≡ b → ((y : X) × (find q xs ≡ Some y)) → (y : X) × (find q (x ∷ xs) ≡ Some y)
 some-by q x xs true is later = (x, rw is refl)
 some-by q x xs false is later = (later.0, rw is later.1)
@@ -57,3 +34,70 @@ find-some {X = X} q (y ∷ xs) zero x there passes =
     let is : q y ≡ true = ap q same ∙ passes in
     (y, rw is refl)
 find-some q (y ∷ xs) (suc i) x there passes = some-by q y xs (q y) refl (find-some q xs i x there passes)
+
+named-by : {X I : Type 0} (name : X → I) (keep q : X → Bool) (t : I → Bool) (x : X) (xs : List X) (b : Bool) → keep x ≡ b → (keep x ≡ true → t (name x) ≡ q x) → (q x ≡ true → keep x ≡ true) → list_any t (map name (filter keep xs)) ≡ list_any q xs → list_any t (map name (filter keep (x ∷ xs))) ≡ list_any q (x ∷ xs)
+named-by name keep q t x xs true is same kept later = rw (is, same is) (ap (λ (b : Bool). q x || b) later)
+named-by name keep q t x xs false is same kept later = by (q x) refl where
+  by : (b : Bool) → q x ≡ b → list_any t (map name (filter keep (x ∷ xs))) ≡ list_any q (x ∷ xs)
+  by true passes = let no : keep x ≡ true = kept passes in absurd cc
+  by false fails = rw (is, fails) later
+
+-- by names: one of the members that are kept passes if some member does, as each that passes is kept
+pub any-named : {X I : Type 0} (name : X → I) (keep q : X → Bool) (t : I → Bool) (xs : List X) → AllByRecursion (λ x. keep x ≡ true → t (name x) ≡ q x) xs → ((x : X) → q x ≡ true → keep x ≡ true) → list_any t (map name (filter keep xs)) ≡ list_any q xs
+any-named name keep q t [] all kept = refl
+any-named name keep q t (x ∷ xs) all kept = named-by name keep q t x xs (keep x) refl all.0 (kept x) (any-named name keep q t xs all.1 kept)
+
+-- ## a walk
+
+-- a member that passes, from its place on
+pub any-found : {X : Type 0} (p : X → Bool) (xs : List X) (i : ℕ) (x : X) → slice_get xs i ≡ Some x → p x ≡ true → list_any p (drop i xs) ≡ true
+any-found p xs i x there passes = any-here p xs i x there ∙ rw passes refl
+
+-- past the end none passes
+pub any-past : {X : Type 0} (p : X → Bool) (xs : List X) (i : ℕ) → length xs ≤ i → list_any p (drop i xs) ≡ false
+any-past p xs i past = rw (drop-past xs i past) refl
+
+-- ## by an order
+
+-- in an order, the member at a place is the one that is found, if no earlier or later one passes
+pub find-there : {X : Type 0} (before : X → X → Bool) (p : X → Bool) (xs : List X) (i : ℕ) (x : X) → Rises before xs → slice_get xs i ≡ Some x → ((y : X) → before y x ≡ true → p y ≡ false) → ((y : X) → before x y ≡ true → p y ≡ false) → p x ≡ true → find p xs ≡ Some x
+find-there before p xs i x rise there earlier later passes =
+    let none = none-remove before p xs i x rise there earlier later in
+    ap (λ (ys : List _). find p ys) (sym (insert-remove xs i x there))
+    ∙ find-insert p (remove xs i) i x (λ is. none)
+    ∙ rw passes refl
+
+-- none is found if none passes
+pub find-none : {X : Type 0} (q : X → Bool) (xs : List X) → ((x : X) → q x ≡ false) → find q xs ≡ None
+find-none q [] none = refl
+find-none q (x ∷ xs) none = rw (none x) (find-none q xs none)
+
+-- ## one test that does not depend on the member, and one that does
+
+module _ {X I : Type 0} (name : X → I) (q : I → Bool) (p : X → Bool) where
+  -- the name, if it passes
+  abbrev tested : Option I → Option I
+  tested o = option_and_then (λ i. if q i then Some i else None) o
+
+  none-passes : (xs : List X) → AllByRecursion (λ x. q (name x) ≡ false) xs → option_map name (find (λ x. q (name x)) xs) ≡ None
+  none-passes [] all = refl
+  none-passes (x ∷ xs) all = rw all.0 (none-passes xs all.1)
+
+  none-tested : (xs : List X) → AllByRecursion (λ x. q (name x) ≡ false) xs → tested (option_map name (slice_get (filter p xs) 0)) ≡ None
+  none-tested [] all = refl
+  none-tested (x ∷ xs) all = by (p x) refl all.0 (none-tested xs all.1) where
+    by : (b : Bool) → p x ≡ b → q (name x) ≡ false → tested (option_map name (slice_get (filter p xs) 0)) ≡ None → tested (option_map name (slice_get (filter p (x ∷ xs)) 0)) ≡ None
+    by true is fails later = rw is (rw fails refl)
+    by false is fails later = rw is later
+
+  first-same : (xs : List X) → AllByRecursion (λ x. q (name x) ≡ p x) xs → option_map name (find (λ x. q (name x)) xs) ≡ tested (option_map name (slice_get (filter p xs) 0))
+  first-same [] all = refl
+  first-same (x ∷ xs) all = by (p x) refl all.0 (first-same xs all.1) where
+    by : (b : Bool) → p x ≡ b → q (name x) ≡ p x → option_map name (find (λ y. q (name y)) xs) ≡ tested (option_map name (slice_get (filter p xs) 0)) → option_map name (find (λ y. q (name y)) (x ∷ xs)) ≡ tested (option_map name (slice_get (filter p (x ∷ xs)) 0))
+    by true is same later = let passes : q (name x) ≡ true = same ∙ is in rw (is, passes) refl
+    by false is same later = let fails : q (name x) ≡ false = same ∙ is in rw (is, fails) later
+
+  -- the first that passes both is the first that passes the second, if that passes
+  pub first-tested : (t : Bool) (xs : List X) → AllByRecursion (λ x. q (name x) ≡ (t && p x)) xs → option_map name (find (λ x. q (name x)) xs) ≡ option_and_then (λ i. if q i then Some i else None) (option_map name (slice_get (filter p xs) 0))
+  first-tested true xs all = first-same xs all
+  first-tested false xs all = none-passes xs all ∙ sym (none-tested xs all)

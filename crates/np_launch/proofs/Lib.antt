@@ -1,5 +1,7 @@
 pub mod Allocated
 pub mod Finds
+pub mod Named
+pub mod Sisters
 pub mod Reasons
 pub mod Spares
 pub mod Sums

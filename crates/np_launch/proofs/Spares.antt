@@ -1,6 +1,7 @@
--- without a spare node, none may be allocated to the request
-use Rattle.std.proofs.Common.{◌≡◌, ◌∙◌, ℕ, zero, suc, Bool, true, false, List, [], ◌∷◌, Option, Some, None, Ok, Err, refl, sym, ap, arith}
-use Rattle.std.specs.Prelude.{◌==◌, find, filter, slice_get, is_some}
+-- the first node that may be allocated to a request is the first spare one of its next label, if that
+-- one may be
+use Rattle.std.proofs.Common.{◌≡◌, ◌∙◌, ℕ, Bool, true, false, List, Option, Some, None, Result, Ok, Err, refl, sym, ap, arith}
+use Rattle.std.specs.Prelude.{◌==◌, ◌&&◌, find, slice_get, is_ok, is_none, is_some, nat_lt, option_and_then, if◌then◌else◌}
 use Rattle.std.specs.Option.{option_map}
 use Rattle.std.proofs.lemmas.Bool.Decides.{nat_tests}
 use Rattle.np_text.specs.declared.id.SessionId.{SessionId}
@@ -14,91 +15,149 @@ use Rattle.np_site.specs.Configuration.{Configuration}
 use Rattle.np_record.specs.declared.record.RequestRecord.{RequestRecord}
 use Rattle.np_event.specs.declared.event.Event.TheVariants as ev
 use Rattle.np_event.specs.declared.reply.Done.{Done}
+use Rattle.np_event.specs.declared.reply.Done.TheVariants as done
 use Rattle.np_event.specs.declared.reply.Refusal.{Refusal}
-use Rattle.np_lists.proofs.FoundLemmas.{find-passes}
+use Rattle.np_event.specs.declared.reply.Refusal.TheVariants as no
+use Rattle.np_lists.specs.Refusals.{◌>>=◌, ◌>>◌, need, vacant}
+use Rattle.np_lists.specs.Rising.{Rises}
+use Rattle.np_lists.proofs.Each.{all-from_at}
 use Rattle.np_machine.specs.declared.state.SessionFacts.{SessionFacts}
+use Rattle.np_machine.specs.Count.{is_kind}
 use Rattle.np_machine.specs.Entries.{NodeEntry}
+use Rattle.np_machine.specs.Kinds.{is_ready}
+use Rattle.np_machine.specs.Order.{is_pending_by}
 use Rattle.np_machine.specs.Reasons.{next_label, is_spare}
 use Rattle.np_machine.specs.State.{State}
 use Rattle.np_machine.specs.Step.{judge}
-use Rattle.np_machine.specs.Tables.{session_of, request_in, node_entry}
-use Rattle.np_machine.specs.Tests.{as_launcher}
+use Rattle.np_machine.specs.Tables.{session_of, is_session_of, registered, request_in, request_holder, node_entry, holder}
+use Rattle.np_machine.specs.Tests.{launcher, as_launcher, maker, wrong_request, wrong_node}
+use Rattle.np_changes.specs.Planned.{IsReached}
+use Rattle.np_changes.proofs.Tested.{ok-is, on-found, on-need, on-not}
 use Rattle.np_look.specs.Readers.{free_ready_of}
-use Rattle.np_roles.proofs.Places.{find-place}
-use Rattle.np_changes.proofs.Tested.{ok-is}
-use Rattle.np_launch.specs.Computed.{is_takable, first_takable, has_free_ready, has_spare}
+use Rattle.np_safe.proofs.Runs.{invariant-Runs}
+use Rattle.np_useful.specs.Launcher.{may_take_ready}
+use Rattle.np_launch.specs.Computed.{pool_of_role, pool_of, first_free, is_takable, first_takable}
+use Rattle.np_launch.proofs.Finds.{any-find, map-some, find-none, find-there, first-tested}
 
-is-true : (b : Bool) → (b ≡ false → ⊥) → b ≡ true
-is-true true other = refl
-is-true false other = absurd (other refl)
+is-false : (b : Bool) → (b ≡ true → ⊥) → b ≡ false
+is-false false other = refl
+is-false true other = absurd (other refl)
 
-some-one : {X : Type 0} (o : Option X) → (o ≡ None → ⊥) → (x : X) × (o ≡ Some x)
-some-one None there = absurd (there refl)
-some-one (Some x) there = (x, refl)
+-- ## nodes, each number once
 
-kept-by : {X : Type 0} (q : X → Bool) (x : X) (xs : List X) (b : Bool) → q x ≡ b → (slice_get (filter q xs) 0 ≡ None → ⊥) → slice_get (filter q (x ∷ xs)) 0 ≡ None → ⊥
-kept-by q x xs true is later none = let first : slice_get (filter q (x ∷ xs)) 0 ≡ Some x = rw is refl in cc
-kept-by q x xs false is later none = let rest : slice_get (filter q (x ∷ xs)) 0 ≡ slice_get (filter q xs) 0 = rw is refl in later (sym rest ∙ none)
+earlier-apart : (a b : NodeId) → nat_lt a.0 b.0 ≡ true → (a.0 == b.0) ≡ false
+earlier-apart a b order = grind (arith, nat_tests)
 
--- a member that passes is kept
-kept-some : {X : Type 0} (q : X → Bool) (xs : List X) (i : ℕ) (x : X) → slice_get xs i ≡ Some x → q x ≡ true → slice_get (filter q xs) 0 ≡ None → ⊥
-kept-some q [] i x there passes none = absurd cc
-kept-some q (y ∷ xs) zero x there passes none =
-    let same : y ≡ x = cc in
-    let first : slice_get (filter q (y ∷ xs)) 0 ≡ Some y = rw (ap q same ∙ passes) refl in
-    cc
-kept-some q (y ∷ xs) (suc i) x there passes none = kept-by q y xs (q y) refl (kept-some q xs i x there passes) none
+later-apart : (a b : NodeId) → nat_lt b.0 a.0 ≡ true → (a.0 == b.0) ≡ false
+later-apart a b order = grind (arith, nat_tests)
 
-mapped-some : {X Y : Type 0} (f : X → Y) (o : Option X) → (o ≡ None → ⊥) → is_some (option_map f o) ≡ true
-mapped-some f None there = absurd (there refl)
-mapped-some f (Some x) there = refl
+same-self : (n : NodeId) → (n.0 == n.0) ≡ true
+same-self n = grind (arith, nat_tests)
 
-module _ (c : Configuration) (s : State) (session : SessionId) (r : RequestId) (n : NodeId) (what : Done) (is : judge c s (ev.TakeReady session r n) ≡ Ok what) where
-  no-session : session_of session s ≡ None → ⊥
-  no-session none = grind (arith, nat_tests)
+-- the node at a place is the node with its number
+node-there : (rows : List NodeEntry) (i : ℕ) (e : NodeEntry) → Rises (λ a b. nat_lt a.id.0 b.id.0) rows → slice_get rows i ≡ Some e → node_entry e.id rows ≡ Some e
+node-there rows i e rise there =
+    find-there (λ (a b : NodeEntry). nat_lt a.id.0 b.id.0) (λ (x : NodeEntry). x.id.0 == e.id.0) rows i e rise there (λ y order. earlier-apart y.id e.id order) (λ y order. later-apart y.id e.id order) (same-self e.id)
 
-  no-launcher : (facts : SessionFacts) (why : Refusal) → session_of session s ≡ Some facts → as_launcher facts.role ≡ Err why → ⊥
-  no-launcher facts why there role = grind (arith, nat_tests)
+-- ## the tests of an allocation
 
-  no-request : request_in r s.requests ≡ None → ⊥
-  no-request none = grind (arith, nat_tests)
+-- the tests of the request, and those of the node
+tests : (known held pending free ready kind : Bool) (o : Option RequestId) (h : Option SessionId) (wrong late : Refusal) (label : Refusal) →
+    is_ok (need known no.NotRegistered >> (need held no.NotHeld >> (need pending wrong >> (need free no.NotOwner >> (need ready late >> (vacant o no.Allocated >> (need kind label >> (vacant h no.Busy >> Ok done.Held))))))))
+    ≡ ((known && (held && (pending && free))) && (((ready && is_none o) && is_none h) && kind))
+tests false held pending free ready kind o h wrong late label = refl
+tests true false pending free ready kind o h wrong late label = refl
+tests true true false free ready kind o h wrong late label = refl
+tests true true true false ready kind o h wrong late label = refl
+tests true true true true false kind o h wrong late label = refl
+tests true true true true true kind (Some r) h wrong late label = refl
+tests true true true true true false None None wrong late label = refl
+tests true true true true true false None (Some x) wrong late label = refl
+tests true true true true true true None None wrong late label = refl
+tests true true true true true true None (Some x) wrong late label = refl
 
-  no-label : (k : RequestRecord) → request_in r s.requests ≡ Some k → next_label k ≡ None → ⊥
-  no-label k there none = grind (arith, nat_tests)
+-- the pool of the launcher that makes the event is the session's
+pool-is : (s : State) (session : SessionId) (p : PoolId) → launcher s session ≡ Ok p → pool_of s session ≡ Some p
+pool-is s session p by = of_maker (maker s session) refl by where
+  of_role : (role : Role) → as_launcher role ≡ Ok p → pool_of_role role ≡ Some p
+  of_role (Launcher q) is = let same : q ≡ p = cc in ap (λ (x : PoolId). Some x) same
+  of_role (Janitor q) is = absurd cc
+  of_role (Requester q) is = absurd cc
+  of_role Reaper is = absurd cc
 
-  no-node : node_entry n s.nodes ≡ None → ⊥
-  no-node none = grind (arith, nat_tests)
+  of_session : (role : Role) → maker s session ≡ Ok role → option_map (λ (facts : SessionFacts). facts.role) (session_of session s) ≡ Some role
+  of_session role is =
+      on-found (session_of session s) no.NoSession _ role is (λ facts there rest.
+      on-need facts.live no.Expired _ role rest (λ live rest.
+      on-not facts.mute no.Crashed _ role rest (λ heard rest.
+      let same : facts.role ≡ role = cc in
+      rw there (ap (λ (x : Role). Some x) same))))
 
-  not-spare : (facts : SessionFacts) (p : PoolId) (k : RequestRecord) (l : LabelId) (e : NodeEntry) → session_of session s ≡ Some facts → facts.role ≡ Launcher p → request_in r s.requests ≡ Some k → next_label k ≡ Some l → node_entry n s.nodes ≡ Some e → is_spare p l e ≡ false → ⊥
-  not-spare facts p k l e there role request label node other = grind (arith, nat_tests)
+  of_facts : (o : Option SessionFacts) (role : Role) → option_map (λ (facts : SessionFacts). facts.role) o ≡ Some role → as_launcher role ≡ Ok p → option_and_then (λ (facts : SessionFacts). pool_of_role facts.role) o ≡ Some p
+  of_facts None role there is = absurd cc
+  of_facts (Some facts) role there is = let same : role ≡ facts.role = cc in of_role facts.role (ap as_launcher (sym same) ∙ is)
 
-  free-ready : (facts : SessionFacts) (p : PoolId) → session_of session s ≡ Some facts → facts.role ≡ Launcher p → has_free_ready s r p ≡ true
-  free-ready facts p there role =
-      let request = some-one (request_in r s.requests) no-request in
-      let label = some-one (next_label request.0) (no-label request.0 request.1) in
-      let node = some-one (node_entry n s.nodes) no-node in
-      let spare = is-true (is_spare p label.0 node.0) (not-spare facts p request.0 label.0 node.0 there role request.1 label.1 node.1) in
-      let place = find-place (λ (e : NodeEntry). e.id.0 == n.0) s.nodes node.0 node.1 in
-      let free : is_some (free_ready_of p label.0 0 s) ≡ true = mapped-some (λ (e : NodeEntry). e.id) (slice_get (filter (is_spare p label.0) s.nodes) 0) (kept-some (is_spare p label.0) s.nodes place.at node.0 place.there spare) in
-      rw (request.1, label.1) free
-
-  by-role : (facts : SessionFacts) (role : Role) → session_of session s ≡ Some facts → facts.role ≡ role → has_spare s session r ≡ true
-  by-role facts (Launcher p) there is_role = rw (there, is_role) (free-ready facts p there is_role)
-  by-role facts (Janitor p) there is_role = absurd (no-launcher facts _ there (ap as_launcher is_role))
-  by-role facts (Requester q) there is_role = absurd (no-launcher facts _ there (ap as_launcher is_role))
-  by-role facts Reaper there is_role = absurd (no-launcher facts _ there (ap as_launcher is_role))
-
-  takable-spare : has_spare s session r ≡ true
-  takable-spare = let facts = some-one (session_of session s) no-session in by-role facts.0 facts.0.role facts.1 refl
+  of_maker : (o : Result Role Refusal) → maker s session ≡ o → (o >>= as_launcher) ≡ Ok p → pool_of s session ≡ Some p
+  of_maker (Err why) made is = absurd cc
+  of_maker (Ok role) made is = of_facts (session_of session s) role (of_session role made) is
 
 module _ (c : Configuration) (s : State) (session : SessionId) (r : RequestId) where
-  none-by : has_spare s session r ≡ false → (o : Option NodeEntry) → find (is_takable c s session r) s.nodes ≡ o → o ≡ None
-  none-by without None found = refl
-  none-by without (Some e) found =
-      let answer = ok-is (judge c s (ev.TakeReady session r e.id)) (find-passes (is_takable c s session r) s.nodes e found) in
-      let spare : has_spare s session r ≡ true = takable-spare c s session r e.id answer.0 answer.1 in
-      absurd cc
+  -- the node, if it may be allocated
+  abbrev taken : Option NodeId → Option NodeId
+  taken o = option_and_then (λ n. if is_takable c s session r n then Some n else None) o
 
-  -- without a spare node, there is no first one
-  pub none-takable : has_spare s session r ≡ false → None ≡ first_takable c s session r
-  none-takable without = sym (ap (λ (o : Option NodeEntry). option_map (λ (e : NodeEntry). e.id) o) (none-by without (find (is_takable c s session r) s.nodes) refl))
+  -- the first of all nodes that may be allocated
+  abbrev first : Option NodeId
+  first = option_map (λ (e : NodeEntry). e.id) (find (λ (e : NodeEntry). is_takable c s session r e.id) s.nodes)
+
+  -- if none may be, none is found
+  refused : ((n : NodeId) → is_takable c s session r n ≡ false) → (o : Option NodeId) → first ≡ taken o
+  refused none o =
+      ap (λ (x : Option NodeEntry). option_map (λ (e : NodeEntry). e.id) x) (find-none (λ (e : NodeEntry). is_takable c s session r e.id) s.nodes (λ e. none e.id)) ∙ by o
+    where
+      by : (o : Option NodeId) → None ≡ taken o
+      by None = refl
+      by (Some n) = rw (none n) refl
+
+  module _ (p : PoolId) (by : launcher s session ≡ Ok p) where
+    no-label : (n : NodeId) (k : RequestRecord) (what : Done) → request_in r s.requests ≡ Some k → next_label k ≡ None → judge c s (ev.TakeReady session r n) ≡ Ok what → ⊥
+    no-label n k what request none is = grind (arith, nat_tests)
+
+    complete : (n : NodeId) (k : RequestRecord) → request_in r s.requests ≡ Some k → next_label k ≡ None → is_takable c s session r n ≡ true → ⊥
+    complete n k request none is = let answer = ok-is (judge c s (ev.TakeReady session r n)) is in no-label n k answer.0 request none answer.1
+
+    module _ (rise : Rises (λ a b. nat_lt a.id.0 b.id.0) s.nodes) where
+      -- of the request, whatever the node
+      abbrev asked : RequestRecord → Bool
+      asked k = is_session_of session (registered p s.registrations) && (is_session_of session (request_holder r s.requests) && (is_pending_by p k && is_none k.pinned))
+
+      split : (k : RequestRecord) (l : LabelId) → request_in r s.requests ≡ Some k → next_label k ≡ Some l → (i : ℕ) (e : NodeEntry) → slice_get s.nodes i ≡ Some e → is_takable c s session r e.id ≡ (asked k && is_spare p l e)
+      split k l request label i e there =
+          let node : node_entry e.id s.nodes ≡ Some e = node-there s.nodes i e rise there in
+          rw (by, request, node, label) (tests (is_session_of session (registered p s.registrations)) (is_session_of session (request_holder r s.requests)) (is_pending_by p k) (is_none k.pinned) (is_ready e.kept.state) (is_kind p l e) e.kept.allocated_to (holder e.queue) (wrong_request k) (wrong_node e.kept) (no.NoLabel l))
+
+      by-label : (k : RequestRecord) (o : Option LabelId) → request_in r s.requests ≡ Some k → next_label k ≡ o → first ≡ first_takable c s session r
+      by-label k None request none = refused (λ n. is-false (is_takable c s session r n) (complete n k request none)) (option_and_then (first_free s r) (pool_of s session))
+      by-label k (Some l) request label =
+          let free : option_and_then (first_free s r) (pool_of s session) ≡ free_ready_of p l 0 s = rw (pool-is s session p by, request, label) refl in
+          first-tested (λ (e : NodeEntry). e.id) (is_takable c s session r) (is_spare p l) (asked k) s.nodes (all-from_at (λ (e : NodeEntry). is_takable c s session r e.id ≡ (asked k && is_spare p l e)) s.nodes (split k l request label))
+          ∙ ap taken (sym free)
+
+      by-request : (o : Option RequestRecord) → request_in r s.requests ≡ o → first ≡ first_takable c s session r
+      by-request None none = refused (λ n. rw (by, none) refl) (option_and_then (first_free s r) (pool_of s session))
+      by-request (Some k) request = by-label k (next_label k) request refl
+
+  by-launcher : Rises (λ a b. nat_lt a.id.0 b.id.0) s.nodes → (o : Result PoolId Refusal) → launcher s session ≡ o → first ≡ first_takable c s session r
+  by-launcher rise (Err why) none = refused (λ n. rw none refl) (option_and_then (first_free s r) (pool_of s session))
+  by-launcher rise (Ok p) by = by-request p by rise (request_in r s.requests) refl
+
+  -- the first of all nodes that may be allocated is the one that is computed
+  pub first-is : IsReached c s → first ≡ first_takable c s session r
+  first-is reached = by-launcher (invariant-Runs c reached.journal s reached.runs).numbered.nodes_rise (launcher s session) refl
+
+  -- some node may be allocated if there is a first one
+  pub may-take : IsReached c s → may_take_ready c s session r ≡ is_some (first_takable c s session r)
+  may-take reached =
+      any-find (λ (e : NodeEntry). is_takable c s session r e.id) s.nodes
+      ∙ sym (map-some (λ (e : NodeEntry). e.id) (find (λ (e : NodeEntry). is_takable c s session r e.id) s.nodes))
+      ∙ ap (λ (o : Option NodeId). is_some o) (first-is reached)

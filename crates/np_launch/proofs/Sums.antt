@@ -1,7 +1,7 @@
 -- the events of a launcher that are computed: what passes is useful, and each useful event is among
 -- them
 use Rattle.std.proofs.Common.{◌≡◌, ◌∙◌, ◌<◌, ◌-◌, ℕ, Bool, true, false, Option, Some, None, Result, Ok, refl, sym, ap, subst, arith}
-use Rattle.std.specs.Prelude.{◌&&◌, ◌==◌, not, slice_get, is_ok, if◌then◌else◌, option_and_then}
+use Rattle.std.specs.Prelude.{◌&&◌, ◌==◌, not, find, slice_get, if◌then◌else◌, option_and_then}
 use Rattle.std.specs.Option.{option_map, option_map_or}
 use Rattle.std.proofs.lemmas.Bool.Decides.{nat_tests}
 use Rattle.np_text.specs.declared.id.SessionId.{SessionId}
@@ -44,6 +44,7 @@ use Rattle.np_roles.proofs.Currents.{current-speaks}
 use Rattle.np_roles.proofs.Openings.{same-role}
 use Rattle.np_roles.proofs.Places.{StandsIn, find-place, within}
 use Rattle.np_roles.proofs.Queues.{holder-queued, queued-request, queued-node}
+use Rattle.np_changes.specs.Planned.{IsReached}
 use Rattle.np_changes.proofs.Tested.{ok-is}
 use Rattle.np_roles.proofs.Searches.{passes-useful, useful-passes, passing-is, passing-none, made-by}
 use Rattle.np_launch.specs.declared.computed.ComputedKind.{ComputedKind}
@@ -51,6 +52,7 @@ use Rattle.np_launch.specs.declared.computed.ComputedKind.TheVariants as compute
 use Rattle.np_launch.specs.Computed.{first_reason, is_takable, first_takable, done_at, take_ready_at, decline_at, computed_places, computed_at}
 use Rattle.np_launch.specs.Choices.{NoneComputed, ChoosesComputed}
 use Rattle.np_launch.proofs.Finds.{find-some}
+use Rattle.np_launch.proofs.Spares.{first-is}
 use Rattle.np_launch.proofs.Reasons.{reason-is, reason-found}
 
 -- ## parts
@@ -236,24 +238,27 @@ module _ (c : Configuration) (s : State) (p : PoolId) (session : SessionId) wher
       ∙ ap (λ (b : Bool). if b then option_map (λ m. ev.TakeReady session r m) (first_takable c s session r) else None) pending
       ∙ ap (λ (x : Option NodeId). option_map (λ m. ev.TakeReady session r m) x) first
 
-  take-stands : launcher s session ≡ Ok p → (r : RequestId) (n : NodeId) → IsUseful c s (Launcher p) (ev.TakeReady session r n) → Stands computed.TakeReady
-  take-stands by r n useful =
+  first-there : IsReached c s → (r : RequestId) (e : NodeEntry) → find (λ (x : NodeEntry). is_takable c s session r x.id) s.nodes ≡ Some e → first_takable c s session r ≡ Some e.id
+  first-there reached r e found = sym (first-is c s session r reached) ∙ ap (λ (o : Option NodeEntry). option_map (λ (x : NodeEntry). x.id) o) found
+
+  take-stands : IsReached c s → launcher s session ≡ Ok p → (r : RequestId) (n : NodeId) → IsUseful c s (Launcher p) (ev.TakeReady session r n) → Stands computed.TakeReady
+  take-stands reached by r n useful =
       let answer = ok-is (judge c s (ev.TakeReady session r n)) useful.accepted in
       let request = some-one (request_in r s.requests) (no-request c s session answer.0 p by r n answer.1) in
       let node = some-one (node_entry n s.nodes) (no-node c s session answer.0 p by r n answer.1) in
       let pending = is-true (is_pending_by p request.0) (not-pending c s session answer.0 p by r n request.0 answer.1 request.1) in
       let among = find-place (λ (e : NodeEntry). e.id.0 == n.0) s.nodes node.0 node.1 in
       let same : node.0.id ≡ n = same_node-is node.0.id n (find-passes (λ (e : NodeEntry). e.id.0 == n.0) s.nodes node.0 node.1) in
-      let takable : is_takable c s session r node.0 ≡ true = ap (λ (m : NodeId). is_ok (judge c s (ev.TakeReady session r m))) same ∙ useful.accepted in
-      let first = find-some (is_takable c s session r) s.nodes among.at node.0 among.there takable in
+      let takable : is_takable c s session r node.0.id ≡ true = ap (is_takable c s session r) same ∙ useful.accepted in
+      let first = find-some (λ (e : NodeEntry). is_takable c s session r e.id) s.nodes among.at node.0 among.there takable in
       let place = request-place r (not-taken c s session answer.0 r n answer.1) in
       record {
         at = place.at;
         low = place.within;
         event = ev.TakeReady session r first.0.id;
-        there = take-there r request.0 first.0.id place.at place.there request.1 pending (ap (λ (o : Option NodeEntry). option_map (λ (e : NodeEntry). e.id) o) first.1);
+        there = take-there r request.0 first.0.id place.at place.there request.1 pending (first-there reached r first.0 first.1);
         useful = record {
-          accepted = find-passes (is_takable c s session r) s.nodes first.0 first.1;
+          accepted = find-passes (λ (e : NodeEntry). is_takable c s session r e.id) s.nodes first.0 first.1;
           maker = useful.maker;
           row = useful.row;
         };
@@ -294,7 +299,7 @@ module _ (c : Configuration) (s : State) (p : PoolId) (session : SessionId) wher
 
 -- ## the search
 
-module _ (c : Configuration) (s : State) (p : PoolId) (session : SessionId) (current : is_current (Launcher p) session s ≡ true) where
+module _ (c : Configuration) (s : State) (reached : IsReached c s) (p : PoolId) (session : SessionId) (current : is_current (Launcher p) session s ≡ true) where
   first-useful : (kind : ComputedKind) (e : Event) → IsFirst c s (Launcher p) (computed_places c s session kind) (computed_at c s p session kind) e → IsUseful c s (Launcher p) e
   first-useful kind e first =
       let parts = passing-is c s (Launcher p) (computed_at c s p session kind first.at) e first.there in
@@ -313,7 +318,7 @@ module _ (c : Configuration) (s : State) (p : PoolId) (session : SessionId) (cur
       none-stands computed.Done none (done-stands c s p session n attempt o (subst (λ (x : SessionId). IsUseful c s (Launcher p) (ev.Done x n attempt o)) same useful))
   none-computed computed.TakeReady none = λ other r n useful.
       let same : other ≡ session = made-by c s (Launcher p) session current other (ev.TakeReady other r n) refl useful in
-      none-stands computed.TakeReady none (take-stands c s p session (launcher-is s p session current) r n (subst (λ (x : SessionId). IsUseful c s (Launcher p) (ev.TakeReady x r n)) same useful))
+      none-stands computed.TakeReady none (take-stands c s p session reached (launcher-is s p session current) r n (subst (λ (x : SessionId). IsUseful c s (Launcher p) (ev.TakeReady x r n)) same useful))
   none-computed computed.Decline none = λ other r why useful.
       let same : other ≡ session = made-by c s (Launcher p) session current other (ev.Decline other r why) refl useful in
       none-stands computed.Decline none (decline-stands c s p session r why (subst (λ (x : SessionId). IsUseful c s (Launcher p) (ev.Decline x r why)) same useful))

@@ -1,6 +1,6 @@
 -- the events of a launcher that name more than a request, a node or a job, by place
-use Rattle.std.specs.Prelude.{ℕ, Bool, true, false, ◌==◌, if◌then◌else◌, Option, Some, None, is_some, length, find, slice_get, is_ok, option_and_then}
-use Rattle.std.specs.Option.{option_map, option_map_or}
+use Rattle.std.specs.Prelude.{ℕ, Bool, true, false, ◌==◌, if◌then◌else◌, Option, Some, None, length, find, slice_get, is_ok, option_and_then}
+use Rattle.std.specs.Option.{option_map}
 use Rattle.np_text.specs.declared.id.SessionId.{SessionId}
 use Rattle.np_text.specs.declared.id.PoolId.{PoolId}
 use Rattle.np_text.specs.declared.id.LabelId.{LabelId}
@@ -14,7 +14,6 @@ use Rattle.np_site.specs.Configuration.{Configuration}
 use Rattle.np_record.specs.declared.record.RequestRecord.{RequestRecord}
 use Rattle.np_event.specs.declared.event.Event.{Event}
 use Rattle.np_event.specs.declared.event.Event.TheVariants as ev
-use Rattle.np_machine.specs.Entries.{NodeEntry}
 use Rattle.np_machine.specs.Order.{is_pending_by}
 use Rattle.np_machine.specs.Plan.{outcome_of}
 use Rattle.np_machine.specs.Reasons.{next_label, first_unoffered, never_fits, is_spent}
@@ -23,7 +22,6 @@ use Rattle.np_machine.specs.Tenants.{tenant_never_fits}
 use Rattle.np_machine.specs.State.{State}
 use Rattle.np_machine.specs.Step.{judge}
 use Rattle.np_look.specs.Readers.{free_ready_of, queued_requests, queued_nodes}
-use Rattle.np_useful.specs.Rows.{request_is}
 use Rattle.np_launch.specs.declared.computed.ComputedKind.{ComputedKind}
 use Rattle.np_launch.specs.declared.computed.ComputedKind.TheVariants as computed
 
@@ -55,14 +53,6 @@ abbrev pub is_reason : Reason → Option Reason → Bool
 is_reason why None = false
 is_reason why (Some other) = same_reason why other
 
--- the session may allocate the ready node to the request
-abbrev pub is_takable : Configuration → State → SessionId → RequestId → NodeEntry → Bool
-is_takable c s session r e = is_ok (judge c s (ev.TakeReady session r e.id))
-
--- the first node that the session may allocate to the request
-abbrev pub first_takable : Configuration → State → SessionId → RequestId → Option NodeId
-first_takable c s session r = option_map (λ e. e.id) (find (is_takable c s session r) s.nodes)
-
 -- the pool of a launcher
 abbrev pub pool_of_role : Role → Option PoolId
 pool_of_role (Launcher p) = Some p
@@ -74,13 +64,18 @@ pool_of_role Reaper = None
 abbrev pub pool_of : State → SessionId → Option PoolId
 pool_of s session = option_and_then (λ facts. pool_of_role facts.role) (session_of session s)
 
--- the pool has a ready, free and unlocked node of the request's next label
-abbrev pub has_free_ready : State → RequestId → PoolId → Bool
-has_free_ready s r p = request_is r s (λ k. option_map_or (λ l. is_some (free_ready_of p l 0 s)) (next_label k) false)
+-- the first ready, free and unlocked node of the pool with the request's next label
+abbrev pub first_free : State → RequestId → PoolId → Option NodeId
+first_free s r p = option_and_then (λ k. option_and_then (λ l. free_ready_of p l 0 s) (next_label k)) (request_in r s.requests)
 
--- the pool of the session's launcher has such a node
-abbrev pub has_spare : State → SessionId → RequestId → Bool
-has_spare s session r = option_map_or (has_free_ready s r) (pool_of s session) false
+-- the session may allocate the node to the request
+abbrev pub is_takable : Configuration → State → SessionId → RequestId → NodeId → Bool
+is_takable c s session r n = is_ok (judge c s (ev.TakeReady session r n))
+
+-- the first node that the session may allocate to the request
+abbrev pub first_takable : Configuration → State → SessionId → RequestId → Option NodeId
+first_takable c s session r =
+    option_and_then (λ n. if is_takable c s session r n then Some n else None) (option_and_then (first_free s r) (pool_of s session))
 
 -- ## the events, by place
 

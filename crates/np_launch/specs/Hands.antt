@@ -1,26 +1,15 @@
--- which sessions wait for a request does not affect who has it
-use Rattle.std.proofs.Common.{◌≡◌, List, [], ◌∷◌, refl}
+-- who has a request in hand, by its number
+use Rattle.std.specs.Prelude.{◌&&◌, Bool, not}
 use Rattle.np_text.specs.declared.id.SessionId.{SessionId}
 use Rattle.np_text.specs.declared.id.PoolId.{PoolId}
 use Rattle.np_text.specs.declared.id.RequestId.{RequestId}
-use Rattle.np_record.specs.declared.record.RequestRecord.{RequestRecord}
-use Rattle.std.specs.Prelude.{◌||◌}
-use Rattle.np_site.specs.Configuration.{Configuration}
 use Rattle.np_machine.specs.State.{State}
-use Rattle.np_machine.specs.Entries.{RequestEntry}
-use Rattle.np_look.specs.Views.{request_view, request_seen}
-use Rattle.np_useful.specs.Launcher.{is_in_hand, is_served_near, is_held_near}
+use Rattle.np_machine.specs.Kinds.{is_requested}
+use Rattle.np_machine.specs.Tables.{is_session_of, request_holder}
+use Rattle.np_look.specs.Readers.{is_declined}
+use Rattle.np_useful.specs.Rows.{request_is}
 
-hand-by : (p : PoolId) (session : SessionId) (r : RequestId) (k : RequestRecord) (queue : List SessionId) → is_in_hand p session (record { id = r; kept = k; queue = queue }) ≡ is_in_hand p session (request_seen (request_view (record { id = r; kept = k; queue = queue })))
-hand-by p session r k [] = refl
-hand-by p session r k (other ∷ queue) = refl
-
-pub hand-seen : (p : PoolId) (session : SessionId) (e : RequestEntry) → is_in_hand p session e ≡ is_in_hand p session (request_seen (request_view e))
-hand-seen p session e = hand-by p session e.id e.kept e.queue
-
-near-by : (c : Configuration) (s : State) (p : PoolId) (r : RequestId) (k : RequestRecord) (queue : List SessionId) → (is_served_near c p (record { id = r; kept = k; queue = queue }) || is_held_near c s p (record { id = r; kept = k; queue = queue })) ≡ (is_served_near c p (request_seen (request_view (record { id = r; kept = k; queue = queue }))) || is_held_near c s p (request_seen (request_view (record { id = r; kept = k; queue = queue }))))
-near-by c s p r k [] = refl
-near-by c s p r k (other ∷ queue) = refl
-
-pub near-seen : (c : Configuration) (s : State) (p : PoolId) (e : RequestEntry) → (is_served_near c p e || is_held_near c s p e) ≡ (is_served_near c p (request_seen (request_view e)) || is_held_near c s p (request_seen (request_view e)))
-near-seen c s p e = near-by c s p e.id e.kept e.queue
+-- the request is requested, not declined by the pool, and held by the session (own)
+abbrev pub is_in_hand_at : PoolId → SessionId → State → RequestId → Bool
+is_in_hand_at p session s r =
+    request_is r s (λ k. is_requested k.state) && not (is_declined p r s) && is_session_of session (request_holder r s.requests)

@@ -1,4 +1,6 @@
 pub mod Allocated
 pub mod Hands
+pub mod Sisters
+pub mod Pending
 pub mod Computed
 pub mod Choices

@@ -1,14 +1,13 @@
 //! The events of a launcher that name something computed, as candidates.
 
-ghost use Rattle.std.specs.Prelude.{◌≡◌, ◌&&◌, not, length, find, is_ok};
-ghost use Rattle.np_event.specs.declared.event.Event.TheVariants.{TakeReady};
+ghost use Rattle.std.specs.Prelude.{◌≡◌, length, find};
 ghost use Rattle.np_machine.specs.Reasons.{is_spent};
-ghost use Rattle.np_machine.specs.Step.{judge};
 ghost use Rattle.np_changes.specs.Asked.{new_record};
+ghost use Rattle.np_changes.specs.Planned.{IsReached};
 ghost use Rattle.np_fits.specs.Fits.{Fits};
 ghost use Rattle.np_useful.specs.Launcher.{may_take_ready, is_first_reason};
 ghost use Rattle.np_useful.specs.Rows.{request_is};
-ghost use Rattle.np_launch.specs.Computed.{same_reason, is_reason, first_reason, pool_of, has_free_ready, has_spare, first_takable, done_at, take_ready_at, decline_at, min_ready_at, computed_places, computed_at};
+ghost use Rattle.np_launch.specs.Computed.{same_reason, is_reason, first_reason, pool_of, first_free, is_takable, first_takable, done_at, take_ready_at, decline_at, min_ready_at, computed_places, computed_at};
 
 use crate::request::{is_served_by, is_spent, outcome_of};
 use np_changes::Asked;
@@ -32,8 +31,7 @@ pub(crate) enum ComputedKind {
 /// Whether the session may allocate the ready node to the request.
 fn is_takable<L: Look>(look: &L, session: SessionId, request: RequestId, node: NodeId) -> bool
     requires { Fits (L.site look.now) (L.state look.now) }
-    ensures { result ≡
-        is_ok (judge (L.site look.now) (L.state look.now) (TakeReady session request node)) }
+    ensures { result ≡ is_takable (L.site look.now) (L.state look.now) session request node }
 {
     let event = Event::TakeReady {
         session,
@@ -56,53 +54,44 @@ fn pool_of<L: Look>(look: &L, session: SessionId) -> Option<PoolId>
     }
 }
 
-/// Whether the pool has a ready, free and unlocked node of the request's next label.
-fn has_free_ready<L: Look>(look: &L, request: RequestId, pool: PoolId) -> bool
-    ensures { result ≡ has_free_ready (L.state look.now) request pool }
+/// The first ready, free and unlocked node of the pool with the request's next label.
+fn first_free<L: Look>(look: &L, request: RequestId, pool: PoolId) -> Option<NodeId>
+    ensures { result ≡ first_free (L.state look.now) request pool }
 {
     let Some(asked) = look.asked(request) else {
-        return false;
+        return None;
     };
     match asked.labels.at(asked.nodes.len()) {
-        None => false,
-        Some(label) => look.free_ready(pool, label, 0).is_some(),
+        None => None,
+        Some(label) => look.free_ready(pool, label, 0),
     }
 }
 
-/// Whether the pool of the session's launcher has a ready, free and unlocked node of the request's
-/// next label.
-fn has_spare<L: Look>(look: &L, session: SessionId, request: RequestId) -> bool
-    ensures { result ≡ has_spare (L.state look.now) session request }
-{
-    match pool_of(look, session) {
-        None => false,
-        Some(pool) => has_free_ready(look, request, pool),
-    }
-}
-
-/// The first node that the session may allocate to the request. It tests every node up to that one,
-/// but only if the pool has a spare node for the request, which one reader answers.
+/// The first node that the session may allocate to the request. The machine lets a launcher
+/// allocate the ready, free and unlocked nodes of its pool and of the request's next label, and
+/// what else it tests does not depend on the node. So only the first of these is tested, which one
+/// reader finds.
 fn first_takable<L: Look>(look: &L, session: SessionId, request: RequestId) -> Option<NodeId>
     requires { Fits (L.site look.now) (L.state look.now) }
     ensures { result ≡ first_takable (L.site look.now) (L.state look.now) session request }
 {
-    if !has_spare(look, session, request) {
+    let Some(pool) = pool_of(look, session) else {
         return None;
+    };
+    let Some(node) = first_free(look, request, pool) else {
+        return None;
+    };
+    if is_takable(look, session, request, node) {
+        Some(node)
+    } else {
+        None
     }
-    for at in 0..look.nodes() {
-        let Some(node) = look.node_at(at) else {
-            return None;
-        };
-        if is_takable(look, session, request, node) {
-            return Some(node);
-        }
-    }
-    None
 }
 
-/// Whether some ready node may be allocated to the request.
+/// Whether some ready node may be allocated to the request. It costs the test of one node.
 pub(crate) fn may_take_ready<L: Look>(look: &L, session: SessionId, request: RequestId) -> bool
-    requires { Fits (L.site look.now) (L.state look.now) }
+    requires reached { IsReached (L.site look.now) (L.state look.now) }
+    requires fits { Fits (L.site look.now) (L.state look.now) }
     ensures { result ≡ may_take_ready (L.site look.now) (L.state look.now) session request }
 {
     first_takable(look, session, request).is_some()

@@ -102,7 +102,8 @@ fn is_registered_row<L: Look>(look: &L, pool: PoolId, event: Event) -> bool
 
 /// Whether none of the request's nodes failed, and no ready node may be allocated to it.
 fn is_to_create<L: Look>(look: &L, session: SessionId, request: RequestId) -> bool
-    requires { Fits (L.site look.now) (L.state look.now) }
+    requires reached { IsReached (L.site look.now) (L.state look.now) }
+    requires fits { Fits (L.site look.now) (L.state look.now) }
     ensures { result ≡ (request_is request (L.state look.now)
         (λ k. not (has_failed_node (L.state look.now) k))
         && not (may_take_ready (L.site look.now) (L.state look.now) session request)) }
@@ -222,9 +223,8 @@ fn first_of_any<L: Look>(
 /// and only if there is none. Its cost grows with the number of requests and nodes in whose queues
 /// the launcher's session is, and with the number of labels; if the launcher has no session, with
 /// the number of sessions. It searches for the first open request, and tests the lock of that one.
-/// It scans all requests for a node that may be started and for a lock that the machine accepts,
-/// and all nodes up to a ready one for a request that the pool serves while the pool has a ready
-/// node for it.
+/// For a lock that the machine accepts it looks up the requests that are pending by the pool, and
+/// reads all requests if the provider limits how many its launchers work on.
 pub fn choose_launcher<L: Look>(look: &L, pool: PoolId) -> Option<Event>
     requires reached { IsReached (L.site look.now) (L.state look.now) }
     requires fits { Fits (L.site look.now) (L.state look.now) }

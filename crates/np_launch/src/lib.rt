@@ -20,21 +20,23 @@
 //! | lock-request | takes up another request |
 //! | min-ready | requests a node that no job waits for |
 //!
-//! `request` tests one request or node, and `requests` scans all requests: each of its functions
-//! reads each request at most once. `rows` has the conditions of whole rows, `computed` the events
-//! that name more than a request or a node, and `launcher` the choice.
+//! `request` tests one request or node, and `requests` looks for requests that pass a test. `rows`
+//! has the conditions of whole rows, `computed` the events that name more than a request or a node,
+//! and `launcher` the choice.
 //!
 //! A choice costs what the launcher's own session queues for, and not all that there is: for each
 //! kind of event it tests the requests or nodes in whose queues the session is, and each of these
-//! takes a few lookups. Whether such a node is still needed costs a lookup of the node and one of
-//! the request that it is allocated to: in a state that a run reaches, no other pending request has
-//! it in its list. For a lock it searches once for the first open request, and tests that one alone,
-//! whose judge makes the search again. For min-ready it tests each label. These scans are left:
+//! takes a few lookups. Whether a node is still needed, and whether it is to be started, costs a
+//! lookup of the node and one of the request that it is allocated to: in a state that a run reaches,
+//! no other pending request has it in its list. Which ready node a request may be given costs one
+//! search for the first that is free, and the test of that one. For a lock it searches once for the
+//! first open request, and tests that one alone, whose judge makes the search again; whether the
+//! session has a request in hand is asked of those in whose queues it is, and whether one is under
+//! way of those that are pending by the pool. For min-ready it tests each label. These scans are
+//! left:
 //!
-//! - all requests, up to the one that needs it, for each node that may be started;
-//! - all requests, once for each of three questions, if the machine accepts the lock of the first;
-//! - all nodes up to the first that may be taken, for each request that the pool serves, if the pool
-//!   has a ready node of the request's next label, which one reader answers;
+//! - all requests, once, if the machine accepts the lock of the first and the provider limits how
+//!   many its launchers work on;
 //! - what the readers of `Look` scan for a search and for a label (the count of ready nodes, what
 //!   the pool uses), where a representation keeps no index or number for it.
 #![tactic(auto)]

@@ -3,6 +3,7 @@
 ghost use Rattle.std.specs.Prelude.{◌≡◌};
 ghost use Rattle.np_look.specs.Views.{request_seen};
 ghost use Rattle.np_useful.specs.Launcher.{provider_of, is_sister, is_sister_launcher, is_served_near, is_held_near, concurrency_of};
+ghost use Rattle.np_launch.specs.Sisters.{is_near};
 
 use np_config::Config;
 use np_look::{Look, RequestView};
@@ -42,7 +43,7 @@ fn is_sister_launcher(config: &Config, pool: PoolId, role: Role) -> bool
 }
 
 /// Whether the request is pending in a pool of the provider.
-pub(crate) fn is_served_near(config: &Config, pool: PoolId, view: &RequestView) -> bool
+fn is_served_near(config: &Config, pool: PoolId, view: &RequestView) -> bool
     ensures { result ≡ is_served_near config.now pool (request_seen view.now) }
 {
     let near = match view.kept.pool {
@@ -53,7 +54,7 @@ pub(crate) fn is_served_near(config: &Config, pool: PoolId, view: &RequestView) 
 }
 
 /// Whether a session of a launcher of the provider holds the request.
-pub(crate) fn is_held_near<L: Look>(look: &L, pool: PoolId, view: &RequestView) -> bool
+fn is_held_near<L: Look>(look: &L, pool: PoolId, view: &RequestView) -> bool
     ensures { result ≡
         is_held_near (L.site look.now) (L.state look.now) pool (request_seen view.now) }
 {
@@ -64,6 +65,13 @@ pub(crate) fn is_held_near<L: Look>(look: &L, pool: PoolId, view: &RequestView) 
         None => false,
         Some(facts) => is_sister_launcher(look.config(), pool, facts.role),
     }
+}
+
+/// Whether the launchers of the provider work on the request.
+pub(crate) fn is_near<L: Look>(look: &L, pool: PoolId, view: &RequestView) -> bool
+    ensures { result ≡ is_near (L.site look.now) (L.state look.now) pool (request_seen view.now) }
+{
+    is_served_near(look.config(), pool, view) || is_held_near(look, pool, view)
 }
 
 /// How many requests the launchers of the pool's provider may work on, if that is limited.

@@ -1,22 +1,22 @@
 //! What a launcher tests of one request or node.
 
-ghost use Rattle.std.specs.Prelude.{◌≡◌, ◌==◌, ◌&&◌, not, is_none};
+ghost use Rattle.std.specs.Prelude.{◌≡◌, ◌==◌, ◌&&◌};
 ghost use Rattle.std.specs.List.{list_any};
-ghost use Rattle.np_machine.specs.Kinds.{is_requested, is_pending};
-ghost use Rattle.np_machine.specs.Tables.{is_session_of};
-ghost use Rattle.np_machine.specs.Order.{is_pool, is_pending_by, is_declined_by};
+ghost use Rattle.np_machine.specs.Kinds.{is_pending};
+ghost use Rattle.np_machine.specs.Order.{is_pool, is_pending_by};
 ghost use Rattle.np_machine.specs.Plan.{fail_starts_of, outcome_of};
 ghost use Rattle.np_machine.specs.Reasons.{is_spent};
 ghost use Rattle.np_changes.specs.Asked.{new_record};
 ghost use Rattle.np_useful.specs.Launcher.{same_outcome, is_as_planned, is_done_with};
 ghost use Rattle.np_useful.specs.Rows.{request_is, is_listed, is_complete, has_failed_node};
 ghost use Rattle.np_fits.specs.Fits.{Fits};
-ghost use Rattle.np_launch.specs.Allocated.{has_pending_request};
+ghost use Rattle.np_launch.specs.Allocated.{served_request};
+ghost use Rattle.np_launch.specs.Hands.{is_in_hand_at};
 
 use np_changes::Asked;
 use np_config::Config;
 use np_event::Outcome;
-use np_look::{Look, is_declined_by};
+use np_look::Look;
 use np_record::{NodeRecord, RequestRecord};
 use np_text::{NodeId, NodeState, PoolId, RequestId, RequestState, SessionId};
 
@@ -45,17 +45,25 @@ fn is_pending_in(pool: PoolId, state: RequestState, server: Option<PoolId>) -> b
     state == RequestState::Pending && own
 }
 
-/// Whether the node is allocated to a request that is pending, and that this pool serves. It costs
-/// one lookup.
-pub(crate) fn has_pending_request<L: Look>(look: &L, pool: PoolId, node: &NodeRecord) -> bool
-    ensures { result ≡ has_pending_request pool (L.state look.now) node.now }
+/// The request that the node is allocated to, if it is pending and this pool serves it. It costs one
+/// lookup.
+pub(crate) fn served_request<L: Look>(
+    look: &L,
+    pool: PoolId,
+    node: &NodeRecord,
+) -> Option<RequestRecord>
+    ensures { result ≡ served_request pool (L.state look.now) node.now }
 {
     let Some(request) = node.allocated_to else {
-        return false;
+        return None;
     };
-    match look.request(request) {
-        None => false,
-        Some(kept) => is_pending_by(pool, &kept),
+    let Some(kept) = look.request(request) else {
+        return None;
+    };
+    if is_pending_by(pool, &kept) {
+        Some(kept)
+    } else {
+        None
     }
 }
 
@@ -90,24 +98,24 @@ pub fn has_failed_node<L: Look>(look: &L, request: &RequestRecord) -> bool
     request.nodes.items().iter().any(|n| is_spent(look, *n))
 }
 
-/// Whether the request is requested, the pool has not declined it, and the session holds it.
-pub(crate) fn is_in_hand(
+/// Whether the request is requested, the pool has not declined it, and the session holds it. It
+/// costs three lookups.
+pub(crate) fn is_in_hand<L: Look>(
+    look: &L,
     pool: PoolId,
     session: SessionId,
-    request: &RequestRecord,
-    holder: Option<SessionId>,
+    request: RequestId,
 ) -> bool
-    ensures { result ≡
-        (is_requested request.now.state && not (is_declined_by pool request.now.declined)
-        && is_session_of session holder) }
+    ensures { result ≡ is_in_hand_at pool session (L.state look.now) request }
 {
-    let held = match holder {
+    let Some(asked) = look.asked(request) else {
+        return false;
+    };
+    let held = match look.request_holder(request) {
         None => false,
         Some(other) => other.0 == session.0,
     };
-    request.state == RequestState::Requested
-        && !is_declined_by(pool, request.declined.items())
-        && held
+    asked.state == RequestState::Requested && !look.is_declined(request, pool) && held
 }
 
 /// Whether the request exists and is not pending, and the pool's launcher can do nothing with it.

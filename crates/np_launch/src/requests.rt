@@ -1,64 +1,120 @@
-//! What a launcher tests of all requests.
+//! Whether some request passes a test, and how many do.
 
-ghost use Rattle.std.specs.Prelude.{◌≡◌, ◌≤◌, Bool, cond, count_by};
+ghost use Rattle.std.specs.Prelude.{◌≡◌, ◌≤◌, Bool, cond};
 ghost use Rattle.std.specs.List.{list_any};
-ghost use Rattle.np_site.specs.Configuration.{Configuration};
-ghost use Rattle.np_machine.specs.Entries.{RequestEntry};
+ghost use Rattle.np_text.specs.declared.id.RequestId.{RequestId};
 ghost use Rattle.np_machine.specs.State.{State};
-ghost use Rattle.np_look.specs.Views.{request_view, request_seen};
+ghost use Rattle.np_changes.specs.Planned.{IsReached};
+ghost use Rattle.np_look.specs.Readers.{pending_requests};
 ghost use Rattle.np_fits.specs.Fits.{Fits};
 ghost use Rattle.np_useful.specs.Launcher.{is_to_launch, is_under_way, is_in_hand, requests_near, has_turn_left};
 
-use crate::near::{concurrency_of, is_held_near, is_served_near};
-use crate::request::{has_failed_node, is_complete, is_in_hand, is_listed, is_pending_by};
-use np_look::{Look, RequestView};
-use np_text::{NodeId, PoolId, SessionId};
+use crate::near::{concurrency_of, is_near};
+use crate::request::{has_failed_node, is_complete, is_in_hand, is_listed, served_request};
+use np_look::Look;
+use np_text::{NodeId, PoolId, RequestId, SessionId};
 
 /// A test of one request.
 trait RequestTest {
     /// Whether the request passes the test.
-    ghost such: { Self → Configuration → State → RequestEntry → Bool };
+    ghost such: { Self → State → RequestId → Bool };
 
     /// Whether the request passes the test.
-    fn is_such<L: Look>(&self, look: &L, view: &RequestView) -> bool
-        ensures { result ≡
-            such self.now (L.site look.now) (L.state look.now) (request_seen view.now) };
-
-    /// The test does not depend on who waits for the request.
-    ghost seen: { (t : Self) (c : Configuration) (s : State) (e : RequestEntry) →
-        such t c s e ≡ such t c s (request_seen (request_view e)) };
+    fn is_such<L: Look>(&self, look: &L, request: RequestId) -> bool
+        ensures { result ≡ such self.now (L.state look.now) request };
 }
 
-/// Whether a request passes the test.
-fn is_any<L: Look, T: RequestTest>(look: &L, test: &T) -> bool
-    ensures { result ≡
-        list_any (T.such test.now (L.site look.now) (L.state look.now)) (L.state look.now).requests }
+/// Whether a request that is pending by the pool passes the test.
+fn is_any_pending<L: Look, T: RequestTest>(look: &L, pool: PoolId, test: &T) -> bool
+    ensures { result ≡ list_any (T.such test.now (L.state look.now))
+        (pending_requests pool (L.state look.now)) }
 {
-    for at in 0..look.requests() {
-        let Some(view) = look.request_view(at) else {
+    for at in 0..look.pending_requests(pool) {
+        let Some(request) = look.pending_request_at(pool, at) else {
             return false;
         };
-        if test.is_such(look, &view) {
+        if test.is_such(look, request) {
             return true;
         }
     }
     false
 }
 
-/// How many requests pass the test.
-fn how_many<L: Look, T: RequestTest>(look: &L, test: &T) -> u32
-    requires { Fits (L.site look.now) (L.state look.now) }
-    ensures { result ≡
-        count_by (T.such test.now (L.site look.now) (L.state look.now)) (L.state look.now).requests }
-{
-    let mut count = 0;
-    for at in 0..look.requests() {
-        let Some(view) = look.request_view(at) else {
-            return 0;
-        };
-        count += one_if(test.is_such(look, &view));
+#[derive(Clone, Copy)]
+struct Lists {
+    node: NodeId,
+}
+
+impl RequestTest for Lists {
+    ghost use Rattle.np_launch.specs.Pending.{lists_unfailed};
+
+    ghost such = { λ t. lists_unfailed t.node };
+
+    fn is_such<L: Look>(&self, look: &L, request: RequestId) -> bool {
+        match look.request(request) {
+            None => false,
+            Some(kept) => is_listed(self.node, &kept) && !has_failed_node(look, &kept),
+        }
     }
-    count
+}
+
+/// Whether the node is in the list of a request that the pool serves, and no node of that list
+/// failed. Such a request is the one that the node is allocated to, so this costs one lookup of
+/// each, and one of each node of the list. Only for a node that does not exist, which no event that
+/// the machine accepts names, the requests that are pending by the pool are searched.
+pub fn is_to_launch<L: Look>(look: &L, pool: PoolId, node: NodeId) -> bool
+    requires { IsReached (L.site look.now) (L.state look.now) }
+    ensures { result ≡ is_to_launch pool (L.state look.now) node }
+{
+    let Some(kept) = look.node(node) else {
+        return is_any_pending(look, pool, &Lists { node });
+    };
+    match served_request(look, pool, &kept) {
+        None => false,
+        Some(request) => !has_failed_node(look, &request),
+    }
+}
+
+#[derive(Clone, Copy)]
+struct Incomplete;
+
+impl RequestTest for Incomplete {
+    ghost use Rattle.np_launch.specs.Pending.{is_incomplete};
+
+    ghost such = { λ t. is_incomplete };
+
+    fn is_such<L: Look>(&self, look: &L, request: RequestId) -> bool {
+        match look.request(request) {
+            None => false,
+            Some(kept) => !is_complete(&kept),
+        }
+    }
+}
+
+/// Whether a request is pending by the pool, and not complete. Only the requests that are pending
+/// by the pool are looked up.
+pub fn has_request_under_way<L: Look>(look: &L, pool: PoolId) -> bool
+    requires { IsReached (L.site look.now) (L.state look.now) }
+    ensures { result ≡ list_any (is_under_way pool) (L.state look.now).requests }
+{
+    is_any_pending(look, pool, &Incomplete)
+}
+
+/// Whether a request is requested, not declined by the pool, and held by the session. Such a request
+/// is one of those in whose queues the session is, so only these are looked up.
+pub fn has_request_in_hand<L: Look>(look: &L, pool: PoolId, session: SessionId) -> bool
+    requires { IsReached (L.site look.now) (L.state look.now) }
+    ensures { result ≡ list_any (is_in_hand pool session) (L.state look.now).requests }
+{
+    for at in 0..look.queued_requests(session) {
+        let Some(request) = look.queued_request_at(session, at) else {
+            return false;
+        };
+        if is_in_hand(look, pool, session, request) {
+            return true;
+        }
+    }
+    false
 }
 
 /// 1 if it is true.
@@ -69,116 +125,23 @@ fn one_if(holds: bool) -> u32
     if holds { 1 } else { 0 }
 }
 
-#[derive(Clone, Copy)]
-struct Launches {
-    pool: PoolId,
-    node: NodeId,
-}
-
-impl RequestTest for Launches {
-    ghost use Rattle.std.specs.Prelude.{◌&&◌, not, refl};
-    ghost use Rattle.np_machine.specs.Order.{is_pending_by};
-    ghost use Rattle.np_useful.specs.Rows.{is_listed, has_failed_node};
-
-    ghost such = { λ t c s e. is_pending_by t.pool e.kept && is_listed t.node e.kept
-        && not (has_failed_node s e.kept) };
-
-    fn is_such<L: Look>(&self, look: &L, view: &RequestView) -> bool {
-        is_pending_by(self.pool, &view.kept)
-            && is_listed(self.node, &view.kept)
-            && !has_failed_node(look, &view.kept)
-    }
-
-    ghost seen = { λ t c s e. refl };
-}
-
-/// Whether the node is in the list of a request that the pool serves, and no node of that list
-/// failed.
-pub fn is_to_launch<L: Look>(look: &L, pool: PoolId, node: NodeId) -> bool
-    ensures { result ≡ is_to_launch pool (L.state look.now) node }
-{
-    is_any(look, &Launches { pool, node })
-}
-
-#[derive(Clone, Copy)]
-struct UnderWay {
-    pool: PoolId,
-}
-
-impl RequestTest for UnderWay {
-    ghost use Rattle.std.specs.Prelude.{refl};
-    ghost use Rattle.np_useful.specs.Launcher.{is_under_way};
-
-    ghost such = { λ t c s e. is_under_way t.pool e };
-
-    fn is_such<L: Look>(&self, look: &L, view: &RequestView) -> bool {
-        is_pending_by(self.pool, &view.kept) && !is_complete(&view.kept)
-    }
-
-    ghost seen = { λ t c s e. refl };
-}
-
-/// Whether a request is pending by the pool, and not complete.
-pub fn has_request_under_way<L: Look>(look: &L, pool: PoolId) -> bool
-    ensures { result ≡ list_any (is_under_way pool) (L.state look.now).requests }
-{
-    is_any(look, &UnderWay { pool })
-}
-
-#[derive(Clone, Copy)]
-struct InHand {
-    pool: PoolId,
-    session: SessionId,
-}
-
-impl RequestTest for InHand {
-    ghost use Rattle.np_useful.specs.Launcher.{is_in_hand};
-    ghost use Rattle.np_launch.specs.Hands.{hand-seen};
-
-    ghost such = { λ t c s e. is_in_hand t.pool t.session e };
-
-    fn is_such<L: Look>(&self, look: &L, view: &RequestView) -> bool {
-        is_in_hand(self.pool, self.session, &view.kept, view.holder)
-    }
-
-    ghost seen = { λ t c s e. hand-seen t.pool t.session e };
-}
-
-/// Whether a request is requested, not declined by the pool, and held by the session.
-pub fn has_request_in_hand<L: Look>(look: &L, pool: PoolId, session: SessionId) -> bool
-    ensures { result ≡ list_any (is_in_hand pool session) (L.state look.now).requests }
-{
-    is_any(look, &InHand { pool, session })
-}
-
-#[derive(Clone, Copy)]
-struct Near {
-    pool: PoolId,
-}
-
-impl RequestTest for Near {
-    ghost use Rattle.std.specs.Prelude.{◌||◌};
-    ghost use Rattle.np_useful.specs.Launcher.{is_served_near, is_held_near};
-    ghost use Rattle.np_launch.specs.Hands.{near-seen};
-
-    ghost such = { λ t c s e. is_served_near c t.pool e || is_held_near c s t.pool e };
-
-    fn is_such<L: Look>(&self, look: &L, view: &RequestView) -> bool {
-        is_served_near(look.config(), self.pool, view) || is_held_near(look, self.pool, view)
-    }
-
-    ghost seen = { λ t c s e. near-seen c s t.pool e };
-}
-
-/// How many requests the launchers of the pool's provider work on.
+/// How many requests the launchers of the pool's provider work on. It reads every request once.
 fn requests_near<L: Look>(look: &L, pool: PoolId) -> u32
     requires { Fits (L.site look.now) (L.state look.now) }
     ensures { result ≡ requests_near (L.site look.now) (L.state look.now) pool }
 {
-    how_many(look, &Near { pool })
+    let mut count = 0;
+    for at in 0..look.requests() {
+        let Some(view) = look.request_view(at) else {
+            return 0;
+        };
+        count += one_if(is_near(look, pool, &view));
+    }
+    count
 }
 
-/// Whether the launchers of the pool's provider may take up one more request.
+/// Whether the launchers of the pool's provider may take up one more request. It reads the requests
+/// only if the provider has a limit.
 pub fn has_turn_left<L: Look>(look: &L, pool: PoolId) -> bool
     requires { Fits (L.site look.now) (L.state look.now) }
     ensures { result ≡ has_turn_left (L.site look.now) (L.state look.now) pool }

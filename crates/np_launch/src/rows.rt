@@ -8,7 +8,7 @@ ghost use Rattle.np_fits.specs.Fits.{Fits};
 ghost use Rattle.np_useful.specs.Launcher.{is_wanted_by, is_as_planned, is_under_way, is_in_hand, has_turn_left};
 ghost use Rattle.np_useful.specs.Rows.{request_is, node_is, has_failed_node};
 
-use crate::request::{has_failed_node, has_pending_request, is_as_planned};
+use crate::request::{has_failed_node, is_as_planned, served_request};
 use crate::requests::{has_request_in_hand, has_request_under_way, has_turn_left};
 use np_event::Outcome;
 use np_look::Look;
@@ -39,7 +39,7 @@ pub fn is_node_done_with<L: Look>(look: &L, pool: PoolId, node: NodeId) -> bool
     if kept.in_flight {
         return false;
     }
-    !has_pending_request(look, pool, &kept)
+    served_request(look, pool, &kept).is_none()
 }
 
 /// Whether the request exists, and none of its nodes failed.
@@ -71,9 +71,12 @@ pub fn is_planned_report<L: Look>(
 }
 
 /// Whether the launcher may take up another request: it has none under way and none in hand, and
-/// the launchers of its provider may work on one more.
+/// the launchers of its provider may work on one more. It looks up the requests that are pending by
+/// the pool and those in whose queues the session is; only the last test reads all requests, if the
+/// provider has a limit.
 pub fn may_take_up<L: Look>(look: &L, pool: PoolId, session: SessionId) -> bool
-    requires { Fits (L.site look.now) (L.state look.now) }
+    requires reached { IsReached (L.site look.now) (L.state look.now) }
+    requires fits { Fits (L.site look.now) (L.state look.now) }
     ensures { result ≡
         (not (list_any (is_under_way pool) (L.state look.now).requests)
         && not (list_any (is_in_hand pool session) (L.state look.now).requests)

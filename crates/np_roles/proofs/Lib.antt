@@ -5,6 +5,5 @@ pub mod Currents
 pub mod Openings
 pub mod Searches
 pub mod Releases
-pub mod NodeLocks
 pub mod Wholes
 pub mod Unfinished

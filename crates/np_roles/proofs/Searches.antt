@@ -26,7 +26,6 @@ use Rattle.np_roles.specs.declared.kind.RequestKind.{RequestKind}
 use Rattle.np_roles.specs.declared.kind.NodeKind.{NodeKind}
 use Rattle.np_roles.specs.declared.kind.JobKind.{JobKind}
 use Rattle.np_roles.specs.Kinds.{request_event, node_event, job_event}
-use Rattle.np_look.specs.Readers.{queued_requests, queued_nodes}
 use Rattle.np_roles.specs.Candidates.{is_from_request_queue, is_from_node_queue, request_named, node_named, places, candidate}
 use Rattle.np_roles.specs.Passing.{passes, passing, IsFirst, IsFirstThatPasses}
 use Rattle.np_roles.specs.Choices.{NoneOf, ChoosesOf}

@@ -1,5 +1,5 @@
 -- the candidates of a kind, by place
-use Rattle.std.specs.Prelude.{ℕ, Bool, true, false, if◌then◌else◌, Option, Some, None, length, option_and_then, slice_get}
+use Rattle.std.specs.Prelude.{ℕ, Bool, true, false, if◌then◌else◌, Option, length, slice_get}
 use Rattle.std.specs.Option.{option_map}
 use Rattle.np_text.specs.declared.id.SessionId.{SessionId}
 use Rattle.np_text.specs.declared.id.SemId.{SemId}
@@ -9,9 +9,7 @@ use Rattle.np_event.specs.declared.event.Event.{Event}
 use Rattle.np_event.specs.declared.event.Event.TheVariants as ev
 use Rattle.np_machine.specs.State.{State}
 use Rattle.np_machine.specs.Tables.{handles_of}
-use Rattle.np_look.specs.declared.asked.NodeView.{NodeView}
 use Rattle.np_look.specs.Readers.{queued_requests, queued_nodes}
-use Rattle.np_look.specs.Views.{node_view}
 use Rattle.np_roles.specs.declared.kind.EventKind.{EventKind}
 use Rattle.np_roles.specs.declared.kind.EventKind.TheVariants as kind_of
 use Rattle.np_roles.specs.declared.kind.RequestKind.{RequestKind}
@@ -63,9 +61,3 @@ handles_at s x = length (handles_of x s.handles)
 -- the session's release of the job at the place among those that have a handle of the semaphore
 abbrev pub release_at : State → SessionId → SemId → ℕ → Option Event
 release_at s session x at = option_map (λ j. ev.Release session j) (slice_get (handles_of x s.handles) at)
-
--- ## locks of nodes
-
--- the session's lock of the node at the place, if it passes the test
-abbrev pub lock_at : State → SessionId → (NodeView → Bool) → ℕ → Option Event
-lock_at s session such at = option_and_then (λ v. if such v then Some (ev.LockNode session v.id) else None) (option_map node_view (slice_get s.nodes at))

@@ -7,15 +7,14 @@
 //! session in the queue of what it names, they name only what the session queues for. A candidate
 //! is tested by the machine's judge and then by its row, and the first that passes is chosen.
 //! Releases have a search of their own (`first_release`), which tests only the jobs that have a
-//! handle, and so have locks of nodes (`first_node_lock`), which tests only the nodes that the role
-//! tells by what is seen of them. `specs/Choices` says what a choice returns: a useful event
-//! (np_useful), or none if and only if there is none.
+//! handle. Other searches are of one role, and stand with its choice: they have candidates of their
+//! own (`Candidates`) for `first_that_passes`. `specs/Choices` says what a choice returns: a useful
+//! event (np_useful), or none if and only if there is none.
 #![tactic(auto)]
 
 mod first;
 mod handles;
 mod kind;
-mod lock;
 mod of_kind;
 mod release;
 mod rows;
@@ -24,7 +23,6 @@ mod session;
 pub use first::{Candidates, first_that_passes};
 pub use handles::has_some_handle;
 pub use kind::{EventKind, JobKind, NodeKind, RequestKind, job_event, node_event, request_event};
-pub use lock::{NodeTest, first_node_lock};
 pub use of_kind::{first_of_kind, first_of_kinds};
 pub use release::first_release;
 pub use rows::{Rows, passes};

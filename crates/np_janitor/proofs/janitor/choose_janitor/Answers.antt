@@ -2,7 +2,7 @@ use Rattle.std.proofs.Common.{sym}
 use Rattle.np_text.specs.declared.id.Role.TheVariants.{Janitor}
 use Rattle.np_roles.proofs.Wholes.{opening-chooses}
 use Rattle.np_janitor.specs.Order.{janitor_order}
-use Rattle.np_janitor.proofs.Janitors.{janitor-law, last-chooses, lock-free}
+use Rattle.np_janitor.proofs.Janitors.{janitor-law, last-chooses}
 use Rattle.np_janitor.proofs.janitor.choose_janitor.Goals as goal
 
 pub returns-in_default : goal.returns-in_default
@@ -15,11 +15,8 @@ pub returns : goal.returns
 returns g c =
     last-chooses (g.L.Look.site c.args.look.now) (g.L.Look.state c.args.look.now) c.args.pool c.in-Some.session c.in-Some.ensures
     c.first_of_kinds-found.result c.first_of_kinds-found.ensures (sym c.if-is_some.ensures)
-    c.first_finish-found.result c.first_finish-found.ensures (sym c.if-is_some-2.ensures)
-    c.first_release-found.result c.first_release-found.ensures (sym c.if-is_some-3.ensures)
-    c.first_of_kind-found.result c.first_of_kind-found.ensures (sym c.if-is_some-4.ensures)
+    c.first_fail-found.result c.first_fail-found.ensures (sym c.if-is_some-2.ensures)
+    c.first_finish-found.result c.first_finish-found.ensures (sym c.if-is_some-3.ensures)
+    c.first_release-found.result c.first_release-found.ensures (sym c.if-is_some-4.ensures)
+    c.first_request_lock-found.result c.first_request_lock-found.ensures (sym c.if-is_some-5.ensures)
     c.first_node_lock.result c.first_node_lock.ensures
-
-pub first_node_lock-requires-clause-only : goal.first_node_lock-requires-clause-only
-first_node_lock-requires-clause-only g c n e there passed =
-    lock-free (g.L.Look.site c.args.look.now) (g.L.Look.state c.args.look.now) c.args.pool c.in-Some.session n e there passed

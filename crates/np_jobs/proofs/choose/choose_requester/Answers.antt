@@ -2,7 +2,6 @@ use Rattle.std.proofs.Common.{◌++◌, sym}
 use Rattle.np_text.specs.declared.id.Role.TheVariants.{Requester}
 use Rattle.np_roles.proofs.Wholes.{opening-chooses}
 use Rattle.np_jobs.specs.Steps.{steps, rest}
-use Rattle.np_jobs.proofs.ForLemmas.{lock-given}
 use Rattle.np_jobs.proofs.Made.{requester-law, all-choose}
 use Rattle.np_jobs.proofs.choose.choose_requester.Goals as goal
 
@@ -17,8 +16,4 @@ returns g c =
     all-choose (g.L.Look.site c.args.look.now) (g.L.Look.state c.args.look.now) c.args.requester c.in-Some.session c.in-Some.ensures
     c.next_with_unfinished-found.result c.next_with_unfinished-found.ensures (sym c.if-is_some.ensures)
     c.first_release-release.result c.first_release-release.ensures (sym c.if-is_some-2.ensures)
-    c.first_of_kinds-leaving.result c.first_of_kinds-leaving.ensures (sym c.if-is_some-3.ensures) c.first_node_lock.result c.first_node_lock.ensures
-
-pub first_node_lock-requires-clause-only : goal.first_node_lock-requires-clause-only
-first_node_lock-requires-clause-only g c n e there passed =
-    lock-given (g.L.Look.site c.args.look.now) (g.L.Look.state c.args.look.now) c.args.requester c.in-Some.session n c.requires.reached e there passed
+    c.first_of_kinds-leaving.result c.first_of_kinds-leaving.ensures (sym c.if-is_some-3.ensures) c.first_lock.result c.first_lock.ensures

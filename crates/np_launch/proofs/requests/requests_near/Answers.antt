@@ -1,7 +1,9 @@
 use Rattle.std.proofs.Common.{◌≡◌, ◌<◌, sym, cond, add-one, length, arith}
 use Rattle.np_look.specs.Views.{request_view, request_seen}
 use Rattle.np_look.proofs.Walks.{count_here, none_there}
-use Rattle.np_launch.proofs.requests.how_many.Goals as goal
+use Rattle.np_launch.specs.Sisters.{is_near}
+use Rattle.np_launch.proofs.Sisters.{near-seen}
+use Rattle.np_launch.proofs.requests.requests_near.Goals as goal
 
 pub returns-in_default : goal.returns-in_default
 returns-in_default g c =
@@ -10,8 +12,8 @@ returns-in_default g c =
 
 pub loop-at-preserved : goal.loop-at-preserved
 loop-at-preserved g c =
-    let step = count_here (λ v. g.T.RequestTest.such c.args.test.now (g.L.Look.site c.args.look.now) (g.L.Look.state c.args.look.now) (request_seen v)) request_view (g.T.RequestTest.such c.args.test.now (g.L.Look.site c.args.look.now) (g.L.Look.state c.args.look.now)) (g.met.T.RequestTest.seen c.args.test.now (g.L.Look.site c.args.look.now) (g.L.Look.state c.args.look.now)) (g.L.Look.state c.args.look.now).requests c.loop-at.at c.in-Some.view (sym c.in-Some.ensures) in
-    let one : c.one_if-count.result ≡ cond (g.T.RequestTest.such c.args.test.now (g.L.Look.site c.args.look.now) (g.L.Look.state c.args.look.now) (request_seen c.in-Some.view)) 1 0 = cc in
+    let step = count_here (λ v. is_near (g.L.Look.site c.args.look.now) (g.L.Look.state c.args.look.now) c.args.pool (request_seen v)) request_view (is_near (g.L.Look.site c.args.look.now) (g.L.Look.state c.args.look.now) c.args.pool) (near-seen (g.L.Look.site c.args.look.now) (g.L.Look.state c.args.look.now) c.args.pool) (g.L.Look.state c.args.look.now).requests c.loop-at.at c.in-Some.view (sym c.in-Some.ensures) in
+    let one : c.one_if-count.result ≡ cond (is_near (g.L.Look.site c.args.look.now) (g.L.Look.state c.args.look.now) c.args.pool (request_seen c.in-Some.view)) 1 0 = cc in
     record {
       few = omega (arith, c.one_if-count.ensures.few, c.loop-at.invariant.few);
       all = rw add-one (omega (arith, step, one, c.loop-at.invariant.all));

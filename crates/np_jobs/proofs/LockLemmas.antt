@@ -1,0 +1,110 @@
+-- if the nodes for each job that is not over were tried, no lock of a node is useful
+use Rattle.std.proofs.Common.{◌≡◌, ◌∙◌, ◌<◌, ℕ, zero, suc, List, [], ◌∷◌, refl, sym, ap, subst, arith, Option, Some, None, Bool, true, false}
+use Rattle.std.specs.Prelude.{slice_get, find, ◌==◌, not}
+use Rattle.std.specs.Option.{option_map_or}
+use Rattle.np_text.specs.declared.id.SessionId.{SessionId}
+use Rattle.np_text.specs.declared.id.JobId.{JobId}
+use Rattle.np_text.specs.declared.id.NodeId.{NodeId}
+use Rattle.np_text.specs.declared.id.RequesterId.{RequesterId}
+use Rattle.np_text.specs.declared.id.Role.TheVariants.{Requester}
+use Rattle.np_site.specs.Configuration.{Configuration}
+use Rattle.np_record.specs.declared.record.JobRecord.{JobRecord}
+use Rattle.np_lists.proofs.FoundLemmas.{find-passes}
+use Rattle.np_event.specs.declared.event.Event.TheVariants as ev
+use Rattle.np_changes.specs.Planned.{IsReached}
+use Rattle.np_machine.specs.Entries.{RequestEntry}
+use Rattle.np_machine.specs.Kinds.{is_asked, is_fulfilled}
+use Rattle.np_machine.specs.State.{State}
+use Rattle.np_machine.specs.Tables.{is_queued, node_queue, request_in}
+use Rattle.np_safe.proofs.Places.{node-place}
+use Rattle.np_safe.proofs.Runs.{invariant-Runs}
+use Rattle.np_look.specs.Readers.{is_unfinished_job, unfinished_of}
+use Rattle.np_useful.specs.Requester.{is_asked_by, is_for}
+use Rattle.np_useful.specs.Rows.{job_is}
+use Rattle.np_useful.specs.Sessions.{is_current}
+use Rattle.np_useful.specs.Useful.{IsUseful}
+use Rattle.np_roles.specs.declared.kind.EventKind.TheVariants as kind_of
+use Rattle.np_roles.specs.declared.kind.NodeKind.TheVariants as of_node
+use Rattle.np_roles.specs.Choices.{NoneOf}
+use Rattle.np_roles.proofs.Searches.{made-by, passes-useful, useful-passes}
+use Rattle.np_roles.proofs.Unfinished.{among}
+use Rattle.np_jobs.specs.Locks.{lock_passes, nodes_for, first_to_lock}
+use Rattle.np_jobs.proofs.Accepted.{asked_later}
+use Rattle.np_jobs.proofs.ForLemmas.{IsFound, found-for, ids-rise, all-own, and-first, and-second}
+
+-- ## a search that finds nothing
+
+-- it has passed the first member, and finds nothing in the rest
+none-by : {X : Type 0} (p : X → Bool) (x : X) (xs : List X) (b : Bool) → p x ≡ b → find p (x ∷ xs) ≡ None → (b ≡ false) × (find p xs ≡ None)
+none-by p x xs true is none = absurd (let no : Some x ≡ None = rw is at none in cc)
+none-by p x xs false is none = (refl, rw is at none)
+
+-- it has passed each member
+none-passes : {X : Type 0} (p : X → Bool) (xs : List X) (i : ℕ) (x : X) → find p xs ≡ None → slice_get xs i ≡ Some x → p x ≡ false
+none-passes p [] i x none there = absurd cc
+none-passes p (y ∷ xs) zero x none there =
+    let same : y ≡ x = cc in
+    ap p (sym same) ∙ (none-by p y xs (p y) refl none).0
+none-passes p (y ∷ xs) (suc i) x none there = none-passes p xs i x (none-by p y xs (p y) refl none).1 there
+
+-- ## the job that a node is for
+
+module _ (c : Configuration) (s : State) (q : RequesterId) where
+  -- a job of the requester that has asked for its nodes, and the request that it names
+  record IsAwaiting (e : RequestEntry) : Type 0 where
+    job : JobId
+    kept : JobRecord
+    there : slice_get s.jobs job.0 ≡ Some kept
+    unfinished : is_unfinished_job c q job kept ≡ true
+    nodes : nodes_for s job ≡ e.kept.nodes
+
+  module _ (reached : IsReached c s) (e : RequestEntry) (found : request_in e.id s.requests ≡ Some e.kept) (fulfilled : is_fulfilled e.kept.state ≡ true) where
+    -- the request's job has asked, and names the request: each request that names a job is its only one
+    of_job : (j : JobId) → e.kept.job ≡ Some j → is_asked_by c s q j ≡ true → IsAwaiting e
+    of_job j is asks =
+        let named = (invariant-Runs c reached.journal s reached.runs).jobs.of_request e.id e.kept j found is in
+        let own : job_is j c (λ job. job.requester.0 == q.0) ≡ true = and-first (job_is j c (λ job. job.requester.0 == q.0)) _ asks in
+        let has_asked : option_map_or (λ k. is_asked k.phase) (slice_get s.jobs j.0) false ≡ true = and-second (job_is j c (λ job. job.requester.0 == q.0)) _ asks in
+        let asked : is_asked named.0.phase ≡ true = rw named.1.0 at has_asked in
+        record {
+          job = j;
+          kept = named.0;
+          there = named.1.0;
+          unfinished = rw (own, asked_later named.0.phase asked) refl;
+          nodes = rw (named.1.0, asked, named.1.1, found, fulfilled) refl;
+        }
+
+    -- a fulfilled request of an asked job of the requester has such a job
+    awaiting : (o : Option JobId) → e.kept.job ≡ o → option_map_or (is_asked_by c s q) o false ≡ true → IsAwaiting e
+    awaiting None is asks = absurd cc
+    awaiting (Some j) is asks = of_job j is asks
+
+-- ## all locks
+
+module _ (c : Configuration) (s : State) (q : RequesterId) (session : SessionId) (current : is_current (Requester q) session s ≡ true) where
+  -- a lock that was found is useful
+  pub lock-found : (j : JobId) (n : NodeId) → first_to_lock c s q session j ≡ Some n → IsUseful c s (Requester q) (ev.LockNode session n)
+  lock-found j n found = passes-useful c s (Requester q) (ev.LockNode session n) (find-passes (lock_passes c s q session) (nodes_for s j) n found) current
+
+  module _ (reached : IsReached c s) (at : ℕ) (ends : (k : ℕ) (j : JobId) → unfinished_of c q k s ≡ Some j → k < at) (passed : (k : ℕ) → k < at → (j : JobId) → unfinished_of c q k s ≡ Some j → first_to_lock c s q session j ≡ None) where
+    -- no lock of the session is useful
+    none_of : (n : NodeId) → IsUseful c s (Requester q) (ev.LockNode session n) → ⊥
+    none_of n useful =
+        let passes : lock_passes c s q session n ≡ true = useful-passes c s (Requester q) (ev.LockNode session n) useful in
+        let for_it : is_for c s q n ≡ true = and-first (is_for c s q n) (not (is_queued session (node_queue n s.nodes))) useful.row in
+        let given : IsFound c s q n (ids-rise c s reached) (all-own c s reached) = found-for c s q n (ids-rise c s reached) (all-own c s reached) for_it in
+        let e : RequestEntry = given.entry in
+        let fulfilled : is_fulfilled e.kept.state ≡ true = and-first (is_fulfilled e.kept.state) (option_map_or (is_asked_by c s q) e.kept.job false) given.over in
+        let asks : option_map_or (is_asked_by c s q) e.kept.job false ≡ true = and-second (is_fulfilled e.kept.state) (option_map_or (is_asked_by c s q) e.kept.job false) given.over in
+        let is : IsAwaiting c s q e = awaiting c s q reached e given.handed_to.found fulfilled e.kept.job refl asks in
+        let place = among c q 0 s.jobs is.job.0 is.kept is.job (omega arith) is.there is.unfinished in
+        let none : find (lock_passes c s q session) e.kept.nodes ≡ None = ap (find (lock_passes c s q session)) (sym is.nodes) ∙ passed place.at (ends place.at is.job place.there) is.job place.there in
+        let listed = node-place n e.kept.nodes given.listed in
+        let fails : lock_passes c s q session n ≡ false = none-passes (lock_passes c s q session) e.kept.nodes listed.0 n none listed.1 in
+        cc
+
+    -- no lock of a node is useful, whoever makes it
+    pub locks-none : NoneOf c s (Requester q) (kind_of.Node of_node.Lock)
+    locks-none other n useful =
+        let same : other ≡ session = made-by c s (Requester q) session current other (ev.LockNode other n) refl useful in
+        none_of n (subst (λ (x : SessionId). IsUseful c s (Requester q) (ev.LockNode x n)) same useful)

@@ -1,0 +1,30 @@
+use Rattle.std.proofs.Common.{◌∙◌, ◌<◌, ◌≤◌, length, sym, arith}
+use Rattle.np_look.specs.Readers.{queued_requests}
+use Rattle.np_roles.proofs.Places.{any-later, some-there}
+use Rattle.np_launch.specs.Hands.{is_in_hand_at}
+use Rattle.np_launch.proofs.Finds.{any-found, any-past}
+use Rattle.np_launch.proofs.Named.{any-in_hand}
+use Rattle.np_launch.proofs.requests.has_request_in_hand.Goals as goal
+
+pub returns-in_default : goal.returns-in_default
+returns-in_default g c =
+    let low : c.loop-at.at < length (queued_requests c.args.session (g.L.Look.state c.args.look.now)) = omega (arith, c.queued_requests-at-end.ensures, c.loop-at-test.true) in
+    absurd (some-there (queued_requests c.args.session (g.L.Look.state c.args.look.now)) c.loop-at.at low (sym c.in_default.ensures))
+
+pub returns-then-is_in_hand : goal.returns-then-is_in_hand
+returns-then-is_in_hand g c =
+    sym (any-found (is_in_hand_at c.args.pool c.args.session (g.L.Look.state c.args.look.now)) (queued_requests c.args.session (g.L.Look.state c.args.look.now)) c.loop-at.at c.in-Some.request (sym c.in-Some.ensures) (sym c.if-is_in_hand.ensures))
+    ∙ c.loop-at.invariant
+    ∙ any-in_hand (g.L.Look.site c.args.look.now) (g.L.Look.state c.args.look.now) c.requires c.args.pool c.args.session
+
+pub loop-at-preserved : goal.loop-at-preserved
+loop-at-preserved g c =
+    any-later (is_in_hand_at c.args.pool c.args.session (g.L.Look.state c.args.look.now)) (queued_requests c.args.session (g.L.Look.state c.args.look.now)) c.loop-at.at c.in-Some.request (sym c.in-Some.ensures) (sym c.if-is_in_hand.ensures)
+    ∙ c.loop-at.invariant
+
+pub returns : goal.returns
+returns g c =
+    let past : length (queued_requests c.args.session (g.L.Look.state c.args.look.now)) ≤ c.loop-at.at = omega (arith, c.queued_requests-at-end.ensures, c.loop-at-test.false) in
+    sym (any-past (is_in_hand_at c.args.pool c.args.session (g.L.Look.state c.args.look.now)) (queued_requests c.args.session (g.L.Look.state c.args.look.now)) c.loop-at.at past)
+    ∙ c.loop-at.invariant
+    ∙ any-in_hand (g.L.Look.site c.args.look.now) (g.L.Look.state c.args.look.now) c.requires c.args.pool c.args.session

@@ -1,0 +1,23 @@
+use Rattle.std.proofs.Common.{◌∙◌, Option, false, not, sym, ap}
+use Rattle.std.specs.Option.{option_map_or}
+use Rattle.np_record.specs.declared.record.RequestRecord.{RequestRecord}
+use Rattle.np_useful.specs.Rows.{has_failed_node}
+use Rattle.np_launch.proofs.Allocated.{launch-is}
+use Rattle.np_launch.proofs.Named.{any-to_launch}
+use Rattle.np_launch.proofs.requests.is_to_launch.Goals as goal
+
+pub returns-in_default : goal.returns-in_default
+returns-in_default g c =
+    c.is_any_pending.ensures
+    ∙ any-to_launch (g.L.Look.site c.args.look.now) (g.L.Look.state c.args.look.now) c.requires c.args.pool c.args.node
+
+pub returns-in-None : goal.returns-in-None
+returns-in-None g c =
+    sym (launch-is (g.L.Look.site c.args.look.now) (g.L.Look.state c.args.look.now) c.requires c.args.pool c.args.node c.in-Some.kept (sym c.in-Some.ensures)
+    ∙ ap (λ (o : Option RequestRecord). option_map_or (λ q. not (has_failed_node (g.L.Look.state c.args.look.now) q)) o false) (sym c.in-None.ensures))
+
+pub returns-in-Some-served_request : goal.returns-in-Some-served_request
+returns-in-Some-served_request g c =
+    ap not c.has_failed_node.ensures
+    ∙ sym (launch-is (g.L.Look.site c.args.look.now) (g.L.Look.state c.args.look.now) c.requires c.args.pool c.args.node c.in-Some.kept (sym c.in-Some.ensures)
+    ∙ ap (λ (o : Option RequestRecord). option_map_or (λ q. not (has_failed_node (g.L.Look.state c.args.look.now) q)) o false) (sym c.in-Some-served_request.ensures))
