@@ -1,0 +1,5 @@
+pub mod Order
+pub mod Kept
+pub mod Ids
+pub mod Search
+mod RowLemmas
