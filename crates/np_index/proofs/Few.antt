@@ -1,18 +1,19 @@
--- a session is in the queues of some of the rows
-use Rattle.std.proofs.Common.{◌≡◌, ◌≤◌, suc, List, [], ◌∷◌, length, map, filter, refl, ap, arith}
-use Rattle.np_text.specs.declared.id.SessionId.{SessionId}
+-- what a state has of a kind is no more than all
+use Rattle.std.proofs.Common.{◌≤◌, length, arith}
+use Rattle.std.specs.Prelude.{filter}
+use Rattle.std.proofs.lemmas.List.{length-map}
+use Rattle.np_text.specs.declared.id.PoolId.{PoolId}
 use Rattle.np_lists.proofs.Each.{length-filter_at_most}
-use Rattle.np_machine.specs.Entries.{RequestEntry, NodeEntry}
+use Rattle.np_machine.specs.Entries.{NodeEntry, RequestEntry}
+use Rattle.np_machine.specs.Order.{is_pending_by}
 use Rattle.np_machine.specs.State.{State}
-use Rattle.np_machine.specs.Tables.{is_queued}
-use Rattle.np_look.specs.Readers.{queued_requests, queued_nodes}
+use Rattle.np_look.specs.Readers.{declined_requests, is_still_requested, is_unheld, pending_requests, unheld_nodes}
 
-length-ids : {X Y : Type 0} (f : X → Y) (xs : List X) → length (map f xs) ≡ length xs
-length-ids f [] = refl
-length-ids f (x ∷ xs) = ap suc (length-ids f xs)
+pub few-pending : (p : PoolId) (s : State) → length (pending_requests p s) ≤ length s.requests
+few-pending p s = omega (arith, length-map (filter (λ (e : RequestEntry). is_pending_by p e.kept) s.requests) (λ (e : RequestEntry). e.id), length-filter_at_most (λ (e : RequestEntry). is_pending_by p e.kept) s.requests)
 
-pub few-requests : (x : SessionId) (s : State) → length (queued_requests x s) ≤ length s.requests
-few-requests x s = omega (arith, length-ids (λ (e : RequestEntry). e.id) (filter (λ e. is_queued x e.queue) s.requests), length-filter_at_most (λ (e : RequestEntry). is_queued x e.queue) s.requests)
+pub few-declined : (s : State) → length (declined_requests s) ≤ length s.requests
+few-declined s = omega (arith, length-map (filter (λ (e : RequestEntry). is_still_requested e.kept) s.requests) (λ (e : RequestEntry). e.id), length-filter_at_most (λ (e : RequestEntry). is_still_requested e.kept) s.requests)
 
-pub few-nodes : (x : SessionId) (s : State) → length (queued_nodes x s) ≤ length s.nodes
-few-nodes x s = omega (arith, length-ids (λ (e : NodeEntry). e.id) (filter (λ e. is_queued x e.queue) s.nodes), length-filter_at_most (λ (e : NodeEntry). is_queued x e.queue) s.nodes)
+pub few-unheld : (p : PoolId) (s : State) → length (unheld_nodes p s) ≤ length s.nodes
+few-unheld p s = omega (arith, length-map (filter (is_unheld p) s.nodes) (λ (e : NodeEntry). e.id), length-filter_at_most (is_unheld p) s.nodes)

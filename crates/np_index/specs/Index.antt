@@ -1,76 +1,15 @@
 -- what an index has, and when it is the index of a state
-use Rattle.std.specs.Prelude.{◌≡◌, ◌<◌, ◌+◌, ℕ, List, Option, None, length, slice_get, unwrap_or}
-use Rattle.std.specs.List.{list_any}
-use Rattle.np_text.specs.declared.id.JobId.{JobId}
-use Rattle.np_text.specs.declared.id.NodeId.{NodeId}
-use Rattle.np_text.specs.declared.id.RequestId.{RequestId}
-use Rattle.np_text.specs.declared.id.RequesterId.{RequesterId}
-use Rattle.np_text.specs.declared.id.SessionId.{SessionId}
 use Rattle.np_site.specs.Configuration.{Configuration}
-use Rattle.np_lists.specs.Rising.{Rises}
-use Rattle.np_machine.specs.Order.{is_id_before}
 use Rattle.np_machine.specs.State.{State}
-use Rattle.np_machine.specs.Tables.{request_in}
-use Rattle.np_changes.specs.Readers.{owner_of}
-use Rattle.np_look.specs.Readers.{unfinished_from, queued_requests, queued_nodes}
-use Rattle.np_index.specs.declared.ranks.Rank.{Rank}
-use Rattle.np_index.specs.Lists.{list_at}
-use Rattle.np_index.specs.Ranks.{is_rank_before, same_rank, has_rank}
+use Rattle.np_lookups.specs.Lookups.{AreLookupsOf, LookupsOf}
+use Rattle.np_classes.specs.Classes.{AreClasses, ClassesOf}
 
 -- the parts of an index (own)
 pub record IndexParts : Type 0 where
-  -- for each requester, by its place, its jobs that are not over
-  pub unfinished : List (List JobId)
-  -- for each session, by its number, the requests in whose queues it is
-  pub requests : List (List RequestId)
-  -- for each session, by its number, the nodes in whose queues it is
-  pub nodes : List (List NodeId)
-  -- for each node, by its number, the job that has it
-  pub owners : List (Option JobId)
-  -- the requests that are requested or pending, in the order in which launchers take them up
-  pub ranks : List Rank
-
--- the list of each requester has its jobs that are not over, in job order
-pub record AreUnfinished (c : Configuration) (s : State) (lists : List (List JobId)) : Type 0 where
-  pub each : (q : RequesterId) → list_at q.0 lists ≡ unfinished_from c q 0 s.jobs
-
--- the list of each session has the requests in whose queues it is, in order; there is one for each
--- session that was begun
-pub record AreRequestsOf (s : State) (lists : List (List RequestId)) : Type 0 where
-  pub each : (session : SessionId) → list_at session.0 lists ≡ queued_requests session s
-  pub many : length s.sessions < length lists
-
--- the same for nodes
-pub record AreNodesOf (s : State) (lists : List (List NodeId)) : Type 0 where
-  pub each : (session : SessionId) → list_at session.0 lists ≡ queued_nodes session s
-  pub many : length s.sessions < length lists
-
--- the job at the place; there is none past the end
-abbrev pub owner_at : ℕ → List (Option JobId) → Option JobId
-owner_at at owners = unwrap_or (slice_get owners at) None
-
--- at the number of each node is the job that has it; there is a place for each number that a node
--- was given, and those begin at 0
-pub record AreOwners (s : State) (owners : List (Option JobId)) : Type 0 where
-  pub each : (n : NodeId) → owner_at n.0 owners ≡ owner_of n s.jobs
-  pub many : length owners ≡ s.next_node
-
--- a rank is there exactly if a request with its id is in the state, is requested or pending, and has
--- its relative priority; no two requests of the state have one id
-pub record AreRanks (s : State) (ranks : List Rank) : Type 0 where
-  pub rises : Rises is_rank_before ranks
-  pub each : (rank : Rank) → list_any (λ other. same_rank other rank) ranks ≡ has_rank rank (request_in rank.request s.requests)
-  pub once : Rises (λ a b. is_id_before a.id b.id) s.requests
+  pub lookups : LookupsOf
+  pub classes : ClassesOf
 
 -- each part says what the state says
 pub record IsIndexOf (c : Configuration) (s : State) (index : IndexParts) : Type 0 where
-  pub unfinished : AreUnfinished c s index.unfinished
-  pub requests : AreRequestsOf s index.requests
-  pub nodes : AreNodesOf s index.nodes
-  pub owners : AreOwners s index.owners
-  pub ranks : AreRanks s index.ranks
-
--- there is room for one more session
-pub record HasRoom (s : State) (index : IndexParts) : Type 0 where
-  pub requests : length s.sessions + 1 < length index.requests
-  pub nodes : length s.sessions + 1 < length index.nodes
+  pub lookups : AreLookupsOf c s index.lookups
+  pub classes : AreClasses c s index.classes

@@ -1,34 +1,37 @@
 //! The index of a state.
 
-ghost use Rattle.std.specs.Prelude.{◌≡◌, IfOk, OnOk, length};
-ghost use Rattle.np_machine.specs.State.{State};
+ghost use Rattle.std.specs.Prelude.{◌≡◌, ◌<◌, ◌^◌, IfOk, length, slice_get};
+ghost use Rattle.std.specs.List.{list_any};
 ghost use Rattle.np_changes.specs.Planned.{IsReached};
 ghost use Rattle.np_changes.specs.Readers.{owner_of};
 ghost use Rattle.np_fits.specs.Fits.{Fits};
 ghost use Rattle.np_site.specs.Configuration.{Configuration};
-ghost use Rattle.np_look.specs.Readers.{queued_nodes, queued_requests, unfinished_of};
-ghost use Rattle.np_index.specs.Index.{AreNodesOf, AreRanks, AreRequestsOf, HasRoom, IsIndexOf};
+ghost use Rattle.np_machine.specs.Count.{count_of};
+ghost use Rattle.np_machine.specs.First.{blocking};
+ghost use Rattle.np_changes.specs.Asked.{new_record};
+ghost use Rattle.np_machine.specs.Reasons.{is_paused, is_spare};
+ghost use Rattle.np_machine.specs.Request.{is_spent_min_ready, ready_count};
+ghost use Rattle.np_machine.specs.State.{State};
+ghost use Rattle.np_machine.specs.Tenants.{count_of_tenant};
+ghost use Rattle.np_look.specs.Readers.{declined_requests, free_ready_of, pending_requests, queued_nodes, queued_requests, unfinished_of, unheld_nodes};
+ghost use Rattle.np_index.specs.Index.{IsIndexOf};
 
-use crate::lists::list_of;
-use crate::owners::list_owners;
-use crate::ranks::{ByRank, Rank, list_ranks};
-use crate::unfinished::list_unfinished;
-use np_keys::{ByNode, ByRequest, JobTable};
+use np_amount::Amount;
+use np_changes::Asked;
+use np_classes::Classes;
 use np_look::Look;
-use np_table::KeyTable;
-use np_text::{JobId, NoMemory, NodeId, RequestId, RequesterId, SessionId};
-use std::alloc::{AllocError, Global};
+use np_lookups::Lookups;
+use np_text::{
+    JobId, LabelId, NoMemory, NodeId, PoolId, RequestId, RequesterId, SessionId, TenantId,
+};
+use std::alloc::Global;
 use std::marker::Model;
 
 /// What stands beside a state, so that readers need not search the state.
 #[derive(Drop)]
 pub struct Index {
-    pub(crate) alloc: Global,
-    pub(crate) unfinished: Vec<JobTable>,
-    pub(crate) requests: Vec<KeyTable<ByRequest>>,
-    pub(crate) nodes: Vec<KeyTable<ByNode>>,
-    pub(crate) owners: Vec<Option<JobId>>,
-    pub(crate) ranks: KeyTable<ByRank>,
+    pub(crate) lookups: Lookups,
+    pub(crate) classes: Classes,
 }
 
 impl Model for Index {
@@ -36,82 +39,11 @@ impl Model for Index {
 
     ghost Value = { IndexParts };
 
-    ghost view = { λ index. record {
-      unfinished = index.unfinished.items;
-      requests = index.requests.items;
-      nodes = index.nodes.items;
-      owners = index.owners.items;
-      ranks = index.ranks;
-    } };
-}
-
-/// The requests in whose queues the session is.
-fn list_requests<L: Look>(
-    alloc: Global,
-    look: &L,
-    session: SessionId,
-) -> Result<KeyTable<ByRequest>, AllocError>
-    requires { IsReached (L.site look.now) (L.state look.now) }
-    ensures { IfOk result (λ list. list ≡ queued_requests session (L.state look.now)) }
-{
-    let mut list = KeyTable::new(alloc);
-    for at in 0..look.queued_requests(session) {
-        if let Some(request) = look.queued_request_at(session, at) {
-            list.insert(request)?;
-        }
-    }
-    Ok(list)
-}
-
-/// The nodes in whose queues the session is.
-fn list_nodes<L: Look>(
-    alloc: Global,
-    look: &L,
-    session: SessionId,
-) -> Result<KeyTable<ByNode>, AllocError>
-    requires { IsReached (L.site look.now) (L.state look.now) }
-    ensures { IfOk result (λ list. list ≡ queued_nodes session (L.state look.now)) }
-{
-    let mut list = KeyTable::new(alloc);
-    for at in 0..look.queued_nodes(session) {
-        if let Some(node) = look.queued_node_at(session, at) {
-            list.insert(node)?;
-        }
-    }
-    Ok(list)
-}
-
-/// The requests of each session, by number.
-fn requests_by_session<L: Look>(
-    alloc: Global,
-    look: &L,
-) -> Result<Vec<KeyTable<ByRequest>>, AllocError>
-    requires reached { IsReached (L.site look.now) (L.state look.now) }
-    requires fits { Fits (L.site look.now) (L.state look.now) }
-    ensures { IfOk result (λ lists. AreRequestsOf (L.state look.now) lists.items) }
-{
-    let mut lists = Vec::new(alloc);
-    for number in 0..look.sessions() + 1 {
-        lists.push(list_requests(alloc, look, SessionId(number))?)?;
-    }
-    Ok(lists)
-}
-
-/// The nodes of each session, by number.
-fn nodes_by_session<L: Look>(alloc: Global, look: &L) -> Result<Vec<KeyTable<ByNode>>, AllocError>
-    requires reached { IsReached (L.site look.now) (L.state look.now) }
-    requires fits { Fits (L.site look.now) (L.state look.now) }
-    ensures { IfOk result (λ lists. AreNodesOf (L.state look.now) lists.items) }
-{
-    let mut lists = Vec::new(alloc);
-    for number in 0..look.sessions() + 1 {
-        lists.push(list_nodes(alloc, look, SessionId(number))?)?;
-    }
-    Ok(lists)
+    ghost view = { λ index. record { lookups = index.lookups; classes = index.classes } };
 }
 
 impl Index {
-    /// The index of the state. It reads each job and each request once, and asks the keeper for what
+    /// The index of the state. It reads each job, request and node once, and asks the keeper for what
     /// each session queues for and for the owner of each node that was made. A keeper that scans
     /// reads all queues for each answer of the first kind, and all jobs for each node.
     pub fn rebuild<L: Look>(alloc: Global, look: &L) -> Result<Index, NoMemory>
@@ -119,41 +51,9 @@ impl Index {
         requires fits { Fits (L.site look.now) (L.state look.now) }
         ensures { IfOk result (λ index. IsIndexOf (L.site look.now) (L.state look.now) index) }
     {
-        let unfinished = list_unfinished(alloc, look)?;
-        let requests = requests_by_session(alloc, look)?;
-        let nodes = nodes_by_session(alloc, look)?;
-        let owners = list_owners(alloc, look)?;
-        let ranks = list_ranks(alloc, look)?;
-        Ok(Index {
-            alloc,
-            unfinished,
-            requests,
-            nodes,
-            owners,
-            ranks,
-        })
-    }
-
-    /// Where its lists take memory.
-    pub(crate) fn alloc(&self) -> Global {
-        self.alloc
-    }
-
-    /// Makes room for one more session: its lists are empty. Whether or not memory runs out, it is
-    /// the index of the same states.
-    pub(crate) fn make_room(&mut self, sessions: u32) -> Result<(), AllocError>
-        ensures same { (c : Configuration) (s : State) → IsIndexOf c s self.old → IsIndexOf c s self.new }
-        ensures room { OnOk result ((c : Configuration) (s : State) → IsIndexOf c s self.old
-            → length s.sessions ≡ sessions → HasRoom s self.new) }
-    {
-        let wanted = sessions as usize + 2;
-        if self.requests.len() < wanted {
-            self.requests.push(KeyTable::new(self.alloc))?;
-        }
-        if self.nodes.len() < wanted {
-            self.nodes.push(KeyTable::new(self.alloc))?;
-        }
-        Ok(())
+        let lookups = Lookups::rebuild(alloc, look)?;
+        let classes = Classes::rebuild(alloc, look)?;
+        Ok(Index { lookups, classes })
     }
 
     /// The job at a place among those of the requester that are not over, in order of their numbers.
@@ -162,9 +62,7 @@ impl Index {
         ensures { (c : Configuration) (s : State) → IsIndexOf c s self.now
             → result ≡ unfinished_of c requester at s }
     {
-        list_of(&self.unfinished, requester.0 as usize)
-            .get(at as usize)
-            .copied()
+        self.lookups.unfinished(requester, at)
     }
 
     /// The requests in whose queues the session is, by priority and then sequence. It costs one
@@ -173,7 +71,7 @@ impl Index {
         ensures { (c : Configuration) (s : State) → IsIndexOf c s self.now
             → result.now ≡ queued_requests session s }
     {
-        list_of(&self.requests, session.0 as usize)
+        self.lookups.requests_of(session)
     }
 
     /// The nodes in whose queues the session is, by number. It costs one lookup.
@@ -181,7 +79,7 @@ impl Index {
         ensures { (c : Configuration) (s : State) → IsIndexOf c s self.now
             → result.now ≡ queued_nodes session s }
     {
-        list_of(&self.nodes, session.0 as usize)
+        self.lookups.nodes_of(session)
     }
 
     /// The job that has the node. It costs one lookup.
@@ -189,14 +87,137 @@ impl Index {
         ensures { (c : Configuration) (s : State) → IsIndexOf c s self.now
             → result ≡ owner_of node s.jobs }
     {
-        *self.owners.get(node.0 as usize)?
+        self.lookups.owner(node)
     }
 
-    /// The requests that are requested or pending, in the order in which launchers take them up: by
-    /// priority, then relative priority, then sequence. It takes no memory.
-    pub fn ranks(&self) -> &[Rank]
-        ensures { (c : Configuration) (s : State) → IsIndexOf c s self.now → AreRanks s result.now }
+    /// The tenant that has no room now for a request that the pool may serve. It costs what the tenant
+    /// uses, if the tenant has a limit.
+    pub fn blocking<L: Look>(&self, look: &L, pool: PoolId, asked: &Asked) -> Option<TenantId>
+        requires fits { Fits (L.site look.now) (L.state look.now) }
+        requires index { IsIndexOf (L.site look.now) (L.state look.now) self.now }
+        ensures { result ≡
+            blocking (L.site look.now) (L.state look.now) pool (new_record asked.now) }
     {
-        self.ranks.rows()
+        np_counts::blocking(&self.classes, look, pool, asked)
+    }
+
+    /// What the pool uses. It costs a lookup for each label that the pool offers.
+    pub fn used<L: Look>(&self, look: &L, pool: PoolId) -> Amount
+        requires fits { Fits (L.site look.now) (L.state look.now) }
+        requires index { IsIndexOf (L.site look.now) (L.state look.now) self.now }
+        ensures used { result ≡ count_of (L.site look.now) (L.state look.now) pool }
+        ensures instances { result.instances < 2 ^ 63 }
+        ensures cores { result.cores < 2 ^ 63 }
+        ensures ram { result.ram < 2 ^ 63 }
+    {
+        np_counts::used(&self.classes, look, pool)
+    }
+
+    /// What the tenant uses: its nodes, and what its pending requests still wait for. It costs a
+    /// lookup for each of these.
+    pub fn used_by<L: Look>(&self, look: &L, tenant: TenantId) -> Amount
+        requires fits { Fits (L.site look.now) (L.state look.now) }
+        requires index { IsIndexOf (L.site look.now) (L.state look.now) self.now }
+        ensures used { result ≡ count_of_tenant (L.site look.now) (L.state look.now) tenant }
+        ensures instances { result.instances < 2 ^ 63 }
+        ensures cores { result.cores < 2 ^ 63 }
+        ensures ram { result.ram < 2 ^ 63 }
+    {
+        np_counts::used_by(&self.classes, look, tenant)
+    }
+
+    /// Whether a ready, free and unlocked node of the pool has the label. It costs one lookup.
+    pub fn has_spare(&self, pool: PoolId, label: LabelId) -> bool
+        ensures { (c : Configuration) (s : State) → IsIndexOf c s self.now
+            → result ≡ list_any (is_spare pool label) s.nodes }
+    {
+        np_counts::has_spare(&self.classes, pool, label)
+    }
+
+    /// The node at a place among the ready, free and unlocked nodes of the pool with the label, in
+    /// order of their numbers. It costs one lookup.
+    pub fn free_ready(&self, pool: PoolId, label: LabelId, at: u32) -> Option<NodeId>
+        ensures { (c : Configuration) (s : State) → IsIndexOf c s self.now
+            → result ≡ free_ready_of pool label at s }
+    {
+        np_counts::free_ready(&self.classes, pool, label, at)
+    }
+
+    /// The free ready nodes of the label in all pools, and those that are coming. It costs two
+    /// lookups.
+    pub fn ready_count<L: Look>(&self, look: &L, label: LabelId) -> u32
+        requires fits { Fits (L.site look.now) (L.state look.now) }
+        requires index { IsIndexOf (L.site look.now) (L.state look.now) self.now }
+        ensures { result ≡ ready_count label (L.state look.now) }
+    {
+        np_counts::ready_count(&self.classes, look, label)
+    }
+
+    /// Whether a min-ready request of the pool for the label has failed. It costs one lookup.
+    pub fn has_spent_min_ready(&self, pool: PoolId, label: LabelId) -> bool
+        ensures { (c : Configuration) (s : State) → IsIndexOf c s self.now
+            → result ≡ list_any (is_spent_min_ready pool label) s.requests }
+    {
+        np_counts::has_spent_min_ready(&self.classes, pool, label)
+    }
+
+    /// Whether a request that is pending by the pool waits for room. It costs what the pool uses and
+    /// a lookup of each request that is pending by the pool.
+    pub fn is_paused<L: Look>(&self, look: &L, pool: PoolId) -> bool
+        requires fits { Fits (L.site look.now) (L.state look.now) }
+        requires index { IsIndexOf (L.site look.now) (L.state look.now) self.now }
+        ensures { result ≡ is_paused (L.site look.now) (L.state look.now) pool }
+    {
+        np_counts::is_paused(&self.classes, look, pool)
+    }
+
+    /// How many requests are pending by the pool. It costs one lookup.
+    pub fn pending_requests(&self, pool: PoolId) -> usize
+        ensures { (c : Configuration) (s : State) → IsIndexOf c s self.now
+            → result ≡ length (pending_requests pool s) }
+    {
+        np_counts::pending_requests(&self.classes, pool)
+    }
+
+    /// The request at a place among those that are pending by the pool, by priority and then
+    /// sequence. It costs one lookup.
+    pub fn pending_request_at(&self, pool: PoolId, at: u32) -> Option<RequestId>
+        ensures { (c : Configuration) (s : State) → IsIndexOf c s self.now
+            → result ≡ slice_get (pending_requests pool s) at }
+    {
+        np_counts::pending_request_at(&self.classes, pool, at)
+    }
+
+    /// How many requests are requested and declined by at least one pool. It costs one lookup.
+    pub fn declined_requests(&self) -> usize
+        ensures { (c : Configuration) (s : State) → IsIndexOf c s self.now
+            → result ≡ length (declined_requests s) }
+    {
+        np_counts::declined_requests(&self.classes)
+    }
+
+    /// The request at a place among those that are requested and declined by at least one pool, by
+    /// priority and then sequence. It costs one lookup.
+    pub fn declined_request_at(&self, at: u32) -> Option<RequestId>
+        ensures { (c : Configuration) (s : State) → IsIndexOf c s self.now
+            → result ≡ slice_get (declined_requests s) at }
+    {
+        np_counts::declined_request_at(&self.classes, at)
+    }
+
+    /// How many nodes of the pool nobody holds. It costs one lookup.
+    pub fn unheld_nodes(&self, pool: PoolId) -> usize
+        ensures { (c : Configuration) (s : State) → IsIndexOf c s self.now
+            → result ≡ length (unheld_nodes pool s) }
+    {
+        np_counts::unheld_nodes(&self.classes, pool)
+    }
+
+    /// The node at a place among those of the pool that nobody holds, by number. It costs one lookup.
+    pub fn unheld_node_at(&self, pool: PoolId, at: u32) -> Option<NodeId>
+        ensures { (c : Configuration) (s : State) → IsIndexOf c s self.now
+            → result ≡ slice_get (unheld_nodes pool s) at }
+    {
+        np_counts::unheld_node_at(&self.classes, pool, at)
     }
 }

@@ -1,26 +1,25 @@
 //! Anything that keeps a state, with an index beside it.
 
 ghost use Rattle.std.specs.Prelude.{◌≡◌, IfOk};
+ghost use Rattle.np_text.specs.declared.id.SessionId.{SessionId};
 ghost use Rattle.np_changes.specs.Planned.{IsReached};
+ghost use Rattle.np_changes.specs.declared.changes.SessionsChange.TheVariants as sessions;
 ghost use Rattle.np_fits.specs.Fits.{Fits};
 ghost use Rattle.np_index.specs.Index.{IsIndexOf};
 
 mod look;
 
-use crate::change::Numbers;
 use crate::index::Index;
-use crate::queues::{holder_of, queue_of};
-use crate::ranks::lost_rank;
-use crate::waits::{removed_node, removed_request};
-use np_changes::Changes;
+use np_changes::{Changes, SessionsChange};
 use np_decision::StateKeeper;
-use np_text::NoMemory;
+use np_text::{NoMemory, SessionId};
 use std::alloc::{AllocError, Global};
 use std::marker::Model;
 
 /// A keeper of a state with the state's index. Contracts see it as the keeper.
 #[derive(Drop)]
 pub struct Indexed<K: StateKeeper + Drop> {
+    alloc: Global,
     keeper: K,
     index: Index,
 }
@@ -43,7 +42,11 @@ impl<K: StateKeeper + Drop> Indexed<K> {
         ensures { IfOk result (λ x. x ≡ keeper) }
     {
         let index = Index::rebuild(alloc, &keeper)?;
-        Ok(Indexed { keeper, index })
+        Ok(Indexed {
+            alloc,
+            keeper,
+            index,
+        })
     }
 
     /// What keeps the state.
@@ -61,26 +64,31 @@ impl<K: StateKeeper + Drop> Indexed<K> {
     }
 }
 
+/// The session that ends, or else 0, which is the number of no session.
+fn ending(change: &SessionsChange) -> SessionId
+    ensures { (session : SessionId) → change.now ≡ sessions.End session → result ≡ session }
+{
+    match change {
+        SessionsChange::End { session } => *session,
+        SessionsChange::Same | SessionsChange::Mute { .. } => SessionId(0),
+    }
+}
+
 impl<K: StateKeeper + Drop> StateKeeper for Indexed<K> {
     fn change(&mut self, changes: &Changes) -> Result<(), AllocError> {
-        let sessions = self.keeper.sessions();
-        self.index.make_room(sessions)?;
-        let holder = holder_of(&self.keeper, removed_request(&changes.requests));
-        let alloc = self.index.alloc();
-        let queue = queue_of(alloc, &self.keeper, removed_node(&changes.nodes))?;
-        let rank = lost_rank(&self.keeper, &changes.requests);
-        let next = Numbers {
-            request: self.keeper.next_request(),
-            node: self.keeper.next_node(),
-        };
-        let added = self.index.grow(changes, next)?;
+        let queued = self.index.lookups.nodes_of(ending(&changes.sessions));
+        let touched = self
+            .index
+            .classes
+            .prepare(self.alloc, &self.keeper, changes, queued)?;
+        let prepared = self.index.lookups.prepare(&self.keeper, changes)?;
         if let Err(fault) = self.keeper.change(changes) {
-            self.index.take_back(changes, next, added);
+            self.index.lookups.take_back(changes, &prepared);
             return Err(fault);
         }
         let config = self.keeper.config();
-        self.index
-            .settle(config, changes, holder, queue.as_slice(), rank);
+        self.index.lookups.settle(config, changes, &prepared);
+        self.index.classes.note(&self.keeper, &touched);
         Ok(())
     }
 }

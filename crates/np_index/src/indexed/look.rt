@@ -2,7 +2,6 @@
 
 ghost use Rattle.std.specs.Prelude.{◌≡◌, ◌≤◌};
 
-use crate::first::first_request;
 use crate::indexed::Indexed;
 use np_amount::Amount;
 use np_changes::Asked;
@@ -121,6 +120,30 @@ impl<K: StateKeeper + Drop> Look for Indexed<K> {
         self.index.nodes_of(session).get(at as usize).copied()
     }
 
+    fn pending_requests(&self, pool: PoolId) -> u32 {
+        number_of(self.index.pending_requests(pool), self.keeper.requests())
+    }
+
+    fn pending_request_at(&self, pool: PoolId, at: u32) -> Option<RequestId> {
+        self.index.pending_request_at(pool, at)
+    }
+
+    fn declined_requests(&self) -> u32 {
+        number_of(self.index.declined_requests(), self.keeper.requests())
+    }
+
+    fn declined_request_at(&self, at: u32) -> Option<RequestId> {
+        self.index.declined_request_at(at)
+    }
+
+    fn unheld_nodes(&self, pool: PoolId) -> u32 {
+        number_of(self.index.unheld_nodes(pool), self.keeper.nodes())
+    }
+
+    fn unheld_node_at(&self, pool: PoolId, at: u32) -> Option<NodeId> {
+        self.index.unheld_node_at(pool, at)
+    }
+
     fn handles(&self, semaphore: SemId) -> u32 {
         self.keeper.handles(semaphore)
     }
@@ -190,41 +213,41 @@ impl<K: StateKeeper + Drop> Look for Indexed<K> {
     }
 
     fn blocking(&self, pool: PoolId, asked: &Asked) -> Option<TenantId> {
-        self.keeper.blocking(pool, asked)
+        self.index.blocking(&self.keeper, pool, asked)
     }
 
     /// The first request that the pool's launcher may take up. It costs a lookup for each request
     /// before the answer that is not open to the pool, and what its tenant uses for each other one.
     fn first_of(&self, pool: PoolId) -> Option<RequestId> {
-        first_request(&self.keeper, pool, self.index.ranks())
+        self.index.first_of(&self.keeper, pool)
     }
 
     fn used_by(&self, tenant: TenantId) -> Amount {
-        self.keeper.used_by(tenant)
+        self.index.used_by(&self.keeper, tenant)
     }
 
     fn has_spent_min_ready(&self, pool: PoolId, label: LabelId) -> bool {
-        self.keeper.has_spent_min_ready(pool, label)
+        self.index.has_spent_min_ready(pool, label)
     }
 
     fn ready_count(&self, label: LabelId) -> u32 {
-        self.keeper.ready_count(label)
+        self.index.ready_count(&self.keeper, label)
     }
 
     fn used(&self, pool: PoolId) -> Amount {
-        self.keeper.used(pool)
+        self.index.used(&self.keeper, pool)
     }
 
     fn has_spare(&self, pool: PoolId, label: LabelId) -> bool {
-        self.keeper.has_spare(pool, label)
+        self.index.has_spare(pool, label)
     }
 
     fn is_paused(&self, pool: PoolId) -> bool {
-        self.keeper.is_paused(pool)
+        self.index.is_paused(&self.keeper, pool)
     }
 
     fn free_ready(&self, pool: PoolId, label: LabelId, at: u32) -> Option<NodeId> {
-        self.keeper.free_ready(pool, label, at)
+        self.index.free_ready(pool, label, at)
     }
 
     fn unfinished(&self, requester: RequesterId, at: u32) -> Option<JobId> {

@@ -1,6 +1,6 @@
 use Rattle.std.proofs.Common.{◌≡◌, drop}
 use Rattle.std.specs.Prelude.{find}
-use Rattle.np_index.specs.Ranks.{may_take_up}
+use Rattle.np_lookups.specs.Ranks.{may_take_up}
 use Rattle.np_index.proofs.first.first_rank.Given as goal
 
 abbrev pub invariant-loop-rank : goal.invariant-loop-rank

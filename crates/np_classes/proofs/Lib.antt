@@ -1,0 +1,5 @@
+pub mod Folds
+pub mod Untouched
+pub mod Listed
+pub mod Noted
+pub mod Rebuilt

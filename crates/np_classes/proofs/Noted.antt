@@ -1,0 +1,123 @@
+-- the members of groups after a change, from those before it
+use Rattle.std.proofs.Common.{◌≡◌, ◌∙◌, Bool, true, false, List, Option, None, Some, refl, sym, ap, subst}
+use Rattle.std.specs.Prelude.{map, is_none}
+use Rattle.std.specs.Option.{option_map_or}
+use Rattle.std.specs.List.{list_any}
+use Rattle.np_text.specs.declared.id.NodeId.{NodeId}
+use Rattle.np_text.specs.declared.id.RequestId.{RequestId}
+use Rattle.np_text.specs.declared.id.SessionId.{SessionId}
+use Rattle.np_record.specs.declared.record.NodeRecord.{NodeRecord}
+use Rattle.np_record.specs.declared.record.RequestRecord.{RequestRecord}
+use Rattle.np_site.specs.Configuration.{Configuration}
+use Rattle.np_groups.specs.declared.groups.Group.{Group}
+use Rattle.np_groups.specs.declared.groups.Member.{Member}
+use Rattle.np_keys.specs.Keys.{is_node_before, same_node, node_transitive, node_one_way, node_some_way, node_equal, request_transitive, request_one_way, request_some_way, request_equal}
+use Rattle.np_machine.specs.Order.{is_id_before}
+use Rattle.np_machine.specs.State.{State}
+use Rattle.np_machine.specs.Tables.{holder, node_in, node_holder, request_in, same_request}
+use Rattle.np_changes.specs.Changes.{changed}
+use Rattle.np_changes.specs.Planned.{IsReached}
+use Rattle.np_changes.specs.declared.changes.Changes.{Changes}
+use Rattle.np_safe.specs.Parts.{IsNumbered}
+use Rattle.np_safe.proofs.Numbered.{numbered}
+use Rattle.np_safe.proofs.Runs.{invariant-Runs}
+use Rattle.np_classes.specs.Classes.{ClassesOf, AreClasses, AreNodeGroups, AreRequestGroups, is_among, node_groups, node_is_in, request_groups, request_is_in}
+use Rattle.np_classes.specs.Placed.{Placed, groups_of_node, groups_of_request, members_of, no_groups, placed_node, placed_request, with_all, without_all}
+use Rattle.np_classes.specs.Prepared.{IsPrepared, TouchedOf}
+use Rattle.np_classes.specs.Touched.{touches_node, touches_request}
+use Rattle.np_classes.proofs.Folds.{moved, rises-with_all, rises-without_all}
+use Rattle.np_classes.proofs.Untouched.{node-untouched, request-untouched}
+
+-- the groups of a node that is not there are none
+pub node-among : (s : State) (g : Group) (n : NodeId) → is_among g (groups_of_node s n) ≡ node_is_in s g n
+node-among s g n = by (node_in n s.nodes) where
+  by : (o : Option NodeRecord) → is_among g (option_map_or (λ k. node_groups k (is_none (node_holder n s.nodes))) o no_groups) ≡ option_map_or (λ k. is_among g (node_groups k (is_none (node_holder n s.nodes)))) o false
+  by None = refl
+  by (Some k) = refl
+
+pub request-among : (c : Configuration) (s : State) (g : Group) (r : RequestId) → is_among g (groups_of_request c s r) ≡ request_is_in c s g r
+request-among c s g r = by (request_in r s.requests) where
+  by : (o : Option RequestRecord) → is_among g (option_map_or (λ k. request_groups c k) o no_groups) ≡ option_map_or (λ k. is_among g (request_groups c k)) o false
+  by None = refl
+  by (Some k) = refl
+
+-- what is not listed is not touched
+untouched : (a b : Bool) → (a ≡ true → b ≡ true) → b ≡ false → a ≡ false
+untouched true b all out = let is : b ≡ true = all refl in cc
+untouched false b all out = refl
+
+module _ (c : Configuration) (s : State) (ch : Changes) (touched : TouchedOf) (prepared : IsPrepared c s ch touched) (later : IsNumbered (changed c ch s)) where
+  nodes-noted : (ms new : List (Member NodeId)) → AreNodeGroups s ms
+      → new ≡ with_all is_node_before same_node (map (placed_node (changed c ch s)) touched.nodes) (without_all same_node touched.node_members ms)
+      → AreNodeGroups (changed c ch s) new
+  nodes-noted ms new old is = rw (is, prepared.node_members) (record {
+    rises =
+        rises-with_all is_node_before same_node node_transitive node_one_way node_some_way node_equal
+        (map (placed_node (changed c ch s)) touched.nodes) (without_all same_node (members_of (map (placed_node s) touched.nodes)) ms)
+        (rises-without_all is_node_before same_node node_transitive node_one_way node_some_way node_equal (members_of (map (placed_node s) touched.nodes)) ms old.rises);
+    each = λ g n.
+        moved is_node_before same_node node_transitive node_one_way node_some_way node_equal g n
+        (groups_of_node s) (groups_of_node (changed c ch s)) touched.nodes ms old.rises
+        (old.each g n ∙ sym (node-among s g n))
+        (λ out. ap (is_among g) (stays n out))
+        ∙ node-among (changed c ch s) g n;
+    once = later.nodes_rise;
+  })
+    where
+      stays : (n : NodeId) → list_any (λ m. same_node m n) touched.nodes ≡ false → groups_of_node (changed c ch s) n ≡ groups_of_node s n
+      stays n out =
+          let same = node-untouched c ch s n (untouched (touches_node ch s n) (list_any (λ m. same_node m n) touched.nodes) (prepared.nodes n) out) in
+          ap (λ (o : Option NodeRecord). option_map_or (λ k. node_groups k (is_none (node_holder n (changed c ch s).nodes))) o no_groups) same.0
+          ∙ ap (λ (queue : List SessionId). option_map_or (λ k. node_groups k (is_none (holder queue))) (node_in n s.nodes) no_groups) same.1
+
+  requests-noted : (ms new : List (Member RequestId)) → AreRequestGroups c s ms
+      → new ≡ with_all is_id_before same_request (map (placed_request c (changed c ch s)) touched.requests) (without_all same_request touched.request_members ms)
+      → AreRequestGroups c (changed c ch s) new
+  requests-noted ms new old is = rw (is, prepared.request_members) (record {
+    rises =
+        rises-with_all is_id_before same_request request_transitive request_one_way request_some_way request_equal
+        (map (placed_request c (changed c ch s)) touched.requests) (without_all same_request (members_of (map (placed_request c s) touched.requests)) ms)
+        (rises-without_all is_id_before same_request request_transitive request_one_way request_some_way request_equal (members_of (map (placed_request c s) touched.requests)) ms old.rises);
+    each = λ g r.
+        moved is_id_before same_request request_transitive request_one_way request_some_way request_equal g r
+        (groups_of_request c s) (groups_of_request c (changed c ch s)) touched.requests ms old.rises
+        (old.each g r ∙ sym (request-among c s g r))
+        (λ out. ap (is_among g) (stays r out))
+        ∙ request-among c (changed c ch s) g r;
+    once = later.requests_rise;
+  })
+    where
+      stays : (r : RequestId) → list_any (λ x. same_request x r) touched.requests ≡ false → groups_of_request c (changed c ch s) r ≡ groups_of_request c s r
+      stays r out =
+          let same = request-untouched c ch s r (untouched (touches_request ch s r) (list_any (λ x. same_request x r) touched.requests) (prepared.requests r) out) in
+          ap (λ (o : Option RequestRecord). option_map_or (λ k. request_groups c k) o no_groups) same
+
+-- members taken out and ids put in, as two calls do it with lists that are passed
+pub moved-by : {K : Type 0} (before same : K → K → Bool) (place : K → Placed K) (old was between new gone listed_gone : List (Member K)) (ids listed : List K)
+    → (given_gone : List (Member K)) (given : List K)
+    → was ≡ old → gone ≡ listed_gone → ids ≡ listed → given_gone ≡ gone → given ≡ ids
+    → between ≡ without_all same given_gone was → new ≡ with_all before same (map place given) between
+    → new ≡ with_all before same (map place listed) (without_all same listed_gone old)
+moved-by before same place old was between new gone listed_gone ids listed given_gone given was_is gone_is ids_is passed_gone passed taken put =
+    put
+    ∙ ap (λ (ms : List (Member _)). with_all before same (map place given) ms) (taken ∙ ap (λ (ms : List (Member _)). without_all same given_gone ms) was_is ∙ ap (λ (ms : List (Member _)). without_all same ms old) (passed_gone ∙ gone_is))
+    ∙ ap (λ (some : List _). with_all before same (map place some) (without_all same listed_gone old)) (passed ∙ ids_is)
+
+-- what is touched leaves its groups, and is put where it is after the change
+pub classes-noted : (c site : Configuration) (s t : State) (ch : Changes) (touched : TouchedOf) (old new : ClassesOf)
+    → new.nodes ≡ with_all is_node_before same_node (map (placed_node t) touched.nodes) (without_all same_node touched.node_members old.nodes)
+    → new.requests ≡ with_all is_id_before same_request (map (placed_request site t) touched.requests) (without_all same_request touched.request_members old.requests)
+    → IsReached c s → IsPrepared c s ch touched → site ≡ c → t ≡ changed c ch s → AreClasses c s old → AreClasses c (changed c ch s) new
+classes-noted c site s t ch touched old new nodes requests reached prepared same_site after was =
+    let later : IsNumbered (changed c ch s) = numbered c s ch (invariant-Runs c reached.journal s reached.runs).numbered in
+    record {
+      nodes = nodes-noted c s ch touched prepared later old.nodes new.nodes was.nodes (rw (← after) nodes);
+      requests = requests-noted c s ch touched prepared later old.requests new.requests was.requests (rw (← after, ← same_site) requests);
+    }
+
+-- members that stay are those of the same states
+pub classes-same : (c : Configuration) (s : State) (old new : ClassesOf) → new.nodes ≡ old.nodes → new.requests ≡ old.requests → AreClasses c s old → AreClasses c s new
+classes-same c s old new nodes requests was = record {
+  nodes = subst (AreNodeGroups s) (sym nodes) was.nodes;
+  requests = subst (AreRequestGroups c s) (sym requests) was.requests;
+}

@@ -1,0 +1,141 @@
+-- what the changes of an event do not touch is found after them as before
+use Rattle.std.proofs.Common.{◌≡◌, ◌∙◌, sym, ℕ, List, refl, ap, Option, Some, None, Bool, true, false, cond}
+use Rattle.std.specs.Prelude.{◌==◌, ◌||◌}
+use Rattle.std.specs.Option.{option_map, option_map_or}
+use Rattle.std.specs.List.{list_any}
+use Rattle.np_text.specs.declared.id.SessionId.{SessionId}
+use Rattle.np_text.specs.declared.id.NodeId.{NodeId}
+use Rattle.np_text.specs.declared.id.RequestId.{RequestId}
+use Rattle.np_text.specs.declared.id.TenantId.{TenantId}
+use Rattle.np_record.specs.declared.record.NodeRecord.{NodeRecord}
+use Rattle.np_site.specs.Configuration.{Configuration}
+use Rattle.np_lists.specs.Change.{change_first}
+use Rattle.np_lists.proofs.FilterLemmas.{none-list_any, filter-not_none}
+use Rattle.np_machine.specs.Entries.{RequestEntry, NodeEntry}
+use Rattle.np_machine.specs.State.{State}
+use Rattle.np_machine.specs.Tables.{is_queued, is_request, is_session, same_request, joined, left, request_in, node_in, node_queue, put_node_queue, freed}
+use Rattle.np_machine.specs.Node.{allocated}
+use Rattle.np_changes.specs.declared.changes.Maker.{Maker}
+use Rattle.np_changes.specs.declared.changes.Changes.{Changes}
+use Rattle.np_changes.specs.declared.changes.Growth.{Growth}
+use Rattle.np_changes.specs.declared.changes.Growth.TheVariants as grow
+use Rattle.np_changes.specs.declared.changes.RequestsChange.{RequestsChange}
+use Rattle.np_changes.specs.declared.changes.RequestsChange.TheVariants as requests
+use Rattle.np_changes.specs.declared.changes.NodesChange.{NodesChange}
+use Rattle.np_changes.specs.declared.changes.NodesChange.TheVariants as nodes
+use Rattle.np_changes.specs.declared.changes.SessionsChange.{SessionsChange}
+use Rattle.np_changes.specs.declared.changes.SessionsChange.TheVariants as sessions
+use Rattle.np_changes.specs.Changes.{grown, edited, requests_changed, nodes_changed, nodes_left, changed}
+use Rattle.np_safe.proofs.Lookups.{request_in-edit, request_in-insert, request_in-remove, used_from, node_in-put, node_in-allocated, node_in-queue, node_in-left, node_in-freed, node_in-in_use, node_in-other, node_in-remove, node_queue-put, node_queue-freed, node_queue-in_use, node_queue-allocated, node_queue-queue, node_queue-nowhere, node_queue-left, node_queue-other, node_queue-remove}
+use Rattle.np_safe.proofs.After.{grown-request, calm-request, left-request}
+use Rattle.np_classes.specs.Touched.{grows_node, changes_node, ends_at_node, touches_node, grows_request, changes_request, touches_request}
+
+-- none of two
+neither : (a b : Bool) → (a || b) ≡ false → (a ≡ false) × (b ≡ false)
+neither true b out = absurd cc
+neither false b out = (refl, out)
+
+-- what a test that fails would change stays
+unchanged : {K : Type 0} (b : Bool) (f : K → K) (o : Option K) → b ≡ false → option_map (λ k. cond b (f k) k) o ≡ o
+unchanged b f None out = refl
+unchanged b f (Some k) out = rw out refl
+
+-- ## nodes
+
+-- the node has the same record and the same queue in both
+abbrev Alike : NodeId → List NodeEntry → List NodeEntry → Type 0
+Alike n rows old = (node_in n rows ≡ node_in n old) × (node_queue n rows ≡ node_queue n old)
+
+-- the queue of another node is put
+queue-put : (n0 n : NodeId) (queue : List SessionId) (rows : List NodeEntry) → (n0.0 == n.0) ≡ false → node_queue n (put_node_queue n0 queue rows) ≡ node_queue n rows
+queue-put n0 n queue rows other = by (node_in n rows) refl where
+  by : (o : Option NodeRecord) → node_in n rows ≡ o → node_queue n (put_node_queue n0 queue rows) ≡ node_queue n rows
+  by None none = node_queue-nowhere n (put_node_queue n0 queue rows) (node_in-queue n0 n queue rows ∙ none) ∙ sym (node_queue-nowhere n rows none)
+  by (Some k) is = node_queue-queue n0 n queue k rows is ∙ ap (λ (b : Bool). cond b queue (node_queue n rows)) other
+
+-- its record stays too
+put-untouched : (n0 n : NodeId) (queue : List SessionId) (rows : List NodeEntry) → (n0.0 == n.0) ≡ false → Alike n (put_node_queue n0 queue rows) rows
+put-untouched n0 n queue rows other = (node_in-queue n0 n queue rows, queue-put n0 n queue rows other)
+
+-- another node is allocated
+allocated-untouched : (n0 n : NodeId) (r : RequestId) (tenant : Option TenantId) (session : SessionId) (rows : List NodeEntry) → (n0.0 == n.0) ≡ false → Alike n (change_first (λ e. e.id.0 == n0.0) (allocated r tenant session) rows) rows
+allocated-untouched n0 n r tenant session rows other = (same, by (node_in n rows) refl) where
+  same : node_in n (change_first (λ e. e.id.0 == n0.0) (allocated r tenant session) rows) ≡ node_in n rows
+  same = node_in-allocated n0 n r tenant session rows ∙ unchanged (n0.0 == n.0) (λ k. record k { allocated_to = Some r; tenant = tenant }) (node_in n rows) other
+
+  by : (o : Option NodeRecord) → node_in n rows ≡ o → node_queue n (change_first (λ e. e.id.0 == n0.0) (allocated r tenant session) rows) ≡ node_queue n rows
+  by None none = node_queue-nowhere n (change_first (λ e. e.id.0 == n0.0) (allocated r tenant session) rows) (same ∙ none) ∙ sym (node_queue-nowhere n rows none)
+  by (Some k) is = node_queue-allocated n0 n r tenant session k rows is ∙ ap (λ (b : Bool). cond b (joined session (node_queue n rows)) (node_queue n rows)) other
+
+-- a growth of something else
+grown-untouched : (c : Configuration) (maker : Option Maker) (g : Growth) (s : State) (n : NodeId) → grows_node g s n ≡ false → Alike n (grown c maker g s).nodes s.nodes
+grown-untouched c maker (grow.Node kept) s n other = (node_in-other _ n s.nodes other, node_queue-other _ n s.nodes other)
+grown-untouched c None (grow.JoinNode n0) s n other = (refl, refl)
+grown-untouched c (Some by) (grow.JoinNode n0) s n other = put-untouched n0 n (joined by.session (node_queue n0 s.nodes)) s.nodes other
+grown-untouched c None (grow.Allocate n0 r tenant) s n other = (refl, refl)
+grown-untouched c (Some by) (grow.Allocate n0 r tenant) s n other = allocated-untouched n0 n r tenant by.session s.nodes other
+grown-untouched c None (grow.Registration p) s n other = (refl, refl)
+grown-untouched c (Some by) (grow.Registration p) s n other = (refl, refl)
+grown-untouched c maker _ s n other = (refl, refl)
+
+-- a node that is not allocated to the request is not freed
+not-freed : (r : RequestId) (o : Option NodeRecord) → option_map_or (λ k. is_request r k.allocated_to) o false ≡ false → option_map (λ k. cond (is_request r k.allocated_to) (freed k) k) o ≡ o
+not-freed r None out = refl
+not-freed r (Some k) out = rw out refl
+
+-- a change of other nodes; the nodes may have grown, with this one as in the state
+changed-untouched : (maker : Option Maker) (tick : ℕ) (change : NodesChange) (s : State) (n : NodeId) (rows : List NodeEntry) → node_in n rows ≡ node_in n s.nodes → changes_node change s n ≡ false → Alike n (nodes_changed maker tick change rows) rows
+changed-untouched maker tick nodes.Same s n rows same other = (refl, refl)
+changed-untouched maker tick (nodes.Put n0 kept) s n rows same other =
+    (node_in-put n0 n kept rows ∙ unchanged (n0.0 == n.0) (λ _. kept) (node_in n rows) other, node_queue-put n0 n kept rows)
+changed-untouched maker tick (nodes.Remove n0) s n rows same other = (node_in-remove n0 n rows other, node_queue-remove n0 n rows other)
+changed-untouched None tick (nodes.Leave n0) s n rows same other = (refl, refl)
+changed-untouched (Some by) tick (nodes.Leave n0) s n rows same other = put-untouched n0 n (left by.session (node_queue n0 rows)) rows other
+changed-untouched maker tick (nodes.FreeAll r) s n rows same other =
+    (node_in-freed r n rows ∙ not-freed r (node_in n rows) (ap (λ (o : Option NodeRecord). option_map_or (λ k. is_request r k.allocated_to) o false) same ∙ other), node_queue-freed r n rows)
+changed-untouched maker tick (nodes.TakeOver numbers) s n rows same other =
+    (node_in-in_use tick numbers n rows ∙ unchanged (list_any (λ m. m.0 == n.0) numbers) (used_from tick) (node_in n rows) other, node_queue-in_use tick numbers n rows)
+
+-- a queue that the session is not in stays when it leaves
+left-same : (session : SessionId) (queue : List SessionId) → is_queued session queue ≡ false → left session queue ≡ queue
+left-same session queue out = filter-not_none (λ other. is_session other session) queue (none-list_any (λ other. is_session other session) queue out)
+
+-- the end of a session that is not in the node's queue
+left-untouched : (ended : SessionsChange) (s : State) (n : NodeId) (rows : List NodeEntry) → node_queue n rows ≡ node_queue n s.nodes → ends_at_node ended s n ≡ false → Alike n (nodes_left ended rows) rows
+left-untouched sessions.Same s n rows same out = (refl, refl)
+left-untouched (sessions.Mute session) s n rows same out = (refl, refl)
+left-untouched (sessions.End session) s n rows same out =
+    (node_in-left session n rows, node_queue-left session n rows ∙ left-same session (node_queue n rows) (ap (λ (queue : List SessionId). is_queued session queue) same ∙ out))
+
+-- a node that the changes do not touch has the same record and the same queue after them
+pub node-untouched : (c : Configuration) (ch : Changes) (s : State) (n : NodeId) → touches_node ch s n ≡ false → (node_in n (changed c ch s).nodes ≡ node_in n s.nodes) × (node_queue n (changed c ch s).nodes ≡ node_queue n s.nodes)
+node-untouched c ch s n out =
+    let both = neither (grows_node ch.grows s n || changes_node ch.nodes s n) (ends_at_node ch.sessions s n) out in
+    let first = neither (grows_node ch.grows s n) (changes_node ch.nodes s n) both.0 in
+    let more : State = grown c ch.maker ch.grows s in
+    let grew = grown-untouched c ch.maker ch.grows s n first.0 in
+    let change = changed-untouched ch.maker more.tick ch.nodes s n more.nodes grew.0 first.1 in
+    let leave = left-untouched ch.sessions s n (nodes_changed ch.maker more.tick ch.nodes more.nodes) (change.1 ∙ grew.1) both.1 in
+    (leave.0 ∙ change.0 ∙ grew.0, leave.1 ∙ change.1 ∙ grew.1)
+
+-- ## requests
+
+-- a growth of something else
+request-grown : (c : Configuration) (maker : Option Maker) (g : Growth) (s : State) (r : RequestId) → grows_request g s r ≡ false → request_in r (grown c maker g s).requests ≡ request_in r s.requests
+request-grown c maker (grow.Request priority asked) s r other = request_in-insert _ r s.requests other
+request-grown c maker g s r other = grown-request c maker g s r tt
+
+-- a change of another request, or of a queue
+request-changed : (maker : Option Maker) (change : RequestsChange) (r : RequestId) (rows : List RequestEntry) → changes_request change r ≡ false → request_in r (requests_changed maker change rows) ≡ request_in r rows
+request-changed maker (requests.Edit r0 edit) r rows other = request_in-edit r0 r (edited edit) rows ∙ unchanged (same_request r0 r) (edited edit) (request_in r rows) other
+request-changed maker (requests.Remove r0) r rows other = request_in-remove r0 r rows other
+request-changed maker change r rows other = calm-request maker change r rows tt
+
+-- a request that the changes do not touch has the same record after them
+pub request-untouched : (c : Configuration) (ch : Changes) (s : State) (r : RequestId) → touches_request ch s r ≡ false → request_in r (changed c ch s).requests ≡ request_in r s.requests
+request-untouched c ch s r out =
+    let both = neither (grows_request ch.grows s r) (changes_request ch.requests r) out in
+    let more : State = grown c ch.maker ch.grows s in
+    left-request ch.sessions r (requests_changed ch.maker ch.requests more.requests)
+    ∙ request-changed ch.maker ch.requests r more.requests both.1
+    ∙ request-grown c ch.maker ch.grows s r both.0

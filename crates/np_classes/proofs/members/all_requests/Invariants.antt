@@ -1,0 +1,11 @@
+use Rattle.std.proofs.Common.{◌≡◌}
+use Rattle.np_machine.specs.Order.{is_id_before}
+use Rattle.np_machine.specs.Tables.{same_request}
+use Rattle.np_look.specs.Views.{request_view}
+use Rattle.np_classes.specs.Placed.{placed_request_view}
+use Rattle.np_classes.proofs.Rebuilt.{made}
+use Rattle.np_classes.proofs.members.all_requests.Given as goal
+
+abbrev pub invariant-loop-at : goal.invariant-loop-at
+invariant-loop-at g l =
+    l.groups.members ≡ made is_id_before same_request request_view (placed_request_view (g.L.Look.site l.look)) (g.L.Look.state l.look).requests l.at

@@ -1,0 +1,138 @@
+-- the groups that nodes and requests are in, and what a state says of them
+use Rattle.std.specs.Prelude.{◌≡◌, ℕ, List, [], ◌∷◌, Bool, false, ◌&&◌, ◌||◌, if◌then◌else◌, Option, Some, None, is_none, is_some, slice_get, option_and_then, nat_lt}
+use Rattle.std.specs.Option.{option_map, option_map_or}
+use Rattle.std.specs.List.{list_any}
+use Rattle.np_text.specs.declared.id.PoolId.{PoolId}
+use Rattle.np_text.specs.declared.id.LabelId.{LabelId}
+use Rattle.np_text.specs.declared.id.NodeId.{NodeId}
+use Rattle.np_text.specs.declared.id.RequestId.{RequestId}
+use Rattle.np_text.specs.declared.id.TenantId.{TenantId}
+use Rattle.np_site.specs.Configuration.{Configuration}
+use Rattle.np_record.specs.declared.record.NodeRecord.{NodeRecord}
+use Rattle.np_record.specs.declared.record.RequestRecord.{RequestRecord}
+use Rattle.np_lists.specs.Rising.{Rises}
+use Rattle.np_groups.specs.declared.groups.Group.{Group}
+use Rattle.np_groups.specs.declared.groups.Member.{Member}
+use Rattle.np_groups.specs.Groups.{same_group, has_member, is_member_before}
+use Rattle.np_keys.specs.Keys.{same_node, is_node_before}
+use Rattle.np_look.specs.Readers.{is_still_requested}
+use Rattle.np_machine.specs.Kinds.{is_requested, is_pending, is_failed, is_ready}
+use Rattle.np_machine.specs.Order.{is_id_before}
+use Rattle.np_machine.specs.State.{State}
+use Rattle.np_machine.specs.Tables.{node_in, node_holder, request_in, same_request}
+use Rattle.np_machine.specs.Tenants.{tenant_of_request}
+
+-- ## groups of nodes (own)
+
+-- all nodes of the pool with the label
+abbrev pub kind_group : PoolId → LabelId → Group
+kind_group p l = record { class = 0; first = p.0; second = l.0 }
+
+-- those of them that are ready, allocated to no request and unlocked
+abbrev pub spare_group : PoolId → LabelId → Group
+spare_group p l = record { class = 1; first = p.0; second = l.0 }
+
+-- the ready nodes of the label in all pools that are allocated to no request
+abbrev pub free_group : LabelId → Group
+free_group l = record { class = 2; first = 0; second = l.0 }
+
+-- the nodes of the tenant
+abbrev pub tenant_group : TenantId → Group
+tenant_group t = record { class = 3; first = t.0; second = 0 }
+
+-- the nodes of the pool that nobody holds
+abbrev pub unheld_group : PoolId → Group
+unheld_group p = record { class = 4; first = p.0; second = 0 }
+
+-- the group, if the test is passed
+abbrev pub group_if : Bool → Group → Option Group
+group_if is_in g = if is_in then Some g else None
+
+-- the groups of a node with this record, by whether it is unlocked
+abbrev pub node_groups : NodeRecord → Bool → List (Option Group)
+node_groups k unlocked =
+    Some (kind_group k.pool k.label)
+    ∷ group_if (is_ready k.state && is_none k.allocated_to) (free_group k.label)
+    ∷ group_if (is_ready k.state && is_none k.allocated_to && unlocked) (spare_group k.pool k.label)
+    ∷ option_map tenant_group k.tenant
+    ∷ group_if unlocked (unheld_group k.pool)
+    ∷ []
+
+-- ## groups of requests (own)
+
+-- the requests that are pending by the pool
+abbrev pub pending_group : PoolId → Group
+pending_group p = record { class = 0; first = p.0; second = 0 }
+
+-- the pending requests whose job is of the tenant
+abbrev pub waiting_group : TenantId → Group
+waiting_group t = record { class = 1; first = t.0; second = 0 }
+
+-- the min-ready requests for the label that are requested or pending
+abbrev pub coming_group : LabelId → Group
+coming_group l = record { class = 2; first = 0; second = l.0 }
+
+-- the failed min-ready requests of the pool for the label
+abbrev pub spent_group : PoolId → LabelId → Group
+spent_group p l = record { class = 3; first = p.0; second = l.0 }
+
+-- the requests that are requested, and that at least one pool declined
+abbrev pub declined_group : Group
+declined_group = record { class = 4; first = 0; second = 0 }
+
+abbrev pub pending_group_of : RequestRecord → Option Group
+pending_group_of k = if is_pending k.state then option_map pending_group k.pool else None
+
+abbrev pub waiting_group_of : Configuration → RequestRecord → Option Group
+waiting_group_of c k = if is_pending k.state then option_map waiting_group (tenant_of_request c k) else None
+
+abbrev pub coming_group_of : RequestRecord → Option Group
+coming_group_of k = if (is_requested k.state || is_pending k.state) && is_some k.pinned then option_map coming_group (slice_get k.labels 0) else None
+
+abbrev pub spent_group_of : RequestRecord → Option Group
+spent_group_of k = if is_failed k.state then option_and_then (λ p. option_map (spent_group p) (slice_get k.labels 0)) k.pinned else None
+
+abbrev pub declined_group_of : RequestRecord → Option Group
+declined_group_of k = group_if (is_still_requested k) declined_group
+
+-- the groups of a request with this record
+abbrev pub request_groups : Configuration → RequestRecord → List (Option Group)
+request_groups c k = pending_group_of k ∷ waiting_group_of c k ∷ coming_group_of k ∷ spent_group_of k ∷ declined_group_of k ∷ []
+
+-- ## what a state says
+
+-- the group is among these
+abbrev pub is_among : Group → List (Option Group) → Bool
+is_among g groups = list_any (λ o. option_map_or (λ h. same_group h g) o false) groups
+
+-- the node is there, and in the group
+abbrev pub node_is_in : State → Group → NodeId → Bool
+node_is_in s g n = option_map_or (λ k. is_among g (node_groups k (is_none (node_holder n s.nodes)))) (node_in n s.nodes) false
+
+-- the request is there, and in the group
+abbrev pub request_is_in : Configuration → State → Group → RequestId → Bool
+request_is_in c s g r = option_map_or (λ k. is_among g (request_groups c k)) (request_in r s.requests) false
+
+-- the members of a group are the nodes that are in it; no two nodes have one number
+pub record AreNodeGroups (s : State) (members : List (Member NodeId)) : Type 0 where
+  pub rises : Rises (is_member_before is_node_before) members
+  pub each : (g : Group) (n : NodeId) → has_member same_node g n members ≡ node_is_in s g n
+  pub once : Rises (λ a b. nat_lt a.id.0 b.id.0) s.nodes
+
+-- the members of a group are the requests that are in it; no two requests have one id
+pub record AreRequestGroups (c : Configuration) (s : State) (members : List (Member RequestId)) : Type 0 where
+  pub rises : Rises (is_member_before is_id_before) members
+  pub each : (g : Group) (r : RequestId) → has_member same_request g r members ≡ request_is_in c s g r
+  pub once : Rises (λ a b. is_id_before a.id b.id) s.requests
+
+-- the members of all groups, and how many more can be put without taking memory
+pub record ClassesOf : Type 0 where
+  pub nodes : List (Member NodeId)
+  pub requests : List (Member RequestId)
+  pub node_room : ℕ
+  pub request_room : ℕ
+
+-- each part says what the state says
+pub record AreClasses (c : Configuration) (s : State) (classes : ClassesOf) : Type 0 where
+  pub nodes : AreNodeGroups s classes.nodes
+  pub requests : AreRequestGroups c s classes.requests

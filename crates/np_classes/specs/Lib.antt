@@ -1,0 +1,4 @@
+pub mod Classes
+pub mod Placed
+pub mod Touched
+pub mod Prepared

@@ -1,0 +1,86 @@
+-- which nodes and requests are listed before a change, and what is prepared for it
+use Rattle.std.specs.Prelude.{◌≡◌, ◌≤◌, ◌*◌, List, [], ◌∷◌, ◌++◌, true, length, map}
+use Rattle.std.specs.Option.{option_map_or}
+use Rattle.std.specs.List.{list_any}
+use Rattle.np_text.specs.declared.id.NodeId.{NodeId}
+use Rattle.np_text.specs.declared.id.RequestId.{RequestId}
+use Rattle.np_site.specs.Configuration.{Configuration}
+use Rattle.np_groups.specs.declared.groups.Member.{Member}
+use Rattle.np_keys.specs.Keys.{same_node}
+use Rattle.np_machine.specs.State.{State}
+use Rattle.np_machine.specs.Tables.{request_in, same_request}
+use Rattle.np_machine.specs.Request.{next_id}
+use Rattle.np_changes.specs.declared.changes.Changes.{Changes}
+use Rattle.np_changes.specs.declared.changes.Growth.{Growth}
+use Rattle.np_changes.specs.declared.changes.Growth.TheVariants as grow
+use Rattle.np_changes.specs.declared.changes.RequestsChange.{RequestsChange}
+use Rattle.np_changes.specs.declared.changes.RequestsChange.TheVariants as requests
+use Rattle.np_changes.specs.declared.changes.NodesChange.{NodesChange}
+use Rattle.np_changes.specs.declared.changes.NodesChange.TheVariants as nodes
+use Rattle.np_changes.specs.declared.changes.SessionsChange.{SessionsChange}
+use Rattle.np_changes.specs.declared.changes.SessionsChange.TheVariants as sessions
+use Rattle.np_classes.specs.Classes.{ClassesOf}
+use Rattle.np_classes.specs.Placed.{members_of, placed_node, placed_request}
+use Rattle.np_classes.specs.Touched.{touches_node, touches_request}
+
+-- ## nodes
+
+abbrev pub grown_nodes : Growth → State → List NodeId
+grown_nodes (grow.Node kept) s = record { 0 = s.next_node } ∷ []
+grown_nodes (grow.JoinNode n) s = n ∷ []
+grown_nodes (grow.Allocate n r tenant) s = n ∷ []
+grown_nodes growth s = []
+
+-- the nodes that are freed are in their request's list
+abbrev pub changed_nodes : NodesChange → State → List NodeId
+changed_nodes nodes.Same s = []
+changed_nodes (nodes.Put n kept) s = n ∷ []
+changed_nodes (nodes.Remove n) s = n ∷ []
+changed_nodes (nodes.Leave n) s = n ∷ []
+changed_nodes (nodes.FreeAll r) s = option_map_or (λ k. k.nodes) (request_in r s.requests) []
+changed_nodes (nodes.TakeOver numbers) s = numbers
+
+-- the nodes in whose queues the session is that ends
+abbrev pub ended_nodes : SessionsChange → List NodeId → List NodeId
+ended_nodes sessions.Same queued = []
+ended_nodes (sessions.Mute session) queued = []
+ended_nodes (sessions.End session) queued = queued
+
+abbrev pub touched_nodes : Changes → List NodeId → State → List NodeId
+touched_nodes ch queued s = (grown_nodes ch.grows s ++ changed_nodes ch.nodes s) ++ ended_nodes ch.sessions queued
+
+-- ## requests
+
+abbrev pub grown_requests : Growth → State → List RequestId
+grown_requests (grow.Request priority asked) s = next_id priority s ∷ []
+grown_requests growth s = []
+
+abbrev pub changed_requests : RequestsChange → List RequestId
+changed_requests requests.Same = []
+changed_requests (requests.Edit r edit) = r ∷ []
+changed_requests (requests.Remove r) = r ∷ []
+changed_requests (requests.Leave r) = []
+
+abbrev pub touched_requests : Changes → State → List RequestId
+touched_requests ch s = grown_requests ch.grows s ++ changed_requests ch.requests
+
+-- ## what is prepared
+
+-- the nodes and the requests that a change touches, and the members that they are before it (own)
+pub record TouchedOf : Type 0 where
+  pub nodes : List NodeId
+  pub requests : List RequestId
+  pub node_members : List (Member NodeId)
+  pub request_members : List (Member RequestId)
+
+-- all that the changes touch in the state is listed, with the members that it is there
+pub record IsPrepared (c : Configuration) (s : State) (ch : Changes) (touched : TouchedOf) : Type 0 where
+  pub nodes : (n : NodeId) → touches_node ch s n ≡ true → list_any (λ m. same_node m n) touched.nodes ≡ true
+  pub requests : (r : RequestId) → touches_request ch s r ≡ true → list_any (λ x. same_request x r) touched.requests ≡ true
+  pub node_members : touched.node_members ≡ members_of (map (placed_node s) touched.nodes)
+  pub request_members : touched.request_members ≡ members_of (map (placed_request c s) touched.requests)
+
+-- there is room for each of them in the five groups that it may be in
+pub record HasRoom (touched : TouchedOf) (classes : ClassesOf) : Type 0 where
+  pub nodes : 5 * length touched.nodes ≤ classes.node_room
+  pub requests : 5 * length touched.requests ≤ classes.request_room

@@ -1,0 +1,62 @@
+-- which nodes and requests the changes of an event may change
+use Rattle.std.specs.Prelude.{Bool, false, ◌==◌, ◌||◌}
+use Rattle.std.specs.Option.{option_map_or}
+use Rattle.std.specs.List.{list_any}
+use Rattle.np_text.specs.declared.id.NodeId.{NodeId}
+use Rattle.np_text.specs.declared.id.RequestId.{RequestId}
+use Rattle.np_machine.specs.State.{State}
+use Rattle.np_machine.specs.Tables.{is_queued, is_request, node_in, node_queue, same_request}
+use Rattle.np_machine.specs.Request.{next_id}
+use Rattle.np_changes.specs.declared.changes.Changes.{Changes}
+use Rattle.np_changes.specs.declared.changes.Growth.{Growth}
+use Rattle.np_changes.specs.declared.changes.Growth.TheVariants as grow
+use Rattle.np_changes.specs.declared.changes.RequestsChange.{RequestsChange}
+use Rattle.np_changes.specs.declared.changes.RequestsChange.TheVariants as requests
+use Rattle.np_changes.specs.declared.changes.NodesChange.{NodesChange}
+use Rattle.np_changes.specs.declared.changes.NodesChange.TheVariants as nodes
+use Rattle.np_changes.specs.declared.changes.SessionsChange.{SessionsChange}
+use Rattle.np_changes.specs.declared.changes.SessionsChange.TheVariants as sessions
+
+-- ## nodes
+
+-- what grows is the node, its queue or its allocation
+abbrev pub grows_node : Growth → State → NodeId → Bool
+grows_node (grow.Node kept) s n = s.next_node == n.0
+grows_node (grow.JoinNode m) s n = m.0 == n.0
+grows_node (grow.Allocate m r tenant) s n = m.0 == n.0
+grows_node growth s n = false
+
+abbrev pub changes_node : NodesChange → State → NodeId → Bool
+changes_node nodes.Same s n = false
+changes_node (nodes.Put m kept) s n = m.0 == n.0
+changes_node (nodes.Remove m) s n = m.0 == n.0
+changes_node (nodes.Leave m) s n = m.0 == n.0
+changes_node (nodes.FreeAll r) s n = option_map_or (λ k. is_request r k.allocated_to) (node_in n s.nodes) false
+changes_node (nodes.TakeOver numbers) s n = list_any (λ m. m.0 == n.0) numbers
+
+-- a session that ends leaves the node's queue
+abbrev pub ends_at_node : SessionsChange → State → NodeId → Bool
+ends_at_node sessions.Same s n = false
+ends_at_node (sessions.Mute session) s n = false
+ends_at_node (sessions.End session) s n = is_queued session (node_queue n s.nodes)
+
+-- the record or the queue of the node may change
+abbrev pub touches_node : Changes → State → NodeId → Bool
+touches_node ch s n = grows_node ch.grows s n || changes_node ch.nodes s n || ends_at_node ch.sessions s n
+
+-- ## requests
+
+-- what grows is the request
+abbrev pub grows_request : Growth → State → RequestId → Bool
+grows_request (grow.Request priority asked) s r = same_request (next_id priority s) r
+grows_request growth s r = false
+
+abbrev pub changes_request : RequestsChange → RequestId → Bool
+changes_request requests.Same r = false
+changes_request (requests.Edit x edit) r = same_request x r
+changes_request (requests.Remove x) r = same_request x r
+changes_request (requests.Leave x) r = false
+
+-- the record of the request may change
+abbrev pub touches_request : Changes → State → RequestId → Bool
+touches_request ch s r = grows_request ch.grows s r || changes_request ch.requests r

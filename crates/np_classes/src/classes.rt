@@ -1,0 +1,128 @@
+//! The groups of a state's nodes and requests, kept as events change it.
+
+ghost use Rattle.std.specs.Prelude.{◌≡◌, IfOk, length, slice_get};
+ghost use Rattle.np_text.specs.declared.id.SessionId.{SessionId};
+ghost use Rattle.np_site.specs.Configuration.{Configuration};
+ghost use Rattle.np_machine.specs.State.{State};
+ghost use Rattle.np_changes.specs.Changes.{changed};
+ghost use Rattle.np_changes.specs.declared.changes.Changes.{Changes};
+ghost use Rattle.np_changes.specs.declared.changes.SessionsChange.TheVariants as sessions;
+ghost use Rattle.np_changes.specs.Planned.{IsPlanned, IsReached};
+ghost use Rattle.np_look.specs.Readers.{queued_nodes};
+ghost use Rattle.np_groups.specs.Groups.{ids_in};
+ghost use Rattle.np_classes.specs.Classes.{AreClasses};
+ghost use Rattle.np_classes.specs.Prepared.{HasRoom, IsPrepared};
+
+use crate::members::{all_nodes, all_requests, put_nodes, put_requests, take_out};
+use crate::touched::{Touched, touched_by};
+use np_changes::Changes;
+use np_groups::{Group, Groups};
+use np_keys::{ByNode, ByRequest};
+use np_look::Look;
+use np_text::{NodeId, RequestId};
+use std::alloc::{AllocError, Global};
+use std::marker::Model;
+
+/// Which nodes and which requests are in each group.
+#[derive(Drop)]
+pub struct Classes {
+    nodes: Groups<ByNode>,
+    requests: Groups<ByRequest>,
+}
+
+impl Model for Classes {
+    ghost use Rattle.np_classes.specs.Classes.{ClassesOf};
+
+    ghost Value = { ClassesOf };
+
+    ghost view = { λ classes. record {
+      nodes = classes.nodes.members;
+      requests = classes.requests.members;
+      node_room = classes.nodes.room;
+      request_room = classes.requests.room;
+    } };
+}
+
+impl Classes {
+    /// The groups of the state. It reads each node and each request once.
+    pub fn rebuild<L: Look>(alloc: Global, look: &L) -> Result<Classes, AllocError>
+        requires { IsReached (L.site look.now) (L.state look.now) }
+        ensures { IfOk result (λ x. AreClasses (L.site look.now) (L.state look.now) x) }
+    {
+        let nodes = all_nodes(alloc, look)?;
+        let requests = all_requests(alloc, look)?;
+        Ok(Classes { nodes, requests })
+    }
+
+    /// How many nodes are in the group. Two binary searches.
+    pub fn nodes_in(&self, group: Group) -> usize
+        ensures { result ≡ length (ids_in group self.now.nodes) }
+    {
+        self.nodes.count(group)
+    }
+
+    /// The node at this place of the group, counted from 0 in order of their numbers. One binary
+    /// search.
+    pub fn node_at(&self, group: Group, at: usize) -> Option<NodeId>
+        ensures { result ≡ slice_get (ids_in group self.now.nodes) at }
+    {
+        self.nodes.at(group, at)
+    }
+
+    /// How many requests are in the group. Two binary searches.
+    pub fn requests_in(&self, group: Group) -> usize
+        ensures { result ≡ length (ids_in group self.now.requests) }
+    {
+        self.requests.count(group)
+    }
+
+    /// The request at this place of the group, counted from 0 by priority and then sequence. One
+    /// binary search.
+    pub fn request_at(&self, group: Group, at: usize) -> Option<RequestId>
+        ensures { result ≡ slice_get (ids_in group self.now.requests) at }
+    {
+        self.requests.at(group, at)
+    }
+
+    /// Lists what the changes touch, before the state changes, and takes the memory for `note`. The
+    /// members stay as they are, so nothing need be undone if the change fails. Where a session
+    /// ends, `queued` is the nodes in whose queues it is. It costs a few lookups for each node and
+    /// request that is touched.
+    pub fn prepare<L: Look>(
+        &mut self,
+        alloc: Global,
+        look: &L,
+        changes: &Changes,
+        queued: &[NodeId],
+    ) -> Result<Touched, AllocError>
+        requires reached { IsReached (L.site look.now) (L.state look.now) }
+        requires planned { IsPlanned (L.site look.now) (L.state look.now) changes.now }
+        requires queued { (session : SessionId) → changes.now.sessions ≡ sessions.End session
+            → queued.now ≡ queued_nodes session (L.state look.now) }
+        ensures nodes { self.new.nodes ≡ self.old.nodes }
+        ensures requests { self.new.requests ≡ self.old.requests }
+        ensures prepared { IfOk result (λ touched.
+            IsPrepared (L.site look.now) (L.state look.now) changes.now touched) }
+        ensures room { IfOk result (λ touched. HasRoom touched self.new) }
+    {
+        let touched = touched_by(alloc, look, changes, queued)?;
+        self.nodes.reserve(5 * touched.nodes.len())?;
+        self.requests.reserve(5 * touched.requests.len())?;
+        Ok(touched)
+    }
+
+    /// Puts what was touched where it is now, after the state has changed. It takes no memory, and
+    /// costs a few lookups and binary searches for each node and request that was touched.
+    pub fn note<L: Look>(&mut self, look: &L, touched: &Touched)
+        requires { HasRoom touched.now self.old }
+        ensures { (c : Configuration) (s : State) (ch : Changes)
+            → IsReached c s → IsPrepared c s ch touched.now
+            → L.site look.now ≡ c → L.state look.now ≡ changed c ch s
+            → AreClasses c s self.old → AreClasses c (changed c ch s) self.new }
+    {
+        take_out(&mut self.nodes, touched.node_members.as_slice());
+        put_nodes(&mut self.nodes, look, touched.nodes.as_slice());
+        take_out(&mut self.requests, touched.request_members.as_slice());
+        put_requests(&mut self.requests, look, touched.requests.as_slice());
+    }
+}

@@ -1,0 +1,206 @@
+//! Which groups nodes and requests are in, by their records.
+
+ghost use Rattle.std.specs.Prelude.{◌≡◌, None};
+ghost use Rattle.std.specs.Option.{option_map};
+ghost use Rattle.np_classes.specs.Classes.{coming_group, coming_group_of, declined_group, declined_group_of, free_group, group_if, kind_group, node_groups, pending_group, pending_group_of, request_groups, spare_group, spent_group, spent_group_of, tenant_group, unheld_group, waiting_group, waiting_group_of};
+
+use np_config::Config;
+use np_groups::Group;
+use np_look::tenant_of_job;
+use np_record::{NodeRecord, RequestRecord};
+use np_text::{LabelId, NodeState, PoolId, RequestState, TenantId};
+
+/// All nodes of the pool with the label.
+pub fn kind_group(pool: PoolId, label: LabelId) -> Group
+    ensures { result ≡ kind_group pool label }
+{
+    Group {
+        class: 0,
+        first: pool.0,
+        second: label.0,
+    }
+}
+
+/// Those of them that are ready, allocated to no request and unlocked.
+pub fn spare_group(pool: PoolId, label: LabelId) -> Group
+    ensures { result ≡ spare_group pool label }
+{
+    Group {
+        class: 1,
+        first: pool.0,
+        second: label.0,
+    }
+}
+
+/// The ready nodes of the label in all pools that are allocated to no request.
+pub fn free_group(label: LabelId) -> Group
+    ensures { result ≡ free_group label }
+{
+    Group {
+        class: 2,
+        first: 0,
+        second: label.0,
+    }
+}
+
+/// The nodes of the tenant.
+pub fn tenant_group(tenant: TenantId) -> Group
+    ensures { result ≡ tenant_group tenant }
+{
+    Group {
+        class: 3,
+        first: tenant.0,
+        second: 0,
+    }
+}
+
+/// The nodes of the pool that nobody holds.
+pub fn unheld_group(pool: PoolId) -> Group
+    ensures { result ≡ unheld_group pool }
+{
+    Group {
+        class: 4,
+        first: pool.0,
+        second: 0,
+    }
+}
+
+/// The requests that are pending by the pool.
+pub fn pending_group(pool: PoolId) -> Group
+    ensures { result ≡ pending_group pool }
+{
+    Group {
+        class: 0,
+        first: pool.0,
+        second: 0,
+    }
+}
+
+/// The pending requests whose job is of the tenant.
+pub fn waiting_group(tenant: TenantId) -> Group
+    ensures { result ≡ waiting_group tenant }
+{
+    Group {
+        class: 1,
+        first: tenant.0,
+        second: 0,
+    }
+}
+
+/// The min-ready requests for the label that are requested or pending.
+pub fn coming_group(label: LabelId) -> Group
+    ensures { result ≡ coming_group label }
+{
+    Group {
+        class: 2,
+        first: 0,
+        second: label.0,
+    }
+}
+
+/// The failed min-ready requests of the pool for the label.
+pub fn spent_group(pool: PoolId, label: LabelId) -> Group
+    ensures { result ≡ spent_group pool label }
+{
+    Group {
+        class: 3,
+        first: pool.0,
+        second: label.0,
+    }
+}
+
+/// The requests that are requested, and that at least one pool declined.
+pub fn declined_group() -> Group
+    ensures { result ≡ declined_group }
+{
+    Group {
+        class: 4,
+        first: 0,
+        second: 0,
+    }
+}
+
+/// The group, if the test is passed.
+fn group_if(is_in: bool, group: Group) -> Option<Group>
+    ensures { result ≡ group_if is_in group }
+{
+    if is_in { Some(group) } else { None }
+}
+
+fn group_of_tenant(tenant: Option<TenantId>) -> Option<Group>
+    ensures { result ≡ option_map tenant_group tenant }
+{
+    Some(tenant_group(tenant?))
+}
+
+/// The groups of a node with this record.
+pub(crate) fn node_groups(kept: &NodeRecord, is_unlocked: bool) -> [Option<Group>; 5]
+    ensures { result ≡ node_groups kept.now is_unlocked }
+{
+    let is_free = kept.state == NodeState::Ready && kept.allocated_to.is_none();
+    [
+        Some(kind_group(kept.pool, kept.label)),
+        group_if(is_free, free_group(kept.label)),
+        group_if(is_free && is_unlocked, spare_group(kept.pool, kept.label)),
+        group_of_tenant(kept.tenant),
+        group_if(is_unlocked, unheld_group(kept.pool)),
+    ]
+}
+
+fn pending_group_of(kept: &RequestRecord) -> Option<Group>
+    ensures { result ≡ pending_group_of kept.now }
+{
+    if kept.state != RequestState::Pending {
+        return None;
+    }
+    Some(pending_group(kept.pool?))
+}
+
+fn waiting_group_of(config: &Config, kept: &RequestRecord) -> Option<Group>
+    ensures { result ≡ waiting_group_of config.now kept.now }
+{
+    if kept.state != RequestState::Pending {
+        return None;
+    }
+    Some(waiting_group(tenant_of_job(config, kept.job)?))
+}
+
+fn coming_group_of(kept: &RequestRecord) -> Option<Group>
+    ensures { result ≡ coming_group_of kept.now }
+{
+    let is_coming = kept.state == RequestState::Requested || kept.state == RequestState::Pending;
+    if !is_coming || kept.pinned.is_none() {
+        return None;
+    }
+    Some(coming_group(kept.labels.at(0)?))
+}
+
+fn spent_group_of(kept: &RequestRecord) -> Option<Group>
+    ensures { result ≡ spent_group_of kept.now }
+{
+    if kept.state != RequestState::Failed {
+        return None;
+    }
+    let pool = kept.pinned?;
+    Some(spent_group(pool, kept.labels.at(0)?))
+}
+
+fn declined_group_of(kept: &RequestRecord) -> Option<Group>
+    ensures { result ≡ declined_group_of kept.now }
+{
+    let is_declined = kept.state == RequestState::Requested && kept.declined.len() > 0;
+    group_if(is_declined, declined_group())
+}
+
+/// The groups of a request with this record.
+pub(crate) fn request_groups(config: &Config, kept: &RequestRecord) -> [Option<Group>; 5]
+    ensures { result ≡ request_groups config.now kept.now }
+{
+    [
+        pending_group_of(kept),
+        waiting_group_of(config, kept),
+        coming_group_of(kept),
+        spent_group_of(kept),
+        declined_group_of(kept),
+    ]
+}

@@ -1,0 +1,19 @@
+//! Groups of the nodes and of the requests of a state, for what is asked of all of one kind.
+//!
+//! `specs/Classes` says which groups a record is in, and when the members of all groups are those
+//! of a state. `Classes` keeps them as each event changes the state: `prepare` lists the nodes and
+//! requests that the event's changes touch, with the groups that they are in, and takes the memory;
+//! once the state has changed, `note` puts them where they are now, which can't fail.
+#![tactic(auto)]
+
+mod classes;
+mod group;
+mod members;
+mod touched;
+
+pub use classes::Classes;
+pub use group::{
+    coming_group, declined_group, free_group, kind_group, pending_group, spare_group, spent_group,
+    tenant_group, unheld_group, waiting_group,
+};
+pub use touched::Touched;

@@ -1,0 +1,258 @@
+//! The nodes and the requests that the changes of an event touch, listed before it.
+
+ghost use Rattle.std.specs.Prelude.{◌≡◌, ◌++◌, IfOk, OnOk, map, option_to_list};
+ghost use Rattle.np_text.specs.declared.id.SessionId.{SessionId};
+ghost use Rattle.np_changes.specs.declared.changes.SessionsChange.TheVariants as sessions;
+ghost use Rattle.np_changes.specs.Planned.{IsPlanned, IsReached};
+ghost use Rattle.np_look.specs.Readers.{queued_nodes};
+ghost use Rattle.np_classes.specs.Placed.{groups_of_node, groups_of_request, members_of, placed_node, placed_request, then_member, then_members};
+ghost use Rattle.np_classes.specs.Prepared.{IsPrepared, changed_nodes, changed_requests, ended_nodes, grown_nodes, grown_requests, touched_nodes, touched_requests};
+
+use crate::group::{node_groups, request_groups};
+use np_changes::{Changes, Growth, NodesChange, RequestsChange, SessionsChange};
+use np_groups::{Group, Member};
+use np_look::Look;
+use np_text::{NodeId, RequestId};
+use std::alloc::{AllocError, Global};
+use std::marker::Model;
+
+/// The nodes and the requests that an event's changes touch, and the members of groups that they
+/// are before it.
+#[derive(Drop)]
+pub struct Touched {
+    pub(crate) nodes: Vec<NodeId>,
+    pub(crate) requests: Vec<RequestId>,
+    pub(crate) node_members: Vec<Member<NodeId>>,
+    pub(crate) request_members: Vec<Member<RequestId>>,
+}
+
+impl Model for Touched {
+    ghost use Rattle.np_classes.specs.Prepared.{TouchedOf};
+
+    ghost Value = { TouchedOf };
+
+    ghost view = { λ touched. record {
+      nodes = touched.nodes.items;
+      requests = touched.requests.items;
+      node_members = touched.node_members.items;
+      request_members = touched.request_members.items;
+    } };
+}
+
+/// In no group.
+const NO_GROUPS: [Option<Group>; 5] = [None, None, None, None, None];
+
+/// The groups that the node is in, if it is there. Two lookups.
+pub(crate) fn groups_of_node<L: Look>(look: &L, node: NodeId) -> [Option<Group>; 5]
+    ensures { result ≡ groups_of_node (L.state look.now) node }
+{
+    match look.node(node) {
+        None => NO_GROUPS,
+        Some(kept) => node_groups(&kept, look.node_holder(node).is_none()),
+    }
+}
+
+/// The groups that the request is in, if it is there. One lookup.
+pub(crate) fn groups_of_request<L: Look>(look: &L, request: RequestId) -> [Option<Group>; 5]
+    ensures { result ≡ groups_of_request (L.site look.now) (L.state look.now) request }
+{
+    match look.request(request) {
+        None => NO_GROUPS,
+        Some(kept) => request_groups(look.config(), &kept),
+    }
+}
+
+// ## lists of ids
+
+/// The node that grows, or whose queue or allocation does.
+fn grown_node<L: Look>(look: &L, growth: &Growth) -> Option<NodeId>
+    ensures { option_to_list result ≡ grown_nodes growth.now (L.state look.now) }
+{
+    match growth {
+        Growth::Node { .. } => Some(NodeId(look.next_node())),
+        Growth::JoinNode { node } => Some(*node),
+        Growth::Allocate { node, .. } => Some(*node),
+        _ => None,
+    }
+}
+
+fn list_if<T: Copy>(list: &mut Vec<T>, one: Option<T>) -> Result<(), AllocError>
+    ensures { OnOk result (list.new.items ≡ list.old.items ++ option_to_list one) }
+{
+    if let Some(one) = one {
+        list.push(one)?;
+    }
+    Ok(())
+}
+
+fn list_changed_nodes<L: Look>(
+    list: &mut Vec<NodeId>,
+    look: &L,
+    change: &NodesChange,
+) -> Result<(), AllocError>
+    ensures { OnOk result
+        (list.new.items ≡ list.old.items ++ changed_nodes change.now (L.state look.now)) }
+{
+    match change {
+        NodesChange::Same => Ok(()),
+        NodesChange::Put { node, .. } => list_if(list, Some(*node)),
+        NodesChange::Remove { node } => list_if(list, Some(*node)),
+        NodesChange::Leave { node } => list_if(list, Some(*node)),
+        NodesChange::FreeAll { request } => match look.asked(*request) {
+            None => Ok(()),
+            Some(asked) => list.extend_from_slice(asked.nodes.items()),
+        },
+        NodesChange::TakeOver { nodes } => list.extend_from_slice(nodes.items()),
+    }
+}
+
+fn list_ended_nodes(
+    list: &mut Vec<NodeId>,
+    change: &SessionsChange,
+    queued: &[NodeId],
+) -> Result<(), AllocError>
+    ensures { OnOk result
+        (list.new.items ≡ list.old.items ++ ended_nodes change.now queued.now) }
+{
+    match change {
+        SessionsChange::End { .. } => list.extend_from_slice(queued),
+        _ => Ok(()),
+    }
+}
+
+fn touched_nodes<L: Look>(
+    alloc: Global,
+    look: &L,
+    changes: &Changes,
+    queued: &[NodeId],
+) -> Result<Vec<NodeId>, AllocError>
+    ensures { IfOk result
+        (λ list. list.items ≡ touched_nodes changes.now queued.now (L.state look.now)) }
+{
+    let mut list = Vec::new(alloc);
+    list_if(&mut list, grown_node(look, &changes.grows))?;
+    list_changed_nodes(&mut list, look, &changes.nodes)?;
+    list_ended_nodes(&mut list, &changes.sessions, queued)?;
+    Ok(list)
+}
+
+fn grown_request<L: Look>(look: &L, growth: &Growth) -> Option<RequestId>
+    ensures { option_to_list result ≡ grown_requests growth.now (L.state look.now) }
+{
+    match growth {
+        Growth::Request { priority, .. } => Some(RequestId {
+            priority: *priority,
+            seq: look.next_request(),
+        }),
+        _ => None,
+    }
+}
+
+fn changed_request(change: &RequestsChange) -> Option<RequestId>
+    ensures { option_to_list result ≡ changed_requests change.now }
+{
+    match change {
+        RequestsChange::Edit { request, .. } => Some(*request),
+        RequestsChange::Remove { request } => Some(*request),
+        RequestsChange::Same | RequestsChange::Leave { .. } => None,
+    }
+}
+
+fn touched_requests<L: Look>(
+    alloc: Global,
+    look: &L,
+    changes: &Changes,
+) -> Result<Vec<RequestId>, AllocError>
+    ensures { IfOk result
+        (λ list. list.items ≡ touched_requests changes.now (L.state look.now)) }
+{
+    let mut list = Vec::new(alloc);
+    list_if(&mut list, grown_request(look, &changes.grows))?;
+    list_if(&mut list, changed_request(&changes.requests))?;
+    Ok(list)
+}
+
+// ## lists of members
+
+fn list_member<K: Copy>(
+    list: &mut Vec<Member<K>>,
+    id: K,
+    group: Option<Group>,
+) -> Result<(), AllocError>
+    ensures { OnOk result (list.new.items ≡ then_member id group list.old.items) }
+{
+    if let Some(group) = group {
+        list.push(Member { group, id })?;
+    }
+    Ok(())
+}
+
+fn list_members<K: Copy>(
+    list: &mut Vec<Member<K>>,
+    id: K,
+    groups: &[Option<Group>],
+) -> Result<(), AllocError>
+    ensures { OnOk result (list.new.items ≡ then_members id groups.now list.old.items) }
+{
+    for group in groups {
+        list_member(list, id, *group)?;
+    }
+    Ok(())
+}
+
+fn node_members<L: Look>(
+    alloc: Global,
+    look: &L,
+    nodes: &[NodeId],
+) -> Result<Vec<Member<NodeId>>, AllocError>
+    ensures { IfOk result (λ list.
+        list.items ≡ members_of (map (placed_node (L.state look.now)) nodes.now)) }
+{
+    let mut list = Vec::new(alloc);
+    for node in nodes {
+        list_members(&mut list, *node, &groups_of_node(look, *node))?;
+    }
+    Ok(list)
+}
+
+fn request_members<L: Look>(
+    alloc: Global,
+    look: &L,
+    requests: &[RequestId],
+) -> Result<Vec<Member<RequestId>>, AllocError>
+    ensures { IfOk result (λ list. list.items
+        ≡ members_of (map (placed_request (L.site look.now) (L.state look.now)) requests.now)) }
+{
+    let mut list = Vec::new(alloc);
+    for request in requests {
+        list_members(&mut list, *request, &groups_of_request(look, *request))?;
+    }
+    Ok(list)
+}
+
+/// What the changes touch. The nodes that are freed are read from their request, and those in whose
+/// queues a session is that ends are passed.
+pub(crate) fn touched_by<L: Look>(
+    alloc: Global,
+    look: &L,
+    changes: &Changes,
+    queued: &[NodeId],
+) -> Result<Touched, AllocError>
+    requires reached { IsReached (L.site look.now) (L.state look.now) }
+    requires planned { IsPlanned (L.site look.now) (L.state look.now) changes.now }
+    requires queued { (session : SessionId) → changes.now.sessions ≡ sessions.End session
+        → queued.now ≡ queued_nodes session (L.state look.now) }
+    ensures { IfOk result (λ touched.
+        IsPrepared (L.site look.now) (L.state look.now) changes.now touched) }
+{
+    let nodes = touched_nodes(alloc, look, changes, queued)?;
+    let requests = touched_requests(alloc, look, changes)?;
+    let node_members = node_members(alloc, look, nodes.as_slice())?;
+    let request_members = request_members(alloc, look, requests.as_slice())?;
+    Ok(Touched {
+        nodes,
+        requests,
+        node_members,
+        request_members,
+    })
+}

@@ -1,0 +1,76 @@
+-- the members of a group are the rows that are in it, in order
+use Rattle.std.proofs.Common.{◌≡◌, ◌∙◌, Bool, true, false, List, [], map, Option, Some, None, refl, sym, ap, arith}
+use Rattle.std.specs.Prelude.{filter, is_none}
+use Rattle.std.specs.Option.{option_map, option_map_or}
+use Rattle.np_text.specs.declared.id.NodeId.{NodeId}
+use Rattle.np_text.specs.declared.id.RequestId.{RequestId}
+use Rattle.np_site.specs.Configuration.{Configuration}
+use Rattle.np_lists.proofs.RisingLemmas.{Rises-filter}
+use Rattle.np_groups.specs.declared.groups.Group.{Group}
+use Rattle.np_groups.specs.declared.groups.Member.{Member}
+use Rattle.np_groups.specs.Groups.{ids_in}
+use Rattle.np_keys.specs.Keys.{same_node, is_node_before, node_equal, node_one_way, request_equal, request_one_way}
+use Rattle.np_machine.specs.Entries.{RequestEntry, NodeEntry}
+use Rattle.np_machine.specs.Order.{is_id_before}
+use Rattle.np_machine.specs.State.{State}
+use Rattle.np_machine.specs.Tables.{holder, node_entry, request_entry, same_request}
+use Rattle.np_classes.specs.Classes.{node_groups, request_groups, is_among, AreNodeGroups, AreRequestGroups}
+use Rattle.np_safe.proofs.Lookups.{same_request-self}
+use Rattle.np_groups.proofs.Ids.{ids-rise, ids-has, same-list}
+use Rattle.np_counts.proofs.Rows.{filter-each, ids-in_order, row-passes}
+use Rattle.std.proofs.lemmas.Bool.Decides.{nat_tests}
+
+-- ## ids
+
+pub same_node-self : (a : NodeId) → same_node a a ≡ true
+same_node-self a = grind (arith, nat_tests)
+
+pub node-apart : (a b : NodeId) → is_node_before a b ≡ true → same_node b a ≡ false
+node-apart a b order = grind (arith, nat_tests)
+
+pub request-apart : (a b : RequestId) → is_id_before a b ≡ true → same_request b a ≡ false
+request-apart a b order = grind (arith, nat_tests)
+
+-- ## nodes
+
+module _ (s : State) (ms : List (Member NodeId)) (are : AreNodeGroups s ms) where
+  node-by : (g : Group) (o : Option NodeEntry) → option_map_or (λ (e : NodeEntry). is_among g (node_groups e.kept (is_none (holder e.queue)))) o false
+      ≡ option_map_or (λ k. is_among g (node_groups k (is_none (holder (option_map_or (λ (e : NodeEntry). e.queue) o []))))) (option_map (λ (e : NodeEntry). e.kept) o) false
+  node-by g None = refl
+  node-by g (Some e) = refl
+
+  -- the ids of a group are those of the nodes that are in it, by number
+  pub grouped-nodes : (g : Group) → ids_in g ms ≡ map (λ e. e.id) (filter (λ e. is_among g (node_groups e.kept (is_none (holder e.queue)))) s.nodes)
+  grouped-nodes g =
+      let test = λ (e : NodeEntry). is_among g (node_groups e.kept (is_none (holder e.queue))) in
+      let id = λ (e : NodeEntry). e.id in
+      same-list is_node_before same_node node_one_way node_equal same_node-self (ids_in g ms) (map id (filter test s.nodes))
+      (ids-rise g is_node_before ms are.rises)
+      (ids-in_order is_node_before same_node id node_equal node-apart (filter test s.nodes) (Rises-filter (λ (a b : NodeEntry). is_node_before a.id b.id) test s.nodes are.once))
+      (λ n. ids-has same_node g n ms ∙ are.each g n ∙ sym (row-passes is_node_before same_node id node_equal node-apart test n s.nodes are.once ∙ node-by g (node_entry n s.nodes)))
+
+  -- by another test that says the same
+  pub nodes-by : (g : Group) (test : NodeEntry → Bool) → ((e : NodeEntry) → is_among g (node_groups e.kept (is_none (holder e.queue))) ≡ test e) → ids_in g ms ≡ map (λ e. e.id) (filter test s.nodes)
+  nodes-by g test same = grouped-nodes g ∙ ap (λ (es : List NodeEntry). map {A = NodeEntry} {B = NodeId} (λ e. e.id) es) (filter-each (λ (e : NodeEntry). is_among g (node_groups e.kept (is_none (holder e.queue)))) test (λ e. sym (same e)) s.nodes)
+
+-- ## requests
+
+module _ (c : Configuration) (s : State) (ms : List (Member RequestId)) (are : AreRequestGroups c s ms) where
+  request-by : (g : Group) (o : Option RequestEntry) → option_map_or (λ (e : RequestEntry). is_among g (request_groups c e.kept)) o false
+      ≡ option_map_or (λ k. is_among g (request_groups c k)) (option_map (λ (e : RequestEntry). e.kept) o) false
+  request-by g None = refl
+  request-by g (Some e) = refl
+
+  -- the ids of a group are those of the requests that are in it, by priority and then sequence
+  pub grouped-requests : (g : Group) → ids_in g ms ≡ map (λ e. e.id) (filter (λ e. is_among g (request_groups c e.kept)) s.requests)
+  grouped-requests g =
+      let test = λ (e : RequestEntry). is_among g (request_groups c e.kept) in
+      let id = λ (e : RequestEntry). e.id in
+      same-list is_id_before same_request request_one_way request_equal same_request-self (ids_in g ms) (map id (filter test s.requests))
+      (ids-rise g is_id_before ms are.rises)
+      (ids-in_order is_id_before same_request id request_equal request-apart (filter test s.requests) (Rises-filter (λ (a b : RequestEntry). is_id_before a.id b.id) test s.requests are.once))
+      (λ r. ids-has same_request g r ms ∙ are.each g r ∙ sym (row-passes is_id_before same_request id request_equal request-apart test r s.requests are.once ∙ request-by g (request_entry r s.requests)))
+
+  -- by another test that says the same
+  pub requests-by : (g : Group) (test : RequestEntry → Bool) → ((e : RequestEntry) → is_among g (request_groups c e.kept) ≡ test e) → ids_in g ms ≡ map (λ e. e.id) (filter test s.requests)
+  requests-by g test same = grouped-requests g ∙ ap (λ (es : List RequestEntry). map {A = RequestEntry} {B = RequestId} (λ e. e.id) es) (filter-each (λ (e : RequestEntry). is_among g (request_groups c e.kept)) test (λ e. sym (same e)) s.requests)

@@ -1,0 +1,232 @@
+-- what it says of a node or a request that it is in a group
+use Rattle.std.proofs.Common.{◌≡◌, ◌∙◌, Bool, true, false, List, Option, Some, None, refl, sym, ap}
+use Rattle.std.specs.Prelude.{◌==◌, ◌&&◌, ◌||◌, if◌then◌else◌, is_none, is_some, slice_get, option_and_then}
+use Rattle.std.specs.Option.{option_map, option_map_or}
+use Rattle.np_text.specs.declared.id.PoolId.{PoolId}
+use Rattle.np_text.specs.declared.id.LabelId.{LabelId}
+use Rattle.np_text.specs.declared.id.TenantId.{TenantId}
+use Rattle.np_site.specs.Configuration.{Configuration}
+use Rattle.np_record.specs.declared.record.RequestRecord.{RequestRecord}
+use Rattle.np_groups.specs.declared.groups.Group.{Group}
+use Rattle.np_groups.specs.Groups.{same_group}
+use Rattle.np_look.specs.Readers.{is_unheld, is_still_requested}
+use Rattle.np_machine.specs.Entries.{RequestEntry, NodeEntry}
+use Rattle.np_machine.specs.Kinds.{is_ready, is_failed, is_requested, is_pending}
+use Rattle.np_machine.specs.Tables.{holder}
+use Rattle.np_machine.specs.Count.{is_kind}
+use Rattle.np_machine.specs.Order.{is_pool, is_pending_by}
+use Rattle.np_machine.specs.Reasons.{is_spare}
+use Rattle.np_machine.specs.Request.{is_min_ready_for, is_spent_min_ready, is_coming, is_free_ready}
+use Rattle.np_machine.specs.Tenants.{is_tenant, is_pending_of, tenant_of_request}
+use Rattle.np_classes.specs.Classes.{kind_group, spare_group, free_group, tenant_group, unheld_group, group_if, node_groups, pending_group, waiting_group, coming_group, spent_group, declined_group, pending_group_of, waiting_group_of, coming_group_of, spent_group_of, declined_group_of, request_groups, is_among}
+
+-- the option holds the group
+abbrev holds : Group → Option Group → Bool
+holds g o = option_map_or (λ h. same_group h g) o false
+
+-- the row is in one group if a condition is true
+holds-if : (g h : Group) (b : Bool) → holds g (if b then Some h else None) ≡ (b && same_group h g)
+holds-if g h true = refl
+holds-if g h false = refl
+
+-- a group of another class
+apart-if : (g h : Group) (b : Bool) → same_group h g ≡ false → holds g (if b then Some h else None) ≡ false
+apart-if g h true other = other
+apart-if g h false other = refl
+
+-- one that an option names
+apart-map : {X : Type 0} (g : Group) (f : X → Group) (o : Option X) → ((x : X) → same_group (f x) g ≡ false) → holds g (option_map f o) ≡ false
+apart-map g f None other = refl
+apart-map g f (Some x) other = other x
+
+-- ## one of several groups
+
+or_false : (b : Bool) → (b || false) ≡ b
+or_false true = refl
+or_false false = refl
+
+-- the first fails, and the question is whether one of the others passes
+past : {a rest x : Bool} → a ≡ false → rest ≡ x → (a || rest) ≡ x
+past {a} {rest} {x} other later = ap (λ (b : Bool). b || rest) other ∙ later
+
+-- the question is whether the first passes, and none of the others does
+here : {a rest x : Bool} → a ≡ x → rest ≡ false → (a || rest) ≡ x
+here {a} {rest} {x} is later = ap (λ (b : Bool). a || b) later ∙ or_false a ∙ is
+
+-- ## nodes
+
+and_true : (b : Bool) → (b && true) ≡ b
+and_true true = refl
+and_true false = refl
+
+-- a test that an option names a tenant, from either side
+tenant-by : (t : TenantId) (o : Option TenantId) → holds (tenant_group t) (option_map tenant_group o) ≡ is_tenant t o
+tenant-by t None = refl
+tenant-by t (Some x) = and_true (x.0 == t.0)
+
+-- two conditions the other way round
+unheld-by : (a b : Bool) → (a && (b && true)) ≡ (b && a)
+unheld-by true true = refl
+unheld-by true false = refl
+unheld-by false true = refl
+unheld-by false false = refl
+
+-- a group that is none of a node's of each class
+module _ (g : Group) (e : NodeEntry) where
+  free-no : same_group (free_group e.kept.label) g ≡ false → holds g (group_if (is_ready e.kept.state && is_none e.kept.allocated_to) (free_group e.kept.label)) ≡ false
+  free-no other = apart-if g (free_group e.kept.label) (is_ready e.kept.state && is_none e.kept.allocated_to) other
+
+  spare-no : same_group (spare_group e.kept.pool e.kept.label) g ≡ false → holds g (group_if (is_ready e.kept.state && is_none e.kept.allocated_to && is_none (holder e.queue)) (spare_group e.kept.pool e.kept.label)) ≡ false
+  spare-no other = apart-if g (spare_group e.kept.pool e.kept.label) (is_ready e.kept.state && is_none e.kept.allocated_to && is_none (holder e.queue)) other
+
+  tenants-no : ((t : TenantId) → same_group (tenant_group t) g ≡ false) → holds g (option_map tenant_group e.kept.tenant) ≡ false
+  tenants-no other = apart-map g tenant_group e.kept.tenant other
+
+  unheld-no : same_group (unheld_group e.kept.pool) g ≡ false → holds g (group_if (is_none (holder e.queue)) (unheld_group e.kept.pool)) ≡ false
+  unheld-no other = apart-if g (unheld_group e.kept.pool) (is_none (holder e.queue)) other
+
+module _ (p : PoolId) (l : LabelId) (e : NodeEntry) where
+  -- the nodes of a pool and a label
+  pub kind-test : is_among (kind_group p l) (node_groups e.kept (is_none (holder e.queue))) ≡ is_kind p l e
+  kind-test =
+      let g = kind_group p l in
+      here refl (past (free-no g e refl) (past (spare-no g e refl) (past (tenants-no g e (λ t. refl)) (past (unheld-no g e refl) refl))))
+
+  spare-is : holds (spare_group p l) (group_if (is_ready e.kept.state && is_none e.kept.allocated_to && is_none (holder e.queue)) (spare_group e.kept.pool e.kept.label)) ≡ is_spare p l e
+  spare-is =
+      holds-if (spare_group p l) (spare_group e.kept.pool e.kept.label) (is_ready e.kept.state && is_none e.kept.allocated_to && is_none (holder e.queue))
+
+  -- the unused ones among them
+  pub spare-test : is_among (spare_group p l) (node_groups e.kept (is_none (holder e.queue))) ≡ is_spare p l e
+  spare-test =
+      let g = spare_group p l in
+      past refl (past (free-no g e refl) (here spare-is (past (tenants-no g e (λ t. refl)) (past (unheld-no g e refl) refl))))
+
+and_assoc : (a b c : Bool) → ((a && b) && c) ≡ (a && (b && c))
+and_assoc true b c = refl
+and_assoc false b c = refl
+
+module _ (l : LabelId) (e : NodeEntry) where
+  free-is : holds (free_group l) (group_if (is_ready e.kept.state && is_none e.kept.allocated_to) (free_group e.kept.label)) ≡ is_free_ready l e
+  free-is =
+      holds-if (free_group l) (free_group e.kept.label) (is_ready e.kept.state && is_none e.kept.allocated_to)
+
+  -- the free ready nodes of a label
+  pub free-test : is_among (free_group l) (node_groups e.kept (is_none (holder e.queue))) ≡ is_free_ready l e
+  free-test =
+      let g = free_group l in
+      past refl (here free-is (past (spare-no g e refl) (past (tenants-no g e (λ t. refl)) (past (unheld-no g e refl) refl))))
+
+-- the nodes of a tenant
+pub tenant-test : (t : TenantId) (e : NodeEntry) → is_among (tenant_group t) (node_groups e.kept (is_none (holder e.queue))) ≡ is_tenant t e.kept.tenant
+tenant-test t e =
+    let g = tenant_group t in
+    past refl (past (free-no g e refl) (past (spare-no g e refl) (here (tenant-by t e.kept.tenant) (past (unheld-no g e refl) refl))))
+
+module _ (p : PoolId) (e : NodeEntry) where
+  unheld-is : holds (unheld_group p) (group_if (is_none (holder e.queue)) (unheld_group e.kept.pool)) ≡ is_unheld p e
+  unheld-is =
+      holds-if (unheld_group p) (unheld_group e.kept.pool) (is_none (holder e.queue))
+      ∙ unheld-by (is_none (holder e.queue)) (e.kept.pool.0 == p.0)
+
+  -- the nodes of a pool that nobody holds
+  pub unheld-test : is_among (unheld_group p) (node_groups e.kept (is_none (holder e.queue))) ≡ is_unheld p e
+  unheld-test =
+      let g = unheld_group p in
+      past refl (past (free-no g e refl) (past (spare-no g e refl) (past (tenants-no g e (λ t. refl)) (here unheld-is refl))))
+
+-- ## requests
+
+-- what is in a group only under a condition
+holds-when : (g : Group) (b : Bool) (o : Option Group) → holds g (if b then o else None) ≡ (b && holds g o)
+holds-when g true o = refl
+holds-when g false o = refl
+
+no-when : (g : Group) (b : Bool) (o : Option Group) → holds g o ≡ false → holds g (if b then o else None) ≡ false
+no-when g true o other = other
+no-when g false o other = refl
+
+pending-no : (g : Group) (k : RequestRecord) → ((p : PoolId) → same_group (pending_group p) g ≡ false) → holds g (pending_group_of k) ≡ false
+pending-no g k other = no-when g (is_pending k.state) (option_map pending_group k.pool) (apart-map g pending_group k.pool other)
+
+waiting-no : (g : Group) (c : Configuration) (k : RequestRecord) → ((t : TenantId) → same_group (waiting_group t) g ≡ false) → holds g (waiting_group_of c k) ≡ false
+waiting-no g c k other = no-when g (is_pending k.state) (option_map waiting_group (tenant_of_request c k)) (apart-map g waiting_group (tenant_of_request c k) other)
+
+coming-no : (g : Group) (k : RequestRecord) → ((l : LabelId) → same_group (coming_group l) g ≡ false) → holds g (coming_group_of k) ≡ false
+coming-no g k other = no-when g ((is_requested k.state || is_pending k.state) && is_some k.pinned) (option_map coming_group (slice_get k.labels 0)) (apart-map g coming_group (slice_get k.labels 0) other)
+
+spent-by : (g : Group) (labels : List LabelId) (o : Option PoolId) → ((p : PoolId) (l : LabelId) → same_group (spent_group p l) g ≡ false) → holds g (option_and_then (λ p. option_map (spent_group p) (slice_get labels 0)) o) ≡ false
+spent-by g labels None other = refl
+spent-by g labels (Some p) other = apart-map g (spent_group p) (slice_get labels 0) (other p)
+
+spent-no : (g : Group) (k : RequestRecord) → ((p : PoolId) (l : LabelId) → same_group (spent_group p l) g ≡ false) → holds g (spent_group_of k) ≡ false
+spent-no g k other = no-when g (is_failed k.state) (option_and_then (λ p. option_map (spent_group p) (slice_get k.labels 0)) k.pinned) (spent-by g k.labels k.pinned other)
+
+-- a group of another class than the declined
+declined-no : (g : Group) (k : RequestRecord) → same_group declined_group g ≡ false → holds g (declined_group_of k) ≡ false
+declined-no g k other = apart-if g declined_group (is_still_requested k) other
+
+pool-by : (p : PoolId) (o : Option PoolId) → holds (pending_group p) (option_map pending_group o) ≡ is_pool p o
+pool-by p None = refl
+pool-by p (Some x) = and_true (x.0 == p.0)
+
+-- the requests that are pending by a pool
+pub pending-test : (c : Configuration) (p : PoolId) (e : RequestEntry) → is_among (pending_group p) (request_groups c e.kept) ≡ is_pending_by p e.kept
+pending-test c p e =
+    let g = pending_group p in
+    here (holds-when g (is_pending e.kept.state) (option_map pending_group e.kept.pool) ∙ ap (λ (b : Bool). is_pending e.kept.state && b) (pool-by p e.kept.pool))
+    (past (waiting-no g c e.kept (λ t. refl)) (past (coming-no g e.kept (λ m. refl)) (past (spent-no g e.kept (λ q m. refl)) (past (declined-no g e.kept refl) refl))))
+
+waiter-by : (t : TenantId) (o : Option TenantId) → holds (waiting_group t) (option_map waiting_group o) ≡ is_tenant t o
+waiter-by t None = refl
+waiter-by t (Some x) = and_true (x.0 == t.0)
+
+-- the pending requests of a tenant
+pub waiting-test : (c : Configuration) (t : TenantId) (e : RequestEntry) → is_among (waiting_group t) (request_groups c e.kept) ≡ is_pending_of c t e
+waiting-test c t e =
+    let g = waiting_group t in
+    past (pending-no g e.kept (λ q. refl))
+    (here (holds-when g (is_pending e.kept.state) (option_map waiting_group (tenant_of_request c e.kept)) ∙ ap (λ (b : Bool). is_pending e.kept.state && b) (waiter-by t (tenant_of_request c e.kept)))
+    (past (coming-no g e.kept (λ m. refl)) (past (spent-no g e.kept (λ q m. refl)) (past (declined-no g e.kept refl) refl))))
+
+comer-by : (l : LabelId) (o : Option LabelId) → holds (coming_group l) (option_map coming_group o) ≡ option_map_or (λ other. other.0 == l.0) o false
+comer-by l None = refl
+comer-by l (Some x) = refl
+
+-- the min-ready requests for a label that are not over
+pub coming-test : (c : Configuration) (l : LabelId) (e : RequestEntry) → is_among (coming_group l) (request_groups c e.kept) ≡ is_coming l e
+coming-test c l e =
+    let g = coming_group l in
+    let able = is_requested e.kept.state || is_pending e.kept.state in
+    past (pending-no g e.kept (λ q. refl)) (past (waiting-no g c e.kept (λ t. refl))
+    (here (holds-when g (able && is_some e.kept.pinned) (option_map coming_group (slice_get e.kept.labels 0))
+    ∙ ap (λ (b : Bool). (able && is_some e.kept.pinned) && b) (comer-by l (slice_get e.kept.labels 0))
+    ∙ and_assoc able (is_some e.kept.pinned) (option_map_or (λ other. other.0 == l.0) (slice_get e.kept.labels 0) false))
+    (past (spent-no g e.kept (λ q m. refl)) (past (declined-no g e.kept refl) refl))))
+
+and_false : (b : Bool) → (b && false) ≡ false
+and_false true = refl
+and_false false = refl
+
+spender-by : (p : PoolId) (l : LabelId) (pinned : Option PoolId) (first : Option LabelId) → holds (spent_group p l) (option_and_then (λ q. option_map (spent_group q) first) pinned)
+    ≡ (is_pool p pinned && (is_some pinned && option_map_or (λ other. other.0 == l.0) first false))
+spender-by p l None first = refl
+spender-by p l (Some q) None = sym (and_false (q.0 == p.0))
+spender-by p l (Some q) (Some m) = refl
+
+-- the failed min-ready requests of a pool for a label
+pub spent-test : (c : Configuration) (p : PoolId) (l : LabelId) (e : RequestEntry) → is_among (spent_group p l) (request_groups c e.kept) ≡ is_spent_min_ready p l e
+spent-test c p l e =
+    let g = spent_group p l in
+    past (pending-no g e.kept (λ q. refl)) (past (waiting-no g c e.kept (λ t. refl)) (past (coming-no g e.kept (λ m. refl))
+    (here (holds-when g (is_failed e.kept.state) (option_and_then (λ q. option_map (spent_group q) (slice_get e.kept.labels 0)) e.kept.pinned)
+    ∙ ap (λ (b : Bool). is_failed e.kept.state && b) (spender-by p l e.kept.pinned (slice_get e.kept.labels 0))
+    ∙ sym (and_assoc (is_failed e.kept.state) (is_pool p e.kept.pinned) (is_min_ready_for l e.kept)))
+    (past (declined-no g e.kept refl) refl))))
+
+-- the requests that are requested, and that at least one pool declined
+pub declined-test : (c : Configuration) (e : RequestEntry) → is_among declined_group (request_groups c e.kept) ≡ is_still_requested e.kept
+declined-test c e =
+    let g = declined_group in
+    past (pending-no g e.kept (λ q. refl)) (past (waiting-no g c e.kept (λ t. refl)) (past (coming-no g e.kept (λ m. refl)) (past (spent-no g e.kept (λ q m. refl))
+    (here (holds-if g g (is_still_requested e.kept) ∙ and_true (is_still_requested e.kept)) refl))))

@@ -1,0 +1,34 @@
+//! What is there and what is coming of a label.
+
+ghost use Rattle.std.specs.Prelude.{◌≡◌};
+ghost use Rattle.std.specs.List.{list_any};
+ghost use Rattle.np_site.specs.Configuration.{Configuration};
+ghost use Rattle.np_machine.specs.Request.{is_spent_min_ready, ready_count};
+ghost use Rattle.np_machine.specs.State.{State};
+ghost use Rattle.np_fits.specs.Fits.{Fits};
+ghost use Rattle.np_classes.specs.Classes.{AreClasses};
+
+use np_classes::{Classes, coming_group, free_group, spent_group};
+use np_look::Look;
+use np_text::{LabelId, PoolId};
+
+/// The free ready nodes of the label in all pools, and those that are coming. Two groups are
+/// counted, each by binary search. Nothing is read of `look`, which says what the groups are of.
+pub fn ready_count<L: Look>(classes: &Classes, look: &L, label: LabelId) -> u32
+    requires fits { Fits (L.site look.now) (L.state look.now) }
+    requires classes { AreClasses (L.site look.now) (L.state look.now) classes.now }
+    ensures { result ≡ ready_count label (L.state look.now) }
+{
+    let free = classes.nodes_in(free_group(label));
+    let coming = classes.requests_in(coming_group(label));
+    (free + coming) as u32
+}
+
+/// Whether a min-ready request of the pool for the label has failed. One group is counted, by
+/// binary search.
+pub fn has_spent_min_ready(classes: &Classes, pool: PoolId, label: LabelId) -> bool
+    ensures { (c : Configuration) (s : State) → AreClasses c s classes.now →
+        result ≡ list_any (is_spent_min_ready pool label) s.requests }
+{
+    classes.requests_in(spent_group(pool, label)) > 0
+}

@@ -1,6 +1,0 @@
-use Rattle.std.proofs.Common.{◌≡◌, take}
-use Rattle.np_look.specs.Readers.{queued_nodes}
-use Rattle.np_index.proofs.index.list_nodes.Given as goal
-
-abbrev pub invariant-loop-at : goal.invariant-loop-at
-invariant-loop-at g l = l.list ≡ take l.at (queued_nodes l.session (g.L.Look.state l.look))

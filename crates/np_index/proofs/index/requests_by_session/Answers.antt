@@ -1,7 +1,0 @@
-use Rattle.std.proofs.Common.{arith}
-use Rattle.np_index.proofs.BySession.{requests-by_session}
-use Rattle.np_index.proofs.index.requests_by_session.Goals as goal
-
-pub returns : goal.returns
-returns g c =
-    requests-by_session _ _ c.requires.reached c.loop-number.number _ (omega (arith, c.sessions-number-end.ensures)) c.loop-number.invariant

@@ -1,6 +1,0 @@
-use Rattle.np_look.specs.Readers.{queued_requests}
-use Rattle.np_index.proofs.BySession.{AreBelow}
-use Rattle.np_index.proofs.index.requests_by_session.Given as goal
-
-abbrev pub invariant-loop-number : goal.invariant-loop-number
-invariant-loop-number g l = AreBelow (λ x. queued_requests x (g.L.Look.state l.look)) l.number l.lists.items

@@ -1,9 +1,0 @@
-use Rattle.std.proofs.Common.{◌∙◌}
-use Rattle.np_lists.proofs.ChangeLemmas.{insert_before-end}
-use Rattle.np_index.proofs.Keyed.{none-later}
-use Rattle.np_index.proofs.lists.push.Goals as goal
-
-pub returns : goal.returns
-returns g c =
-    c.in_ok-insert.ensures.ok
-    ∙ insert_before-end _ _ _ (none-later g.O.Order.key g.O.Order.before g.O.Order.same g.met.O.Order.one_way c.args.row c.args.table.now c.requires)

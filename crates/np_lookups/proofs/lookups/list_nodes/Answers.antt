@@ -1,0 +1,26 @@
+use Rattle.std.proofs.Common.{◌∙◌, ◌<◌, length, sym, ap, arith}
+use Rattle.std.specs.Option.{option_map}
+use Rattle.np_text.specs.declared.id.NodeId.{NodeId}
+use Rattle.np_keys.specs.Keys.{is_node_before, same_node, node_one_way, node_equal}
+use Rattle.np_look.specs.Readers.{queued_nodes}
+use Rattle.np_look.proofs.Walks.{none_there}
+use Rattle.np_lookups.proofs.Copied.{copied-other, copied-next, nodes-rise}
+use Rattle.np_lookups.proofs.lookups.list_nodes.Goals as goal
+use Rattle.np_lookups.proofs.lookups.list_nodes.Goals.{in-Some+in_ok-insert, in_default}
+
+pub insert-requires : goal.insert-requires
+insert-requires g c =
+    copied-other is_node_before same_node node_one_way node_equal _ (nodes-rise _ _ c.requires c.args.session)
+    c.loop-at.at c.in-Some.node (sym c.in-Some.ensures) _ c.loop-at.invariant
+
+pub loop-at-preserved : goal.loop-at-preserved
+loop-at-preserved g c =
+    elim c.match-queued_node_at.branch [
+      | in-Some+in_ok-insert w ↦
+          w.list-is
+          ∙ copied-next is_node_before same_node node_one_way node_equal _ (nodes-rise _ _ c.requires c.args.session)
+          c.loop-at.at w.in-Some.node (sym w.in-Some.ensures) _ c.loop-at.invariant _ w.in_ok-insert.ensures.ok
+      | in_default w ↦
+          let within : c.loop-at.at < length (queued_nodes c.args.session (g.L.Look.state c.args.look.now)) = omega (arith, c.queued_nodes-at-end.ensures) in
+          absurd (none_there (λ (n : NodeId). n) _ c.loop-at.at within (ap (option_map (λ (n : NodeId). n)) (sym w.in_default.ensures)))
+    ]

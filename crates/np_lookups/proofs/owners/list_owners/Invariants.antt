@@ -1,0 +1,5 @@
+use Rattle.np_lookups.proofs.ByNode.{AreOwnersBelow}
+use Rattle.np_lookups.proofs.owners.list_owners.Given as goal
+
+abbrev pub invariant-loop-number : goal.invariant-loop-number
+invariant-loop-number g l = AreOwnersBelow (g.L.Look.state l.look) l.number l.owners.items

@@ -1,0 +1,12 @@
+use Rattle.std.proofs.Common.{◌≡◌, ◌≤◌, ◌-◌, take, length, vec_len}
+use Rattle.np_machine.specs.Tables.{node_queue}
+use Rattle.np_lookups.proofs.queues.queue_of.Given as goal
+
+abbrev pub invariant-loop-session : goal.invariant-loop-session
+invariant-loop-session g l = record {
+  within : vec_len l.queue ≤ length (node_queue l.node (g.L.Look.state l.look).nodes);
+  all : l.queue.items ≡ take (vec_len l.queue) (node_queue l.node (g.L.Look.state l.look).nodes);
+}
+
+abbrev pub decreases-loop-session : goal.decreases-loop-session
+decreases-loop-session g l = length (node_queue l.node (g.L.Look.state l.look).nodes) - vec_len l.queue

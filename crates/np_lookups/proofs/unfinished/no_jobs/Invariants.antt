@@ -1,0 +1,10 @@
+use Rattle.std.proofs.Common.{◌≡◌, ◌≤◌, ◌-◌, List, [], length}
+use Rattle.std.specs.Prelude.{replicate}
+use Rattle.np_text.specs.declared.id.JobId.{JobId}
+use Rattle.np_lookups.proofs.unfinished.no_jobs.Given as goal
+
+abbrev pub invariant-loop-lists : goal.invariant-loop-lists
+invariant-loop-lists l = (l.count ≤ length l.config.requesters) × (l.lists.items ≡ replicate {A = List JobId} l.count [])
+
+abbrev pub decreases-loop-lists : goal.decreases-loop-lists
+decreases-loop-lists l = length l.config.requesters - l.count

@@ -1,0 +1,170 @@
+-- what an event's changes make of the parts of lookups
+use Rattle.std.specs.Prelude.{ℕ, ◌-◌, Bool, true, false, ◌==◌, not, if◌then◌else◌, List, [], ◌∷◌, ◌++◌, Option, Some, None, length, take, slice_get, slice_set, option_and_then}
+use Rattle.std.specs.Option.{option_map, option_map_or}
+use Rattle.np_text.specs.declared.id.JobId.{JobId}
+use Rattle.np_text.specs.declared.id.NodeId.{NodeId}
+use Rattle.np_text.specs.declared.id.RequestId.{RequestId}
+use Rattle.np_text.specs.declared.id.SessionId.{SessionId}
+use Rattle.np_site.specs.Configuration.{Configuration}
+use Rattle.np_record.specs.declared.record.Marked.{Marked}
+use Rattle.np_lists.specs.Change.{change_at}
+use Rattle.np_machine.specs.Kinds.{is_over, is_using}
+use Rattle.np_machine.specs.Order.{is_id_before}
+use Rattle.np_machine.specs.State.{State}
+use Rattle.np_machine.specs.Tables.{same_request, request_in, request_holder, node_queue}
+use Rattle.np_changes.specs.declared.changes.Changes.{Changes}
+use Rattle.np_changes.specs.declared.changes.Growth.{Growth}
+use Rattle.np_changes.specs.declared.changes.Growth.TheVariants as grow
+use Rattle.np_changes.specs.declared.changes.JobsChange.{JobsChange}
+use Rattle.np_changes.specs.declared.changes.JobsChange.TheVariants as jobs
+use Rattle.np_changes.specs.declared.changes.RequestEdit.{RequestEdit}
+use Rattle.np_changes.specs.declared.changes.RequestEdit.TheVariants as edit
+use Rattle.np_changes.specs.declared.changes.RequestsChange.{RequestsChange}
+use Rattle.np_changes.specs.declared.changes.RequestsChange.TheVariants as requests
+use Rattle.np_keys.specs.Keys.{is_node_before, same_node, same_job}
+use Rattle.np_lookups.specs.declared.change.Added.{Added}
+use Rattle.np_lookups.specs.declared.change.Numbers.{Numbers}
+use Rattle.np_lookups.specs.declared.ranks.Rank.{Rank}
+use Rattle.np_lookups.specs.declared.waits.Wait.{Wait}
+use Rattle.np_lookups.specs.Lookups.{LookupsOf}
+use Rattle.np_lookups.specs.Lists.{with_id, without_id, taken_back}
+use Rattle.np_lookups.specs.Ranks.{is_rank_before, same_rank, rank_of}
+use Rattle.np_lookups.specs.Waits.{joins_request, joins_node, leaves_request, leaves_node, removed_node, ending}
+
+-- ## the lists of sessions
+
+-- the session's list has the row
+abbrev pub lists_joined : {I : Type 0} → (I → I → Bool) → (I → I → Bool) → Option (Wait I) → List (List I) → List (List I)
+lists_joined before same wait lists = option_map_or (λ w. change_at w.session.0 (with_id before same w.id) lists) wait lists
+
+-- it has the row no longer, if that was added
+abbrev pub lists_taken_back : {I : Type 0} → (I → I → Bool) → Option (Wait I) → Bool → List (List I) → List (List I)
+lists_taken_back same wait added lists = option_map_or (λ w. change_at w.session.0 (taken_back same added w.id) lists) wait lists
+
+-- the session's list has the row no longer
+abbrev pub lists_left : {I : Type 0} → (I → I → Bool) → Option (Wait I) → List (List I) → List (List I)
+lists_left same wait lists = option_map_or (λ w. change_at w.session.0 (without_id same w.id) lists) wait lists
+
+-- nor has the list of any session of the queue
+abbrev pub lists_without : {I : Type 0} → (I → I → Bool) → I → List SessionId → List (List I) → List (List I)
+lists_without same i [] lists = lists
+lists_without same i (session ∷ queue) lists = lists_without same i queue (change_at session.0 (without_id same i) lists)
+
+-- if a row goes
+abbrev pub lists_removed : {I : Type 0} → (I → I → Bool) → Option I → List SessionId → List (List I) → List (List I)
+lists_removed same id queue lists = option_map_or (λ i. lists_without same i queue lists) id lists
+
+-- the list of the session is empty
+abbrev pub lists_ended : {I : Type 0} → Option SessionId → List (List I) → List (List I)
+lists_ended session lists = option_map_or (λ x. change_at x.0 (λ _. []) lists) session lists
+
+-- the queue of a node that goes
+abbrev pub queue_at : Option NodeId → State → List SessionId
+queue_at node s = option_map_or (λ n. node_queue n s.nodes) node []
+
+-- the holder of a request that goes
+abbrev pub holder_at : Option RequestId → State → Option SessionId
+holder_at request s = option_and_then (λ r. request_holder r s.requests) request
+
+-- ## jobs
+
+-- a job that is over leaves the list of its requester
+abbrev pub unfinished_changed : Configuration → JobsChange → List (List JobId) → List (List JobId)
+unfinished_changed c jobs.Same lists = lists
+unfinished_changed c (jobs.Put j kept) lists =
+    if is_over kept.phase
+    then option_map_or (λ row. change_at row.requester.0 (without_id same_job j) lists) (slice_get c.jobs j.0) lists
+    else lists
+unfinished_changed c (jobs.EndNode j n) lists = lists
+
+-- ## the owners of nodes
+
+-- a new node has a place at the end, and no owner
+abbrev pub owners_grown : Growth → List (Option JobId) → List (Option JobId)
+owners_grown (grow.Node kept) owners = owners ++ None ∷ []
+owners_grown growth owners = owners
+
+-- its place leaves the end again
+abbrev pub owners_taken_back : Growth → List (Option JobId) → List (Option JobId)
+owners_taken_back (grow.Node kept) owners = take (length owners - 1) owners
+owners_taken_back growth owners = owners
+
+-- at the place of each of the nodes is the job
+abbrev pub owners_with : JobId → List Marked → List (Option JobId) → List (Option JobId)
+owners_with j [] owners = owners
+owners_with j (m ∷ nodes) owners = owners_with j nodes (slice_set owners m.node.0 (Some j))
+
+-- a job that is using its nodes is their owner: only by taking them over does a job get nodes
+abbrev pub owners_changed : JobsChange → List (Option JobId) → List (Option JobId)
+owners_changed jobs.Same owners = owners
+owners_changed (jobs.Put j kept) owners = if is_using kept.phase then owners_with j kept.nodes owners else owners
+owners_changed (jobs.EndNode j n) owners = owners
+
+-- ## the ranks of requests
+
+-- that of a request that gets another relative priority
+abbrev pub revised_rank : RequestsChange → Option Rank
+revised_rank (requests.Edit r (edit.Revise relative)) = Some (record { request = r; relative = relative })
+revised_rank change = None
+
+-- or of a new request, which has this sequence
+abbrev pub new_rank : Growth → RequestsChange → ℕ → Option Rank
+new_rank (grow.Request priority asked) change next = Some (record { request = record { priority = priority; seq = next }; relative = asked.relative_priority })
+new_rank growth change next = revised_rank change
+
+-- a request with this relative priority has another rank or none after the edit
+abbrev pub loses_rank : RequestEdit → ℕ → Bool
+loses_rank (edit.Serve p) relative = false
+loses_rank (edit.AddNode n) relative = false
+loses_rank (edit.Decline p why failed) relative = failed
+loses_rank edit.Fulfil relative = true
+loses_rank edit.GiveBack relative = false
+loses_rank edit.Fail relative = true
+loses_rank (edit.Revise new) relative = not (new == relative)
+
+-- the rank that a request has before the change and not after it
+abbrev pub lost_rank : RequestsChange → State → Option Rank
+lost_rank requests.Same s = None
+lost_rank (requests.Edit r change) s = option_and_then (λ kept. if loses_rank change kept.relative_priority then Some (rank_of r kept) else None) (request_in r s.requests)
+lost_rank (requests.Remove r) s = option_map (rank_of r) (request_in r s.requests)
+lost_rank (requests.Leave r) s = None
+
+abbrev pub ranks_with : Option Rank → List Rank → List Rank
+ranks_with rank ranks = option_map_or (λ x. with_id is_rank_before same_rank x ranks) rank ranks
+
+abbrev pub ranks_taken_back : Option Rank → Bool → List Rank → List Rank
+ranks_taken_back rank added ranks = option_map_or (λ x. taken_back same_rank added x ranks) rank ranks
+
+abbrev pub ranks_without : Option Rank → List Rank → List Rank
+ranks_without rank ranks = option_map_or (λ x. without_id same_rank x ranks) rank ranks
+
+-- ## all parts
+
+-- with what grows; a new request and a new node have these numbers
+abbrev pub lookups_grown : Changes → Numbers → LookupsOf → LookupsOf
+lookups_grown ch next l = record l {
+  requests = lists_joined is_id_before same_request (joins_request ch.maker ch.grows) l.requests;
+  nodes = lists_joined is_node_before same_node (joins_node ch.maker ch.grows next.node) l.nodes;
+  owners = owners_grown ch.grows l.owners;
+  ranks = ranks_with (new_rank ch.grows ch.requests next.request) l.ranks;
+}
+
+-- without what was added
+abbrev pub lookups_taken_back : Changes → Numbers → Added → LookupsOf → LookupsOf
+lookups_taken_back ch next added l = record l {
+  requests = lists_taken_back same_request (joins_request ch.maker ch.grows) added.request l.requests;
+  nodes = lists_taken_back same_node (joins_node ch.maker ch.grows next.node) added.node l.nodes;
+  owners = owners_taken_back ch.grows l.owners;
+  ranks = ranks_taken_back (new_rank ch.grows ch.requests next.request) added.rank l.ranks;
+}
+
+-- with the rest of the changes: a request that goes has this holder, a node that goes this queue, and
+-- a request that loses its rank this one
+abbrev pub lookups_settled : Configuration → Changes → Option SessionId → List SessionId → Option Rank → LookupsOf → LookupsOf
+lookups_settled c ch holder queue rank l = record {
+  unfinished = unfinished_changed c ch.jobs l.unfinished;
+  requests = lists_ended (ending ch.sessions) (lists_left same_request (leaves_request ch.maker ch.requests holder) l.requests);
+  nodes = lists_ended (ending ch.sessions) (lists_removed same_node (removed_node ch.nodes) queue (lists_left same_node (leaves_node ch.maker ch.nodes) l.nodes));
+  owners = owners_changed ch.jobs l.owners;
+  ranks = ranks_without rank l.ranks;
+}

@@ -1,0 +1,7 @@
+pub mod Lists
+pub mod Waits
+pub mod Ranks
+pub mod Lookups
+pub mod Unfinished
+pub mod Changed
+pub mod Prepared
