@@ -3,6 +3,7 @@
 ghost use Rattle.std.specs.Prelude.{◌≡◌, ◌≤◌, [], length, IfOk, OnOk, OnErr};
 ghost use Rattle.std.specs.List.{AllByRecursion};
 ghost use Rattle.np_event.specs.Line.{HasEventLine};
+ghost use Rattle.np_machine.specs.State.{start};
 ghost use Rattle.np_rules.specs.Ran.{Ran, answer_of, applied};
 ghost use Rattle.np_report.specs.Played.{played, ran};
 ghost use Rattle.np_report.specs.Printed.{IsPrinted};
@@ -10,9 +11,11 @@ ghost use Rattle.np_report.specs.Script.{IsPlayable};
 
 use crate::print::text;
 use crate::script::Script;
+use np_config::Config;
 use np_decision::StateKeeper;
 use np_event::{Entry, Event, Reply};
-use np_rules::{JournalKeeper, Look, Plain};
+use np_index::Indexed;
+use np_rules::{JournalKeeper, Look, VecKeeper};
 use np_text::NoMemory;
 use std::alloc::{AllocError, Global};
 
@@ -79,14 +82,28 @@ fn text_of_events<M: Machine>(
     text(alloc, machine, machine.journal())
 }
 
+/// The machine before the first event, over vectors with an index.
+fn new_machine(alloc: Global, config: Config) -> Result<JournalKeeper<Indexed<VecKeeper>>, NoMemory>
+    ensures { IfOk result (λ m. m ≡ record {
+      configuration = config;
+      journal = [];
+      state = start config;
+    }) }
+{
+    config.soundness();
+    let keeper = VecKeeper::new(alloc, config)?;
+    let indexed = Indexed::new(alloc, keeper)?;
+    Ok(JournalKeeper::begin(alloc, indexed))
+}
+
 /// Plays the script's events over its configuration, and returns the whole Text of that run. The
-/// cost is that of the events, by `Plain::apply`, and of the Text.
+/// cost is that of the events, by `JournalKeeper::apply` over vectors with an index, and of the Text.
 pub fn text_of_script(alloc: Global, script: Script) -> Result<Vec<u8>, NoMemory>
     requires { IsPlayable script }
     ensures { IfOk result (λ text.
         IsPrinted script.config (played script.config script.events) text.items) }
 {
     let Script { config, events } = script;
-    let mut machine = Plain::new(alloc, config)?;
+    let mut machine = new_machine(alloc, config)?;
     text_of_events(alloc, &mut machine, events.items())
 }

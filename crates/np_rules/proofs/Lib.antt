@@ -1,5 +1,3 @@
-pub mod TallyLemmas
-pub mod Gains
 pub mod Counts
 pub mod Finds
 pub mod Planned

@@ -44,7 +44,6 @@ can-grow c s fits (grow.Request priority asked) = record {
 }
 can-grow c s fits (grow.Node kept) = record {
   number = fits.next_node;
-  few = fits.nodes;
   fresh = all-weaker (NodeFits s) (λ (e : NodeEntry). e.id.0 < s.next_node) (λ e is. is.id) s.nodes fits.each_node;
 }
 can-grow c s fits (grow.JoinRequest r) = tt

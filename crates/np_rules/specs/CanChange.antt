@@ -25,7 +25,6 @@ pub record TakesRequest (s : State) : Type 0 where
 -- the next node has a number of its own, past all others
 pub record TakesNode (s : State) : Type 0 where
   pub number : s.next_node ≤ most
-  pub few : length s.nodes ≤ most
   pub fresh : AllByRecursion (λ e. e.id.0 < s.next_node) s.nodes
 
 abbrev pub CanGrow : Growth → State → Type 0

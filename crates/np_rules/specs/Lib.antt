@@ -1,4 +1,3 @@
-pub mod Tally
 pub mod CanChange
 pub mod TakenBack
 pub mod Keeper

@@ -177,7 +177,7 @@ impl RowChange<NodeEntry> for Allocate {
 }
 
 /// Whether the allocation is to the request.
-pub(crate) fn is_allocated_to(request: RequestId, found: Option<RequestId>) -> bool
+fn is_allocated_to(request: RequestId, found: Option<RequestId>) -> bool
     ensures { result ≡ is_request request found }
 {
     match found {

@@ -89,9 +89,12 @@ impl<K: StateKeeper + Drop> JournalKeeper<K> {
     }
 
     /// The reply to the event: `Full` if the journal has no room. It takes no memory. It costs what
-    /// the keeper's readers cost. Over vectors a node or a request is found by binary search, and a
-    /// create scans the offers of its pool; `lock-request` and `mark-deleting` of a ready node scan
-    /// all requests, `end-node` all jobs, and `min-ready` all requests and nodes.
+    /// the keeper's readers cost; an index beside the keeper answers most of them by a lookup. Over
+    /// vectors alone a node or a request is found by binary search. `create` scans all nodes,
+    /// `end-node` all jobs, `lock-request` all requests, and `min-ready` all requests and nodes, as
+    /// does `mark-deleting` of a ready node, which scans the nodes again for each request that waits
+    /// for room. `accept` scans all requests and nodes if the tenant has a limit, and `lock-request`
+    /// does so for each request of such a tenant that comes before the best so far.
     pub fn judge(&self, event: Event) -> Reply
         ensures { result ≡ answer_of self.now event }
     {

@@ -13,7 +13,10 @@ use np_decision::StateKeeper;
 use std::alloc::{AllocError, Global};
 use std::marker::Model;
 
-/// A configuration and a state over vectors.
+/// A configuration and a state over vectors, and nothing that the state doesn't have. A session, a
+/// job or a role is found by its place, and a request, a node, a handle or a swept pair by binary
+/// search. What a pool uses is a scan of all nodes, and any other search a scan of its tables. An
+/// index beside it (np_index) answers such readers.
 #[derive(Drop)]
 pub struct VecKeeper {
     pub(crate) config: Config,

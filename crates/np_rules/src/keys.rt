@@ -16,6 +16,9 @@ pub struct ByNodeEntry;
 /// Requests under their locks, by priority and then sequence.
 pub struct ByRequestEntry;
 
+/// The nodes under their locks.
+pub type NodeTable = KeyTable<ByNodeEntry>;
+
 /// The requests under their locks.
 pub type RequestTable = KeyTable<ByRequestEntry>;
 

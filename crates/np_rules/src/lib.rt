@@ -7,23 +7,22 @@
 //! journal always leads to that state; `Plain` is the machine over vectors.
 //!
 //! Requests, nodes and swept pairs are in the order of their keys (`keys`), and one of them is
-//! changed by one of the changes in `change`. `specs` has only what this code needs besides the
-//! definitions.
+//! changed by one of the changes in `change`. The vectors have the rows and nothing besides: what
+//! a pool uses, or which of its nodes are unused, is read by a scan of all nodes. An index beside the
+//! vectors, or beside any other keeper, answers such readers (np_index). `specs` has only what this
+//! code needs besides the definitions.
 #![tactic(auto)]
 
 mod change;
-mod count;
 mod grow;
 mod journal;
 mod keeper;
 mod keys;
-mod nodes;
 mod queues;
 mod roles;
 mod settle;
 mod start;
 mod tables;
-mod tally;
 mod walk;
 
 pub use journal::{JournalKeeper, Plain};

@@ -3,7 +3,7 @@
 ghost use Rattle.std.specs.Prelude.{◌≡◌, ◌≤◌, None, filter, length, map, not};
 ghost use Rattle.np_lists.specs.Change.{change_at};
 ghost use Rattle.np_machine.specs.Node.{marked, with_mark};
-ghost use Rattle.np_machine.specs.Semaphore.{all_without_handle};
+ghost use Rattle.np_machine.specs.Semaphore.{all_in_use, all_without_handle};
 ghost use Rattle.np_machine.specs.Session.{ended, muted, node_left, request_left};
 ghost use Rattle.np_machine.specs.Tables.{change_session, is_session, put_job};
 ghost use Rattle.np_changes.specs.Changes.{handles_changed, jobs_changed, nodes_changed, nodes_left, registrations_left, requests_changed, requests_left, semaphores_of, sessions_changed, settled};
@@ -12,9 +12,8 @@ ghost use Rattle.np_changes.specs.declared.changes.RequestsChange.TheVariants as
 ghost use Rattle.np_rules.specs.CanChange.{CanSettle, TakesEdit};
 
 use crate::change::handles::drop_handles;
-use crate::change::{Edit, Leave, Put};
-use crate::keys::RequestTable;
-use crate::nodes::NodeTable;
+use crate::change::{Edit, Free, Leave, Put, TakeOver};
+use crate::keys::{NodeTable, RequestTable};
 use crate::tables::Tables;
 use np_changes::{
     Changes, HandlesChange, JobsChange, Maker, NodesChange, RequestEdit, RequestsChange,
@@ -68,6 +67,15 @@ fn leave_node(nodes: &mut NodeTable, maker: Option<Maker>, tick: u32, node: Node
     }
 }
 
+/// Each of the nodes is in use from this tick.
+fn take_over(nodes: &mut NodeTable, tick: u32, numbers: &[NodeId])
+    ensures { nodes.new ≡ all_in_use tick numbers.now nodes.old }
+{
+    for node in numbers {
+        always(nodes.change(*node, &TakeOver { tick }));
+    }
+}
+
 fn settle_nodes(nodes: &mut NodeTable, maker: Option<Maker>, tick: u32, change: &NodesChange)
     ensures { nodes.new ≡ nodes_changed maker tick change.now nodes.old }
 {
@@ -76,8 +84,8 @@ fn settle_nodes(nodes: &mut NodeTable, maker: Option<Maker>, tick: u32, change: 
         NodesChange::Put { node, kept } => always(nodes.change(*node, &Put { kept: *kept })),
         NodesChange::Remove { node } => nodes.remove(*node),
         NodesChange::Leave { node } => leave_node(nodes, maker, tick, *node),
-        NodesChange::FreeAll { request } => nodes.free_all(*request),
-        NodesChange::TakeOver { nodes: numbers } => nodes.take_over_all(numbers.items(), tick),
+        NodesChange::FreeAll { request } => nodes.change_all(&Free { request: *request }),
+        NodesChange::TakeOver { nodes: numbers } => take_over(nodes, tick, numbers.items()),
     }
 }
 
@@ -210,7 +218,7 @@ impl Tables {
         expire(&mut self.sessions, session);
         drop_registrations(&mut self.registrations, session);
         self.requests.change_all(&Leave { session });
-        self.nodes.leave_all(session);
+        self.nodes.change_all(&Leave { session });
     }
 
     fn settle_sessions(&mut self, change: SessionsChange)

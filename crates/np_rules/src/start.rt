@@ -4,8 +4,7 @@ ghost use Rattle.std.specs.Prelude.{◌≡◌, ◌≤◌, ◌<◌, List, [], len
 ghost use Rattle.np_text.specs.declared.id.JobId.{JobId};
 ghost use Rattle.np_machine.specs.State.{start, new_job, no_deeds};
 
-use crate::keys::RequestTable;
-use crate::nodes::NodeTable;
+use crate::keys::{NodeTable, RequestTable};
 use crate::tables::Tables;
 use np_config::Config;
 use np_keys::{JobTable, SweptTable};
@@ -115,14 +114,13 @@ impl Tables {
         let launchers = idle_roles(alloc, pools)?;
         let janitors = idle_roles(alloc, pools)?;
         let requesters = idle_roles(alloc, count_requesters(config))?;
-        let nodes = NodeTable::new(alloc, pools)?;
         Ok(Tables {
             alloc,
             tick: 0,
             sessions: Vec::new(alloc),
             registrations: Vec::new(alloc),
             requests: RequestTable::new(alloc),
-            nodes,
+            nodes: NodeTable::new(alloc),
             handles,
             jobs,
             launchers,

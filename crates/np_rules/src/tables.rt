@@ -6,8 +6,7 @@ ghost use Rattle.np_look.specs.Views.{node_view, request_view};
 ghost use Rattle.np_machine.specs.Node.{is_swept};
 ghost use Rattle.np_machine.specs.Tables.{handles_of, has_handle, node_entry, node_holder, registered, request_entry, request_holder, role_in, session_of};
 
-use crate::keys::RequestTable;
-use crate::nodes::NodeTable;
+use crate::keys::{NodeTable, RequestTable};
 use np_keys::{JobTable, SweptTable};
 use np_look::{NodeView, RequestView};
 use np_machine::{NodeEntry, Registration, RequestEntry, SessionFacts, Swept, holder_of};

@@ -2,23 +2,17 @@
 
 ghost use Rattle.std.specs.Prelude.{◌≡◌, ◌<◌, ◌≤◌, ◌^◌, ◌&&◌, IfSome, length, option_copied};
 ghost use Rattle.std.specs.List.{list_any, position};
-ghost use Rattle.np_text.specs.declared.id.LabelId.{LabelId};
-ghost use Rattle.np_fits.specs.Fits.{AmountFits};
 ghost use Rattle.np_changes.specs.Readers.{is_last_pool, owner_of};
-ghost use Rattle.np_machine.specs.Count.{amount_of, count_of};
 ghost use Rattle.np_machine.specs.First.{is_open_to};
-ghost use Rattle.np_machine.specs.Reasons.{is_paused, is_stuck};
 ghost use Rattle.np_machine.specs.Request.{is_spent_min_ready, ready_count, undeclined};
 ghost use Rattle.np_machine.specs.Semaphore.{has_live_session};
 ghost use Rattle.np_machine.specs.Tables.{is_marked};
 ghost use Rattle.np_rules.specs.Keeper.{comes_first};
 
 use crate::tables::Tables;
-use np_amount::Amount;
-use np_config::Config;
 use np_look::{
     comes_before, declines_or_is, is_coming, is_declined_by, is_free_ready, is_live_of, is_marked,
-    is_open_to, is_spent_min_ready, short_label,
+    is_open_to, is_spent_min_ready,
 };
 use np_machine::{RequestEntry, holder_of};
 use np_record::{JobRecord, RequestRecord};
@@ -100,35 +94,6 @@ impl Tables {
             .filter(|entry| is_coming(label, &entry.kept))
             .count();
         ready + coming
-    }
-
-    /// Whether the request waits for room in the pool, which uses `used`.
-    fn is_stuck(&self, config: &Config, pool: PoolId, used: Amount, entry: &RequestEntry) -> bool
-        requires used { used ≡ count_of config.now self.now pool }
-        requires instances { used.instances < 2 ^ 63 }
-        requires cores { used.cores < 2 ^ 63 }
-        requires ram { used.ram < 2 ^ 63 }
-        requires small { (l : LabelId) → AmountFits (amount_of config.now pool l) }
-        ensures { result ≡ is_stuck config.now self.now pool entry.now }
-    {
-        match short_label(config, pool, used, &entry.kept) {
-            None => false,
-            Some(label) => entry.kept.pinned.is_some() || !self.nodes.has_spare(pool, label),
-        }
-    }
-
-    /// Whether a request that is pending by the pool, which uses `used`, waits for room.
-    pub(crate) fn is_paused(&self, config: &Config, pool: PoolId, used: Amount) -> bool
-        requires used { used ≡ count_of config.now self.now pool }
-        requires instances { used.instances < 2 ^ 63 }
-        requires cores { used.cores < 2 ^ 63 }
-        requires ram { used.ram < 2 ^ 63 }
-        requires small { (l : LabelId) → AmountFits (amount_of config.now pool l) }
-        ensures { result ≡ is_paused config.now self.now pool }
-    {
-        self.requests()
-            .iter()
-            .any(|entry| self.is_stuck(config, pool, used, entry))
     }
 
     /// The first job that has the node.

@@ -109,6 +109,30 @@ impl<K: StateKeeper + Drop> Look for JournalKeeper<K> {
         self.keeper.queued_node_at(session, at)
     }
 
+    fn pending_requests(&self, pool: PoolId) -> u32 {
+        self.keeper.pending_requests(pool)
+    }
+
+    fn pending_request_at(&self, pool: PoolId, at: u32) -> Option<RequestId> {
+        self.keeper.pending_request_at(pool, at)
+    }
+
+    fn declined_requests(&self) -> u32 {
+        self.keeper.declined_requests()
+    }
+
+    fn declined_request_at(&self, at: u32) -> Option<RequestId> {
+        self.keeper.declined_request_at(at)
+    }
+
+    fn unheld_nodes(&self, pool: PoolId) -> u32 {
+        self.keeper.unheld_nodes(pool)
+    }
+
+    fn unheld_node_at(&self, pool: PoolId, at: u32) -> Option<NodeId> {
+        self.keeper.unheld_node_at(pool, at)
+    }
+
     fn handles(&self, semaphore: SemId) -> u32 {
         self.keeper.handles(semaphore)
     }

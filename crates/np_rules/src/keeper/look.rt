@@ -1,12 +1,12 @@
 //! What can be read of the vectors.
 //!
-//! A request's record is about 1 KB, so the readers that scan all requests walk them by reference.
+//! A request's record is about 1 KB, so the readers here that scan all requests walk them by
+//! reference. What a pool or a tenant uses, unused nodes, paused pools and unfinished jobs are read
+//! by place, as np_look has it.
 
-use crate::count::count;
 use crate::keeper::VecKeeper;
 use crate::queues::{count_queued, queued_at};
 use crate::walk::is_better;
-use np_amount::Amount;
 use np_changes::Asked;
 use np_config::Config;
 use np_look::{Look, NodeView, RequestView, asked_of, is_declined_by};
@@ -227,19 +227,6 @@ impl Look for VecKeeper {
 
     fn ready_count(&self, label: LabelId) -> u32 {
         self.tables.ready_count(label) as u32
-    }
-
-    fn used(&self, pool: PoolId) -> Amount {
-        count(&self.config, pool, &self.tables.nodes)
-    }
-
-    fn has_spare(&self, pool: PoolId, label: LabelId) -> bool {
-        self.tables.nodes.has_spare(pool, label)
-    }
-
-    fn is_paused(&self, pool: PoolId) -> bool {
-        let used = self.used(pool);
-        self.tables.is_paused(&self.config, pool, used)
     }
 
     fn owner(&self, node: NodeId) -> Option<JobId> {

@@ -6,10 +6,7 @@ use Rattle.np_rules.proofs.Fresh.{fresh-node, last-node}
 use Rattle.np_rules.proofs.tables.Tables.add_node.Goals as goal
 
 pub insert-requires : goal.insert-requires
-insert-requires c = record {
-  few = rw (← c.self.view_is) at c.requires.few;
-  fresh = rw (← c.self.view_is) at (fresh-node c.args.self.now.next_node c.args.self.now.nodes c.requires.fresh);
-}
+insert-requires c = rw (← c.self.view_is) at (fresh-node c.args.self.now.next_node c.args.self.now.nodes c.requires.fresh)
 
 pub returns-clause-ok : goal.returns-clause-ok
 returns-clause-ok c =
