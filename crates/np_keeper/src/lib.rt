@@ -4,7 +4,8 @@
 //! the state that np_decode reads from it, with room for the changes of every event to come. `start`
 //! makes the first tree, `change` makes the changes of an event, and `keeper` answers what np_look
 //! and np_decision ask of anything that keeps a state: each reader of the tree answers what the state
-//! has, and each accepted event leaves a tree of the machine's next state.
+//! has, and each accepted event leaves a tree of the machine's next state. `enact` makes the changes
+//! of an event in a tree that the caller has.
 #![tactic(auto)]
 
 mod change;
@@ -12,4 +13,5 @@ mod keeper;
 mod range;
 mod start;
 
+pub use change::enact;
 pub use keeper::TreeKeeper;

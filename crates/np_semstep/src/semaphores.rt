@@ -1,0 +1,55 @@
+//! Events of semaphores: the answer, and the changes.
+
+ghost use Rattle.std.specs.Prelude.{◌≡◌, ◌<◌, true, is_ok, OnOk, OnErr};
+ghost use Rattle.np_machine.specs.State.{State};
+ghost use Rattle.np_machine.specs.Step.{judge, next, reply_of};
+ghost use Rattle.np_changes.specs.Planned.{IsReached};
+ghost use Rattle.np_fits.specs.Fits.{Fits};
+ghost use Rattle.np_tree_look.specs.Carried.{IsStored};
+ghost use Rattle.np_decode.specs.Decoded.{decoded};
+ghost use Rattle.np_keeper.specs.Keeper.{IsHeld};
+ghost use Rattle.np_semstep.specs.Semaphores.{is_semaphore_event};
+
+use np_config::Config;
+use np_event::{Event, Reply};
+use np_text::NoMemory;
+use np_tree::Tree;
+use std::alloc::Global;
+
+/// What the machine answers to an event of semaphores in the state that the tree stores. It takes no
+/// memory, and costs what the readers cost that the event's row calls.
+pub fn judge_semaphore(tree: &Tree, config: &Config, event: Event) -> Reply
+    requires group { is_semaphore_event event ≡ true }
+    requires held { IsHeld config.now tree.now }
+    requires fits { Fits config.now (decoded config.now tree.now) }
+    ensures reply { result ≡ reply_of (judge config.now (decoded config.now tree.now) event) }
+    ensures laid { (s : State) → IsStored config.now s tree.now →
+        result ≡ reply_of (judge config.now s event) }
+{
+    np_tree_look::judge(tree, config, event)
+}
+
+/// Decides an accepted event of semaphores, and makes its changes: one call of the tree, in which
+/// fewer than 16,777,214 changes were made before. It errs if and only if memory runs out, and then
+/// the state stays. The cost is that of the decision (`judge_semaphore`), and of the changes.
+pub fn enact_semaphore(
+    alloc: Global,
+    tree: &mut Tree,
+    config: &Config,
+    event: Event,
+) -> Result<(), NoMemory>
+    requires group { is_semaphore_event event ≡ true }
+    requires held { IsHeld config.now tree.old }
+    // A run of the configuration reaches the state.
+    requires reached { IsReached config.now (decoded config.now tree.old) }
+    requires low { tree.old.changes < 16777214 }
+    requires accepted { is_ok (judge config.now (decoded config.now tree.old) event) ≡ true }
+    ensures held { IsHeld config.now tree.new }
+    ensures ok { OnOk result (decoded config.now tree.new
+        ≡ next config.now (decoded config.now tree.old) event) }
+    ensures err { OnErr result (decoded config.now tree.new ≡ decoded config.now tree.old) }
+    ensures laid { (s : State) → IsStored config.now s tree.old →
+        OnOk result (IsStored config.now (next config.now s event) tree.new) }
+{
+    np_tree_look::enact(alloc, tree, config, event)
+}

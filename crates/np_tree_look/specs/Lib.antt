@@ -1,0 +1,1 @@
+pub use Rattle.np_enact.specs.Carried

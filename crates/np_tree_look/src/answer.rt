@@ -1,0 +1,43 @@
+//! What the machine answers to an event.
+
+ghost use Rattle.std.specs.Prelude.{◌≡◌, IfOk};
+ghost use Rattle.np_machine.specs.State.{State};
+ghost use Rattle.np_machine.specs.Step.{judge, reply_of};
+ghost use Rattle.np_changes.specs.Plan.{plan};
+ghost use Rattle.np_fits.specs.Fits.{Fits};
+ghost use Rattle.np_decision.specs.Verdicts.{answer_of};
+ghost use Rattle.np_enact.specs.Carried.{IsStored};
+ghost use Rattle.np_decode.specs.Decoded.{decoded};
+ghost use Rattle.np_keeper.specs.Keeper.{IsHeld};
+
+use crate::look::TreeLook;
+use np_config::Config;
+use np_decision::{Verdict, decide};
+use np_event::{Event, Refusal, Reply};
+use np_tree::Tree;
+
+/// The decision on an event, over the state that the tree stores.
+pub(crate) fn verdict_on(tree: &Tree, config: &Config, event: Event) -> Result<Verdict, Refusal>
+    requires held { IsHeld config.now tree.now }
+    requires fits { Fits config.now (decoded config.now tree.now) }
+    ensures answer { answer_of result ≡ judge config.now (decoded config.now tree.now) event }
+    ensures changes { IfOk result (λ v. v.changes ≡
+        plan config.now (decoded config.now tree.now) event) }
+{
+    decide(&TreeLook::new(config, tree), event)
+}
+
+/// What the machine answers to an event in the state that the tree stores. It takes no memory, and
+/// costs what the readers cost that the event's row calls (np_readers).
+pub fn judge(tree: &Tree, config: &Config, event: Event) -> Reply
+    requires held { IsHeld config.now tree.now }
+    requires fits { Fits config.now (decoded config.now tree.now) }
+    ensures reply { result ≡ reply_of (judge config.now (decoded config.now tree.now) event) }
+    ensures laid { (s : State) → IsStored config.now s tree.now →
+        result ≡ reply_of (judge config.now s event) }
+{
+    match verdict_on(tree, config, event) {
+        Err(refusal) => Reply::Refused(refusal),
+        Ok(verdict) => Reply::Done(verdict.done),
+    }
+}
