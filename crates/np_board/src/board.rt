@@ -20,18 +20,19 @@ use np_choices::{choose, is_settled};
 use np_config::Config;
 use np_event::{Entry, Event, Reply};
 use np_index::{Index, Indexed};
+use np_keeper::TreeKeeper;
 use np_look::Look;
 use np_roles::current_session;
-use np_rules::{JournalKeeper, VecKeeper};
+use np_rules::JournalKeeper;
 use np_text::{JOURNAL_ENTRIES, NoMemory, NodeId, PoolId, Role};
 use std::alloc::Global;
 use std::marker::Model;
 
-/// The machine's state with its journal. It changes by entries of the journal alone, and keeps an
-/// index beside its state, with which it answers readers.
+/// The machine's state in a coordination tree, with its journal. It changes by entries of the journal
+/// alone, and keeps an index beside its state, with which it answers readers.
 #[derive(Drop)]
 pub struct Board {
-    machine: JournalKeeper<Indexed<VecKeeper>>,
+    machine: JournalKeeper<Indexed<TreeKeeper>>,
 }
 
 impl Model for Board {
@@ -52,7 +53,7 @@ impl Board {
         }) }
     {
         config.soundness();
-        let keeper = VecKeeper::new(alloc, config)?;
+        let keeper = TreeKeeper::new(alloc, config)?;
         let indexed = Indexed::new(alloc, keeper)?;
         let machine = JournalKeeper::begin(alloc, indexed);
         Ok(Board { machine })
@@ -83,7 +84,7 @@ impl Board {
 
     /// What keeps the state beside the index. Most readers ask it, and not the machine over it: a call
     /// on that type is proved with all readers of each type that it is made of.
-    fn vectors(&self) -> &VecKeeper
+    fn tree(&self) -> &TreeKeeper
         ensures { result.now ≡ record {
           configuration = self.now.configuration;
           state = self.now.state;

@@ -10,7 +10,7 @@ use np_desk::{Alone, Turns};
 use np_event::{Done, Entry, Event, Outcome, Reply};
 use np_index::Index;
 use np_look::Look;
-use np_text::{JobId, NoMemory, NodeId, PoolId, RequesterId, Role, SessionId};
+use np_text::{JobId, LabelId, NoMemory, NodeId, PoolId, RequesterId, Role, SessionId};
 use std::alloc::{AllocGlobal, Global};
 use std::process::Abort;
 use std::test::Fail;
@@ -88,12 +88,24 @@ fn has_unfinished(board: &Board, first: Option<JobId>, second: Option<JobId>) ->
     index.unfinished(requester, 0) == first && index.unfinished(requester, 1) == second
 }
 
+// Both indexes have the same of the one pool and the one label.
+fn have_equal_groups(one: &Index, other: &Index) -> bool {
+    let pool = PoolId(0);
+    let label = LabelId(0);
+    one.has_spare(pool, label) == other.has_spare(pool, label)
+        && one.free_ready(pool, label, 0) == other.free_ready(pool, label, 0)
+        && one.has_spent_min_ready(pool, label) == other.has_spent_min_ready(pool, label)
+        && one.pending_request_at(pool, 0) == other.pending_request_at(pool, 0)
+        && one.declined_requests() == other.declined_requests()
+        && one.unheld_node_at(pool, 0) == other.unheld_node_at(pool, 0)
+}
+
 // The lists of the board's index are those of a new one.
 fn is_rebuilt(alloc: Global, board: &Board) -> Result<bool, NoMemory> {
     board.soundness();
     let made = Index::rebuild(alloc, board)?;
     let kept = board.index();
-    if made.ranks() != kept.ranks() {
+    if !have_equal_groups(&made, kept) {
         return Ok(false);
     }
     for number in 0..16 {

@@ -13,6 +13,7 @@
 #![tactic(auto)]
 
 mod crew;
+mod crossing;
 mod round;
 mod rounds;
 

@@ -12,6 +12,7 @@ ghost use Rattle.np_rounds.specs.Backs.{AreBack, TookBack};
 ghost use Rattle.np_rounds.specs.Played.{with_end};
 
 use crate::crew::{Crew, CrewEnd, play};
+use crate::crossing::board_crosses;
 use np_board::Board;
 use np_cloud::{Driver, Gate};
 use np_desk::{Desk, Pass};
@@ -67,6 +68,7 @@ fn play_all<R: Threads + Wait + Sync, D: Driver + Send + Drop, G: Gate + Sync>(
     requires own { All (λ crew. IsOf crew.pass desk.now) crews.items }
     ensures { IfOk result (λ v. Pairwise (Plays D.facts D.plan desk.now) crews.items v.items) }
 {
+    board_crosses();
     let ends = thread::map_vec(
         rt,
         crews,

@@ -1,4 +1,4 @@
-//! What can be read of the board: what its index has, and else what the vectors report.
+//! What can be read of the board: what its index has, and else what the tree has.
 
 ghost use Rattle.std.specs.Prelude.{length};
 
@@ -21,7 +21,7 @@ impl Look for Board {
     ghost recorded = { λ b. length b.journal };
 
     fn config(&self) -> &Config {
-        self.vectors().config()
+        self.tree().config()
     }
 
     fn entries(&self) -> u32 {
@@ -29,67 +29,67 @@ impl Look for Board {
     }
 
     fn tick(&self) -> u32 {
-        self.vectors().tick()
+        self.tree().tick()
     }
 
     fn session(&self, session: SessionId) -> Option<SessionFacts> {
-        self.vectors().session(session)
+        self.tree().session(session)
     }
 
     fn sessions(&self) -> u32 {
-        self.vectors().sessions()
+        self.tree().sessions()
     }
 
     fn registration(&self, pool: PoolId) -> Option<SessionId> {
-        self.vectors().registration(pool)
+        self.tree().registration(pool)
     }
 
     fn registrations(&self) -> u32 {
-        self.vectors().registrations()
+        self.tree().registrations()
     }
 
     fn registration_at(&self, at: u32) -> Option<Registration> {
-        self.vectors().registration_at(at)
+        self.tree().registration_at(at)
     }
 
     fn requests(&self) -> u32 {
-        self.vectors().requests()
+        self.tree().requests()
     }
 
     fn request_at(&self, at: u32) -> Option<RequestId> {
-        self.vectors().request_at(at)
+        self.tree().request_at(at)
     }
 
     fn request_view(&self, at: u32) -> Option<RequestView> {
-        self.vectors().request_view(at)
+        self.tree().request_view(at)
     }
 
     fn request(&self, request: RequestId) -> Option<RequestRecord> {
-        self.vectors().request(request)
+        self.tree().request(request)
     }
 
     fn nodes(&self) -> u32 {
-        self.vectors().nodes()
+        self.tree().nodes()
     }
 
     fn node_at(&self, at: u32) -> Option<NodeId> {
-        self.vectors().node_at(at)
+        self.tree().node_at(at)
     }
 
     fn node_view(&self, at: u32) -> Option<NodeView> {
-        self.vectors().node_view(at)
+        self.tree().node_view(at)
     }
 
     fn node(&self, node: NodeId) -> Option<NodeRecord> {
-        self.vectors().node(node)
+        self.tree().node(node)
     }
 
     fn request_queue(&self, request: RequestId, at: u32) -> Option<SessionId> {
-        self.vectors().request_queue(request, at)
+        self.tree().request_queue(request, at)
     }
 
     fn node_queue(&self, node: NodeId, at: u32) -> Option<SessionId> {
-        self.vectors().node_queue(node, at)
+        self.tree().node_queue(node, at)
     }
 
     fn queued_requests(&self, session: SessionId) -> u32 {
@@ -108,108 +108,132 @@ impl Look for Board {
         self.index().nodes_of(session).get(at as usize).copied()
     }
 
+    fn pending_requests(&self, pool: PoolId) -> u32 {
+        self.machine.pending_requests(pool)
+    }
+
+    fn pending_request_at(&self, pool: PoolId, at: u32) -> Option<RequestId> {
+        self.index().pending_request_at(pool, at)
+    }
+
+    fn declined_requests(&self) -> u32 {
+        self.machine.declined_requests()
+    }
+
+    fn declined_request_at(&self, at: u32) -> Option<RequestId> {
+        self.index().declined_request_at(at)
+    }
+
+    fn unheld_nodes(&self, pool: PoolId) -> u32 {
+        self.machine.unheld_nodes(pool)
+    }
+
+    fn unheld_node_at(&self, pool: PoolId, at: u32) -> Option<NodeId> {
+        self.index().unheld_node_at(pool, at)
+    }
+
     fn handles(&self, semaphore: SemId) -> u32 {
-        self.vectors().handles(semaphore)
+        self.tree().handles(semaphore)
     }
 
     fn handle_at(&self, semaphore: SemId, at: u32) -> Option<JobId> {
-        self.vectors().handle_at(semaphore, at)
+        self.tree().handle_at(semaphore, at)
     }
 
     fn has_handle(&self, semaphore: SemId, job: JobId) -> bool {
-        self.vectors().has_handle(semaphore, job)
+        self.tree().has_handle(semaphore, job)
     }
 
     fn jobs(&self) -> u32 {
-        self.vectors().jobs()
+        self.tree().jobs()
     }
 
     fn job(&self, job: JobId) -> Option<JobRecord> {
-        self.vectors().job(job)
+        self.tree().job(job)
     }
 
     fn role(&self, role: Role) -> Option<RoleRecord> {
-        self.vectors().role(role)
+        self.tree().role(role)
     }
 
     fn swept(&self, node: NodeId, server: u64) -> bool {
-        self.vectors().swept(node, server)
+        self.tree().swept(node, server)
     }
 
     fn next_request(&self) -> u32 {
-        self.vectors().next_request()
+        self.tree().next_request()
     }
 
     fn next_node(&self) -> u32 {
-        self.vectors().next_node()
+        self.tree().next_node()
     }
 
     fn asked(&self, request: RequestId) -> Option<Asked> {
-        self.vectors().asked(request)
+        self.tree().asked(request)
     }
 
     fn is_declined(&self, request: RequestId, pool: PoolId) -> bool {
-        self.vectors().is_declined(request, pool)
+        self.tree().is_declined(request, pool)
     }
 
     fn undeclined(&self, request: RequestId) -> u32 {
-        self.vectors().undeclined(request)
+        self.tree().undeclined(request)
     }
 
     fn is_last_pool(&self, request: RequestId, pool: PoolId) -> bool {
-        self.vectors().is_last_pool(request, pool)
+        self.tree().is_last_pool(request, pool)
     }
 
     fn request_holder(&self, request: RequestId) -> Option<SessionId> {
-        self.vectors().request_holder(request)
+        self.tree().request_holder(request)
     }
 
     fn node_holder(&self, node: NodeId) -> Option<SessionId> {
-        self.vectors().node_holder(node)
+        self.tree().node_holder(node)
     }
 
     fn ahead_at_node(&self, session: SessionId, node: NodeId) -> u32 {
-        self.vectors().ahead_at_node(session, node)
+        self.tree().ahead_at_node(session, node)
     }
 
     fn waits_at_node(&self, session: SessionId, node: NodeId) -> bool {
-        self.vectors().waits_at_node(session, node)
+        self.tree().waits_at_node(session, node)
     }
 
     fn blocking(&self, pool: PoolId, asked: &Asked) -> Option<TenantId> {
-        self.vectors().blocking(pool, asked)
+        self.index().blocking(self.tree(), pool, asked)
     }
 
     fn first_of(&self, pool: PoolId) -> Option<RequestId> {
-        self.machine.keeper().first_of(pool)
+        self.index().first_of(self.tree(), pool)
     }
 
     fn used_by(&self, tenant: TenantId) -> Amount {
-        self.vectors().used_by(tenant)
+        self.index().used_by(self.tree(), tenant)
     }
 
     fn has_spent_min_ready(&self, pool: PoolId, label: LabelId) -> bool {
-        self.vectors().has_spent_min_ready(pool, label)
+        self.index().has_spent_min_ready(pool, label)
     }
 
     fn ready_count(&self, label: LabelId) -> u32 {
-        self.vectors().ready_count(label)
+        self.index().ready_count(self.tree(), label)
     }
 
     fn used(&self, pool: PoolId) -> Amount {
-        self.vectors().used(pool)
+        self.index().used(self.tree(), pool)
     }
 
     fn has_spare(&self, pool: PoolId, label: LabelId) -> bool {
-        self.vectors().has_spare(pool, label)
+        self.index().has_spare(pool, label)
     }
 
     fn free_ready(&self, pool: PoolId, label: LabelId, at: u32) -> Option<NodeId> {
-        self.vectors().free_ready(pool, label, at)
+        self.index().free_ready(pool, label, at)
     }
 
     fn is_paused(&self, pool: PoolId) -> bool {
-        self.vectors().is_paused(pool)
+        self.index().is_paused(self.tree(), pool)
     }
 
     fn unfinished(&self, requester: RequesterId, at: u32) -> Option<JobId> {
@@ -221,6 +245,6 @@ impl Look for Board {
     }
 
     fn has_live_session(&self, requester: RequesterId) -> bool {
-        self.vectors().has_live_session(requester)
+        self.tree().has_live_session(requester)
     }
 }
