@@ -30,7 +30,7 @@ pub fn judge_node(tree: &Tree, config: &Config, event: Event) -> Reply
 }
 
 /// Decides an accepted event of nodes, and makes its changes: one call of the tree, in which
-/// fewer than 16,777,214 changes were made before. It errs if and only if memory runs out, and then
+/// fewer than 16,777,214 changes were made before. An error says that memory ran out, and then
 /// the state stays. The cost is that of the decision (`judge_node`), and of the changes.
 pub fn enact_node(
     alloc: Global,

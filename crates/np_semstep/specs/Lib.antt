@@ -1,1 +1,2 @@
 pub mod Semaphores
+pub mod Groups

@@ -16,7 +16,7 @@ use np_tree::Tree;
 use std::alloc::Global;
 
 /// Decides an accepted event, and makes its changes: one call of the tree, in which fewer than
-/// 16,777,214 changes were made before. It errs if and only if memory runs out, and then the state
+/// 16,777,214 changes were made before. An error says that memory ran out, and then the state
 /// stays. The cost is that of the decision (`judge`), and of np_keeper's `enact`.
 pub fn enact(alloc: Global, tree: &mut Tree, config: &Config, event: Event) -> Result<(), NoMemory>
     requires held { IsHeld config.now tree.old }
