@@ -3,7 +3,7 @@
 //! A row is found by binary search. A change of a row costs that search; inserting or removing a row
 //! also moves the rows behind it.
 
-ghost use Rattle.std.specs.Prelude.{◌≡◌, ◌<◌, ◌≤◌, ◌^◌, [], Bool, true, false, length, Ok, OnOk, OnErr, IfSome, option_copied, find, map};
+ghost use Rattle.std.specs.Prelude.{◌≡◌, ◌<◌, ◌≤◌, [], Bool, true, false, length, Ok, OnOk, OnErr, IfSome, option_copied, find, map};
 ghost use Rattle.std.specs.List.{list_any};
 ghost use Rattle.std.specs.List.Sorted.{IsPartitionPoint};
 ghost use Rattle.np_lists.specs.Change.{change_first, remove_first, insert_before};
@@ -137,13 +137,6 @@ impl<O: Order> KeyTable<O> {
         ensures { result ≡ length self.now }
     {
         self.rows.len()
-    }
-
-    /// There are fewer than 2^64 rows.
-    pub fn is_countable(&self)
-        ensures { length self.now < 2 ^ 64 }
-    {
-        let _count = self.rows.len();
     }
 
     fn place(&self, key: O::Key) -> Option<usize>
