@@ -25,7 +25,7 @@ use Rattle.np_machine.specs.Tables.{role_of, session_of, change_session, node_in
 use Rattle.np_machine.specs.Tests.{launcher}
 use Rattle.np_machine.specs.Session.{muted, ended}
 use Rattle.np_machine.specs.Node.{judge_start}
-use Rattle.np_machine.specs.Laws.{same_role}
+use Rattle.np_machine.specs.Laws.{same_role, speaks_for}
 use Rattle.np_machine.specs.Step.{judge, next}
 use Rattle.np_machine.specs.History.{state_after, after}
 use Rattle.np_changes.specs.Changes.{grown, sessions_changed}
@@ -38,7 +38,7 @@ use Rattle.np_changes.proofs.PlanLaws.{plan-next}
 use Rattle.np_changes.proofs.Tested.{ok-is, on-given, on-found, on-need}
 use Rattle.np_safe.proofs.Ids.{same_pool, row-of}
 use Rattle.np_safe.proofs.Sessions.{facts_in, facts-grown}
-use Rattle.np_useful.specs.Sessions.{speaks_for, is_current}
+use Rattle.np_useful.specs.Sessions.{is_current}
 use Rattle.np_useful.specs.Launcher.{is_by_registrant}
 use Rattle.np_useful.specs.Useful.{IsUseful}
 use Rattle.np_driven.proofs.NodeRecords.{state_after-append}

@@ -1,8 +1,9 @@
 -- words of the laws over every state
-use Rattle.std.specs.Prelude.{ℕ, ◌≤◌, Bool, true, false, ◌==◌, Option, length}
+use Rattle.std.specs.Prelude.{ℕ, ◌≤◌, Bool, true, false, ◌==◌, ◌&&◌, not, Option, length}
 use Rattle.std.specs.Option.{option_map}
 use Rattle.np_text.specs.declared.id.Role.{Role}
 use Rattle.np_text.specs.declared.id.Role.TheVariants.{Launcher, Janitor, Requester, Reaper}
+use Rattle.np_machine.specs.declared.state.SessionFacts.{SessionFacts}
 use Rattle.np_machine.specs.Tables.{role_in}
 use Rattle.np_machine.specs.State.{State}
 
@@ -22,3 +23,7 @@ same_role (Janitor p) (Janitor q) = p.0 == q.0
 same_role (Requester p) (Requester q) = p.0 == q.0
 same_role Reaper Reaper = true
 same_role _ _ = false
+
+-- a live session of the role that is not mute
+abbrev pub speaks_for : Role → SessionFacts → Bool
+speaks_for role facts = same_role facts.role role && facts.live && not facts.mute

@@ -8,16 +8,11 @@ use Rattle.np_site.specs.Configuration.{Configuration}
 use Rattle.np_site.specs.declared.row.Fault.{Fault}
 use Rattle.np_site.specs.declared.row.FaultKind.{FaultKind}
 use Rattle.np_site.specs.declared.row.FaultKind.TheVariants as kind
-use Rattle.np_machine.specs.declared.state.SessionFacts.{SessionFacts}
 use Rattle.np_machine.specs.Tables.{session_of, role_in}
-use Rattle.np_machine.specs.Laws.{acts_of, same_role}
+use Rattle.np_machine.specs.Laws.{acts_of, same_role, speaks_for}
 use Rattle.np_machine.specs.State.{State}
 
 -- ## sessions
-
--- a live session of the role that is not mute (own)
-abbrev pub speaks_for : Role → SessionFacts → Bool
-speaks_for role facts = same_role facts.role role && facts.live && not facts.mute
 
 -- the role's current session: it speaks for the role, and no session that began later does (own)
 abbrev pub is_current : Role → SessionId → State → Bool

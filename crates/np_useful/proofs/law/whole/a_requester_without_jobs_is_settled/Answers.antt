@@ -14,7 +14,8 @@ use Rattle.np_machine.specs.Tables.{session_of}
 use Rattle.np_machine.specs.Step.{judge}
 use Rattle.np_machine.specs.State.{State}
 use Rattle.np_machine.specs.History.{after}
-use Rattle.np_useful.specs.Sessions.{speaks_for, is_struck_by, is_expire, may_open}
+use Rattle.np_machine.specs.Laws.{speaks_for}
+use Rattle.np_useful.specs.Sessions.{is_struck_by, is_expire, may_open}
 use Rattle.np_useful.specs.Reaper.{reaper_row, is_mute}
 use Rattle.np_useful.specs.Useful.{IsUseful}
 use Rattle.np_useful.specs.Settled.{takes_part}
