@@ -1,11 +1,12 @@
--- the orders of keys: nodes and jobs by number, requests by priority and then sequence, swept pairs by
--- node and then server
+-- the orders of keys: nodes, jobs and sessions by number, requests by priority and then sequence, swept
+-- pairs by node and then server
 use Rattle.std.proofs.Common.{◌≡◌, arith, true, false, ap, refl}
 use Rattle.std.specs.Prelude.{ℕ, Bool, nat_lt, ◌==◌}
 use Rattle.std.proofs.lemmas.Bool.Decides.{nat_tests}
 use Rattle.np_text.specs.declared.id.NodeId.{NodeId}
 use Rattle.np_text.specs.declared.id.RequestId.{RequestId}
 use Rattle.np_text.specs.declared.id.JobId.{JobId}
+use Rattle.np_text.specs.declared.id.SessionId.{SessionId}
 use Rattle.np_machine.specs.declared.state.Swept.{Swept}
 use Rattle.np_machine.specs.Tables.{same_request}
 use Rattle.np_machine.specs.Order.{is_id_before}
@@ -94,5 +95,27 @@ job_some_way a b past other = grind (arith, nat_tests)
 
 pub job_equal : (a b : JobId) → same_job a b ≡ true → a ≡ b
 job_equal a b same =
+    let number : a.0 ≡ b.0 = grind (arith, nat_tests) in
+    ap (λ (n : ℕ). record { 0 = n }) number
+
+-- ## sessions
+
+abbrev pub is_session_before : SessionId → SessionId → Bool
+is_session_before a b = nat_lt a.0 b.0
+
+abbrev pub same_session : SessionId → SessionId → Bool
+same_session a b = a.0 == b.0
+
+pub session_transitive : (a b k : SessionId) → is_session_before a b ≡ true → is_session_before b k ≡ true → is_session_before a k ≡ true
+session_transitive a b k first second = grind (arith, nat_tests)
+
+pub session_one_way : (a b : SessionId) → is_session_before a b ≡ true → is_session_before b a ≡ false
+session_one_way a b first = grind (arith, nat_tests)
+
+pub session_some_way : (a b : SessionId) → is_session_before a b ≡ false → same_session a b ≡ false → is_session_before b a ≡ true
+session_some_way a b past other = grind (arith, nat_tests)
+
+pub session_equal : (a b : SessionId) → same_session a b ≡ true → a ≡ b
+session_equal a b same =
     let number : a.0 ≡ b.0 = grind (arith, nat_tests) in
     ap (λ (n : ℕ). record { 0 = n }) number

@@ -3,11 +3,11 @@
 ghost use Rattle.np_machine.specs.declared.state.Swept.{Swept};
 ghost use Rattle.np_machine.specs.Order.{is_id_before};
 ghost use Rattle.np_machine.specs.Tables.{same_request};
-ghost use Rattle.np_keys.specs.Keys.{is_job_before, is_node_before, is_pair_before, job_equal, job_one_way, job_some_way, job_transitive, node_equal, node_one_way, node_some_way, node_transitive, pair_equal, pair_one_way, pair_some_way, pair_transitive, request_equal, request_one_way, request_some_way, request_transitive, same_job, same_node, same_pair};
+ghost use Rattle.np_keys.specs.Keys.{is_job_before, is_node_before, is_pair_before, is_session_before, job_equal, job_one_way, job_some_way, job_transitive, node_equal, node_one_way, node_some_way, node_transitive, pair_equal, pair_one_way, pair_some_way, pair_transitive, request_equal, request_one_way, request_some_way, request_transitive, same_job, same_node, same_pair, same_session, session_equal, session_one_way, session_some_way, session_transitive};
 
 use np_machine::Swept;
 use np_table::{KeyTable, Order};
-use np_text::{JobId, NodeId, RequestId};
+use np_text::{JobId, NodeId, RequestId, SessionId};
 
 /// Nodes, by number.
 pub struct ByNode;
@@ -17,6 +17,9 @@ pub struct ByRequest;
 
 /// Jobs, by number.
 pub struct ByJob;
+
+/// Sessions, by number.
+pub struct BySession;
 
 /// Swept pairs, by node and then server.
 pub struct BySwept;
@@ -125,6 +128,38 @@ impl Order for ByJob {
     ghost some_way = { job_some_way };
 
     ghost equal = { job_equal };
+}
+
+impl Order for BySession {
+    type Key = SessionId;
+
+    type Row = SessionId;
+
+    ghost key = { λ session. session };
+
+    ghost before = { is_session_before };
+
+    ghost same = { same_session };
+
+    fn key(session: &SessionId) -> SessionId {
+        *session
+    }
+
+    fn is_before(first: SessionId, second: SessionId) -> bool {
+        first.0 < second.0
+    }
+
+    fn is_same(first: SessionId, second: SessionId) -> bool {
+        first.0 == second.0
+    }
+
+    ghost transitive = { session_transitive };
+
+    ghost one_way = { session_one_way };
+
+    ghost some_way = { session_some_way };
+
+    ghost equal = { session_equal };
 }
 
 impl Order for BySwept {

@@ -1,5 +1,5 @@
-//! Tables of ids: nodes and jobs by number, requests by priority and then sequence, swept pairs by node
-//! and then server.
+//! Tables of ids: nodes, jobs and sessions by number, requests by priority and then sequence, swept
+//! pairs by node and then server.
 //!
 //! Tables of rows with such ids are sorted in the same orders (np_rules); `specs/Keys` has the facts
 //! about them.
@@ -7,4 +7,4 @@
 
 mod keys;
 
-pub use keys::{ByJob, ByNode, ByRequest, BySwept, JobTable, SweptTable};
+pub use keys::{ByJob, ByNode, ByRequest, BySession, BySwept, JobTable, SweptTable};
