@@ -1,10 +1,9 @@
 -- what is read of each member of a group, by its id
-use Rattle.std.proofs.Common.{◌≡◌, ◌∙◌, Bool, true, false, cond, List, [], ◌∷◌, map, Option, Some, refl, ap}
-use Rattle.std.specs.Prelude.{◌||◌, ◌&&◌, filter}
+use Rattle.std.proofs.Common.{◌≡◌, ◌∙◌, List, [], ◌∷◌, map, Option, Some, refl, ap}
+use Rattle.std.specs.Prelude.{filter}
 use Rattle.std.specs.Option.{option_map, option_map_or}
-use Rattle.std.specs.List.{AllByRecursion, list_any}
+use Rattle.std.specs.List.{AllByRecursion}
 use Rattle.np_amount.specs.Amounts.{nothing, total}
-use Rattle.np_text.specs.declared.id.PoolId.{PoolId}
 use Rattle.np_text.specs.declared.id.NodeId.{NodeId}
 use Rattle.np_text.specs.declared.id.RequestId.{RequestId}
 use Rattle.np_text.specs.declared.id.TenantId.{TenantId}
@@ -14,17 +13,16 @@ use Rattle.np_groups.specs.Groups.{ids_in}
 use Rattle.np_keys.specs.Keys.{same_node, is_node_before, node_equal, request_equal}
 use Rattle.np_machine.specs.Entries.{RequestEntry, NodeEntry}
 use Rattle.np_machine.specs.Count.{amount_of}
-use Rattle.np_machine.specs.Order.{is_id_before, is_pending_by}
-use Rattle.np_machine.specs.Reasons.{is_stuck}
+use Rattle.np_machine.specs.Order.{is_id_before}
 use Rattle.np_machine.specs.State.{State}
 use Rattle.np_machine.specs.Tables.{node_entry, request_entry, same_request}
 use Rattle.np_machine.specs.Tenants.{is_tenant, is_pending_of, amount_of_node, rest_of_request}
 use Rattle.np_safe.proofs.Lookups.{same_request-self}
-use Rattle.np_classes.specs.Classes.{tenant_group, waiting_group, pending_group, ClassesOf, AreClasses}
-use Rattle.np_counts.specs.Taken.{taken_by, rest_of, awaited_by, request_with, is_stuck_in}
+use Rattle.np_classes.specs.Classes.{tenant_group, waiting_group, ClassesOf, AreClasses}
+use Rattle.np_counts.specs.Taken.{taken_by, rest_of, awaited_by}
 use Rattle.np_counts.proofs.Rows.{rows-found}
 use Rattle.np_counts.proofs.Grouped.{nodes-by, requests-by, same_node-self, node-apart, request-apart}
-use Rattle.np_counts.proofs.Tests.{tenant-test, waiting-test, pending-test}
+use Rattle.np_counts.proofs.Tests.{tenant-test, waiting-test}
 
 -- ## of any rows
 
@@ -33,28 +31,6 @@ module _ {X K V : Type 0} (id : X → K) (read : K → V) (seen : X → V) where
   read-each : (xs : List X) → AllByRecursion (λ x. read (id x) ≡ seen x) xs → map read (map id xs) ≡ map seen xs
   read-each [] all = refl
   read-each (x ∷ xs) all = rw (all.0, read-each xs all.1) refl
-
-module _ {X K : Type 0} (id : X → K) (read : K → Bool) (seen : X → Bool) where
-  -- a test by the ids is a test of the rows
-  read-any : (xs : List X) → AllByRecursion (λ x. read (id x) ≡ seen x) xs → list_any read (map id xs) ≡ list_any seen xs
-  read-any [] all = refl
-  read-any (x ∷ xs) all = rw (all.0, read-any xs all.1) refl
-
--- only rows that pass the first test pass the second: one row more
-any-by : {X : Type 0} (p q : X → Bool) (x : X) (xs : List X) (b : Bool) → p x ≡ b → (q x ≡ (p x && q x)) → list_any q (filter p xs) ≡ list_any q xs → list_any q (cond b (x ∷ filter p xs) (filter p xs)) ≡ (q x || list_any q xs)
-any-by p q x xs true is only later = ap (λ (b : Bool). q x || b) later
-any-by p q x xs false is only later =
-    let fails : q x ≡ false = only ∙ rw is refl in
-    rw fails later
-
--- so among all rows one passes if one does among those that pass the first
-any-filtered : {X : Type 0} (p q : X → Bool) → ((x : X) → q x ≡ (p x && q x)) → (xs : List X) → list_any q (filter p xs) ≡ list_any q xs
-any-filtered p q only [] = refl
-any-filtered p q only (x ∷ xs) = any-by p q x xs (p x) refl (only x) (any-filtered p q only xs)
-
-and_twice : (a b : Bool) → (a && b) ≡ (a && (a && b))
-and_twice true b = refl
-and_twice false b = refl
 
 -- ## of a state's rows
 
@@ -71,7 +47,7 @@ module _ (c : Configuration) (s : State) (classes : ClassesOf) (are : AreClasses
       ∙ ap total (read-each id (taken_by c s) (amount_of_node c) (filter test s.nodes) (all-filter (λ (e : NodeEntry). taken_by c s e.id ≡ amount_of_node c e) test s.nodes all))
 
   -- each request is found by its id
-  requests-found : AllByRecursion (λ (e : RequestEntry). request_entry e.id s.requests ≡ Some e) s.requests
+  pub requests-found : AllByRecursion (λ (e : RequestEntry). request_entry e.id s.requests ≡ Some e) s.requests
   requests-found = rows-found is_id_before same_request (λ (e : RequestEntry). e.id) request_equal request-apart same_request-self s.requests are.requests.once
 
   -- what the tenant's pending requests wait for, read one by one
@@ -81,13 +57,3 @@ module _ (c : Configuration) (s : State) (classes : ClassesOf) (are : AreClasses
       (λ e is. ap (λ (o : Option RequestEntry). option_map_or (rest_of c) (option_map (λ (x : RequestEntry). x.kept) o) nothing) is) s.requests requests-found in
       ap (λ (ids : List RequestId). total (map (awaited_by c s) ids)) (requests-by c s classes.requests are.requests (waiting_group t) (is_pending_of c t) (waiting-test c t))
       ∙ ap total (read-each (λ (e : RequestEntry). e.id) (awaited_by c s) (rest_of_request c) (filter (is_pending_of c t) s.requests) (all-filter (λ (e : RequestEntry). awaited_by c s e.id ≡ rest_of_request c e) (is_pending_of c t) s.requests all))
-
-  -- a request that is pending by the pool is stuck, read one by one
-  pub some-stuck : (p : PoolId) → list_any (is_stuck_in c s p) (ids_in (pending_group p) classes.requests) ≡ list_any (is_stuck c s p) s.requests
-  some-stuck p =
-      let test = λ (e : RequestEntry). is_pending_by p e.kept in
-      let all = all-weaker (λ (e : RequestEntry). request_entry e.id s.requests ≡ Some e) (λ (e : RequestEntry). is_stuck_in c s p e.id ≡ is_stuck c s p e)
-      (λ e is. ap (λ (o : Option RequestEntry). option_map_or (λ k. is_stuck c s p (request_with e.id k)) (option_map (λ (x : RequestEntry). x.kept) o) false) is) s.requests requests-found in
-      ap (λ (ids : List RequestId). list_any (is_stuck_in c s p) ids) (requests-by c s classes.requests are.requests (pending_group p) test (pending-test c p))
-      ∙ read-any (λ (e : RequestEntry). e.id) (is_stuck_in c s p) (is_stuck c s p) (filter test s.requests) (all-filter (λ (e : RequestEntry). is_stuck_in c s p e.id ≡ is_stuck c s p e) test s.requests all)
-      ∙ any-filtered test (is_stuck c s p) (λ e. and_twice (is_pending_by p e.kept) _) s.requests

@@ -4,3 +4,6 @@ pub mod Grouped
 pub mod Numbers
 pub mod ByIds
 pub mod Sums
+pub mod Any
+pub mod Labels
+pub mod Waiting

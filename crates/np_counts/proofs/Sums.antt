@@ -1,33 +1,22 @@
 -- what the walks over offers and members add up
-use Rattle.std.proofs.Common.{◌≡◌, drop, suc, ◌∙◌, ◌<◌, ◌≤◌, ◌+◌, ℕ, Bool, true, false, not, List, length, map, take, get_or, Option, Some, None, refl, sym, ap, arith}
-use Rattle.std.specs.Prelude.{slice_get, is_some}
-use Rattle.std.specs.Option.{option_map_or}
-use Rattle.std.specs.List.{list_any}
+use Rattle.std.proofs.Common.{◌≡◌, ◌∙◌, ◌<◌, ◌≤◌, ◌+◌, ℕ, List, length, map, take, get_or, Some, sym, ap, arith}
+use Rattle.std.specs.Prelude.{slice_get}
 use Rattle.std.proofs.lemmas.List.{take_all}
-use Rattle.std.proofs.lemmas.Option.{slice_get_within, get_or_from_slice_get, slice_get_past}
+use Rattle.std.proofs.lemmas.Option.{slice_get_within, get_or_from_slice_get}
 use Rattle.np_amount.specs.declared.amount.Amount.{Amount}
 use Rattle.np_amount.specs.Amounts.{plus, times, total}
 use Rattle.np_text.specs.declared.id.PoolId.{PoolId}
-use Rattle.np_text.specs.declared.id.LabelId.{LabelId}
-use Rattle.np_text.specs.declared.id.RequestId.{RequestId}
 use Rattle.np_site.specs.Configuration.{Configuration}
 use Rattle.np_site.specs.declared.row.Offer.{Offer}
-use Rattle.np_record.specs.declared.record.RequestRecord.{RequestRecord}
 use Rattle.np_groups.specs.declared.groups.Group.{Group}
 use Rattle.np_groups.specs.declared.groups.Member.{Member}
 use Rattle.np_groups.specs.Groups.{ids_in}
 use Rattle.np_machine.specs.Count.{offers_of, count_of, number_of}
-use Rattle.np_machine.specs.Reasons.{is_spare, is_stuck}
 use Rattle.np_machine.specs.State.{State}
-use Rattle.np_machine.specs.Tables.{request_in}
 use Rattle.np_fits.specs.Fits.{Fits, IsFew}
 use Rattle.np_fits.proofs.Offered.{IsPart, part_bound, passed_total}
-use Rattle.np_look.specs.Readers.{short_label}
 use Rattle.np_look.proofs.CountLemmas.{total_more}
-use Rattle.np_look.proofs.Walks.{any_found, any_later, any_past, as_it_is}
-use Rattle.np_look.proofs.Seen.{stuck-bare, stuck-spared}
 use Rattle.np_classes.specs.Classes.{kind_group, ClassesOf, AreClasses}
-use Rattle.np_counts.specs.Taken.{request_with, is_stuck_in}
 use Rattle.np_counts.proofs.Numbers.{kind-number}
 
 -- ## one member more
@@ -58,25 +47,6 @@ module _ {K : Type 0} (group wanted : Group) (is : group ≡ wanted) (ms : List 
         so_far ∙ ap (λ (ks : List K). total (map read ks)) (take_all at (ids_in group ms) past)
         ∙ ap (λ (g : Group). total (map read (ids_in g ms))) is ∙ same
 
-  module _ (test : K → Bool) (so_far : list_any test (drop at (ids_in group ms)) ≡ list_any test (ids_in group ms)) where
-    -- from what is left to the whole group
-    answered : (b answer : Bool) → list_any test (drop at (ids_in group ms)) ≡ b → list_any test (ids_in wanted ms) ≡ answer → b ≡ answer
-    answered b answer here same = sym here ∙ so_far ∙ ap (λ (g : Group). list_any test (ids_in g ms)) is ∙ same
-
-    -- a member passes
-    pub any-now : (k : K) → Some k ≡ slice_get (ids_in group ms) at → true ≡ test k → (answer : Bool) → list_any test (ids_in wanted ms) ≡ answer → true ≡ answer
-    any-now k there passes answer same =
-        answered true answer (any_found test (λ (x : K). x) test (λ x. refl) (ids_in group ms) at k (as_it_is (slice_get (ids_in group ms) at) k (sym there)) (sym passes)) same
-
-    -- it does not
-    pub any-next : (k : K) → Some k ≡ slice_get (ids_in group ms) at → false ≡ test k → list_any test (drop (suc at) (ids_in group ms)) ≡ list_any test (ids_in group ms)
-    any-next k there fails =
-        sym (any_later test (λ (x : K). x) test (λ x. refl) (ids_in group ms) at k (as_it_is (slice_get (ids_in group ms) at) k (sym there)) (sym fails)) ∙ so_far
-
-    -- past all members
-    pub any-none : length (ids_in group ms) ≤ at → (answer : Bool) → list_any test (ids_in wanted ms) ≡ answer → false ≡ answer
-    any-none past answer same = answered false answer (any_past test (ids_in group ms) at (slice_get_past (ids_in group ms) at past)) same
-
 module _ (c : Configuration) (s : State) (classes : ClassesOf) (are : AreClasses c s classes) (fits : Fits c s) (p : PoolId) where
   -- ## the part of an offer
 
@@ -103,20 +73,3 @@ module _ (c : Configuration) (s : State) (classes : ClassesOf) (are : AreClasses
     offers-all i sum so_far past =
         let none : length (offers_of c p) ≤ i = rw site-offers at past in
         so_far ∙ passed_total c p (fits.offers p) s.nodes i none
-
-  -- ## a request that waits for room
-
-  module _ (used : Amount) (all : used ≡ count_of c s p) (r : RequestId) (k : RequestRecord) (there : Some k ≡ request_in r s.requests)
-      (config : Configuration) (site : config ≡ c) (l : LabelId) (found : Some l ≡ short_label config p used k) (free : is_some k.pinned ≡ false) where
-    -- the label that lacks room, by the state's configuration
-    short : Some l ≡ short_label c p used k
-    short = found ∙ ap (λ (x : Configuration). short_label x p used k) site
-
-    -- by whether there is a spare node
-    bare-by : (b : Bool) → list_any (is_spare p l) s.nodes ≡ b → not b ≡ is_stuck c s p (request_with r k)
-    bare-by true spare = sym (stuck-spared c s p (record { id = r; kept = k; holder = None }) used all l short free spare)
-    bare-by false bare = sym (stuck-bare c s p (record { id = r; kept = k; holder = None }) used all l short free bare)
-
-    -- the request is stuck unless there is a spare node
-    pub stuck-there : (spare : Bool) → spare ≡ list_any (is_spare p l) s.nodes → not spare ≡ is_stuck_in c s p r
-    stuck-there spare is = bare-by spare (sym is) ∙ ap (λ (o : Option RequestRecord). option_map_or (λ x. is_stuck c s p (request_with r x)) o false) there

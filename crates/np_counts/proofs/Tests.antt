@@ -1,5 +1,5 @@
 -- what it says of a node or a request that it is in a group
-use Rattle.std.proofs.Common.{◌≡◌, ◌∙◌, Bool, true, false, List, Option, Some, None, refl, sym, ap}
+use Rattle.std.proofs.Common.{◌≡◌, ◌∙◌, Bool, true, false, [], ◌∷◌, Option, Some, None, refl, sym, ap}
 use Rattle.std.specs.Prelude.{◌==◌, ◌&&◌, ◌||◌, if◌then◌else◌, is_none, is_some, slice_get, option_and_then}
 use Rattle.std.specs.Option.{option_map, option_map_or}
 use Rattle.np_text.specs.declared.id.PoolId.{PoolId}
@@ -15,10 +15,11 @@ use Rattle.np_machine.specs.Kinds.{is_ready, is_failed, is_requested, is_pending
 use Rattle.np_machine.specs.Tables.{holder}
 use Rattle.np_machine.specs.Count.{is_kind}
 use Rattle.np_machine.specs.Order.{is_pool, is_pending_by}
-use Rattle.np_machine.specs.Reasons.{is_spare}
+use Rattle.np_machine.specs.Reasons.{is_spare, next_label}
 use Rattle.np_machine.specs.Request.{is_min_ready_for, is_spent_min_ready, is_coming, is_free_ready}
 use Rattle.np_machine.specs.Tenants.{is_tenant, is_pending_of, tenant_of_request}
-use Rattle.np_classes.specs.Classes.{kind_group, spare_group, free_group, tenant_group, unheld_group, group_if, node_groups, pending_group, waiting_group, coming_group, spent_group, declined_group, pending_group_of, waiting_group_of, coming_group_of, spent_group_of, declined_group_of, request_groups, is_among}
+use Rattle.np_classes.specs.Classes.{kind_group, spare_group, free_group, tenant_group, unheld_group, group_if, node_groups, pending_group, waiting_group, coming_group, spent_group, declined_group, next_label_group, pinned_label_group, pending_group_of, waiting_group_of, coming_group_of, spent_group_of, declined_group_of, next_label_group_of, pinned_label_group_of, request_groups, is_among}
+use Rattle.np_counts.specs.Waiting.{label_group, is_pinned_as}
 
 -- the option holds the group
 abbrev holds : Group → Option Group → Bool
@@ -155,16 +156,27 @@ waiting-no g c k other = no-when g (is_pending k.state) (option_map waiting_grou
 coming-no : (g : Group) (k : RequestRecord) → ((l : LabelId) → same_group (coming_group l) g ≡ false) → holds g (coming_group_of k) ≡ false
 coming-no g k other = no-when g ((is_requested k.state || is_pending k.state) && is_some k.pinned) (option_map coming_group (slice_get k.labels 0)) (apart-map g coming_group (slice_get k.labels 0) other)
 
-spent-by : (g : Group) (labels : List LabelId) (o : Option PoolId) → ((p : PoolId) (l : LabelId) → same_group (spent_group p l) g ≡ false) → holds g (option_and_then (λ p. option_map (spent_group p) (slice_get labels 0)) o) ≡ false
-spent-by g labels None other = refl
-spent-by g labels (Some p) other = apart-map g (spent_group p) (slice_get labels 0) (other p)
+-- one that a pool and a label name
+apart-both : (g : Group) (f : PoolId → LabelId → Group) (l : Option LabelId) (o : Option PoolId) → ((p : PoolId) (l : LabelId) → same_group (f p l) g ≡ false) → holds g (option_and_then (λ p. option_map (f p) l) o) ≡ false
+apart-both g f l None other = refl
+apart-both g f l (Some p) other = apart-map g (f p) l (other p)
 
 spent-no : (g : Group) (k : RequestRecord) → ((p : PoolId) (l : LabelId) → same_group (spent_group p l) g ≡ false) → holds g (spent_group_of k) ≡ false
-spent-no g k other = no-when g (is_failed k.state) (option_and_then (λ p. option_map (spent_group p) (slice_get k.labels 0)) k.pinned) (spent-by g k.labels k.pinned other)
+spent-no g k other = no-when g (is_failed k.state) (option_and_then (λ p. option_map (spent_group p) (slice_get k.labels 0)) k.pinned) (apart-both g spent_group (slice_get k.labels 0) k.pinned other)
 
 -- a group of another class than the declined
 declined-no : (g : Group) (k : RequestRecord) → same_group declined_group g ≡ false → holds g (declined_group_of k) ≡ false
 declined-no g k other = apart-if g declined_group (is_still_requested k) other
+
+next-no : (g : Group) (k : RequestRecord) → ((p : PoolId) (l : LabelId) → same_group (next_label_group p l) g ≡ false) → holds g (next_label_group_of k) ≡ false
+next-no g k other = no-when g (is_pending k.state && is_none k.pinned) (option_and_then (λ p. option_map (next_label_group p) (next_label k)) k.pool) (apart-both g next_label_group (next_label k) k.pool other)
+
+pinned-no : (g : Group) (k : RequestRecord) → ((p : PoolId) (l : LabelId) → same_group (pinned_label_group p l) g ≡ false) → holds g (pinned_label_group_of k) ≡ false
+pinned-no g k other = no-when g (is_pending k.state && is_some k.pinned) (option_and_then (λ p. option_map (pinned_label_group p) (next_label k)) k.pool) (apart-both g pinned_label_group (next_label k) k.pool other)
+
+-- a group of another class than both of a next label
+labels-no : (g : Group) (k : RequestRecord) → ((p : PoolId) (l : LabelId) → same_group (next_label_group p l) g ≡ false) → ((p : PoolId) (l : LabelId) → same_group (pinned_label_group p l) g ≡ false) → is_among g (next_label_group_of k ∷ pinned_label_group_of k ∷ []) ≡ false
+labels-no g k other_next other_pinned = past (next-no g k other_next) (past (pinned-no g k other_pinned) refl)
 
 pool-by : (p : PoolId) (o : Option PoolId) → holds (pending_group p) (option_map pending_group o) ≡ is_pool p o
 pool-by p None = refl
@@ -175,7 +187,7 @@ pub pending-test : (c : Configuration) (p : PoolId) (e : RequestEntry) → is_am
 pending-test c p e =
     let g = pending_group p in
     here (holds-when g (is_pending e.kept.state) (option_map pending_group e.kept.pool) ∙ ap (λ (b : Bool). is_pending e.kept.state && b) (pool-by p e.kept.pool))
-    (past (waiting-no g c e.kept (λ t. refl)) (past (coming-no g e.kept (λ m. refl)) (past (spent-no g e.kept (λ q m. refl)) (past (declined-no g e.kept refl) refl))))
+    (past (waiting-no g c e.kept (λ t. refl)) (past (coming-no g e.kept (λ m. refl)) (past (spent-no g e.kept (λ q m. refl)) (past (declined-no g e.kept refl) (labels-no g e.kept (λ q m. refl) (λ q m. refl))))))
 
 waiter-by : (t : TenantId) (o : Option TenantId) → holds (waiting_group t) (option_map waiting_group o) ≡ is_tenant t o
 waiter-by t None = refl
@@ -187,7 +199,7 @@ waiting-test c t e =
     let g = waiting_group t in
     past (pending-no g e.kept (λ q. refl))
     (here (holds-when g (is_pending e.kept.state) (option_map waiting_group (tenant_of_request c e.kept)) ∙ ap (λ (b : Bool). is_pending e.kept.state && b) (waiter-by t (tenant_of_request c e.kept)))
-    (past (coming-no g e.kept (λ m. refl)) (past (spent-no g e.kept (λ q m. refl)) (past (declined-no g e.kept refl) refl))))
+    (past (coming-no g e.kept (λ m. refl)) (past (spent-no g e.kept (λ q m. refl)) (past (declined-no g e.kept refl) (labels-no g e.kept (λ q m. refl) (λ q m. refl))))))
 
 comer-by : (l : LabelId) (o : Option LabelId) → holds (coming_group l) (option_map coming_group o) ≡ option_map_or (λ other. other.0 == l.0) o false
 comer-by l None = refl
@@ -202,9 +214,9 @@ coming-test c l e =
     (here (holds-when g (able && is_some e.kept.pinned) (option_map coming_group (slice_get e.kept.labels 0))
     ∙ ap (λ (b : Bool). (able && is_some e.kept.pinned) && b) (comer-by l (slice_get e.kept.labels 0))
     ∙ and_assoc able (is_some e.kept.pinned) (option_map_or (λ other. other.0 == l.0) (slice_get e.kept.labels 0) false))
-    (past (spent-no g e.kept (λ q m. refl)) (past (declined-no g e.kept refl) refl))))
+    (past (spent-no g e.kept (λ q m. refl)) (past (declined-no g e.kept refl) (labels-no g e.kept (λ q m. refl) (λ q m. refl))))))
 
-and_false : (b : Bool) → (b && false) ≡ false
+pub and_false : (b : Bool) → (b && false) ≡ false
 and_false true = refl
 and_false false = refl
 
@@ -222,11 +234,51 @@ spent-test c p l e =
     (here (holds-when g (is_failed e.kept.state) (option_and_then (λ q. option_map (spent_group q) (slice_get e.kept.labels 0)) e.kept.pinned)
     ∙ ap (λ (b : Bool). is_failed e.kept.state && b) (spender-by p l e.kept.pinned (slice_get e.kept.labels 0))
     ∙ sym (and_assoc (is_failed e.kept.state) (is_pool p e.kept.pinned) (is_min_ready_for l e.kept)))
-    (past (declined-no g e.kept refl) refl))))
+    (past (declined-no g e.kept refl) (labels-no g e.kept (λ q m. refl) (λ q m. refl))))))
 
 -- the requests that are requested, and that at least one pool declined
 pub declined-test : (c : Configuration) (e : RequestEntry) → is_among declined_group (request_groups c e.kept) ≡ is_still_requested e.kept
 declined-test c e =
     let g = declined_group in
     past (pending-no g e.kept (λ q. refl)) (past (waiting-no g c e.kept (λ t. refl)) (past (coming-no g e.kept (λ m. refl)) (past (spent-no g e.kept (λ q m. refl))
-    (here (holds-if g g (is_still_requested e.kept) ∙ and_true (is_still_requested e.kept)) refl))))
+    (here (holds-if g g (is_still_requested e.kept) ∙ and_true (is_still_requested e.kept)) (labels-no g e.kept (λ q m. refl) (λ q m. refl))))))
+
+-- ## requests by their next label
+
+-- pinned or not, pending by the pool, and its next label is this one
+abbrev pub waits_for : Bool → PoolId → LabelId → RequestRecord → Bool
+waits_for pinned p l k = is_pinned_as pinned k && (is_pending_by p k && option_map_or (λ other. other.0 == l.0) (next_label k) false)
+
+waiting-by : (a b c d : Bool) → ((a && b) && (c && d)) ≡ (b && ((a && c) && d))
+waiting-by true true c d = refl
+waiting-by true false c d = refl
+waiting-by false true c d = refl
+waiting-by false false c d = refl
+
+next-by : (p : PoolId) (l : LabelId) (o : Option PoolId) (next : Option LabelId) → holds (next_label_group p l) (option_and_then (λ q. option_map (next_label_group q) next) o) ≡ (is_pool p o && option_map_or (λ other. other.0 == l.0) next false)
+next-by p l None next = refl
+next-by p l (Some q) None = sym (and_false (q.0 == p.0))
+next-by p l (Some q) (Some m) = refl
+
+pinned-by : (p : PoolId) (l : LabelId) (o : Option PoolId) (next : Option LabelId) → holds (pinned_label_group p l) (option_and_then (λ q. option_map (pinned_label_group q) next) o) ≡ (is_pool p o && option_map_or (λ other. other.0 == l.0) next false)
+pinned-by p l None next = refl
+pinned-by p l (Some q) None = sym (and_false (q.0 == p.0))
+pinned-by p l (Some q) (Some m) = refl
+
+-- the requests of a pool that wait for a label
+pub label-test : (c : Configuration) (pinned : Bool) (p : PoolId) (l : LabelId) (e : RequestEntry) → is_among (label_group pinned p l) (request_groups c e.kept) ≡ waits_for pinned p l e.kept
+label-test c false p l e =
+    let g = next_label_group p l in
+    past (pending-no g e.kept (λ q. refl)) (past (waiting-no g c e.kept (λ t. refl)) (past (coming-no g e.kept (λ m. refl)) (past (spent-no g e.kept (λ q m. refl)) (past (declined-no g e.kept refl)
+    (here (holds-when g (is_pending e.kept.state && is_none e.kept.pinned) (option_and_then (λ q. option_map (next_label_group q) (next_label e.kept)) e.kept.pool)
+    ∙ ap (λ (b : Bool). (is_pending e.kept.state && is_none e.kept.pinned) && b) (next-by p l e.kept.pool (next_label e.kept))
+    ∙ waiting-by (is_pending e.kept.state) (is_none e.kept.pinned) (is_pool p e.kept.pool) (option_map_or (λ other. other.0 == l.0) (next_label e.kept) false))
+    (past (pinned-no g e.kept (λ q m. refl)) refl))))))
+label-test c true p l e =
+    let g = pinned_label_group p l in
+    past (pending-no g e.kept (λ q. refl)) (past (waiting-no g c e.kept (λ t. refl)) (past (coming-no g e.kept (λ m. refl)) (past (spent-no g e.kept (λ q m. refl)) (past (declined-no g e.kept refl)
+    (past (next-no g e.kept (λ q m. refl))
+    (here (holds-when g (is_pending e.kept.state && is_some e.kept.pinned) (option_and_then (λ q. option_map (pinned_label_group q) (next_label e.kept)) e.kept.pool)
+    ∙ ap (λ (b : Bool). (is_pending e.kept.state && is_some e.kept.pinned) && b) (pinned-by p l e.kept.pool (next_label e.kept))
+    ∙ waiting-by (is_pending e.kept.state) (is_some e.kept.pinned) (is_pool p e.kept.pool) (option_map_or (λ other. other.0 == l.0) (next_label e.kept) false))
+    refl))))))

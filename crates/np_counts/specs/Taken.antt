@@ -1,16 +1,13 @@
 -- what is read of a node or a request by its id
-use Rattle.std.specs.Prelude.{Bool, false, [], drop, length}
+use Rattle.std.specs.Prelude.{drop, length}
 use Rattle.std.specs.Option.{option_map_or}
 use Rattle.np_amount.specs.declared.amount.Amount.{Amount}
 use Rattle.np_amount.specs.Amounts.{nothing}
-use Rattle.np_text.specs.declared.id.PoolId.{PoolId}
 use Rattle.np_text.specs.declared.id.NodeId.{NodeId}
 use Rattle.np_text.specs.declared.id.RequestId.{RequestId}
 use Rattle.np_site.specs.Configuration.{Configuration}
 use Rattle.np_record.specs.declared.record.RequestRecord.{RequestRecord}
-use Rattle.np_machine.specs.Entries.{RequestEntry}
 use Rattle.np_machine.specs.Count.{amount_of, amount_of_all}
-use Rattle.np_machine.specs.Reasons.{is_stuck}
 use Rattle.np_machine.specs.State.{State}
 use Rattle.np_machine.specs.Tables.{node_in, request_in}
 
@@ -25,11 +22,3 @@ rest_of c k = option_map_or (λ p. amount_of_all c p (drop (length k.nodes) k.la
 -- what the request still waits for, nothing if it is not there
 abbrev pub awaited_by : Configuration → State → RequestId → Amount
 awaited_by c s r = option_map_or (rest_of c) (request_in r s.requests) nothing
-
--- a request with this record, whoever waits for it
-abbrev pub request_with : RequestId → RequestRecord → RequestEntry
-request_with r k = record { id = r; kept = k; queue = [] }
-
--- the request is there, and stuck
-abbrev pub is_stuck_in : Configuration → State → PoolId → RequestId → Bool
-is_stuck_in c s p r = option_map_or (λ k. is_stuck c s p (request_with r k)) (request_in r s.requests) false

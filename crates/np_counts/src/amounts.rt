@@ -1,54 +1,17 @@
 //! What a node takes, and what a request still waits for.
 
-ghost use Rattle.std.specs.Prelude.{◌≡◌, ◌<◌, ◌^◌, drop, length, option_copied};
+ghost use Rattle.std.specs.Prelude.{◌≡◌, drop};
 ghost use Rattle.np_text.specs.declared.id.LabelId.{LabelId};
 ghost use Rattle.np_text.specs.declared.id.PoolId.{PoolId};
-ghost use Rattle.np_machine.specs.Count.{amount_of, amount_of_all, offer_of};
+ghost use Rattle.np_machine.specs.Count.{amount_of};
 ghost use Rattle.np_fits.specs.Fits.{AmountFits, IsFew};
 ghost use Rattle.np_counts.specs.Taken.{awaited_by, rest_of, taken_by};
 
 use np_amount::Amount;
 use np_config::Config;
-use np_look::{Look, offers};
+use np_look::{Look, NOTHING, amount, amount_of_all};
 use np_record::RequestRecord;
-use np_site::Offer;
-use np_text::{LabelId, NodeId, PoolId, RequestId};
-
-pub(crate) const NOTHING: Amount = Amount {
-    instances: 0,
-    cores: 0,
-    ram: 0,
-};
-
-fn offer(config: &Config, pool: PoolId, label: LabelId) -> Option<&Offer>
-    ensures { option_copied result ≡ offer_of config.now pool label }
-{
-    offers(config, pool).iter().find(|o| o.label.0 == label.0)
-}
-
-/// What a node of the label takes of the pool. Its cost grows with the number of the pool's offers.
-fn amount(config: &Config, pool: PoolId, label: LabelId) -> Amount
-    ensures { result ≡ amount_of config.now pool label }
-{
-    match offer(config, pool, label) {
-        None => NOTHING,
-        Some(offered) => offered.amount,
-    }
-}
-
-/// What the labels that the pool offers take together.
-pub(crate) fn amount_of_all(config: &Config, pool: PoolId, labels: &[LabelId]) -> Amount
-    requires few { length labels.now < 2 ^ 32 }
-    requires small { (l : LabelId) → AmountFits (amount_of config.now pool l) }
-    ensures all { result ≡ amount_of_all config.now pool labels.now }
-    ensures few { IsFew result (length labels.now) }
-{
-    let mut sum = NOTHING;
-    for label in labels {
-        sum = sum.plus(amount(config, pool, *label));
-    }
-    sum
-}
+use np_text::{LabelId, NodeId, RequestId};
 
 /// The labels from a place on.
 fn labels_from(labels: &[LabelId], from: usize) -> &[LabelId]

@@ -1,7 +1,8 @@
 //! What pools, labels and tenants use, by the groups of nodes and requests that an index keeps.
 //!
 //! Each answer is that of the reader of the same name in `np_look`, which walks all nodes or all
-//! requests. Here it costs a binary search, or one for each member of a group.
+//! requests. Here it costs a binary search, or one for each member of a group or for each label
+//! that requests wait for.
 #![tactic(auto)]
 
 mod amounts;

@@ -9,13 +9,13 @@ ghost use Rattle.np_machine.specs.State.{State};
 ghost use Rattle.np_fits.specs.Fits.{Fits};
 ghost use Rattle.np_look.specs.Readers.{free_ready_of};
 ghost use Rattle.np_classes.specs.Classes.{AreClasses};
-ghost use Rattle.np_counts.specs.Taken.{is_stuck_in};
+ghost use Rattle.np_counts.specs.Waiting.{is_stuck_as, is_stuck_label, label_group, label_if};
 
-use crate::amounts::NOTHING;
 use np_amount::Amount;
-use np_classes::{Classes, kind_group, pending_group, spare_group};
-use np_look::{Look, offers, short_label};
-use np_text::{LabelId, NodeId, PoolId, RequestId};
+use np_classes::{Classes, kind_group, next_label_group, pinned_label_group, spare_group};
+use np_groups::Group;
+use np_look::{Look, NOTHING, lacks_room, offers};
+use np_text::{LabelId, NodeId, PoolId};
 
 /// What the pool uses: for each of its offers, the number of its nodes of that label times the
 /// amount. One binary search for each offer.
@@ -53,13 +53,39 @@ pub fn free_ready(classes: &Classes, pool: PoolId, label: LabelId, at: u32) -> O
     classes.node_at(spare_group(pool, label), at as usize)
 }
 
-/// Whether the request is pending by the pool and waits for room, where the pool uses `used`.
-fn is_stuck<L: Look>(
+/// The requests that are pending by the pool and whose next label is this one: those that are
+/// pinned, or the others.
+fn label_group(is_pinned: bool, pool: PoolId, label: LabelId) -> Group
+    ensures { result ≡ label_group is_pinned pool label }
+{
+    if is_pinned {
+        pinned_label_group(pool, label)
+    } else {
+        next_label_group(pool, label)
+    }
+}
+
+/// The label of a group that was found, if its class and its pool are those of the other.
+fn label_if(other: Group, found: Option<Group>) -> Option<LabelId>
+    ensures { result ≡ label_if other found }
+{
+    let found = found?;
+    if found.class != other.class || found.first != other.first {
+        return None;
+    }
+    Some(LabelId(found.second))
+}
+
+/// Whether a request that waits for the label is stuck, where the pool uses `used`: the pool has no
+/// room for a node of it, and one that is not pinned finds no spare node. At most one group is
+/// counted, by binary search.
+fn is_stuck_label<L: Look>(
     classes: &Classes,
     look: &L,
     pool: PoolId,
     used: Amount,
-    request: RequestId,
+    is_pinned: bool,
+    label: LabelId,
 ) -> bool
     requires fits { Fits (L.site look.now) (L.state look.now) }
     requires classes { AreClasses (L.site look.now) (L.state look.now) classes.now }
@@ -67,33 +93,54 @@ fn is_stuck<L: Look>(
     requires instances { used.instances < 2 ^ 63 }
     requires cores { used.cores < 2 ^ 63 }
     requires ram { used.ram < 2 ^ 63 }
-    ensures { result ≡ is_stuck_in (L.site look.now) (L.state look.now) pool request }
+    ensures { result ≡ is_stuck_label (L.site look.now) (L.state look.now) pool is_pinned label }
 {
-    let Some(kept) = look.request(request) else {
+    if !lacks_room(look.config(), pool, label, used) {
         return false;
-    };
-    let Some(label) = short_label(look.config(), pool, used, &kept) else {
-        return false;
-    };
-    kept.pinned.is_some() || !has_spare(classes, pool, label)
+    }
+    is_pinned || !has_spare(classes, pool, label)
+}
+
+/// Whether a request that is pinned is stuck, or one that is not, where the pool uses `used`. Each
+/// label that such requests of the pool wait for is found by one binary search, and looked up once
+/// among the pool's offers.
+fn has_stuck_request<L: Look>(
+    classes: &Classes,
+    look: &L,
+    pool: PoolId,
+    used: Amount,
+    is_pinned: bool,
+) -> bool
+    requires fits { Fits (L.site look.now) (L.state look.now) }
+    requires classes { AreClasses (L.site look.now) (L.state look.now) classes.now }
+    requires used { used ≡ count_of (L.site look.now) (L.state look.now) pool }
+    requires instances { used.instances < 2 ^ 63 }
+    requires cores { used.cores < 2 ^ 63 }
+    requires ram { used.ram < 2 ^ 63 }
+    ensures { result ≡ list_any (is_stuck_as (L.site look.now) (L.state look.now) pool is_pinned)
+        (L.state look.now).requests }
+{
+    let first = label_group(is_pinned, pool, LabelId(0));
+    let mut next = label_if(first, classes.request_group_from(first));
+    while let Some(label) = next {
+        if is_stuck_label(classes, look, pool, used, is_pinned, label) {
+            return true;
+        }
+        let group = label_group(is_pinned, pool, label);
+        next = label_if(first, classes.request_group_after(group));
+    }
+    false
 }
 
 /// Whether a request that is pending by the pool waits for room. What the pool uses is counted
-/// once, and each such request is found by binary search.
+/// once. For each label that such requests wait for, however many they are, it costs a few binary
+/// searches and a lookup among the pool's offers.
 pub fn is_paused<L: Look>(classes: &Classes, look: &L, pool: PoolId) -> bool
     requires fits { Fits (L.site look.now) (L.state look.now) }
     requires classes { AreClasses (L.site look.now) (L.state look.now) classes.now }
     ensures { result ≡ is_paused (L.site look.now) (L.state look.now) pool }
 {
     let used = used(classes, look, pool);
-    let group = pending_group(pool);
-    for at in 0..classes.requests_in(group) {
-        let Some(request) = classes.request_at(group, at) else {
-            return false;
-        };
-        if is_stuck(classes, look, pool, used, request) {
-            return true;
-        }
-    }
-    false
+    has_stuck_request(classes, look, pool, used, false)
+        || has_stuck_request(classes, look, pool, used, true)
 }

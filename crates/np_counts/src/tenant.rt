@@ -6,10 +6,10 @@ ghost use Rattle.np_machine.specs.Tenants.{amount_of_node, count_of_tenant, is_p
 ghost use Rattle.np_fits.specs.Fits.{Fits, IsFew};
 ghost use Rattle.np_classes.specs.Classes.{AreClasses};
 
-use crate::amounts::{NOTHING, awaited_by, taken_by};
+use crate::amounts::{awaited_by, taken_by};
 use np_amount::Amount;
 use np_classes::{Classes, tenant_group, waiting_group};
-use np_look::Look;
+use np_look::{Look, NOTHING};
 use np_text::TenantId;
 
 /// What the tenant's nodes take.

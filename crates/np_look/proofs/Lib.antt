@@ -5,3 +5,4 @@ pub mod Seen
 pub mod Used
 pub mod Blocking
 pub mod Placed
+pub mod Speakers

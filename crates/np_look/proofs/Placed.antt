@@ -1,28 +1,23 @@
--- the jobs of a requester that are not over, from a place on
-use Rattle.std.proofs.Common.{◌≡◌, ℕ, zero, suc, ◌-◌, List, [], ◌∷◌, drop, refl, arith, Some, None, true, false}
+-- the jobs that pass, from a place on
+use Rattle.std.proofs.Common.{◌≡◌, ℕ, zero, suc, ◌-◌, Bool, List, [], ◌∷◌, drop, refl, arith, Some, true, false}
 use Rattle.std.specs.Prelude.{slice_get}
-use Rattle.np_text.specs.declared.id.RequesterId.{RequesterId}
-use Rattle.np_site.specs.Configuration.{Configuration}
+use Rattle.np_text.specs.declared.id.JobId.{JobId}
 use Rattle.np_record.specs.declared.record.JobRecord.{JobRecord}
-use Rattle.np_look.specs.Readers.{is_unfinished_job, unfinished_from}
-use Rattle.np_look.proofs.Walks.{drop_past}
+use Rattle.np_look.specs.Readers.{jobs_from}
 
--- a job at its place
-there : (jobs : List JobRecord) (i : ℕ) (kept : JobRecord) → slice_get jobs i ≡ Some kept → drop i jobs ≡ kept ∷ drop (suc i) jobs
-there [] i kept is = absurd cc
-there (first ∷ jobs) zero kept is = let same : first ≡ kept = cc in rw same refl
-there (first ∷ jobs) (suc i) kept is = there jobs i kept is
+-- a row at its place
+pub there : {X : Type 0} (xs : List X) (i : ℕ) (x : X) → slice_get xs i ≡ Some x → drop i xs ≡ x ∷ drop (suc i) xs
+there [] i x is = absurd cc
+there (first ∷ xs) zero x is = let same : first ≡ x = cc in rw same refl
+there (first ∷ xs) (suc i) x is = there xs i x is
 
-module _ (c : Configuration) (q : RequesterId) (jobs : List JobRecord) (i : ℕ) (kept : JobRecord) (is : slice_get jobs i ≡ Some kept) where
-  pub unfinished-here : is_unfinished_job c q (record { 0 = i }) kept ≡ true → slice_get (unfinished_from c q i (drop i jobs)) 0 ≡ Some (record { 0 = i })
-  unfinished-here passes = rw (there jobs i kept is, passes) refl
+module _ (passes : JobId → JobRecord → Bool) (jobs : List JobRecord) (i : ℕ) (kept : JobRecord) (is : slice_get jobs i ≡ Some kept) where
+  pub job-here : passes (record { 0 = i }) kept ≡ true → slice_get (jobs_from passes i (drop i jobs)) 0 ≡ Some (record { 0 = i })
+  job-here in-it = rw (there jobs i kept is, in-it) refl
 
-  pub unfinished-later : (left : ℕ) → is_unfinished_job c q (record { 0 = i }) kept ≡ true → (left ≡ 0 → ⊥) → slice_get (unfinished_from c q i (drop i jobs)) left ≡ slice_get (unfinished_from c q (suc i) (drop (suc i) jobs)) (left - 1)
-  unfinished-later zero passes some = absurd (some refl)
-  unfinished-later (suc left) passes some = let minus : suc left - 1 ≡ left = omega arith in rw (there jobs i kept is, passes, minus) refl
+  pub job-later : (left : ℕ) → passes (record { 0 = i }) kept ≡ true → (left ≡ 0 → ⊥) → slice_get (jobs_from passes i (drop i jobs)) left ≡ slice_get (jobs_from passes (suc i) (drop (suc i) jobs)) (left - 1)
+  job-later zero in-it some = absurd (some refl)
+  job-later (suc left) in-it some = let minus : suc left - 1 ≡ left = omega arith in rw (there jobs i kept is, in-it, minus) refl
 
-  pub unfinished-over : (left : ℕ) → is_unfinished_job c q (record { 0 = i }) kept ≡ false → slice_get (unfinished_from c q i (drop i jobs)) left ≡ slice_get (unfinished_from c q (suc i) (drop (suc i) jobs)) left
-  unfinished-over left fails = rw (there jobs i kept is, fails) refl
-
-pub unfinished-past : (c : Configuration) (q : RequesterId) (jobs : List JobRecord) (i left : ℕ) → slice_get jobs i ≡ None → slice_get (unfinished_from c q i (drop i jobs)) left ≡ None
-unfinished-past c q jobs i left is = rw (drop_past jobs i is) refl
+  pub job-over : (left : ℕ) → passes (record { 0 = i }) kept ≡ false → slice_get (jobs_from passes i (drop i jobs)) left ≡ slice_get (jobs_from passes (suc i) (drop (suc i) jobs)) left
+  job-over left out-of-it = rw (there jobs i kept is, out-of-it) refl

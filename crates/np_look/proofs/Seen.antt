@@ -1,5 +1,5 @@
 -- rows as their views show them
-use Rattle.std.proofs.Common.{◌≡◌, ◌≤◌, ℕ, zero, suc, ◌+◌, List, [], ◌∷◌, ◌++◌, length, take, drop, refl, ap, sym, ◌∙◌, arith, Bool, true, false, Option, Some, None}
+use Rattle.std.proofs.Common.{◌≡◌, ◌≤◌, ℕ, zero, suc, ◌+◌, ◌-◌, List, [], ◌∷◌, ◌++◌, length, take, drop, refl, ap, sym, ◌∙◌, arith, Bool, true, false, Option, Some, None}
 use Rattle.std.specs.Prelude.{slice_get, is_some, is_none, not, ◌&&◌, ◌||◌, ◌==◌, if◌then◌else◌, option_and_then, filter}
 use Rattle.std.specs.Option.{option_map, option_map_or}
 use Rattle.std.specs.List.{list_any}
@@ -159,6 +159,9 @@ not-session a b other = grind (arith, nat_tests)
 
 pub session-there : (s : State) (at : ℕ) (facts : SessionFacts) → session_of (record { 0 = at + 1 }) s ≡ Some facts → slice_get s.sessions at ≡ Some facts
 session-there s at facts is = grind (arith, nat_tests)
+
+pub session-at : (s : State) (n : ℕ) (facts : SessionFacts) → session_of (record { 0 = n }) s ≡ Some facts → slice_get s.sessions (n - 1) ≡ Some facts
+session-at s n facts is = grind (arith, nat_tests)
 
 queue_by : (s : State) (o : Option NodeEntry) → ((e : NodeEntry) → o ≡ Some e → NodeFits s e) → length (option_map_or (λ (e : NodeEntry). e.queue) o []) ≤ most
 queue_by s None fits = omega arith

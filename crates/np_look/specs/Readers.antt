@@ -1,6 +1,6 @@
 -- what the readers of a state return, beyond the machine's own definitions
 use Rattle.std.specs.Prelude.{ℕ, suc, Bool, false, ◌==◌, ◌&&◌, ◌||◌, not, if◌then◌else◌, List, [], ◌∷◌, filter, map, Option, Some, None, is_some, is_none, option_and_then, slice_get, length}
-use Rattle.std.specs.Option.{option_map, option_map_or}
+use Rattle.std.specs.Option.{option_map, option_map_or, option_or}
 use Rattle.np_amount.specs.declared.amount.Amount.{Amount}
 use Rattle.np_amount.specs.declared.amount.Limit.{Limit}
 use Rattle.np_amount.specs.Amounts.{nothing, plus, fits}
@@ -13,6 +13,7 @@ use Rattle.np_text.specs.declared.id.RequesterId.{RequesterId}
 use Rattle.np_text.specs.declared.id.RequestId.{RequestId}
 use Rattle.np_text.specs.declared.id.SessionId.{SessionId}
 use Rattle.np_text.specs.declared.id.TenantId.{TenantId}
+use Rattle.np_text.specs.declared.id.Role.{Role}
 use Rattle.np_record.specs.declared.record.RequestRecord.{RequestRecord}
 use Rattle.np_record.specs.declared.record.JobRecord.{JobRecord}
 use Rattle.np_machine.specs.Entries.{RequestEntry, NodeEntry}
@@ -20,7 +21,9 @@ use Rattle.np_machine.specs.State.{State}
 use Rattle.np_machine.specs.Tables.{request_in, is_queued, holder}
 use Rattle.np_machine.specs.Count.{amount_of, limit_of}
 use Rattle.np_machine.specs.Tenants.{limit_of_tenant, tenant_of_request, is_tenant, amount_of_node, rest_of_request, is_pending_of}
-use Rattle.np_machine.specs.Kinds.{is_over, is_requested}
+use Rattle.np_machine.specs.Kinds.{is_asked, is_using, is_over, is_requested}
+use Rattle.np_machine.specs.Laws.{speaks_for}
+use Rattle.np_machine.specs.declared.state.SessionFacts.{SessionFacts}
 use Rattle.np_machine.specs.Reasons.{next_label, is_spare}
 use Rattle.np_machine.specs.First.{may_fit}
 use Rattle.np_machine.specs.Order.{is_declined_by, is_pending_by}
@@ -82,17 +85,44 @@ free_ready_of p l at s = option_map (λ e. e.id) (slice_get (filter (is_spare p 
 abbrev pub is_unfinished_job : Configuration → RequesterId → JobId → JobRecord → Bool
 is_unfinished_job c q j kept = option_map_or (λ row. row.requester.0 == q.0) (slice_get c.jobs j.0) false && not (is_over kept.phase)
 
--- such jobs among these, the first of which has this number
+-- a job of the requester that has asked for its nodes or uses them
+abbrev pub is_active_job : Configuration → RequesterId → JobId → JobRecord → Bool
+is_active_job c q j kept = option_map_or (λ row. row.requester.0 == q.0) (slice_get c.jobs j.0) false && (is_asked kept.phase || is_using kept.phase)
+
+-- the jobs that pass among these, the first of which has this number
+abbrev pub jobs_from : (JobId → JobRecord → Bool) → ℕ → List JobRecord → List JobId
+jobs_from passes number [] = []
+jobs_from passes number (kept ∷ jobs) =
+    if passes (record { 0 = number }) kept
+    then record { 0 = number } ∷ jobs_from passes (suc number) jobs
+    else jobs_from passes (suc number) jobs
+
 abbrev pub unfinished_from : Configuration → RequesterId → ℕ → List JobRecord → List JobId
-unfinished_from c q number [] = []
-unfinished_from c q number (kept ∷ jobs) =
-    if is_unfinished_job c q (record { 0 = number }) kept
-    then record { 0 = number } ∷ unfinished_from c q (suc number) jobs
-    else unfinished_from c q (suc number) jobs
+unfinished_from c q number jobs = jobs_from (is_unfinished_job c q) number jobs
 
 -- the jobs of the requester that are not over, in order: the one at this place
 abbrev pub unfinished_of : Configuration → RequesterId → ℕ → State → Option JobId
 unfinished_of c q at s = slice_get (unfinished_from c q 0 s.jobs) at
+
+-- the jobs of the requester that have asked for their nodes or use them, in order
+abbrev pub active_jobs : Configuration → RequesterId → State → List JobId
+active_jobs c q s = jobs_from (is_active_job c q) 0 s.jobs
+
+-- the one at this place
+abbrev pub active_of : Configuration → RequesterId → ℕ → State → Option JobId
+active_of c q at s = slice_get (active_jobs c q s) at
+
+-- ## sessions
+
+-- the last of these sessions that speaks for the role, the first of which has this number
+abbrev pub speaker_from : Role → ℕ → List SessionFacts → Option SessionId
+speaker_from role number [] = None
+speaker_from role number (facts ∷ sessions) =
+    option_or (speaker_from role (suc number) sessions) (if speaks_for role facts then Some (record { 0 = number }) else None)
+
+-- the last session that speaks for the role
+abbrev pub current_of : Role → State → Option SessionId
+current_of role s = speaker_from role 1 s.sessions
 
 -- ## the queues that a session is in
 

@@ -12,10 +12,14 @@ mod tenant;
 mod walk;
 
 pub use asked::{NodeView, RequestView};
-pub use count::{first_unoffered, is_offered, is_too_much, lacks_room, offers, ready_age, retries};
+pub use count::{
+    NOTHING, amount, amount_of_all, first_unoffered, is_offered, is_too_much, lacks_room, offers,
+    ready_age, retries,
+};
 pub use look::Look;
-pub use tenant::{tenant_never_fits, tenant_of_job};
+pub use tenant::{is_short_of, limited_tenant, tenant_never_fits, tenant_of_job};
 pub use walk::{
-    asked_of, comes_before, declines_or_is, is_coming, is_declined_by, is_free_ready, is_live_of,
-    is_marked, is_open_to, is_requester, is_spent_min_ready, short_label,
+    asked_of, comes_before, declines_or_is, is_active_job, is_coming, is_declined_by,
+    is_free_ready, is_live_of, is_marked, is_open_to, is_requester, is_same_role,
+    is_spent_min_ready, short_label, speaks_for,
 };

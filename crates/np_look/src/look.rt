@@ -17,15 +17,15 @@ ghost use Rattle.np_fits.specs.Fits.{Fits};
 ghost use Rattle.np_changes.specs.Asked.{asked_of, new_record};
 ghost use Rattle.np_look.specs.Views.{request_view, node_view};
 ghost use Rattle.np_changes.specs.Readers.{owner_of};
-ghost use Rattle.np_look.specs.Readers.{is_declined, undeclined_of, is_last_pool_of, free_ready_of, unfinished_of, queued_requests, queued_nodes, pending_requests, declined_requests, unheld_nodes};
+ghost use Rattle.np_look.specs.Readers.{is_declined, undeclined_of, is_last_pool_of, free_ready_of, unfinished_of, active_of, current_of, queued_requests, queued_nodes, pending_requests, declined_requests, unheld_nodes};
 
 use crate::asked::{NodeView, RequestView};
 use crate::count::{NOTHING, amount_at};
 use crate::tenant::{amount_for, is_short_of, limited_tenant, rest_for};
 use crate::walk::{
-    asked_of, declines_or_is, is_better, is_coming, is_declined_by, is_free_ready, is_live_of,
-    is_marked, is_pending_by, is_spare, is_spent_min_ready, is_still_requested, is_unfinished_job,
-    is_unheld, one_if, short_label,
+    asked_of, declines_or_is, is_active_job, is_better, is_coming, is_declined_by, is_free_ready,
+    is_live_of, is_marked, is_pending_by, is_spare, is_spent_min_ready, is_still_requested,
+    is_unfinished_job, is_unheld, one_if, short_label, speaks_for,
 };
 use np_amount::Amount;
 use np_changes::Asked;
@@ -471,6 +471,27 @@ pub trait Look {
         None
     }
 
+    /// The job at a place among those of the requester that have asked for their nodes or use them,
+    /// in order of their numbers. This body scans every job up to that one.
+    fn active(&self, requester: RequesterId, at: u32) -> Option<JobId>
+        ensures { result ≡ active_of (site self.now) requester at (state self.now) }
+    {
+        let mut left = at;
+        for number in 0..self.jobs() {
+            let Some(kept) = self.job(JobId(number)) else {
+                return None;
+            };
+            if !is_active_job(self.config(), requester, JobId(number), &kept) {
+                continue;
+            }
+            if left == 0 {
+                return Some(JobId(number));
+            }
+            left -= 1;
+        }
+        None
+    }
+
     /// The first job that has the node.
     fn owner(&self, node: NodeId) -> Option<JobId>
         ensures { result ≡ owner_of node (state self.now).jobs }
@@ -482,6 +503,24 @@ pub trait Look {
             if is_marked(node, &kept) {
                 return Some(JobId(at));
             }
+        }
+        None
+    }
+
+    /// The last session that speaks for the role: a live one that is not mute. This body scans the
+    /// sessions that began after it, or all if there is none.
+    fn current_session(&self, role: Role) -> Option<SessionId>
+        ensures { result ≡ current_of role (state self.now) }
+    {
+        let mut left = self.sessions();
+        while left > 0 {
+            let Some(facts) = self.session(SessionId(left)) else {
+                return None;
+            };
+            if speaks_for(role, &facts) {
+                return Some(SessionId(left));
+            }
+            left -= 1;
         }
         None
     }

@@ -5,7 +5,8 @@ ghost use Rattle.std.specs.Prelude.{◌≡◌, ◌<◌, ◌≤◌, ◌^◌, ◌&
 ghost use Rattle.np_text.specs.declared.id.LabelId.{LabelId};
 ghost use Rattle.np_machine.specs.Count.{amount_of};
 ghost use Rattle.np_fits.specs.Fits.{AmountFits};
-ghost use Rattle.np_look.specs.Readers.{short_label, is_unfinished_job, is_still_requested, is_unheld};
+ghost use Rattle.np_look.specs.Readers.{short_label, is_unfinished_job, is_active_job, is_still_requested, is_unheld};
+ghost use Rattle.np_machine.specs.Laws.{same_role, speaks_for};
 ghost use Rattle.np_machine.specs.Kinds.{is_requested, is_pending, is_failed, is_ready};
 ghost use Rattle.np_machine.specs.Tables.{is_marked};
 ghost use Rattle.np_machine.specs.Order.{comes_before, is_pool, is_pinned_away, is_declined_by, is_pending_by};
@@ -256,6 +257,19 @@ pub fn is_unfinished_job(
     }
 }
 
+/// Whether the job is the requester's, and has asked for its nodes or uses them.
+pub fn is_active_job(config: &Config, requester: RequesterId, job: JobId, kept: &JobRecord) -> bool
+    ensures { result ≡ is_active_job config.now requester job kept.now }
+{
+    match config.job(job) {
+        None => false,
+        Some(row) => {
+            row.requester.0 == requester.0
+                && (kept.phase == Phase::Asked || kept.phase == Phase::Using)
+        }
+    }
+}
+
 /// Whether the role is this requester.
 pub fn is_requester(requester: RequesterId, role: Option<Role>) -> bool
     ensures { result ≡ is_requesters requester role }
@@ -264,4 +278,35 @@ pub fn is_requester(requester: RequesterId, role: Option<Role>) -> bool
         Some(Role::Requester(other)) => other.0 == requester.0,
         Some(Role::Launcher(_)) | Some(Role::Janitor(_)) | Some(Role::Reaper) | None => false,
     }
+}
+
+/// Whether both are the same role.
+pub fn is_same_role(one: Role, other: Role) -> bool
+    ensures { result ≡ same_role one other }
+{
+    match one {
+        Role::Launcher(pool) => match other {
+            Role::Launcher(of) => pool.0 == of.0,
+            Role::Janitor(_) | Role::Requester(_) | Role::Reaper => false,
+        },
+        Role::Janitor(pool) => match other {
+            Role::Janitor(of) => pool.0 == of.0,
+            Role::Launcher(_) | Role::Requester(_) | Role::Reaper => false,
+        },
+        Role::Requester(requester) => match other {
+            Role::Requester(of) => requester.0 == of.0,
+            Role::Launcher(_) | Role::Janitor(_) | Role::Reaper => false,
+        },
+        Role::Reaper => match other {
+            Role::Reaper => true,
+            Role::Launcher(_) | Role::Janitor(_) | Role::Requester(_) => false,
+        },
+    }
+}
+
+/// Whether it is a live session of the role that is not mute.
+pub fn speaks_for(role: Role, facts: &SessionFacts) -> bool
+    ensures { result ≡ speaks_for role facts.now }
+{
+    is_same_role(facts.role, role) && facts.live && !facts.mute
 }

@@ -1,0 +1,38 @@
+-- the labels that requests of a pool wait for, and when such a request is stuck (own)
+use Rattle.std.specs.Prelude.{Bool, ◌==◌, ◌&&◌, ◌||◌, not, if◌then◌else◌, Option, Some, None, is_some, is_none}
+use Rattle.std.specs.List.{list_any}
+use Rattle.np_text.specs.declared.id.PoolId.{PoolId}
+use Rattle.np_text.specs.declared.id.LabelId.{LabelId}
+use Rattle.np_site.specs.Configuration.{Configuration}
+use Rattle.np_record.specs.declared.record.RequestRecord.{RequestRecord}
+use Rattle.np_groups.specs.declared.groups.Group.{Group}
+use Rattle.np_machine.specs.Count.{is_short}
+use Rattle.np_machine.specs.Entries.{RequestEntry}
+use Rattle.np_machine.specs.Reasons.{is_spare, is_stuck}
+use Rattle.np_machine.specs.State.{State}
+use Rattle.np_classes.specs.Classes.{next_label_group, pinned_label_group}
+
+-- the requests that are pending by the pool and whose next label is this one: those that are pinned, or the others
+abbrev pub label_group : Bool → PoolId → LabelId → Group
+label_group pinned p l = if pinned then pinned_label_group p l else next_label_group p l
+
+-- both are of one class and one first number
+abbrev pub is_beside : Group → Group → Bool
+is_beside g h = (g.class == h.class) && (g.first == h.first)
+
+-- the label of a group that was found, if it is beside the other
+abbrev pub label_if : Group → Option Group → Option LabelId
+label_if g None = None
+label_if g (Some found) = if is_beside found g then Some (record { 0 = found.second }) else None
+
+-- the pool has no room for a node of the label, and a request that is not pinned finds no spare one
+abbrev pub is_stuck_label : Configuration → State → PoolId → Bool → LabelId → Bool
+is_stuck_label c s p pinned l = is_short c s p l && (pinned || not (list_any (is_spare p l) s.nodes))
+
+-- pinned, or not
+abbrev pub is_pinned_as : Bool → RequestRecord → Bool
+is_pinned_as pinned k = if pinned then is_some k.pinned else is_none k.pinned
+
+-- stuck, and pinned or not
+abbrev pub is_stuck_as : Configuration → State → PoolId → Bool → RequestEntry → Bool
+is_stuck_as c s p pinned e = is_pinned_as pinned e.kept && is_stuck c s p e
