@@ -1,5 +1,6 @@
 -- members of groups: their order, and what each call changes of them
-use Rattle.std.specs.Prelude.{ℕ, Bool, nat_lt, ◌==◌, ◌&&◌, if◌then◌else◌, List, map, filter, Option, Some, None}
+use Rattle.std.specs.Prelude.{ℕ, Bool, nat_lt, ◌==◌, ◌&&◌, not, if◌then◌else◌, List, map, filter, find, Option, Some, None}
+use Rattle.std.specs.Option.{option_map}
 use Rattle.std.specs.List.{list_any}
 use Rattle.np_lists.specs.Change.{insert_before, remove_first}
 use Rattle.np_groups.specs.declared.groups.Group.{Group}
@@ -37,6 +38,14 @@ ids_in g ms = map (λ m. m.id) (filter (λ m. same_group m.group g) ms)
 abbrev pub id_if : {K : Type 0} → Group → Option (Member K) → Option K
 id_if g None = None
 id_if g (Some m) = if same_group m.group g then Some m.id else None
+
+-- the first group that has a member and is not before this one
+abbrev pub group_from : {K : Type 0} → Group → List (Member K) → Option Group
+group_from g ms = option_map (λ m. m.group) (find (λ m. not (is_group_before m.group g)) ms)
+
+-- the first group that has a member and comes after this one
+abbrev pub group_after : {K : Type 0} → Group → List (Member K) → Option Group
+group_after g ms = option_map (λ m. m.group) (find (λ m. is_group_before g m.group) ms)
 
 -- whether the id is in the group
 abbrev pub has_member : {K : Type 0} → (K → K → Bool) → Group → K → List (Member K) → Bool

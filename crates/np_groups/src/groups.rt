@@ -7,7 +7,7 @@ ghost use Rattle.std.specs.Bool.{OnTrue, OnFalse};
 ghost use Rattle.std.specs.List.{prefix_len};
 ghost use Rattle.std.specs.List.Sorted.{IsPartitionPoint};
 ghost use Rattle.np_lists.specs.Rising.{Rises, IsFirstPlace, FirstAt, NonePass};
-ghost use Rattle.np_groups.specs.Groups.{same_group, is_group_before, is_member_before, same_member, member, ids_in, id_if, has_member, with_member, without_member};
+ghost use Rattle.np_groups.specs.Groups.{same_group, is_group_before, is_member_before, same_member, member, ids_in, id_if, group_from, group_after, has_member, with_member, without_member};
 
 use crate::stock::Stock;
 use np_shelf::Probe;
@@ -258,5 +258,23 @@ impl<O: Order> Groups<O> {
             return None;
         }
         id_if::<O>(self.rows.at(start + at), group)
+    }
+
+    /// The first group that has a member and is not before this one. The time is logarithmic in the
+    /// number of members.
+    pub fn group_from(&self, group: Group) -> Option<Group>
+        ensures { result ≡ group_from group self.now.members }
+    {
+        let start = start_of::<O>(&self.rows, group);
+        Some(self.rows.at(start)?.group)
+    }
+
+    /// The first group that has a member and comes after this one. The time is logarithmic in the
+    /// number of members.
+    pub fn group_after(&self, group: Group) -> Option<Group>
+        ensures { result ≡ group_after group self.now.members }
+    {
+        let end = end_of::<O>(&self.rows, group);
+        Some(self.rows.at(end)?.group)
     }
 }
