@@ -22,7 +22,7 @@ use Rattle.np_safe.specs.Parts.{IsNumbered}
 use Rattle.np_safe.proofs.Numbered.{numbered}
 use Rattle.np_safe.proofs.Runs.{invariant-Runs}
 use Rattle.np_classes.specs.Classes.{ClassesOf, AreClasses, AreNodeGroups, AreRequestGroups, is_among, node_groups, node_is_in, request_groups, request_is_in}
-use Rattle.np_classes.specs.Placed.{Placed, groups_of_node, groups_of_request, members_of, no_groups, placed_node, placed_request, with_all, without_all}
+use Rattle.np_classes.specs.Placed.{Placed, groups_of_node, groups_of_request, members_of, no_node_groups, no_request_groups, placed_node, placed_request, with_all, without_all}
 use Rattle.np_classes.specs.Prepared.{IsPrepared, TouchedOf}
 use Rattle.np_classes.specs.Touched.{touches_node, touches_request}
 use Rattle.np_classes.proofs.Folds.{moved, rises-with_all, rises-without_all}
@@ -31,13 +31,13 @@ use Rattle.np_classes.proofs.Untouched.{node-untouched, request-untouched}
 -- the groups of a node that is not there are none
 pub node-among : (s : State) (g : Group) (n : NodeId) → is_among g (groups_of_node s n) ≡ node_is_in s g n
 node-among s g n = by (node_in n s.nodes) where
-  by : (o : Option NodeRecord) → is_among g (option_map_or (λ k. node_groups k (is_none (node_holder n s.nodes))) o no_groups) ≡ option_map_or (λ k. is_among g (node_groups k (is_none (node_holder n s.nodes)))) o false
+  by : (o : Option NodeRecord) → is_among g (option_map_or (λ k. node_groups k (is_none (node_holder n s.nodes))) o no_node_groups) ≡ option_map_or (λ k. is_among g (node_groups k (is_none (node_holder n s.nodes)))) o false
   by None = refl
   by (Some k) = refl
 
 pub request-among : (c : Configuration) (s : State) (g : Group) (r : RequestId) → is_among g (groups_of_request c s r) ≡ request_is_in c s g r
 request-among c s g r = by (request_in r s.requests) where
-  by : (o : Option RequestRecord) → is_among g (option_map_or (λ k. request_groups c k) o no_groups) ≡ option_map_or (λ k. is_among g (request_groups c k)) o false
+  by : (o : Option RequestRecord) → is_among g (option_map_or (λ k. request_groups c k) o no_request_groups) ≡ option_map_or (λ k. is_among g (request_groups c k)) o false
   by None = refl
   by (Some k) = refl
 
@@ -67,8 +67,8 @@ module _ (c : Configuration) (s : State) (ch : Changes) (touched : TouchedOf) (p
       stays : (n : NodeId) → list_any (λ m. same_node m n) touched.nodes ≡ false → groups_of_node (changed c ch s) n ≡ groups_of_node s n
       stays n out =
           let same = node-untouched c ch s n (untouched (touches_node ch s n) (list_any (λ m. same_node m n) touched.nodes) (prepared.nodes n) out) in
-          ap (λ (o : Option NodeRecord). option_map_or (λ k. node_groups k (is_none (node_holder n (changed c ch s).nodes))) o no_groups) same.0
-          ∙ ap (λ (queue : List SessionId). option_map_or (λ k. node_groups k (is_none (holder queue))) (node_in n s.nodes) no_groups) same.1
+          ap (λ (o : Option NodeRecord). option_map_or (λ k. node_groups k (is_none (node_holder n (changed c ch s).nodes))) o no_node_groups) same.0
+          ∙ ap (λ (queue : List SessionId). option_map_or (λ k. node_groups k (is_none (holder queue))) (node_in n s.nodes) no_node_groups) same.1
 
   requests-noted : (ms new : List (Member RequestId)) → AreRequestGroups c s ms
       → new ≡ with_all is_id_before same_request (map (placed_request c (changed c ch s)) touched.requests) (without_all same_request touched.request_members ms)
@@ -90,7 +90,7 @@ module _ (c : Configuration) (s : State) (ch : Changes) (touched : TouchedOf) (p
       stays : (r : RequestId) → list_any (λ x. same_request x r) touched.requests ≡ false → groups_of_request c (changed c ch s) r ≡ groups_of_request c s r
       stays r out =
           let same = request-untouched c ch s r (untouched (touches_request ch s r) (list_any (λ x. same_request x r) touched.requests) (prepared.requests r) out) in
-          ap (λ (o : Option RequestRecord). option_map_or (λ k. request_groups c k) o no_groups) same
+          ap (λ (o : Option RequestRecord). option_map_or (λ k. request_groups c k) o no_request_groups) same
 
 -- members taken out and ids put in, as two calls do it with lists that are passed
 pub moved-by : {K : Type 0} (before same : K → K → Bool) (place : K → Placed K) (old was between new gone listed_gone : List (Member K)) (ids listed : List K)

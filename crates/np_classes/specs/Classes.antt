@@ -18,6 +18,7 @@ use Rattle.np_keys.specs.Keys.{same_node, is_node_before}
 use Rattle.np_look.specs.Readers.{is_still_requested}
 use Rattle.np_machine.specs.Kinds.{is_requested, is_pending, is_failed, is_ready}
 use Rattle.np_machine.specs.Order.{is_id_before}
+use Rattle.np_machine.specs.Reasons.{next_label}
 use Rattle.np_machine.specs.State.{State}
 use Rattle.np_machine.specs.Tables.{node_in, node_holder, request_in, same_request}
 use Rattle.np_machine.specs.Tenants.{tenant_of_request}
@@ -80,6 +81,14 @@ spent_group p l = record { class = 3; first = p.0; second = l.0 }
 abbrev pub declined_group : Group
 declined_group = record { class = 4; first = 0; second = 0 }
 
+-- the requests that are pending by the pool and not pinned, and whose next label is this one
+abbrev pub next_label_group : PoolId → LabelId → Group
+next_label_group p l = record { class = 5; first = p.0; second = l.0 }
+
+-- the same of those that are pinned
+abbrev pub pinned_label_group : PoolId → LabelId → Group
+pinned_label_group p l = record { class = 6; first = p.0; second = l.0 }
+
 abbrev pub pending_group_of : RequestRecord → Option Group
 pending_group_of k = if is_pending k.state then option_map pending_group k.pool else None
 
@@ -95,9 +104,23 @@ spent_group_of k = if is_failed k.state then option_and_then (λ p. option_map (
 abbrev pub declined_group_of : RequestRecord → Option Group
 declined_group_of k = group_if (is_still_requested k) declined_group
 
+abbrev pub next_label_group_of : RequestRecord → Option Group
+next_label_group_of k = if is_pending k.state && is_none k.pinned then option_and_then (λ p. option_map (next_label_group p) (next_label k)) k.pool else None
+
+abbrev pub pinned_label_group_of : RequestRecord → Option Group
+pinned_label_group_of k = if is_pending k.state && is_some k.pinned then option_and_then (λ p. option_map (pinned_label_group p) (next_label k)) k.pool else None
+
 -- the groups of a request with this record
 abbrev pub request_groups : Configuration → RequestRecord → List (Option Group)
-request_groups c k = pending_group_of k ∷ waiting_group_of c k ∷ coming_group_of k ∷ spent_group_of k ∷ declined_group_of k ∷ []
+request_groups c k =
+    pending_group_of k
+    ∷ waiting_group_of c k
+    ∷ coming_group_of k
+    ∷ spent_group_of k
+    ∷ declined_group_of k
+    ∷ next_label_group_of k
+    ∷ pinned_label_group_of k
+    ∷ []
 
 -- ## what a state says
 

@@ -59,16 +59,20 @@ with_all before same (p ∷ placed) ms = with_all before same placed (with_group
 
 -- ## nodes and requests
 
--- what is in no group
-abbrev pub no_groups : List (Option Group)
-no_groups = None ∷ None ∷ None ∷ None ∷ None ∷ []
+-- a node in no group
+abbrev pub no_node_groups : List (Option Group)
+no_node_groups = None ∷ None ∷ None ∷ None ∷ None ∷ []
+
+-- a request in no group
+abbrev pub no_request_groups : List (Option Group)
+no_request_groups = None ∷ None ∷ None ∷ None ∷ None ∷ None ∷ None ∷ []
 
 -- the groups of the node, if it is there
 abbrev pub groups_of_node : State → NodeId → List (Option Group)
-groups_of_node s n = option_map_or (λ k. node_groups k (is_none (node_holder n s.nodes))) (node_in n s.nodes) no_groups
+groups_of_node s n = option_map_or (λ k. node_groups k (is_none (node_holder n s.nodes))) (node_in n s.nodes) no_node_groups
 
 abbrev pub groups_of_request : Configuration → State → RequestId → List (Option Group)
-groups_of_request c s r = option_map_or (λ k. request_groups c k) (request_in r s.requests) no_groups
+groups_of_request c s r = option_map_or (λ k. request_groups c k) (request_in r s.requests) no_request_groups
 
 abbrev pub placed_node : State → NodeId → Placed NodeId
 placed_node s n = record { id = n; groups = groups_of_node s n }

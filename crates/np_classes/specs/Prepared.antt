@@ -80,7 +80,7 @@ pub record IsPrepared (c : Configuration) (s : State) (ch : Changes) (touched : 
   pub node_members : touched.node_members ≡ members_of (map (placed_node s) touched.nodes)
   pub request_members : touched.request_members ≡ members_of (map (placed_request c s) touched.requests)
 
--- there is room for each of them in the five groups that it may be in
+-- there is room for each node in the five groups that it may be in, and for each request in its seven
 pub record HasRoom (touched : TouchedOf) (classes : ClassesOf) : Type 0 where
   pub nodes : 5 * length touched.nodes ≤ classes.node_room
-  pub requests : 5 * length touched.requests ≤ classes.request_room
+  pub requests : 7 * length touched.requests ≤ classes.request_room

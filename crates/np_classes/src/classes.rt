@@ -9,7 +9,7 @@ ghost use Rattle.np_changes.specs.declared.changes.Changes.{Changes};
 ghost use Rattle.np_changes.specs.declared.changes.SessionsChange.TheVariants as sessions;
 ghost use Rattle.np_changes.specs.Planned.{IsPlanned, IsReached};
 ghost use Rattle.np_look.specs.Readers.{queued_nodes};
-ghost use Rattle.np_groups.specs.Groups.{ids_in};
+ghost use Rattle.np_groups.specs.Groups.{group_after, group_from, ids_in};
 ghost use Rattle.np_classes.specs.Classes.{AreClasses};
 ghost use Rattle.np_classes.specs.Prepared.{HasRoom, IsPrepared};
 
@@ -84,6 +84,20 @@ impl Classes {
         self.requests.at(group, at)
     }
 
+    /// The first group from this one on that a request is in. One binary search.
+    pub fn request_group_from(&self, group: Group) -> Option<Group>
+        ensures { result ≡ group_from group self.now.requests }
+    {
+        self.requests.group_from(group)
+    }
+
+    /// The first group after this one that a request is in. One binary search.
+    pub fn request_group_after(&self, group: Group) -> Option<Group>
+        ensures { result ≡ group_after group self.now.requests }
+    {
+        self.requests.group_after(group)
+    }
+
     /// Lists what the changes touch, before the state changes, and takes the memory for `note`. The
     /// members stay as they are, so nothing need be undone if the change fails. Where a session
     /// ends, `queued` is the nodes in whose queues it is. It costs a few lookups for each node and
@@ -107,7 +121,7 @@ impl Classes {
     {
         let touched = touched_by(alloc, look, changes, queued)?;
         self.nodes.reserve(5 * touched.nodes.len())?;
-        self.requests.reserve(5 * touched.requests.len())?;
+        self.requests.reserve(7 * touched.requests.len())?;
         Ok(touched)
     }
 

@@ -2,7 +2,7 @@
 
 ghost use Rattle.std.specs.Prelude.{◌≡◌, None};
 ghost use Rattle.std.specs.Option.{option_map};
-ghost use Rattle.np_classes.specs.Classes.{coming_group, coming_group_of, declined_group, declined_group_of, free_group, group_if, kind_group, node_groups, pending_group, pending_group_of, request_groups, spare_group, spent_group, spent_group_of, tenant_group, unheld_group, waiting_group, waiting_group_of};
+ghost use Rattle.np_classes.specs.Classes.{coming_group, coming_group_of, declined_group, declined_group_of, free_group, group_if, kind_group, next_label_group, next_label_group_of, node_groups, pending_group, pending_group_of, pinned_label_group, pinned_label_group_of, request_groups, spare_group, spent_group, spent_group_of, tenant_group, unheld_group, waiting_group, waiting_group_of};
 
 use np_config::Config;
 use np_groups::Group;
@@ -120,6 +120,28 @@ pub fn declined_group() -> Group
     }
 }
 
+/// The requests that are pending by the pool and not pinned, and whose next label is this one.
+pub fn next_label_group(pool: PoolId, label: LabelId) -> Group
+    ensures { result ≡ next_label_group pool label }
+{
+    Group {
+        class: 5,
+        first: pool.0,
+        second: label.0,
+    }
+}
+
+/// The same of those that are pinned.
+pub fn pinned_label_group(pool: PoolId, label: LabelId) -> Group
+    ensures { result ≡ pinned_label_group pool label }
+{
+    Group {
+        class: 6,
+        first: pool.0,
+        second: label.0,
+    }
+}
+
 /// The group, if the test is passed.
 fn group_if(is_in: bool, group: Group) -> Option<Group>
     ensures { result ≡ group_if is_in group }
@@ -192,8 +214,28 @@ fn declined_group_of(kept: &RequestRecord) -> Option<Group>
     group_if(is_declined, declined_group())
 }
 
+fn next_label_group_of(kept: &RequestRecord) -> Option<Group>
+    ensures { result ≡ next_label_group_of kept.now }
+{
+    if kept.state != RequestState::Pending || kept.pinned.is_some() {
+        return None;
+    }
+    let pool = kept.pool?;
+    Some(next_label_group(pool, kept.labels.at(kept.nodes.len())?))
+}
+
+fn pinned_label_group_of(kept: &RequestRecord) -> Option<Group>
+    ensures { result ≡ pinned_label_group_of kept.now }
+{
+    if kept.state != RequestState::Pending || kept.pinned.is_none() {
+        return None;
+    }
+    let pool = kept.pool?;
+    Some(pinned_label_group(pool, kept.labels.at(kept.nodes.len())?))
+}
+
 /// The groups of a request with this record.
-pub(crate) fn request_groups(config: &Config, kept: &RequestRecord) -> [Option<Group>; 5]
+pub(crate) fn request_groups(config: &Config, kept: &RequestRecord) -> [Option<Group>; 7]
     ensures { result ≡ request_groups config.now kept.now }
 {
     [
@@ -202,5 +244,7 @@ pub(crate) fn request_groups(config: &Config, kept: &RequestRecord) -> [Option<G
         coming_group_of(kept),
         spent_group_of(kept),
         declined_group_of(kept),
+        next_label_group_of(kept),
+        pinned_label_group_of(kept),
     ]
 }

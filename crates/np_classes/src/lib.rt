@@ -13,7 +13,7 @@ mod touched;
 
 pub use classes::Classes;
 pub use group::{
-    coming_group, declined_group, free_group, kind_group, pending_group, spare_group, spent_group,
-    tenant_group, unheld_group, waiting_group,
+    coming_group, declined_group, free_group, kind_group, next_label_group, pending_group,
+    pinned_label_group, spare_group, spent_group, tenant_group, unheld_group, waiting_group,
 };
 pub use touched::Touched;

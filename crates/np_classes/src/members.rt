@@ -69,7 +69,7 @@ pub(crate) fn put_requests<L: Look>(
     look: &L,
     requests: &[RequestId],
 )
-    requires { 5 * length requests.now ≤ groups.old.room }
+    requires { 7 * length requests.now ≤ groups.old.room }
     ensures { groups.new.members
         ≡ with_all is_id_before same_request
         (map (placed_request (L.site look.now) (L.state look.now)) requests.now)
@@ -119,7 +119,7 @@ fn add_request(
         ≡ with_groups is_id_before same_request view.now.id
         (placed_request_view config.now view.now).groups groups.old.members) }
 {
-    groups.reserve(5)?;
+    groups.reserve(7)?;
     put_in(groups, view.id, &request_groups(config, &view.kept));
     Ok(())
 }

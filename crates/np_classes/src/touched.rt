@@ -39,25 +39,28 @@ impl Model for Touched {
     } };
 }
 
-/// In no group.
-const NO_GROUPS: [Option<Group>; 5] = [None, None, None, None, None];
+/// A node in no group.
+const NO_NODE_GROUPS: [Option<Group>; 5] = [None, None, None, None, None];
+
+/// A request in no group.
+const NO_REQUEST_GROUPS: [Option<Group>; 7] = [None, None, None, None, None, None, None];
 
 /// The groups that the node is in, if it is there. Two lookups.
 pub(crate) fn groups_of_node<L: Look>(look: &L, node: NodeId) -> [Option<Group>; 5]
     ensures { result ≡ groups_of_node (L.state look.now) node }
 {
     match look.node(node) {
-        None => NO_GROUPS,
+        None => NO_NODE_GROUPS,
         Some(kept) => node_groups(&kept, look.node_holder(node).is_none()),
     }
 }
 
 /// The groups that the request is in, if it is there. One lookup.
-pub(crate) fn groups_of_request<L: Look>(look: &L, request: RequestId) -> [Option<Group>; 5]
+pub(crate) fn groups_of_request<L: Look>(look: &L, request: RequestId) -> [Option<Group>; 7]
     ensures { result ≡ groups_of_request (L.site look.now) (L.state look.now) request }
 {
     match look.request(request) {
-        None => NO_GROUPS,
+        None => NO_REQUEST_GROUPS,
         Some(kept) => request_groups(look.config(), &kept),
     }
 }
