@@ -108,8 +108,8 @@ fn make_changes(
 }
 
 /// Makes the changes of an event: one call of the tree, and then a session begins or ends. Fewer than
-/// 16,777,214 changes were made before. It errs if and only if memory runs out, and then the state
-/// stays. The cost is that of reading what the parts need (np_steps), and of the call.
+/// 16,777,214 changes were made before. An error says that memory ran out, and then the state stays.
+/// The cost is that of reading what the parts need (np_steps), and of the call.
 pub fn enact(
     alloc: Global,
     tree: &mut Tree,

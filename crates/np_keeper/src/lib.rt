@@ -5,7 +5,7 @@
 //! makes the first tree, `change` makes the changes of an event, and `keeper` answers what np_look
 //! and np_decision ask of anything that keeps a state: each reader of the tree answers what the state
 //! has, and each accepted event leaves a tree of the machine's next state. `enact` makes the changes
-//! of an event in a tree that the caller has.
+//! of an event in a tree that the caller has, which `first_tree` makes.
 #![tactic(auto)]
 
 mod change;
@@ -15,3 +15,4 @@ mod start;
 
 pub use change::enact;
 pub use keeper::TreeKeeper;
+pub use start::first_tree;

@@ -198,8 +198,9 @@ fn begun_tree(alloc: Global) -> Result<Tree, NoMemory>
     Ok(tree)
 }
 
-/// The tree before the first event.
-pub(crate) fn first_tree(alloc: Global, config: &Config) -> Result<Tree, NoMemory>
+/// The tree of the configuration before the first event. One call makes it, with a part for each
+/// directory, semaphore, job, pool and requester.
+pub fn first_tree(alloc: Global, config: &Config) -> Result<Tree, NoMemory>
     requires { IsSound config.now }
     ensures held { IfOk result (λ tree. IsHeld config.now tree) }
     ensures state { IfOk result (λ tree. decoded config.now tree ≡ start config.now) }
