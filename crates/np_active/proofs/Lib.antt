@@ -1,0 +1,11 @@
+pub mod Own
+pub mod Rows
+pub mod Roles
+pub mod Rebuilt
+pub mod Readers
+pub mod Begun
+pub mod Untouched
+pub mod Noted
+pub mod HandleOrder
+pub mod HandlesUntouched
+pub mod Holders

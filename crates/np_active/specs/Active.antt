@@ -1,0 +1,98 @@
+-- the groups of jobs and of sessions, and what a state says of them
+use Rattle.std.specs.Prelude.{◌≡◌, ◌≤◌, ℕ, List, [], Bool, false, length, slice_get}
+use Rattle.std.specs.List.{AllByRecursion}
+use Rattle.std.specs.Option.{option_map_or}
+use Rattle.np_text.specs.declared.id.JobId.{JobId}
+use Rattle.np_text.specs.declared.id.RequesterId.{RequesterId}
+use Rattle.np_text.specs.declared.id.Role.{Role}
+use Rattle.np_text.specs.declared.id.Role.TheVariants.{Launcher, Janitor, Requester, Reaper}
+use Rattle.np_text.specs.declared.id.SemId.{SemId}
+use Rattle.np_text.specs.declared.id.SessionId.{SessionId}
+use Rattle.np_site.specs.Configuration.{Configuration}
+use Rattle.np_lists.specs.Rising.{Rises}
+use Rattle.np_groups.specs.declared.groups.Group.{Group}
+use Rattle.np_groups.specs.declared.groups.Member.{Member}
+use Rattle.np_groups.specs.Groups.{has_member, is_member_before}
+use Rattle.np_keys.specs.Keys.{is_job_before, is_session_before, same_job, same_session}
+use Rattle.np_machine.specs.Laws.{speaks_for}
+use Rattle.np_machine.specs.Semaphore.{max_of}
+use Rattle.np_machine.specs.State.{State}
+use Rattle.np_machine.specs.Tables.{handles_of, has_handle, session_of}
+use Rattle.np_changes.specs.Changes.{semaphores_of}
+use Rattle.np_changes.specs.declared.changes.Changes.{Changes}
+use Rattle.np_changes.specs.declared.changes.Growth.{Growth}
+use Rattle.np_changes.specs.declared.changes.Growth.TheVariants as grow
+use Rattle.np_look.specs.Readers.{is_active_job}
+
+-- ## groups (own)
+
+-- the active jobs of the requester
+abbrev pub job_group : RequesterId → Group
+job_group q = record { class = 0; first = q.0; second = 0 }
+
+-- the jobs that have a handle of the semaphore
+abbrev pub handle_group : SemId → Group
+handle_group x = record { class = 0; first = x.0; second = 0 }
+
+-- the sessions that speak for the role
+abbrev pub role_group : Role → Group
+role_group (Launcher p) = record { class = 0; first = p.0; second = 0 }
+role_group (Janitor p) = record { class = 1; first = p.0; second = 0 }
+role_group (Requester q) = record { class = 2; first = q.0; second = 0 }
+role_group Reaper = record { class = 3; first = 0; second = 0 }
+
+-- ## what a state says
+
+-- the job is there, and an active one of the requester
+abbrev pub is_active_in : Configuration → State → RequesterId → JobId → Bool
+is_active_in c s q j = option_map_or (λ kept. is_active_job c q j kept) (slice_get s.jobs j.0) false
+
+-- the session was begun, and speaks for the role
+abbrev pub speaks_in : State → Role → SessionId → Bool
+speaks_in s role session = option_map_or (λ facts. speaks_for role facts) (session_of session s) false
+
+-- the members of each group are the ids that pass for it
+pub record AreGroups {K Q : Type 0} (before same : K → K → Bool) (group : Q → Group) (passes : Q → K → Bool) (members : List (Member K)) : Type 0 where
+  pub rises : Rises (is_member_before before) members
+  pub each : (q : Q) (i : K) → has_member same (group q) i members ≡ passes q i
+
+-- the members of a requester's group are its active jobs
+abbrev pub AreJobGroups : Configuration → State → List (Member JobId) → Type 0
+AreJobGroups c s members = AreGroups is_job_before same_job job_group (is_active_in c s) members
+
+-- the members of a semaphore's group are the jobs that have a handle of it, which a state has in order
+-- and which are no more than may
+pub record AreHandleGroups (c : Configuration) (s : State) (members : List (Member JobId)) : Type 0 where
+  pub groups : AreGroups is_job_before same_job handle_group (λ x j. has_handle j s.handles x) members
+  pub once : AllByRecursion (λ jobs. Rises is_job_before jobs) s.handles
+  pub few : (x : SemId) → length (handles_of x s.handles) ≤ max_of c x
+
+-- the members of a role's group are the sessions that speak for it
+abbrev pub AreSessionGroups : State → List (Member SessionId) → Type 0
+AreSessionGroups s members = AreGroups is_session_before same_session role_group (speaks_in s) members
+
+-- the members of all groups, and how many more can be put without taking memory
+pub record ActiveOf : Type 0 where
+  pub jobs : List (Member JobId)
+  pub handles : List (Member JobId)
+  pub sessions : List (Member SessionId)
+  pub job_room : ℕ
+  pub handle_room : ℕ
+  pub session_room : ℕ
+
+-- each part says what the state says
+pub record AreActive (c : Configuration) (s : State) (active : ActiveOf) : Type 0 where
+  pub jobs : AreJobGroups c s active.jobs
+  pub handles : AreHandleGroups c s active.handles
+  pub sessions : AreSessionGroups s active.sessions
+
+-- the semaphores of which the job is to have handles (own)
+abbrev pub new_semaphores : Configuration → Growth → List SemId
+new_semaphores c (grow.Handles j) = semaphores_of c j
+new_semaphores c growth = []
+
+-- there is room for a job, for its handles, for a session that begins and for one that is mute or over
+pub record HasRoom (c : Configuration) (changes : Changes) (active : ActiveOf) : Type 0 where
+  pub jobs : 1 ≤ active.job_room
+  pub handles : length (new_semaphores c changes.grows) ≤ active.handle_room
+  pub sessions : 2 ≤ active.session_room

@@ -1,0 +1,87 @@
+-- what a job or a session makes of the members of groups, and what the changes of an event do (own)
+use Rattle.std.specs.Prelude.{Bool, false, List, Option, if◌then◌else◌, fold, slice_get, length}
+use Rattle.std.specs.Option.{option_map, option_map_or}
+use Rattle.np_text.specs.declared.id.JobId.{JobId}
+use Rattle.np_text.specs.declared.id.RequesterId.{RequesterId}
+use Rattle.np_text.specs.declared.id.SemId.{SemId}
+use Rattle.np_text.specs.declared.id.SessionId.{SessionId}
+use Rattle.np_site.specs.Configuration.{Configuration}
+use Rattle.np_groups.specs.declared.groups.Group.{Group}
+use Rattle.np_groups.specs.declared.groups.Member.{Member}
+use Rattle.np_groups.specs.Groups.{with_member, without_member}
+use Rattle.np_keys.specs.Keys.{is_job_before, is_session_before, same_job, same_session}
+use Rattle.np_machine.specs.State.{State}
+use Rattle.np_machine.specs.Tables.{has_handle, role_of}
+use Rattle.np_changes.specs.Changes.{semaphores_of}
+use Rattle.np_changes.specs.declared.changes.Growth.{Growth}
+use Rattle.np_changes.specs.declared.changes.Growth.TheVariants as grow
+use Rattle.np_changes.specs.declared.changes.HandlesChange.{HandlesChange}
+use Rattle.np_changes.specs.declared.changes.HandlesChange.TheVariants as handles
+use Rattle.np_changes.specs.declared.changes.JobsChange.{JobsChange}
+use Rattle.np_changes.specs.declared.changes.JobsChange.TheVariants as jobs
+use Rattle.np_changes.specs.declared.changes.SessionsChange.{SessionsChange}
+use Rattle.np_changes.specs.declared.changes.SessionsChange.TheVariants as sessions
+use Rattle.np_active.specs.Active.{handle_group, is_active_in, job_group, role_group, speaks_in}
+
+-- ## one id
+
+-- the id in the group if it is to be there, and not in it otherwise
+abbrev pub with_member_if : {K : Type 0} → (K → K → Bool) → (K → K → Bool) → Group → K → Bool → List (Member K) → List (Member K)
+with_member_if before same g i is_in ms = if is_in then with_member before same g i ms else without_member same g i ms
+
+-- the id in the group of whom it belongs to if it passes, and not in it otherwise; nothing if it belongs to nobody
+abbrev pub with_own : {K Q : Type 0} → (K → K → Bool) → (K → K → Bool) → (Q → Group) → (Q → Bool) → K → Option Q → List (Member K) → List (Member K)
+with_own before same group passes i own ms = option_map_or (λ q. with_member_if before same (group q) i (passes q) ms) own ms
+
+-- whose job it is
+abbrev pub requester_of : Configuration → JobId → Option RequesterId
+requester_of c j = option_map (λ row. row.requester) (slice_get c.jobs j.0)
+
+-- the job where the state has it
+abbrev pub with_job : Configuration → State → JobId → List (Member JobId) → List (Member JobId)
+with_job c s j ms = with_own is_job_before same_job job_group (λ q. is_active_in c s q j) j (requester_of c j) ms
+
+-- the session where the state has it
+abbrev pub with_session : State → SessionId → List (Member SessionId) → List (Member SessionId)
+with_session s session ms = with_own is_session_before same_session role_group (λ role. speaks_in s role session) session (role_of session s) ms
+
+-- the job among those with a handle of the semaphore, or not
+abbrev pub with_handle_if : JobId → SemId → Bool → List (Member JobId) → List (Member JobId)
+with_handle_if j x is_in ms = with_member_if is_job_before same_job (handle_group x) j is_in ms
+
+-- the same for each of the semaphores
+abbrev pub with_handles : (SemId → Bool) → JobId → List SemId → List (Member JobId) → List (Member JobId)
+with_handles has j semaphores ms = fold (λ xs x. with_handle_if j x (has x) xs) ms semaphores
+
+-- all of these jobs with a handle of the semaphore
+abbrev pub with_holders : SemId → List JobId → List (Member JobId) → List (Member JobId)
+with_holders x jobs ms = fold (λ xs j. with_member is_job_before same_job (handle_group x) j xs) ms jobs
+
+-- ## the changes of an event, by the state after them
+
+-- the job whose record was put
+abbrev pub with_changed_job : Configuration → State → JobsChange → List (Member JobId) → List (Member JobId)
+with_changed_job c s jobs.Same ms = ms
+with_changed_job c s (jobs.Put j kept) ms = with_job c s j ms
+with_changed_job c s (jobs.EndNode j n) ms = ms
+
+-- the job that takes handles, where the state has it
+abbrev pub with_new_handles : Configuration → State → Growth → List (Member JobId) → List (Member JobId)
+with_new_handles c s (grow.Handles j) ms = with_handles (λ x. has_handle j s.handles x) j (semaphores_of c j) ms
+with_new_handles c s growth ms = ms
+
+-- the job that gives its handles back, with no handle
+abbrev pub without_handles : Configuration → HandlesChange → List (Member JobId) → List (Member JobId)
+without_handles c handles.Same ms = ms
+without_handles c (handles.Release j) ms = with_handles (λ x. false) j (semaphores_of c j) ms
+
+-- the session that began, which is the last
+abbrev pub with_new_session : State → Growth → List (Member SessionId) → List (Member SessionId)
+with_new_session s (grow.Session role) ms = with_session s (record { 0 = length s.sessions }) ms
+with_new_session s growth ms = ms
+
+-- the session that is mute or over
+abbrev pub with_changed_session : State → SessionsChange → List (Member SessionId) → List (Member SessionId)
+with_changed_session s sessions.Same ms = ms
+with_changed_session s (sessions.Mute session) ms = with_session s session ms
+with_changed_session s (sessions.End session) ms = with_session s session ms

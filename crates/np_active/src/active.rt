@@ -1,0 +1,143 @@
+//! The groups of a state's active jobs, of its handles and of its speaking sessions, kept as events
+//! change it.
+
+ghost use Rattle.std.specs.Prelude.{◌≡◌, IfOk, OnOk, length, slice_get};
+ghost use Rattle.np_site.specs.Configuration.{Configuration};
+ghost use Rattle.np_machine.specs.State.{State};
+ghost use Rattle.np_machine.specs.Tables.{handles_of, has_handle};
+ghost use Rattle.np_changes.specs.Changes.{changed};
+ghost use Rattle.np_changes.specs.Planned.{IsPlanned, IsReached};
+ghost use Rattle.np_look.specs.Readers.{active_of, current_of};
+ghost use Rattle.np_active.specs.Active.{AreActive, HasRoom};
+
+use crate::handles::{all_handles, handle_group, new_handles, put_new_handles, take_handles};
+use crate::members::{
+    all_jobs, all_sessions, job_group, put_changed_job, put_changed_session, put_new_session,
+    role_group,
+};
+use np_changes::Changes;
+use np_config::Config;
+use np_groups::Groups;
+use np_keys::{ByJob, BySession};
+use np_look::Look;
+use np_text::{JobId, RequesterId, Role, SemId, SessionId};
+use std::alloc::{AllocError, Global};
+use std::marker::Model;
+
+/// Which jobs of each requester are active, which jobs have a handle of each semaphore, and which
+/// sessions speak for each role.
+#[derive(Drop)]
+pub struct Active {
+    jobs: Groups<ByJob>,
+    handles: Groups<ByJob>,
+    sessions: Groups<BySession>,
+}
+
+impl Model for Active {
+    ghost use Rattle.np_active.specs.Active.{ActiveOf};
+
+    ghost Value = { ActiveOf };
+
+    ghost view = { λ active. record {
+      jobs = active.jobs.members;
+      handles = active.handles.members;
+      sessions = active.sessions.members;
+      job_room = active.jobs.room;
+      handle_room = active.handles.room;
+      session_room = active.sessions.room;
+    } };
+}
+
+impl Active {
+    /// The groups of the state. It reads each job, each handle and each session once, with a binary
+    /// search for each.
+    pub fn rebuild<L: Look>(alloc: Global, look: &L) -> Result<Active, AllocError>
+        requires { IsReached (L.site look.now) (L.state look.now) }
+        ensures { IfOk result (λ x. AreActive (L.site look.now) (L.state look.now) x) }
+    {
+        let jobs = all_jobs(alloc, look)?;
+        let handles = all_handles(alloc, look)?;
+        let sessions = all_sessions(alloc, look)?;
+        Ok(Active {
+            jobs,
+            handles,
+            sessions,
+        })
+    }
+
+    /// The job at a place among the requester's active jobs, in order of their numbers, counted
+    /// from 0; `None` if there are no more. One binary search.
+    pub fn job_at(&self, requester: RequesterId, at: u32) -> Option<JobId>
+        ensures { (c : Configuration) (s : State) → AreActive c s self.now
+            → result ≡ active_of c requester at s }
+    {
+        self.jobs.at(job_group(requester), at as usize)
+    }
+
+    /// How many jobs have a handle of the semaphore. Two binary searches.
+    pub fn handles(&self, semaphore: SemId) -> usize
+        ensures { (c : Configuration) (s : State) → AreActive c s self.now
+            → result ≡ length (handles_of semaphore s.handles) }
+    {
+        self.handles.count(handle_group(semaphore))
+    }
+
+    /// The job at a place among those that have a handle of the semaphore, in order of their
+    /// numbers, counted from 0; `None` if there are no more. One binary search.
+    pub fn handle_at(&self, semaphore: SemId, at: u32) -> Option<JobId>
+        ensures { (c : Configuration) (s : State) → AreActive c s self.now
+            → result ≡ slice_get (handles_of semaphore s.handles) at }
+    {
+        self.handles.at(handle_group(semaphore), at as usize)
+    }
+
+    /// Whether the job has a handle of the semaphore. One binary search.
+    pub fn has_handle(&self, semaphore: SemId, job: JobId) -> bool
+        ensures { (c : Configuration) (s : State) → AreActive c s self.now
+            → result ≡ has_handle job s.handles semaphore }
+    {
+        self.handles.has(handle_group(semaphore), job)
+    }
+
+    /// The role's current session: the last that speaks for it. Three binary searches.
+    pub fn current_session(&self, role: Role) -> Option<SessionId>
+        ensures { (c : Configuration) (s : State) → AreActive c s self.now
+            → result ≡ current_of role s }
+    {
+        let group = role_group(role);
+        let count = self.sessions.count(group);
+        if count == 0 {
+            return None;
+        }
+        self.sessions.at(group, count - 1)
+    }
+
+    /// Takes the memory that `note` needs for the changes. The members stay as they are.
+    pub fn prepare(&mut self, config: &Config, changes: &Changes) -> Result<(), AllocError>
+        ensures jobs { self.new.jobs ≡ self.old.jobs }
+        ensures handles { self.new.handles ≡ self.old.handles }
+        ensures sessions { self.new.sessions ≡ self.old.sessions }
+        ensures room { OnOk result (HasRoom config.now changes.now self.new) }
+    {
+        self.jobs.reserve(1)?;
+        self.handles.reserve(new_handles(config, &changes.grows))?;
+        self.sessions.reserve(2)?;
+        Ok(())
+    }
+
+    /// Puts the jobs and the session that the changes name where they are now, after the state has
+    /// changed. It takes no memory, and costs up to two lookups and a binary search for each of
+    /// them, and for each handle that is taken or given back.
+    pub fn note<L: Look>(&mut self, look: &L, changes: &Changes)
+        requires { HasRoom (L.site look.now) changes.now self.old }
+        ensures { (c : Configuration) (s : State) → IsReached c s → IsPlanned c s changes.now
+            → L.site look.now ≡ c → L.state look.now ≡ changed c changes.now s
+            → AreActive c s self.old → AreActive c (changed c changes.now s) self.new }
+    {
+        put_changed_job(&mut self.jobs, look, &changes.jobs);
+        put_new_handles(&mut self.handles, look, &changes.grows);
+        take_handles(&mut self.handles, look.config(), &changes.handles);
+        put_new_session(&mut self.sessions, look, &changes.grows);
+        put_changed_session(&mut self.sessions, look, &changes.sessions);
+    }
+}

@@ -1,0 +1,175 @@
+//! Jobs and sessions put in their groups and taken out of them. Only making groups anew takes
+//! memory.
+
+ghost use Rattle.std.specs.Prelude.{◌≡◌, ◌+◌, ◌<◌, ◌≤◌, IfOk, slice_get};
+ghost use Rattle.std.specs.Option.{option_map};
+ghost use Rattle.np_keys.specs.Keys.{is_job_before, is_session_before, same_job, same_session};
+ghost use Rattle.np_active.specs.Active.{AreJobGroups, AreSessionGroups, is_active_in, job_group, role_group};
+ghost use Rattle.np_active.specs.Members.{requester_of, with_changed_job, with_changed_session, with_job, with_member_if, with_new_session, with_session};
+
+use np_changes::{Growth, JobsChange, SessionsChange};
+use np_config::Config;
+use np_groups::{Group, Groups};
+use np_keys::{ByJob, BySession};
+use np_look::{Look, is_active_job, speaks_for};
+use np_table::Order;
+use np_text::{JobId, RequesterId, Role, SessionId};
+use std::alloc::{AllocError, Global};
+
+// ## groups
+
+/// The active jobs of the requester.
+pub(crate) fn job_group(requester: RequesterId) -> Group
+    ensures { result ≡ job_group requester }
+{
+    Group {
+        class: 0,
+        first: requester.0,
+        second: 0,
+    }
+}
+
+/// The sessions that speak for the role.
+pub(crate) fn role_group(role: Role) -> Group
+    ensures { result ≡ role_group role }
+{
+    let (class, first) = match role {
+        Role::Launcher(pool) => (0, pool.0),
+        Role::Janitor(pool) => (1, pool.0),
+        Role::Requester(requester) => (2, requester.0),
+        Role::Reaper => (3, 0),
+    };
+    Group {
+        class,
+        first,
+        second: 0,
+    }
+}
+
+/// Puts the id into the group if it is to be there, and takes it out if not. One binary search.
+pub(crate) fn put_if<O: Order>(groups: &mut Groups<O>, group: Group, id: O::Key, is_in: bool)
+    requires { 0 < groups.old.room }
+    ensures members { groups.new.members
+        ≡ with_member_if O.before O.same group id is_in groups.old.members }
+    ensures room { groups.old.room ≤ groups.new.room + 1 }
+{
+    if is_in {
+        groups.put(group, id);
+    } else {
+        groups.remove(group, id);
+    }
+}
+
+// ## jobs
+
+/// Whose job it is.
+fn requester_of(config: &Config, job: JobId) -> Option<RequesterId>
+    ensures { result ≡ requester_of config.now job }
+{
+    Some(config.job(job)?.requester)
+}
+
+/// Whether the job is there, and an active one of the requester.
+fn is_active<L: Look>(look: &L, requester: RequesterId, job: JobId) -> bool
+    ensures { result ≡ is_active_in (L.site look.now) (L.state look.now) requester job }
+{
+    match look.job(job) {
+        None => false,
+        Some(kept) => is_active_job(look.config(), requester, job, &kept),
+    }
+}
+
+/// Puts the job where the state has it. Two lookups and a binary search.
+fn put_job<L: Look>(groups: &mut Groups<ByJob>, look: &L, job: JobId)
+    requires { 0 < groups.old.room }
+    ensures { groups.new.members
+        ≡ with_job (L.site look.now) (L.state look.now) job groups.old.members }
+{
+    if let Some(requester) = requester_of(look.config(), job) {
+        let is_in = is_active(look, requester, job);
+        put_if(groups, job_group(requester), job, is_in);
+    }
+}
+
+/// The groups of all jobs, by one walk over them.
+pub(crate) fn all_jobs<L: Look>(alloc: Global, look: &L) -> Result<Groups<ByJob>, AllocError>
+    ensures { IfOk result (λ groups.
+        AreJobGroups (L.site look.now) (L.state look.now) groups.members) }
+{
+    let mut groups = Groups::new(alloc);
+    for number in 0..look.jobs() {
+        groups.reserve(1)?;
+        put_job(&mut groups, look, JobId(number));
+    }
+    Ok(groups)
+}
+
+/// Puts the job whose record was put. A mark at one of its nodes leaves it where it is.
+pub(crate) fn put_changed_job<L: Look>(groups: &mut Groups<ByJob>, look: &L, change: &JobsChange)
+    requires { 0 < groups.old.room }
+    ensures { groups.new.members
+        ≡ with_changed_job (L.site look.now) (L.state look.now) change.now groups.old.members }
+{
+    if let JobsChange::Put { job, .. } = change {
+        put_job(groups, look, *job);
+    }
+}
+
+// ## sessions
+
+/// Puts the session where the state has it. One lookup and a binary search.
+fn put_session<L: Look>(groups: &mut Groups<BySession>, look: &L, session: SessionId)
+    requires { 0 < groups.old.room }
+    ensures members { groups.new.members
+        ≡ with_session (L.state look.now) session groups.old.members }
+    ensures room { groups.old.room ≤ groups.new.room + 1 }
+{
+    if let Some(facts) = look.session(session) {
+        let is_in = speaks_for(facts.role, &facts);
+        put_if(groups, role_group(facts.role), session, is_in);
+    }
+}
+
+/// The groups of all sessions, by one walk over them.
+pub(crate) fn all_sessions<L: Look>(
+    alloc: Global,
+    look: &L,
+) -> Result<Groups<BySession>, AllocError>
+    ensures { IfOk result (λ groups. AreSessionGroups (L.state look.now) groups.members) }
+{
+    let mut groups = Groups::new(alloc);
+    for at in 0..look.sessions() {
+        groups.reserve(1)?;
+        put_session(&mut groups, look, SessionId(at + 1));
+    }
+    Ok(groups)
+}
+
+/// Puts the session that began, which is the last.
+pub(crate) fn put_new_session<L: Look>(groups: &mut Groups<BySession>, look: &L, growth: &Growth)
+    requires { 0 < groups.old.room }
+    ensures members { groups.new.members
+        ≡ with_new_session (L.state look.now) growth.now groups.old.members }
+    ensures room { groups.old.room ≤ groups.new.room + 1 }
+{
+    if let Growth::Session { .. } = growth {
+        put_session(groups, look, SessionId(look.sessions()));
+    }
+}
+
+/// Puts the session that is mute or over now.
+pub(crate) fn put_changed_session<L: Look>(
+    groups: &mut Groups<BySession>,
+    look: &L,
+    change: &SessionsChange,
+)
+    requires { 0 < groups.old.room }
+    ensures { groups.new.members
+        ≡ with_changed_session (L.state look.now) change.now groups.old.members }
+{
+    match change {
+        SessionsChange::Same => {}
+        SessionsChange::Mute { session } => put_session(groups, look, *session),
+        SessionsChange::End { session } => put_session(groups, look, *session),
+    }
+}
