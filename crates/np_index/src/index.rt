@@ -12,17 +12,20 @@ ghost use Rattle.np_changes.specs.Asked.{new_record};
 ghost use Rattle.np_machine.specs.Reasons.{is_paused, is_spare};
 ghost use Rattle.np_machine.specs.Request.{is_spent_min_ready, ready_count};
 ghost use Rattle.np_machine.specs.State.{State};
+ghost use Rattle.np_machine.specs.Tables.{handles_of, has_handle};
 ghost use Rattle.np_machine.specs.Tenants.{count_of_tenant};
-ghost use Rattle.np_look.specs.Readers.{declined_requests, free_ready_of, pending_requests, queued_nodes, queued_requests, unfinished_of, unheld_nodes};
+ghost use Rattle.np_look.specs.Readers.{active_of, current_of, declined_requests, free_ready_of, pending_requests, queued_nodes, queued_requests, unfinished_of, unheld_nodes};
 ghost use Rattle.np_index.specs.Index.{IsIndexOf};
 
+use np_active::Active;
 use np_amount::Amount;
 use np_changes::Asked;
 use np_classes::Classes;
 use np_look::Look;
 use np_lookups::Lookups;
 use np_text::{
-    JobId, LabelId, NoMemory, NodeId, PoolId, RequestId, RequesterId, SessionId, TenantId,
+    JobId, LabelId, NoMemory, NodeId, PoolId, RequestId, RequesterId, Role, SemId, SessionId,
+    TenantId,
 };
 use std::alloc::Global;
 use std::marker::Model;
@@ -32,6 +35,7 @@ use std::marker::Model;
 pub struct Index {
     pub(crate) lookups: Lookups,
     pub(crate) classes: Classes,
+    pub(crate) active: Active,
 }
 
 impl Model for Index {
@@ -39,13 +43,18 @@ impl Model for Index {
 
     ghost Value = { IndexParts };
 
-    ghost view = { λ index. record { lookups = index.lookups; classes = index.classes } };
+    ghost view = { λ index. record {
+      lookups = index.lookups;
+      classes = index.classes;
+      active = index.active;
+    } };
 }
 
 impl Index {
-    /// The index of the state. It reads each job, request and node once, and asks the keeper for what
-    /// each session queues for and for the owner of each node that was made. A keeper that scans
-    /// reads all queues for each answer of the first kind, and all jobs for each node.
+    /// The index of the state. It reads each session, job, request, node and handle once or twice,
+    /// and asks the keeper for what each session queues for and for the owner of each node that was
+    /// made. A keeper that scans reads all queues for each answer of the first kind, and all jobs for
+    /// each node and each handle.
     pub fn rebuild<L: Look>(alloc: Global, look: &L) -> Result<Index, NoMemory>
         requires reached { IsReached (L.site look.now) (L.state look.now) }
         requires fits { Fits (L.site look.now) (L.state look.now) }
@@ -53,7 +62,12 @@ impl Index {
     {
         let lookups = Lookups::rebuild(alloc, look)?;
         let classes = Classes::rebuild(alloc, look)?;
-        Ok(Index { lookups, classes })
+        let active = Active::rebuild(alloc, look)?;
+        Ok(Index {
+            lookups,
+            classes,
+            active,
+        })
     }
 
     /// The job at a place among those of the requester that are not over, in order of their numbers.
@@ -63,6 +77,49 @@ impl Index {
             → result ≡ unfinished_of c requester at s }
     {
         self.lookups.unfinished(requester, at)
+    }
+
+    /// The job at a place among those of the requester that have asked for their nodes or use them,
+    /// in order of their numbers. It costs one lookup.
+    pub fn active(&self, requester: RequesterId, at: u32) -> Option<JobId>
+        ensures { (c : Configuration) (s : State) → IsIndexOf c s self.now
+            → result ≡ active_of c requester at s }
+    {
+        self.active.job_at(requester, at)
+    }
+
+    /// How many jobs have a handle of the semaphore. It costs two lookups.
+    pub fn handles(&self, semaphore: SemId) -> usize
+        ensures { (c : Configuration) (s : State) → IsIndexOf c s self.now
+            → result ≡ length (handles_of semaphore s.handles) }
+    {
+        self.active.handles(semaphore)
+    }
+
+    /// The job at a place among those that have a handle of the semaphore, in order of their
+    /// numbers. It costs one lookup.
+    pub fn handle_at(&self, semaphore: SemId, at: u32) -> Option<JobId>
+        ensures { (c : Configuration) (s : State) → IsIndexOf c s self.now
+            → result ≡ slice_get (handles_of semaphore s.handles) at }
+    {
+        self.active.handle_at(semaphore, at)
+    }
+
+    /// Whether the job has a handle of the semaphore. It costs one lookup.
+    pub fn has_handle(&self, semaphore: SemId, job: JobId) -> bool
+        ensures { (c : Configuration) (s : State) → IsIndexOf c s self.now
+            → result ≡ has_handle job s.handles semaphore }
+    {
+        self.active.has_handle(semaphore, job)
+    }
+
+    /// The last session that speaks for the role: a live one that is not mute. It costs three
+    /// lookups.
+    pub fn current_session(&self, role: Role) -> Option<SessionId>
+        ensures { (c : Configuration) (s : State) → IsIndexOf c s self.now
+            → result ≡ current_of role s }
+    {
+        self.active.current_session(role)
     }
 
     /// The requests in whose queues the session is, by priority and then sequence. It costs one

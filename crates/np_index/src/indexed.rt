@@ -81,6 +81,7 @@ impl<K: StateKeeper + Drop> StateKeeper for Indexed<K> {
             .index
             .classes
             .prepare(self.alloc, &self.keeper, changes, queued)?;
+        self.index.active.prepare(self.keeper.config(), changes)?;
         let prepared = self.index.lookups.prepare(&self.keeper, changes)?;
         if let Err(fault) = self.keeper.change(changes) {
             self.index.lookups.take_back(changes, &prepared);
@@ -89,6 +90,7 @@ impl<K: StateKeeper + Drop> StateKeeper for Indexed<K> {
         let config = self.keeper.config();
         self.index.lookups.settle(config, changes, &prepared);
         self.index.classes.note(&self.keeper, &touched);
+        self.index.active.note(&self.keeper, changes);
         Ok(())
     }
 }

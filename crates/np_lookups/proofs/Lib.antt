@@ -12,7 +12,6 @@ pub mod Unused
 pub mod OfOwners
 pub mod RankLists
 pub mod OfRanks
-pub mod FirstRank
 pub mod ByNode
 pub mod Made
 pub mod Copied

@@ -1,6 +1,7 @@
 //! What can be read of a keeper with an index: what the index has, and else what the keeper reports.
 
 ghost use Rattle.std.specs.Prelude.{◌≡◌, ◌≤◌};
+ghost use Rattle.np_machine.specs.Semaphore.{max_of};
 
 use crate::indexed::Indexed;
 use np_amount::Amount;
@@ -21,6 +22,16 @@ fn number_of(rows: usize, most: u32) -> u32
 {
     let _most = most;
     rows as u32
+}
+
+/// How many jobs may have a handle of the semaphore.
+fn most_handles(config: &Config, semaphore: SemId) -> u32
+    ensures { result ≡ max_of config.now semaphore }
+{
+    match config.semaphore(semaphore) {
+        None => 0,
+        Some(row) => row.max,
+    }
 }
 
 impl<K: StateKeeper + Drop> Look for Indexed<K> {
@@ -145,15 +156,16 @@ impl<K: StateKeeper + Drop> Look for Indexed<K> {
     }
 
     fn handles(&self, semaphore: SemId) -> u32 {
-        self.keeper.handles(semaphore)
+        let most = most_handles(self.keeper.config(), semaphore);
+        number_of(self.index.handles(semaphore), most)
     }
 
     fn handle_at(&self, semaphore: SemId, at: u32) -> Option<JobId> {
-        self.keeper.handle_at(semaphore, at)
+        self.index.handle_at(semaphore, at)
     }
 
     fn has_handle(&self, semaphore: SemId, job: JobId) -> bool {
-        self.keeper.has_handle(semaphore, job)
+        self.index.has_handle(semaphore, job)
     }
 
     fn jobs(&self) -> u32 {
@@ -254,8 +266,16 @@ impl<K: StateKeeper + Drop> Look for Indexed<K> {
         self.index.unfinished(requester, at)
     }
 
+    fn active(&self, requester: RequesterId, at: u32) -> Option<JobId> {
+        self.index.active(requester, at)
+    }
+
     fn owner(&self, node: NodeId) -> Option<JobId> {
         self.index.owner(node)
+    }
+
+    fn current_session(&self, role: Role) -> Option<SessionId> {
+        self.index.current_session(role)
     }
 
     fn has_live_session(&self, requester: RequesterId) -> bool {

@@ -1,11 +1,8 @@
-use Rattle.std.proofs.Common.{◌∙◌, refl, subst, sym}
-use Rattle.np_lookups.specs.Lookups.{AreLookupsOf, AreRanks}
-use Rattle.np_lookups.proofs.FirstRank.{first-rank}
+use Rattle.std.proofs.Common.{◌∙◌}
+use Rattle.np_index.proofs.CandidateLemmas.{candidate-first}
 use Rattle.np_index.proofs.index.Index.first_of.Goals as goal
 
 pub returns : goal.returns
 returns g c =
-    let site = g.L.Look.site c.args.look.now in
-    let state = g.L.Look.state c.args.look.now in
-    let are : AreRanks state c.ranks.result.now = c.ranks.ensures site state (subst (λ index. AreLookupsOf site state index.lookups) (sym c.self.view_is) c.requires.index.lookups) in
-    c.first_request.ensures ∙ first-rank site state c.args.pool c.ranks.result.now are _ refl
+    c.candidate_at.ensures
+    ∙ candidate-first (g.L.Look.site c.args.look.now) (g.L.Look.state c.args.look.now) c.args.pool c.requires.index.lookups.ranks.once

@@ -1,9 +1,0 @@
-use Rattle.std.proofs.Common.{◌≡◌, drop}
-use Rattle.std.specs.Prelude.{find}
-use Rattle.np_lookups.specs.Ranks.{may_take_up}
-use Rattle.np_index.proofs.first.first_rank.Given as goal
-
-abbrev pub invariant-loop-rank : goal.invariant-loop-rank
-invariant-loop-rank g l =
-    find (λ rank. may_take_up (g.L.Look.site l.look) (g.L.Look.state l.look) l.pool rank.request) (drop l.rank-index l.ranks)
-    ≡ find (λ rank. may_take_up (g.L.Look.site l.look) (g.L.Look.state l.look) l.pool rank.request) l.ranks

@@ -1,0 +1,20 @@
+-- the requests that a pool's launcher may take up, in the order in which launchers take them up
+use Rattle.std.specs.Prelude.{ℕ, List, [], ◌∷◌, Option, filter, slice_get}
+use Rattle.std.specs.Option.{option_map}
+use Rattle.np_text.specs.declared.id.PoolId.{PoolId}
+use Rattle.np_text.specs.declared.id.RequestId.{RequestId}
+use Rattle.np_site.specs.Configuration.{Configuration}
+use Rattle.np_lists.specs.Change.{insert_before}
+use Rattle.np_machine.specs.Entries.{RequestEntry}
+use Rattle.np_machine.specs.First.{is_candidate}
+use Rattle.np_machine.specs.Order.{comes_before}
+use Rattle.np_machine.specs.State.{State}
+
+-- entries in the order in which launchers take them up
+abbrev pub in_order : List RequestEntry → List RequestEntry
+in_order [] = []
+in_order (e ∷ entries) = insert_before (λ other. comes_before e other) e (in_order entries)
+
+-- the candidates of the pool in that order: the one at this place
+abbrev pub candidate_of : Configuration → State → PoolId → ℕ → Option RequestId
+candidate_of c s p at = option_map (λ e. e.id) (slice_get (in_order (filter (is_candidate c s p) s.requests)) at)
