@@ -148,8 +148,8 @@ impl Board {
     }
 
     /// A node of the pool that is being deleted and held by the pool's janitor, or `Idle` if and
-    /// only if there is none. It scans the sessions from the newest to the janitor's, and then the
-    /// nodes in whose queues that session is, up to the due one.
+    /// only if there is none. It looks up the janitor's session, and then the nodes in whose queues
+    /// that session is, up to the due one.
     fn due(&self, pool: PoolId) -> Turn
         ensures { answers_due self.now.configuration self.now.journal pool result }
     {
@@ -170,8 +170,7 @@ impl Board {
     }
 
     /// Records that the pool's janitor sweeps the server, unless the server is kept or was swept
-    /// before. It scans the sessions from the newest to the janitor's, and finds the node and the
-    /// pair by binary search.
+    /// before. It looks up the janitor's session, and finds the node and the pair by binary search.
     fn sweep(&mut self, pool: PoolId, node: NodeId, server: u64) -> Result<Turn, NoMemory>
         ensures turn { IfOk result
             (λ t. IsTaken self.old (asks.Sweep pool node server) t self.new) }

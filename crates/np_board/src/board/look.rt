@@ -137,11 +137,11 @@ impl Look for Board {
     }
 
     fn handle_at(&self, semaphore: SemId, at: u32) -> Option<JobId> {
-        self.tree().handle_at(semaphore, at)
+        self.index().handle_at(semaphore, at)
     }
 
     fn has_handle(&self, semaphore: SemId, job: JobId) -> bool {
-        self.tree().has_handle(semaphore, job)
+        self.index().has_handle(semaphore, job)
     }
 
     fn jobs(&self) -> u32 {
@@ -240,8 +240,16 @@ impl Look for Board {
         self.index().unfinished(requester, at)
     }
 
+    fn active(&self, requester: RequesterId, at: u32) -> Option<JobId> {
+        self.index().active(requester, at)
+    }
+
     fn owner(&self, node: NodeId) -> Option<JobId> {
         self.index().owner(node)
+    }
+
+    fn current_session(&self, role: Role) -> Option<SessionId> {
+        self.index().current_session(role)
     }
 
     fn has_live_session(&self, requester: RequesterId) -> bool {

@@ -241,8 +241,16 @@ impl<K: StateKeeper + Drop> Look for JournalKeeper<K> {
         self.keeper.unfinished(requester, at)
     }
 
+    fn active(&self, requester: RequesterId, at: u32) -> Option<JobId> {
+        self.keeper.active(requester, at)
+    }
+
     fn owner(&self, node: NodeId) -> Option<JobId> {
         self.keeper.owner(node)
+    }
+
+    fn current_session(&self, role: Role) -> Option<SessionId> {
+        self.keeper.current_session(role)
     }
 
     fn has_live_session(&self, requester: RequesterId) -> bool {

@@ -1,12 +1,8 @@
 use Rattle.std.proofs.Common.{refl, sym, subst}
 use Rattle.np_machine.specs.State.{State}
-use Rattle.np_fits.proofs.FitsRuns.{Fits-Runs}
 use Rattle.np_board.specs.Answers.{IsDue}
 use Rattle.np_board.proofs.DueLemmas.{due-is, none-due, no-node, no-janitor}
 use Rattle.np_board.proofs.board.Board.due.Goals as goal
-
-pub current_session-requires : goal.current_session-requires
-current_session-requires c = Fits-Runs _ _ _ c.soundness.ensures.site c.soundness.ensures.runs
 
 pub returns-in_default : goal.returns-in_default
 returns-in_default c =

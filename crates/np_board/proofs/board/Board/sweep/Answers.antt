@@ -1,14 +1,10 @@
 use Rattle.std.proofs.Common.{sym, inl, inr}
 use Rattle.std.proofs.lemmas.Result.{IfOk-weaker}
 use Rattle.np_text.specs.declared.id.Role.TheVariants.{Janitor}
-use Rattle.np_fits.proofs.FitsRuns.{Fits-Runs}
 use Rattle.np_roles.proofs.Currents.{current-has}
 use Rattle.np_board.specs.Answers.{IsNotKept}
 use Rattle.np_board.proofs.TurnLemmas.{kept-taken, swept-taken, sweep-taken}
 use Rattle.np_board.proofs.board.Board.sweep.Goals as goal
-
-pub current_session-requires : goal.current_session-requires
-current_session-requires c = Fits-Runs _ _ _ c.soundness.ensures.site c.soundness.ensures.runs
 
 pub returns-in_default-clause-turn : goal.returns-in_default-clause-turn
 returns-in_default-clause-turn c =
