@@ -22,10 +22,10 @@ ghost use Rattle.np_janitor.specs.Finishes.{ChoosesFinish};
 use crate::cleanable::{PoolPause, is_cleanable};
 use crate::listed::{FailsOfDeclined, LocksOfPending, LocksOfUnheld};
 use np_event::Event;
-use np_look::Look;
+use np_look::{Look, is_same_role};
 use np_roles::{
     EventKind, NodeKind, RequestKind, Rows, choose_opening, current_session, first_of_kinds,
-    first_release, first_that_passes, has_some_handle, is_same_role, is_stopped, may_open, passes,
+    first_release, first_that_passes, has_some_handle, is_stopped, may_open, passes,
 };
 use np_text::{
     JobId, NodeId, PoolId, REQUESTERS, RequestId, RequestState, RequesterId, Role, SessionId,
@@ -161,9 +161,9 @@ impl Rows for JanitorRows {
     }
 }
 
-/// The first useful finish of the requester's jobs that are not over, or `None` if the requester
-/// goes on or there is none. It tests each such job up to that one, and none of a requester that
-/// goes on.
+/// The first useful finish of the requester's active jobs, which have asked for their nodes or use
+/// them, or `None` if the requester goes on or there is none. It tests each such job up to that
+/// one, and none of a requester that goes on.
 fn finish_for<L: Look>(
     look: &L,
     rows: &JanitorRows,
@@ -181,7 +181,7 @@ fn finish_for<L: Look>(
         return None;
     }
     for at in 0..look.jobs() {
-        let Some(job) = look.unfinished(requester, at) else {
+        let Some(job) = look.active(requester, at) else {
             return None;
         };
         let finish = Event::Finish { session, job };
@@ -194,7 +194,7 @@ fn finish_for<L: Look>(
 
 /// The first useful finish, by requester and then by job, or `None` if and only if there is none.
 /// It scans the requesters, with the configuration's faults for each that lost a session, and tests
-/// the jobs that are not over of those that stopped for good.
+/// the active jobs of those that stopped for good.
 fn first_finish<L: Look>(look: &L, rows: &JanitorRows, session: SessionId) -> Option<Event>
     requires fits { Fits (L.site look.now) (L.state look.now) }
     requires known { rows.now.known.paused ≡
@@ -257,9 +257,9 @@ fn first_node_lock<L: Look>(look: &L, rows: &JanitorRows, session: SessionId) ->
 /// A useful event of the pool's janitor, the first in the order of the crate's table, or `None` if
 /// and only if there is none. Its cost grows with what its session queues for, with the requests
 /// that are pending by the pool and those that some pool declined, with the nodes of the pool that
-/// nobody holds, with the jobs that are not over of the requesters that stopped for good, and with
-/// the handles that jobs have: each of these is found by a lookup if the state keeps an index. It
-/// reads the sessions that began after the janitor's own, or all if it has none.
+/// nobody holds, with the active jobs of the requesters that stopped for good, and with the handles
+/// that jobs have: each of these is found by a lookup if the state keeps an index, and so is the
+/// janitor's session.
 pub fn choose_janitor<L: Look>(look: &L, pool: PoolId) -> Option<Event>
     requires fits { Fits (L.site look.now) (L.state look.now) }
     requires pool { is_role (L.site look.now) (Janitor pool) ≡ true }

@@ -29,18 +29,19 @@
 //! - the requests and nodes in whose queues its session is, for what only a session in a queue may
 //!   do,
 //! - the requests that are requested and that some pool declined, for fail-declined,
-//! - the jobs that are not over of each requester that stopped for good, for finish,
+//! - the jobs that have asked for their nodes or use them, of each requester that stopped for good,
+//!   for finish,
 //! - the jobs that have a handle, semaphore by semaphore, for release,
 //! - the requests that are pending by the pool, for lock-request, and
 //! - the nodes of the pool that nobody holds, for lock-node.
 //!
-//! Each of these lists is a reader of `Look`: if the state keeps an index, the reader is a lookup,
-//! and the choice costs nothing for the other requests, nodes and jobs. So its cost grows with the
-//! number of these, with the number of sessions that began after its own, or of all sessions if it
-//! has none, and with the limit of requesters and the configuration's faults and semaphores. A test
-//! of a node determines whether another pool is paused only if the janitor waits at a node of that
-//! pool. The cost of the reaper's choice grows with the number of sessions, and with the faults of
-//! the configuration for each session that is not over.
+//! Each of these lists is a reader of `Look`, and so is its session: if the state keeps an index,
+//! the reader is a lookup, and the choice costs nothing for the other requests, nodes, jobs and
+//! sessions. So its cost grows with the number of these, and with the limit of requesters and the
+//! configuration's faults and semaphores. A test of a node determines whether another pool is
+//! paused only if the janitor waits at a node of that pool. The cost of the reaper's choice grows
+//! with the number of sessions, and with the faults of the configuration for each session that is
+//! not over.
 #![tactic(auto)]
 
 mod cleanable;

@@ -9,10 +9,8 @@ ghost use Rattle.np_roles.specs.Choices.{Chooses};
 ghost use Rattle.np_janitor.specs.Struck.{due_kind, struck_kind, session_event, session_candidate, ChoosesOfSessions};
 
 use np_event::Event;
-use np_look::Look;
-use np_roles::{
-    Candidates, Rows, fault_of, first_that_passes, is_spoken_later, speaks_for, strikes_of,
-};
+use np_look::{Look, speaks_for};
+use np_roles::{Candidates, Rows, fault_of, first_that_passes, is_spoken_later, strikes_of};
 use np_site::FaultKind;
 use np_text::{Role, SessionId};
 

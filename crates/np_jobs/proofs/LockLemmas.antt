@@ -1,4 +1,4 @@
--- if the nodes for each job that is not over were tried, no lock of a node is useful
+-- if the nodes for each active job were tried, no lock of a node is useful
 use Rattle.std.proofs.Common.{◌≡◌, ◌∙◌, ◌<◌, ℕ, zero, suc, List, [], ◌∷◌, refl, sym, ap, subst, arith, Option, Some, None, Bool, true, false}
 use Rattle.std.specs.Prelude.{slice_get, find, ◌==◌, not}
 use Rattle.std.specs.Option.{option_map_or}
@@ -18,7 +18,7 @@ use Rattle.np_machine.specs.State.{State}
 use Rattle.np_machine.specs.Tables.{is_queued, node_queue, request_in}
 use Rattle.np_safe.proofs.Places.{node-place}
 use Rattle.np_safe.proofs.Runs.{invariant-Runs}
-use Rattle.np_look.specs.Readers.{is_unfinished_job, unfinished_of}
+use Rattle.np_look.specs.Readers.{is_active_job, active_of}
 use Rattle.np_useful.specs.Requester.{is_asked_by, is_for}
 use Rattle.np_useful.specs.Rows.{job_is}
 use Rattle.np_useful.specs.Sessions.{is_current}
@@ -27,9 +27,8 @@ use Rattle.np_roles.specs.declared.kind.EventKind.TheVariants as kind_of
 use Rattle.np_roles.specs.declared.kind.NodeKind.TheVariants as of_node
 use Rattle.np_roles.specs.Choices.{NoneOf}
 use Rattle.np_roles.proofs.Searches.{made-by, passes-useful, useful-passes}
-use Rattle.np_roles.proofs.Unfinished.{among}
+use Rattle.np_roles.proofs.Among.{among}
 use Rattle.np_jobs.specs.Locks.{lock_passes, nodes_for, first_to_lock}
-use Rattle.np_jobs.proofs.Accepted.{asked_later}
 use Rattle.np_jobs.proofs.ForLemmas.{IsFound, found-for, ids-rise, all-own, and-first, and-second}
 
 -- ## a search that finds nothing
@@ -55,7 +54,7 @@ module _ (c : Configuration) (s : State) (q : RequesterId) where
     job : JobId
     kept : JobRecord
     there : slice_get s.jobs job.0 ≡ Some kept
-    unfinished : is_unfinished_job c q job kept ≡ true
+    active : is_active_job c q job kept ≡ true
     nodes : nodes_for s job ≡ e.kept.nodes
 
   module _ (reached : IsReached c s) (e : RequestEntry) (found : request_in e.id s.requests ≡ Some e.kept) (fulfilled : is_fulfilled e.kept.state ≡ true) where
@@ -70,7 +69,7 @@ module _ (c : Configuration) (s : State) (q : RequesterId) where
           job = j;
           kept = named.0;
           there = named.1.0;
-          unfinished = rw (own, asked_later named.0.phase asked) refl;
+          active = rw (own, asked) refl;
           nodes = rw (named.1.0, asked, named.1.1, found, fulfilled) refl;
         }
 
@@ -86,7 +85,7 @@ module _ (c : Configuration) (s : State) (q : RequesterId) (session : SessionId)
   pub lock-found : (j : JobId) (n : NodeId) → first_to_lock c s q session j ≡ Some n → IsUseful c s (Requester q) (ev.LockNode session n)
   lock-found j n found = passes-useful c s (Requester q) (ev.LockNode session n) (find-passes (lock_passes c s q session) (nodes_for s j) n found) current
 
-  module _ (reached : IsReached c s) (at : ℕ) (ends : (k : ℕ) (j : JobId) → unfinished_of c q k s ≡ Some j → k < at) (passed : (k : ℕ) → k < at → (j : JobId) → unfinished_of c q k s ≡ Some j → first_to_lock c s q session j ≡ None) where
+  module _ (reached : IsReached c s) (at : ℕ) (ends : (k : ℕ) (j : JobId) → active_of c q k s ≡ Some j → k < at) (passed : (k : ℕ) → k < at → (j : JobId) → active_of c q k s ≡ Some j → first_to_lock c s q session j ≡ None) where
     -- no lock of the session is useful
     none_of : (n : NodeId) → IsUseful c s (Requester q) (ev.LockNode session n) → ⊥
     none_of n useful =
@@ -97,7 +96,7 @@ module _ (c : Configuration) (s : State) (q : RequesterId) (session : SessionId)
         let fulfilled : is_fulfilled e.kept.state ≡ true = and-first (is_fulfilled e.kept.state) (option_map_or (is_asked_by c s q) e.kept.job false) given.over in
         let asks : option_map_or (is_asked_by c s q) e.kept.job false ≡ true = and-second (is_fulfilled e.kept.state) (option_map_or (is_asked_by c s q) e.kept.job false) given.over in
         let is : IsAwaiting c s q e = awaiting c s q reached e given.handed_to.found fulfilled e.kept.job refl asks in
-        let place = among c q 0 s.jobs is.job.0 is.kept is.job (omega arith) is.there is.unfinished in
+        let place = among (is_active_job c q) 0 s.jobs is.job.0 is.kept is.job (omega arith) is.there is.active in
         let none : find (lock_passes c s q session) e.kept.nodes ≡ None = ap (find (lock_passes c s q session)) (sym is.nodes) ∙ passed place.at (ends place.at is.job place.there) is.job place.there in
         let listed = node-place n e.kept.nodes given.listed in
         let fails : lock_passes c s q session n ≡ false = none-passes (lock_passes c s q session) e.kept.nodes listed.0 n none listed.1 in

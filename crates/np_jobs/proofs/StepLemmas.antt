@@ -1,4 +1,4 @@
--- if the events of a session on each job that is not over were tried, no such event is useful
+-- if the events of a session on the active jobs and in the window were tried, none is useful
 use Rattle.std.proofs.Common.{◌≡◌, ◌∙◌, ◌<◌, ℕ, refl, sym, ap, subst, arith, Option, Some, None, Ok, Bool, true, false}
 use Rattle.std.specs.Prelude.{is_some, ◌&&◌, ◌==◌, not}
 use Rattle.std.specs.List.{AllByRecursion}
@@ -10,28 +10,32 @@ use Rattle.np_text.specs.declared.id.Role.{Role}
 use Rattle.np_text.specs.declared.id.Role.TheVariants.{Requester}
 use Rattle.np_site.specs.Configuration.{Configuration}
 use Rattle.np_event.specs.declared.event.Event.{Event}
+use Rattle.np_event.specs.declared.event.Event.TheVariants as ev
 use Rattle.np_event.specs.declared.reply.Done.{Done}
 use Rattle.np_machine.specs.declared.state.SessionFacts.{SessionFacts}
-use Rattle.np_machine.specs.Laws.{same_role}
+use Rattle.np_machine.specs.Laws.{same_role, speaks_for}
 use Rattle.np_machine.specs.State.{State}
-use Rattle.np_machine.specs.Step.{judge, maker_of}
+use Rattle.np_machine.specs.Step.{judge}
 use Rattle.np_machine.specs.Tests.{maker}
-use Rattle.np_look.specs.Readers.{unfinished_of}
-use Rattle.np_useful.specs.Sessions.{is_current, speaks_for}
-use Rattle.np_useful.specs.Useful.{IsUseful}
-use Rattle.np_roles.specs.Choices.{NoneOf}
+use Rattle.np_look.specs.Readers.{is_active_job, active_of, unfinished_of}
+use Rattle.np_useful.specs.Sessions.{is_current}
+use Rattle.np_useful.specs.Useful.{IsUseful, row_holds}
+use Rattle.np_useful.specs.Window.{window_of}
+use Rattle.np_roles.specs.Choices.{NoneOf, ChoosesOfAny}
 use Rattle.np_roles.specs.Passing.{passes}
 use Rattle.np_roles.specs.Kinds.{job_event}
 use Rattle.np_roles.specs.declared.kind.EventKind.TheVariants as kind_of
 use Rattle.np_roles.specs.declared.kind.JobKind.{JobKind}
 use Rattle.np_roles.specs.declared.kind.JobKind.TheVariants as of_job
-use Rattle.np_roles.proofs.Currents.{one-current, current-speaks}
+use Rattle.np_roles.proofs.Accepts.{job-maker}
+use Rattle.np_roles.proofs.Currents.{current-speaks}
 use Rattle.np_changes.proofs.Tested.{ok-is}
-use Rattle.np_roles.proofs.Searches.{useful-passes}
+use Rattle.np_roles.proofs.Searches.{made-by, useful-passes}
 use Rattle.np_roles.proofs.Openings.{same-role}
-use Rattle.np_jobs.specs.Steps.{steps, IsPassed, ChoosesStep}
-use Rattle.np_jobs.proofs.Accepted.{IsOpen, submit-open, acquire-open, take-open, finish-open}
-use Rattle.np_roles.proofs.Unfinished.{among}
+use Rattle.np_roles.proofs.Among.{among}
+use Rattle.np_jobs.specs.Steps.{steps, NoActiveStep, NoNewStep, ChoosesOfActive, ChoosesOfNew, ChoosesActive, ChoosesInWindow}
+use Rattle.np_jobs.proofs.Accepted.{IsActive, IsToBegin, submit-begins, acquire-either, take-asked, finish-active}
+use Rattle.np_jobs.proofs.WindowLemmas.{window-place}
 
 later : (n : ℕ) → 0 < n → (n == 0) ≡ false
 later n is = grind (arith, nat_tests)
@@ -48,13 +52,6 @@ spoken {q} facts is =
     let parts = three (same_role facts.role (Requester q)) facts.live facts.mute is in
     (parts.1.0, (parts.1.1, same-role facts.role (Requester q) parts.0))
 
-job-maker : (kind : JobKind) (by : SessionId) (j : JobId) → maker_of (job_event kind by j) ≡ Some by
-job-maker of_job.Acquire by j = refl
-job-maker of_job.Submit by j = refl
-job-maker of_job.Take by j = refl
-job-maker of_job.Finish by j = refl
-job-maker of_job.Release by j = refl
-
 module _ (c : Configuration) (s : State) (q : RequesterId) (session : SessionId) (current : is_current (Requester q) session s ≡ true) where
   who : maker s session ≡ Ok (Requester q)
   who =
@@ -63,44 +60,65 @@ module _ (c : Configuration) (s : State) (q : RequesterId) (session : SessionId)
       let is = spoken speaks.facts speaks.speaks in
       rw (begun, speaks.there, is.0, is.1.0) (ap (λ (role : Role). Ok role) is.1.1)
 
-  module _ (at : ℕ) (ends : (k : ℕ) (j : JobId) → unfinished_of c q k s ≡ Some j → k < at) (passed : (k : ℕ) → k < at → (j : JobId) → unfinished_of c q k s ≡ Some j → IsPassed c s q session j) where
-    is_passed : (j : JobId) → IsOpen c s q j → IsPassed c s q session j
-    is_passed j goes_on =
-        let place = among c q 0 s.jobs j.0 goes_on.kept j (omega arith) goes_on.there goes_on.unfinished in
-        passed place.at (ends place.at j place.there) j place.there
+  module _ (active : (k : ℕ) (j : JobId) → active_of c q k s ≡ Some j → NoActiveStep c s q session j) (begins : (k : ℕ) (j : JobId) → k < window_of c q → unfinished_of c q k s ≡ Some j → NoNewStep c s q session j) where
+    no_active_step : (j : JobId) → IsActive c s q j → NoActiveStep c s q session j
+    no_active_step j is =
+        let place = among (is_active_job c q) 0 s.jobs j.0 is.kept j (omega arith) is.there is.active in
+        active place.at j place.there
 
-    apart : (e : Event) → passes c s (Requester q) e ≡ false → IsUseful c s (Requester q) e → ⊥
-    apart e fails useful = let is : passes c s (Requester q) e ≡ true = useful-passes c s (Requester q) e useful in cc
+    no_new_step : (j : JobId) → IsToBegin c s q j → NoNewStep c s q session j
+    no_new_step j is =
+        let place = window-place c s q j is.within in
+        begins place.0 j place.1.0 place.1.1
 
-    own : (by : SessionId) → is_current (Requester q) by s ≡ true → by ≡ session
-    own by is = one-current (Requester q) s by session is current
-
-    -- no event of the kind is useful, if an accepted one finds the job open and a job that was
-    -- passed has none that passes
-    none_of : (kind : JobKind) → ((j : JobId) (what : Done) → judge c s (job_event kind session j) ≡ Ok what → IsOpen c s q j) → ((j : JobId) → IsPassed c s q session j → passes c s (Requester q) (job_event kind session j) ≡ false) → NoneOf c s (Requester q) (kind_of.Job kind)
-    none_of kind found fails by j useful =
-        let made : is_current (Requester q) by s ≡ true = rw (job-maker kind by j) at useful.maker in
-        let same : by ≡ session = own by made in
-        let here : IsUseful c s (Requester q) (job_event kind session j) = rw same at useful in
+    -- no event of the kind is useful, if none that is accepted and whose row is true passes
+    none_of : (kind : JobKind) → ((j : JobId) (what : Done) → judge c s (job_event kind session j) ≡ Ok what → row_holds c s (Requester q) (job_event kind session j) ≡ true → passes c s (Requester q) (job_event kind session j) ≡ false) → NoneOf c s (Requester q) (kind_of.Job kind)
+    none_of kind fails by j useful =
+        let same : by ≡ session = made-by c s (Requester q) session current by (job_event kind by j) (job-maker kind by j) useful in
+        let here : IsUseful c s (Requester q) (job_event kind session j) = subst (λ (x : SessionId). IsUseful c s (Requester q) (job_event kind x j)) same useful in
         let answer = ok-is (judge c s (job_event kind session j)) here.accepted in
-        apart (job_event kind session j) (fails j (is_passed j (found j answer.0 answer.1))) here
+        let no : passes c s (Requester q) (job_event kind session j) ≡ false = fails j answer.0 answer.1 here.row in
+        let is : passes c s (Requester q) (job_event kind session j) ≡ true = useful-passes c s (Requester q) (job_event kind session j) here in
+        cc
 
-    pub steps-none : AllByRecursion (NoneOf c s (Requester q)) steps
+    finish_fails : (j : JobId) (what : Done) → judge c s (ev.Finish session j) ≡ Ok what → passes c s (Requester q) (ev.Finish session j) ≡ false
+    finish_fails j what is = (no_active_step j (finish-active c s session q who j what is)).finish
+
+    take_fails : (j : JobId) (what : Done) → judge c s (ev.Take session j) ≡ Ok what → passes c s (Requester q) (ev.Take session j) ≡ false
+    take_fails j what is = let asks = take-asked c s session q who j what is in (no_active_step j asks.active).take asks.asked
+
+    acquire_fails : (j : JobId) (what : Done) → judge c s (ev.Acquire session j) ≡ Ok what → row_holds c s (Requester q) (ev.Acquire session j) ≡ true → passes c s (Requester q) (ev.Acquire session j) ≡ false
+    acquire_fails j what is holds =
+        acquire-either c s session q who j what is holds
+        (λ asks. (no_active_step j asks.active).acquire asks.asked)
+        (λ begin. (no_new_step j begin).acquire begin.new)
+
+    submit_fails : (j : JobId) (what : Done) → judge c s (ev.Submit session j) ≡ Ok what → row_holds c s (Requester q) (ev.Submit session j) ≡ true → passes c s (Requester q) (ev.Submit session j) ≡ false
+    submit_fails j what is holds = let begin = submit-begins c s session q who j what is holds in (no_new_step j begin).submit begin.new
+
+    steps-none : AllByRecursion (NoneOf c s (Requester q)) steps
     steps-none = (
-      none_of of_job.Finish (finish-open c s session q who) (λ j was. was.finish),
-      (
-        none_of of_job.Take (take-open c s session q who) (λ j was. was.take),
-        (
-          none_of of_job.Acquire (acquire-open c s session q who) (λ j was. was.acquire),
-          (none_of of_job.Submit (submit-open c s session q who) (λ j was. was.submit), tt),
-        ),
-      ),
+      none_of of_job.Finish (λ j what is holds. finish_fails j what is),
+      (none_of of_job.Take (λ j what is holds. take_fails j what is), (none_of of_job.Acquire acquire_fails, (none_of of_job.Submit submit_fails, tt))),
     )
 
--- a job on which nothing was found was passed
-pub step-passed : (c : Configuration) (s : State) (q : RequesterId) (session : SessionId) (j : JobId) (o : Option Event) → is_some o ≡ false → ChoosesStep c s q session j o → IsPassed c s q session j
-step-passed c s q session j None is passed = passed
-step-passed c s q session j (Some e) is passed = absurd cc
+-- ## the walks
 
-pub same-job : (c : Configuration) (s : State) (q : RequesterId) (session : SessionId) (one other : JobId) (o : Option JobId) → o ≡ Some one → o ≡ Some other → IsPassed c s q session one → IsPassed c s q session other
-same-job c s q session one other o first second passed = let same : one ≡ other = (let told : Some one ≡ Some other = sym first ∙ second in cc) in subst (λ (j : JobId). IsPassed c s q session j) same passed
+-- a job on which nothing was found has no such event
+pub no-step : (c : Configuration) (s : State) (q : RequesterId) (session : SessionId) (j : JobId) (o : Option Event) → is_some o ≡ false → ChoosesOfActive c s q session j o → NoActiveStep c s q session j
+no-step c s q session j None is none = none
+no-step c s q session j (Some e) is none = absurd cc
+
+pub no-new-step : (c : Configuration) (s : State) (q : RequesterId) (session : SessionId) (j : JobId) (o : Option Event) → is_some o ≡ false → ChoosesOfNew c s q session j o → NoNewStep c s q session j
+no-new-step c s q session j None is none = none
+no-new-step c s q session j (Some e) is none = absurd cc
+
+-- what holds of the job at a place holds of each job at that place
+pub same-job : (P : JobId → Type 0) (one other : JobId) (o : Option JobId) → o ≡ Some one → o ≡ Some other → P one → P other
+same-job P one other o first second is = let same : one ≡ other = (let told : Some one ≡ Some other = sym first ∙ second in cc) in subst P same is
+
+-- if nothing was found on the active jobs, the window decides
+pub steps-choose : (c : Configuration) (s : State) (q : RequesterId) (session : SessionId) → is_current (Requester q) session s ≡ true → (found : Option Event) → is_some found ≡ false → ChoosesActive c s q session found → (o : Option Event) → ChoosesInWindow c s q session o → ChoosesOfAny c s (Requester q) steps o
+steps-choose c s q session current None is active None begins = steps-none c s q session current active begins
+steps-choose c s q session current None is active (Some e) useful = useful
+steps-choose c s q session current (Some found) is active o begins = absurd cc

@@ -1,6 +1,6 @@
 -- the jobs of a requester that are not over, by their place among them
 use Rattle.std.proofs.Common.{◌≡◌, ◌<◌, ℕ, zero, suc, ◌+◌, List, [], ◌∷◌, take, drop, refl, sym, ap, ◌∙◌, arith, Option, Some, None, Bool, true, false, cond}
-use Rattle.std.specs.Prelude.{slice_get, count_by, nat_lt, ◌&&◌, if◌then◌else◌}
+use Rattle.std.specs.Prelude.{slice_get, count_by, nat_lt, if◌then◌else◌}
 use Rattle.std.specs.List.{zip}
 use Rattle.std.specs.Option.{option_map_or}
 use Rattle.std.proofs.lemmas.List.Sums.{sum_by-cons}
@@ -12,8 +12,9 @@ use Rattle.np_site.specs.declared.row.Job.{Job}
 use Rattle.np_record.specs.declared.record.JobRecord.{JobRecord}
 use Rattle.np_machine.specs.State.{State}
 use Rattle.np_look.specs.Readers.{is_unfinished_job, unfinished_from}
-use Rattle.np_roles.proofs.Unfinished.{among}
+use Rattle.np_roles.proofs.Among.{among}
 use Rattle.np_useful.specs.Window.{is_unfinished, jobs_of, window_of, is_in_window}
+use Rattle.np_jobs.proofs.ForLemmas.{and-first}
 
 -- ## the configuration's rows from a number on
 
@@ -51,10 +52,6 @@ pub record IsFrom (q : RequesterId) (number : ℕ) (rows : List Job) (jobs : Lis
   pub place : ℕ
   pub number_is : j.0 ≡ number + place
   pub placed : IsPlaced q (zip rows jobs) place at
-
-and-first : (a b : Bool) → (a && b) ≡ true → a ≡ true
-and-first true b is = refl
-and-first false b is = absurd cc
 
 nothing_placed : {X : Type 0} (q : RequesterId) (i at : ℕ) → IsPlaced q [] i at → X
 nothing_placed q zero at is = absurd (let no : false ≡ true = is.passes in cc)
@@ -140,7 +137,7 @@ module _ (c : Configuration) (s : State) (q : RequesterId) where
   pub window-place : (j : JobId) → is_in_window c s q j ≡ true → (at : ℕ) × ((at < window_of c q) × (slice_get (unfinished_from c q 0 s.jobs) at ≡ Some j))
   window-place j is =
       let row = window_row j (slice_get (jobs_of c s) j.0) refl is in
-      let place = among c q 0 s.jobs j.0 row.0 j (omega arith) row.1.0 row.1.1 in
+      let place = among (is_unfinished_job c q) 0 s.jobs j.0 row.0 j (omega arith) row.1.0 row.1.1 in
       let within : nat_lt place.at (window_of c q) ≡ true = sym (in-window place.at j place.there) ∙ is in
       (place.at, (grind (arith, nat_tests), place.there))
 

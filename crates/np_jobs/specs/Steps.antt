@@ -1,22 +1,27 @@
--- what a requester may do next with a job that is not over
-use Rattle.std.specs.Prelude.{◌≡◌, ◌++◌, List, [], ◌∷◌, false, Option, Some, None}
+-- what a requester may do next with its jobs
+use Rattle.std.specs.Prelude.{◌≡◌, ◌<◌, ◌++◌, ℕ, List, [], ◌∷◌, Bool, true, false, Option, Some, None, slice_get}
+use Rattle.std.specs.Option.{option_map_or}
 use Rattle.np_text.specs.declared.id.SessionId.{SessionId}
 use Rattle.np_text.specs.declared.id.RequesterId.{RequesterId}
 use Rattle.np_text.specs.declared.id.JobId.{JobId}
 use Rattle.np_text.specs.declared.id.Role.TheVariants.{Requester}
 use Rattle.np_text.specs.declared.word.EndAs.TheVariants as end
+use Rattle.np_text.specs.declared.word.Phase.{Phase}
 use Rattle.np_site.specs.Configuration.{Configuration}
 use Rattle.np_event.specs.declared.event.Event.{Event}
 use Rattle.np_event.specs.declared.event.Event.TheVariants as ev
+use Rattle.np_machine.specs.Kinds.{is_new, is_asked}
 use Rattle.np_machine.specs.State.{State}
+use Rattle.np_look.specs.Readers.{unfinished_of, active_of}
 use Rattle.np_useful.specs.Useful.{IsUseful}
+use Rattle.np_useful.specs.Window.{window_of}
 use Rattle.np_roles.specs.declared.kind.EventKind.{EventKind}
 use Rattle.np_roles.specs.declared.kind.EventKind.TheVariants.{Node, Job}
 use Rattle.np_roles.specs.declared.kind.NodeKind.TheVariants as of_node
 use Rattle.np_roles.specs.declared.kind.JobKind.TheVariants as of_job
 use Rattle.np_roles.specs.Passing.{passes}
 
--- the kinds that are tried on each job that is not over (own)
+-- the kinds that are tried on the active jobs and on the new jobs in the window (own)
 abbrev pub steps : List EventKind
 steps = Job of_job.Finish ∷ Job of_job.Take ∷ Job of_job.Acquire ∷ Job of_job.Submit ∷ []
 
@@ -28,14 +33,41 @@ leaving = Node (of_node.End end.Used) ∷ Node (of_node.End end.Hold) ∷ Node o
 abbrev pub rest : List EventKind
 rest = Job of_job.Release ∷ (leaving ++ (Node of_node.Lock ∷ []))
 
--- none of the session's events of these kinds on the job passes (own)
-pub record IsPassed (c : Configuration) (s : State) (q : RequesterId) (session : SessionId) (j : JobId) : Type 0 where
-  pub finish : passes c s (Requester q) (ev.Finish session j) ≡ false
-  pub take : passes c s (Requester q) (ev.Take session j) ≡ false
-  pub acquire : passes c s (Requester q) (ev.Acquire session j) ≡ false
-  pub submit : passes c s (Requester q) (ev.Submit session j) ≡ false
+-- ## the events on one job
 
--- a useful event, or none of these kinds on the job (own)
-abbrev pub ChoosesStep : Configuration → State → RequesterId → SessionId → JobId → Option Event → Type 0
-ChoosesStep c s q session j None = IsPassed c s q session j
-ChoosesStep c s q session j (Some e) = IsUseful c s (Requester q) e
+-- the job exists, and its phase passes the test (own)
+abbrev pub phase_is : JobId → State → (Phase → Bool) → Bool
+phase_is j s such = option_map_or (λ kept. such kept.phase) (slice_get s.jobs j.0) false
+
+-- the session's finish of the job fails, and if the job has asked, so do its take and acquire (own)
+pub record NoActiveStep (c : Configuration) (s : State) (q : RequesterId) (session : SessionId) (j : JobId) : Type 0 where
+  pub finish : passes c s (Requester q) (ev.Finish session j) ≡ false
+  pub take : phase_is j s is_asked ≡ true → passes c s (Requester q) (ev.Take session j) ≡ false
+  pub acquire : phase_is j s is_asked ≡ true → passes c s (Requester q) (ev.Acquire session j) ≡ false
+
+-- if the job is new, the session's acquire and submit of it fail (own)
+pub record NoNewStep (c : Configuration) (s : State) (q : RequesterId) (session : SessionId) (j : JobId) : Type 0 where
+  pub acquire : phase_is j s is_new ≡ true → passes c s (Requester q) (ev.Acquire session j) ≡ false
+  pub submit : phase_is j s is_new ≡ true → passes c s (Requester q) (ev.Submit session j) ≡ false
+
+-- a useful event, or no finish, take and acquire of the active job passes (own)
+abbrev pub ChoosesOfActive : Configuration → State → RequesterId → SessionId → JobId → Option Event → Type 0
+ChoosesOfActive c s q session j None = NoActiveStep c s q session j
+ChoosesOfActive c s q session j (Some e) = IsUseful c s (Requester q) e
+
+-- a useful event, or no acquire and submit of the new job passes (own)
+abbrev pub ChoosesOfNew : Configuration → State → RequesterId → SessionId → JobId → Option Event → Type 0
+ChoosesOfNew c s q session j None = NoNewStep c s q session j
+ChoosesOfNew c s q session j (Some e) = IsUseful c s (Requester q) e
+
+-- ## the events on all these jobs
+
+-- a useful event, or none passes on an active job (own)
+abbrev pub ChoosesActive : Configuration → State → RequesterId → SessionId → Option Event → Type 0
+ChoosesActive c s q session None = (k : ℕ) (j : JobId) → active_of c q k s ≡ Some j → NoActiveStep c s q session j
+ChoosesActive c s q session (Some e) = IsUseful c s (Requester q) e
+
+-- a useful event, or none passes on a new job in the window (own)
+abbrev pub ChoosesInWindow : Configuration → State → RequesterId → SessionId → Option Event → Type 0
+ChoosesInWindow c s q session None = (k : ℕ) (j : JobId) → k < window_of c q → unfinished_of c q k s ≡ Some j → NoNewStep c s q session j
+ChoosesInWindow c s q session (Some e) = IsUseful c s (Requester q) e

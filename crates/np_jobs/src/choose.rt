@@ -9,7 +9,7 @@ ghost use Rattle.np_roles.specs.Choices.{Chooses};
 
 use crate::lock::first_lock;
 use crate::rows::RequesterRows;
-use crate::unfinished::next_with_unfinished;
+use crate::step::first_step;
 use np_event::Event;
 use np_look::Look;
 use np_roles::{
@@ -18,14 +18,15 @@ use np_roles::{
 use np_text::{EndAs, RequesterId, Role};
 
 /// A useful event of the requester, or `None` if and only if there is none. It takes no memory. It
-/// looks up each of the requester's jobs that is not over, and judges at most three events for each
-/// of these that has begun or is in the window. Then it judges one event for each handle that a job
-/// has, and three for each node in whose queue its session is. Last it looks up these jobs again,
-/// and the request of each that has asked for its nodes, and judges one event for each node of such
-/// a request that is fulfilled. It stops at the first event that is useful. An event on a node
-/// costs a few lookups, however many requests there are, if the readers `unfinished` and `owner`
-/// are lookups, as with an index. So the cost grows with the requester's jobs that are not over and
-/// the nodes that their requests have, and not with all nodes.
+/// judges at most three events for each of the requester's active jobs, which have asked for their
+/// nodes or use them. Then it looks up as many jobs that are not over as the window has, and judges
+/// at most two events for each of them that is new. Then it judges one event for each handle that a
+/// job has, and three for each node in whose queue its session is. Last it looks up the active jobs
+/// again, and the request of each that has asked for its nodes, and judges one event for each node
+/// of such a request that is fulfilled. It stops at the first event that is useful. An event on a
+/// node costs a few lookups, however many requests there are, if the readers `active`, `unfinished`
+/// and `owner` are lookups, as with an index. So the cost grows with the window, the requester's
+/// active jobs and the nodes that their requests have, and not with its other jobs or all nodes.
 pub fn choose_requester<L: Look>(look: &L, requester: RequesterId) -> Option<Event>
     requires there { is_role (L.site look.now) (Requester requester) ≡ true }
     requires reached { IsReached (L.site look.now) (L.state look.now) }
@@ -36,7 +37,7 @@ pub fn choose_requester<L: Look>(look: &L, requester: RequesterId) -> Option<Eve
     let Some(session) = current_session(look, Role::Requester(requester)) else {
         return choose_opening(look, Role::Requester(requester));
     };
-    let found = next_with_unfinished(look, &rows, session);
+    let found = first_step(look, &rows, session);
     if found.is_some() {
         return found;
     }

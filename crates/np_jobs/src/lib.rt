@@ -4,17 +4,18 @@
 //!
 //! | What | Tried on |
 //! |---|---|
-//! | finish, take, acquire, submit | each of its jobs that has begun or is in the window, in order |
+//! | finish, take, acquire | each of its jobs that has asked for its nodes or uses them, in order |
+//! | acquire, submit | each of its new jobs in the window, in order |
 //! | release | each job that has a handle |
 //! | end-node, unlock-node | each node in whose queue its session is, by number |
 //! | lock-node | each node of the fulfilled request of each job that has asked, in order |
 //! | open a session | if it has none |
 //!
-//! A job that is over, or that is new and past the window, has no useful event of the first four, and
-//! costs one lookup at most. For the others only the events that their phase allows are judged.
-//! A lock is tried only on a node that a job waits for. So what a choice costs grows with the
-//! requester's jobs that are not over and the nodes that their requests have, and not with all
-//! nodes.
+//! A job that is over, or that is new and past the window, has no useful event of the first two
+//! rows, and costs nothing. For the others only the events that their phase allows are judged. A
+//! lock is tried only on a node that a job waits for. So what a choice costs grows with the window,
+//! the requester's jobs that have asked for their nodes or use them, and the nodes that their
+//! requests have, and not with its other jobs or all nodes.
 //!
 //! A job that is under way comes before one that begins, and what is no longer needed is given
 //! back before more is locked. Which events are useful is defined in np_useful.
@@ -24,7 +25,7 @@ mod choose;
 mod lock;
 mod node;
 mod rows;
-mod unfinished;
+mod step;
 mod window;
 
 pub use choose::choose_requester;

@@ -11,7 +11,7 @@ ghost use Rattle.np_roles.specs.Choices.{ChoosesOf};
 ghost use Rattle.np_jobs.specs.Locks.{lock_passes, nodes_of_request, first_to_lock};
 
 use crate::rows::RequesterRows;
-use crate::unfinished::is_asked;
+use crate::step::is_asked;
 use np_event::Event;
 use np_look::Look;
 use np_roles::passes;
@@ -87,9 +87,9 @@ fn first_of_job<L: Look>(
 }
 
 /// The first useful lock of a node, or `None` if and only if no lock of a node is useful. The
-/// requester's jobs that are not over come in order, and the nodes of a job's request in its order.
-/// It looks up each of these jobs, and the request of each that has asked for its nodes, and judges
-/// one event for each node of such a request that is fulfilled, up to the first that is useful.
+/// requester's active jobs come in order, and the nodes of a job's request in its order. It looks
+/// up each of these jobs, and the request of each that has asked for its nodes, and judges one
+/// event for each node of such a request that is fulfilled, up to the first that is useful.
 pub(crate) fn first_lock<L: Look>(
     look: &L,
     rows: &RequesterRows,
@@ -102,7 +102,7 @@ pub(crate) fn first_lock<L: Look>(
         (kind_of.Node of_node.Lock) result }
 {
     for at in 0..look.jobs() {
-        let Some(job) = look.unfinished(rows.requester, at) else {
+        let Some(job) = look.active(rows.requester, at) else {
             return None;
         };
         if let Some(node) = first_of_job(look, rows, session, job) {

@@ -9,8 +9,8 @@ ghost use Rattle.np_useful.specs.Useful.{row_holds};
 use crate::node::{is_for, is_idle, is_left_as};
 use crate::window::{is_in_window, is_to_acquire};
 use np_event::Event;
-use np_look::Look;
-use np_roles::{Rows, has_some_handle, is_same_role, may_open};
+use np_look::{Look, is_same_role};
+use np_roles::{Rows, has_some_handle, may_open};
 use np_text::{JobId, RequesterId, Role};
 
 /// The rows of this requester.

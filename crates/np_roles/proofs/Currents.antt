@@ -1,7 +1,7 @@
 -- a role has at most one current session
-use Rattle.std.proofs.Common.{◌≡◌, ◌<◌, ◌+◌, ◌-◌, ℕ, Bool, true, false, drop, Option, Some, None, refl, ap, arith}
-use Rattle.std.specs.Prelude.{slice_get, ◌&&◌, ◌==◌, not, nat_lt, if◌then◌else◌, is_some}
-use Rattle.std.specs.Option.{option_map_or}
+use Rattle.std.proofs.Common.{◌≡◌, ◌<◌, ◌≤◌, ◌+◌, ◌-◌, ℕ, suc, List, [], ◌∷◌, sym, Bool, true, false, drop, Option, Some, None, refl, ap, arith}
+use Rattle.std.specs.Prelude.{slice_get, ◌&&◌, ◌||◌, ◌==◌, not, nat_lt, if◌then◌else◌, is_some}
+use Rattle.std.specs.Option.{option_map_or, option_or}
 use Rattle.std.specs.List.{list_any}
 use Rattle.std.proofs.lemmas.Bool.Decides.{nat_tests}
 use Rattle.np_text.specs.declared.id.SessionId.{SessionId}
@@ -10,9 +10,11 @@ use Rattle.np_machine.specs.declared.state.SessionFacts.{SessionFacts}
 use Rattle.np_site.specs.Configuration.{Configuration}
 use Rattle.np_machine.specs.Tables.{session_of}
 use Rattle.np_machine.specs.State.{State}
-use Rattle.np_useful.specs.Sessions.{speaks_for, is_current, has_current, may_open}
+use Rattle.np_machine.specs.Laws.{speaks_for}
+use Rattle.np_useful.specs.Sessions.{is_current, has_current, may_open}
+use Rattle.np_look.specs.Readers.{speaker_from, current_of}
 use Rattle.np_roles.specs.Choices.{NamesCurrent}
-use Rattle.np_roles.proofs.Places.{any-there}
+use Rattle.np_roles.proofs.Places.{any-there, any-past}
 
 pub both : (t u : Bool) → (t && not u) ≡ true → (t ≡ true) × (u ≡ false)
 both true true is = absurd cc
@@ -63,10 +65,79 @@ module _ (role : Role) (s : State) where
       let same : one.0 ≡ other.0 = same-by one other (nat_lt one.0 other.0) (nat_lt other.0 one.0) refl refl (not-before one other a b) (not-before other one b a) in
       ap (λ (n : ℕ). record { 0 = n }) same
 
--- ## a session that was begun
+-- ## the last session that speaks for a role
 
-pub session-after : (s : State) (at : ℕ) (facts : SessionFacts) → session_of (record { 0 = at + 1 }) s ≡ Some facts → slice_get s.sessions at ≡ Some facts
-session-after s at facts is = grind (arith, nat_tests)
+-- it is at a place, and none after it speaks
+record LastAt (role : Role) (number : ℕ) (sessions : List SessionFacts) (x : SessionId) : Type 0 where
+  at : ℕ
+  named : x.0 ≡ at + number
+  facts : SessionFacts
+  there : slice_get sessions at ≡ Some facts
+  speaks : speaks_for role facts ≡ true
+  last : list_any (speaks_for role) (drop (suc at) sessions) ≡ false
+
+none-here : (a b : Bool) → a ≡ false → b ≡ false → (a || b) ≡ false
+none-here a b first second = rw (first, second) refl
+
+none-by : (role : Role) (number : ℕ) (facts : SessionFacts) (sessions : List SessionFacts) (o : Option SessionId) (b : Bool) → speaker_from role (suc number) sessions ≡ o → speaks_for role facts ≡ b → (speaker_from role (suc number) sessions ≡ None → list_any (speaks_for role) sessions ≡ false) → option_or o (if b then Some (record { 0 = number }) else None) ≡ None → list_any (speaks_for role) (facts ∷ sessions) ≡ false
+none-by role number facts sessions (Some x) b later speaks rest is = absurd cc
+none-by role number facts sessions None true later speaks rest is = absurd cc
+none-by role number facts sessions None false later speaks rest is = none-here (speaks_for role facts) (list_any (speaks_for role) sessions) speaks (rest later)
+
+none-speaks : (role : Role) (number : ℕ) (sessions : List SessionFacts) → speaker_from role number sessions ≡ None → list_any (speaks_for role) sessions ≡ false
+none-speaks role number [] is = refl
+none-speaks role number (facts ∷ sessions) is = none-by role number facts sessions (speaker_from role (suc number) sessions) (speaks_for role facts) refl refl (none-speaks role (suc number) sessions) is
+
+last-by : (role : Role) (number : ℕ) (facts : SessionFacts) (sessions : List SessionFacts) (x : SessionId) (o : Option SessionId) (b : Bool) → speaker_from role (suc number) sessions ≡ o → speaks_for role facts ≡ b → ((y : SessionId) → speaker_from role (suc number) sessions ≡ Some y → LastAt role (suc number) sessions y) → option_or o (if b then Some (record { 0 = number }) else None) ≡ Some x → LastAt role number (facts ∷ sessions) x
+last-by role number facts sessions x (Some y) b later speaks rest is =
+    let found = rest y later in
+    let same : y ≡ x = cc in
+    let named : y.0 ≡ suc found.at + number = omega (arith, found.named) in
+    record { at = suc found.at; named = rw (sym same) named; facts = found.facts; there = found.there; speaks = found.speaks; last = found.last }
+last-by role number facts sessions x None true later speaks rest is =
+    let same : record { 0 = number } ≡ x = cc in
+    let first : x.0 ≡ number = sym (ap (λ (y : SessionId). y.0) same) in
+    let named : x.0 ≡ 0 + number = omega (arith, first) in
+    record { at = 0; named = named; facts = facts; there = refl; speaks = speaks; last = none-speaks role (suc number) sessions later }
+last-by role number facts sessions x None false later speaks rest is = absurd cc
+
+last-speaks : (role : Role) (number : ℕ) (sessions : List SessionFacts) (x : SessionId) → speaker_from role number sessions ≡ Some x → LastAt role number sessions x
+last-speaks role number [] x is = absurd cc
+last-speaks role number (facts ∷ sessions) x is = last-by role number facts sessions x (speaker_from role (suc number) sessions) (speaks_for role facts) refl refl (last-speaks role (suc number) sessions) is
+
+current-by : (role : Role) (s : State) (x : SessionId) (found : LastAt role 1 s.sessions x) → is_current role x s ≡ true
+current-by role s x found =
+    let named : x.0 ≡ suc found.at = omega (arith, found.named) in
+    let begun : (suc found.at == 0) ≡ false = grind (arith, nat_tests) in
+    let back : suc found.at - 1 ≡ found.at = omega arith in
+    rw (named, begun, back, found.there, found.speaks, found.last) refl
+
+names-by : (role : Role) (s : State) (o : Option SessionId) → current_of role s ≡ o → NamesCurrent role s o
+names-by role s None is = none-speaks role 1 s.sessions is
+names-by role s (Some x) is = current-by role s x (last-speaks role 1 s.sessions x is)
+
+-- the last session that speaks for the role is its current one
+pub current-names : (role : Role) (s : State) → NamesCurrent role s (current_of role s)
+current-names role s = names-by role s (current_of role s) refl
+
+-- past it none speaks, and up to it one does
+later-by : (role : Role) (s : State) (k : ℕ) (x : SessionId) (b : Bool) → nat_lt k x.0 ≡ b → LastAt role 1 s.sessions x → list_any (speaks_for role) (drop k s.sessions) ≡ b
+later-by role s k x true after found =
+    let low : k ≤ found.at = grind (arith, nat_tests, found.named) in
+    any-there (speaks_for role) s.sessions k found.at found.facts low found.there found.speaks
+later-by role s k x false after found =
+    let past : suc found.at ≤ k = grind (arith, nat_tests, found.named) in
+    any-past (speaks_for role) s.sessions (suc found.at) k past found.last
+
+after-by : (role : Role) (s : State) (k : ℕ) (o : Option SessionId) → current_of role s ≡ o → option_map_or (λ x. nat_lt k x.0) o false ≡ list_any (speaks_for role) (drop k s.sessions)
+after-by role s k None is = sym (any-past (speaks_for role) s.sessions 0 k (omega arith) (none-speaks role 1 s.sessions is))
+after-by role s k (Some x) is = sym (later-by role s k x (nat_lt k x.0) refl (last-speaks role 1 s.sessions x is))
+
+-- a session after this one speaks exactly if the last one that speaks is after it
+pub current-after : (role : Role) (s : State) (k : ℕ) → option_map_or (λ x. nat_lt k x.0) (current_of role s) false ≡ list_any (speaks_for role) (drop k s.sessions)
+current-after role s k = after-by role s k (current_of role s) refl
+
+-- ## a session that was begun
 
 pub session-at : (s : State) (n : ℕ) (facts : SessionFacts) → session_of (record { 0 = n }) s ≡ Some facts → slice_get s.sessions (n - 1) ≡ Some facts
 session-at s n facts is = grind (arith, nat_tests)

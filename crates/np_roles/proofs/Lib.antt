@@ -6,4 +6,4 @@ pub mod Openings
 pub mod Searches
 pub mod Releases
 pub mod Wholes
-pub mod Unfinished
+pub mod Among

@@ -1,5 +1,5 @@
 -- at which place a search finds a member, and the members from a place on
-use Rattle.std.proofs.Common.{◌≡◌, ◌∙◌, ◌<◌, ◌≤◌, ◌+◌, ◌-◌, ℕ, zero, suc, add-one, Bool, true, false, cond, List, [], ◌∷◌, length, drop, Option, Some, None, refl, sym, ap, arith}
+use Rattle.std.proofs.Common.{◌≡◌, ◌<◌, ◌≤◌, ◌+◌, ◌-◌, ℕ, zero, suc, add-one, Bool, true, false, cond, List, [], ◌∷◌, length, drop, Option, Some, None, refl, ap, arith}
 use Rattle.std.specs.Prelude.{find, filter, map, slice_get, is_some, ◌||◌, ◌&&◌, ◌==◌}
 use Rattle.std.specs.List.{list_any}
 use Rattle.std.proofs.lemmas.Bool.Decides.{nat_tests}
@@ -75,13 +75,18 @@ none-is (Some x) is = absurd cc
 
 -- ## a step of a walk
 
-pub any-later : {X : Type 0} (p : X → Bool) (xs : List X) (i : ℕ) (x : X) → slice_get xs i ≡ Some x → p x ≡ false → list_any p (drop (i + 1) xs) ≡ list_any p (drop i xs)
-any-later p xs i x there fails = rw add-one (sym (any-here p xs i x there ∙ ap (λ (b : Bool). b || list_any p (drop (suc i) xs)) fails))
+or-first : (a b : Bool) → (a || b) ≡ false → b ≡ false
+or-first true b none = absurd cc
+or-first false b none = none
 
-pub any-before : {X : Type 0} (p : X → Bool) (xs : List X) (n : ℕ) (x : X) → 0 < n → slice_get xs (n - 1) ≡ Some x → p x ≡ false → list_any p (drop n xs) ≡ false → list_any p (drop (n - 1) xs) ≡ false
-any-before p xs n x some there fails none =
-    let back : suc (n - 1) ≡ n = omega (arith, some) in
-    any-here p xs (n - 1) x there ∙ ap (λ (b : Bool). b || list_any p (drop (suc (n - 1)) xs)) fails ∙ ap (λ (m : ℕ). list_any p (drop m xs)) back ∙ none
+-- where none passes from a place on, none does further on
+pub any-past : {X : Type 0} (p : X → Bool) (xs : List X) (i k : ℕ) → i ≤ k → list_any p (drop i xs) ≡ false → list_any p (drop k xs) ≡ false
+any-past p xs zero zero low none = none
+any-past p xs (suc i) zero low none = absurd (omega (arith, low))
+any-past p [] zero (suc k) low none = refl
+any-past p [] (suc i) (suc k) low none = refl
+any-past p (y ∷ xs) zero (suc k) low none = any-past p xs zero k (omega arith) (or-first (p y) (list_any p xs) none)
+any-past p (y ∷ xs) (suc i) (suc k) low none = any-past p xs i k (omega (arith, low)) none
 
 pub past-all : {X : Type 0} (xs : List X) (i : ℕ) → slice_get xs i ≡ None → drop i xs ≡ []
 past-all [] zero none = refl

@@ -27,6 +27,5 @@ pub use of_kind::{first_of_kind, first_of_kinds};
 pub use release::first_release;
 pub use rows::{Rows, passes};
 pub use session::{
-    choose_opening, current_session, fault_of, is_same_role, is_spoken_later, is_stopped, may_open,
-    speaks_for, strikes_of,
+    choose_opening, current_session, fault_of, is_spoken_later, is_stopped, may_open, strikes_of,
 };

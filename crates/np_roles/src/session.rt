@@ -2,86 +2,35 @@
 
 ghost use Rattle.std.specs.Prelude.{◌≡◌, ◌&&◌, ◌==◌, true, false, cond, drop, slice_get};
 ghost use Rattle.std.specs.List.{list_any};
-ghost use Rattle.np_machine.specs.Laws.{same_role};
+ghost use Rattle.np_machine.specs.Laws.{speaks_for};
 ghost use Rattle.np_machine.specs.Session.{is_role};
 ghost use Rattle.np_fits.specs.Fits.{Fits};
-ghost use Rattle.np_useful.specs.Sessions.{speaks_for, has_current, faults_of, strikes_of, is_stopped, may_open};
+ghost use Rattle.np_useful.specs.Sessions.{has_current, faults_of, strikes_of, is_stopped, may_open};
 ghost use Rattle.np_roles.specs.Choices.{NamesCurrent, ChoosesOpening};
 
 use np_config::Config;
 use np_event::Event;
-use np_look::Look;
-use np_machine::SessionFacts;
+use np_look::{Look, is_same_role};
 use np_site::{Fault, FaultKind};
 use np_text::{Role, SessionId};
 
-/// Whether both are the same role.
-pub fn is_same_role(one: Role, other: Role) -> bool
-    ensures { result ≡ same_role one other }
-{
-    match one {
-        Role::Launcher(pool) => match other {
-            Role::Launcher(of) => pool.0 == of.0,
-            Role::Janitor(_) | Role::Requester(_) | Role::Reaper => false,
-        },
-        Role::Janitor(pool) => match other {
-            Role::Janitor(of) => pool.0 == of.0,
-            Role::Launcher(_) | Role::Requester(_) | Role::Reaper => false,
-        },
-        Role::Requester(requester) => match other {
-            Role::Requester(of) => requester.0 == of.0,
-            Role::Launcher(_) | Role::Janitor(_) | Role::Reaper => false,
-        },
-        Role::Reaper => match other {
-            Role::Reaper => true,
-            Role::Launcher(_) | Role::Janitor(_) | Role::Requester(_) => false,
-        },
-    }
-}
-
-/// Whether it is a live session of the role that is not mute.
-pub fn speaks_for(role: Role, facts: &SessionFacts) -> bool
-    ensures { result ≡ speaks_for role facts.now }
-{
-    is_same_role(facts.role, role) && facts.live && !facts.mute
-}
-
-/// Whether a session that began after this one speaks for the role. The cost is the number of
-/// sessions that began after it.
+/// Whether a session that began after this one speaks for the role. It costs what the reader
+/// `current_session` costs, which an index answers by two binary searches.
 pub fn is_spoken_later<L: Look>(look: &L, role: Role, session: SessionId) -> bool
-    requires { Fits (L.site look.now) (L.state look.now) }
     ensures { result ≡ list_any (speaks_for role) (drop session.0 (L.state look.now).sessions) }
 {
-    for at in session.0..look.sessions() {
-        let Some(facts) = look.session(SessionId(at + 1)) else {
-            return false;
-        };
-        if speaks_for(role, &facts) {
-            return true;
-        }
+    match look.current_session(role) {
+        None => false,
+        Some(current) => current.0 > session.0,
     }
-    false
 }
 
-/// The role's current session, or `None` if and only if it has none. The search begins at the
-/// newest session; its cost is the number of sessions that began after the current one, or of all
-/// sessions if there is none.
+/// The role's current session, or `None` if and only if it has none. It costs what the reader
+/// `current_session` costs.
 pub fn current_session<L: Look>(look: &L, role: Role) -> Option<SessionId>
-    requires { Fits (L.site look.now) (L.state look.now) }
     ensures { NamesCurrent role (L.state look.now) result }
 {
-    let mut left = look.sessions();
-    while left > 0 {
-        let session = SessionId(left);
-        let Some(facts) = look.session(session) else {
-            return None;
-        };
-        if speaks_for(role, &facts) {
-            return Some(session);
-        }
-        left -= 1;
-    }
-    None
+    look.current_session(role)
 }
 
 /// How many sessions of the role were lost.
@@ -144,7 +93,6 @@ pub fn is_stopped<L: Look>(look: &L, role: Role) -> bool
 
 /// Whether a session of the role may begin: it has no current one, and has not stopped.
 pub fn may_open<L: Look>(look: &L, role: Role) -> bool
-    requires { Fits (L.site look.now) (L.state look.now) }
     ensures { result ≡ may_open (L.site look.now) role (L.state look.now) }
 {
     current_session(look, role).is_none() && !is_stopped(look, role)

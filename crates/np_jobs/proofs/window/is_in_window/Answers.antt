@@ -3,7 +3,7 @@ use Rattle.std.specs.Prelude.{slice_get}
 use Rattle.np_site.specs.Configuration.{Configuration}
 use Rattle.np_look.specs.Readers.{unfinished_from}
 use Rattle.np_useful.specs.Window.{window_of}
-use Rattle.np_roles.proofs.Unfinished.{before-end}
+use Rattle.np_roles.proofs.Among.{before-end}
 use Rattle.np_jobs.proofs.WindowLemmas.{none-in-window, yes-in-window}
 use Rattle.np_jobs.proofs.window.is_in_window.Goals as goal
 

@@ -1,16 +1,16 @@
-use Rattle.std.proofs.Common.{◌≡◌, ◌∙◌, sym, Some, arith}
-use Rattle.std.specs.Prelude.{slice_get}
-use Rattle.np_useful.specs.Sessions.{speaks_for}
-use Rattle.np_roles.proofs.Places.{any-there, any-later}
-use Rattle.np_roles.proofs.Currents.{session-after}
+use Rattle.std.proofs.Common.{◌∙◌, false, Option, sym, ap}
+use Rattle.std.specs.Prelude.{nat_lt}
+use Rattle.std.specs.Option.{option_map_or}
+use Rattle.np_text.specs.declared.id.SessionId.{SessionId}
+use Rattle.np_roles.proofs.Currents.{current-after}
 use Rattle.np_roles.proofs.session.is_spoken_later.Goals as goal
 
-pub returns-then-speaks_for : goal.returns-then-speaks_for
-returns-then-speaks_for g c =
-    let there : slice_get (g.L.Look.state c.args.look.now).sessions c.loop-at.at ≡ Some c.in-Some.facts = session-after (g.L.Look.state c.args.look.now) c.loop-at.at c.in-Some.facts (sym c.in-Some.ensures) in
-    sym (any-there (speaks_for c.args.role) (g.L.Look.state c.args.look.now).sessions c.loop-at.at c.loop-at.at c.in-Some.facts (omega arith) there (sym c.if-speaks_for.ensures)) ∙ c.loop-at.invariant
+pub returns-in-None : goal.returns-in-None
+returns-in-None g c =
+    ap (λ (o : Option SessionId). option_map_or (λ x. nat_lt c.args.session.0 x.0) o false) (sym c.in-None.is ∙ c.current_session.ensures)
+    ∙ current-after c.args.role (g.L.Look.state c.args.look.now) c.args.session.0
 
-pub loop-at-preserved : goal.loop-at-preserved
-loop-at-preserved g c =
-    let there : slice_get (g.L.Look.state c.args.look.now).sessions c.loop-at.at ≡ Some c.in-Some.facts = session-after (g.L.Look.state c.args.look.now) c.loop-at.at c.in-Some.facts (sym c.in-Some.ensures) in
-    any-later (speaks_for c.args.role) (g.L.Look.state c.args.look.now).sessions c.loop-at.at c.in-Some.facts there (sym c.if-speaks_for.ensures) ∙ c.loop-at.invariant
+pub returns-in-Some : goal.returns-in-Some
+returns-in-Some g c =
+    ap (λ (o : Option SessionId). option_map_or (λ x. nat_lt c.args.session.0 x.0) o false) (sym c.in-Some.is ∙ c.current_session.ensures)
+    ∙ current-after c.args.role (g.L.Look.state c.args.look.now) c.args.session.0
