@@ -1,5 +1,5 @@
 -- the first member that passes a test
-use Rattle.std.proofs.Common.{◌≡◌, ◌∙◌, ◌≤◌, length, drop, ℕ, zero, suc, Bool, true, false, List, [], ◌∷◌, Option, Some, None, refl, sym, ap}
+use Rattle.std.proofs.Common.{◌≡◌, ◌∙◌, ◌≤◌, ◌+◌, length, drop, ℕ, zero, suc, add-one, Bool, true, false, List, [], ◌∷◌, Option, Some, None, refl, sym, ap}
 use Rattle.std.specs.Prelude.{◌&&◌, ◌||◌, find, filter, map, slice_get, is_some, option_and_then, if◌then◌else◌}
 use Rattle.std.specs.Option.{option_map}
 use Rattle.std.specs.List.{AllByRecursion, list_any, remove}
@@ -52,6 +52,10 @@ any-named name keep q t (x ∷ xs) all kept = named-by name keep q t x xs (keep 
 -- a member that passes, from its place on
 pub any-found : {X : Type 0} (p : X → Bool) (xs : List X) (i : ℕ) (x : X) → slice_get xs i ≡ Some x → p x ≡ true → list_any p (drop i xs) ≡ true
 any-found p xs i x there passes = any-here p xs i x there ∙ rw passes refl
+
+-- past a member that does not pass
+pub any-later : {X : Type 0} (p : X → Bool) (xs : List X) (i : ℕ) (x : X) → slice_get xs i ≡ Some x → p x ≡ false → list_any p (drop (i + 1) xs) ≡ list_any p (drop i xs)
+any-later p xs i x there fails = rw add-one (sym (any-here p xs i x there ∙ ap (λ (b : Bool). b || list_any p (drop (suc i) xs)) fails))
 
 -- past the end none passes
 pub any-past : {X : Type 0} (p : X → Bool) (xs : List X) (i : ℕ) → length xs ≤ i → list_any p (drop i xs) ≡ false

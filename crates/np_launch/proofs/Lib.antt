@@ -1,6 +1,9 @@
 pub mod Allocated
 pub mod Finds
 pub mod Named
+pub mod Joins
+pub mod Registrants
+pub mod Counts
 pub mod Sisters
 pub mod Reasons
 pub mod Spares

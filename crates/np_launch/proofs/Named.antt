@@ -27,7 +27,7 @@ use Rattle.np_launch.proofs.Finds.{any-named}
 
 module _ (c : Configuration) (s : State) (reached : IsReached c s) where
   -- the request at a place is the request with its id
-  row-there : (i : ℕ) (e : RequestEntry) → slice_get s.requests i ≡ Some e → request_entry e.id s.requests ≡ Some e
+  pub row-there : (i : ℕ) (e : RequestEntry) → slice_get s.requests i ≡ Some e → request_entry e.id s.requests ≡ Some e
   row-there i e there = entry-there s.requests i e (invariant-Runs c reached.journal s reached.runs).numbered.requests_rise there
 
   -- ## in hand

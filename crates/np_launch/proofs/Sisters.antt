@@ -1,18 +1,277 @@
--- which sessions wait for a request does not affect whether a launcher of a provider works on it
-use Rattle.std.proofs.Common.{◌≡◌, List, [], ◌∷◌, refl}
+-- each request that the launchers of a provider work on counts at one pool of the provider
+use Rattle.std.proofs.Common.{◌≡◌, ◌∙◌, ◌+◌, ◌≤◌, ℕ, suc, Bool, true, false, cond, List, [], ◌∷◌, length, Option, Some, None, refl, sym, ap, arith}
+use Rattle.std.specs.Prelude.{◌==◌, ◌&&◌, ◌||◌, not, count_by, filter, find, slice_get, nat_lt, option_and_then}
+use Rattle.std.specs.Option.{option_map, option_map_or}
+use Rattle.std.specs.List.{AllByRecursion}
+use Rattle.std.specs.Cmp.{both_ways}
+use Rattle.std.specs.Cmp.Derive.{both_true}
+use Rattle.std.proofs.lemmas.Bool.{and_parts}
+use Rattle.std.proofs.lemmas.Bool.Decides.{nat_tests}
+use Rattle.std.proofs.lemmas.List.{length-map}
+use Rattle.std.proofs.lemmas.List.Sums.{length-filter, count_by-le-length}
+use Rattle.std.proofs.lemmas.Option.{slice_get_within}
 use Rattle.np_text.specs.declared.id.SessionId.{SessionId}
 use Rattle.np_text.specs.declared.id.PoolId.{PoolId}
 use Rattle.np_text.specs.declared.id.RequestId.{RequestId}
-use Rattle.np_record.specs.declared.record.RequestRecord.{RequestRecord}
+use Rattle.np_text.specs.declared.id.Role.{Role}
+use Rattle.np_text.specs.declared.id.Role.TheVariants.{Launcher, Janitor, Requester, Reaper}
 use Rattle.np_site.specs.Configuration.{Configuration}
-use Rattle.np_machine.specs.State.{State}
+use Rattle.np_site.specs.declared.row.Pool.{Pool}
+use Rattle.np_lists.proofs.Each.{all-find, all-at, all-from_at, length-filter_at_most}
+use Rattle.np_lists.proofs.FoundLemmas.{find-passes}
+use Rattle.np_machine.specs.declared.state.Registration.{Registration}
+use Rattle.np_machine.specs.declared.state.SessionFacts.{SessionFacts}
 use Rattle.np_machine.specs.Entries.{RequestEntry}
-use Rattle.np_look.specs.Views.{request_view, request_seen}
-use Rattle.np_launch.specs.Sisters.{is_near}
+use Rattle.np_machine.specs.Kinds.{is_pending}
+use Rattle.np_machine.specs.Order.{is_pool, is_pending_by}
+use Rattle.np_machine.specs.State.{State}
+use Rattle.np_machine.specs.Tables.{is_session, is_queued, holder, registered, role_of}
+use Rattle.np_changes.specs.Planned.{IsReached}
+use Rattle.np_safe.specs.Parts.{IsLauncher, Invariant}
+use Rattle.np_safe.proofs.Firsts.{session-is}
+use Rattle.np_safe.proofs.Ids.{same_pool, row-of, kept-is}
+use Rattle.np_safe.proofs.Runs.{invariant-Runs}
+use Rattle.np_look.specs.Readers.{queued_requests, pending_requests}
+use Rattle.np_useful.specs.Launcher.{provider_of, is_sister, is_sister_launcher, is_served_near, is_held_near, requests_near}
+use Rattle.np_useful.specs.Rows.{request_is}
+use Rattle.np_roles.proofs.Queues.{holder-queued}
+use Rattle.np_launch.specs.Computed.{pool_of_role}
+use Rattle.np_launch.specs.Sisters.{is_served_by_sister, unserved_requests, launcher_requests, sister_requests, near_pool, is_near_below}
+use Rattle.np_launch.proofs.Counts.{one, count-same, count-none, count-either, count-named}
+use Rattle.np_launch.proofs.Named.{row-there}
+use Rattle.np_launch.proofs.Registrants.{IsRegistrant, queues-registered}
 
-near-by : (c : Configuration) (s : State) (p : PoolId) (r : RequestId) (k : RequestRecord) (queue : List SessionId) → is_near c s p (record { id = r; kept = k; queue = queue }) ≡ is_near c s p (request_seen (request_view (record { id = r; kept = k; queue = queue })))
-near-by c s p r k [] = refl
-near-by c s p r k (other ∷ queue) = refl
+-- ## the session in a queue of one
 
-pub near-seen : (c : Configuration) (s : State) (p : PoolId) (e : RequestEntry) → is_near c s p e ≡ is_near c s p (request_seen (request_view e))
-near-seen c s p e = near-by c s p e.id e.kept e.queue
+queued-holds : (session : SessionId) (queue : List SessionId) → length queue ≤ 1 → is_queued session queue ≡ true → holder queue ≡ Some session
+queued-holds session [] few queued = absurd cc
+queued-holds session (other ∷ []) few queued =
+    let same : is_session other session ≡ true = grind (arith, nat_tests) in
+    ap (λ (x : SessionId). Some x) (session-is other session same)
+queued-holds session (other ∷ next ∷ queue) few queued = absurd (omega (arith, few))
+
+launcher-of : (role : Role) (q : PoolId) → pool_of_role role ≡ Some q → role ≡ Launcher q
+launcher-of (Launcher p) q is = let same : p ≡ q = cc in ap (λ (x : PoolId). Launcher x) same
+launcher-of (Janitor p) q is = absurd cc
+launcher-of (Requester p) q is = absurd cc
+launcher-of Reaper q is = absurd cc
+
+-- a pool that serves is the one in the option
+serves-is : (q : PoolId) (o : Option PoolId) → is_pool q o ≡ true → o ≡ Some q
+serves-is q None is = absurd cc
+serves-is q (Some other) is = ap (λ (x : PoolId). Some x) (same_pool other q is)
+
+pool-self : (q : PoolId) → (q.0 == q.0) ≡ true
+pool-self q = grind (arith, nat_tests)
+
+or-right : (a : Bool) → (a || true) ≡ true
+or-right true = refl
+or-right false = refl
+
+module _ (c : Configuration) (s : State) (p : PoolId) where
+  -- the session that is registered for the pool is in the request's queue
+  abbrev is_registrants : PoolId → RequestEntry → Bool
+  is_registrants q e = option_map_or (λ session. is_queued session e.queue) (registered q s.registrations) false
+
+  -- what counts at a pool of the provider
+  abbrev counts_at : PoolId → RequestEntry → Bool
+  counts_at q e = is_pending_by q e.kept || (is_registrants q e && not (is_served_near c p e))
+
+  served-sister : (q : PoolId) (e : RequestEntry) → is_sister c p q ≡ true → is_pending_by q e.kept ≡ true → is_served_near c p e ≡ true
+  served-sister q e sister pending =
+      let both = and_parts (is_pending e.kept.state) (is_pool q e.kept.pool) pending in
+      rw (both.0, serves-is q e.kept.pool both.1) sister
+
+  -- who is registered for a pool is its launcher
+  registrant-role : AllByRecursion (λ g. IsLauncher s g.pool g.session) s.registrations → (q : PoolId) (session : SessionId) → registered q s.registrations ≡ Some session → role_of session s ≡ Some (Launcher q)
+  registrant-role launchers q session is =
+      let row = row-of (λ (g : Registration). g.session) (find (λ g. g.pool.0 == q.0) s.registrations) session is in
+      let own : row.0.session ≡ session = kept-is (λ (g : Registration). g.session) (find (λ g. g.pool.0 == q.0) s.registrations) session row.0 is row.1 in
+      let of_pool : row.0.pool ≡ q = same_pool row.0.pool q (find-passes (λ (g : Registration). g.pool.0 == q.0) s.registrations row.0 row.1) in
+      let launcher = all-find (λ (g : Registration). IsLauncher s g.pool g.session) (λ g. g.pool.0 == q.0) s.registrations row.0 launchers row.1 in
+      ap (λ (x : SessionId). role_of x s) (sym own)
+      ∙ ap (option_map (λ (f : SessionFacts). f.role)) launcher.begun
+      ∙ ap (λ (r : Role). Some r) (launcher.role ∙ ap (λ (x : PoolId). Launcher x) of_pool)
+
+  -- a pool of the provider is in the configuration
+  sister-below : (q : PoolId) → is_sister c p q ≡ true → true ≡ nat_lt q.0 (length c.pools)
+  sister-below q sister = by (provider_of c p) (slice_get c.pools q.0) refl sister where
+    by : (own : Option ℕ) (o : Option Pool) → slice_get c.pools q.0 ≡ o → option_map_or (λ a. option_map_or (λ b. b == a) (option_map (λ pool. pool.provider) o) false) own false ≡ true → true ≡ nat_lt q.0 (length c.pools)
+    by None o there is = absurd cc
+    by (Some a) None there is = absurd cc
+    by (Some a) (Some pool) there is = let below = slice_get_within c.pools q.0 pool there in grind (arith, nat_tests)
+
+  -- a launcher of the provider has a pool
+  unheld-by : (o : Option Role) → option_map_or (is_sister_launcher c p) o false ≡ true → option_and_then pool_of_role o ≡ None → ⊥
+  unheld-by None held none = absurd cc
+  unheld-by (Some (Launcher q)) held none = absurd cc
+  unheld-by (Some (Janitor q)) held none = absurd cc
+  unheld-by (Some (Requester q)) held none = absurd cc
+  unheld-by (Some Reaper) held none = absurd cc
+
+  -- ## one request
+
+  module _ (launchers : AllByRecursion (λ g. IsLauncher s g.pool g.session) s.registrations) (e : RequestEntry) (few : length e.queue ≤ 1) (registrants : AllByRecursion (IsRegistrant s) e.queue) where
+    abbrev held_pool : Option SessionId → Option PoolId
+    held_pool o = option_and_then pool_of_role (option_and_then (λ session. role_of session s) o)
+
+    near-held : (q : PoolId) → is_sister c p q ≡ true → is_served_near c p e ≡ false → (o : Option SessionId) → registered q s.registrations ≡ o → option_map_or (λ session. is_queued session e.queue) o false ≡ true → near_pool c s p e ≡ Some q
+    near-held q sister unserved None is queued = absurd cc
+    near-held q sister unserved (Some session) is queued =
+        let holds : holder e.queue ≡ Some session = queued-holds session e.queue few queued in
+        let role : role_of session s ≡ Some (Launcher q) = registrant-role launchers q session is in
+        rw (unserved, holds, role, sister) refl
+
+    -- what counts at a pool of the provider is near it
+    near-counts : (q : PoolId) → is_sister c p q ≡ true → counts_at q e ≡ true → near_pool c s p e ≡ Some q
+    near-counts q sister counts = by (is_pending_by q e.kept) refl (is_served_near c p e) refl where
+      by : (b : Bool) → is_pending_by q e.kept ≡ b → (d : Bool) → is_served_near c p e ≡ d → near_pool c s p e ≡ Some q
+      by true pending true served = rw served (serves-is q e.kept.pool ((and_parts (is_pending e.kept.state) (is_pool q e.kept.pool) pending).1))
+      by true pending false unserved = absurd (let served : is_served_near c p e ≡ true = served-sister q e sister pending in cc)
+      by false other true served = absurd (let none = rw (other, served) at counts in grind (arith, nat_tests))
+      by false other false unserved =
+          let queued : is_registrants q e ≡ true = grind (arith, nat_tests) in
+          near-held q sister unserved (registered q s.registrations) refl queued
+
+    -- what is near a pool counts there, and it is a pool of the provider
+    counts-near : (q : PoolId) → near_pool c s p e ≡ Some q → (is_sister c p q ≡ true) × (counts_at q e ≡ true)
+    counts-near q near = by (is_served_near c p e) refl (is_held_near c s p e) refl where
+      by : (b : Bool) → is_served_near c p e ≡ b → (d : Bool) → is_held_near c s p e ≡ d → (is_sister c p q ≡ true) × (counts_at q e ≡ true)
+      by true served d at =
+          let pool : e.kept.pool ≡ Some q = rw served at near in
+          let both = and_parts (is_pending e.kept.state) (option_map_or (is_sister c p) e.kept.pool false) served in
+          (rw pool at both.1, rw (both.0, pool, pool-self q) refl)
+      by false unserved false unheld = absurd (let none = rw (unserved, unheld) at near in cc)
+      by false unserved true held = held-by (holder e.queue) refl where
+        held-by : (o : Option SessionId) → holder e.queue ≡ o → (is_sister c p q ≡ true) × (counts_at q e ≡ true)
+        held-by None holds = absurd (let none = rw holds at held in cc)
+        held-by (Some session) holds = role-by (role_of session s) refl where
+          role-by : (r : Option Role) → role_of session s ≡ r → (is_sister c p q ≡ true) × (counts_at q e ≡ true)
+          role-by None role = absurd (let none = rw (holds, role) at held in cc)
+          role-by (Some r) role =
+              let of_pool : pool_of_role r ≡ Some q = rw (unserved, held, holds, role) at near in
+              let launches : r ≡ Launcher q = launcher-of r q of_pool in
+              let sister : is_sister c p q ≡ true = rw (holds, role, launches) at held in
+              let such : IsRegistrant s session = all-at (IsRegistrant s) e.queue 0 session registrants holds in
+              let of_facts : such.facts.role ≡ Launcher q = (let both : Some such.facts.role ≡ Some r = sym (ap (option_map (λ (f : SessionFacts). f.role)) such.begun) ∙ role in cc) in
+              let is : registered q s.registrations ≡ Some session = such.registers q of_facts in
+              let queued : is_queued session e.queue ≡ true = holder-queued session e.queue (rw holds (grind (arith, nat_tests))) in
+              (sister, (let right : (is_registrants q e && not (is_served_near c p e)) ≡ true = rw (is, queued, unserved) refl in rw right (or-right (is_pending_by q e.kept))))
+
+    near-at : (q : PoolId) → is_pool q (near_pool c s p e) ≡ (is_sister c p q && counts_at q e)
+    near-at q = both_ways (is_pool q (near_pool c s p e)) (is_sister c p q && counts_at q e) there back where
+      there : is_pool q (near_pool c s p e) ≡ true → (is_sister c p q && counts_at q e) ≡ true
+      there is = let counts = counts-near q (serves-is q (near_pool c s p e) is) in both_true counts.0 counts.1
+
+      back : (is_sister c p q && counts_at q e) ≡ true → is_pool q (near_pool c s p e) ≡ true
+      back is = let both = and_parts (is_sister c p q) (counts_at q e) is in ap (is_pool q) (near-counts q both.0 both.1) ∙ pool-self q
+
+    -- the launchers of the provider work on it if it is near one of the pools
+    near-is : (is_served_near c p e || is_held_near c s p e) ≡ is_near_below c s p (length c.pools) e
+    near-is = by (near_pool c s p e) refl (is_served_near c p e) refl (is_held_near c s p e) refl where
+      by : (o : Option PoolId) → near_pool c s p e ≡ o → (b : Bool) → is_served_near c p e ≡ b → (d : Bool) → is_held_near c s p e ≡ d → (b || d) ≡ option_map_or (λ other. nat_lt other.0 (length c.pools)) o false
+      by (Some q) near false unserved false unheld = absurd (let none = rw (unserved, unheld) at near in cc)
+      by (Some q) near true served d held = sister-below q (counts-near q near).0
+      by (Some q) near false unserved true held = sister-below q (counts-near q near).0
+      by None none true served d held =
+          let pool : e.kept.pool ≡ None = rw served at none in
+          let both = and_parts (is_pending e.kept.state) (option_map_or (is_sister c p) e.kept.pool false) served in
+          absurd (let no = rw pool at both.1 in cc)
+      by None none false unserved false unheld = refl
+      by None none false unserved true held = absurd (unheld-by (option_and_then (λ session. role_of session s) (holder e.queue)) held (rw (unserved, held) at none))
+
+-- ## no more than there are
+
+pub pending-few : (s : State) (q : PoolId) → length (pending_requests q s) ≤ length s.requests
+pending-few s q =
+    omega (arith, length-map (filter (λ (e : RequestEntry). is_pending_by q e.kept) s.requests) (λ e. e.id), length-filter_at_most (λ (e : RequestEntry). is_pending_by q e.kept) s.requests)
+
+pub unserved-few : (c : Configuration) (s : State) (p : PoolId) (session : SessionId) → unserved_requests c s p session ≤ length s.requests
+unserved-few c s p session =
+    omega (
+      arith,
+      count_by-le-length (λ (r : RequestId). not (request_is r s (is_served_by_sister c p))) (queued_requests session s),
+      length-map (filter (λ (e : RequestEntry). is_queued session e.queue) s.requests) (λ e. e.id),
+      length-filter_at_most (λ (e : RequestEntry). is_queued session e.queue) s.requests,
+    )
+
+-- ## all requests
+
+module _ (c : Configuration) (s : State) (p : PoolId) where
+  counts-apart : (q : PoolId) → is_sister c p q ≡ true → (e : RequestEntry) → one (counts_at c s p q e) ≡ one (is_pending_by q e.kept) + one (is_registrants c s p q e && not (is_served_near c p e))
+  counts-apart q sister e = by (is_pending_by q e.kept) refl where
+    by : (b : Bool) → is_pending_by q e.kept ≡ b → one (b || (is_registrants c s p q e && not (is_served_near c p e))) ≡ one b + one (is_registrants c s p q e && not (is_served_near c p e))
+    by true pending = rw (served-sister c s p q e sister pending) (by-registrant (is_registrants c s p q e)) where
+      by-registrant : (d : Bool) → 1 ≡ 1 + one (d && false)
+      by-registrant true = refl
+      by-registrant false = refl
+    by false other = omega arith
+
+  pub none-counts : count_by (is_near_below c s p 0) s.requests ≡ 0
+  none-counts = count-none (is_near_below c s p 0) s.requests (λ e. by (near_pool c s p e)) where
+    by : (o : Option PoolId) → option_map_or (λ q. nat_lt q.0 0) o false ≡ false
+    by None = refl
+    by (Some q) = grind (arith, nat_tests)
+
+  more-by : (q : PoolId) (e : RequestEntry) → one (is_near_below c s p (suc q.0) e) ≡ one (is_near_below c s p q.0 e) + one (is_pool q (near_pool c s p e))
+  more-by q e = by (near_pool c s p e) where
+    by : (o : Option PoolId) → one (option_map_or (λ other. nat_lt other.0 (suc q.0)) o false) ≡ one (option_map_or (λ other. nat_lt other.0 q.0) o false) + one (is_pool q o)
+    by None = refl
+    by (Some other) = grind (arith, nat_tests)
+
+  -- one more pool of the configuration
+  more-counts : (q : PoolId) → count_by (is_near_below c s p (suc q.0)) s.requests ≡ count_by (is_near_below c s p q.0) s.requests + count_by (λ e. is_pool q (near_pool c s p e)) s.requests
+  more-counts q = count-either (is_near_below c s p q.0) (λ (e : RequestEntry). is_pool q (near_pool c s p e)) (is_near_below c s p (suc q.0)) s.requests (more-by q)
+
+  pending-counts : (q : PoolId) → count_by (λ e. is_pending_by q e.kept) s.requests ≡ length (pending_requests q s)
+  pending-counts q = sym (length-map (filter (λ (e : RequestEntry). is_pending_by q e.kept) s.requests) (λ e. e.id) ∙ length-filter (λ (e : RequestEntry). is_pending_by q e.kept) s.requests)
+
+module _ (c : Configuration) (s : State) (reached : IsReached c s) (p : PoolId) where
+  holds : Invariant c s
+  holds = invariant-Runs c reached.journal s reached.runs
+
+  few-there : (i : ℕ) (e : RequestEntry) → slice_get s.requests i ≡ Some e → length e.queue ≤ 1
+  few-there i e there = all-at (λ (x : RequestEntry). length x.queue ≤ 1) s.requests i e holds.queued.one_a_request there
+
+  registrants-there : (i : ℕ) (e : RequestEntry) → slice_get s.requests i ≡ Some e → AllByRecursion (IsRegistrant s) e.queue
+  registrants-there i e there = all-at (λ (x : RequestEntry). AllByRecursion (IsRegistrant s) x.queue) s.requests i e (queues-registered c s reached) there
+
+  unserved-there : (session : SessionId) (i : ℕ) (e : RequestEntry) → slice_get s.requests i ≡ Some e → is_queued session e.queue ≡ true → not (request_is e.id s (is_served_by_sister c p)) ≡ not (is_served_near c p e)
+  unserved-there session i e there queued = rw (row-there c s reached i e there) refl
+
+  unserved-counts : (session : SessionId) → unserved_requests c s p session ≡ count_by (λ e. is_queued session e.queue && not (is_served_near c p e)) s.requests
+  unserved-counts session =
+      count-named (λ (e : RequestEntry). e.id) (λ e. is_queued session e.queue) (λ e. not (is_served_near c p e)) (λ r. not (request_is r s (is_served_by_sister c p))) s.requests
+      (all-from_at (λ (e : RequestEntry). is_queued session e.queue ≡ true → not (request_is e.id s (is_served_by_sister c p)) ≡ not (is_served_near c p e)) s.requests (unserved-there session))
+
+  registrant-counts : (o : Option SessionId) → count_by (λ e. option_map_or (λ session. is_queued session e.queue) o false && not (is_served_near c p e)) s.requests ≡ option_map_or (unserved_requests c s p) o 0
+  registrant-counts None = count-none (λ (e : RequestEntry). false) s.requests (λ e. refl)
+  registrant-counts (Some session) = sym (unserved-counts session)
+
+  launcher-counts : (q : PoolId) → is_sister c p q ≡ true → count_by (counts_at c s p q) s.requests ≡ launcher_requests c s p q
+  launcher-counts q sister =
+      let parts = count-either (λ (e : RequestEntry). is_pending_by q e.kept) (λ e. is_registrants c s p q e && not (is_served_near c p e)) (counts_at c s p q) s.requests (counts-apart c s p q sister) in
+      omega (arith, parts, pending-counts c s p q, registrant-counts (registered q s.registrations))
+
+  pool-counts : (q : PoolId) → count_by (λ e. is_pool q (near_pool c s p e)) s.requests ≡ sister_requests c s p q
+  pool-counts q =
+      count-same (λ (e : RequestEntry). is_pool q (near_pool c s p e)) (λ e. is_sister c p q && counts_at c s p q e) s.requests
+      (all-from_at (λ (e : RequestEntry). is_pool q (near_pool c s p e) ≡ (is_sister c p q && counts_at c s p q e)) s.requests (λ i e there.
+      near-at c s p holds.registered.of_launcher e (few-there i e there) (registrants-there i e there) q))
+      ∙ by (is_sister c p q) refl
+    where
+      by : (b : Bool) → is_sister c p q ≡ b → count_by (λ e. b && counts_at c s p q e) s.requests ≡ cond b (launcher_requests c s p q) 0
+      by true sister = launcher-counts q sister
+      by false other = count-none (λ (e : RequestEntry). false) s.requests (λ e. refl)
+
+  -- up to a pool, and to the next one
+  pub pool-adds : (q : PoolId) → count_by (is_near_below c s p (suc q.0)) s.requests ≡ count_by (is_near_below c s p q.0) s.requests + sister_requests c s p q
+  pool-adds q = more-counts c s p q ∙ ap (λ (n : ℕ). count_by (is_near_below c s p q.0) s.requests + n) (pool-counts q)
+
+  -- up to the last pool
+  pub pools-count : (pools : ℕ) → pools ≡ length c.pools → count_by (is_near_below c s p pools) s.requests ≡ requests_near c s p
+  pools-count pools all =
+      ap (λ (n : ℕ). count_by (is_near_below c s p n) s.requests) all
+      ∙ sym (count-same (λ (e : RequestEntry). is_served_near c p e || is_held_near c s p e) (is_near_below c s p (length c.pools)) s.requests
+      (all-from_at (λ (e : RequestEntry). (is_served_near c p e || is_held_near c s p e) ≡ is_near_below c s p (length c.pools) e) s.requests (λ i e there.
+      near-is c s p holds.registered.of_launcher e (few-there i e there) (registrants-there i e there))))

@@ -26,7 +26,7 @@ use Rattle.np_lists.specs.Refusals.{◌>>=◌}
 use Rattle.np_lists.proofs.FoundLemmas.{find-passes}
 use Rattle.np_machine.specs.declared.state.SessionFacts.{SessionFacts}
 use Rattle.np_machine.specs.Entries.{NodeEntry}
-use Rattle.np_machine.specs.Laws.{same_role}
+use Rattle.np_machine.specs.Laws.{same_role, speaks_for}
 use Rattle.np_machine.specs.Order.{is_pending_by}
 use Rattle.np_machine.specs.Plan.{outcome_of}
 use Rattle.np_machine.specs.State.{State}
@@ -37,7 +37,7 @@ use Rattle.np_safe.proofs.Lookups.{same_node-is}
 use Rattle.np_look.specs.Readers.{queued_requests, queued_nodes}
 use Rattle.np_useful.specs.Launcher.{is_by_registrant, same_outcome, is_as_planned, is_first_reason}
 use Rattle.np_useful.specs.Rows.{request_is, node_is}
-use Rattle.np_useful.specs.Sessions.{is_current, speaks_for}
+use Rattle.np_useful.specs.Sessions.{is_current}
 use Rattle.np_useful.specs.Useful.{IsUseful, is_maker_of}
 use Rattle.np_roles.specs.Passing.{passing, IsFirst, IsFirstThatPasses}
 use Rattle.np_roles.proofs.Currents.{current-speaks}

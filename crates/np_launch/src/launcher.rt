@@ -18,10 +18,10 @@ use crate::request::is_done_with;
 use crate::requests::is_to_launch;
 use crate::rows::{is_node_done_with, is_planned_report, is_registrant, is_unfailed, may_take_up};
 use np_event::Event;
-use np_look::Look;
+use np_look::{Look, is_same_role};
 use np_roles::{
     EventKind, NodeKind, RequestKind, Rows, choose_opening, current_session, first_of_kind,
-    first_that_passes, is_same_role, may_open, passes,
+    first_that_passes, may_open, passes,
 };
 use np_text::{PoolId, RequestId, Role, SessionId};
 
@@ -223,8 +223,9 @@ fn first_of_any<L: Look>(
 /// and only if there is none. Its cost grows with the number of requests and nodes in whose queues
 /// the launcher's session is, and with the number of labels; if the launcher has no session, with
 /// the number of sessions. It searches for the first open request, and tests the lock of that one.
-/// For a lock that the machine accepts it looks up the requests that are pending by the pool, and
-/// reads all requests if the provider limits how many its launchers work on.
+/// For a lock that the machine accepts it looks up the requests that are pending by the pool, and,
+/// if the provider limits how many its launchers work on, the pools of the configuration and the
+/// requests in whose queues the registered sessions of the provider's pools are.
 pub fn choose_launcher<L: Look>(look: &L, pool: PoolId) -> Option<Event>
     requires reached { IsReached (L.site look.now) (L.state look.now) }
     requires fits { Fits (L.site look.now) (L.state look.now) }

@@ -27,18 +27,18 @@
 //! A choice costs what the launcher's own session queues for, and not all that there is: for each
 //! kind of event it tests the requests or nodes in whose queues the session is, and each of these
 //! takes a few lookups. Whether a node is still needed, and whether it is to be started, costs a
-//! lookup of the node and one of the request that it is allocated to: in a state that a run reaches,
-//! no other pending request has it in its list. Which ready node a request may be given costs one
-//! search for the first that is free, and the test of that one. For a lock it searches once for the
-//! first open request, and tests that one alone, whose judge makes the search again; whether the
-//! session has a request in hand is asked of those in whose queues it is, and whether one is under
-//! way of those that are pending by the pool. For min-ready it tests each label. These scans are
-//! left:
-//!
-//! - all requests, once, if the machine accepts the lock of the first and the provider limits how
-//!   many its launchers work on;
-//! - what the readers of `Look` scan for a search and for a label (the count of ready nodes, what
-//!   the pool uses), where a representation keeps no index or number for it.
+//! lookup of the node and one of the request that it is allocated to: in a state that a run
+//! reaches, no other pending request has it in its list. Which ready node a request may be given
+//! costs one search for the first that is free, and the test of that one. For a lock it searches
+//! once for the first open request, and tests that one alone, whose judge makes the search again;
+//! whether the session has a request in hand is asked of those in whose queues it is, and whether
+//! one is under way of those that are pending by the pool. If the provider limits how many requests
+//! its launchers work on, they are counted pool by pool: how many the pool serves, which is one
+//! number, and of those in whose queues the pool's registered session is, the ones that no pool of
+//! the provider serves. In a state that a run reaches, no other launcher of the pool is in the
+//! queue of a request. For min-ready it tests each label. What is left are the scans of the readers
+//! of `Look` for a search and for a label (the count of ready nodes, what the pool uses), where a
+//! representation keeps no index or number for it.
 #![tactic(auto)]
 
 mod computed;

@@ -1,13 +1,14 @@
-//! The launchers of one provider.
+//! The launchers of one provider, and the requests that they work on.
 
-ghost use Rattle.std.specs.Prelude.{◌≡◌};
-ghost use Rattle.np_look.specs.Views.{request_seen};
-ghost use Rattle.np_useful.specs.Launcher.{provider_of, is_sister, is_sister_launcher, is_served_near, is_held_near, concurrency_of};
-ghost use Rattle.np_launch.specs.Sisters.{is_near};
+ghost use Rattle.std.specs.Prelude.{◌≡◌, ◌≤◌, cond};
+ghost use Rattle.np_fits.specs.Fits.{Fits};
+ghost use Rattle.np_useful.specs.Launcher.{provider_of, is_sister, concurrency_of};
+ghost use Rattle.np_useful.specs.Rows.{request_is};
+ghost use Rattle.np_launch.specs.Sisters.{is_served_by_sister, unserved_requests, launcher_requests, sister_requests};
 
 use np_config::Config;
-use np_look::{Look, RequestView};
-use np_text::{PoolId, RequestState, Role};
+use np_look::Look;
+use np_text::{PoolId, RequestId, RequestState, SessionId};
 
 /// The provider of the pool, by its place.
 fn provider_of(config: &Config, pool: PoolId) -> Option<u16>
@@ -32,46 +33,69 @@ fn is_sister(config: &Config, pool: PoolId, other: PoolId) -> bool
     }
 }
 
-/// Whether it is a launcher of the pool's provider.
-fn is_sister_launcher(config: &Config, pool: PoolId, role: Role) -> bool
-    ensures { result ≡ is_sister_launcher config.now pool role }
+/// Whether the request is pending, and a pool of the provider serves it. It costs one lookup.
+fn is_served_by_sister<L: Look>(look: &L, pool: PoolId, request: RequestId) -> bool
+    ensures { result ≡ request_is request (L.state look.now)
+        (is_served_by_sister (L.site look.now) pool) }
 {
-    match role {
-        Role::Launcher(other) => is_sister(config, pool, other),
-        Role::Janitor(_) | Role::Requester(_) | Role::Reaper => false,
-    }
-}
-
-/// Whether the request is pending in a pool of the provider.
-fn is_served_near(config: &Config, pool: PoolId, view: &RequestView) -> bool
-    ensures { result ≡ is_served_near config.now pool (request_seen view.now) }
-{
-    let near = match view.kept.pool {
-        None => false,
-        Some(other) => is_sister(config, pool, other),
-    };
-    view.kept.state == RequestState::Pending && near
-}
-
-/// Whether a session of a launcher of the provider holds the request.
-fn is_held_near<L: Look>(look: &L, pool: PoolId, view: &RequestView) -> bool
-    ensures { result ≡
-        is_held_near (L.site look.now) (L.state look.now) pool (request_seen view.now) }
-{
-    let Some(session) = view.holder else {
+    let Some(asked) = look.asked(request) else {
         return false;
     };
-    match look.session(session) {
+    let near = match asked.pool {
         None => false,
-        Some(facts) => is_sister_launcher(look.config(), pool, facts.role),
+        Some(other) => is_sister(look.config(), pool, other),
+    };
+    asked.state == RequestState::Pending && near
+}
+
+/// 1 if it is true.
+fn one_if(holds: bool) -> u32
+    ensures one { result ≡ cond holds 1 0 }
+    ensures few { result ≤ 1 }
+{
+    if holds { 1 } else { 0 }
+}
+
+/// How many requests have the session in their queues and are served by no pool of the provider. It
+/// costs one lookup of each request in whose queue the session is.
+fn unserved_requests<L: Look>(look: &L, pool: PoolId, session: SessionId) -> u32
+    ensures { result ≡ unserved_requests (L.site look.now) (L.state look.now) pool session }
+{
+    let mut count = 0;
+    for at in 0..look.queued_requests(session) {
+        let Some(request) = look.queued_request_at(session, at) else {
+            return 0;
+        };
+        count += one_if(!is_served_by_sister(look, pool, request));
+    }
+    count
+}
+
+/// How many requests the other pool serves, plus those in whose queues its registered session is
+/// and that no pool of the provider serves.
+fn launcher_requests<L: Look>(look: &L, pool: PoolId, other: PoolId) -> u32
+    requires { Fits (L.site look.now) (L.state look.now) }
+    ensures { result ≡ launcher_requests (L.site look.now) (L.state look.now) pool other }
+{
+    let pending = look.pending_requests(other);
+    match look.registration(other) {
+        None => pending,
+        Some(session) => pending + unserved_requests(look, pool, session),
     }
 }
 
-/// Whether the launchers of the provider work on the request.
-pub(crate) fn is_near<L: Look>(look: &L, pool: PoolId, view: &RequestView) -> bool
-    ensures { result ≡ is_near (L.site look.now) (L.state look.now) pool (request_seen view.now) }
+/// How many of the requests that the provider's launchers work on count at the other pool: none if
+/// it is of another provider. Each request counts at one pool: the one that serves it, or else that
+/// of the launcher that holds it.
+pub(crate) fn sister_requests<L: Look>(look: &L, pool: PoolId, other: PoolId) -> u32
+    requires { Fits (L.site look.now) (L.state look.now) }
+    ensures { result ≡ sister_requests (L.site look.now) (L.state look.now) pool other }
 {
-    is_served_near(look.config(), pool, view) || is_held_near(look, pool, view)
+    if is_sister(look.config(), pool, other) {
+        launcher_requests(look, pool, other)
+    } else {
+        0
+    }
 }
 
 /// How many requests the launchers of the pool's provider may work on, if that is limited.

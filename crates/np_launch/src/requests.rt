@@ -1,6 +1,6 @@
-//! Whether some request passes a test, and how many do.
+//! Whether some request passes a test, and how many the launchers of a provider work on.
 
-ghost use Rattle.std.specs.Prelude.{◌≡◌, ◌≤◌, Bool, cond};
+ghost use Rattle.std.specs.Prelude.{◌≡◌, Bool};
 ghost use Rattle.std.specs.List.{list_any};
 ghost use Rattle.np_text.specs.declared.id.RequestId.{RequestId};
 ghost use Rattle.np_machine.specs.State.{State};
@@ -9,7 +9,7 @@ ghost use Rattle.np_look.specs.Readers.{pending_requests};
 ghost use Rattle.np_fits.specs.Fits.{Fits};
 ghost use Rattle.np_useful.specs.Launcher.{is_to_launch, is_under_way, is_in_hand, requests_near, has_turn_left};
 
-use crate::near::{concurrency_of, is_near};
+use crate::near::{concurrency_of, sister_requests};
 use crate::request::{has_failed_node, is_complete, is_in_hand, is_listed, served_request};
 use np_look::Look;
 use np_text::{NodeId, PoolId, RequestId, SessionId};
@@ -117,33 +117,31 @@ pub fn has_request_in_hand<L: Look>(look: &L, pool: PoolId, session: SessionId) 
     false
 }
 
-/// 1 if it is true.
-fn one_if(holds: bool) -> u32
-    ensures one { result ≡ cond holds 1 0 }
-    ensures few { result ≤ 1 }
-{
-    if holds { 1 } else { 0 }
-}
-
-/// How many requests the launchers of the pool's provider work on. It reads every request once.
+/// How many requests the launchers of the pool's provider work on. It costs one lookup of each pool
+/// of the configuration, and for each pool of the provider one of each request in whose queue its
+/// registered session is. No other request is looked up: in a state that a run reaches, a launcher
+/// in the queue of a request is registered for its pool.
 fn requests_near<L: Look>(look: &L, pool: PoolId) -> u32
-    requires { Fits (L.site look.now) (L.state look.now) }
+    requires reached { IsReached (L.site look.now) (L.state look.now) }
+    requires fits { Fits (L.site look.now) (L.state look.now) }
     ensures { result ≡ requests_near (L.site look.now) (L.state look.now) pool }
 {
+    let config = look.config();
+    config.soundness();
     let mut count = 0;
-    for at in 0..look.requests() {
-        let Some(view) = look.request_view(at) else {
-            return 0;
-        };
-        count += one_if(is_near(look, pool, &view));
+    let mut at = 0;
+    while let Some(_) = config.pool(PoolId(at)) {
+        count += sister_requests(look, pool, PoolId(at));
+        at += 1;
     }
     count
 }
 
-/// Whether the launchers of the pool's provider may take up one more request. It reads the requests
-/// only if the provider has a limit.
+/// Whether the launchers of the pool's provider may take up one more request. What they work on is
+/// counted only if the provider has a limit.
 pub fn has_turn_left<L: Look>(look: &L, pool: PoolId) -> bool
-    requires { Fits (L.site look.now) (L.state look.now) }
+    requires reached { IsReached (L.site look.now) (L.state look.now) }
+    requires fits { Fits (L.site look.now) (L.state look.now) }
     ensures { result ≡ has_turn_left (L.site look.now) (L.state look.now) pool }
 {
     match concurrency_of(look.config(), pool) {

@@ -72,8 +72,9 @@ pub fn is_planned_report<L: Look>(
 
 /// Whether the launcher may take up another request: it has none under way and none in hand, and
 /// the launchers of its provider may work on one more. It looks up the requests that are pending by
-/// the pool and those in whose queues the session is; only the last test reads all requests, if the
-/// provider has a limit.
+/// the pool and those in whose queues the session is. The last test is made only if the others
+/// pass; if the provider has a limit, it looks up the pools of the configuration and the requests
+/// in whose queues the registered sessions of the provider's pools are.
 pub fn may_take_up<L: Look>(look: &L, pool: PoolId, session: SessionId) -> bool
     requires reached { IsReached (L.site look.now) (L.state look.now) }
     requires fits { Fits (L.site look.now) (L.state look.now) }

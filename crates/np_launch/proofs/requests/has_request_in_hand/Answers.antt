@@ -1,8 +1,8 @@
 use Rattle.std.proofs.Common.{◌∙◌, ◌<◌, ◌≤◌, length, sym, arith}
 use Rattle.np_look.specs.Readers.{queued_requests}
-use Rattle.np_roles.proofs.Places.{any-later, some-there}
+use Rattle.np_roles.proofs.Places.{some-there}
 use Rattle.np_launch.specs.Hands.{is_in_hand_at}
-use Rattle.np_launch.proofs.Finds.{any-found, any-past}
+use Rattle.np_launch.proofs.Finds.{any-found, any-later, any-past}
 use Rattle.np_launch.proofs.Named.{any-in_hand}
 use Rattle.np_launch.proofs.requests.has_request_in_hand.Goals as goal
 

@@ -1,7 +1,7 @@
 use Rattle.std.proofs.Common.{◌∙◌, ◌<◌, ◌≤◌, length, sym, arith}
 use Rattle.np_look.specs.Readers.{pending_requests}
-use Rattle.np_roles.proofs.Places.{any-later, some-there}
-use Rattle.np_launch.proofs.Finds.{any-found, any-past}
+use Rattle.np_roles.proofs.Places.{some-there}
+use Rattle.np_launch.proofs.Finds.{any-found, any-later, any-past}
 use Rattle.np_launch.proofs.requests.is_any_pending.Goals as goal
 
 pub returns-in_default : goal.returns-in_default

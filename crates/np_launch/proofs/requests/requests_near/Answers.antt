@@ -1,20 +1,40 @@
-use Rattle.std.proofs.Common.{◌≡◌, ◌<◌, sym, cond, add-one, length, arith}
-use Rattle.np_look.specs.Views.{request_view, request_seen}
-use Rattle.np_look.proofs.Walks.{count_here, none_there}
-use Rattle.np_launch.specs.Sisters.{is_near}
-use Rattle.np_launch.proofs.Sisters.{near-seen}
+use Rattle.std.proofs.Common.{◌≡◌, length, suc, sym, ap, add-one, arith}
+use Rattle.std.proofs.lemmas.List.Sums.{count_by-le-length}
+use Rattle.std.proofs.lemmas.Option.{slice_get_within}
+use Rattle.np_site.specs.Configuration.{Configuration}
+use Rattle.np_roles.proofs.Places.{past-end}
+use Rattle.np_launch.specs.Sisters.{is_near_below}
+use Rattle.np_launch.proofs.Sisters.{none-counts, pool-adds, pools-count}
 use Rattle.np_launch.proofs.requests.requests_near.Goals as goal
 
-pub returns-in_default : goal.returns-in_default
-returns-in_default g c =
-    let within : c.loop-at.at < length (g.L.Look.state c.args.look.now).requests = omega (arith, c.requests-at-end.ensures, c.loop-at-test.true) in
-    absurd (none_there request_view (g.L.Look.state c.args.look.now).requests c.loop-at.at within (sym c.in_default.ensures))
+pub loop-count-init : goal.loop-count-init
+loop-count-init g c = record { within = omega arith; all = sym (none-counts (g.L.Look.site c.args.look.now) (g.L.Look.state c.args.look.now) c.args.pool) }
 
-pub loop-at-preserved : goal.loop-at-preserved
-loop-at-preserved g c =
-    let step = count_here (λ v. is_near (g.L.Look.site c.args.look.now) (g.L.Look.state c.args.look.now) c.args.pool (request_seen v)) request_view (is_near (g.L.Look.site c.args.look.now) (g.L.Look.state c.args.look.now) c.args.pool) (near-seen (g.L.Look.site c.args.look.now) (g.L.Look.state c.args.look.now) c.args.pool) (g.L.Look.state c.args.look.now).requests c.loop-at.at c.in-Some.view (sym c.in-Some.ensures) in
-    let one : c.one_if-count.result ≡ cond (is_near (g.L.Look.site c.args.look.now) (g.L.Look.state c.args.look.now) c.args.pool (request_seen c.in-Some.view)) 1 0 = cc in
+pub overflow_add-count : goal.overflow_add-count
+overflow_add-count g c =
+    let adds = pool-adds (g.L.Look.site c.args.look.now) (g.L.Look.state c.args.look.now) c.requires.reached c.args.pool (record { 0 = c.loop-count.at }) in
+    let few = count_by-le-length (is_near_below (g.L.Look.site c.args.look.now) (g.L.Look.state c.args.look.now) c.args.pool (suc c.loop-count.at)) (g.L.Look.state c.args.look.now).requests in
+    omega (arith, adds, few, c.loop-count.invariant.all, c.sister_requests-count.ensures, c.requires.fits.requests)
+
+pub loop-count-smaller : goal.loop-count-smaller
+loop-count-smaller g c =
+    let below = slice_get_within c.config-config.result.now.pools c.loop-count.at c.in-Some.field-0.now (sym c.in-Some.ensures) in
+    let same = ap (λ (site : Configuration). length site.pools) c.config-config.ensures in
+    omega (arith, below, same)
+
+pub loop-count-preserved : goal.loop-count-preserved
+loop-count-preserved g c =
+    let below = slice_get_within c.config-config.result.now.pools c.loop-count.at c.in-Some.field-0.now (sym c.in-Some.ensures) in
+    let same = ap (λ (site : Configuration). length site.pools) c.config-config.ensures in
+    let adds = pool-adds (g.L.Look.site c.args.look.now) (g.L.Look.state c.args.look.now) c.requires.reached c.args.pool (record { 0 = c.loop-count.at }) in
     record {
-      few = omega (arith, c.one_if-count.ensures.few, c.loop-at.invariant.few);
-      all = rw add-one (omega (arith, step, one, c.loop-at.invariant.all));
+      within = omega (arith, below, same);
+      all = rw add-one (omega (arith, adds, c.loop-count.invariant.all, c.sister_requests-count.ensures));
     }
+
+pub returns : goal.returns
+returns g c =
+    let past = past-end c.config-config.result.now.pools c.loop-count.at (sym c.in_default.ensures) in
+    let same = ap (λ (site : Configuration). length site.pools) c.config-config.ensures in
+    let end : c.loop-count.at ≡ length (g.L.Look.site c.args.look.now).pools = omega (arith, past, same, c.loop-count.invariant.within) in
+    omega (arith, c.loop-count.invariant.all, pools-count (g.L.Look.site c.args.look.now) (g.L.Look.state c.args.look.now) c.requires.reached c.args.pool c.loop-count.at end)
