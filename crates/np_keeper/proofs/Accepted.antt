@@ -4,7 +4,6 @@ use Rattle.np_site.specs.Configuration.{Configuration}
 use Rattle.np_site.specs.Sound.{IsSound}
 use Rattle.np_machine.specs.State.{State}
 use Rattle.np_changes.specs.Changes.{changed}
-use Rattle.np_changes.specs.Plan.{plan}
 use Rattle.np_changes.specs.Planned.{IsPlanned, IsReached}
 use Rattle.np_changes.specs.declared.changes.Changes.{Changes}
 use Rattle.np_changes.proofs.PlanLaws.{plan-next}

@@ -9,14 +9,13 @@ use Rattle.std.proofs.lemmas.List.FromFn.{length-map-range_with_len}
 use Rattle.np_site.specs.Configuration.{Configuration}
 use Rattle.np_site.specs.Sound.{IsSound}
 use Rattle.np_nodes.specs.TreeState.{TreeState, new_tree}
-use Rattle.np_nodes.specs.After.{after_part, with_next_number}
+use Rattle.np_nodes.specs.After.{with_next_number}
 use Rattle.np_nodes.specs.Calls.{after_begin, with_spare}
 use Rattle.np_nodes.specs.Multi.{AtPart, after_multi, after_parts, answers_from, is_check, is_numbered}
 use Rattle.np_nodes.specs.declared.op.Op.{Op}
 use Rattle.np_nodes.specs.declared.op.OpDone.{OpDone}
 use Rattle.np_tree.specs.Whole.{IsWhole}
 use Rattle.np_views.specs.Several.{Goes, HasRoomFor}
-use Rattle.np_views.proofs.RoomLemmas.{room-falls}
 use Rattle.np_views.proofs.SeveralLemmas.{answered-goes, goes-under-one-number}
 use Rattle.np_places.specs.declared.place.Place.{Place}
 use Rattle.np_places.specs.declared.place.Place.TheVariants.{Semaphore, Job, LauncherRole, JanitorRole, RequesterRole, Tick}

@@ -1,5 +1,5 @@
 -- which request a pool's launcher takes up next
-use Rattle.std.specs.Prelude.{List, Bool, false, ◌&&◌, not, if◌then◌else◌, Option, Some, None, is_none, filter, fold, option_and_then}
+use Rattle.std.specs.Prelude.{List, Bool, ◌&&◌, not, if◌then◌else◌, Option, Some, None, is_none, filter, fold, option_and_then}
 use Rattle.std.specs.Option.{option_map}
 use Rattle.np_text.specs.declared.id.PoolId.{PoolId}
 use Rattle.np_text.specs.declared.id.TenantId.{TenantId}

@@ -1,5 +1,5 @@
 -- the rows on semaphores and jobs
-use Rattle.std.specs.Prelude.{ℕ, List, [], ◌∷◌, ◌++◌, Bool, false, ◌==◌, ◌&&◌, ◌||◌, not, if◌then◌else◌, Option, Some, None, Ok, Err, length, map, filter, find, fold, slice_get, count_by, nat_le, nat_lt, option_and_then}
+use Rattle.std.specs.Prelude.{ℕ, List, Bool, false, ◌==◌, ◌&&◌, ◌||◌, not, if◌then◌else◌, Option, Some, None, Ok, Err, length, map, filter, find, fold, slice_get, count_by, nat_le, nat_lt, option_and_then}
 use Rattle.std.specs.Option.{option_map_or}
 use Rattle.std.specs.List.{list_any, list_all}
 use Rattle.np_text.specs.declared.id.SessionId.{SessionId}

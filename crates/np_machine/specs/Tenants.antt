@@ -1,5 +1,5 @@
 -- what a tenant uses, and what it may use (own; Zuul's tenants, with a pool's limits)
-use Rattle.std.specs.Prelude.{ℕ, Bool, false, ◌==◌, ◌&&◌, not, Option, Some, None, is_none, length, map, filter, drop, slice_get, option_and_then}
+use Rattle.std.specs.Prelude.{Bool, false, ◌==◌, ◌&&◌, not, Option, Some, None, is_none, length, map, filter, drop, slice_get, option_and_then}
 use Rattle.std.specs.Option.{option_map, option_map_or}
 use Rattle.np_amount.specs.declared.amount.Amount.{Amount}
 use Rattle.np_amount.specs.declared.amount.Limit.{Limit}

@@ -1,6 +1,6 @@
 -- a row that has room keeps its form when an item joins it
-use Rattle.std.proofs.Common.{◌≡◌, ℕ, suc, ◌+◌, ◌-◌, ◌<◌, ◌≤◌, List, [], ◌∷◌, ◌++◌, length, take, drop, replicate, refl, sym, ◌∙◌, ap, arith, append_assoc, length-append, length-take, add-one}
-use Rattle.std.proofs.lemmas.List.{take_more_set, set_split, drop-replicate, length-replicate}
+use Rattle.std.proofs.Common.{◌≡◌, ℕ, suc, ◌+◌, ◌-◌, ◌<◌, List, [], ◌∷◌, ◌++◌, length, take, drop, replicate, sym, ◌∙◌, ap, arith, append_assoc, length-append, length-take, add-one}
+use Rattle.std.proofs.lemmas.List.{take_more_set, set_split, drop-replicate}
 use Rattle.std.proofs.Math.ListN.{set}
 use Rattle.std.proofs.Math.Seq.{drop-append-add}
 use Rattle.np_record.specs.Rows.{padded}

@@ -1,9 +1,9 @@
 -- what an accepted operation implies about the tree
-use Rattle.std.proofs.Common.{◌≡◌, ℕ, ◌<◌, ◌≤◌, Bool, true, false, not, ◌||◌, cond, List, ◌++◌, length, Option, Some, None, Result, Ok, refl, subst}
+use Rattle.std.proofs.Common.{◌≡◌, ℕ, ◌<◌, ◌≤◌, true, not, ◌||◌, List, length, Some, Result, Ok, refl, subst}
 use Rattle.std.specs.Prelude.{nat_le, nat_lt}
 use Rattle.std.specs.Option.{is_none}
 use Rattle.std.proofs.lemmas.Bool.{leb-true, ltb-true}
-use Rattle.np_lists.specs.Refusals.{◌>>=◌, ◌>>◌, need}
+use Rattle.np_lists.specs.Refusals.{◌>>◌, need}
 use Rattle.np_lists.proofs.RefusalLemmas.{found-ok, need-ok}
 use Rattle.np_path.specs.Grammar.{is_path}
 use Rattle.np_path.specs.Parts.{parent_of}

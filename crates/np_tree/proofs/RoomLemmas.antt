@@ -1,7 +1,6 @@
 -- no node has more children than its stat can count
-use Rattle.std.proofs.Common.{◌≡◌, ℕ, ◌<◌, ◌≤◌, Bool, true, not, List, [], length, Option, Some, None, Result, Ok, refl, sym, ap, ◌∙◌, subst}
+use Rattle.std.proofs.Common.{◌≡◌, ℕ, ◌<◌, true, not, List, [], length, Option, Some, None, Ok, refl, sym, subst}
 use Rattle.std.specs.Prelude.{filter}
-use Rattle.std.specs.Option.{is_none}
 use Rattle.np_lists.specs.Refusals.{◌>>=◌, found}
 use Rattle.np_lists.proofs.Each.{all-find}
 use Rattle.np_lists.proofs.FoundLemmas.{find-passes}
@@ -9,13 +8,13 @@ use Rattle.np_lists.proofs.RefusalLemmas.{bind-ok, need-ok}
 use Rattle.np_path.specs.Grammar.{is_path}
 use Rattle.np_path.specs.Parts.{name_of, parent_of}
 use Rattle.np_session.specs.Known.{is_in}
-use Rattle.np_nodes.specs.After.{after_create_under, after_loss, after_part, new_node, next_change, nodes_after_end, where_found, with_bytes, with_child, with_new_child, without_child, without_child_above}
+use Rattle.np_nodes.specs.After.{after_create_under, after_loss, after_part, new_node, next_change, nodes_after_end, where_found, with_bytes, with_child, with_new_child, without_child_above}
 use Rattle.np_nodes.specs.Answer.{child_answer, create_answer, create_under_answer, made_path, part_answer}
 use Rattle.np_nodes.specs.Kept.{HasRoom}
 use Rattle.np_nodes.specs.Names.{MakesName}
 use Rattle.np_nodes.specs.Nodes.{at_path, change_node, children_of, is_at, is_owned}
 use Rattle.np_nodes.specs.Order.{place_of}
-use Rattle.np_nodes.specs.TreeState.{TreeState, new_tree, root_node}
+use Rattle.np_nodes.specs.TreeState.{TreeState, new_tree}
 use Rattle.np_nodes.specs.declared.kind.Mode.{Mode}
 use Rattle.np_nodes.specs.declared.node.Node.{Node}
 use Rattle.np_nodes.specs.declared.op.Op.{Op}

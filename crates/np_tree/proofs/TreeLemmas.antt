@@ -5,26 +5,21 @@ use Rattle.std.specs.List.{AllByRecursion, list_any}
 use Rattle.std.proofs.lemmas.Bool.{eq-eqb, eqb-true, false_from_ne_true, or_left}
 use Rattle.std.proofs.lemmas.List.Folds.{list_any-append}
 use Rattle.np_lists.proofs.Each.{all-change_first, all-filter, all-filter_to, all-insert_before, all-mapped, all-weaker}
-use Rattle.np_lists.proofs.FoundLemmas.{find-filter}
-use Rattle.np_lists.proofs.RefusalLemmas.{bind-ok, need-ok, then-ok}
-use Rattle.np_lists.specs.Refusals.{◌>>=◌, ◌>>◌, found}
 use Rattle.np_path.specs.Parts.{name_of, parent_of}
 use Rattle.np_session.specs.Known.{is_in, without}
-use Rattle.np_nodes.specs.After.{after_create, after_create_under, after_end, after_loss, after_part, new_node, next_change, nodes_after_end, where_found, with_bytes, with_child, with_new_child, with_next_number, without_child, without_child_above}
-use Rattle.np_nodes.specs.Answer.{child_answer, create_answer, create_under_answer, made_path, part_answer}
-use Rattle.np_nodes.specs.Calls.{after_begin, after_raise, with_counter}
+use Rattle.np_nodes.specs.After.{after_create_under, after_loss, after_part, new_node, next_change, where_found, with_bytes, with_child, with_new_child, with_next_number, without_child, without_child_above}
+use Rattle.np_nodes.specs.Answer.{made_path, part_answer}
+use Rattle.np_nodes.specs.Calls.{after_begin, with_counter}
 use Rattle.np_nodes.specs.Kept.{HasRoom}
-use Rattle.np_nodes.specs.Multi.{after_multi, after_parts, answers_from, is_check}
+use Rattle.np_nodes.specs.Multi.{after_parts, answers_from, is_check}
 use Rattle.np_nodes.specs.Nodes.{at_path, change_node, is_at, is_owned, is_owner, path_before}
-use Rattle.np_nodes.specs.Tests.{is_ephemeral, is_sequential}
+use Rattle.np_nodes.specs.Tests.{is_ephemeral}
 use Rattle.np_nodes.specs.TreeState.{TreeState, new_tree}
 use Rattle.np_nodes.specs.declared.kind.Mode.{Mode}
 use Rattle.np_nodes.specs.declared.node.Node.{Node}
 use Rattle.np_nodes.specs.declared.op.Op.{Op}
 use Rattle.np_nodes.specs.declared.op.Op.TheVariants as op
 use Rattle.np_nodes.specs.declared.op.OpDone.{OpDone}
-use Rattle.np_nodes.specs.declared.op.OpDone.TheVariants as done
-use Rattle.np_nodes.specs.declared.refusal.TreeRefusal.TheVariants as no
 use Rattle.np_tree.specs.Whole.{BeginsKeepTree, CallsKeepTree, EndsKeepTree, IsDated, IsPart, IsTree, IsTreeUpTo, IsWhole, OwnerLives, PartsKeepTree, RaisesKeepTree}
 use Rattle.np_tree.proofs.MultiLemmas.{after_part-nodes, after_parts-nodes, with_nodes}
 use Rattle.np_tree.proofs.RoomLemmas.{HasRoom-after_end, HasRoom-after_part, HasRoom-change_node, HasRoom-new_tree}

@@ -4,7 +4,7 @@ use Rattle.std.specs.List.{AllByRecursion}
 use Rattle.np_path.specs.Grammar.{is_path}
 use Rattle.np_path.specs.Parts.{parent_of, root}
 use Rattle.np_session.specs.Known.{is_in}
-use Rattle.np_nodes.specs.TreeState.{TreeState, new_tree}
+use Rattle.np_nodes.specs.TreeState.{TreeState}
 use Rattle.np_nodes.specs.Nodes.{at_path, children_of}
 use Rattle.np_nodes.specs.Answer.{part_answer}
 use Rattle.np_nodes.specs.After.{after_part, after_end, next_change}
