@@ -37,10 +37,10 @@ impl Probe<Node> for ByHalves<'_> {
 
     fn is_before(&self, item: &Node) -> bool {
         let (before, name) = item.path.halves();
-        before
-            .cmp(self.before)
-            .then(name_cmp(name, self.name, self.digits))
-            .is_lt()
+        match before.cmp(self.before) {
+            Ordering::Equal => name_cmp(name, self.name, self.digits).is_lt(),
+            first => first.is_lt(),
+        }
     }
 }
 
