@@ -14,6 +14,7 @@ use Rattle.np_text.specs.declared.id.RequestId.{RequestId}
 use Rattle.np_text.specs.declared.id.SessionId.{SessionId}
 use Rattle.np_text.specs.declared.id.TenantId.{TenantId}
 use Rattle.np_text.specs.declared.id.Role.{Role}
+use Rattle.np_text.specs.declared.word.RequestState.{RequestState}
 use Rattle.np_record.specs.declared.record.RequestRecord.{RequestRecord}
 use Rattle.np_record.specs.declared.record.JobRecord.{JobRecord}
 use Rattle.np_machine.specs.Entries.{RequestEntry, NodeEntry}
@@ -21,7 +22,7 @@ use Rattle.np_machine.specs.State.{State}
 use Rattle.np_machine.specs.Tables.{request_in, is_queued, holder}
 use Rattle.np_machine.specs.Count.{amount_of, limit_of}
 use Rattle.np_machine.specs.Tenants.{limit_of_tenant, tenant_of_request, is_tenant, amount_of_node, rest_of_request, is_pending_of}
-use Rattle.np_machine.specs.Kinds.{is_asked, is_using, is_over, is_requested}
+use Rattle.np_machine.specs.Kinds.{is_asked, is_using, is_over, is_requested, is_fulfilled, is_failed}
 use Rattle.np_machine.specs.Laws.{speaks_for}
 use Rattle.np_machine.specs.declared.state.SessionFacts.{SessionFacts}
 use Rattle.np_machine.specs.Reasons.{next_label, is_spare}
@@ -85,9 +86,21 @@ free_ready_of p l at s = option_map (λ e. e.id) (slice_get (filter (is_spare p 
 abbrev pub is_unfinished_job : Configuration → RequesterId → JobId → JobRecord → Bool
 is_unfinished_job c q j kept = option_map_or (λ row. row.requester.0 == q.0) (slice_get c.jobs j.0) false && not (is_over kept.phase)
 
--- a job of the requester that has asked for its nodes or uses them
-abbrev pub is_active_job : Configuration → RequesterId → JobId → JobRecord → Bool
-is_active_job c q j kept = option_map_or (λ row. row.requester.0 == q.0) (slice_get c.jobs j.0) false && (is_asked kept.phase || is_using kept.phase)
+-- the state of the request, if there is one
+abbrev pub request_state_of : Option RequestId → State → Option RequestState
+request_state_of r s = option_map (λ request. request.state) (option_and_then (λ id. request_in id s.requests) r)
+
+-- fulfilled or failed
+abbrev pub is_answered : RequestState → Bool
+is_answered state = is_fulfilled state || is_failed state
+
+-- a job of the requester that uses its nodes, or has asked for them and whose request is answered,
+-- by the request's state
+abbrev pub is_active_by : Configuration → RequesterId → JobId → JobRecord → Option RequestState → Bool
+is_active_by c q j kept state = option_map_or (λ row. row.requester.0 == q.0) (slice_get c.jobs j.0) false && (is_using kept.phase || (is_asked kept.phase && option_map_or is_answered state false))
+
+abbrev pub is_active_job : Configuration → State → RequesterId → JobId → JobRecord → Bool
+is_active_job c s q j kept = is_active_by c q j kept (request_state_of kept.request s)
 
 -- the jobs that pass among these, the first of which has this number
 abbrev pub jobs_from : (JobId → JobRecord → Bool) → ℕ → List JobRecord → List JobId
@@ -104,9 +117,10 @@ unfinished_from c q number jobs = jobs_from (is_unfinished_job c q) number jobs
 abbrev pub unfinished_of : Configuration → RequesterId → ℕ → State → Option JobId
 unfinished_of c q at s = slice_get (unfinished_from c q 0 s.jobs) at
 
--- the jobs of the requester that have asked for their nodes or use them, in order
+-- the jobs of the requester that use their nodes, or have asked for them and whose requests are
+-- answered, in order
 abbrev pub active_jobs : Configuration → RequesterId → State → List JobId
-active_jobs c q s = jobs_from (is_active_job c q) 0 s.jobs
+active_jobs c q s = jobs_from (is_active_job c s q) 0 s.jobs
 
 -- the one at this place
 abbrev pub active_of : Configuration → RequesterId → ℕ → State → Option JobId
@@ -123,6 +137,15 @@ speaker_from role number (facts ∷ sessions) =
 -- the last session that speaks for the role
 abbrev pub current_of : Role → State → Option SessionId
 current_of role s = speaker_from role 1 s.sessions
+
+-- the first of these sessions that is live and mute, the first of which has this number
+abbrev pub mute_from : ℕ → List SessionFacts → Option SessionId
+mute_from number [] = None
+mute_from number (facts ∷ sessions) = if facts.live && facts.mute then Some (record { 0 = number }) else mute_from (suc number) sessions
+
+-- the first session that is live and mute
+abbrev pub first_mute : State → Option SessionId
+first_mute s = mute_from 1 s.sessions
 
 -- ## the queues that a session is in
 

@@ -17,15 +17,15 @@ ghost use Rattle.np_fits.specs.Fits.{Fits};
 ghost use Rattle.np_changes.specs.Asked.{asked_of, new_record};
 ghost use Rattle.np_look.specs.Views.{request_view, node_view};
 ghost use Rattle.np_changes.specs.Readers.{owner_of};
-ghost use Rattle.np_look.specs.Readers.{is_declined, undeclined_of, is_last_pool_of, free_ready_of, unfinished_of, active_of, current_of, queued_requests, queued_nodes, pending_requests, declined_requests, unheld_nodes};
+ghost use Rattle.np_look.specs.Readers.{is_declined, undeclined_of, is_last_pool_of, free_ready_of, unfinished_of, active_of, request_state_of, first_mute, current_of, queued_requests, queued_nodes, pending_requests, declined_requests, unheld_nodes};
 
 use crate::asked::{NodeView, RequestView};
 use crate::count::{NOTHING, amount_at};
 use crate::tenant::{amount_for, is_short_of, limited_tenant, rest_for};
 use crate::walk::{
     asked_of, declines_or_is, is_active_job, is_better, is_coming, is_declined_by, is_free_ready,
-    is_live_of, is_marked, is_pending_by, is_spare, is_spent_min_ready, is_still_requested,
-    is_unfinished_job, is_unheld, one_if, short_label, speaks_for,
+    is_live_of, is_marked, is_mute, is_pending_by, is_spare, is_spent_min_ready,
+    is_still_requested, is_unfinished_job, is_unheld, one_if, short_label, speaks_for,
 };
 use np_amount::Amount;
 use np_changes::Asked;
@@ -33,7 +33,8 @@ use np_config::Config;
 use np_machine::{Registration, SessionFacts};
 use np_record::{JobRecord, NodeRecord, RequestRecord, RoleRecord};
 use np_text::{
-    JobId, LabelId, NodeId, PoolId, RequestId, RequesterId, Role, SemId, SessionId, TenantId,
+    JobId, LabelId, NodeId, PoolId, RequestId, RequestState, RequesterId, Role, SemId, SessionId,
+    TenantId,
 };
 
 /// Reads a state. No call takes memory.
@@ -180,6 +181,19 @@ pub trait Look {
         match self.request(request) {
             None => None,
             Some(kept) => Some(asked_of(&kept)),
+        }
+    }
+
+    /// The state of the request, if there is one.
+    fn request_state(&self, request: Option<RequestId>) -> Option<RequestState>
+        ensures { result ≡ request_state_of request (state self.now) }
+    {
+        match request {
+            None => None,
+            Some(request) => match self.asked(request) {
+                None => None,
+                Some(asked) => Some(asked.state),
+            },
         }
     }
 
@@ -471,8 +485,9 @@ pub trait Look {
         None
     }
 
-    /// The job at a place among those of the requester that have asked for their nodes or use them,
-    /// in order of their numbers. This body scans every job up to that one.
+    /// The job at a place among those of the requester that use their nodes, or have asked for them
+    /// and whose request is fulfilled or failed, in order of their numbers. This body scans every job
+    /// up to that one.
     fn active(&self, requester: RequesterId, at: u32) -> Option<JobId>
         ensures { result ≡ active_of (site self.now) requester at (state self.now) }
     {
@@ -481,7 +496,8 @@ pub trait Look {
             let Some(kept) = self.job(JobId(number)) else {
                 return None;
             };
-            if !is_active_job(self.config(), requester, JobId(number), &kept) {
+            let state = self.request_state(kept.request);
+            if !is_active_job(self.config(), requester, JobId(number), &kept, state) {
                 continue;
             }
             if left == 0 {
@@ -521,6 +537,21 @@ pub trait Look {
                 return Some(SessionId(left));
             }
             left -= 1;
+        }
+        None
+    }
+
+    /// The first session that is live and mute. This body scans the sessions up to that one.
+    fn first_mute(&self) -> Option<SessionId>
+        ensures { result ≡ first_mute (state self.now) }
+    {
+        for at in 0..self.sessions() {
+            let Some(facts) = self.session(SessionId(at + 1)) else {
+                return None;
+            };
+            if is_mute(&facts) {
+                return Some(SessionId(at + 1));
+            }
         }
         None
     }

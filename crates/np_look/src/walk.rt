@@ -1,11 +1,12 @@
 //! What the walks of a reader check of each row. A representation that walks its own rows checks
 //! the same.
 
-ghost use Rattle.std.specs.Prelude.{◌≡◌, ◌<◌, ◌≤◌, ◌^◌, ◌&&◌, ◌||◌, ◌==◌, not, is_none, cond, Some, []};
+ghost use Rattle.std.specs.Prelude.{◌≡◌, ◌<◌, ◌≤◌, ◌^◌, ◌&&◌, ◌||◌, ◌==◌, not, is_none, cond, false, Some, []};
+ghost use Rattle.std.specs.Option.{option_map_or};
 ghost use Rattle.np_text.specs.declared.id.LabelId.{LabelId};
 ghost use Rattle.np_machine.specs.Count.{amount_of};
 ghost use Rattle.np_fits.specs.Fits.{AmountFits};
-ghost use Rattle.np_look.specs.Readers.{short_label, is_unfinished_job, is_active_job, is_still_requested, is_unheld};
+ghost use Rattle.np_look.specs.Readers.{short_label, is_unfinished_job, is_answered, is_active_by, is_still_requested, is_unheld};
 ghost use Rattle.np_machine.specs.Laws.{same_role, speaks_for};
 ghost use Rattle.np_machine.specs.Kinds.{is_requested, is_pending, is_failed, is_ready};
 ghost use Rattle.np_machine.specs.Tables.{is_marked};
@@ -257,15 +258,30 @@ pub fn is_unfinished_job(
     }
 }
 
-/// Whether the job is the requester's, and has asked for its nodes or uses them.
-pub fn is_active_job(config: &Config, requester: RequesterId, job: JobId, kept: &JobRecord) -> bool
-    ensures { result ≡ is_active_job config.now requester job kept.now }
+/// Whether the request's state is fulfilled or failed.
+fn is_answered(state: Option<RequestState>) -> bool
+    ensures { result ≡ option_map_or is_answered state false }
+{
+    state == Some(RequestState::Fulfilled) || state == Some(RequestState::Failed)
+}
+
+/// Whether the job is the requester's and uses its nodes, or has asked for them and its request,
+/// which is in this state, is fulfilled or failed.
+pub fn is_active_job(
+    config: &Config,
+    requester: RequesterId,
+    job: JobId,
+    kept: &JobRecord,
+    state: Option<RequestState>,
+) -> bool
+    ensures { result ≡ is_active_by config.now requester job kept.now state }
 {
     match config.job(job) {
         None => false,
         Some(row) => {
             row.requester.0 == requester.0
-                && (kept.phase == Phase::Asked || kept.phase == Phase::Using)
+                && (kept.phase == Phase::Using
+                    || (kept.phase == Phase::Asked && is_answered(state)))
         }
     }
 }
@@ -302,6 +318,13 @@ pub fn is_same_role(one: Role, other: Role) -> bool
             Role::Launcher(_) | Role::Janitor(_) | Role::Requester(_) => false,
         },
     }
+}
+
+/// Whether the session is live and mute.
+pub fn is_mute(facts: &SessionFacts) -> bool
+    ensures { result ≡ (facts.now.live && facts.now.mute) }
+{
+    facts.live && facts.mute
 }
 
 /// Whether it is a live session of the role that is not mute.
