@@ -5,11 +5,13 @@ ghost use Rattle.np_machine.specs.Step.{judge, next, reply_of};
 ghost use Rattle.np_changes.specs.Changes.{changed};
 ghost use Rattle.np_fits.specs.Fits.{Fits};
 ghost use Rattle.np_changes.specs.Planned.{IsReached, IsPlanned};
+ghost use Rattle.np_decision.specs.Queues.{AreQueuesOf};
 
 use crate::decision::decide;
 use np_changes::Changes;
 use np_event::{Event, Reply};
 use np_look::Look;
+use np_text::{NodeId, RequestId};
 use std::alloc::AllocError;
 
 /// Keeps a state.
@@ -25,6 +27,27 @@ pub trait StateKeeper: Look {
         ensures ok { OnOk result (Self.state self.new ≡
             changed (Self.site self.old) changes.now (Self.state self.old)) }
         ensures err { OnErr result (Self.state self.new ≡ Self.state self.old) };
+
+    /// The same, for a caller that knows in whose queues a session is that ends: `requests` and
+    /// `nodes`. A keeper that would search all queues for it overrides this.
+    fn change_with_queues(
+        &mut self,
+        changes: &Changes,
+        requests: &[RequestId],
+        nodes: &[NodeId],
+    ) -> Result<(), AllocError>
+        requires reached { IsReached (Self.site self.old) (Self.state self.old) }
+        requires fits { Fits (Self.site self.old) (Self.state self.old) }
+        requires planned { IsPlanned (Self.site self.old) (Self.state self.old) changes.now }
+        requires queues { AreQueuesOf (Self.state self.old) changes.now requests.now nodes.now }
+        ensures site { Self.site self.new ≡ Self.site self.old }
+        ensures recorded { Self.recorded self.new ≡ Self.recorded self.old }
+        ensures ok { OnOk result (Self.state self.new ≡
+            changed (Self.site self.old) changes.now (Self.state self.old)) }
+        ensures err { OnErr result (Self.state self.new ≡ Self.state self.old) }
+    {
+        self.change(changes)
+    }
 }
 
 /// One step of the machine, whatever keeps the state: the event's reply, and its changes if it is
