@@ -4,6 +4,8 @@ pub mod Planned
 pub mod Inserting
 pub mod Fresh
 pub mod Changing
+pub mod LeaveLemmas
+pub mod EndLemmas
 pub mod Handles
 pub mod StepLemmas
 pub mod StartLemmas

@@ -1,8 +1,11 @@
 //! The machine's state in vectors.
 
-ghost use Rattle.std.specs.Prelude.{◌≡◌, IfOk};
+ghost use Rattle.std.specs.Prelude.{◌≡◌, IfOk, OnErr, OnOk};
 ghost use Rattle.np_site.specs.Sound.{IsSound};
 ghost use Rattle.np_machine.specs.State.{start};
+ghost use Rattle.np_changes.specs.Planned.{IsPlanned};
+ghost use Rattle.np_fits.specs.Fits.{Fits};
+ghost use Rattle.np_rules.specs.LeftLast.{changed_in_queues};
 
 mod look;
 
@@ -10,6 +13,7 @@ use crate::tables::Tables;
 use np_changes::Changes;
 use np_config::Config;
 use np_decision::StateKeeper;
+use np_text::{NodeId, RequestId};
 use std::alloc::{AllocError, Global};
 use std::marker::Model;
 
@@ -51,12 +55,41 @@ impl VecKeeper {
     }
 }
 
+impl Tables {
+    /// What the changes make of the tables, but a session that ends is still in its queues. If
+    /// memory runs out, nothing changes.
+    fn make(&mut self, config: &Config, changes: &Changes) -> Result<(), AllocError>
+        requires fits { Fits config.now self.old }
+        requires planned { IsPlanned config.now self.old changes.now }
+        ensures ok { OnOk result (self.new ≡ changed_in_queues config.now changes.now self.old) }
+        ensures err { OnErr result (self.new ≡ self.old) }
+    {
+        self.grow(config, changes.maker, &changes.grows)?;
+        self.settle(config, changes);
+        Ok(())
+    }
+}
+
 impl StateKeeper for VecKeeper {
+    /// If a session ends, all requests and all nodes are searched for it.
     fn change(&mut self, changes: &Changes) -> Result<(), AllocError> {
         is_sound(&self.config);
-        self.tables
-            .grow(&self.config, changes.maker, &changes.grows)?;
-        self.tables.settle(&self.config, changes);
+        self.tables.make(&self.config, changes)?;
+        self.tables.leave_all(changes.sessions);
+        Ok(())
+    }
+
+    /// If a session ends, only these requests and nodes are changed, each found by binary search.
+    /// All else costs what it does in `change`.
+    fn change_with_queues(
+        &mut self,
+        changes: &Changes,
+        requests: &[RequestId],
+        nodes: &[NodeId],
+    ) -> Result<(), AllocError> {
+        is_sound(&self.config);
+        self.tables.make(&self.config, changes)?;
+        self.tables.leave_these(changes.sessions, requests, nodes);
         Ok(())
     }
 }

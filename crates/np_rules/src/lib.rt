@@ -2,9 +2,10 @@
 //!
 //! np_machine defines the reply to each event and the state that it leaves, and np_decision decides
 //! both for anything that keeps a state. `keeper` keeps it in vectors: `tables` has the lists,
-//! `walk` the readers that scan every row, `grow` the changes that may take memory and `settle`
-//! those that may not fail. `JournalKeeper` adds the journal to anything that keeps a state, and the
-//! journal always leads to that state; `Plain` is the machine over vectors.
+//! `walk` the readers that scan every row, `grow` the changes that may take memory, `settle` those
+//! that may not fail, and `ends` how a session that ends leaves its queues. `JournalKeeper` adds the
+//! journal to anything that keeps a state, and the journal always leads to that state; `Plain` is the
+//! machine over vectors.
 //!
 //! Requests, nodes and swept pairs are in the order of their keys (`keys`), and one of them is
 //! changed by one of the changes in `change`. The vectors have the rows and nothing besides: what
@@ -14,6 +15,7 @@
 #![tactic(auto)]
 
 mod change;
+mod ends;
 mod grow;
 mod journal;
 mod keeper;

@@ -4,12 +4,13 @@ ghost use Rattle.std.specs.Prelude.{◌≡◌, ◌≤◌, None, filter, length, 
 ghost use Rattle.np_lists.specs.Change.{change_at};
 ghost use Rattle.np_machine.specs.Node.{marked, with_mark};
 ghost use Rattle.np_machine.specs.Semaphore.{all_in_use, all_without_handle};
-ghost use Rattle.np_machine.specs.Session.{ended, muted, node_left, request_left};
+ghost use Rattle.np_machine.specs.Session.{ended, muted};
 ghost use Rattle.np_machine.specs.Tables.{change_session, is_session, put_job};
-ghost use Rattle.np_changes.specs.Changes.{handles_changed, jobs_changed, nodes_changed, nodes_left, registrations_left, requests_changed, requests_left, semaphores_of, sessions_changed, settled};
+ghost use Rattle.np_changes.specs.Changes.{handles_changed, jobs_changed, nodes_changed, registrations_left, requests_changed, semaphores_of, sessions_changed};
 ghost use Rattle.np_changes.specs.declared.changes.NodesChange.TheVariants as nodes_change;
 ghost use Rattle.np_changes.specs.declared.changes.RequestsChange.TheVariants as requests_change;
 ghost use Rattle.np_rules.specs.CanChange.{CanSettle, TakesEdit};
+ghost use Rattle.np_rules.specs.LeftLast.{settled_in_queues};
 
 use crate::change::handles::drop_handles;
 use crate::change::{Edit, Free, Leave, Put, TakeOver};
@@ -190,10 +191,10 @@ fn drop_registrations(registrations: &mut Vec<Registration>, session: SessionId)
 }
 
 impl Tables {
-    /// What changes once the tables have grown.
+    /// What changes once the tables have grown, but a session that ends is still in its queues.
     pub(crate) fn settle(&mut self, config: &Config, changes: &Changes)
         requires { CanSettle changes.now self.old }
-        ensures { self.new ≡ settled config.now changes.now self.old }
+        ensures { self.new ≡ settled_in_queues config.now changes.now self.old }
     {
         settle_requests(&mut self.requests, changes.maker, changes.requests);
         settle_nodes(&mut self.nodes, changes.maker, self.tick, &changes.nodes);
@@ -206,33 +207,20 @@ impl Tables {
         }
     }
 
-    /// The session ends, and leaves its registration and every queue.
-    fn end_session(&mut self, session: SessionId)
-        ensures { self.new ≡ record self.old {
-          sessions = change_session session ended self.old.sessions;
-          registrations = filter (λ g. not (is_session g.session session)) self.old.registrations;
-          requests = map (request_left session) self.old.requests;
-          nodes = map (node_left session) self.old.nodes;
-        } }
-    {
-        expire(&mut self.sessions, session);
-        drop_registrations(&mut self.registrations, session);
-        self.requests.change_all(&Leave { session });
-        self.nodes.change_all(&Leave { session });
-    }
-
+    /// The session is mute from now on, or ends and leaves its registration.
     fn settle_sessions(&mut self, change: SessionsChange)
         ensures { self.new ≡ record self.old {
           sessions = sessions_changed change self.old.sessions;
           registrations = registrations_left change self.old.registrations;
-          requests = requests_left change self.old.requests;
-          nodes = nodes_left change self.old.nodes;
         } }
     {
         match change {
             SessionsChange::Same => {}
             SessionsChange::Mute { session } => mute(&mut self.sessions, session),
-            SessionsChange::End { session } => self.end_session(session),
+            SessionsChange::End { session } => {
+                expire(&mut self.sessions, session);
+                drop_registrations(&mut self.registrations, session);
+            }
         }
     }
 }

@@ -253,6 +253,10 @@ impl<K: StateKeeper + Drop> Look for JournalKeeper<K> {
         self.keeper.current_session(role)
     }
 
+    fn first_mute(&self) -> Option<SessionId> {
+        self.keeper.first_mute()
+    }
+
     fn has_live_session(&self, requester: RequesterId) -> bool {
         self.keeper.has_live_session(requester)
     }

@@ -1,25 +1,12 @@
 use Rattle.std.proofs.Common.{sym, subst}
-use Rattle.np_fits.specs.Fits.{Fits}
 use Rattle.np_changes.specs.Planned.{IsPlanned, IsReached}
 use Rattle.np_rules.specs.Keeper.{Kept}
-use Rattle.np_rules.proofs.Planned.{can-grow, can-settle}
 use Rattle.np_fits.proofs.Sites.{sound_fits}
 use Rattle.np_rules.proofs.Counts.{countable-changed}
 use Rattle.np_rules.proofs.keeper.VecKeeperStateKeeper.change.Goals as goal
-
-pub grow-requires : goal.grow-requires
-grow-requires c =
-    let fits : Fits c.self.inside.config c.self.inside.tables = subst (λ (k : Kept). Fits k.configuration k.state) (sym c.self.view_is) c.requires.fits in
-    can-grow c.self.inside.config c.self.inside.tables fits c.args.changes.now.grows
-
-pub settle-requires : goal.settle-requires
-settle-requires c =
-    let fits : Fits c.self.inside.config c.self.inside.tables = subst (λ (k : Kept). Fits k.configuration k.state) (sym c.self.view_is) c.requires.fits in
-    let planned : IsPlanned c.self.inside.config c.self.inside.tables c.args.changes.now = subst (λ (k : Kept). IsPlanned k.configuration k.state c.args.changes.now) (sym c.self.view_is) c.requires.planned in
-    rw c.in_ok-grow.ensures.ok (can-settle c.self.inside.config c.self.inside.tables fits c.args.changes.now planned)
 
 pub invariant_of-self-2 : goal.invariant_of-self-2
 invariant_of-self-2 c =
     let reached : IsReached c.self.inside.config c.self.inside.tables = subst (λ (k : Kept). IsReached k.configuration k.state) (sym c.self.view_is) c.requires.reached in
     let planned : IsPlanned c.self.inside.config c.self.inside.tables c.args.changes.now = subst (λ (k : Kept). IsPlanned k.configuration k.state c.args.changes.now) (sym c.self.view_is) c.requires.planned in
-    rw (c.settle.ensures, c.in_ok-grow.ensures.ok) (countable-changed c.self.inside.config c.args.changes.now c.self.inside.tables (sound_fits c.self.inside.config c.is_sound.ensures) reached planned c.self.invariant.jobs)
+    rw (c.leave_all.ensures, c.in_ok-make.ensures.ok) (countable-changed c.self.inside.config c.args.changes.now c.self.inside.tables (sound_fits c.self.inside.config c.is_sound.ensures) reached planned c.self.invariant.jobs)
