@@ -172,3 +172,50 @@ module _ {K : Type 0} (before : K → K → Bool) (g : Group) where
   id-there ms rises start k is found there =
       ap (id_if g) there
       ∙ sym (id-at ms rises k ∙ ap (λ (n : ℕ). id_if g (slice_get ms (n + k))) (sym is))
+
+-- ## the ids before one
+
+module _ {K : Type 0} (before : K → K → Bool) (g : Group) (i : K) where
+  abbrev is_earlier : Member K → Bool
+  is_earlier m = is_member_before before m (member g i)
+
+  -- where no member is of an earlier group, the members before one of the group's are its ids before it
+  front-before : (ms : List (Member K)) → Rises (is_member_before before) ms → NonePass (λ m. is_group_before m.group g) ms
+      → prefix_len is_earlier ms ≡ prefix_len (λ k. before k i) (ids_in g ms)
+  front-before [] rises none = refl
+  front-before (x ∷ xs) rises none = by (same_group x.group g) refl (front-before xs rises.1 none.1) ∙ ap (prefix_len (λ k. before k i)) (sym (step g x xs)) where
+    later : same_group x.group g ≡ false → not (is_group_before g x.group) ≡ false
+    later other = sym (rw (none.0) refl) ∙ sym (group-is x.group g) ∙ other
+
+    by : (b : Bool) → same_group x.group g ≡ b → prefix_len is_earlier xs ≡ prefix_len (λ k. before k i) (ids_in g xs)
+        → cond (cond b (before x.id i) (is_group_before x.group g)) (1 + prefix_len is_earlier xs) 0 ≡ prefix_len (λ k. before k i) (cond b (x.id ∷ ids_in g xs) (ids_in g xs))
+    by true is rest = ap (λ (n : ℕ). cond (before x.id i) (1 + n) 0) rest
+    by false other rest =
+        let past = none-later (is_member_before before) (λ m. not (is_group_before g m.group)) (down-high before g) x xs (later other) rises.0 in
+        let others : AllByRecursion (λ m. same_group m.group g ≡ false) xs =
+        all-weaker (λ m. not (is_group_before g m.group) ≡ false) (λ m. same_group m.group g ≡ false) (λ m. past-end before g m.group) xs past in
+        rw (none.0, none-ids before g xs others) refl
+
+  -- the members before one of the group's are those of earlier groups, and the group's ids before it
+  pub count-before : (ms : List (Member K)) → Rises (is_member_before before) ms
+      → prefix_len is_earlier ms ≡ prefix_len (λ m. is_group_before m.group g) ms + prefix_len (λ k. before k i) (ids_in g ms)
+  count-before [] rises = refl
+  count-before (x ∷ xs) rises = by (is_group_before x.group g) refl (count-before xs rises.1) where
+    by : (b : Bool) → is_group_before x.group g ≡ b
+        → prefix_len is_earlier xs ≡ prefix_len (λ m. is_group_before m.group g) xs + prefix_len (λ k. before k i) (ids_in g xs)
+        → prefix_len is_earlier (x ∷ xs) ≡ cond b (1 + prefix_len (λ m. is_group_before m.group g) xs) 0 + prefix_len (λ k. before k i) (ids_in g (x ∷ xs))
+    by true first rest =
+        let other : same_group x.group g ≡ false = group-apart x.group g first in
+        rw (other, first) (omega (arith, rest))
+    by false not_first rest =
+        let none = none-later (is_member_before before) (λ m. is_group_before m.group g) (down-low before g) x xs not_first rises.0 in
+        front-before (x ∷ xs) rises (not_first, none) ∙ omega arith
+
+  -- so they are counted from the group's start
+  pub length-before : (ms : List (Member K)) → Rises (is_member_before before) ms
+      → prefix_len is_earlier ms - prefix_len (λ m. is_group_before m.group g) ms ≡ prefix_len (λ k. before k i) (ids_in g ms)
+  length-before ms rises = omega (arith, count-before ms rises)
+
+  pub start-le-before : (ms : List (Member K)) → Rises (is_member_before before) ms
+      → prefix_len (λ m. is_group_before m.group g) ms ≤ prefix_len is_earlier ms
+  start-le-before ms rises = omega (arith, count-before ms rises)

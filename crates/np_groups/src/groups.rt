@@ -108,6 +108,7 @@ impl<K: Copy> Probe<Member<K>> for UptoGroup {
 /// The place of the first member that is not before this one.
 fn split_of<O: Order>(members: &Stock<Member<O::Key>>, one: Member<O::Key>) -> usize
     requires { Rises (is_member_before O.before) members.now.items }
+    ensures count { result ≡ prefix_len (λ other. is_member_before O.before other one) members.now.items }
     ensures within { result ≤ length members.now.items }
     ensures point { IsPartitionPoint (λ other. is_member_before O.before other one ≡ true) (λ other. is_member_before O.before other one ≡ false) members.now.items result }
 {
@@ -246,6 +247,14 @@ impl<O: Order> Groups<O> {
         ensures { result ≡ length (ids_in group self.now.members) }
     {
         end_of::<O>(&self.rows, group) - start_of::<O>(&self.rows, group)
+    }
+
+    /// How many ids of the group come before this one, which need not be in it. The time is
+    /// logarithmic in the number of members.
+    pub fn before(&self, group: Group, id: O::Key) -> usize
+        ensures { result ≡ prefix_len (λ k. O.before k id) (ids_in group self.now.members) }
+    {
+        split_of::<O>(&self.rows, Member { group, id }) - start_of::<O>(&self.rows, group)
     }
 
     /// The id at this place of the group, counted from 0. The time is logarithmic in the number of
