@@ -39,6 +39,15 @@ impl Model for Touched {
     } };
 }
 
+impl Touched {
+    /// The requests that the changes touch, for whatever else is kept of them. It costs nothing.
+    pub fn requests(&self) -> &[RequestId]
+        ensures { result.now ≡ self.now.requests }
+    {
+        self.requests.as_slice()
+    }
+}
+
 /// A node in no group.
 const NO_NODE_GROUPS: [Option<Group>; 5] = [None, None, None, None, None];
 
