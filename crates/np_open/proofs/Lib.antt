@@ -1,0 +1,5 @@
+pub mod MoveLemmas
+pub mod OpenLemmas
+pub mod NoteLemmas
+pub mod RebuildLemmas
+pub mod RunLemmas

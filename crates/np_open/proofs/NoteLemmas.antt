@@ -1,0 +1,163 @@
+-- the members of groups after a change, from those before it
+use Rattle.std.proofs.Common.{◌≡◌, ◌∙◌, inl, inr, ◌⊎◌, ◌+◌, ◌-◌, ◌*◌, ◌<◌, ℕ, Bool, true, false, cond, List, [], ◌∷◌, ◌++◌, Option, Some, length, get_or, take, map, refl, sym, ap, subst, arith}
+use Rattle.std.specs.Prelude.{◌||◌, slice_get}
+use Rattle.std.specs.List.{list_any}
+use Rattle.std.proofs.lemmas.Option.{slice_get-get_or}
+use Rattle.np_text.specs.declared.id.RequestId.{RequestId}
+use Rattle.np_record.specs.declared.record.RequestRecord.{RequestRecord}
+use Rattle.np_site.specs.Configuration.{Configuration}
+use Rattle.np_groups.specs.declared.groups.Group.{Group}
+use Rattle.np_groups.specs.declared.groups.Member.{Member}
+use Rattle.np_lists.proofs.Each.{all-at, all-map, all-weaker}
+use Rattle.np_keys.specs.Keys.{request_equal}
+use Rattle.np_machine.specs.State.{State}
+use Rattle.np_machine.specs.Tables.{request_in, same_request}
+use Rattle.np_changes.specs.Changes.{changed}
+use Rattle.np_changes.specs.Planned.{IsReached}
+use Rattle.np_changes.specs.declared.changes.Changes.{Changes}
+use Rattle.np_safe.proofs.Numbered.{numbered}
+use Rattle.np_safe.proofs.Runs.{invariant-Runs}
+use Rattle.np_look.proofs.Walks.{take_there}
+use Rattle.np_classes.specs.Touched.{touches_request}
+use Rattle.np_classes.proofs.Untouched.{request-untouched}
+use Rattle.np_open.specs.declared.moves.Past.{Past}
+use Rattle.np_open.specs.declared.ranks.Rank.{Rank}
+use Rattle.np_open.specs.Moves.{AreAsKept, AreBy, IsEither, passes_moved, passes_with}
+use Rattle.np_open.specs.Prepared.{AreListed, IsPrepared, is_listed, past_of}
+use Rattle.np_open.specs.Open.{AreOpen, OpenOf, is_found_in, rank_is_in}
+use Rattle.np_open.proofs.MoveLemmas.{groups-by}
+
+-- ## what is listed
+
+kept-map : (s : State) (r : RequestId) (requests : List RequestId) → is_listed r (map (past_of s) requests) ≡ list_any (λ x. same_request x r) requests
+kept-map s r [] = refl
+kept-map s r (x ∷ requests) = ap (λ (b : Bool). same_request x r || b) (kept-map s r requests)
+
+pub is-prepared : (s : State) (ch : Changes) (requests : List RequestId) (moved : List Past) → moved ≡ map (past_of s) requests → AreListed ch s requests → IsPrepared s ch moved
+is-prepared s ch requests moved is listed = rw is (record {
+  touched = λ r touched. kept-map s r requests ∙ listed r touched;
+  kept = all-map (λ (past : Past). past.kept ≡ request_in past.request s.requests) (past_of s) requests (λ r. refl);
+})
+
+-- ## one request more
+
+kept-push : (moved : List Past) (past : Past) (r : RequestId) → is_listed r (moved ++ past ∷ []) ≡ (is_listed r moved || same_request past.request r)
+kept-push [] past r = by (same_request past.request r) where
+  by : (b : Bool) → (b || false) ≡ b
+  by true = refl
+  by false = refl
+kept-push (other ∷ moved) past r = ap (λ (b : Bool). same_request other.request r || b) (kept-push moved past r) ∙ by (same_request other.request r) where
+  by : (b : Bool) → (b || (is_listed r moved || same_request past.request r)) ≡ ((b || is_listed r moved) || same_request past.request r)
+  by true = refl
+  by false = refl
+
+or_true : (a : Bool) → (a || true) ≡ true
+or_true true = refl
+or_true false = refl
+
+or_false : (a : Bool) → (a || false) ≡ a
+or_false true = refl
+or_false false = refl
+
+-- what a call makes of the members by a test, for one request
+abbrev Moves_one : ℕ → Past → Option RequestRecord → List (Member Rank) → List (Member Rank) → Type 0
+Moves_one pools past found ms later = (passes : Group → Rank → Bool) → IsEither pools past.request past.kept found passes → AreBy passes ms → AreBy (passes_with pools past.request found passes) later
+
+module _ (c : Configuration) (s : State) (moved : List Past) (at : ℕ) (past : Past) (there : slice_get moved at ≡ Some past) (passes : Group → Rank → Bool) where
+  abbrev now : Option RequestRecord
+  now = request_in past.request s.requests
+
+  -- the state's record of a rank's request
+  state-has : (g : Group) (x : Rank) → same_request past.request x.request ≡ true → rank_is_in c s g x ≡ is_found_in (length c.pools) g x now
+  state-has g x same = ap (λ (r : RequestId). is_found_in (length c.pools) g x (request_in r s.requests)) (sym (request_equal past.request x.request same))
+
+  moved-either : AreAsKept (length c.pools) moved passes → IsEither (length c.pools) past.request past.kept now (passes_moved c s (take at moved) passes)
+  moved-either kept g x same = by (is_listed x.request (take at moved)) where
+    one : (g : Group) (rank : Rank) → same_request past.request rank.request ≡ true → passes g rank ≡ is_found_in (length c.pools) g rank past.kept
+    one = all-at (λ (w : Past). (g : Group) (rank : Rank) → same_request w.request rank.request ≡ true → passes g rank ≡ is_found_in (length c.pools) g rank w.kept) moved at past kept there
+
+    by : (b : Bool) → (cond b (rank_is_in c s g x) (passes g x) ≡ is_found_in (length c.pools) g x past.kept) ⊎ (cond b (rank_is_in c s g x) (passes g x) ≡ is_found_in (length c.pools) g x now)
+    by true = inr (state-has g x same)
+    by false = inl (one g x same)
+
+  moved-next : (g : Group) (x : Rank) → passes_with (length c.pools) past.request now (passes_moved c s (take at moved) passes) g x ≡ passes_moved c s (take (at + 1) moved) passes g x
+  moved-next g x =
+      by (same_request past.request x.request) refl
+      ∙ ap (λ (b : Bool). cond b (rank_is_in c s g x) (passes g x)) (sym (kept-push (take at moved) past x.request))
+      ∙ ap (λ (some : List Past). passes_moved c s some passes g x) (sym (take_there moved at past there))
+    where
+      by : (b : Bool) → same_request past.request x.request ≡ b
+          → cond b (is_found_in (length c.pools) g x now) (cond (is_listed x.request (take at moved)) (rank_is_in c s g x) (passes g x))
+          ≡ cond (is_listed x.request (take at moved) || b) (rank_is_in c s g x) (passes g x)
+      by true same = rw (or_true (is_listed x.request (take at moved))) (sym (state-has g x same))
+      by false other = rw (or_false (is_listed x.request (take at moved))) refl
+
+  moved-more : (ms : List (Member Rank)) → AreBy (passes_with (length c.pools) past.request now (passes_moved c s (take at moved) passes)) ms
+      → AreBy (passes_moved c s (take (at + 1) moved) passes) ms
+  moved-more ms are = groups-by _ (passes_moved c s (take (at + 1) moved) passes) ms moved-next are
+
+  pub move-next : (pools : ℕ) (found : Option RequestRecord) (ms later : List (Member Rank)) → pools ≡ length c.pools → found ≡ now
+      → Moves_one pools past found ms later → AreAsKept (length c.pools) moved passes → AreBy (passes_moved c s (take at moved) passes) ms
+      → AreBy (passes_moved c s (take (at + 1) moved) passes) later
+  move-next pools found ms later pools_are found_is moves kept are =
+      let one : Moves_one (length c.pools) past found ms later = subst (λ (n : ℕ). Moves_one n past found ms later) pools_are moves in
+      let it : Moves_one (length c.pools) past now ms later = subst (λ (o : Option RequestRecord). Moves_one (length c.pools) past o ms later) found_is one in
+      moved-more later (it (passes_moved c s (take at moved) passes) (moved-either kept) are)
+
+-- ## all of them
+
+-- what is not listed is not touched
+untouched : (a b : Bool) → (a ≡ true → b ≡ true) → b ≡ false → a ≡ false
+untouched true b all out = let is : b ≡ true = all refl in cc
+untouched false b all out = refl
+
+module _ (c : Configuration) (s : State) (ch : Changes) (moved : List Past) (prepared : IsPrepared s ch moved) where
+  as-kept : AreAsKept (length c.pools) moved (rank_is_in c s)
+  as-kept =
+      all-weaker (λ (past : Past). past.kept ≡ request_in past.request s.requests)
+      (λ (past : Past). (g : Group) (x : Rank) → same_request past.request x.request ≡ true → rank_is_in c s g x ≡ is_found_in (length c.pools) g x past.kept)
+      (λ past is g x same.
+      ap (λ (r : RequestId). is_found_in (length c.pools) g x (request_in r s.requests)) (sym (request_equal past.request x.request same))
+      ∙ ap (is_found_in (length c.pools) g x) (sym is))
+      moved prepared.kept
+
+  stays : (g : Group) (x : Rank) → passes_moved c (changed c ch s) moved (rank_is_in c s) g x ≡ rank_is_in c (changed c ch s) g x
+  stays g x = by (is_listed x.request moved) refl where
+    by : (b : Bool) → is_listed x.request moved ≡ b → cond b (rank_is_in c (changed c ch s) g x) (rank_is_in c s g x) ≡ rank_is_in c (changed c ch s) g x
+    by true listed = refl
+    by false out =
+        ap (is_found_in (length c.pools) g x)
+        (sym (request-untouched c ch s x.request (untouched (touches_request ch s x.request) (is_listed x.request moved) (prepared.touched x.request) out)))
+
+-- the same for all
+abbrev pub Moves : List Past → List (Member Rank) → List (Member Rank) → Configuration → State → Type 0
+Moves moved old new c t = (passes : Group → Rank → Bool) → AreAsKept (length c.pools) moved passes → AreBy passes old → AreBy (passes_moved c t moved passes) new
+
+-- what was listed is where it is after the change, and all else where it was
+pub open-noted : (c site : Configuration) (s t : State) (ch : Changes) (moved : List Past) (old new : OpenOf) → Moves moved old.members new.members site t
+    → IsReached c s → IsPrepared s ch moved → site ≡ c → t ≡ changed c ch s → AreOpen c s old → AreOpen c (changed c ch s) new
+open-noted c site s t ch moved old new moves reached prepared same_site after was =
+    let later : Moves moved old.members new.members site (changed c ch s) = subst (Moves moved old.members new.members site) after moves in
+    let all : Moves moved old.members new.members c (changed c ch s) = subst (λ (k : Configuration). Moves moved old.members new.members k (changed c ch s)) same_site later in
+    let are : AreBy (rank_is_in c (changed c ch s)) new.members =
+    groups-by _ (rank_is_in c (changed c ch s)) new.members (stays c s ch moved prepared)
+    (all (rank_is_in c s) (as-kept c s ch moved prepared) (record { rises = was.rises; each = was.each })) in
+    record {
+      rises = are.rises;
+      each = are.each;
+      once = (numbered c s ch (invariant-Runs c reached.journal s reached.runs).numbered).requests_rise;
+    }
+
+-- ## a walk over them
+
+pub take-all : {X : Type 0} (xs : List X) → take (length xs) xs ≡ xs
+take-all [] = refl
+take-all {X} (x ∷ xs) = ap (λ (rest : List X). x ∷ rest) (take-all xs)
+
+-- the item at a place
+pub there-from : {X : Type 0} (xs : List X) (at : ℕ) (x : X) → at < length xs → x ≡ get_or xs at x → slice_get xs at ≡ Some x
+there-from xs at x within is = slice_get-get_or xs at x within ∙ ap Some (sym is)
+
+-- room for one request less
+pub room-next : (n i k : ℕ) → i < n → (n - i) * k ≡ (n - (i + 1)) * k + k
+room-next n i k less = let one : n - i ≡ n - (i + 1) + 1 = omega arith in rw one (omega arith)

@@ -1,0 +1,16 @@
+use Rattle.std.proofs.Common.{◌≡◌, ◌<◌, ◌≤◌, ◌+◌, ◌-◌, ◌⊎◌, true, false, length}
+use Rattle.np_open.specs.Open.{ranks_of}
+use Rattle.np_open.specs.Runs.{is_run}
+use Rattle.np_open.proofs.runs.run_end.Given as goal
+
+abbrev pub invariant-loop-low : goal.invariant-loop-low
+invariant-loop-low l = record {
+  some : l.place < l.low;
+  order : l.low ≤ l.high;
+  within : l.high ≤ length (ranks_of l.groups.members);
+  run : (l.low ≡ l.place + 1) ⊎ (is_run l.group l.groups.members l.place l.low ≡ true);
+  longest : (l.high ≡ length (ranks_of l.groups.members)) ⊎ (is_run l.group l.groups.members l.place (l.high + 1) ≡ false);
+}
+
+abbrev pub decreases-loop-low : goal.decreases-loop-low
+decreases-loop-low l = l.high - l.low

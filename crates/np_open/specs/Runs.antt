@@ -1,0 +1,26 @@
+-- runs of closed requests, by counts (own)
+use Rattle.std.specs.Prelude.{◌≡◌, ◌≤◌, ◌<◌, ◌+◌, ◌-◌, ◌⊎◌, ℕ, List, Bool, true, false, ◌==◌, length, slice_get}
+use Rattle.std.specs.List.{prefix_len}
+use Rattle.std.specs.Option.{option_map_or}
+use Rattle.np_groups.specs.declared.groups.Group.{Group}
+use Rattle.np_groups.specs.declared.groups.Member.{Member}
+use Rattle.np_groups.specs.Groups.{ids_in}
+use Rattle.np_open.specs.declared.ranks.Rank.{Rank}
+use Rattle.np_open.specs.Ranks.{is_rank_before}
+use Rattle.np_open.specs.Open.{ranks_of}
+
+-- how many ranks of the group come before the rank at the place, or how many it has if there is none
+abbrev pub count_before : Group → List (Member Rank) → ℕ → ℕ
+count_before g members at =
+    option_map_or (λ rank. prefix_len (λ k. is_rank_before k rank) (ids_in g members)) (slice_get (ranks_of members) at) (length (ids_in g members))
+
+-- as many ranks of the group come between two places as there are places between them
+abbrev pub is_run : Group → List (Member Rank) → ℕ → ℕ → Bool
+is_run g members place after = count_before g members after == (count_before g members place + (after - place))
+
+-- a run from the place ends here: it is one rank, or there is a run up to here, and none up to the next place
+pub record IsRunEnd (g : Group) (members : List (Member Rank)) (place after : ℕ) : Type 0 where
+  pub some : place < after
+  pub within : after ≤ length (ranks_of members)
+  pub run : (after ≡ place + 1) ⊎ (is_run g members place after ≡ true)
+  pub longest : (after ≡ length (ranks_of members)) ⊎ (is_run g members place (after + 1) ≡ false)

@@ -1,0 +1,188 @@
+//! The requested requests and those that are closed to each pool, kept as events change them.
+
+ghost use Rattle.std.specs.Prelude.{◌≡◌, Bool, IfOk, None, OnOk, Some, length, map, slice_get};
+ghost use Rattle.np_site.specs.Configuration.{Configuration};
+ghost use Rattle.np_machine.specs.State.{State};
+ghost use Rattle.np_changes.specs.Changes.{changed};
+ghost use Rattle.np_changes.specs.declared.changes.Changes.{Changes};
+ghost use Rattle.np_changes.specs.Planned.{IsReached};
+ghost use Rattle.np_groups.specs.declared.groups.Group.{Group};
+ghost use Rattle.np_open.specs.declared.ranks.Rank.{Rank};
+ghost use Rattle.np_open.specs.Open.{AreOpen, IsOpenFrom, rank_is_in, ranks_of};
+ghost use Rattle.np_open.specs.Prepared.{AreListed, HasRoom, IsPrepared, past_of};
+ghost use Rattle.np_open.specs.Moves.{AreBy, IsEither, passes_with};
+
+use crate::group::{closed_group, open_group, pools_of};
+use crate::moves::{Past, move_all, move_request};
+use crate::ranks::{ByRank, Rank};
+use crate::runs::run_end;
+use np_groups::Groups;
+use np_look::{Look, RequestView};
+use np_text::{PoolId, RequestId};
+use std::alloc::{AllocError, Global};
+use std::marker::Model;
+
+/// The requests that are requested, in the order in which launchers take them up, and for each pool
+/// those of them that are closed to it: it declined them, or they are pinned to another.
+#[derive(Drop)]
+pub struct Open {
+    groups: Groups<ByRank>,
+}
+
+impl Model for Open {
+    ghost use Rattle.np_open.specs.Open.{OpenOf};
+
+    ghost Value = { OpenOf };
+
+    ghost view = { λ kept. record { members = kept.groups.members; room = kept.groups.room } };
+}
+
+/// The requests that an event's changes touch, with their records before it.
+#[derive(Drop)]
+pub struct Moved {
+    rows: Vec<Past>,
+}
+
+impl Model for Moved {
+    ghost use Rattle.std.specs.Prelude.{List};
+    ghost use Rattle.np_open.specs.declared.moves.Past.{Past};
+
+    ghost Value = { List Past };
+
+    ghost view = { λ moved. moved.rows.items };
+}
+
+/// Puts the request in its groups, and takes the memory.
+fn add_request(
+    groups: &mut Groups<ByRank>,
+    pools: u16,
+    view: &RequestView,
+) -> Result<(), AllocError>
+    ensures { OnOk result ((passes : Group → Rank → Bool)
+        → IsEither pools view.now.id None (Some view.now.kept) passes
+        → AreBy passes groups.old.members
+        → AreBy (passes_with pools view.now.id (Some view.now.kept) passes) groups.new.members) }
+{
+    groups.reserve(pools as usize + 1)?;
+    move_request(groups, pools, view.id, &None, &Some(view.kept));
+    Ok(())
+}
+
+/// The groups of all requests, by one walk over them.
+fn all_requests<L: Look>(alloc: Global, look: &L) -> Result<Groups<ByRank>, AllocError>
+    requires { IsReached (L.site look.now) (L.state look.now) }
+    ensures { IfOk result (λ groups.
+        AreBy (rank_is_in (L.site look.now) (L.state look.now)) groups.members) }
+{
+    let pools = pools_of(look.config());
+    let mut groups = Groups::new(alloc);
+    for at in 0..look.requests() {
+        if let Some(view) = look.request_view(at) {
+            add_request(&mut groups, pools, &view)?;
+        }
+    }
+    Ok(groups)
+}
+
+/// The requests with their records. One lookup for each.
+fn records_of<L: Look>(
+    alloc: Global,
+    look: &L,
+    requests: &[RequestId],
+) -> Result<Vec<Past>, AllocError>
+    ensures { IfOk result (λ moved. moved.items ≡ map (past_of (L.state look.now)) requests.now) }
+{
+    let mut moved = Vec::new(alloc);
+    for request in requests {
+        moved.push(Past {
+            request: *request,
+            kept: look.request(*request),
+        })?;
+    }
+    Ok(moved)
+}
+
+impl Open {
+    /// The requests of the state. It reads each request once, and for each pool the declines of one
+    /// that is requested.
+    pub fn rebuild<L: Look>(alloc: Global, look: &L) -> Result<Open, AllocError>
+        requires { IsReached (L.site look.now) (L.state look.now) }
+        ensures { IfOk result (λ x. AreOpen (L.site look.now) (L.state look.now) x) }
+    {
+        Ok(Open {
+            groups: all_requests(alloc, look)?,
+        })
+    }
+
+    /// How many requests are requested. Two binary searches.
+    pub fn len(&self) -> usize
+        ensures { result ≡ length (ranks_of self.now.members) }
+    {
+        self.groups.count(open_group())
+    }
+
+    /// The rank of the request at this place, counted from 0 in the order in which launchers take
+    /// requests up. One binary search.
+    pub fn at(&self, place: usize) -> Option<Rank>
+        ensures { result ≡ slice_get (ranks_of self.now.members) place }
+    {
+        self.groups.at(open_group(), place)
+    }
+
+    /// The first place from this one on whose request is not closed to the pool, or the number of
+    /// requests (or the place, if that is larger) if there is none. It costs two binary searches if
+    /// the request at the place itself is not closed, and else the square of a logarithm, however
+    /// many closed ones are skipped.
+    pub fn open_from(&self, pool: PoolId, place: usize) -> usize
+        ensures { (c : Configuration) (s : State) → AreOpen c s self.now
+            → IsOpenFrom self.now.members pool place result }
+    {
+        let group = closed_group(pool);
+        let Some(rank) = self.at(place) else {
+            return place;
+        };
+        if !self.groups.has(group, rank) {
+            return place;
+        }
+        run_end(&self.groups, group, place)
+    }
+
+    /// Lists the requests that an event's changes touch, with their records, before the state
+    /// changes, and takes the memory for `note`. The members stay as they are, so nothing need be
+    /// undone if the change fails. It costs one lookup for each request, and takes memory for each to
+    /// be in the group of every pool.
+    pub fn prepare<L: Look>(
+        &mut self,
+        alloc: Global,
+        look: &L,
+        requests: &[RequestId],
+    ) -> Result<Moved, AllocError>
+        ensures members { self.new.members ≡ self.old.members }
+        ensures prepared { IfOk result (λ moved. (ch : Changes)
+            → AreListed ch (L.state look.now) requests.now
+            → IsPrepared (L.state look.now) ch moved) }
+        ensures room { IfOk result (λ moved. HasRoom (L.site look.now) moved self.new) }
+    {
+        let rows = records_of(alloc, look, requests)?;
+        let groups = pools_of(look.config()) as usize + 1;
+        let Some(room) = rows.len().checked_mul(groups) else {
+            return Err(AllocError);
+        };
+        self.groups.reserve(room)?;
+        Ok(Moved { rows })
+    }
+
+    /// Moves what was listed to where it is now, after the state has changed. It takes no memory.
+    /// For each request it costs one lookup, for each pool a reading of the declines before and
+    /// after the change, and a few binary searches for each group that the request leaves or joins:
+    /// where it stays, nothing is searched.
+    pub fn note<L: Look>(&mut self, look: &L, moved: &Moved)
+        requires { HasRoom (L.site look.now) moved.now self.old }
+        ensures { (c : Configuration) (s : State) (ch : Changes)
+            → IsReached c s → IsPrepared s ch moved.now
+            → L.site look.now ≡ c → L.state look.now ≡ changed c ch s
+            → AreOpen c s self.old → AreOpen c (changed c ch s) self.new }
+    {
+        move_all(&mut self.groups, look, moved.rows.as_slice());
+    }
+}
