@@ -23,7 +23,7 @@ use Rattle.np_lookups.proofs.Ids.{apart, ids-rise}
 
 module _ {I : Type 0} (before : I → I → Bool) where
   -- the ids up to a place come before the one there
-  pub earlier : (xs : List I) (i : ℕ) (x : I) → Rises before xs → slice_get xs i ≡ Some x → AllByRecursion (λ other. before other x ≡ true) (take i xs)
+  earlier : (xs : List I) (i : ℕ) (x : I) → Rises before xs → slice_get xs i ≡ Some x → AllByRecursion (λ other. before other x ≡ true) (take i xs)
   earlier [] i x rises there = absurd cc
   earlier (y ∷ xs) zero x rises there = tt
   earlier (y ∷ xs) (suc i) x rises there = (all-at (λ other. before y other ≡ true) xs i x rises.0 there, earlier xs i x rises.1 there)

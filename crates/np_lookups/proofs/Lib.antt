@@ -10,14 +10,12 @@ pub mod Firsts
 pub mod JobNodes
 pub mod Unused
 pub mod OfOwners
-pub mod RankLists
-pub mod OfRanks
 pub mod ByNode
 pub mod Made
 pub mod Copied
-pub mod RanksMade
 pub mod Begun
 pub mod BySession
+pub mod Joins
 pub mod Room
 pub mod Few
 pub mod Settled

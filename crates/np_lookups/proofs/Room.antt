@@ -18,7 +18,6 @@ module _ (c : Configuration) (s : State) (l : LookupsOf) (is : AreLookupsOf c s 
     };
     nodes = is.nodes;
     owners = is.owners;
-    ranks = is.ranks;
   }
 
   pub nodes-more : (lists : List (List NodeId)) (list : List NodeId) → lists ≡ l.nodes ++ list ∷ [] → list ≡ [] → AreLookupsOf c s (record l { nodes = lists })
@@ -30,5 +29,4 @@ module _ (c : Configuration) (s : State) (l : LookupsOf) (is : AreLookupsOf c s 
       many = omega (arith, is.nodes.many, simp length-append at (ap length added));
     };
     owners = is.owners;
-    ranks = is.ranks;
   }

@@ -17,7 +17,7 @@ use Rattle.np_machine.specs.Tables.{same_request, is_session, is_queued, holder,
 use Rattle.np_changes.specs.Changes.{grown, changed, requests_changed, nodes_changed, sessions_changed}
 use Rattle.np_changes.proofs.PremisesOf.{premises}
 use Rattle.np_changes.specs.Planned.{IsReached, IsPlanned}
-use Rattle.np_changes.specs.Premises.{Premises, MakerPremise, RequestsPremise, NodesPremise}
+use Rattle.np_changes.specs.Premises.{Premises, MakerPremise, RequestsPremise, NodesPremise, SessionsPremise}
 use Rattle.np_changes.specs.declared.changes.Changes.{Changes}
 use Rattle.np_changes.specs.declared.changes.Growth.{Growth}
 use Rattle.np_changes.specs.declared.changes.Growth.TheVariants as grow
@@ -33,9 +33,7 @@ use Rattle.np_safe.proofs.Numbered.{grown-numbered}
 use Rattle.np_safe.proofs.Runs.{invariant-Runs}
 use Rattle.np_keys.specs.Keys.{is_node_before, same_node, node_one_way, node_equal, request_one_way, request_equal}
 use Rattle.np_look.specs.Readers.{queued_requests, queued_nodes}
-use Rattle.np_lookups.specs.declared.change.Numbers.{Numbers}
-use Rattle.np_lookups.specs.declared.ranks.Rank.{Rank}
-use Rattle.np_lookups.specs.Changed.{lists_joined, lists_left, lists_removed, lists_ended, queue_at, holder_at, lost_rank, lookups_grown, lookups_settled}
+use Rattle.np_lookups.specs.Changed.{lists_joined, lists_left, lists_removed, lists_ended, queue_at, holder_at, lookups_grown, lookups_settled}
 use Rattle.np_lookups.specs.Lookups.{LookupsOf, HasRoom, AreLookupsOf}
 use Rattle.np_lookups.specs.Lists.{list_at, without_id}
 use Rattle.np_lookups.specs.Waits.{by, joins_request, joins_node, leaves_request, leaves_node, removed_node, removed_request, ending}
@@ -43,7 +41,6 @@ use Rattle.np_lookups.proofs.Begun.{begun-within}
 use Rattle.np_lookups.proofs.OfJobs.{unfinished-changed}
 use Rattle.np_lookups.proofs.OfNodes.{nodes-grown, nodes-changed, nodes-left}
 use Rattle.np_lookups.proofs.OfOwners.{owners-changed}
-use Rattle.np_lookups.proofs.OfRanks.{ranks-changed}
 use Rattle.np_lookups.proofs.OfRequests.{leaves, requests-grown, requests-changed, requests-left}
 use Rattle.np_lookups.proofs.Places.{list_joined, list_left, list_removed, list_ended, at-joined, at-left, at-without, at-ended, length-joined, length-left, length-removed, length-ended}
 use Rattle.np_lookups.proofs.Rows.{waiting, rows-absent}
@@ -201,12 +198,8 @@ module _ (c : Configuration) (s : State) (ch : Changes) (old : Invariant c s) (g
 
 -- ## all parts
 
--- the numbers that a new request and a new node get
-abbrev numbers : State → Numbers
-numbers s = record { request = s.next_request; node = s.next_node }
-
 pub lookups-changed : (c : Configuration) (s : State) (ch : Changes) (l : LookupsOf) → Invariant c s → AreUnused s → Premises c s ch → AreLookupsOf c s l → HasRoom s l
-    → AreLookupsOf c (changed c ch s) (lookups_settled c ch (holder_at (removed_request ch.requests) s) (queue_at (removed_node ch.nodes) s) (lost_rank ch.requests s) (lookups_grown ch (numbers s) l))
+    → AreLookupsOf c (changed c ch s) (lookups_settled c ch (holder_at (removed_request ch.requests) s) (queue_at (removed_node ch.nodes) s) (lookups_grown ch s.next_node l))
 lookups-changed c s ch l old unused given is room = record {
   unfinished = unfinished-changed c s ch l.unfinished given.jobs is.unfinished;
   requests = record {
@@ -225,15 +218,24 @@ lookups-changed c s ch l old unused given is room = record {
         omega (arith, session-more c s ch, room.nodes, length-ended (ending ch.sessions) (lists_removed same_node (removed_node ch.nodes) queue fewer), length-removed same_node (removed_node ch.nodes) queue fewer, length-left same_node (leaves_node ch.maker ch.nodes) more, length-joined is_node_before same_node (joins_node ch.maker ch.grows s.next_node) l.nodes);
   };
   owners = owners-changed c s ch old unused given l.owners is.owners;
-  ranks = ranks-changed c s ch old given l.ranks is.ranks;
 }
 
+-- what the tests of a planned event have shown
+premises-of : (c : Configuration) (s : State) (ch : Changes) → IsPlanned c s ch → Premises c s ch
+premises-of c s ch planned = subst (Premises c s) (sym planned.plan) (premises c s planned.event planned.accepted)
+
 -- as a keeper changes: what was read of the state before, and what was made of the lookups
-pub lookups-after : (c site conf : Configuration) (s t : State) (ch : Changes) (next : Numbers) (holder : Option SessionId) (queue : List SessionId) (rank : Option Rank) (room grown settled : LookupsOf)
+pub lookups-after : (c site conf : Configuration) (s t : State) (ch : Changes) (next : ℕ) (holder : Option SessionId) (queue : List SessionId) (room grown settled : LookupsOf)
     → IsReached c s → IsPlanned c s ch → AreLookupsOf c s room → HasRoom s room
-    → next.request ≡ s.next_request → next.node ≡ s.next_node → holder ≡ holder_at (removed_request ch.requests) s → queue ≡ queue_at (removed_node ch.nodes) s → rank ≡ lost_rank ch.requests s
-    → grown ≡ lookups_grown ch next room → settled ≡ lookups_settled conf ch holder queue rank grown → conf ≡ site → site ≡ c → t ≡ changed c ch s → AreLookupsOf site t settled
-lookups-after c site conf s t ch next holder queue rank room grown settled reached planned is has_room request_is node_is holder_is queue_is rank_is grown_is settled_is conf_is site_is t_is =
-    rw (settled_is, grown_is, request_is, node_is, holder_is, queue_is, rank_is, conf_is, site_is, t_is)
-    (lookups-changed c s ch room (invariant-Runs c reached.journal s reached.runs) (unused-reached c s reached)
-    (subst (Premises c s) (sym planned.plan) (premises c s planned.event planned.accepted)) is has_room)
+    → next ≡ s.next_node → holder ≡ holder_at (removed_request ch.requests) s → queue ≡ queue_at (removed_node ch.nodes) s
+    → grown ≡ lookups_grown ch next room → settled ≡ lookups_settled conf ch holder queue grown → conf ≡ site → site ≡ c → t ≡ changed c ch s → AreLookupsOf site t settled
+lookups-after c site conf s t ch next holder queue room grown settled reached planned is has_room next_is holder_is queue_is grown_is settled_is conf_is site_is t_is =
+    rw (settled_is, grown_is, next_is, holder_is, queue_is, conf_is, site_is, t_is)
+    (lookups-changed c s ch room (invariant-Runs c reached.journal s reached.runs) (unused-reached c s reached) (premises-of c s ch planned) is has_room)
+
+-- where a session ends, nothing grows
+pub ends-same : (c : Configuration) (s : State) (ch : Changes) (next : ℕ) (session : SessionId) (room grown : LookupsOf)
+    → IsPlanned c s ch → ch.sessions ≡ sessions.End session → AreLookupsOf c s room → grown ≡ lookups_grown ch next room → AreLookupsOf c s grown
+ends-same c s ch next session room grown planned ends is grown_is =
+    let given : SessionsPremise s ch (sessions.End session) = subst (SessionsPremise s ch) ends (premises-of c s ch planned).sessions in
+    rw (grown_is, given.same_size) is

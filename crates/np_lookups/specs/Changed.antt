@@ -1,6 +1,6 @@
 -- what an event's changes make of the parts of lookups
-use Rattle.std.specs.Prelude.{ℕ, ◌-◌, Bool, true, false, ◌==◌, not, if◌then◌else◌, List, [], ◌∷◌, ◌++◌, Option, Some, None, length, take, slice_get, slice_set, option_and_then}
-use Rattle.std.specs.Option.{option_map, option_map_or}
+use Rattle.std.specs.Prelude.{ℕ, ◌-◌, Bool, if◌then◌else◌, List, [], ◌∷◌, ◌++◌, Option, Some, None, length, take, slice_get, slice_set, option_and_then}
+use Rattle.std.specs.Option.{option_map_or}
 use Rattle.np_text.specs.declared.id.JobId.{JobId}
 use Rattle.np_text.specs.declared.id.NodeId.{NodeId}
 use Rattle.np_text.specs.declared.id.RequestId.{RequestId}
@@ -11,24 +11,16 @@ use Rattle.np_lists.specs.Change.{change_at}
 use Rattle.np_machine.specs.Kinds.{is_over, is_using}
 use Rattle.np_machine.specs.Order.{is_id_before}
 use Rattle.np_machine.specs.State.{State}
-use Rattle.np_machine.specs.Tables.{same_request, request_in, request_holder, node_queue}
+use Rattle.np_machine.specs.Tables.{same_request, request_holder, node_queue}
 use Rattle.np_changes.specs.declared.changes.Changes.{Changes}
 use Rattle.np_changes.specs.declared.changes.Growth.{Growth}
 use Rattle.np_changes.specs.declared.changes.Growth.TheVariants as grow
 use Rattle.np_changes.specs.declared.changes.JobsChange.{JobsChange}
 use Rattle.np_changes.specs.declared.changes.JobsChange.TheVariants as jobs
-use Rattle.np_changes.specs.declared.changes.RequestEdit.{RequestEdit}
-use Rattle.np_changes.specs.declared.changes.RequestEdit.TheVariants as edit
-use Rattle.np_changes.specs.declared.changes.RequestsChange.{RequestsChange}
-use Rattle.np_changes.specs.declared.changes.RequestsChange.TheVariants as requests
 use Rattle.np_keys.specs.Keys.{is_node_before, same_node, same_job}
-use Rattle.np_lookups.specs.declared.change.Added.{Added}
-use Rattle.np_lookups.specs.declared.change.Numbers.{Numbers}
-use Rattle.np_lookups.specs.declared.ranks.Rank.{Rank}
 use Rattle.np_lookups.specs.declared.waits.Wait.{Wait}
 use Rattle.np_lookups.specs.Lookups.{LookupsOf}
 use Rattle.np_lookups.specs.Lists.{with_id, without_id, taken_back}
-use Rattle.np_lookups.specs.Ranks.{is_rank_before, same_rank, rank_of}
 use Rattle.np_lookups.specs.Waits.{joins_request, joins_node, leaves_request, leaves_node, removed_node, ending}
 
 -- ## the lists of sessions
@@ -100,71 +92,29 @@ owners_changed jobs.Same owners = owners
 owners_changed (jobs.Put j kept) owners = if is_using kept.phase then owners_with j kept.nodes owners else owners
 owners_changed (jobs.EndNode j n) owners = owners
 
--- ## the ranks of requests
-
--- that of a request that gets another relative priority
-abbrev pub revised_rank : RequestsChange → Option Rank
-revised_rank (requests.Edit r (edit.Revise relative)) = Some (record { request = r; relative = relative })
-revised_rank change = None
-
--- or of a new request, which has this sequence
-abbrev pub new_rank : Growth → RequestsChange → ℕ → Option Rank
-new_rank (grow.Request priority asked) change next = Some (record { request = record { priority = priority; seq = next }; relative = asked.relative_priority })
-new_rank growth change next = revised_rank change
-
--- a request with this relative priority has another rank or none after the edit
-abbrev pub loses_rank : RequestEdit → ℕ → Bool
-loses_rank (edit.Serve p) relative = false
-loses_rank (edit.AddNode n) relative = false
-loses_rank (edit.Decline p why failed) relative = failed
-loses_rank edit.Fulfil relative = true
-loses_rank edit.GiveBack relative = false
-loses_rank edit.Fail relative = true
-loses_rank (edit.Revise new) relative = not (new == relative)
-
--- the rank that a request has before the change and not after it
-abbrev pub lost_rank : RequestsChange → State → Option Rank
-lost_rank requests.Same s = None
-lost_rank (requests.Edit r change) s = option_and_then (λ kept. if loses_rank change kept.relative_priority then Some (rank_of r kept) else None) (request_in r s.requests)
-lost_rank (requests.Remove r) s = option_map (rank_of r) (request_in r s.requests)
-lost_rank (requests.Leave r) s = None
-
-abbrev pub ranks_with : Option Rank → List Rank → List Rank
-ranks_with rank ranks = option_map_or (λ x. with_id is_rank_before same_rank x ranks) rank ranks
-
-abbrev pub ranks_taken_back : Option Rank → Bool → List Rank → List Rank
-ranks_taken_back rank added ranks = option_map_or (λ x. taken_back same_rank added x ranks) rank ranks
-
-abbrev pub ranks_without : Option Rank → List Rank → List Rank
-ranks_without rank ranks = option_map_or (λ x. without_id same_rank x ranks) rank ranks
-
 -- ## all parts
 
--- with what grows; a new request and a new node have these numbers
-abbrev pub lookups_grown : Changes → Numbers → LookupsOf → LookupsOf
+-- with what grows; a new node has this number
+abbrev pub lookups_grown : Changes → ℕ → LookupsOf → LookupsOf
 lookups_grown ch next l = record l {
   requests = lists_joined is_id_before same_request (joins_request ch.maker ch.grows) l.requests;
-  nodes = lists_joined is_node_before same_node (joins_node ch.maker ch.grows next.node) l.nodes;
+  nodes = lists_joined is_node_before same_node (joins_node ch.maker ch.grows next) l.nodes;
   owners = owners_grown ch.grows l.owners;
-  ranks = ranks_with (new_rank ch.grows ch.requests next.request) l.ranks;
 }
 
--- without what was added
-abbrev pub lookups_taken_back : Changes → Numbers → Added → LookupsOf → LookupsOf
+-- without what grew: the row that the one list got, if it was added, and the place of a new node
+abbrev pub lookups_taken_back : Changes → ℕ → Bool → LookupsOf → LookupsOf
 lookups_taken_back ch next added l = record l {
-  requests = lists_taken_back same_request (joins_request ch.maker ch.grows) added.request l.requests;
-  nodes = lists_taken_back same_node (joins_node ch.maker ch.grows next.node) added.node l.nodes;
+  requests = lists_taken_back same_request (joins_request ch.maker ch.grows) added l.requests;
+  nodes = lists_taken_back same_node (joins_node ch.maker ch.grows next) added l.nodes;
   owners = owners_taken_back ch.grows l.owners;
-  ranks = ranks_taken_back (new_rank ch.grows ch.requests next.request) added.rank l.ranks;
 }
 
--- with the rest of the changes: a request that goes has this holder, a node that goes this queue, and
--- a request that loses its rank this one
-abbrev pub lookups_settled : Configuration → Changes → Option SessionId → List SessionId → Option Rank → LookupsOf → LookupsOf
-lookups_settled c ch holder queue rank l = record {
+-- with the rest of the changes: a request that goes has this holder, and a node that goes this queue
+abbrev pub lookups_settled : Configuration → Changes → Option SessionId → List SessionId → LookupsOf → LookupsOf
+lookups_settled c ch holder queue l = record {
   unfinished = unfinished_changed c ch.jobs l.unfinished;
   requests = lists_ended (ending ch.sessions) (lists_left same_request (leaves_request ch.maker ch.requests holder) l.requests);
   nodes = lists_ended (ending ch.sessions) (lists_removed same_node (removed_node ch.nodes) queue (lists_left same_node (leaves_node ch.maker ch.nodes) l.nodes));
   owners = owners_changed ch.jobs l.owners;
-  ranks = ranks_without rank l.ranks;
 }

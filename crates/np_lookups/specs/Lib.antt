@@ -1,6 +1,5 @@
 pub mod Lists
 pub mod Waits
-pub mod Ranks
 pub mod Lookups
 pub mod Unfinished
 pub mod Changed

@@ -1,21 +1,15 @@
 -- what the lookups have, and when they are those of a state
 use Rattle.std.specs.Prelude.{◌≡◌, ◌<◌, ◌+◌, ℕ, List, Option, None, length, slice_get, unwrap_or}
-use Rattle.std.specs.List.{list_any}
 use Rattle.np_text.specs.declared.id.JobId.{JobId}
 use Rattle.np_text.specs.declared.id.NodeId.{NodeId}
 use Rattle.np_text.specs.declared.id.RequestId.{RequestId}
 use Rattle.np_text.specs.declared.id.RequesterId.{RequesterId}
 use Rattle.np_text.specs.declared.id.SessionId.{SessionId}
 use Rattle.np_site.specs.Configuration.{Configuration}
-use Rattle.np_lists.specs.Rising.{Rises}
-use Rattle.np_machine.specs.Order.{is_id_before}
 use Rattle.np_machine.specs.State.{State}
-use Rattle.np_machine.specs.Tables.{request_in}
 use Rattle.np_changes.specs.Readers.{owner_of}
 use Rattle.np_look.specs.Readers.{unfinished_from, queued_requests, queued_nodes}
-use Rattle.np_lookups.specs.declared.ranks.Rank.{Rank}
 use Rattle.np_lookups.specs.Lists.{list_at}
-use Rattle.np_lookups.specs.Ranks.{is_rank_before, same_rank, has_rank}
 
 -- the parts of lookups (own)
 pub record LookupsOf : Type 0 where
@@ -27,8 +21,6 @@ pub record LookupsOf : Type 0 where
   pub nodes : List (List NodeId)
   -- for each node, by its number, the job that has it
   pub owners : List (Option JobId)
-  -- the requests that are requested or pending, in the order in which launchers take them up
-  pub ranks : List Rank
 
 -- the list of each requester has its jobs that are not over, in job order
 pub record AreUnfinished (c : Configuration) (s : State) (lists : List (List JobId)) : Type 0 where
@@ -55,20 +47,12 @@ pub record AreOwners (s : State) (owners : List (Option JobId)) : Type 0 where
   pub each : (n : NodeId) → owner_at n.0 owners ≡ owner_of n s.jobs
   pub many : length owners ≡ s.next_node
 
--- a rank is there exactly if a request with its id is in the state, is requested or pending, and has
--- its relative priority; no two requests of the state have one id
-pub record AreRanks (s : State) (ranks : List Rank) : Type 0 where
-  pub rises : Rises is_rank_before ranks
-  pub each : (rank : Rank) → list_any (λ other. same_rank other rank) ranks ≡ has_rank rank (request_in rank.request s.requests)
-  pub once : Rises (λ a b. is_id_before a.id b.id) s.requests
-
 -- each part says what the state says
 pub record AreLookupsOf (c : Configuration) (s : State) (l : LookupsOf) : Type 0 where
   pub unfinished : AreUnfinished c s l.unfinished
   pub requests : AreRequestsOf s l.requests
   pub nodes : AreNodesOf s l.nodes
   pub owners : AreOwners s l.owners
-  pub ranks : AreRanks s l.ranks
 
 -- there is room for one more session
 pub record HasRoom (s : State) (l : LookupsOf) : Type 0 where

@@ -1,8 +1,10 @@
 //! What the changes of an event make of the lookups.
 
 ghost use Rattle.std.specs.Prelude.{◌≡◌, IfOk, OnErr, OnOk};
+ghost use Rattle.np_text.specs.declared.id.SessionId.{SessionId};
 ghost use Rattle.np_site.specs.Configuration.{Configuration};
 ghost use Rattle.np_changes.specs.Planned.{IsPlanned, IsReached};
+ghost use Rattle.np_changes.specs.declared.changes.SessionsChange.TheVariants as sessions;
 ghost use Rattle.np_fits.specs.Fits.{Fits};
 ghost use Rattle.np_machine.specs.State.{State};
 ghost use Rattle.np_lookups.specs.Changed.{lookups_grown, lookups_settled, lookups_taken_back};
@@ -12,7 +14,6 @@ ghost use Rattle.np_lookups.specs.Prepared.{IsPrepared, lookups_made, lookups_un
 use crate::lookups::Lookups;
 use crate::owners::{grow_owners, settle_owners, take_back_owner};
 use crate::queues::{end, holder_of, join, leave, queue_of, remove, take_back};
-use crate::ranks::{Rank, add_rank, lost_rank, new_rank, remove_rank, take_back_rank};
 use crate::unfinished::settle_unfinished;
 use crate::waits::{
     ending, joins_node, joins_request, leaves_node, leaves_request, removed_node, removed_request,
@@ -24,29 +25,13 @@ use np_text::SessionId;
 use std::alloc::AllocError;
 use std::marker::Model;
 
-/// Whether a rank was added, and rows to lists of requests and of nodes.
-#[derive(Clone, Copy)]
-pub struct Added {
-    pub request: bool,
-    pub node: bool,
-    pub rank: bool,
-}
-
-/// The numbers that a new request and a new node get.
-#[derive(Clone, Copy)]
-pub struct Numbers {
-    pub request: u32,
-    pub node: u32,
-}
-
-/// What was read of a state before the changes of an event, and what was added for them.
+/// What was read of a state before the changes of an event, and whether a list got a row for them.
 #[derive(Drop)]
 pub struct Prepared {
-    next: Numbers,
-    added: Added,
+    next: u32,
+    added: bool,
     holder: Option<SessionId>,
     queue: Vec<SessionId>,
-    rank: Option<Rank>,
 }
 
 impl Model for Prepared {
@@ -59,54 +44,36 @@ impl Model for Prepared {
       added = prepared.added;
       holder = prepared.holder;
       queue = prepared.queue.items;
-      rank = prepared.rank;
     } };
 }
 
 impl Lookups {
-    /// Adds what the changes let grow, before the state has changed. If memory runs out, nothing
-    /// changes.
-    fn grow(&mut self, changes: &Changes, next: Numbers) -> Result<Added, AllocError>
+    /// Adds what the changes let grow, before the state has changed: a row to one list at most, and
+    /// the place of a new node; true if a row was added. If memory runs out, nothing changes.
+    #[tactic(auto, using(crate::proofs::Joins::alone))]
+    fn grow(&mut self, changes: &Changes, next: u32) -> Result<bool, AllocError>
         ensures ok { OnOk result (self.new ≡ lookups_grown changes.now next self.old) }
         ensures undo { IfOk result (λ added.
             lookups_taken_back changes.now next added self.new ≡ self.old) }
         ensures err { OnErr result (self.new ≡ self.old) }
     {
-        let new = new_rank(&changes.grows, &changes.requests, next.request);
-        let rank = add_rank(&mut self.ranks, new)?;
-        let joins = joins_request(changes.maker, &changes.grows);
-        let request = match join(&mut self.requests, joins) {
-            Ok(request) => request,
-            Err(fault) => {
-                take_back_rank(&mut self.ranks, new, rank);
-                return Err(fault);
-            }
-        };
-        let wait = joins_node(changes.maker, &changes.grows, next.node);
-        let node = match join(&mut self.nodes, wait) {
-            Ok(node) => node,
-            Err(fault) => {
-                take_back(&mut self.requests, joins, request);
-                take_back_rank(&mut self.ranks, new, rank);
-                return Err(fault);
-            }
-        };
+        let at_request = joins_request(changes.maker, &changes.grows);
+        if at_request.is_some() {
+            return join(&mut self.requests, at_request);
+        }
+        let at_node = joins_node(changes.maker, &changes.grows, next);
+        let added = join(&mut self.nodes, at_node)?;
         if let Err(fault) = grow_owners(&mut self.owners, &changes.grows) {
-            take_back(&mut self.nodes, wait, node);
-            take_back(&mut self.requests, joins, request);
-            take_back_rank(&mut self.ranks, new, rank);
+            take_back(&mut self.nodes, at_node, added);
             return Err(fault);
         }
-        Ok(Added {
-            request,
-            node,
-            rank,
-        })
+        Ok(added)
     }
 
     /// Before the state changes: adds what the changes let grow, and reads what the rest needs. If
-    /// memory runs out, these are still the lookups of the state. It costs a lookup for each part, and
-    /// the queue of a node that goes.
+    /// memory runs out, these are still the lookups of the state. So they are if a session ends,
+    /// since nothing grows then. It costs a lookup in the list that grows, and reads the holder of a
+    /// request that goes and the queue of a node that goes.
     pub fn prepare<L: Look>(&mut self, look: &L, changes: &Changes) -> Result<Prepared, AllocError>
         requires reached { IsReached (L.site look.now) (L.state look.now) }
         requires fits { Fits (L.site look.now) (L.state look.now) }
@@ -114,23 +81,21 @@ impl Lookups {
         requires are { AreLookupsOf (L.site look.now) (L.state look.now) self.old }
         ensures ok { IfOk result (λ prepared.
             IsPrepared (L.site look.now) (L.state look.now) changes.now self.new prepared) }
+        ensures ends { IfOk result (λ _.
+            (session : SessionId) → changes.now.sessions ≡ sessions.End session
+            → AreLookupsOf (L.site look.now) (L.state look.now) self.new) }
         ensures err { OnErr result (AreLookupsOf (L.site look.now) (L.state look.now) self.new) }
     {
         self.make_room(look.sessions())?;
         let holder = holder_of(look, removed_request(&changes.requests));
         let queue = queue_of(self.alloc, look, removed_node(&changes.nodes))?;
-        let rank = lost_rank(look, &changes.requests);
-        let next = Numbers {
-            request: look.next_request(),
-            node: look.next_node(),
-        };
+        let next = look.next_node();
         let added = self.grow(changes, next)?;
         Ok(Prepared {
             next,
             added,
             holder,
             queue,
-            rank,
         })
     }
 
@@ -138,13 +103,10 @@ impl Lookups {
     pub fn take_back(&mut self, changes: &Changes, prepared: &Prepared)
         ensures { self.new ≡ lookups_unmade changes.now prepared.now self.old }
     {
-        let next = prepared.next;
-        let new = new_rank(&changes.grows, &changes.requests, next.request);
-        take_back_rank(&mut self.ranks, new, prepared.added.rank);
-        let joins = joins_request(changes.maker, &changes.grows);
-        take_back(&mut self.requests, joins, prepared.added.request);
-        let wait = joins_node(changes.maker, &changes.grows, next.node);
-        take_back(&mut self.nodes, wait, prepared.added.node);
+        let at_request = joins_request(changes.maker, &changes.grows);
+        take_back(&mut self.requests, at_request, prepared.added);
+        let at_node = joins_node(changes.maker, &changes.grows, prepared.next);
+        take_back(&mut self.nodes, at_node, prepared.added);
         take_back_owner(&mut self.owners, &changes.grows);
     }
 
@@ -163,6 +125,5 @@ impl Lookups {
         end(self.alloc, &mut self.requests, session);
         end(self.alloc, &mut self.nodes, session);
         settle_owners(&mut self.owners, &changes.jobs);
-        remove_rank(&mut self.ranks, prepared.rank);
     }
 }

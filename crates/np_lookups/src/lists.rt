@@ -19,7 +19,7 @@ pub(crate) fn list_of<O: Order>(lists: &Vec<KeyTable<O>>, at: usize) -> &[O::Row
 }
 
 /// Adds the row to a table, unless it is there; true if it was added.
-pub(crate) fn add<O: Order>(table: &mut KeyTable<O>, row: O::Row) -> Result<bool, AllocError>
+fn add<O: Order>(table: &mut KeyTable<O>, row: O::Row) -> Result<bool, AllocError>
     ensures ok { OnOk result (table.new ≡ with_id (λ a b. O.before (O.key a) (O.key b))
         (λ a b. O.same (O.key a) (O.key b)) row table.old) }
     ensures undo { IfOk result (λ added.
@@ -43,7 +43,7 @@ fn push<O: Order>(table: &mut KeyTable<O>, row: O::Row) -> Result<(), AllocError
 }
 
 /// Takes the row out of a table again, if it was added.
-pub(crate) fn take_back<O: Order>(table: &mut KeyTable<O>, row: &O::Row, added: bool)
+fn take_back<O: Order>(table: &mut KeyTable<O>, row: &O::Row, added: bool)
     ensures { table.new ≡ taken_back (λ a b. O.same (O.key a) (O.key b)) added row.now table.old }
 {
     if added {

@@ -7,11 +7,10 @@ ghost use Rattle.np_changes.specs.Readers.{owner_of};
 ghost use Rattle.np_fits.specs.Fits.{Fits};
 ghost use Rattle.np_site.specs.Configuration.{Configuration};
 ghost use Rattle.np_look.specs.Readers.{queued_nodes, queued_requests, unfinished_of};
-ghost use Rattle.np_lookups.specs.Lookups.{AreNodesOf, AreRanks, AreRequestsOf, HasRoom, AreLookupsOf};
+ghost use Rattle.np_lookups.specs.Lookups.{AreNodesOf, AreRequestsOf, HasRoom, AreLookupsOf};
 
 use crate::lists::list_of;
 use crate::owners::list_owners;
-use crate::ranks::{ByRank, Rank, list_ranks};
 use crate::unfinished::list_unfinished;
 use np_keys::{ByNode, ByRequest, JobTable};
 use np_look::Look;
@@ -28,7 +27,6 @@ pub struct Lookups {
     pub(crate) requests: Vec<KeyTable<ByRequest>>,
     pub(crate) nodes: Vec<KeyTable<ByNode>>,
     pub(crate) owners: Vec<Option<JobId>>,
-    pub(crate) ranks: KeyTable<ByRank>,
 }
 
 impl Model for Lookups {
@@ -41,7 +39,6 @@ impl Model for Lookups {
       requests = lookups.requests.items;
       nodes = lookups.nodes.items;
       owners = lookups.owners.items;
-      ranks = lookups.ranks;
     } };
 }
 
@@ -111,9 +108,9 @@ fn nodes_by_session<L: Look>(alloc: Global, look: &L) -> Result<Vec<KeyTable<ByN
 }
 
 impl Lookups {
-    /// The lookups of the state. It reads each job and each request once, and asks the keeper for what
-    /// each session queues for and for the owner of each node that was made. A keeper that scans
-    /// reads all queues for each answer of the first kind, and all jobs for each node.
+    /// The lookups of the state. It reads each job once, and asks the keeper for what each session
+    /// queues for and for the owner of each node that was made. A keeper that scans reads all queues
+    /// for each answer of the first kind, and all jobs for each node.
     pub fn rebuild<L: Look>(alloc: Global, look: &L) -> Result<Lookups, NoMemory>
         requires reached { IsReached (L.site look.now) (L.state look.now) }
         requires fits { Fits (L.site look.now) (L.state look.now) }
@@ -123,14 +120,12 @@ impl Lookups {
         let requests = requests_by_session(alloc, look)?;
         let nodes = nodes_by_session(alloc, look)?;
         let owners = list_owners(alloc, look)?;
-        let ranks = list_ranks(alloc, look)?;
         Ok(Lookups {
             alloc,
             unfinished,
             requests,
             nodes,
             owners,
-            ranks,
         })
     }
 
@@ -185,13 +180,5 @@ impl Lookups {
             → result ≡ owner_of node s.jobs }
     {
         *self.owners.get(node.0 as usize)?
-    }
-
-    /// The requests that are requested or pending, in the order in which launchers take them up: by
-    /// priority, then relative priority, then sequence. It takes no memory.
-    pub fn ranks(&self) -> &[Rank]
-        ensures { (c : Configuration) (s : State) → AreLookupsOf c s self.now → AreRanks s result.now }
-    {
-        self.ranks.rows()
     }
 }

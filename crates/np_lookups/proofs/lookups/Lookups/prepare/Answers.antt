@@ -1,7 +1,7 @@
 use Rattle.std.proofs.Common.{◌∙◌, ap, refl, sym, subst}
 use Rattle.np_lookups.specs.Changed.{holder_at, queue_at}
 use Rattle.np_lookups.specs.Lookups.{AreLookupsOf, HasRoom}
-use Rattle.np_lookups.proofs.Settled.{lookups-after}
+use Rattle.np_lookups.proofs.Settled.{ends-same, lookups-after}
 use Rattle.np_lookups.proofs.lookups.Lookups.prepare.Goals as goal
 
 pub returns-clause-ok : goal.returns-clause-ok
@@ -12,12 +12,16 @@ returns-clause-ok g c =
     let has_room : HasRoom state c.make_room.new.self = c.in_ok-make_room.ensures.room site state c.requires.are (sym c.sessions.ensures) in
     record {
       unmade = subst (AreLookupsOf site state) (sym c.in_ok-added.ensures.undo) room;
-      made = lookups-after site site site state _ c.args.changes.now _ _ _ _ c.make_room.new.self _ _ c.requires.reached c.requires.planned room has_room
-          c.next_request.ensures
-          c.next_node.ensures
+      made = lookups-after site site site state _ c.args.changes.now _ _ _ c.make_room.new.self _ _ c.requires.reached c.requires.planned room has_room
+          c.next_node-next.ensures
           (c.holder_of-holder.ensures ∙ ap (λ r. holder_at r state) c.removed_request.ensures)
           (c.in_ok-queue.ensures ∙ ap (λ n. queue_at n state) c.removed_node.ensures)
-          c.lost_rank-rank.ensures
           c.in_ok-added.ensures.ok
           refl refl refl refl;
     }
+
+pub returns-clause-ends : goal.returns-clause-ends
+returns-clause-ends g c = λ session ends.
+    let site = g.L.Look.site c.args.look.now in
+    let state = g.L.Look.state c.args.look.now in
+    ends-same site state c.args.changes.now _ session c.make_room.new.self _ c.requires.planned ends (c.in_ok-make_room.ensures.same site state c.requires.are) c.in_ok-added.ensures.ok
