@@ -25,11 +25,11 @@ use Rattle.np_changes.specs.declared.changes.HandlesChange.TheVariants as handle
 use Rattle.np_safe.proofs.Ids.{same_semaphore}
 use Rattle.np_safe.proofs.Runs.{invariant-Runs}
 use Rattle.np_active.specs.Active.{AreGroups, AreHandleGroups, handle_group}
-use Rattle.np_active.specs.Members.{with_handle_if, with_handles, with_holders, with_new_handles, without_handles}
+use Rattle.np_active.specs.Members.{with_handles, with_holders, with_new_handles, without_handles}
 use Rattle.np_active.proofs.HandleOrder.{lists-changed, few-changed, lists-reached, list-few, list-order}
 use Rattle.np_active.proofs.HandlesUntouched.{handle-gone, handle-untouched, is_of, releases, takes}
-use Rattle.np_active.proofs.Own.{groups-by, has-if, rises-if}
-use Rattle.np_active.proofs.Roles.{and_true}
+use Rattle.np_active.proofs.Own.{groups-by, put-each}
+use Rattle.np_active.proofs.Roles.{and_true, or_false}
 
 abbrev pub AreHandlesBy : (SemId → JobId → Bool) → List (Member JobId) → Type 0
 AreHandlesBy passes ms = AreGroups is_job_before same_job handle_group passes ms
@@ -42,32 +42,12 @@ same-id x y is = let number : x.0 ≡ y.0 = grind (arith, nat_tests) in same_sem
 
 -- ## a job at some semaphores
 
-handle-put : (has : SemId → Bool) (j : JobId) (was : SemId → JobId → Bool) (x : SemId) (ms : List (Member JobId)) → AreHandlesBy was ms
-    → AreHandlesBy (λ y i. cond ((x.0 == y.0) && same_job j i) (has x) (was y i)) (with_handle_if j x (has x) ms)
-handle-put has j was x ms are = record {
-  rises = rises-if is_job_before same_job job_transitive job_one_way job_some_way job_equal (handle_group x) j (has x) ms are.rises;
-  each = λ y i.
-      has-if is_job_before same_job job_transitive job_one_way job_some_way job_equal (handle_group y) i (handle_group x) j (has x) ms are.rises
-      ∙ ap (λ (b : Bool). cond (b && same_job j i) (has x) (has_member same_job (handle_group y) i ms)) (and_true (x.0 == y.0))
-      ∙ ap (λ (b : Bool). cond ((x.0 == y.0) && same_job j i) (has x) b) (are.each y i);
-}
-
 -- it is where it is to be, and all others are where they were
 handles-put : (has : SemId → Bool) (j : JobId) (semaphores : List SemId) (was : SemId → JobId → Bool) (ms : List (Member JobId)) → AreHandlesBy was ms
     → AreHandlesBy (λ y i. cond (is_of y semaphores && same_job j i) (has y) (was y i)) (with_handles has j semaphores ms)
-handles-put has j [] was ms are = are
-handles-put has j (x ∷ semaphores) was ms are =
-    handles-by _ _ _ (λ y i. by y (x.0 == y.0) (is_of y semaphores) (same_job j i) (was y i) refl)
-    (handles-put has j semaphores (λ y i. cond ((x.0 == y.0) && same_job j i) (has x) (was y i)) (with_handle_if j x (has x) ms) (handle-put has j was x ms are))
-  where
-    twice : (b p q w : Bool) → cond b p (cond b q w) ≡ cond b p w
-    twice true p q w = refl
-    twice false p q w = refl
-
-    by : (y : SemId) (a o b w : Bool) → (x.0 == y.0) ≡ a → cond (o && b) (has y) (cond (a && b) (has x) w) ≡ cond ((a || o) && b) (has y) w
-    by y true true b w is = twice b (has y) (has x) w
-    by y true false b w is = ap (λ (z : SemId). cond b (has z) w) (same-id x y is)
-    by y false o b w is = refl
+handles-put has j semaphores was ms are =
+    put-each is_job_before same_job job_transitive job_one_way job_some_way job_equal handle_group (λ x y. x.0 == y.0) (λ x y. and_true (x.0 == y.0)) same-id
+    has j semaphores was ms are
 
 -- ## the changes of an event
 
@@ -111,10 +91,6 @@ module _ (c : Configuration) (s : State) (ch : Changes) where
       by x i false false kept old = sym (handle-untouched c x i ch s old kept)
 
 -- ## made anew
-
-or_false : (b : Bool) → (b || false) ≡ b
-or_false true = refl
-or_false false = refl
 
 -- all jobs of a semaphore
 holders-put : (x : SemId) (jobs : List JobId) (was : SemId → JobId → Bool) (ms : List (Member JobId)) → AreHandlesBy was ms

@@ -4,7 +4,9 @@ pub mod Roles
 pub mod Rebuilt
 pub mod Readers
 pub mod Begun
-pub mod Untouched
+pub mod RequestsUntouched
+pub mod JobsUntouched
+pub mod SessionsUntouched
 pub mod Noted
 pub mod HandleOrder
 pub mod HandlesUntouched

@@ -1,14 +1,14 @@
--- which members there are after an id is put into the group of whom it belongs to, or taken out of it
-use Rattle.std.proofs.Common.{◌≡◌, ◌∙◌, Bool, true, false, cond, List, Option, None, Some, refl, sym, ap, subst}
+-- which members there are after an id is put into the groups that it may be in, or taken out of them
+use Rattle.std.proofs.Common.{◌≡◌, ◌∙◌, Bool, true, false, cond, List, [], ◌∷◌, refl, sym, ap, subst}
 use Rattle.std.specs.Prelude.{◌&&◌, ◌||◌, not}
-use Rattle.std.specs.Option.{option_map_or}
+use Rattle.std.specs.List.{list_any}
 use Rattle.np_lists.specs.Rising.{Rises}
 use Rattle.np_groups.specs.declared.groups.Group.{Group}
 use Rattle.np_groups.specs.declared.groups.Member.{Member}
 use Rattle.np_groups.specs.Groups.{same_group, is_member_before, same_member, member, has_member}
 use Rattle.np_groups.proofs.Kept.{has-with, has-without, rises-with, rises-without}
 use Rattle.np_active.specs.Active.{AreGroups}
-use Rattle.np_active.specs.Members.{with_member_if, with_own}
+use Rattle.np_active.specs.Members.{with_each, with_member_if}
 
 or_cond : (o r : Bool) → (o || r) ≡ cond o true r
 or_cond true r = refl
@@ -30,11 +30,11 @@ module _ {K : Type 0} (before same : K → K → Bool)
     (equal : (a b : K) → same a b ≡ true → a ≡ b) where
   -- ## one id
 
-  pub rises-if : (g : Group) (i : K) (b : Bool) (ms : List (Member K)) → Rises (is_member_before before) ms → Rises (is_member_before before) (with_member_if before same g i b ms)
+  rises-if : (g : Group) (i : K) (b : Bool) (ms : List (Member K)) → Rises (is_member_before before) ms → Rises (is_member_before before) (with_member_if before same g i b ms)
   rises-if g i true ms rises = rises-with before same transitive some_way g i ms rises
   rises-if g i false ms rises = rises-without before same g i ms rises
 
-  pub has-if : (g : Group) (i : K) (h : Group) (j : K) (b : Bool) (ms : List (Member K)) → Rises (is_member_before before) ms
+  has-if : (g : Group) (i : K) (h : Group) (j : K) (b : Bool) (ms : List (Member K)) → Rises (is_member_before before) ms
       → has_member same g i (with_member_if before same h j b ms) ≡ cond (same_member same (member h j) (member g i)) b (has_member same g i ms)
   has-if g i h j true ms rises = has-with before same equal g i h j ms ∙ or_cond (same_member same (member h j) (member g i)) (has_member same g i ms)
   has-if g i h j false ms rises = has-without before same one_way equal g i h j ms rises ∙ and_cond (same_member same (member h j) (member g i)) (has_member same g i ms)
@@ -42,49 +42,48 @@ module _ {K : Type 0} (before same : K → K → Bool)
   module _ {Q : Type 0} (group : Q → Group) (is_one : Q → Q → Bool)
       (groups : (r q : Q) → same_group (group r) (group q) ≡ is_one r q)
       (one : (r q : Q) → is_one r q ≡ true → r ≡ q) where
-    -- it belongs to this one
-    abbrev pub is_own : Q → Option Q → Bool
-    is_own q own = option_map_or (λ r. is_one r q) own false
+    -- it is one of these
+    abbrev pub is_among : Q → List Q → Bool
+    is_among q these = list_any (λ r. is_one r q) these
 
-    -- ## the id of an owner
+    -- ## an id in several groups
 
-    rises-own : (passes : Q → Bool) (j : K) (own : Option Q) (ms : List (Member K)) → Rises (is_member_before before) ms → Rises (is_member_before before) (with_own before same group passes j own ms)
-    rises-own passes j None ms rises = rises
-    rises-own passes j (Some r) ms rises = rises-if (group r) j (passes r) ms rises
-
-    module _ (passes : Q → Bool) (j : K) (ms : List (Member K)) (rises : Rises (is_member_before before) ms) where
-      -- of an id that is in no other group, and passes for no other
-      neither : (own : Option Q) → ((q : Q) → is_own q own ≡ false → has_member same (group q) j ms ≡ false) → ((q : Q) → is_own q own ≡ false → passes q ≡ false)
-          → (q : Q) (i : K) → is_own q own ≡ false → same j i ≡ true → has_member same (group q) i ms ≡ passes q
-      neither own out fails q i other is =
-          subst (λ (k : K). has_member same (group q) k ms ≡ passes q) (equal j i is) (out q other ∙ sym (fails q other))
-
-      has-own : (own : Option Q) → ((q : Q) → is_own q own ≡ false → has_member same (group q) j ms ≡ false) → ((q : Q) → is_own q own ≡ false → passes q ≡ false)
-          → (q : Q) (i : K) → has_member same (group q) i (with_own before same group passes j own ms) ≡ cond (same j i) (passes q) (has_member same (group q) i ms)
-      has-own None out fails q i = by (same j i) refl where
-        by : (b : Bool) → same j i ≡ b → has_member same (group q) i ms ≡ cond b (passes q) (has_member same (group q) i ms)
-        by true is = neither None out fails q i refl is
-        by false is = refl
-      has-own (Some r) out fails q i =
-          has-if (group q) i (group r) j (passes r) ms rises ∙ by (same_group (group r) (group q)) (same j i) refl refl where
-            by : (a b : Bool) → same_group (group r) (group q) ≡ a → same j i ≡ b → cond (a && b) (passes r) (has_member same (group q) i ms) ≡ cond b (passes q) (has_member same (group q) i ms)
-            by true true at is = ap passes (one r q (sym (groups r q) ∙ at))
-            by true false at is = refl
-            by false true at is = neither (Some r) out fails q i (sym (groups r q) ∙ at) is
-            by false false at is = refl
-
-    -- the id is where it passes now, and all others are where they were
-    pub groups-own : (was now : Q → K → Bool) (j : K) (own : Option Q) (ms : List (Member K)) → AreGroups before same group was ms
-        → ((q : Q) → is_own q own ≡ false → was q j ≡ false) → ((q : Q) → is_own q own ≡ false → now q j ≡ false)
-        → AreGroups before same group (λ q i. cond (same j i) (now q i) (was q i)) (with_own before same group (λ q. now q j) j own ms)
-    groups-own was now j own ms are was_out out = record {
-      rises = rises-own (λ q. now q j) j own ms are.rises;
+    put-one : (passes : Q → Bool) (j : K) (r : Q) (was : Q → K → Bool) (ms : List (Member K)) → AreGroups before same group was ms
+        → AreGroups before same group (λ q i. cond (is_one r q && same j i) (passes r) (was q i)) (with_member_if before same (group r) j (passes r) ms)
+    put-one passes j r was ms are = record {
+      rises = rises-if (group r) j (passes r) ms are.rises;
       each = λ q i.
-          has-own (λ r. now r j) j ms are.rises own (λ r other. are.each r j ∙ was_out r other) out q i
-          ∙ ap (λ (b : Bool). cond (same j i) (now q j) b) (are.each q i)
-          ∙ by q i (same j i) refl;
+          has-if (group q) i (group r) j (passes r) ms are.rises
+          ∙ ap (λ (b : Bool). cond (b && same j i) (passes r) (has_member same (group q) i ms)) (groups r q)
+          ∙ ap (λ (b : Bool). cond (is_one r q && same j i) (passes r) b) (are.each q i);
     }
+
+    -- the id is where it passes in the groups of these, and all others are where they were
+    pub put-each : (passes : Q → Bool) (j : K) (these : List Q) (was : Q → K → Bool) (ms : List (Member K)) → AreGroups before same group was ms
+        → AreGroups before same group (λ q i. cond (is_among q these && same j i) (passes q) (was q i)) (with_each before same group passes j these ms)
+    put-each passes j [] was ms are = are
+    put-each passes j (r ∷ these) was ms are =
+        groups-by before same group _ _ _ (λ q i. by q (is_one r q) (is_among q these) (same j i) (was q i) refl)
+        (put-each passes j these (λ q i. cond (is_one r q && same j i) (passes r) (was q i)) (with_member_if before same (group r) j (passes r) ms) (put-one passes j r was ms are))
       where
-        by : (q : Q) (i : K) (b : Bool) → same j i ≡ b → cond b (now q j) (was q i) ≡ cond b (now q i) (was q i)
-        by q i true is = ap (now q) (equal j i is)
-        by q i false is = refl
+        twice : (b p q w : Bool) → cond b p (cond b q w) ≡ cond b p w
+        twice true p q w = refl
+        twice false p q w = refl
+
+        by : (q : Q) (a o b w : Bool) → is_one r q ≡ a → cond (o && b) (passes q) (cond (a && b) (passes r) w) ≡ cond ((a || o) && b) (passes q) w
+        by q true true b w is = twice b (passes q) (passes r) w
+        by q true false b w is = ap (λ (z : Q). cond b (passes z) w) (one r q is)
+        by q false o b w is = refl
+
+    -- the same of an id that was and is in no other groups than of these
+    pub put-own : (was now : Q → K → Bool) (j : K) (these : List Q) (ms : List (Member K)) → AreGroups before same group was ms
+        → ((q : Q) → is_among q these ≡ false → was q j ≡ false) → ((q : Q) → is_among q these ≡ false → now q j ≡ false)
+        → AreGroups before same group (λ q i. cond (same j i) (now q i) (was q i)) (with_each before same group (λ q. now q j) j these ms)
+    put-own was now j these ms are was_out out =
+        groups-by before same group _ _ _ (λ q i. by q i (is_among q these) (same j i) refl refl) (put-each (λ q. now q j) j these was ms are)
+      where
+        by : (q : Q) (i : K) (a b : Bool) → is_among q these ≡ a → same j i ≡ b → cond (a && b) (now q j) (was q i) ≡ cond b (now q i) (was q i)
+        by q i true true among is = ap (now q) (equal j i is)
+        by q i false true other is = subst (λ (k : K). was q k ≡ now q k) (equal j i is) (was_out q other ∙ sym (out q other))
+        by q i true false among is = refl
+        by q i false false other is = refl

@@ -1,6 +1,6 @@
--- the members of a group are the jobs that are active or the sessions that speak, in order
+-- the members of a group are the active jobs of a requester or the sessions of a kind, in order
 use Rattle.std.proofs.Common.{◌≡◌, ◌∙◌, ◌<◌, ◌+◌, ◌-◌, ℕ, suc, Bool, true, false, cond, List, [], ◌∷◌, length, Option, Some, None, refl, sym, ap, arith}
-use Rattle.std.specs.Prelude.{◌==◌, slice_get}
+use Rattle.std.specs.Prelude.{◌==◌, ◌&&◌, ◌||◌, is_some, slice_get}
 use Rattle.std.specs.Option.{option_map_or, option_or}
 use Rattle.std.specs.List.{list_any}
 use Rattle.std.proofs.lemmas.Bool.Decides.{nat_tests}
@@ -17,10 +17,11 @@ use Rattle.np_groups.specs.Groups.{ids_in}
 use Rattle.np_groups.proofs.Ids.{ids-has, ids-rise, same-itself, same-list}
 use Rattle.np_keys.specs.Keys.{is_job_before, same_job, job_one_way, job_some_way, job_equal, is_session_before, same_session, session_one_way, session_some_way, session_equal}
 use Rattle.np_machine.specs.Laws.{speaks_for}
+use Rattle.np_machine.specs.Semaphore.{has_live_session}
 use Rattle.np_machine.specs.State.{State}
 use Rattle.np_machine.specs.declared.state.SessionFacts.{SessionFacts}
-use Rattle.np_look.specs.Readers.{active_jobs, active_of, current_of, is_active_job, jobs_from, speaker_from}
-use Rattle.np_active.specs.Active.{ActiveOf, AreActive, job_group, role_group, speaks_in}
+use Rattle.np_look.specs.Readers.{active_jobs, active_of, current_of, first_mute, is_active_job, jobs_from, mute_from, speaker_from}
+use Rattle.np_active.specs.Active.{ActiveOf, AreActive, SessionKind, is_kind_in, is_of_kind, job_group, live_group, live_ones, mute_group, mute_ones, role_group, session_group, speakers}
 use Rattle.np_active.proofs.Rows.{has-at, ids_from, last-at, last_of, none-before, numbers-rise}
 
 -- ## jobs
@@ -36,71 +37,106 @@ module _ (c : Configuration) (s : State) (active : ActiveOf) (are : AreActive c 
   jobs-grouped : (q : RequesterId) → ids_in (job_group q) active.jobs ≡ active_jobs c q s
   jobs-grouped q =
       same-list is_job_before same_job job_one_way job_equal (same-itself is_job_before same_job job_one_way job_some_way)
-      (ids_in (job_group q) active.jobs) (job_ids (is_active_job c q) 0 s.jobs)
+      (ids_in (job_group q) active.jobs) (job_ids (is_active_job c s q) 0 s.jobs)
       (ids-rise (job_group q) is_job_before active.jobs are.jobs.rises)
-      (numbers-rise (λ (j : JobId). j.0) (λ n. record { 0 = n }) (λ n. refl) (λ j. refl) (is_active_job c q) 0 s.jobs)
+      (numbers-rise (λ (j : JobId). j.0) (λ n. record { 0 = n }) (λ n. refl) (λ j. refl) (is_active_job c s q) 0 s.jobs)
       (λ i. ids-has same_job (job_group q) i active.jobs ∙ are.jobs.each q i
-      ∙ sym (has-at (λ (j : JobId). j.0) (λ n. record { 0 = n }) (λ n. refl) (λ j. refl) (is_active_job c q) i i.0 0 s.jobs (omega arith)))
-      ∙ sym (jobs-are (is_active_job c q) 0 s.jobs)
+      ∙ sym (has-at (λ (j : JobId). j.0) (λ n. record { 0 = n }) (λ n. refl) (λ j. refl) (is_active_job c s q) i i.0 0 s.jobs (omega arith)))
+      ∙ sym (jobs-are (is_active_job c s q) 0 s.jobs)
 
-  pub job-at : (q : RequesterId) (at : ℕ) → slice_get (ids_in (job_group q) active.jobs) at ≡ active_of c q at s
-  job-at q at = ap (λ (ids : List JobId). slice_get ids at) (jobs-grouped q)
+  pub active-job_at : (q : RequesterId) (at : ℕ) → slice_get (ids_in (job_group q) active.jobs) at ≡ active_of c q at s
+  active-job_at q at = ap (λ (ids : List JobId). slice_get ids at) (jobs-grouped q)
 
 -- ## sessions
 
-abbrev session_ids : Role → ℕ → List SessionFacts → List SessionId
-session_ids role n rows = ids_from (λ (x : SessionId). x.0) (λ n. record { 0 = n }) (λ n. refl) (λ x. refl) (λ x facts. speaks_for role facts) n rows
+abbrev session_ids : (SessionFacts → Bool) → ℕ → List SessionFacts → List SessionId
+session_ids passes n rows = ids_from (λ (x : SessionId). x.0) (λ n. record { 0 = n }) (λ n. refl) (λ x. refl) (λ x facts. passes facts) n rows
+
+session-has : (kind : SessionKind) (x : SessionId) (s : State) → list_any (λ i. same_session i x) (session_ids (is_of_kind kind) 1 s.sessions) ≡ is_kind_in s kind x
+session-has kind x s = by (x.0 == 0) refl where
+  by : (z : Bool) → (x.0 == 0) ≡ z → list_any (λ i. same_session i x) (session_ids (is_of_kind kind) 1 s.sessions) ≡ option_map_or (is_of_kind kind) (cond z None (slice_get s.sessions (x.0 - 1))) false
+  by true is =
+      let less : x.0 < 1 = grind (arith, nat_tests) in
+      none-before (λ (x : SessionId). x.0) (λ n. record { 0 = n }) (λ n. refl) (λ x. refl) (λ x facts. is_of_kind kind facts) x 1 s.sessions less
+  by false is =
+      let at : x.0 ≡ (x.0 - 1) + 1 = grind (arith, nat_tests) in
+      has-at (λ (x : SessionId). x.0) (λ n. record { 0 = n }) (λ n. refl) (λ x. refl) (λ x facts. is_of_kind kind facts) x (x.0 - 1) 1 s.sessions at
+
+-- ## the last that speaks
 
 or_none : {X : Type 0} (o : Option X) → option_or o None ≡ o
 or_none None = refl
 or_none (Some x) = refl
 
--- the last that speaks is the last of all that speak
-speaker-last : (role : Role) (n : ℕ) (rows : List SessionFacts) → speaker_from role n rows ≡ last_of (session_ids role n rows)
+-- it is the last of all that speak
+speaker-last : (role : Role) (n : ℕ) (rows : List SessionFacts) → speaker_from role n rows ≡ last_of (session_ids (speaks_for role) n rows)
 speaker-last role n [] = refl
 speaker-last role n (facts ∷ rows) = by (speaks_for role facts) (speaker-last role (suc n) rows) where
-  by : (b : Bool) → speaker_from role (suc n) rows ≡ last_of (session_ids role (suc n) rows)
-      → option_or (speaker_from role (suc n) rows) (cond b (Some (record { 0 = n })) None) ≡ last_of (cond b (record { 0 = n } ∷ session_ids role (suc n) rows) (session_ids role (suc n) rows))
+  by : (b : Bool) → speaker_from role (suc n) rows ≡ last_of (session_ids (speaks_for role) (suc n) rows)
+      → option_or (speaker_from role (suc n) rows) (cond b (Some (record { 0 = n })) None) ≡ last_of (cond b (record { 0 = n } ∷ session_ids (speaks_for role) (suc n) rows) (session_ids (speaks_for role) (suc n) rows))
   by true later = ap (λ (o : Option SessionId). option_or o (Some (record { 0 = n }))) later
   by false later = or_none (speaker_from role (suc n) rows) ∙ later
 
-session-has : (role : Role) (x : SessionId) (s : State) → list_any (λ i. same_session i x) (session_ids role 1 s.sessions) ≡ speaks_in s role x
-session-has role x s = by (x.0 == 0) refl where
-  by : (z : Bool) → (x.0 == 0) ≡ z → list_any (λ i. same_session i x) (session_ids role 1 s.sessions) ≡ option_map_or (λ facts. speaks_for role facts) (cond z None (slice_get s.sessions (x.0 - 1))) false
-  by true is =
-      let less : x.0 < 1 = grind (arith, nat_tests) in
-      none-before (λ (x : SessionId). x.0) (λ n. record { 0 = n }) (λ n. refl) (λ x. refl) (λ x facts. speaks_for role facts) x 1 s.sessions less
-  by false is =
-      let at : x.0 ≡ (x.0 - 1) + 1 = grind (arith, nat_tests) in
-      has-at (λ (x : SessionId). x.0) (λ n. record { 0 = n }) (λ n. refl) (λ x. refl) (λ x facts. speaks_for role facts) x (x.0 - 1) 1 s.sessions at
+-- ## the first that is mute, and whether one is live
 
-module _ (c : Configuration) (s : State) (active : ActiveOf) (are : AreActive c s active) (role : Role) where
-  sessions-grouped : ids_in (role_group role) active.sessions ≡ session_ids role 1 s.sessions
+abbrev first_id : (SessionFacts → Bool) → ℕ → List SessionFacts → Option SessionId
+first_id passes n rows = slice_get (session_ids passes n rows) 0
+
+mute-first : (n : ℕ) (rows : List SessionFacts) → first_id (is_of_kind mute_ones) n rows ≡ mute_from n rows
+mute-first n [] = refl
+mute-first n (facts ∷ rows) = by (facts.live && facts.mute) (mute-first (suc n) rows) where
+  by : (b : Bool) → first_id (is_of_kind mute_ones) (suc n) rows ≡ mute_from (suc n) rows
+      → slice_get (cond b (record { 0 = n } ∷ session_ids (is_of_kind mute_ones) (suc n) rows) (session_ids (is_of_kind mute_ones) (suc n) rows)) 0 ≡ cond b (Some (record { 0 = n })) (mute_from (suc n) rows)
+  by true later = refl
+  by false later = later
+
+-- there is a first if any passes
+any-first : (passes : SessionFacts → Bool) (n : ℕ) (rows : List SessionFacts) → is_some (first_id passes n rows) ≡ list_any passes rows
+any-first passes n [] = refl
+any-first passes n (facts ∷ rows) = by (passes facts) (any-first passes (suc n) rows) where
+  by : (b : Bool) → is_some (first_id passes (suc n) rows) ≡ list_any passes rows
+      → is_some (slice_get (cond b (record { 0 = n } ∷ session_ids passes (suc n) rows) (session_ids passes (suc n) rows)) 0) ≡ (b || list_any passes rows)
+  by true later = refl
+  by false later = later
+
+-- ## as they are read
+
+module _ (c : Configuration) (s : State) (active : ActiveOf) (are : AreActive c s active) (kind : SessionKind) where
+  sessions-grouped : ids_in (session_group kind) active.sessions ≡ session_ids (is_of_kind kind) 1 s.sessions
   sessions-grouped =
       same-list is_session_before same_session session_one_way session_equal (same-itself is_session_before same_session session_one_way session_some_way)
-      (ids_in (role_group role) active.sessions) (session_ids role 1 s.sessions)
-      (ids-rise (role_group role) is_session_before active.sessions are.sessions.rises)
-      (numbers-rise (λ (x : SessionId). x.0) (λ n. record { 0 = n }) (λ n. refl) (λ x. refl) (λ x facts. speaks_for role facts) 1 s.sessions)
-      (λ i. ids-has same_session (role_group role) i active.sessions ∙ are.sessions.each role i ∙ sym (session-has role i s))
+      (ids_in (session_group kind) active.sessions) (session_ids (is_of_kind kind) 1 s.sessions)
+      (ids-rise (session_group kind) is_session_before active.sessions are.sessions.rises)
+      (numbers-rise (λ (x : SessionId). x.0) (λ n. record { 0 = n }) (λ n. refl) (λ x. refl) (λ x facts. is_of_kind kind facts) 1 s.sessions)
+      (λ i. ids-has same_session (session_group kind) i active.sessions ∙ are.sessions.each kind i ∙ sym (session-has kind i s))
 
-  -- the current session is the last member
-  current-is : slice_get (ids_in (role_group role) active.sessions) (length (ids_in (role_group role) active.sessions) - 1) ≡ current_of role s
-  current-is =
-      sym (last-at (ids_in (role_group role) active.sessions))
-      ∙ ap (λ (ids : List SessionId). last_of ids) sessions-grouped
-      ∙ sym (speaker-last role 1 s.sessions)
+  -- by a group and members that are the same
+  ids-are : (g : Group) → g ≡ session_group kind → (ms : List (Member SessionId)) → ms ≡ active.sessions → ids_in g ms ≡ session_ids (is_of_kind kind) 1 s.sessions
+  ids-are g is_group ms is =
+      ap (λ (h : Group). ids_in h ms) is_group ∙ ap (λ (xs : List (Member SessionId)). ids_in (session_group kind) xs) is ∙ sessions-grouped
 
+module _ (c : Configuration) (s : State) (active : ActiveOf) (are : AreActive c s active) (role : Role) where
   module _ (g : Group) (is_group : g ≡ role_group role) (ms : List (Member SessionId)) (is : ms ≡ active.sessions) where
-    members-are : ids_in g ms ≡ ids_in (role_group role) active.sessions
-    members-are = ap (λ (h : Group). ids_in h ms) is_group ∙ ap (λ (xs : List (Member SessionId)). ids_in (role_group role) xs) is
-
-    -- as it is read
+    -- the current session is the last member
     pub current-at : (count : ℕ) → count ≡ length (ids_in g ms) → (result : Option SessionId) → result ≡ slice_get (ids_in g ms) (count - 1) → result ≡ current_of role s
     current-at count counted result read =
         read ∙ ap (λ (n : ℕ). slice_get (ids_in g ms) (n - 1)) counted
-        ∙ ap (λ (ids : List SessionId). slice_get ids (length ids - 1)) members-are ∙ current-is
+        ∙ sym (last-at (ids_in g ms))
+        ∙ ap (λ (ids : List SessionId). last_of ids) (ids-are c s active are (speakers role) g is_group ms is)
+        ∙ sym (speaker-last role 1 s.sessions)
 
     -- there is none if the group has no member
     pub current-none : length (ids_in g ms) ≡ 0 → None ≡ current_of role s
     current-none none =
         current-at 0 (sym none) None (sym (slice_get_past (ids_in g ms) (0 - 1) (omega (arith, none))))
+
+module _ (c : Configuration) (s : State) (active : ActiveOf) (are : AreActive c s active) (g : Group) (ms : List (Member SessionId)) (is : ms ≡ active.sessions) where
+  pub mute-at : g ≡ mute_group → slice_get (ids_in g ms) 0 ≡ first_mute s
+  mute-at is_group =
+      ap (λ (ids : List SessionId). slice_get ids 0) (ids-are c s active are mute_ones g is_group ms is)
+      ∙ mute-first 1 s.sessions
+
+  pub live-at : (q : RequesterId) → g ≡ live_group q → is_some (slice_get (ids_in g ms) 0) ≡ has_live_session q s
+  live-at q is_group =
+      ap (λ (ids : List SessionId). is_some (slice_get ids 0)) (ids-are c s active are (live_ones q) g is_group ms is)
+      ∙ any-first (is_of_kind (live_ones q)) 1 s.sessions

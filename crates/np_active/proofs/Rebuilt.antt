@@ -6,15 +6,13 @@ use Rattle.std.proofs.lemmas.Bool.Decides.{nat_tests}
 use Rattle.std.proofs.lemmas.Option.{slice_get_past}
 use Rattle.np_text.specs.declared.id.JobId.{JobId}
 use Rattle.np_text.specs.declared.id.RequesterId.{RequesterId}
-use Rattle.np_text.specs.declared.id.Role.{Role}
 use Rattle.np_text.specs.declared.id.SessionId.{SessionId}
 use Rattle.np_record.specs.declared.record.JobRecord.{JobRecord}
 use Rattle.np_site.specs.Configuration.{Configuration}
 use Rattle.np_groups.specs.declared.groups.Member.{Member}
-use Rattle.np_machine.specs.Laws.{speaks_for}
 use Rattle.np_machine.specs.State.{State}
 use Rattle.np_look.specs.Readers.{is_active_job}
-use Rattle.np_active.specs.Active.{AreJobGroups, AreSessionGroups, is_active_in, speaks_in}
+use Rattle.np_active.specs.Active.{AreJobGroups, AreSessionGroups, SessionKind, is_active_in, is_kind_in, is_of_kind}
 use Rattle.np_active.specs.Members.{with_job, with_session}
 use Rattle.np_active.proofs.Noted.{AreJobsBy, AreSessionsBy, job-put, jobs-by, session-put, sessions-by}
 
@@ -34,46 +32,46 @@ past-end i n is = grind (arith, nat_tests)
 -- ## jobs
 
 -- the active jobs with a number below this one
-abbrev pub is_active_below : Configuration → State → ℕ → RequesterId → JobId → Bool
-is_active_below c s n q i = nat_lt i.0 n && is_active_in c s q i
+abbrev pub active_below : Configuration → State → ℕ → RequesterId → JobId → Bool
+active_below c s n q i = nat_lt i.0 n && is_active_in c s q i
 
 -- with the next one
-pub jobs-more : (c : Configuration) (s : State) (n : ℕ) (ms between later : List (Member JobId)) → AreJobsBy (is_active_below c s n) ms
-    → between ≡ ms → later ≡ with_job c s (record { 0 = n }) between → AreJobsBy (is_active_below c s (n + 1)) later
+pub jobs-more : (c : Configuration) (s : State) (n : ℕ) (ms between later : List (Member JobId)) → AreJobsBy (active_below c s n) ms
+    → between ≡ ms → later ≡ with_job c s (record { 0 = n }) between → AreJobsBy (active_below c s (n + 1)) later
 jobs-more c s n ms between later are same put =
-    subst (AreJobsBy (is_active_below c s (n + 1))) (sym (put ∙ ap (λ (xs : List (Member JobId)). with_job c s (record { 0 = n }) xs) same))
+    subst (AreJobsBy (active_below c s (n + 1))) (sym (put ∙ ap (λ (xs : List (Member JobId)). with_job c s (record { 0 = n }) xs) same))
     (jobs-by _ _ _ (λ q i. below_more n i.0 (is_active_in c s q i))
-    (job-put c s (is_active_below c s n) (record { 0 = n }) ms are (λ q other. ap (λ (b : Bool). b && is_active_in c s q (record { 0 = n })) (below_it n))))
+    (job-put c s (active_below c s n) (record { 0 = n }) ms are (λ q other. ap (λ (b : Bool). b && is_active_in c s q (record { 0 = n })) (below_it n))))
 
-pub jobs-all : (c : Configuration) (s : State) (n : ℕ) (ms : List (Member JobId)) → length s.jobs ≤ n → AreJobsBy (is_active_below c s n) ms → AreJobGroups c s ms
+pub jobs-all : (c : Configuration) (s : State) (n : ℕ) (ms : List (Member JobId)) → length s.jobs ≤ n → AreJobsBy (active_below c s n) ms → AreJobGroups c s ms
 jobs-all c s n ms all are = jobs-by _ _ _ (λ q i. by q i (nat_lt i.0 n) refl) are where
   by : (q : RequesterId) (i : JobId) (b : Bool) → nat_lt i.0 n ≡ b → (b && is_active_in c s q i) ≡ is_active_in c s q i
   by q i true is = refl
   by q i false out =
       let past : length s.jobs ≤ i.0 = omega (arith, all, past-end i.0 n out) in
-      sym (ap (λ (o : Option JobRecord). option_map_or (λ kept. is_active_job c q i kept) o false) (slice_get_past s.jobs i.0 past))
+      sym (ap (λ (o : Option JobRecord). option_map_or (λ kept. is_active_job c s q i kept) o false) (slice_get_past s.jobs i.0 past))
 
 -- ## sessions
 
--- the sessions that speak, with a number below this one
-abbrev pub speaks_below : State → ℕ → Role → SessionId → Bool
-speaks_below s n q i = nat_lt i.0 n && speaks_in s q i
+-- the sessions of a kind with a number below this one
+abbrev pub is_kind_below : State → ℕ → SessionKind → SessionId → Bool
+is_kind_below s n q i = nat_lt i.0 n && is_kind_in s q i
 
-pub sessions-more : (s : State) (n : ℕ) (ms between later : List (Member SessionId)) → AreSessionsBy (speaks_below s n) ms
-    → between ≡ ms → later ≡ with_session s (record { 0 = n }) between → AreSessionsBy (speaks_below s (n + 1)) later
+pub sessions-more : (s : State) (n : ℕ) (ms between later : List (Member SessionId)) → AreSessionsBy (is_kind_below s n) ms
+    → between ≡ ms → later ≡ with_session s (record { 0 = n }) between → AreSessionsBy (is_kind_below s (n + 1)) later
 sessions-more s n ms between later are same put =
-    subst (AreSessionsBy (speaks_below s (n + 1))) (sym (put ∙ ap (λ (xs : List (Member SessionId)). with_session s (record { 0 = n }) xs) same))
-    (sessions-by _ _ _ (λ q i. below_more n i.0 (speaks_in s q i))
-    (session-put s (speaks_below s n) (record { 0 = n }) ms are (λ q other. ap (λ (b : Bool). b && speaks_in s q (record { 0 = n })) (below_it n))))
+    subst (AreSessionsBy (is_kind_below s (n + 1))) (sym (put ∙ ap (λ (xs : List (Member SessionId)). with_session s (record { 0 = n }) xs) same))
+    (sessions-by _ _ _ (λ q i. below_more n i.0 (is_kind_in s q i))
+    (session-put s (is_kind_below s n) (record { 0 = n }) ms are (λ q other. ap (λ (b : Bool). b && is_kind_in s q (record { 0 = n })) (below_it n))))
 
-pub sessions-all : (s : State) (n : ℕ) (ms : List (Member SessionId)) → length s.sessions < n → AreSessionsBy (speaks_below s n) ms → AreSessionGroups s ms
+pub sessions-all : (s : State) (n : ℕ) (ms : List (Member SessionId)) → length s.sessions < n → AreSessionsBy (is_kind_below s n) ms → AreSessionGroups s ms
 sessions-all s n ms all are = sessions-by _ _ _ (λ q i. by q i (nat_lt i.0 n) refl) are where
-  by : (q : Role) (i : SessionId) (b : Bool) → nat_lt i.0 n ≡ b → (b && speaks_in s q i) ≡ speaks_in s q i
+  by : (q : SessionKind) (i : SessionId) (b : Bool) → nat_lt i.0 n ≡ b → (b && is_kind_in s q i) ≡ is_kind_in s q i
   by q i true is = refl
   by q i false out =
       let past : length s.sessions ≤ i.0 - 1 = omega (arith, all, past-end i.0 n out) in
       none (i.0 == 0) (slice_get_past s.sessions (i.0 - 1) past)
     where
-      none : (z : Bool) → slice_get s.sessions (i.0 - 1) ≡ None → false ≡ option_map_or (λ facts. speaks_for q facts) (cond z None (slice_get s.sessions (i.0 - 1))) false
+      none : (z : Bool) → slice_get s.sessions (i.0 - 1) ≡ None → false ≡ option_map_or (is_of_kind q) (cond z None (slice_get s.sessions (i.0 - 1))) false
       none true is = refl
       none false is = rw is refl

@@ -1,8 +1,10 @@
 -- what a job or a session makes of the members of groups, and what the changes of an event do (own)
-use Rattle.std.specs.Prelude.{Bool, false, List, Option, if◌then◌else◌, fold, slice_get, length}
-use Rattle.std.specs.Option.{option_map, option_map_or}
+use Rattle.std.specs.Prelude.{Bool, false, List, [], ◌∷◌, if◌then◌else◌, Option, Some, None, fold, slice_get, length}
+use Rattle.std.specs.Option.{option_map_or}
 use Rattle.np_text.specs.declared.id.JobId.{JobId}
 use Rattle.np_text.specs.declared.id.RequesterId.{RequesterId}
+use Rattle.np_text.specs.declared.id.Role.{Role}
+use Rattle.np_text.specs.declared.id.Role.TheVariants.{Requester}
 use Rattle.np_text.specs.declared.id.SemId.{SemId}
 use Rattle.np_text.specs.declared.id.SessionId.{SessionId}
 use Rattle.np_site.specs.Configuration.{Configuration}
@@ -21,7 +23,7 @@ use Rattle.np_changes.specs.declared.changes.JobsChange.{JobsChange}
 use Rattle.np_changes.specs.declared.changes.JobsChange.TheVariants as jobs
 use Rattle.np_changes.specs.declared.changes.SessionsChange.{SessionsChange}
 use Rattle.np_changes.specs.declared.changes.SessionsChange.TheVariants as sessions
-use Rattle.np_active.specs.Active.{handle_group, is_active_in, job_group, role_group, speaks_in}
+use Rattle.np_active.specs.Active.{SessionKind, handle_group, is_active_in, is_kind_in, job_group, live_ones, mute_ones, session_group, speakers}
 
 -- ## one id
 
@@ -29,35 +31,42 @@ use Rattle.np_active.specs.Active.{handle_group, is_active_in, job_group, role_g
 abbrev pub with_member_if : {K : Type 0} → (K → K → Bool) → (K → K → Bool) → Group → K → Bool → List (Member K) → List (Member K)
 with_member_if before same g i is_in ms = if is_in then with_member before same g i ms else without_member same g i ms
 
--- the id in the group of whom it belongs to if it passes, and not in it otherwise; nothing if it belongs to nobody
-abbrev pub with_own : {K Q : Type 0} → (K → K → Bool) → (K → K → Bool) → (Q → Group) → (Q → Bool) → K → Option Q → List (Member K) → List (Member K)
-with_own before same group passes i own ms = option_map_or (λ q. with_member_if before same (group q) i (passes q) ms) own ms
+-- the id in the group of each of these for which it passes, and not in those of the others
+abbrev pub with_each : {K Q : Type 0} → (K → K → Bool) → (K → K → Bool) → (Q → Group) → (Q → Bool) → K → List Q → List (Member K) → List (Member K)
+with_each before same group passes i these ms = fold (λ xs q. with_member_if before same (group q) i (passes q) xs) ms these
 
--- whose job it is
-abbrev pub requester_of : Configuration → JobId → Option RequesterId
-requester_of c j = option_map (λ row. row.requester) (slice_get c.jobs j.0)
+-- whose job it is, if it is one
+abbrev pub requesters_of : Configuration → JobId → List RequesterId
+requesters_of c j = option_map_or (λ row. row.requester ∷ []) (slice_get c.jobs j.0) []
 
 -- the job where the state has it
 abbrev pub with_job : Configuration → State → JobId → List (Member JobId) → List (Member JobId)
-with_job c s j ms = with_own is_job_before same_job job_group (λ q. is_active_in c s q j) j (requester_of c j) ms
+with_job c s j ms = with_each is_job_before same_job job_group (λ q. is_active_in c s q j) j (requesters_of c j) ms
+
+-- of which kinds a session of the role can be
+abbrev pub kinds_of : Role → List SessionKind
+kinds_of (Requester q) = speakers (Requester q) ∷ mute_ones ∷ live_ones q ∷ []
+kinds_of role = speakers role ∷ mute_ones ∷ []
 
 -- the session where the state has it
 abbrev pub with_session : State → SessionId → List (Member SessionId) → List (Member SessionId)
-with_session s session ms = with_own is_session_before same_session role_group (λ role. speaks_in s role session) session (role_of session s) ms
+with_session s session ms =
+    with_each is_session_before same_session session_group (λ kind. is_kind_in s kind session) session (option_map_or kinds_of (role_of session s) []) ms
 
--- the job among those with a handle of the semaphore, or not
-abbrev pub with_handle_if : JobId → SemId → Bool → List (Member JobId) → List (Member JobId)
-with_handle_if j x is_in ms = with_member_if is_job_before same_job (handle_group x) j is_in ms
-
--- the same for each of the semaphores
+-- the job among those with a handle of each of the semaphores, or not
 abbrev pub with_handles : (SemId → Bool) → JobId → List SemId → List (Member JobId) → List (Member JobId)
-with_handles has j semaphores ms = fold (λ xs x. with_handle_if j x (has x) xs) ms semaphores
+with_handles has j semaphores ms = with_each is_job_before same_job handle_group has j semaphores ms
 
 -- all of these jobs with a handle of the semaphore
 abbrev pub with_holders : SemId → List JobId → List (Member JobId) → List (Member JobId)
 with_holders x jobs ms = fold (λ xs j. with_member is_job_before same_job (handle_group x) j xs) ms jobs
 
 -- ## the changes of an event, by the state after them
+
+-- the job that asks for the request that was answered or removed
+abbrev pub with_asker : Configuration → State → Option JobId → List (Member JobId) → List (Member JobId)
+with_asker c s None ms = ms
+with_asker c s (Some j) ms = with_job c s j ms
 
 -- the job whose record was put
 abbrev pub with_changed_job : Configuration → State → JobsChange → List (Member JobId) → List (Member JobId)

@@ -1,22 +1,22 @@
-//! The groups of a state's active jobs, of its handles and of its speaking sessions, kept as events
-//! change it.
+//! The groups of a state's active jobs, of its handles and of its sessions, kept as events change
+//! it.
 
 ghost use Rattle.std.specs.Prelude.{◌≡◌, IfOk, OnOk, length, slice_get};
 ghost use Rattle.np_site.specs.Configuration.{Configuration};
+ghost use Rattle.np_machine.specs.Semaphore.{has_live_session};
 ghost use Rattle.np_machine.specs.State.{State};
 ghost use Rattle.np_machine.specs.Tables.{handles_of, has_handle};
 ghost use Rattle.np_changes.specs.Changes.{changed};
 ghost use Rattle.np_changes.specs.Planned.{IsPlanned, IsReached};
-ghost use Rattle.np_look.specs.Readers.{active_of, current_of};
-ghost use Rattle.np_active.specs.Active.{AreActive, HasRoom};
+ghost use Rattle.np_look.specs.Readers.{active_of, current_of, first_mute};
+ghost use Rattle.np_active.specs.Active.{AreActive, HasRoom, asker_of};
 
 use crate::handles::{all_handles, handle_group, new_handles, put_new_handles, take_handles};
 use crate::members::{
-    all_jobs, all_sessions, job_group, put_changed_job, put_changed_session, put_new_session,
-    role_group,
+    all_jobs, all_sessions, asker_of, job_group, live_group, mute_group, put_asker,
+    put_changed_job, put_changed_session, put_new_session, role_group,
 };
 use np_changes::Changes;
-use np_config::Config;
 use np_groups::Groups;
 use np_keys::{ByJob, BySession};
 use np_look::Look;
@@ -24,8 +24,8 @@ use np_text::{JobId, RequesterId, Role, SemId, SessionId};
 use std::alloc::{AllocError, Global};
 use std::marker::Model;
 
-/// Which jobs of each requester are active, which jobs have a handle of each semaphore, and which
-/// sessions speak for each role.
+/// Which jobs of each requester are active, which jobs have a handle of each semaphore, which
+/// sessions speak for each role, which live ones are mute, and which live ones each requester has.
 #[derive(Drop)]
 pub struct Active {
     jobs: Groups<ByJob>,
@@ -50,7 +50,7 @@ impl Model for Active {
 
 impl Active {
     /// The groups of the state. It reads each job, each handle and each session once, with a binary
-    /// search for each.
+    /// search for each job and handle, and up to three for each session.
     pub fn rebuild<L: Look>(alloc: Global, look: &L) -> Result<Active, AllocError>
         requires { IsReached (L.site look.now) (L.state look.now) }
         ensures { IfOk result (λ x. AreActive (L.site look.now) (L.state look.now) x) }
@@ -112,28 +112,58 @@ impl Active {
         self.sessions.at(group, count - 1)
     }
 
-    /// Takes the memory that `note` needs for the changes. The members stay as they are.
-    pub fn prepare(&mut self, config: &Config, changes: &Changes) -> Result<(), AllocError>
+    /// The first session that is live and mute. One binary search.
+    pub fn first_mute(&self) -> Option<SessionId>
+        ensures { (c : Configuration) (s : State) → AreActive c s self.now
+            → result ≡ first_mute s }
+    {
+        self.sessions.at(mute_group(), 0)
+    }
+
+    /// Whether the requester has a live session, mute or not. One binary search.
+    pub fn has_live_session(&self, requester: RequesterId) -> bool
+        ensures { (c : Configuration) (s : State) → AreActive c s self.now
+            → result ≡ has_live_session requester s }
+    {
+        self.sessions.at(live_group(requester), 0).is_some()
+    }
+
+    /// Takes the memory that `note` needs for the changes, before the state changes, and returns
+    /// the job that asks for the request that they answer or remove, if it has one. The members
+    /// stay as they are. One lookup of a request if they answer or remove it, and one of a job if
+    /// they add handles; any other edit of a request costs no lookup.
+    pub fn prepare<L: Look>(
+        &mut self,
+        look: &L,
+        changes: &Changes,
+    ) -> Result<Option<JobId>, AllocError>
         ensures jobs { self.new.jobs ≡ self.old.jobs }
         ensures handles { self.new.handles ≡ self.old.handles }
         ensures sessions { self.new.sessions ≡ self.old.sessions }
-        ensures room { OnOk result (HasRoom config.now changes.now self.new) }
+        ensures asker { IfOk result (λ asker.
+            asker ≡ asker_of changes.now.requests (L.state look.now)) }
+        ensures room { OnOk result (HasRoom (L.site look.now) changes.now self.new) }
     {
-        self.jobs.reserve(1)?;
-        self.handles.reserve(new_handles(config, &changes.grows))?;
-        self.sessions.reserve(2)?;
-        Ok(())
+        self.jobs.reserve(2)?;
+        self.handles
+            .reserve(new_handles(look.config(), &changes.grows))?;
+        self.sessions.reserve(6)?;
+        Ok(asker_of(look, &changes.requests))
     }
 
-    /// Puts the jobs and the session that the changes name where they are now, after the state has
-    /// changed. It takes no memory, and costs up to two lookups and a binary search for each of
-    /// them, and for each handle that is taken or given back.
-    pub fn note<L: Look>(&mut self, look: &L, changes: &Changes)
+    /// Puts the jobs and the sessions that the changes name, and the job that `prepare` returned,
+    /// where they are now, after the state has changed. It takes no memory, and costs up to four
+    /// lookups and a binary search for the job whose record is put and for the one that `prepare`
+    /// returned, if there is one, a lookup and a binary search for each handle that is taken or
+    /// given back, and a lookup and up to three binary searches for a session.
+    pub fn note<L: Look>(&mut self, look: &L, changes: &Changes, asker: Option<JobId>)
         requires { HasRoom (L.site look.now) changes.now self.old }
         ensures { (c : Configuration) (s : State) → IsReached c s → IsPlanned c s changes.now
+            → asker ≡ asker_of changes.now.requests s
             → L.site look.now ≡ c → L.state look.now ≡ changed c changes.now s
             → AreActive c s self.old → AreActive c (changed c changes.now s) self.new }
     {
+        put_asker(&mut self.jobs, look, asker);
         put_changed_job(&mut self.jobs, look, &changes.jobs);
         put_new_handles(&mut self.handles, look, &changes.grows);
         take_handles(&mut self.handles, look.config(), &changes.handles);

@@ -1,11 +1,25 @@
-//! The active jobs of each requester, the jobs that have a handle of each semaphore, and the
-//! sessions that speak for each role.
+//! The active jobs of each requester, the jobs that have a handle of each semaphore, the sessions
+//! that speak for each role, the live sessions that are mute, and the live sessions of each
+//! requester. A job is active if it uses its nodes, or has asked for them and its request is
+//! fulfilled or failed.
 //!
-//! `specs/Active` says which group a job and a session are in, and when the members of all groups
+//! `specs/Active` says which groups a job and a session are in, and when the members of all groups
 //! are those of a state. `Active` keeps them as each event changes the state: `prepare` takes the
 //! memory, and once the state has changed, `note` puts the jobs and the session that the changes
 //! name where they are now, which can't fail. The requester and the semaphores of a job and the
-//! role of a session never change, so nothing is read of the state before.
+//! role of a session never change, so one thing only is read of the state before: which job asks
+//! for the request that is answered or removed. A request is answered once it is fulfilled or
+//! failed. Any other edit leaves the request's job where it is: it keeps the request's state, or
+//! the request was requested or pending before it and is so after it.
+//!
+//! | reader | members of which group | binary searches |
+//! |---|---|---|
+//! | `job_at` | the requester's active jobs | 1 |
+//! | `handles` | the jobs that have a handle of the semaphore | 2 |
+//! | `handle_at`, `has_handle` | the same | 1 |
+//! | `current_session` | the sessions that speak for the role | 3 |
+//! | `first_mute` | the live sessions that are mute | 1 |
+//! | `has_live_session` | the live sessions of the requester, mute or not | 1 |
 #![tactic(auto)]
 
 mod active;

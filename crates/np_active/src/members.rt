@@ -1,17 +1,15 @@
 //! Jobs and sessions put in their groups and taken out of them. Only making groups anew takes
 //! memory.
 
-ghost use Rattle.std.specs.Prelude.{◌≡◌, ◌+◌, ◌<◌, ◌≤◌, IfOk, slice_get};
-ghost use Rattle.std.specs.Option.{option_map};
+ghost use Rattle.std.specs.Prelude.{◌≡◌, ◌+◌, ◌<◌, ◌≤◌, IfOk};
 ghost use Rattle.np_keys.specs.Keys.{is_job_before, is_session_before, same_job, same_session};
-ghost use Rattle.np_active.specs.Active.{AreJobGroups, AreSessionGroups, is_active_in, job_group, role_group};
-ghost use Rattle.np_active.specs.Members.{requester_of, with_changed_job, with_changed_session, with_job, with_member_if, with_new_session, with_session};
+ghost use Rattle.np_active.specs.Active.{AreJobGroups, AreSessionGroups, answers, asker_of, is_active_in, job_group, live_group, mute_group, role_group};
+ghost use Rattle.np_active.specs.Members.{with_asker, with_changed_job, with_changed_session, with_job, with_member_if, with_new_session, with_session};
 
-use np_changes::{Growth, JobsChange, SessionsChange};
-use np_config::Config;
+use np_changes::{Growth, JobsChange, RequestEdit, RequestsChange, SessionsChange};
 use np_groups::{Group, Groups};
 use np_keys::{ByJob, BySession};
-use np_look::{Look, is_active_job, speaks_for};
+use np_look::{Look, is_active_job, is_live_of, is_mute, speaks_for};
 use np_table::Order;
 use np_text::{JobId, RequesterId, Role, SessionId};
 use std::alloc::{AllocError, Global};
@@ -46,6 +44,28 @@ pub(crate) fn role_group(role: Role) -> Group
     }
 }
 
+/// The live sessions that are mute.
+pub(crate) fn mute_group() -> Group
+    ensures { result ≡ mute_group }
+{
+    Group {
+        class: 4,
+        first: 0,
+        second: 0,
+    }
+}
+
+/// The live sessions of the requester, mute or not.
+pub(crate) fn live_group(requester: RequesterId) -> Group
+    ensures { result ≡ live_group requester }
+{
+    Group {
+        class: 5,
+        first: requester.0,
+        second: 0,
+    }
+}
+
 /// Puts the id into the group if it is to be there, and takes it out if not. One binary search.
 pub(crate) fn put_if<O: Order>(groups: &mut Groups<O>, group: Group, id: O::Key, is_in: bool)
     requires { 0 < groups.old.room }
@@ -62,32 +82,29 @@ pub(crate) fn put_if<O: Order>(groups: &mut Groups<O>, group: Group, id: O::Key,
 
 // ## jobs
 
-/// Whose job it is.
-fn requester_of(config: &Config, job: JobId) -> Option<RequesterId>
-    ensures { result ≡ requester_of config.now job }
-{
-    Some(config.job(job)?.requester)
-}
-
-/// Whether the job is there, and an active one of the requester.
+/// Whether the job is there, and an active one of the requester. Up to three lookups.
 fn is_active<L: Look>(look: &L, requester: RequesterId, job: JobId) -> bool
     ensures { result ≡ is_active_in (L.site look.now) (L.state look.now) requester job }
 {
     match look.job(job) {
         None => false,
-        Some(kept) => is_active_job(look.config(), requester, job, &kept),
+        Some(kept) => {
+            let state = look.request_state(kept.request);
+            is_active_job(look.config(), requester, job, &kept, state)
+        }
     }
 }
 
-/// Puts the job where the state has it. Two lookups and a binary search.
+/// Puts the job where the state has it. Up to four lookups and a binary search.
 fn put_job<L: Look>(groups: &mut Groups<ByJob>, look: &L, job: JobId)
     requires { 0 < groups.old.room }
-    ensures { groups.new.members
+    ensures members { groups.new.members
         ≡ with_job (L.site look.now) (L.state look.now) job groups.old.members }
+    ensures room { groups.old.room ≤ groups.new.room + 1 }
 {
-    if let Some(requester) = requester_of(look.config(), job) {
-        let is_in = is_active(look, requester, job);
-        put_if(groups, job_group(requester), job, is_in);
+    if let Some(row) = look.config().job(job) {
+        let is_in = is_active(look, row.requester, job);
+        put_if(groups, job_group(row.requester), job, is_in);
     }
 }
 
@@ -104,6 +121,44 @@ pub(crate) fn all_jobs<L: Look>(alloc: Global, look: &L) -> Result<Groups<ByJob>
     Ok(groups)
 }
 
+/// Whether the edit answers the request: it is fulfilled or failed from then on.
+fn answers(edit: &RequestEdit) -> bool
+    ensures { result ≡ answers edit.now }
+{
+    match edit {
+        RequestEdit::Fulfil | RequestEdit::Fail => true,
+        RequestEdit::Decline { failed, .. } => *failed,
+        RequestEdit::Serve { .. }
+        | RequestEdit::AddNode { .. }
+        | RequestEdit::GiveBack
+        | RequestEdit::Revise { .. } => false,
+    }
+}
+
+/// The job that asks for the request that is answered or removed, before it is. One lookup if a
+/// request is, and none otherwise.
+pub(crate) fn asker_of<L: Look>(look: &L, change: &RequestsChange) -> Option<JobId>
+    ensures { result ≡ asker_of change.now (L.state look.now) }
+{
+    match change {
+        RequestsChange::Edit { request, edit } if answers(edit) => look.asked(*request)?.job,
+        RequestsChange::Remove { request } => look.asked(*request)?.job,
+        RequestsChange::Same | RequestsChange::Edit { .. } | RequestsChange::Leave { .. } => None,
+    }
+}
+
+/// Puts the job that asks for the request that was answered or removed.
+pub(crate) fn put_asker<L: Look>(groups: &mut Groups<ByJob>, look: &L, asker: Option<JobId>)
+    requires { 0 < groups.old.room }
+    ensures members { groups.new.members
+        ≡ with_asker (L.site look.now) (L.state look.now) asker groups.old.members }
+    ensures room { groups.old.room ≤ groups.new.room + 1 }
+{
+    if let Some(job) = asker {
+        put_job(groups, look, job);
+    }
+}
+
 /// Puts the job whose record was put. A mark at one of its nodes leaves it where it is.
 pub(crate) fn put_changed_job<L: Look>(groups: &mut Groups<ByJob>, look: &L, change: &JobsChange)
     requires { 0 < groups.old.room }
@@ -117,16 +172,21 @@ pub(crate) fn put_changed_job<L: Look>(groups: &mut Groups<ByJob>, look: &L, cha
 
 // ## sessions
 
-/// Puts the session where the state has it. One lookup and a binary search.
+/// Puts the session where the state has it. One lookup and up to three binary searches.
 fn put_session<L: Look>(groups: &mut Groups<BySession>, look: &L, session: SessionId)
-    requires { 0 < groups.old.room }
+    requires { 3 ≤ groups.old.room }
     ensures members { groups.new.members
         ≡ with_session (L.state look.now) session groups.old.members }
-    ensures room { groups.old.room ≤ groups.new.room + 1 }
+    ensures room { groups.old.room ≤ groups.new.room + 3 }
 {
     if let Some(facts) = look.session(session) {
-        let is_in = speaks_for(facts.role, &facts);
-        put_if(groups, role_group(facts.role), session, is_in);
+        let speaks = speaks_for(facts.role, &facts);
+        put_if(groups, role_group(facts.role), session, speaks);
+        put_if(groups, mute_group(), session, is_mute(&facts));
+        if let Role::Requester(requester) = facts.role {
+            let is_in = is_live_of(requester, &facts);
+            put_if(groups, live_group(requester), session, is_in);
+        }
     }
 }
 
@@ -139,7 +199,7 @@ pub(crate) fn all_sessions<L: Look>(
 {
     let mut groups = Groups::new(alloc);
     for at in 0..look.sessions() {
-        groups.reserve(1)?;
+        groups.reserve(3)?;
         put_session(&mut groups, look, SessionId(at + 1));
     }
     Ok(groups)
@@ -147,10 +207,10 @@ pub(crate) fn all_sessions<L: Look>(
 
 /// Puts the session that began, which is the last.
 pub(crate) fn put_new_session<L: Look>(groups: &mut Groups<BySession>, look: &L, growth: &Growth)
-    requires { 0 < groups.old.room }
+    requires { 3 ≤ groups.old.room }
     ensures members { groups.new.members
         ≡ with_new_session (L.state look.now) growth.now groups.old.members }
-    ensures room { groups.old.room ≤ groups.new.room + 1 }
+    ensures room { groups.old.room ≤ groups.new.room + 3 }
 {
     if let Growth::Session { .. } = growth {
         put_session(groups, look, SessionId(look.sessions()));
@@ -163,7 +223,7 @@ pub(crate) fn put_changed_session<L: Look>(
     look: &L,
     change: &SessionsChange,
 )
-    requires { 0 < groups.old.room }
+    requires { 3 ≤ groups.old.room }
     ensures { groups.new.members
         ≡ with_changed_session (L.state look.now) change.now groups.old.members }
 {

@@ -4,7 +4,7 @@ use Rattle.np_active.proofs.members.all_jobs.Goals as goal
 
 pub loop-number-preserved : goal.loop-number-preserved
 loop-number-preserved g c =
-    jobs-more (g.L.Look.site c.args.look.now) (g.L.Look.state c.args.look.now) c.loop-number.number c.loop-number.groups.members _ _ c.loop-number.invariant c.in_ok-reserve.ensures.same c.put_job.ensures
+    jobs-more (g.L.Look.site c.args.look.now) (g.L.Look.state c.args.look.now) c.loop-number.number c.loop-number.groups.members _ _ c.loop-number.invariant c.in_ok-reserve.ensures.same c.put_job.ensures.members
 
 pub returns : goal.returns
 returns g c =

@@ -1,18 +1,19 @@
 use Rattle.std.proofs.Common.{◌∙◌, List, ap}
 use Rattle.np_groups.specs.declared.groups.Member.{Member}
 use Rattle.np_site.specs.Configuration.{Configuration}
-use Rattle.np_active.specs.Members.{with_changed_job, with_new_handles, with_new_session, without_handles}
+use Rattle.np_active.specs.Members.{with_asker, with_new_handles, with_new_session, without_handles}
 use Rattle.np_active.proofs.Noted.{active-noted}
 use Rattle.np_active.proofs.active.Active.note.Goals as goal
 
 pub returns : goal.returns
-returns g c site s reached planned same_site after was =
-    active-noted site (g.L.Look.site c.args.look.now) s (g.L.Look.state c.args.look.now) c.args.changes.now c.args.self.now _ c.put_new_handles.new.groups.members c.put_new_session.new.groups.members
-    (c.put_changed_job.ensures
-    ∙ ap (λ (ms : List (Member _)). with_changed_job (g.L.Look.site c.args.look.now) (g.L.Look.state c.args.look.now) c.args.changes.now.jobs ms) (ap (λ (x : _). x.jobs) c.self.view_is))
+returns g c site s reached planned asker_is same_site after was =
+    active-noted site (g.L.Look.site c.args.look.now) s (g.L.Look.state c.args.look.now) c.args.changes.now c.args.asker c.args.self.now _ c.put_asker.new.groups.members c.put_new_handles.new.groups.members c.put_new_session.new.groups.members
+    (c.put_asker.ensures.members
+    ∙ ap (λ (ms : List (Member _)). with_asker (g.L.Look.site c.args.look.now) (g.L.Look.state c.args.look.now) c.args.asker ms) (ap (λ (x : _). x.jobs) c.self.view_is))
+    c.put_changed_job.ensures
     (c.put_new_handles.ensures
     ∙ ap (λ (ms : List (Member _)). with_new_handles (g.L.Look.site c.args.look.now) (g.L.Look.state c.args.look.now) c.args.changes.now.grows ms) (ap (λ (x : _). x.handles) c.self.view_is))
     (c.take_handles.ensures ∙ ap (λ (config : Configuration). without_handles config c.args.changes.now.handles c.put_new_handles.new.groups.members) c.config.ensures)
     (c.put_new_session.ensures.members
     ∙ ap (λ (ms : List (Member _)). with_new_session (g.L.Look.state c.args.look.now) c.args.changes.now.grows ms) (ap (λ (x : _). x.sessions) c.self.view_is))
-    c.put_changed_session.ensures reached planned same_site after was
+    c.put_changed_session.ensures reached planned asker_is same_site after was

@@ -1,69 +1,28 @@
--- what the changes of an event leave of the jobs and the sessions that they do not name
+-- what the changes of an event leave of the sessions that they do not name
 use Rattle.std.proofs.Common.{◌≡◌, ◌≢◌, ◌∙◌, ℕ, zero, suc, ◌+◌, ◌-◌, Bool, true, false, cond, List, [], ◌∷◌, ◌++◌, length, length-append, Option, None, Some, refl, sym, ap, arith}
-use Rattle.std.specs.Prelude.{◌==◌, slice_get, slice_set}
-use Rattle.std.specs.Option.{option_map, option_map_or}
+use Rattle.std.specs.Prelude.{◌==◌, slice_get}
+use Rattle.std.specs.Option.{option_map}
 use Rattle.std.proofs.lemmas.Bool.Decides.{nat_tests}
-use Rattle.np_text.specs.declared.id.JobId.{JobId}
-use Rattle.np_text.specs.declared.id.RequesterId.{RequesterId}
 use Rattle.np_text.specs.declared.id.Role.{Role}
 use Rattle.np_text.specs.declared.id.SessionId.{SessionId}
-use Rattle.np_record.specs.declared.record.JobRecord.{JobRecord}
 use Rattle.np_site.specs.Configuration.{Configuration}
 use Rattle.np_lists.proofs.ChangeLemmas.{kept-change_at, length-change_at, slice_get-change_at_other}
-use Rattle.np_keys.specs.Keys.{same_job, same_session}
-use Rattle.np_machine.specs.Node.{with_mark}
+use Rattle.np_keys.specs.Keys.{same_session}
 use Rattle.np_machine.specs.Request.{registers}
 use Rattle.np_machine.specs.Session.{ended, muted}
 use Rattle.np_machine.specs.State.{State}
 use Rattle.np_machine.specs.Tables.{role_of, session_of}
 use Rattle.np_machine.specs.declared.state.SessionFacts.{SessionFacts}
-use Rattle.np_changes.specs.Changes.{changed, grown, jobs_changed, sessions_changed}
+use Rattle.np_changes.specs.Changes.{changed, grown, sessions_changed}
 use Rattle.np_changes.specs.declared.changes.Changes.{Changes}
 use Rattle.np_changes.specs.declared.changes.Growth.{Growth}
 use Rattle.np_changes.specs.declared.changes.Growth.TheVariants as grow
-use Rattle.np_changes.specs.declared.changes.JobsChange.{JobsChange}
-use Rattle.np_changes.specs.declared.changes.JobsChange.TheVariants as jobs
 use Rattle.np_changes.specs.declared.changes.Maker.{Maker}
 use Rattle.np_changes.specs.declared.changes.SessionsChange.{SessionsChange}
 use Rattle.np_changes.specs.declared.changes.SessionsChange.TheVariants as sessions
 use Rattle.np_safe.proofs.After.{made-look}
-use Rattle.np_safe.proofs.JobsLater.{jobs-grown}
 use Rattle.np_safe.proofs.Sessions.{facts-grown, facts_in}
-use Rattle.np_look.specs.Readers.{is_active_job}
-use Rattle.np_active.specs.Active.{is_active_in}
 use Rattle.np_active.proofs.Begun.{IsBegun}
-
--- ## jobs
-
--- a put at another place
-set-other : {X : Type 0} (xs : List X) (i j : ℕ) (x : X) → i ≢ j → slice_get (slice_set xs i x) j ≡ slice_get xs j
-set-other [] i j x other = refl
-set-other (z ∷ xs) zero zero x other = absurd (other refl)
-set-other (z ∷ xs) zero (suc j) x other = refl
-set-other (z ∷ xs) (suc i) zero x other = refl
-set-other (z ∷ xs) (suc i) (suc j) x other = set-other xs i j x (λ same. other (ap suc same))
-
--- the record of the job is put
-abbrev pub puts_job : JobsChange → JobId → Bool
-puts_job jobs.Same i = false
-puts_job (jobs.Put j kept) i = same_job j i
-puts_job (jobs.EndNode j n) i = false
-
--- whether a row makes its job an active one
-abbrev is_active_row : Configuration → RequesterId → JobId → Option JobRecord → Bool
-is_active_row c q i row = option_map_or (λ kept. is_active_job c q i kept) row false
-
--- a job whose record is not put is as active as before: a mark leaves its phase
-rows-untouched : (c : Configuration) (change : JobsChange) (q : RequesterId) (i : JobId) (rows : List JobRecord) → puts_job change i ≡ false
-    → is_active_row c q i (slice_get (jobs_changed change rows) i.0) ≡ is_active_row c q i (slice_get rows i.0)
-rows-untouched c jobs.Same q i rows out = refl
-rows-untouched c (jobs.Put j kept) q i rows out = ap (is_active_row c q i) (set-other rows j.0 i.0 kept (λ same. absurd (grind (arith, nat_tests))))
-rows-untouched c (jobs.EndNode j n) q i rows out = kept-change_at (is_active_row c q i) j.0 i.0 (with_mark n) rows (λ kept. refl)
-
-pub job-untouched : (c : Configuration) (ch : Changes) (s : State) (q : RequesterId) (i : JobId) → puts_job ch.jobs i ≡ false → is_active_in c (changed c ch s) q i ≡ is_active_in c s q i
-job-untouched c ch s q i out =
-    rows-untouched c ch.jobs q i (grown c ch.maker ch.grows s).jobs out
-    ∙ ap (λ (rows : List JobRecord). is_active_row c q i (slice_get rows i.0)) (jobs-grown c ch.maker ch.grows s)
 
 -- ## sessions
 
