@@ -1,7 +1,7 @@
 -- a pool's candidates in order are the requests of the ranks that its launcher may take up, and the
 -- first of them is the least
-use Rattle.std.proofs.Common.{◌≡◌, ◌∙◌, ℕ, Bool, true, false, cond, List, [], ◌∷◌, Option, Some, None, refl, sym, ap, arith}
-use Rattle.std.specs.Prelude.{◌==◌, ◌&&◌, ◌||◌, IfSome, filter, fold, map, slice_get}
+use Rattle.std.proofs.Common.{◌≡◌, ◌∙◌, ◌+◌, ◌-◌, ℕ, suc, Bool, true, false, cond, List, [], ◌∷◌, drop, Option, Some, None, refl, sym, ap, arith}
+use Rattle.std.specs.Prelude.{◌==◌, ◌&&◌, ◌||◌, IfSome, filter, fold, is_none, map, slice_get}
 use Rattle.std.specs.List.{AllByRecursion, list_any}
 use Rattle.std.specs.Option.{option_map, option_map_or}
 use Rattle.std.proofs.lemmas.Bool.Decides.{nat_tests}
@@ -15,20 +15,23 @@ use Rattle.np_lists.proofs.FilterLemmas.{list_any-insert_before}
 use Rattle.np_lists.proofs.RisingLemmas.{Rises-filter}
 use Rattle.np_groups.proofs.Ids.{same-list}
 use Rattle.np_machine.specs.Entries.{RequestEntry}
-use Rattle.np_machine.specs.First.{is_candidate, earlier, least, first_of}
+use Rattle.np_machine.specs.First.{blocking, is_candidate, is_open_to, earlier, least, first_of}
 use Rattle.np_machine.specs.Kinds.{is_requested}
 use Rattle.np_machine.specs.Order.{comes_before, is_id_before}
 use Rattle.np_machine.specs.State.{State}
 use Rattle.np_machine.specs.Tables.{same_request, request_entry}
 use Rattle.np_safe.proofs.Lookups.{same_request-is}
 use Rattle.np_safe.proofs.Rising.{rises-insert_before}
-use Rattle.np_lookups.specs.declared.ranks.Rank.{Rank}
-use Rattle.np_lookups.specs.Lookups.{AreRanks}
-use Rattle.np_lookups.specs.Ranks.{is_rank_before, same_rank, rank_transitive, rank_one_way, rank_equal, is_incomplete, has_rank, rank_of, may_take_up}
-use Rattle.np_lookups.proofs.RankLists.{has}
+use Rattle.np_open.specs.declared.ranks.Rank.{Rank}
+use Rattle.np_open.specs.Moves.{rank_of}
+use Rattle.np_open.specs.Open.{AreOpen, IsOpenFrom, OpenOf, is_closed_rank, is_requested_at, ranks_of}
+use Rattle.np_open.proofs.OpenLemmas.{closed-shut, filter-open_from, ranks-are}
+use Rattle.np_open.proofs.RunLemmas.{has-passes}
+use Rattle.np_open.specs.Ranks.{is_rank_before, same_rank, rank_transitive, rank_one_way, rank_equal}
 use Rattle.np_counts.proofs.Grouped.{request-apart}
 use Rattle.np_counts.proofs.Rows.{ids-in_order, row-passes}
-use Rattle.np_index.specs.Candidates.{in_order, candidate_of}
+use Rattle.np_look.proofs.Placed.{there}
+use Rattle.np_index.specs.Candidates.{in_order, candidate_of, may_take_up}
 
 -- ## entries in order
 
@@ -116,6 +119,10 @@ least-first (e ∷ es) rises = in_order-first e es ∙ sym (least-from e es rise
 
 -- ## their ranks
 
+-- the rank is among these
+abbrev has : Rank → List Rank → Bool
+has x ranks = list_any (λ other. same_rank other x) ranks
+
 apart : (a b : Rank) → is_rank_before a b ≡ true → same_rank b a ≡ false
 apart a b first = grind (arith, nat_tests)
 
@@ -168,51 +175,38 @@ module _ (test : RequestEntry → Bool) where
 
 -- ## those that a launcher may take up
 
-module _ (takes : Rank → Bool) (x : Rank) where
-  -- the rank is among those that pass if it is there and passes
-  has-passes : (ranks : List Rank) → has x (filter takes ranks) ≡ (takes x && has x ranks)
-  has-passes [] = by (takes x) where
-    by : (b : Bool) → false ≡ (b && false)
-    by true = refl
-    by false = refl
-  has-passes (k ∷ ks) = by (same_rank k x) (takes k) (takes x) refl refl refl (has-passes ks) where
-    by : (a b d : Bool) → same_rank k x ≡ a → takes k ≡ b → takes x ≡ d → has x (filter takes ks) ≡ (d && has x ks)
-        → has x (cond b (k ∷ filter takes ks) (filter takes ks)) ≡ (d && (a || has x ks))
-    by true true true is passes that later = rw is refl
-    by true false false is passes that later = later
-    by true true false is passes that later = absurd (let e : true ≡ false = sym passes ∙ ap takes (rank_equal k x is) ∙ that in cc)
-    by true false true is passes that later = absurd (let e : false ≡ true = sym passes ∙ ap takes (rank_equal k x is) ∙ that in cc)
-    by false true d is passes that later = rw is later
-    by false false d is passes that later = later
+and_false : (a b : Bool) → a ≡ false → (a && b) ≡ false
+and_false a b is = rw is refl
 
 module _ (c : Configuration) (s : State) (p : PoolId) where
-  module _ (ranks : List Rank) (are : AreRanks s ranks) where
-    abbrev takes : Rank → Bool
-    takes x = may_take_up c s p x.request
+  abbrev takes : Rank → Bool
+  takes x = may_take_up c s p x.request
 
+  module _ (kept : OpenOf) (are : AreOpen c s kept) where
     -- a rank passes and is there if the request with its id is a candidate and has its relative priority
-    alike : (x : Rank) → has x (map rank (in_order (filter (is_candidate c s p) s.requests))) ≡ has x (filter takes ranks)
+    alike : (x : Rank) → has x (map rank (in_order (filter (is_candidate c s p) s.requests))) ≡ has x (filter takes (ranks_of kept.members))
     alike x =
         ranks-have (is_candidate c s p) s.requests are.once x
         ∙ by (request_entry x.request s.requests)
-        ∙ sym (has-passes takes x ranks ∙ ap (λ (b : Bool). takes x && b) (are.each x))
+        ∙ sym (has-passes takes x (ranks_of kept.members) ∙ ap (λ (b : Bool). takes x && b) ((ranks-are c s kept are).each x))
       where
-        one : (e : RequestEntry) (b : Bool) → is_requested e.kept.state ≡ b → (is_candidate c s p e && (e.kept.relative_priority == x.relative)) ≡ (is_candidate c s p e && (is_incomplete e.kept.state && (e.kept.relative_priority == x.relative)))
+        one : (e : RequestEntry) (b : Bool) → is_requested e.kept.state ≡ b → (is_candidate c s p e && (e.kept.relative_priority == x.relative)) ≡ (is_candidate c s p e && (is_requested e.kept.state && (e.kept.relative_priority == x.relative)))
         one e true is = rw is refl
         one e false is = rw is refl
 
-        by : (o : Option RequestEntry) → option_map_or (fits (is_candidate c s p) x) o false ≡ (option_map_or (is_candidate c s p) o false && has_rank x (option_map (λ e. e.kept) o))
+        by : (o : Option RequestEntry) → option_map_or (fits (is_candidate c s p) x) o false ≡ (option_map_or (is_candidate c s p) o false && is_requested_at x (option_map (λ e. e.kept) o))
         by None = refl
         by (Some e) = one e (is_requested e.kept.state) refl
 
-    candidates-are : map rank (in_order (filter (is_candidate c s p) s.requests)) ≡ filter takes ranks
+    candidates-are : map rank (in_order (filter (is_candidate c s p) s.requests)) ≡ filter takes (ranks_of kept.members)
     candidates-are =
         same-list is_rank_before same_rank rank_one_way rank_equal same_rank-self
-        (map rank (in_order (filter (is_candidate c s p) s.requests))) (filter takes ranks)
-        (ranks-rise (is_candidate c s p) s.requests are.once) (Rises-filter is_rank_before takes ranks are.rises) alike
+        (map rank (in_order (filter (is_candidate c s p) s.requests))) (filter takes (ranks_of kept.members))
+        (ranks-rise (is_candidate c s p) s.requests are.once)
+        (Rises-filter is_rank_before takes (ranks_of kept.members) (ranks-are c s kept are).rises) alike
 
     -- the candidate at a place is the request of the rank at that place among those that pass
-    pub candidate-rank : (at : ℕ) → option_map (λ x. x.request) (slice_get (filter (λ x. may_take_up c s p x.request) ranks) at) ≡ candidate_of c s p at
+    pub candidate-rank : (at : ℕ) → option_map (λ x. x.request) (slice_get (filter (λ x. may_take_up c s p x.request) (ranks_of kept.members)) at) ≡ candidate_of c s p at
     candidate-rank at =
         ap (λ (xs : List Rank). option_map (λ (x : Rank). x.request) (slice_get xs at)) (sym candidates-are)
         ∙ ap (option_map (λ (x : Rank). x.request)) (slice_get-map rank (in_order (filter (is_candidate c s p) s.requests)) at)
@@ -221,6 +215,53 @@ module _ (c : Configuration) (s : State) (p : PoolId) where
         by : (o : Option RequestEntry) → option_map (λ x. x.request) (option_map rank o) ≡ option_map (λ e. e.id) o
         by None = refl
         by (Some e) = refl
+
+    -- a rank that is closed to the pool does not pass
+    closed-fails : (x : Rank) → is_closed_rank p x kept.members ≡ true → takes x ≡ false
+    closed-fails x closed = by (request_entry x.request s.requests) (closed-shut c s kept are p x closed) where
+      by : (o : Option RequestEntry) → option_map_or (is_open_to p) o false ≡ false → option_map_or (is_candidate c s p) o false ≡ false
+      by None is = refl
+      by (Some e) is = and_false (is_open_to p e) (is_none (blocking c s p e.kept)) is
+
+    -- so from a place on the same pass as from the next place that is not closed
+    passed-over : (place found : ℕ) → IsOpenFrom kept.members p place found → filter takes (drop place (ranks_of kept.members)) ≡ filter takes (drop found (ranks_of kept.members))
+    passed-over place found ends = filter-open_from takes p kept.members closed-fails place found ends
+
+    -- the walk from place to place: what is left of those that pass
+    module _ (at : ℕ) where
+      abbrev left-of : ℕ → ℕ → Option Rank
+      left-of place left = slice_get (filter takes (drop place (ranks_of kept.members))) left
+
+      abbrev sought : Option Rank
+      sought = slice_get (filter takes (ranks_of kept.members)) at
+
+      pub walk-begins : (found : ℕ) → IsOpenFrom kept.members p 0 found → left-of found at ≡ sought
+      walk-begins found ends = ap (λ (xs : List Rank). slice_get xs at) (sym (passed-over 0 found ends))
+
+      module _ (place left : ℕ) (x : Rank) (is : slice_get (ranks_of kept.members) place ≡ Some x) (so_far : left-of place left ≡ sought) where
+        -- the last one that is to pass is the one sought
+        pub walk-ends : takes x ≡ true → left ≡ 0 → Some x.request ≡ option_map (λ rank. rank.request) sought
+        walk-ends passes last =
+            let here : left-of place left ≡ Some x = rw (there (ranks_of kept.members) place x is, passes, last) refl in
+            ap (option_map (λ (rank : Rank). rank.request)) (sym here ∙ so_far)
+
+        next-place : (found : ℕ) → IsOpenFrom kept.members p (place + 1) found → filter takes (drop (suc place) (ranks_of kept.members)) ≡ filter takes (drop found (ranks_of kept.members))
+        next-place found ends =
+            let next : suc place ≡ place + 1 = omega arith in
+            ap (λ (n : ℕ). filter takes (drop n (ranks_of kept.members))) next ∙ passed-over (place + 1) found ends
+
+        -- one that fails leaves as many
+        pub walk-fails : (found : ℕ) → IsOpenFrom kept.members p (place + 1) found → takes x ≡ false → left-of found left ≡ sought
+        walk-fails found ends fails =
+            let here : filter takes (drop place (ranks_of kept.members)) ≡ filter takes (drop (suc place) (ranks_of kept.members)) = rw (there (ranks_of kept.members) place x is, fails) refl in
+            ap (λ (xs : List Rank). slice_get xs left) (sym (here ∙ next-place found ends)) ∙ so_far
+
+        -- one that passes leaves one fewer
+        pub walk-passes : (found : ℕ) → IsOpenFrom kept.members p (place + 1) found → takes x ≡ true → (left ≡ 0 → ⊥) → left-of found (left - 1) ≡ sought
+        walk-passes found ends passes more =
+            let one : suc (left - 1) ≡ left = omega (arith, more) in
+            let here : slice_get (filter takes (drop place (ranks_of kept.members))) (suc (left - 1)) ≡ slice_get (filter takes (drop (suc place) (ranks_of kept.members))) (left - 1) = rw (there (ranks_of kept.members) place x is, passes) refl in
+            ap (λ (xs : List Rank). slice_get xs (left - 1)) (sym (next-place found ends)) ∙ sym here ∙ ap (left-of place) one ∙ so_far
 
   -- if no two requests have one id, the first candidate in order is the least
   pub candidate-first : Rises (λ a b. is_id_before a.id b.id) s.requests → candidate_of c s p 0 ≡ first_of c s p

@@ -3,16 +3,19 @@ use Rattle.np_site.specs.Configuration.{Configuration}
 use Rattle.np_machine.specs.State.{State}
 use Rattle.np_lookups.specs.Lookups.{AreLookupsOf, LookupsOf}
 use Rattle.np_classes.specs.Classes.{AreClasses, ClassesOf}
+use Rattle.np_open.specs.Open.{AreOpen, OpenOf}
 use Rattle.np_active.specs.Active.{ActiveOf, AreActive}
 
 -- the parts of an index (own)
 pub record IndexParts : Type 0 where
   pub lookups : LookupsOf
   pub classes : ClassesOf
+  pub requested : OpenOf
   pub active : ActiveOf
 
 -- each part says what the state says
 pub record IsIndexOf (c : Configuration) (s : State) (index : IndexParts) : Type 0 where
   pub lookups : AreLookupsOf c s index.lookups
   pub classes : AreClasses c s index.classes
+  pub requested : AreOpen c s index.requested
   pub active : AreActive c s index.active

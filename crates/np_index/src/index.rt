@@ -11,10 +11,11 @@ ghost use Rattle.np_machine.specs.First.{blocking};
 ghost use Rattle.np_changes.specs.Asked.{new_record};
 ghost use Rattle.np_machine.specs.Reasons.{is_paused, is_spare};
 ghost use Rattle.np_machine.specs.Request.{is_spent_min_ready, ready_count};
+ghost use Rattle.np_machine.specs.Semaphore.{has_live_session};
 ghost use Rattle.np_machine.specs.State.{State};
 ghost use Rattle.np_machine.specs.Tables.{handles_of, has_handle};
 ghost use Rattle.np_machine.specs.Tenants.{count_of_tenant};
-ghost use Rattle.np_look.specs.Readers.{active_of, current_of, declined_requests, free_ready_of, pending_requests, queued_nodes, queued_requests, unfinished_of, unheld_nodes};
+ghost use Rattle.np_look.specs.Readers.{active_of, current_of, declined_requests, first_mute, free_ready_of, pending_requests, queued_nodes, queued_requests, unfinished_of, unheld_nodes};
 ghost use Rattle.np_index.specs.Index.{IsIndexOf};
 
 use np_active::Active;
@@ -23,6 +24,7 @@ use np_changes::Asked;
 use np_classes::Classes;
 use np_look::Look;
 use np_lookups::Lookups;
+use np_open::Open;
 use np_text::{
     JobId, LabelId, NoMemory, NodeId, PoolId, RequestId, RequesterId, Role, SemId, SessionId,
     TenantId,
@@ -35,6 +37,7 @@ use std::marker::Model;
 pub struct Index {
     pub(crate) lookups: Lookups,
     pub(crate) classes: Classes,
+    pub(crate) requested: Open,
     pub(crate) active: Active,
 }
 
@@ -46,6 +49,7 @@ impl Model for Index {
     ghost view = { λ index. record {
       lookups = index.lookups;
       classes = index.classes;
+      requested = index.requested;
       active = index.active;
     } };
 }
@@ -62,10 +66,12 @@ impl Index {
     {
         let lookups = Lookups::rebuild(alloc, look)?;
         let classes = Classes::rebuild(alloc, look)?;
+        let requested = Open::rebuild(alloc, look)?;
         let active = Active::rebuild(alloc, look)?;
         Ok(Index {
             lookups,
             classes,
+            requested,
             active,
         })
     }
@@ -79,8 +85,8 @@ impl Index {
         self.lookups.unfinished(requester, at)
     }
 
-    /// The job at a place among those of the requester that have asked for their nodes or use them,
-    /// in order of their numbers. It costs one lookup.
+    /// The job at a place among those of the requester that use their nodes, or have asked for them
+    /// and whose request is fulfilled or failed, in order of their numbers. It costs one lookup.
     pub fn active(&self, requester: RequesterId, at: u32) -> Option<JobId>
         ensures { (c : Configuration) (s : State) → IsIndexOf c s self.now
             → result ≡ active_of c requester at s }
@@ -120,6 +126,22 @@ impl Index {
             → result ≡ current_of role s }
     {
         self.active.current_session(role)
+    }
+
+    /// The first session that is live and mute. It costs one lookup.
+    pub fn first_mute(&self) -> Option<SessionId>
+        ensures { (c : Configuration) (s : State) → IsIndexOf c s self.now
+            → result ≡ first_mute s }
+    {
+        self.active.first_mute()
+    }
+
+    /// Whether a session of the requester has not expired. It costs two lookups.
+    pub fn has_live_session(&self, requester: RequesterId) -> bool
+        ensures { (c : Configuration) (s : State) → IsIndexOf c s self.now
+            → result ≡ has_live_session requester s }
+    {
+        self.active.has_live_session(requester)
     }
 
     /// The requests in whose queues the session is, by priority and then sequence. It costs one

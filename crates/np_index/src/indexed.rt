@@ -76,21 +76,29 @@ fn ending(change: &SessionsChange) -> SessionId
 
 impl<K: StateKeeper + Drop> StateKeeper for Indexed<K> {
     fn change(&mut self, changes: &Changes) -> Result<(), AllocError> {
-        let queued = self.index.lookups.nodes_of(ending(&changes.sessions));
+        let session = ending(&changes.sessions);
+        let queued = self.index.lookups.nodes_of(session);
         let touched = self
             .index
             .classes
             .prepare(self.alloc, &self.keeper, changes, queued)?;
-        self.index.active.prepare(self.keeper.config(), changes)?;
+        let moved = self
+            .index
+            .requested
+            .prepare(self.alloc, &self.keeper, touched.requests())?;
+        let asker = self.index.active.prepare(&self.keeper, changes)?;
         let prepared = self.index.lookups.prepare(&self.keeper, changes)?;
-        if let Err(fault) = self.keeper.change(changes) {
+        let requests = self.index.lookups.requests_of(session);
+        let nodes = self.index.lookups.nodes_of(session);
+        if let Err(fault) = self.keeper.change_with_queues(changes, requests, nodes) {
             self.index.lookups.take_back(changes, &prepared);
             return Err(fault);
         }
         let config = self.keeper.config();
         self.index.lookups.settle(config, changes, &prepared);
         self.index.classes.note(&self.keeper, &touched);
-        self.index.active.note(&self.keeper, changes);
+        self.index.requested.note(&self.keeper, &moved);
+        self.index.active.note(&self.keeper, changes, asker);
         Ok(())
     }
 }

@@ -228,8 +228,8 @@ impl<K: StateKeeper + Drop> Look for Indexed<K> {
         self.index.blocking(&self.keeper, pool, asked)
     }
 
-    /// The first request that the pool's launcher may take up. It costs a lookup for each request
-    /// before the answer that is not open to the pool, and what its tenant uses for each other one.
+    /// The first request that the pool's launcher may take up. It costs what `candidate_at` of the
+    /// index does.
     fn first_of(&self, pool: PoolId) -> Option<RequestId> {
         self.index.first_of(&self.keeper, pool)
     }
@@ -278,7 +278,11 @@ impl<K: StateKeeper + Drop> Look for Indexed<K> {
         self.index.current_session(role)
     }
 
+    fn first_mute(&self) -> Option<SessionId> {
+        self.index.first_mute()
+    }
+
     fn has_live_session(&self, requester: RequesterId) -> bool {
-        self.keeper.has_live_session(requester)
+        self.index.has_live_session(requester)
     }
 }
