@@ -1,5 +1,5 @@
 -- a role has at most one current session
-use Rattle.std.proofs.Common.{◌≡◌, ◌<◌, ◌≤◌, ◌+◌, ◌-◌, ℕ, suc, List, [], ◌∷◌, sym, Bool, true, false, drop, Option, Some, None, refl, ap, arith}
+use Rattle.std.proofs.Common.{◌≡◌, ◌<◌, ◌+◌, ◌-◌, ℕ, suc, List, [], ◌∷◌, sym, Bool, true, false, drop, Option, Some, None, refl, ap, arith}
 use Rattle.std.specs.Prelude.{slice_get, ◌&&◌, ◌||◌, ◌==◌, not, nat_lt, if◌then◌else◌, is_some}
 use Rattle.std.specs.Option.{option_map_or, option_or}
 use Rattle.std.specs.List.{list_any}
@@ -14,7 +14,7 @@ use Rattle.np_machine.specs.Laws.{speaks_for}
 use Rattle.np_useful.specs.Sessions.{is_current, has_current, may_open}
 use Rattle.np_look.specs.Readers.{speaker_from, current_of}
 use Rattle.np_roles.specs.Choices.{NamesCurrent}
-use Rattle.np_roles.proofs.Places.{any-there, any-past}
+use Rattle.np_roles.proofs.Places.{any-there}
 
 pub both : (t u : Bool) → (t && not u) ≡ true → (t ≡ true) × (u ≡ false)
 both true true is = absurd cc
@@ -119,23 +119,6 @@ names-by role s (Some x) is = current-by role s x (last-speaks role 1 s.sessions
 -- the last session that speaks for the role is its current one
 pub current-names : (role : Role) (s : State) → NamesCurrent role s (current_of role s)
 current-names role s = names-by role s (current_of role s) refl
-
--- past it none speaks, and up to it one does
-later-by : (role : Role) (s : State) (k : ℕ) (x : SessionId) (b : Bool) → nat_lt k x.0 ≡ b → LastAt role 1 s.sessions x → list_any (speaks_for role) (drop k s.sessions) ≡ b
-later-by role s k x true after found =
-    let low : k ≤ found.at = grind (arith, nat_tests, found.named) in
-    any-there (speaks_for role) s.sessions k found.at found.facts low found.there found.speaks
-later-by role s k x false after found =
-    let past : suc found.at ≤ k = grind (arith, nat_tests, found.named) in
-    any-past (speaks_for role) s.sessions (suc found.at) k past found.last
-
-after-by : (role : Role) (s : State) (k : ℕ) (o : Option SessionId) → current_of role s ≡ o → option_map_or (λ x. nat_lt k x.0) o false ≡ list_any (speaks_for role) (drop k s.sessions)
-after-by role s k None is = sym (any-past (speaks_for role) s.sessions 0 k (omega arith) (none-speaks role 1 s.sessions is))
-after-by role s k (Some x) is = sym (later-by role s k x (nat_lt k x.0) refl (last-speaks role 1 s.sessions x is))
-
--- a session after this one speaks exactly if the last one that speaks is after it
-pub current-after : (role : Role) (s : State) (k : ℕ) → option_map_or (λ x. nat_lt k x.0) (current_of role s) false ≡ list_any (speaks_for role) (drop k s.sessions)
-current-after role s k = after-by role s k (current_of role s) refl
 
 -- ## a session that was begun
 

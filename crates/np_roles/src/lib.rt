@@ -26,6 +26,4 @@ pub use kind::{EventKind, JobKind, NodeKind, RequestKind, job_event, node_event,
 pub use of_kind::{first_of_kind, first_of_kinds};
 pub use release::first_release;
 pub use rows::{Rows, passes};
-pub use session::{
-    choose_opening, current_session, fault_of, is_spoken_later, is_stopped, may_open, strikes_of,
-};
+pub use session::{choose_opening, current_session, fault_of, is_stopped, may_open, strikes_of};

@@ -1,8 +1,6 @@
 //! Who acts for a role, and whether a session may begin.
 
-ghost use Rattle.std.specs.Prelude.{◌≡◌, ◌&&◌, ◌==◌, true, false, cond, drop, slice_get};
-ghost use Rattle.std.specs.List.{list_any};
-ghost use Rattle.np_machine.specs.Laws.{speaks_for};
+ghost use Rattle.std.specs.Prelude.{◌≡◌, ◌&&◌, ◌==◌, true, false, cond, slice_get};
 ghost use Rattle.np_machine.specs.Session.{is_role};
 ghost use Rattle.np_fits.specs.Fits.{Fits};
 ghost use Rattle.np_useful.specs.Sessions.{has_current, faults_of, strikes_of, is_stopped, may_open};
@@ -13,17 +11,6 @@ use np_event::Event;
 use np_look::{Look, is_same_role};
 use np_site::{Fault, FaultKind};
 use np_text::{Role, SessionId};
-
-/// Whether a session that began after this one speaks for the role. It costs what the reader
-/// `current_session` costs, which an index answers by two binary searches.
-pub fn is_spoken_later<L: Look>(look: &L, role: Role, session: SessionId) -> bool
-    ensures { result ≡ list_any (speaks_for role) (drop session.0 (L.state look.now).sessions) }
-{
-    match look.current_session(role) {
-        None => false,
-        Some(current) => current.0 > session.0,
-    }
-}
 
 /// The role's current session, or `None` if and only if it has none. It costs what the reader
 /// `current_session` costs.
