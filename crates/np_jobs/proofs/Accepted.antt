@@ -14,41 +14,34 @@ use Rattle.np_event.specs.declared.reply.Refusal.{Refusal}
 use Rattle.np_event.specs.declared.reply.Refusal.TheVariants as no
 use Rattle.np_lists.specs.Refusals.{◌>>=◌}
 use Rattle.np_lists.proofs.RefusalLemmas.{need-ok, then-ok}
-use Rattle.np_machine.specs.Kinds.{is_new, is_asked, is_using}
-use Rattle.np_machine.specs.Semaphore.{is_finishable}
+use Rattle.np_changes.proofs.Tested.{on-need, on-found}
+use Rattle.np_machine.specs.Kinds.{is_new, is_asked, is_using, is_fulfilled}
+use Rattle.np_machine.specs.Semaphore.{is_finishable, may_take, has_failed_request}
 use Rattle.np_machine.specs.State.{State}
 use Rattle.np_machine.specs.Step.{judge}
+use Rattle.np_machine.specs.Tables.{request_in}
 use Rattle.np_machine.specs.Tests.{maker, own_job, wrong_job, missing_handles}
-use Rattle.np_look.specs.Readers.{is_active_job}
-use Rattle.np_useful.specs.Requester.{waits_for_handles}
+use Rattle.np_useful.specs.Requester.{has_fulfilled_request, waits_for_handles}
+use Rattle.np_useful.specs.Rows.{job_is}
 use Rattle.np_useful.specs.Useful.{row_holds}
 use Rattle.np_useful.specs.Window.{is_in_window}
-use Rattle.np_roles.proofs.Among.{finishable_active}
 use Rattle.np_jobs.specs.Steps.{phase_is}
-use Rattle.np_jobs.proofs.ForLemmas.{and-second}
+use Rattle.np_jobs.proofs.ForLemmas.{and-first, and-second}
+use Rattle.np_jobs.proofs.Active.{IsActive, IsAsked, fulfilled-answer, failed-answer, using-active, asked-active}
 
--- a job waits for its semaphores if it is new and in the window, or has asked
-waits : {P : Type 0} (new first within asked given : Bool) → ((new && first && within) || (asked && given)) ≡ true → (new ≡ true → within ≡ true → P) → (asked ≡ true → P) → P
+-- a job waits for its semaphores if it is new and in the window, or has asked and its request is
+-- fulfilled
+waits : {P : Type 0} (new first within asked given : Bool) → ((new && first && within) || (asked && given)) ≡ true → (new ≡ true → within ≡ true → P) → (asked ≡ true → given ≡ true → P) → P
 waits true true true asked given is begins goes_on = begins refl refl
-waits true true false true given is begins goes_on = goes_on refl
-waits true true false false given is begins goes_on = absurd cc
-waits true false within true given is begins goes_on = goes_on refl
-waits true false within false given is begins goes_on = absurd cc
-waits false first within true given is begins goes_on = goes_on refl
-waits false first within false given is begins goes_on = absurd cc
+waits true true false asked given is begins goes_on = goes_on (and-first asked given is) (and-second asked given is)
+waits true false within asked given is begins goes_on = goes_on (and-first asked given is) (and-second asked given is)
+waits false first within asked given is begins goes_on = goes_on (and-first asked given is) (and-second asked given is)
 
--- ## the job
-
--- the requester's own, and it has asked for its nodes or uses them
-pub record IsActive (c : Configuration) (s : State) (q : RequesterId) (j : JobId) : Type 0 where
-  pub kept : JobRecord
-  pub there : slice_get s.jobs j.0 ≡ Some kept
-  pub active : is_active_job c q j kept ≡ true
-
--- the requester's own, and it has asked for its nodes
-pub record IsAsked (c : Configuration) (s : State) (q : RequesterId) (j : JobId) : Type 0 where
-  pub active : IsActive c s q j
-  pub asked : phase_is j s is_asked ≡ true
+-- a job can be finished if it has asked and its request failed, or it uses its nodes
+ends : {P : Type 0} (asked failed uses done : Bool) → ((asked && failed) || (uses && done)) ≡ true → (asked ≡ true → failed ≡ true → P) → (uses ≡ true → P) → P
+ends true true uses done is fails stops = fails refl refl
+ends true false uses done is fails stops = stops (and-first uses done is)
+ends false failed uses done is fails stops = stops (and-first uses done is)
 
 -- new, and in the window
 pub record IsToBegin (c : Configuration) (s : State) (q : RequesterId) (j : JobId) : Type 0 where
@@ -75,11 +68,8 @@ module _ (c : Configuration) (s : State) (by : SessionId) (q : RequesterId) (who
       tested true own = record { job = job; kept = kept; row = row; there = there; own = own; goes = rw (who, row, there, own) at is }
       tested false other = absurd (let no : Err no.NotOwner ≡ Ok what = rw (who, row, there, other) at is in cc)
 
-  active_by : (job : Job) (kept : JobRecord) → slice_get c.jobs j.0 ≡ Some job → slice_get s.jobs j.0 ≡ Some kept → (job.requester.0 == q.0) ≡ true → (is_asked kept.phase || is_using kept.phase) ≡ true → IsActive c s q j
-  active_by job kept row there own is = record { kept = kept; there = there; active = rw (row, own, is) refl }
-
-  asked_by : (job : Job) (kept : JobRecord) → slice_get c.jobs j.0 ≡ Some job → slice_get s.jobs j.0 ≡ Some kept → (job.requester.0 == q.0) ≡ true → is_asked kept.phase ≡ true → IsAsked c s q j
-  asked_by job kept row there own is = record { active = active_by job kept row there own (rw is refl); asked = rw (there, is) refl }
+  own_by : (job : Job) → slice_get c.jobs j.0 ≡ Some job → (job.requester.0 == q.0) ≡ true → job_is j c (λ row. row.requester.0 == q.0) ≡ true
+  own_by job row own = rw (row, own) refl
 
   pub submit-begins : (what : Done) → judge c s (ev.Submit by j) ≡ Ok what → row_holds c s (Requester q) (ev.Submit by j) ≡ true → IsToBegin c s q j
   submit-begins what is within =
@@ -92,14 +82,20 @@ module _ (c : Configuration) (s : State) (by : SessionId) (q : RequesterId) (who
       let found = found_own _ what is in
       let both : (not (missing_handles s j found.job == 0) && waits_for_handles c s q j found.job found.kept) ≡ true = rw (found.row, found.there) at holds in
       let waiting : waits_for_handles c s q j found.job found.kept ≡ true = and-second (not (missing_handles s j found.job == 0)) _ both in
-      waits (is_new found.kept.phase) (not found.job.resources_first) (is_in_window c s q j) (is_asked found.kept.phase) _ waiting
+      waits (is_new found.kept.phase) (not found.job.resources_first) (is_in_window c s q j) (is_asked found.kept.phase) (has_fulfilled_request s found.kept) waiting
       (λ new within. begins (record { new = rw (found.there, new) refl; within = within }))
-      (λ asked. goes_on (asked_by found.job found.kept found.row found.there found.own asked))
+      (λ asked given. goes_on (asked-active c s q j found.kept found.there (own_by found.job found.row found.own) asked (fulfilled-answer s found.kept given)))
 
   pub take-asked : (what : Done) → judge c s (ev.Take by j) ≡ Ok what → IsAsked c s q j
   take-asked what is =
       let found = found_own _ what is in
-      asked_by found.job found.kept found.row found.there found.own (need-ok _ _ _ tt (then-ok _ _ what found.goes)).0
+      let passed : may_take s by j found.job found.kept ≡ Ok tt = then-ok _ _ what found.goes in
+      on-need (is_asked found.kept.phase) _ _ tt passed (λ asked rest.
+      on-found found.kept.request _ _ tt rest (λ r named rest.
+      on-found (request_in r s.requests) _ _ tt rest (λ request stands rest.
+      on-need (is_fulfilled request.state) _ _ tt rest (λ fulfilled rest.
+      let given : has_fulfilled_request s found.kept ≡ true = rw (named, stands, fulfilled) refl in
+      asked-active c s q j found.kept found.there (own_by found.job found.row found.own) asked (fulfilled-answer s found.kept given)))))
 
   pub finish-active : (what : Done) → judge c s (ev.Finish by j) ≡ Ok what → IsActive c s q j
   finish-active what is = opened (slice_get c.jobs j.0) (slice_get s.jobs j.0) refl refl where
@@ -110,4 +106,7 @@ module _ (c : Configuration) (s : State) (by : SessionId) (q : RequesterId) (who
       tested : (b d : Bool) → (job.requester.0 == q.0) ≡ b → is_finishable s job kept ≡ d → IsActive c s q j
       tested false d other ready = absurd (let no : Err no.NotOwner ≡ Ok what = rw (who, row, there, other) at is in cc)
       tested true false own ready = absurd (let no : Err (wrong_job kept) ≡ Ok what = rw (who, row, there, own, ready) at is in cc)
-      tested true true own ready = active_by job kept row there own (finishable_active kept.phase _ _ ready)
+      tested true true own ready =
+          ends (is_asked kept.phase) (has_failed_request s kept) (is_using kept.phase) _ ready
+          (λ asked failed. (asked-active c s q j kept there (own_by job row own) asked (failed-answer s kept failed)).active)
+          (λ uses. using-active c s q j kept there (own_by job row own) uses)

@@ -1,5 +1,6 @@
 pub mod WindowLemmas
 pub mod ForLemmas
+pub mod Active
 pub mod Accepted
 pub mod StepLemmas
 pub mod Made

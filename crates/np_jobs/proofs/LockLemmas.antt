@@ -8,7 +8,6 @@ use Rattle.np_text.specs.declared.id.NodeId.{NodeId}
 use Rattle.np_text.specs.declared.id.RequesterId.{RequesterId}
 use Rattle.np_text.specs.declared.id.Role.TheVariants.{Requester}
 use Rattle.np_site.specs.Configuration.{Configuration}
-use Rattle.np_record.specs.declared.record.JobRecord.{JobRecord}
 use Rattle.np_lists.proofs.FoundLemmas.{find-passes}
 use Rattle.np_event.specs.declared.event.Event.TheVariants as ev
 use Rattle.np_changes.specs.Planned.{IsReached}
@@ -19,7 +18,7 @@ use Rattle.np_machine.specs.Tables.{is_queued, node_queue, request_in}
 use Rattle.np_safe.proofs.Places.{node-place}
 use Rattle.np_safe.proofs.Runs.{invariant-Runs}
 use Rattle.np_look.specs.Readers.{is_active_job, active_of}
-use Rattle.np_useful.specs.Requester.{is_asked_by, is_for}
+use Rattle.np_useful.specs.Requester.{has_fulfilled_request, is_asked_by, is_for}
 use Rattle.np_useful.specs.Rows.{job_is}
 use Rattle.np_useful.specs.Sessions.{is_current}
 use Rattle.np_useful.specs.Useful.{IsUseful}
@@ -30,6 +29,7 @@ use Rattle.np_roles.proofs.Searches.{made-by, passes-useful, useful-passes}
 use Rattle.np_roles.proofs.Among.{among}
 use Rattle.np_jobs.specs.Locks.{lock_passes, nodes_for, first_to_lock}
 use Rattle.np_jobs.proofs.ForLemmas.{IsFound, found-for, ids-rise, all-own, and-first, and-second}
+use Rattle.np_jobs.proofs.Active.{IsActive, asked-active, fulfilled-answer}
 
 -- ## a search that finds nothing
 
@@ -49,27 +49,25 @@ none-passes p (y ∷ xs) (suc i) x none there = none-passes p xs i x (none-by p 
 -- ## the job that a node is for
 
 module _ (c : Configuration) (s : State) (q : RequesterId) where
-  -- a job of the requester that has asked for its nodes, and the request that it names
+  -- an active job that has asked for its nodes, and the request that it names
   record IsAwaiting (e : RequestEntry) : Type 0 where
     job : JobId
-    kept : JobRecord
-    there : slice_get s.jobs job.0 ≡ Some kept
-    active : is_active_job c q job kept ≡ true
+    active : IsActive c s q job
     nodes : nodes_for s job ≡ e.kept.nodes
 
   module _ (reached : IsReached c s) (e : RequestEntry) (found : request_in e.id s.requests ≡ Some e.kept) (fulfilled : is_fulfilled e.kept.state ≡ true) where
-    -- the request's job has asked, and names the request: each request that names a job is its only one
+    -- the request's job has asked, and names the request, since each request that names a job is its
+    -- only one: so the job is active
     of_job : (j : JobId) → e.kept.job ≡ Some j → is_asked_by c s q j ≡ true → IsAwaiting e
     of_job j is asks =
         let named = (invariant-Runs c reached.journal s reached.runs).jobs.of_request e.id e.kept j found is in
         let own : job_is j c (λ job. job.requester.0 == q.0) ≡ true = and-first (job_is j c (λ job. job.requester.0 == q.0)) _ asks in
         let has_asked : option_map_or (λ k. is_asked k.phase) (slice_get s.jobs j.0) false ≡ true = and-second (job_is j c (λ job. job.requester.0 == q.0)) _ asks in
         let asked : is_asked named.0.phase ≡ true = rw named.1.0 at has_asked in
+        let given : has_fulfilled_request s named.0 ≡ true = rw (named.1.1, found, fulfilled) refl in
         record {
           job = j;
-          kept = named.0;
-          there = named.1.0;
-          active = rw (own, asked) refl;
+          active = (asked-active c s q j named.0 named.1.0 own asked (fulfilled-answer s named.0 given)).active;
           nodes = rw (named.1.0, asked, named.1.1, found, fulfilled) refl;
         }
 
@@ -96,7 +94,7 @@ module _ (c : Configuration) (s : State) (q : RequesterId) (session : SessionId)
         let fulfilled : is_fulfilled e.kept.state ≡ true = and-first (is_fulfilled e.kept.state) (option_map_or (is_asked_by c s q) e.kept.job false) given.over in
         let asks : option_map_or (is_asked_by c s q) e.kept.job false ≡ true = and-second (is_fulfilled e.kept.state) (option_map_or (is_asked_by c s q) e.kept.job false) given.over in
         let is : IsAwaiting c s q e = awaiting c s q reached e given.handed_to.found fulfilled e.kept.job refl asks in
-        let place = among (is_active_job c q) 0 s.jobs is.job.0 is.kept is.job (omega arith) is.there is.active in
+        let place = among (is_active_job c s q) 0 s.jobs is.job.0 is.active.kept is.job (omega arith) is.active.there is.active.active in
         let none : find (lock_passes c s q session) e.kept.nodes ≡ None = ap (find (lock_passes c s q session)) (sym is.nodes) ∙ passed place.at (ends place.at is.job place.there) is.job place.there in
         let listed = node-place n e.kept.nodes given.listed in
         let fails : lock_passes c s q session n ≡ false = none-passes (lock_passes c s q session) e.kept.nodes listed.0 n none listed.1 in

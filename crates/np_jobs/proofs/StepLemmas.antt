@@ -34,7 +34,8 @@ use Rattle.np_roles.proofs.Searches.{made-by, useful-passes}
 use Rattle.np_roles.proofs.Openings.{same-role}
 use Rattle.np_roles.proofs.Among.{among}
 use Rattle.np_jobs.specs.Steps.{steps, NoActiveStep, NoNewStep, ChoosesOfActive, ChoosesOfNew, ChoosesActive, ChoosesInWindow}
-use Rattle.np_jobs.proofs.Accepted.{IsActive, IsToBegin, submit-begins, acquire-either, take-asked, finish-active}
+use Rattle.np_jobs.proofs.Active.{IsActive}
+use Rattle.np_jobs.proofs.Accepted.{IsToBegin, submit-begins, acquire-either, take-asked, finish-active}
 use Rattle.np_jobs.proofs.WindowLemmas.{window-place}
 
 later : (n : ℕ) → 0 < n → (n == 0) ≡ false
@@ -63,7 +64,7 @@ module _ (c : Configuration) (s : State) (q : RequesterId) (session : SessionId)
   module _ (active : (k : ℕ) (j : JobId) → active_of c q k s ≡ Some j → NoActiveStep c s q session j) (begins : (k : ℕ) (j : JobId) → k < window_of c q → unfinished_of c q k s ≡ Some j → NoNewStep c s q session j) where
     no_active_step : (j : JobId) → IsActive c s q j → NoActiveStep c s q session j
     no_active_step j is =
-        let place = among (is_active_job c q) 0 s.jobs j.0 is.kept j (omega arith) is.there is.active in
+        let place = among (is_active_job c s q) 0 s.jobs j.0 is.kept j (omega arith) is.there is.active in
         active place.at j place.there
 
     no_new_step : (j : JobId) → IsToBegin c s q j → NoNewStep c s q session j

@@ -4,18 +4,21 @@
 //!
 //! | What | Tried on |
 //! |---|---|
-//! | finish, take, acquire | each of its jobs that has asked for its nodes or uses them, in order |
+//! | finish, take, acquire | each of its active jobs, in order |
 //! | acquire, submit | each of its new jobs in the window, in order |
 //! | release | each job that has a handle |
 //! | end-node, unlock-node | each node in whose queue its session is, by number |
-//! | lock-node | each node of the fulfilled request of each job that has asked, in order |
+//! | lock-node | each node of the fulfilled request of each active job, in order |
 //! | open a session | if it has none |
 //!
-//! A job that is over, or that is new and past the window, has no useful event of the first two
-//! rows, and costs nothing. For the others only the events that their phase allows are judged. A
-//! lock is tried only on a node that a job waits for. So what a choice costs grows with the window,
-//! the requester's jobs that have asked for their nodes or use them, and the nodes that their
-//! requests have, and not with its other jobs or all nodes.
+//! A job is active if it uses its nodes, or has asked for them and its request is fulfilled or
+//! failed. A job whose request is requested or pending waits for its nodes. It has no useful event
+//! of the first two rows, nor has one that is over, or that is new and past the window, so none is
+//! judged. For the others only the events that their phase allows are judged. A lock is tried only
+//! on a node that a job was given and does not use yet. So what a choice costs grows with the
+//! window, the requester's active jobs and the nodes that their requests have, and not with its
+//! other jobs or all nodes. A job that waits for its nodes costs two lookups if it is in the
+//! window, and else nothing.
 //!
 //! A job that is under way comes before one that begins, and what is no longer needed is given
 //! back before more is locked. Which events are useful is defined in np_useful.

@@ -25,7 +25,8 @@ pub(crate) fn is_asked(kept: &JobRecord) -> bool
 }
 
 /// The first useful event of these on an active job: finish, take, acquire. It judges all three for
-/// a job that has asked for its nodes, and only the finish for one that uses them.
+/// a job that has asked for its nodes, whose request is fulfilled or failed, and only the finish
+/// for one that uses them.
 fn step_of_active<L: Look>(
     look: &L,
     rows: &RequesterRows,
@@ -90,9 +91,10 @@ fn step_of_new<L: Look>(
     None
 }
 
-/// The first useful finish, take or acquire of the requester's active jobs, which have asked for
-/// their nodes or use them, the first job first. It judges at most three events for each of them,
-/// up to the first that is useful.
+/// The first useful finish, take or acquire of the requester's active jobs, the first job first.
+/// These jobs use their nodes, or have asked for them and their request is fulfilled or failed. It
+/// judges at most three events for each of them, up to the first that is useful, and nothing for a
+/// job that waits for its nodes.
 fn first_active_step<L: Look>(look: &L, rows: &RequesterRows, session: SessionId) -> Option<Event>
     requires reached { IsReached (L.site look.now) (L.state look.now) }
     requires fits { Fits (L.site look.now) (L.state look.now) }
@@ -113,7 +115,7 @@ fn first_active_step<L: Look>(look: &L, rows: &RequesterRows, session: SessionId
 
 /// The first useful acquire or submit of the new jobs in the requester's window, the first job
 /// first. It looks up as many jobs as the window has, and judges at most two events for each of
-/// them that is new, up to the first that is useful.
+/// them that is new, up to the first that is useful. One that is not new costs two lookups.
 fn first_step_in_window<L: Look>(
     look: &L,
     rows: &RequesterRows,
@@ -139,7 +141,7 @@ fn first_step_in_window<L: Look>(
 
 /// A useful finish, take, acquire or submit, or `None` if and only if there is none. The active
 /// jobs come first, and then the new jobs in the window. It costs the number of active jobs and the
-/// window, and not the number of jobs that are not over.
+/// window, and not the number of jobs that are not over or that wait for their nodes.
 pub(crate) fn first_step<L: Look>(
     look: &L,
     rows: &RequesterRows,

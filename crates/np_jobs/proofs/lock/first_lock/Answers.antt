@@ -17,5 +17,5 @@ returns-in-Some-first_of_job g c =
 pub returns : goal.returns
 returns g c =
     locks-none (g.L.Look.site c.args.look.now) (g.L.Look.state c.args.look.now) c.args.rows.now.requester c.args.session c.requires.current c.requires.reached c.loop-at.at
-    (λ k j found. omega (arith, below-jobs (is_active_job (g.L.Look.site c.args.look.now) c.args.rows.now.requester) (g.L.Look.state c.args.look.now).jobs k j found, c.loop-at-test.false, c.jobs-at-end.ensures))
+    (λ k j found. omega (arith, below-jobs (is_active_job (g.L.Look.site c.args.look.now) (g.L.Look.state c.args.look.now) c.args.rows.now.requester) (g.L.Look.state c.args.look.now).jobs k j found, c.loop-at-test.false, c.jobs-at-end.ensures))
     c.loop-at.invariant
