@@ -1,6 +1,6 @@
 -- if the jobs of the requesters that stopped were tried, no finish is useful
 use Rattle.std.proofs.Common.{◌≡◌, ◌<◌, ◌≤◌, ℕ, length, refl, subst, arith, Option, Some, None, true, false}
-use Rattle.std.specs.Prelude.{is_some, slice_get, get_or, ◌==◌, ◌||◌}
+use Rattle.std.specs.Prelude.{is_some, slice_get, get_or, ◌==◌, ◌&&◌, ◌||◌}
 use Rattle.std.specs.Option.{option_map_or}
 use Rattle.std.proofs.lemmas.Bool.Decides.{nat_tests}
 use Rattle.std.proofs.lemmas.List.Elements.{All-get_or}
@@ -21,7 +21,7 @@ use Rattle.np_machine.specs.Kinds.{is_asked, is_using}
 use Rattle.np_machine.specs.State.{State}
 use Rattle.np_machine.specs.Step.{judge}
 use Rattle.np_changes.proofs.Tested.{ok-is}
-use Rattle.np_look.specs.Readers.{is_active_job}
+use Rattle.np_look.specs.Readers.{is_active_job, is_answered, request_state_of}
 use Rattle.np_useful.specs.Sessions.{is_current, is_stopped}
 use Rattle.np_useful.specs.Rows.{job_is}
 use Rattle.np_useful.specs.Useful.{IsUseful}
@@ -51,7 +51,7 @@ module _ (c : Configuration) (s : State) (p : PoolId) (session : SessionId) wher
   is_alone : (j : JobId) → job_is j c (λ job. is_stopped c (Requester job.requester) s) ≡ true → IsAlone j
   is_alone j is = alone-by j (slice_get c.jobs j.0) refl is
 
-  is_active : (j : JobId) (job : Job) (kept : JobRecord) → slice_get c.jobs j.0 ≡ Some job → (is_asked kept.phase || is_using kept.phase) ≡ true → is_active_job c job.requester j kept ≡ true
+  is_active : (j : JobId) (job : Job) (kept : JobRecord) → slice_get c.jobs j.0 ≡ Some job → (is_using kept.phase || (is_asked kept.phase && option_map_or is_answered (request_state_of kept.request s) false)) ≡ true → is_active_job c s job.requester j kept ≡ true
   is_active j job kept row active = rw (row, own_number job.requester.0, active) refl
 
   few : (sound : IsSound c) (j : JobId) (job : Job) → slice_get c.jobs j.0 ≡ Some job → job.requester.0 < REQUESTERS
@@ -68,7 +68,7 @@ module _ (c : Configuration) (s : State) (p : PoolId) (session : SessionId) wher
         let answer = ok-is (judge c s (ev.Finish session j)) useful.accepted in
         let kept = finish-active c s session j answer.0 answer.1 in
         let alone = is_alone j useful.row in
-        let place = among (is_active_job c alone.job.requester) 0 s.jobs j.0 kept.0 j (omega arith) kept.1.0 (is_active j alone.job kept.0 alone.row kept.1.1) in
+        let place = among (is_active_job c s alone.job.requester) 0 s.jobs j.0 kept.0 j (omega arith) kept.1.0 (is_active j alone.job kept.0 alone.row kept.1.1) in
         let fails : passes c s (Janitor p) (ev.Finish session j) ≡ false = none alone.job.requester.0 (few sound j alone.job alone.row) alone.stopped place.at j place.there in
         let is : passes c s (Janitor p) (ev.Finish session j) ≡ true = useful-passes c s (Janitor p) (ev.Finish session j) useful in
         cc

@@ -1,7 +1,7 @@
--- the planned faults that are due, and what the reaper does for them
-use Rattle.std.proofs.Common.{◌≡◌, ◌∙◌, ◌<◌, ◌+◌, ◌-◌, ℕ, Bool, true, false, length, Option, Some, None, Ok, refl, sym, ap, arith}
-use Rattle.std.specs.Prelude.{is_some, nat_lt, ◌&&◌, if◌then◌else◌, option_and_then}
-use Rattle.std.specs.Option.{option_map_or}
+-- what the planned faults do now, and that the reaper has nothing else to do
+use Rattle.std.proofs.Common.{◌≡◌, ◌∙◌, ◌<◌, ◌+◌, ◌-◌, ℕ, zero, suc, Bool, true, false, List, [], ◌∷◌, Option, Some, None, Ok, refl, sym, ap, subst, arith}
+use Rattle.std.specs.Prelude.{◌==◌, ◌&&◌, ◌||◌, if◌then◌else◌, filter, is_some, not, option_and_then, slice_get}
+use Rattle.std.specs.Option.{option_map, option_map_or}
 use Rattle.std.proofs.lemmas.Bool.Decides.{nat_tests}
 use Rattle.np_text.specs.declared.id.SessionId.{SessionId}
 use Rattle.np_text.specs.declared.id.Role.{Role}
@@ -9,24 +9,38 @@ use Rattle.np_text.specs.declared.id.Role.TheVariants.{Reaper}
 use Rattle.np_site.specs.Configuration.{Configuration}
 use Rattle.np_site.specs.declared.row.Fault.{Fault}
 use Rattle.np_site.specs.declared.row.FaultKind.{FaultKind}
+use Rattle.np_site.specs.declared.row.FaultKind.TheVariants as kind_of
 use Rattle.np_event.specs.declared.event.Event.{Event}
 use Rattle.np_event.specs.declared.event.Event.TheVariants as ev
-use Rattle.np_machine.specs.declared.state.SessionFacts.{SessionFacts}
 use Rattle.np_event.specs.declared.reply.Done.{Done}
-use Rattle.np_machine.specs.Step.{judge, maker_of}
-use Rattle.np_machine.specs.Tables.{session_of}
+use Rattle.np_machine.specs.declared.state.SessionFacts.{SessionFacts}
+use Rattle.np_machine.specs.Laws.{same_role}
 use Rattle.np_machine.specs.State.{State}
-use Rattle.np_useful.specs.Sessions.{is_current, next_fault, is_due, has_due, is_struck_by}
-use Rattle.np_useful.specs.Useful.{IsUseful, is_maker_of}
-use Rattle.np_roles.specs.Choices.{Chooses}
-use Rattle.np_roles.specs.Passing.{passing, IsFirstThatPasses}
-use Rattle.np_roles.proofs.Places.{within}
-use Rattle.np_roles.proofs.Currents.{session-at}
-use Rattle.np_changes.proofs.Tested.{ok-is}
-use Rattle.np_roles.proofs.Searches.{passes-useful, useful-passes, passing-is, passing-none}
-use Rattle.np_janitor.specs.declared.reaper.SessionKind.{SessionKind}
-use Rattle.np_janitor.specs.declared.reaper.SessionKind.TheVariants as of_session
-use Rattle.np_janitor.specs.Struck.{due_kind, struck_kind, session_event, session_candidate, ChoosesOfSessions}
+use Rattle.np_machine.specs.Step.{judge}
+use Rattle.np_machine.specs.Tables.{session_of}
+use Rattle.np_changes.proofs.Tested.{ok-is, on-found, on-need}
+use Rattle.np_look.specs.Readers.{current_of, first_mute, mute_from}
+use Rattle.np_useful.specs.Reaper.{is_mute}
+use Rattle.np_useful.specs.Sessions.{is_current, has_current, strikes_of, next_fault, is_due, has_due, is_expire, is_struck_by}
+use Rattle.np_useful.specs.Useful.{IsUseful}
+use Rattle.np_roles.specs.Choices.{Chooses, NamesCurrent}
+use Rattle.np_roles.proofs.Currents.{current-speaks, current-has, current-names, session-at}
+use Rattle.np_roles.proofs.Openings.{same-role}
+use Rattle.np_roles.proofs.Places.{StandsIn}
+use Rattle.np_janitor.specs.Struck.{due_kind, strike_on, strike_of, strike_by, ChoosesStrike}
+
+and-parts : (t u : Bool) → (t && u) ≡ true → (t ≡ true) × (u ≡ true)
+and-parts true true is = (refl, refl)
+and-parts true false is = absurd cc
+and-parts false u is = absurd cc
+
+or-first : (a b : Bool) → a ≡ true → (a || b) ≡ true
+or-first true b is = refl
+or-first false b is = absurd cc
+
+or-last : (a b : Bool) → b ≡ true → (a || b) ≡ true
+or-last true b is = refl
+or-last false b is = is
 
 -- ## whether a fault of such a kind is due
 
@@ -49,106 +63,267 @@ module _ (such : FaultKind → Bool) (c : Configuration) (s : State) where
   due-such : (role : Role) → has_due such c role s ≡ option_map_or such (due_kind c role s) false
   due-such role = due-by (next_fault c role s) (is_due role s)
 
-  struck-by : (session : SessionId) (o : Option SessionFacts) → option_map_or (λ facts. is_current facts.role session s && has_due such c facts.role s) o false ≡ option_map_or such (option_and_then (λ facts. if is_current facts.role session s then due_kind c facts.role s else None) o) false
-  struck-by session None = refl
-  struck-by session (Some facts) = by (is_current facts.role session s) where
-    by : (u : Bool) → (u && has_due such c facts.role s) ≡ option_map_or such (if u then due_kind c facts.role s else None) false
-    by true = due-such facts.role
-    by false = refl
-
-  -- a session is struck by such a fault if and only if the fault that strikes it is of such a kind
-  pub struck-such : (session : SessionId) → is_struck_by such c s session ≡ option_map_or such (struck_kind c s session) false
-  struck-such session = struck-by session (session_of session s)
-
--- ## the search among sessions
+-- ## a strike is useful
 
 module _ (c : Configuration) (s : State) where
-  no-maker : (kind : SessionKind) (session : SessionId) → is_maker_of Reaper s (maker_of (session_event kind session)) ≡ true
-  no-maker of_session.Expire session = refl
-  no-maker of_session.Crash session = refl
+  later : (n : ℕ) → 0 < n → (n == 0) ≡ false
+  later n is = grind (arith, nat_tests)
 
-  session-known : (kind : SessionKind) (session : SessionId) (what : Done) → judge c s (session_event kind session) ≡ Ok what → session_of session s ≡ None → ⊥
-  session-known of_session.Expire session what is never = grind (arith, nat_tests)
-  session-known of_session.Crash session what is never = grind (arith, nat_tests)
+  -- a session that is live and not mute, and of the role
+  record IsOf (role : Role) (session : SessionId) : Type 0 where
+    facts : SessionFacts
+    known : session_of session s ≡ Some facts
+    same : facts.role ≡ role
+    live : facts.live ≡ true
+    speaks : not facts.mute ≡ true
 
-  some-facts : (o : Option SessionFacts) → (o ≡ None → ⊥) → (facts : SessionFacts) × (o ≡ Some facts)
-  some-facts None there = absurd (there refl)
-  some-facts (Some facts) there = (facts, refl)
+  is-of : (role : Role) (session : SessionId) → is_current role session s ≡ true → IsOf role session
+  is-of role session current =
+      let who = current-speaks role s session current in
+      let parts = and-parts (same_role who.facts.role role && who.facts.live) (not who.facts.mute) who.speaks in
+      let first = and-parts (same_role who.facts.role role) who.facts.live parts.0 in
+      record {
+        facts = who.facts;
+        known = rw (later session.0 who.begun) who.there;
+        same = same-role who.facts.role role first.0;
+        live = first.1;
+        speaks = parts.1;
+      }
 
-  session-begun : (session : SessionId) (facts : SessionFacts) → session_of session s ≡ Some facts → 0 < session.0
-  session-begun session facts is = grind (arith, nat_tests)
+  module _ (role : Role) (session : SessionId) (current : is_current role session s ≡ true) (who : IsOf role session) where
+    struck-by : (such : FaultKind → Bool) (o : Option SessionFacts) → o ≡ Some who.facts → has_due such c role s ≡ true → option_map_or (λ facts. is_current facts.role session s && has_due such c facts.role s) o false ≡ true
+    struck-by such o known due = rw known (rw who.same (rw (current, due) refl))
 
-  less : (m n : ℕ) → m < n → nat_lt m n ≡ true
-  less m n low = grind (arith, nat_tests)
+    struck : (such : FaultKind → Bool) → has_due such c role s ≡ true → is_struck_by such c s session ≡ true
+    struck such due = struck-by such (session_of session s) who.known due
 
-  candidate-there : (kind : SessionKind) (session : SessionId) → 0 < session.0 → session.0 - 1 < length s.sessions → session_candidate s kind (session.0 - 1) ≡ Some (session_event kind session)
-  candidate-there kind session some low =
-      let same : session.0 - 1 + 1 ≡ session.0 = omega (arith, some) in
-      rw (less (session.0 - 1) (length s.sessions) low) (ap (λ (n : ℕ). Some (session_event kind (record { 0 = n }))) same)
+    expires : has_due is_expire c role s ≡ true → IsUseful c s Reaper (ev.Expire session)
+    expires due = record {
+      accepted = rw (who.known, who.live) refl;
+      maker = refl;
+      row = or-last (is_mute session s) (is_struck_by is_expire c s session) (struck is_expire due);
+    }
 
-  candidate-by : (kind : SessionKind) (at : ℕ) (e : Event) (b : Bool) → (if b then Some (session_event kind (record { 0 = at + 1 })) else None) ≡ Some e → is_maker_of Reaper s (maker_of e) ≡ true
-  candidate-by kind at e true is = let same : session_event kind (record { 0 = at + 1 }) ≡ e = cc in ap (λ (x : Event). is_maker_of Reaper s (maker_of x)) (sym same) ∙ no-maker kind (record { 0 = at + 1 })
-  candidate-by kind at e false is = absurd cc
+    crashes : has_due (λ kind. not (is_expire kind)) c role s ≡ true → IsUseful c s Reaper (ev.Crash session)
+    crashes due = record {
+      accepted = rw (who.known, who.live, who.speaks) refl;
+      maker = refl;
+      row = struck (λ kind. not (is_expire kind)) due;
+    }
 
-  none-left : (kind : SessionKind) → ((at : ℕ) → at < length s.sessions → passing c s Reaper (session_candidate s kind at) ≡ None) → (session : SessionId) → IsUseful c s Reaper (session_event kind session) → ⊥
-  none-left kind none session useful =
-      let answer = ok-is (judge c s (session_event kind session)) useful.accepted in
-      let known = some-facts (session_of session s) (session-known kind session answer.0 answer.1) in
-      let low : session.0 - 1 < length s.sessions = within s.sessions (session.0 - 1) known.0 (session-at s session.0 known.0 known.1) in
-      passing-none c s Reaper (session_candidate s kind (session.0 - 1)) (session_event kind session)
-      (candidate-there kind session (session-begun session known.0 known.1) low)
-      (useful-passes c s Reaper (session_event kind session) useful)
-      (none (session.0 - 1) low)
+    due-is : (such : FaultKind → Bool) (kind : FaultKind) → due_kind c role s ≡ Some kind → such kind ≡ true → has_due such c role s ≡ true
+    due-is such kind due is = due-such such c s role ∙ rw due is
 
-  pub sessions-choose : (kind : SessionKind) (o : Option Event) → IsFirstThatPasses c s Reaper (length s.sessions) (session_candidate s kind) o → ChoosesOfSessions c s kind o
-  sessions-choose kind None none = none-left kind none
-  sessions-choose kind (Some e) first =
-      let parts = passing-is c s Reaper (session_candidate s kind first.at) e first.there in
-      passes-useful c s Reaper e parts.1 (candidate-by kind first.at e (nat_lt first.at (length s.sessions)) parts.0)
+    on-useful : (kind : FaultKind) → due_kind c role s ≡ Some kind → IsUseful c s Reaper (strike_on kind session)
+    on-useful kind_of.Expire due = expires (due-is is_expire kind_of.Expire due refl)
+    on-useful kind_of.Crash due = crashes (due-is (λ kind. not (is_expire kind)) kind_of.Crash due refl)
+    on-useful kind_of.Stop due = crashes (due-is (λ kind. not (is_expire kind)) kind_of.Stop due refl)
+
+  current-is : (role : Role) (session : SessionId) → current_of role s ≡ Some session → is_current role session s ≡ true
+  current-is role session is = subst (NamesCurrent role s) is (current-names role s)
+
+  strike-by : (role : Role) (e : Event) (due : Option FaultKind) (current : Option SessionId) → due_kind c role s ≡ due → current_of role s ≡ current → option_and_then (λ kind. option_map (λ session. strike_on kind session) current) due ≡ Some e → IsUseful c s Reaper e
+  strike-by role e None current due names is = absurd cc
+  strike-by role e (Some kind) None due names is = absurd cc
+  strike-by role e (Some kind) (Some session) due names is =
+      let same : strike_on kind session ≡ e = cc in
+      let current = current-is role session names in
+      subst (λ (x : Event). IsUseful c s Reaper x) same (on-useful role session current (is-of role session current) kind due)
+
+  -- what the role's next fault does is useful
+  pub strike-useful : (role : Role) (e : Event) → strike_of c s role ≡ Some e → IsUseful c s Reaper e
+  strike-useful role e is = strike-by role e (due_kind c role s) (current_of role s) refl refl is
+
+  by-by : (f : Fault) (e : Event) (b : Bool) → (if b then strike_of c s f.role else None) ≡ Some e → IsUseful c s Reaper e
+  by-by f e true is = strike-useful f.role e is
+  by-by f e false is = absurd cc
+
+  pub found-chooses : (f : Fault) (o : Option Event) → o ≡ strike_by c s f → is_some o ≡ true → ChoosesStrike c s o
+  found-chooses f None is some = absurd cc
+  found-chooses f (Some e) is some = by-by f e (is_due f.role s f) (sym is)
+
+-- ## if no fault strikes, no role is struck
+
+filter-by : {X : Type 0} (p : X → Bool) (x y : X) (xs : List X) (i : ℕ) (b : Bool) → p y ≡ b → ((k : ℕ) → slice_get (filter p xs) k ≡ Some x → StandsIn x xs × (p x ≡ true)) → slice_get (if b then y ∷ filter p xs else filter p xs) i ≡ Some x → StandsIn x (y ∷ xs) × (p x ≡ true)
+filter-by p x y xs zero true passes later there =
+    let same : y ≡ x = cc in
+    (record { at = 0; within = omega arith; there = ap (λ (z : _). Some z) same }, ap p (sym same) ∙ passes)
+filter-by p x y xs (suc i) true passes later there =
+    let rest = later i there in
+    (record { at = suc rest.0.at; within = omega (arith, rest.0.within); there = rest.0.there }, rest.1)
+filter-by p x y xs i false passes later there =
+    let rest = later i there in
+    (record { at = suc rest.0.at; within = omega (arith, rest.0.within); there = rest.0.there }, rest.1)
+
+-- a member of those that pass is a member, and passes
+filter-there : {X : Type 0} (p : X → Bool) (x : X) (xs : List X) (i : ℕ) → slice_get (filter p xs) i ≡ Some x → StandsIn x xs × (p x ≡ true)
+filter-there p x [] i there = absurd cc
+filter-there p x (y ∷ xs) i there = filter-by p x y xs i (p y) refl (filter-there p x xs) there
+
+module _ (c : Configuration) (s : State) where
+  module _ (none : (at : ℕ) (f : Fault) → slice_get c.faults at ≡ Some f → strike_by c s f ≡ None) where
+    due-none : (role : Role) (f : Fault) → next_fault c role s ≡ Some f → is_due role s f ≡ true → strike_of c s role ≡ None
+    due-none role f next due =
+        let own = filter-there (λ (x : Fault). same_role x.role role) f c.faults (strikes_of role s) next in
+        let same : f.role ≡ role = same-role f.role role own.1 in
+        let here : is_due f.role s f ≡ true = ap (λ (r : Role). is_due r s f) same ∙ due in
+        let fails : strike_of c s f.role ≡ None = (let told : strike_by c s f ≡ strike_of c s f.role = rw here refl in sym told ∙ none own.0.at f own.0.there) in
+        subst (λ (r : Role). strike_of c s r ≡ None) same fails
+
+    next-by : (role : Role) (o : Option Fault) → next_fault c role s ≡ o → strike_of c s role ≡ None
+    next-by role None next = rw next refl
+    next-by role (Some f) next = by (is_due role s f) refl where
+      by : (b : Bool) → is_due role s f ≡ b → strike_of c s role ≡ None
+      by true due = due-none role f next due
+      by false due = rw (next, due) refl
+
+    pub none-strikes : (role : Role) → strike_of c s role ≡ None
+    none-strikes role = next-by role (next_fault c role s) refl
+
+-- ## if no role is struck, no session is
+
+module _ (c : Configuration) (s : State) (none : (role : Role) → strike_of c s role ≡ None) where
+  absent-by : (o : Option SessionId) (kind : FaultKind) → option_map (λ session. strike_on kind session) o ≡ None → o ≡ None
+  absent-by None kind is = refl
+  absent-by (Some session) kind is = absurd cc
+
+  absent : (role : Role) (kind : FaultKind) → due_kind c role s ≡ Some kind → current_of role s ≡ None
+  absent role kind due =
+      let told : strike_of c s role ≡ option_map (λ session. strike_on kind session) (current_of role s) = rw due refl in
+      absent-by (current_of role s) kind (sym told ∙ none role)
+
+  no-due : (such : FaultKind → Bool) (role : Role) (session : SessionId) → is_current role session s ≡ true → (o : Option FaultKind) → due_kind c role s ≡ o → option_map_or such o false ≡ true → ⊥
+  no-due such role session current None due is = absurd cc
+  no-due such role session current (Some kind) due is =
+      let no : has_current role s ≡ false = subst (NamesCurrent role s) (absent role kind due) (current-names role s) in
+      let has : has_current role s ≡ true = current-has role s session current in
+      cc
+
+  unstruck-by : (such : FaultKind → Bool) (session : SessionId) (o : Option SessionFacts) → option_map_or (λ facts. is_current facts.role session s && has_due such c facts.role s) o false ≡ true → ⊥
+  unstruck-by such session None is = absurd cc
+  unstruck-by such session (Some facts) is =
+      let parts = and-parts (is_current facts.role session s) (has_due such c facts.role s) is in
+      no-due such facts.role session parts.0 (due_kind c facts.role s) refl (sym (due-such such c s facts.role) ∙ parts.1)
+
+  unstruck : (such : FaultKind → Bool) (session : SessionId) → is_struck_by such c s session ≡ true → ⊥
+  unstruck such session is = unstruck-by such session (session_of session s) is
+
+-- ## the first session that is mute
+
+-- it is at a place, and live and mute
+record MuteAt (number : ℕ) (sessions : List SessionFacts) (x : SessionId) : Type 0 where
+  at : ℕ
+  named : x.0 ≡ at + number
+  facts : SessionFacts
+  there : slice_get sessions at ≡ Some facts
+  mute : (facts.live && facts.mute) ≡ true
+
+mute-by : (number : ℕ) (facts : SessionFacts) (sessions : List SessionFacts) (x : SessionId) (b : Bool) → (facts.live && facts.mute) ≡ b → (mute_from (suc number) sessions ≡ Some x → MuteAt (suc number) sessions x) → (if b then Some (record { 0 = number }) else mute_from (suc number) sessions) ≡ Some x → MuteAt number (facts ∷ sessions) x
+mute-by number facts sessions x true mute later is =
+    let same : record { 0 = number } ≡ x = cc in
+    let first : x.0 ≡ number = sym (ap (λ (y : SessionId). y.0) same) in
+    let named : x.0 ≡ 0 + number = omega (arith, first) in
+    record { at = 0; named = named; facts = facts; there = refl; mute = mute }
+mute-by number facts sessions x false mute later is =
+    let found = later is in
+    let named : x.0 ≡ suc found.at + number = omega (arith, found.named) in
+    record { at = suc found.at; named = named; facts = found.facts; there = found.there; mute = found.mute }
+
+mute-at : (number : ℕ) (sessions : List SessionFacts) (x : SessionId) → mute_from number sessions ≡ Some x → MuteAt number sessions x
+mute-at number [] x is = absurd cc
+mute-at number (facts ∷ sessions) x is = mute-by number facts sessions x (facts.live && facts.mute) refl (mute-at (suc number) sessions x) is
+
+none-by : (number : ℕ) (facts : SessionFacts) (sessions : List SessionFacts) (b : Bool) → (facts.live && facts.mute) ≡ b → (if b then Some (record { 0 = number }) else mute_from (suc number) sessions) ≡ None → ((facts.live && facts.mute) ≡ false) × (mute_from (suc number) sessions ≡ None)
+none-by number facts sessions true mute is = absurd cc
+none-by number facts sessions false mute is = (mute, is)
+
+none-mute : (number : ℕ) (sessions : List SessionFacts) (i : ℕ) (facts : SessionFacts) → mute_from number sessions ≡ None → slice_get sessions i ≡ Some facts → (facts.live && facts.mute) ≡ false
+none-mute number [] i facts none there = absurd cc
+none-mute number (first ∷ sessions) zero facts none there =
+    let same : first ≡ facts = cc in
+    ap (λ (x : SessionFacts). x.live && x.mute) (sym same) ∙ (none-by number first sessions (first.live && first.mute) refl none).0
+none-mute number (first ∷ sessions) (suc i) facts none there = none-mute (suc number) sessions i facts (none-by number first sessions (first.live && first.mute) refl none).1 there
+
+module _ (c : Configuration) (s : State) where
+  -- its expiry is useful
+  pub mute-useful : (session : SessionId) → first_mute s ≡ Some session → IsUseful c s Reaper (ev.Expire session)
+  mute-useful session is =
+      let found = mute-at 1 s.sessions session is in
+      let begun : (session.0 == 0) ≡ false = grind (arith, nat_tests, found.named) in
+      let at : session.0 - 1 ≡ found.at = omega (arith, found.named) in
+      let known : session_of session s ≡ Some found.facts = rw (begun, at) found.there in
+      let parts = and-parts found.facts.live found.facts.mute found.mute in
+      record {
+        accepted = rw (known, parts.0) refl;
+        maker = refl;
+        row = or-first (is_mute session s) (is_struck_by is_expire c s session) (rw known parts.1);
+      }
 
   -- ## the choice
 
-  none : false ≡ true → ⊥
-  none is = cc
+  module _ (none_mute : first_mute s ≡ None) (none_struck : (role : Role) → strike_of c s role ≡ None) where
+    live : (session : SessionId) (what : Done) → judge c s (ev.Expire session) ≡ Ok what → (facts : SessionFacts) × ((session_of session s ≡ Some facts) × (facts.live ≡ true))
+    live session what is =
+        on-found (session_of session s) _ _ what is (λ facts known rest.
+        on-need facts.live _ _ what rest (λ live rest. (facts, (known, live))))
 
-  useless : ChoosesOfSessions c s of_session.Expire None → ChoosesOfSessions c s of_session.Crash None → (e : Event) → IsUseful c s Reaper e → ⊥
-  useless expire crash (ev.Expire session) useful = expire session useful
-  useless expire crash (ev.Crash session) useful = crash session useful
-  useless expire crash ev.Tick useful = none useful.row
-  useless expire crash (ev.OpenSession role) useful = none useful.row
-  useless expire crash (ev.Register session) useful = none useful.row
-  useless expire crash (ev.Submit session j) useful = none useful.row
-  useless expire crash (ev.Revise session j relative) useful = none useful.row
-  useless expire crash (ev.MinReady session l) useful = none useful.row
-  useless expire crash (ev.LockRequest session r) useful = none useful.row
-  useless expire crash (ev.UnlockRequest session r) useful = none useful.row
-  useless expire crash (ev.Accept session r) useful = none useful.row
-  useless expire crash (ev.Decline session r why) useful = none useful.row
-  useless expire crash (ev.TakeReady session r n) useful = none useful.row
-  useless expire crash (ev.Create session r) useful = none useful.row
-  useless expire crash (ev.Start session n) useful = none useful.row
-  useless expire crash (ev.Done session n attempt o) useful = none useful.row
-  useless expire crash (ev.Fulfil session r) useful = none useful.row
-  useless expire crash (ev.LockNode session n) useful = none useful.row
-  useless expire crash (ev.UnlockNode session n) useful = none useful.row
-  useless expire crash (ev.Acquire session j) useful = none useful.row
-  useless expire crash (ev.Take session j) useful = none useful.row
-  useless expire crash (ev.EndNode session n as_what) useful = none useful.row
-  useless expire crash (ev.Finish session j) useful = none useful.row
-  useless expire crash (ev.Withdraw session j) useful = none useful.row
-  useless expire crash (ev.Release session j) useful = none useful.row
-  useless expire crash (ev.MarkDeleting session n) useful = none useful.row
-  useless expire crash (ev.Gone session n) useful = none useful.row
-  useless expire crash (ev.Reset session r) useful = none useful.row
-  useless expire crash (ev.FreeNode session n) useful = none useful.row
-  useless expire crash (ev.FailDeclined session r) useful = none useful.row
-  useless expire crash (ev.Sweep session n x) useful = none useful.row
+    not-mute : (session : SessionId) (facts : SessionFacts) → session_of session s ≡ Some facts → facts.live ≡ true → is_mute session s ≡ false
+    not-mute session facts known live =
+        let other : (facts.live && facts.mute) ≡ false = none-mute 1 s.sessions (session.0 - 1) facts none_mute (session-at s session.0 facts known) in
+        let told : (facts.live && facts.mute) ≡ facts.mute = rw live refl in
+        rw known (sym told ∙ other)
 
-  pub some-chooses : (kind : SessionKind) (o : Option Event) → is_some o ≡ true → ChoosesOfSessions c s kind o → Chooses c s Reaper o
-  some-chooses kind None some chosen = absurd cc
-  some-chooses kind (Some e) some chosen = chosen
+    expire-row : (session : SessionId) (mute struck : Bool) → mute ≡ false → (mute || struck) ≡ true → struck ≡ true
+    expire-row session true struck mute is = absurd cc
+    expire-row session false struck mute is = is
 
-  pub both-choose : (first second : Option Event) → is_some first ≡ false → ChoosesOfSessions c s of_session.Expire first → ChoosesOfSessions c s of_session.Crash second → Chooses c s Reaper second
-  both-choose None None other expire crash = useless expire crash
-  both-choose None (Some e) other expire crash = crash
-  both-choose (Some x) second other expire crash = absurd cc
+    no-expire : (session : SessionId) → IsUseful c s Reaper (ev.Expire session) → ⊥
+    no-expire session useful =
+        let answer = ok-is (judge c s (ev.Expire session)) useful.accepted in
+        let found = live session answer.0 answer.1 in
+        unstruck c s none_struck is_expire session
+        (expire-row session (is_mute session s) (is_struck_by is_expire c s session) (not-mute session found.0 found.1.0 found.1.1) useful.row)
+
+    no-crash : (session : SessionId) → IsUseful c s Reaper (ev.Crash session) → ⊥
+    no-crash session useful = unstruck c s none_struck (λ kind. not (is_expire kind)) session useful.row
+
+    none : false ≡ true → ⊥
+    none is = cc
+
+    useless : (e : Event) → IsUseful c s Reaper e → ⊥
+    useless (ev.Expire session) useful = no-expire session useful
+    useless (ev.Crash session) useful = no-crash session useful
+    useless ev.Tick useful = none useful.row
+    useless (ev.OpenSession role) useful = none useful.row
+    useless (ev.Register session) useful = none useful.row
+    useless (ev.Submit session j) useful = none useful.row
+    useless (ev.Revise session j relative) useful = none useful.row
+    useless (ev.MinReady session l) useful = none useful.row
+    useless (ev.LockRequest session r) useful = none useful.row
+    useless (ev.UnlockRequest session r) useful = none useful.row
+    useless (ev.Accept session r) useful = none useful.row
+    useless (ev.Decline session r why) useful = none useful.row
+    useless (ev.TakeReady session r n) useful = none useful.row
+    useless (ev.Create session r) useful = none useful.row
+    useless (ev.Start session n) useful = none useful.row
+    useless (ev.Done session n attempt o) useful = none useful.row
+    useless (ev.Fulfil session r) useful = none useful.row
+    useless (ev.LockNode session n) useful = none useful.row
+    useless (ev.UnlockNode session n) useful = none useful.row
+    useless (ev.Acquire session j) useful = none useful.row
+    useless (ev.Take session j) useful = none useful.row
+    useless (ev.EndNode session n as_what) useful = none useful.row
+    useless (ev.Finish session j) useful = none useful.row
+    useless (ev.Withdraw session j) useful = none useful.row
+    useless (ev.Release session j) useful = none useful.row
+    useless (ev.MarkDeleting session n) useful = none useful.row
+    useless (ev.Gone session n) useful = none useful.row
+    useless (ev.Reset session r) useful = none useful.row
+    useless (ev.FreeNode session n) useful = none useful.row
+    useless (ev.FailDeclined session r) useful = none useful.row
+    useless (ev.Sweep session n x) useful = none useful.row
+
+  -- if no session is mute, the faults decide
+  pub strikes-choose : first_mute s ≡ None → (o : Option Event) → ChoosesStrike c s o → Chooses c s Reaper o
+  strikes-choose mute None strikes = useless mute strikes
+  strikes-choose mute (Some e) useful = useful

@@ -1,8 +1,9 @@
 -- which requests and nodes a janitor tries, by place
-use Rattle.std.specs.Prelude.{ℕ, Option, slice_get}
+use Rattle.std.specs.Prelude.{ℕ, Bool, Option, length, nat_lt, slice_get}
 use Rattle.std.specs.Option.{option_map}
 use Rattle.np_text.specs.declared.id.PoolId.{PoolId}
 use Rattle.np_text.specs.declared.id.SessionId.{SessionId}
+use Rattle.np_site.specs.Configuration.{Configuration}
 use Rattle.np_event.specs.declared.event.Event.{Event}
 use Rattle.np_event.specs.declared.event.Event.TheVariants as ev
 use Rattle.np_machine.specs.State.{State}
@@ -19,3 +20,7 @@ fail_declined_at s session at = option_map (λ r. ev.FailDeclined session r) (sl
 -- the session's lock of the node at the place among those of the pool that nobody holds
 abbrev pub lock_unheld_at : State → SessionId → PoolId → ℕ → Option Event
 lock_unheld_at s session p at = option_map (λ n. ev.LockNode session n) (slice_get (unheld_nodes p s) at)
+
+-- fewer registrations than pools, so that some pool has none
+abbrev pub lacks_registration : Configuration → State → Bool
+lacks_registration c s = nat_lt (length s.registrations) (length c.pools)

@@ -7,6 +7,7 @@ ghost use Rattle.np_machine.specs.Order.{is_pending_by};
 ghost use Rattle.np_machine.specs.Reasons.{is_paused};
 ghost use Rattle.np_machine.specs.Session.{is_role};
 ghost use Rattle.np_machine.specs.Tables.{node_holder};
+ghost use Rattle.np_changes.specs.Planned.{IsReached};
 ghost use Rattle.np_fits.specs.Fits.{Fits};
 ghost use Rattle.np_useful.specs.Cleanable.{is_cleanable};
 ghost use Rattle.np_useful.specs.Rows.{request_is, node_is, job_is, is_node_of, has_some_handle};
@@ -16,6 +17,7 @@ ghost use Rattle.np_roles.specs.declared.kind.RequestKind.TheVariants as of_requ
 ghost use Rattle.np_roles.specs.declared.kind.NodeKind.TheVariants as of_node;
 ghost use Rattle.np_roles.specs.declared.kind.JobKind.TheVariants as of_job;
 ghost use Rattle.np_roles.specs.Choices.{Chooses, ChoosesOf};
+ghost use Rattle.np_janitor.specs.Candidates.{lacks_registration};
 ghost use Rattle.np_janitor.specs.Order.{janitor_order};
 ghost use Rattle.np_janitor.specs.Finishes.{ChoosesFinish};
 
@@ -28,7 +30,7 @@ use np_roles::{
     first_release, first_that_passes, has_some_handle, is_stopped, may_open, passes,
 };
 use np_text::{
-    JobId, NodeId, PoolId, REQUESTERS, RequestId, RequestState, RequesterId, Role, SessionId,
+    JobId, NodeId, POOLS, PoolId, REQUESTERS, RequestId, RequestState, RequesterId, Role, SessionId,
 };
 
 /// The kinds that are tried before fail-declined, in the order of the crate's table. The machine
@@ -161,9 +163,9 @@ impl Rows for JanitorRows {
     }
 }
 
-/// The first useful finish of the requester's active jobs, which have asked for their nodes or use
-/// them, or `None` if the requester goes on or there is none. It tests each such job up to that
-/// one, and none of a requester that goes on.
+/// The first useful finish of the requester's active jobs, which use their nodes or whose request is
+/// fulfilled or failed, or `None` if the requester goes on or there is none. It tests each such job
+/// up to that one, and none of a requester that goes on.
 fn finish_for<L: Look>(
     look: &L,
     rows: &JanitorRows,
@@ -213,9 +215,24 @@ fn first_finish<L: Look>(look: &L, rows: &JanitorRows, session: SessionId) -> Op
     None
 }
 
+/// Whether there are fewer registrations than the configuration has pools, so that some pool has
+/// none. It costs the count of the registrations and one lookup in the configuration.
+fn lacks_registration<L: Look>(look: &L) -> bool
+    ensures { result ≡ lacks_registration (L.site look.now) (L.state look.now) }
+{
+    let config = look.config();
+    config.soundness();
+    let registrations = look.registrations();
+    registrations < POOLS as u32 && config.pool(PoolId(registrations as u16)).is_some()
+}
+
 /// The first useful failing of a request, by priority and then sequence, or `None` if and only if
-/// there is none. It tests the requests that are requested and that some pool declined.
+/// there is none. Only while a pool of the configuration has no registration, it tests the requests
+/// that are requested and that some pool declined. Otherwise there is none: a decline that leaves
+/// no registered pool fails the request at once, so each request that is requested has a pool of
+/// the configuration left that has not declined it, and that pool is registered.
 fn first_fail<L: Look>(look: &L, rows: &JanitorRows, session: SessionId) -> Option<Event>
+    requires reached { IsReached (L.site look.now) (L.state look.now) }
     requires fits { Fits (L.site look.now) (L.state look.now) }
     requires known { rows.now.known.paused ≡
         is_paused (L.site look.now) (L.state look.now) rows.now.known.pool }
@@ -223,6 +240,9 @@ fn first_fail<L: Look>(look: &L, rows: &JanitorRows, session: SessionId) -> Opti
     ensures { ChoosesOf (L.site look.now) (L.state look.now) (Janitor rows.now.known.pool)
         (Request of_request.FailDeclined) result }
 {
+    if !lacks_registration(look) {
+        return None;
+    }
     first_that_passes(look, rows, &FailsOfDeclined { session })
 }
 
@@ -255,12 +275,14 @@ fn first_node_lock<L: Look>(look: &L, rows: &JanitorRows, session: SessionId) ->
 }
 
 /// A useful event of the pool's janitor, the first in the order of the crate's table, or `None` if
-/// and only if there is none. Its cost grows with what its session queues for, with the requests
-/// that are pending by the pool and those that some pool declined, with the nodes of the pool that
+/// and only if there is none, in a state that a run reaches. Its cost grows with what its session
+/// queues for, with the requests that are pending by the pool, with the nodes of the pool that
 /// nobody holds, with the active jobs of the requesters that stopped for good, and with the handles
 /// that jobs have: each of these is found by a lookup if the state keeps an index, and so is the
-/// janitor's session.
+/// janitor's session. Only while a pool of the configuration has no registration, it grows with the
+/// requests that some pool declined, too.
 pub fn choose_janitor<L: Look>(look: &L, pool: PoolId) -> Option<Event>
+    requires reached { IsReached (L.site look.now) (L.state look.now) }
     requires fits { Fits (L.site look.now) (L.state look.now) }
     requires pool { is_role (L.site look.now) (Janitor pool) ≡ true }
     ensures { Chooses (L.site look.now) (L.state look.now) (Janitor pool) result }

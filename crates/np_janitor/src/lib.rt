@@ -20,17 +20,20 @@
 //! | lock-request | begins to give a request back |
 //! | lock-node | begins to clean up a node |
 //!
-//! The reaper first expires sessions, the oldest first, which frees what they hold, and then crashes
-//! those whose fault is due.
+//! The reaper first expires the oldest session that is live and mute, which frees what it holds.
+//! Then it goes through the configuration's faults in order: if the next fault of a fault's role is
+//! due, it expires or crashes the role's current session.
 //!
 //! A janitor's choice reads only what it may act on. It determines once whether the pool is paused.
 //! Then it tests, kind by kind and up to the first useful event,
 //!
 //! - the requests and nodes in whose queues its session is, for what only a session in a queue may
 //!   do,
-//! - the requests that are requested and that some pool declined, for fail-declined,
-//! - the jobs that have asked for their nodes or use them, of each requester that stopped for good,
-//!   for finish,
+//! - while a pool of the configuration has no registration, the requests that are requested and
+//!   that some pool declined, for fail-declined: once each pool has its registration, each request
+//!   that is requested has a registered pool left that has not declined it,
+//! - the active jobs of each requester that stopped for good, which use their nodes or whose request
+//!   is fulfilled or failed, for finish,
 //! - the jobs that have a handle, semaphore by semaphore, for release,
 //! - the requests that are pending by the pool, for lock-request, and
 //! - the nodes of the pool that nobody holds, for lock-node.
@@ -39,9 +42,12 @@
 //! the reader is a lookup, and the choice costs nothing for the other requests, nodes, jobs and
 //! sessions. So its cost grows with the number of these, and with the limit of requesters and the
 //! configuration's faults and semaphores. A test of a node determines whether another pool is
-//! paused only if the janitor waits at a node of that pool. The cost of the reaper's choice grows
-//! with the number of sessions, and with the faults of the configuration for each session that is
-//! not over.
+//! paused only if the janitor waits at a node of that pool.
+//!
+//! The oldest mute session and the current session of a role are such readers, too. So the cost of
+//! the reaper's choice grows with the configuration's faults and not with the sessions: a fault for
+//! which its role has not acted enough costs a lookup, and any other a walk of the faults up to the
+//! role's next one, or of all if none is left.
 #![tactic(auto)]
 
 mod cleanable;

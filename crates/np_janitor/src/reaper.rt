@@ -1,32 +1,24 @@
 //! The reaper, which ends sessions.
 
-ghost use Rattle.std.specs.Prelude.{◌≡◌, length, not};
+ghost use Rattle.std.specs.Prelude.{◌≡◌};
 ghost use Rattle.np_text.specs.declared.id.Role.TheVariants.{Reaper};
-ghost use Rattle.np_fits.specs.Fits.{Fits};
-ghost use Rattle.np_useful.specs.Reaper.{is_mute};
-ghost use Rattle.np_useful.specs.Sessions.{is_expire, is_struck_by};
+ghost use Rattle.np_useful.specs.Sessions.{is_due};
 ghost use Rattle.np_roles.specs.Choices.{Chooses};
-ghost use Rattle.np_janitor.specs.Struck.{due_kind, struck_kind, session_event, session_candidate, ChoosesOfSessions};
+ghost use Rattle.np_janitor.specs.Struck.{due_kind, strike_on, strike_of, strike_by, ChoosesStrike};
 
 use np_event::Event;
-use np_look::{Look, speaks_for};
-use np_roles::{Candidates, Rows, fault_of, first_that_passes, is_spoken_later, strikes_of};
-use np_site::FaultKind;
+use np_look::Look;
+use np_roles::{fault_of, strikes_of};
+use np_site::{Fault, FaultKind};
 use np_text::{Role, SessionId};
 
-/// A kind of event of the reaper.
-#[derive(Clone, Copy)]
-enum SessionKind {
-    Expire,
-    Crash,
-}
-
-fn session_event(kind: SessionKind, session: SessionId) -> Event
-    ensures { result ≡ session_event kind session }
+/// Whether the role has as many accepted events as the fault waits for.
+fn is_due<L: Look>(look: &L, role: Role, fault: &Fault) -> bool
+    ensures { result ≡ is_due role (L.state look.now) fault.now }
 {
-    match kind {
-        SessionKind::Expire => Event::Expire { session },
-        SessionKind::Crash => Event::Crash { session },
+    match look.role(role) {
+        None => false,
+        Some(deeds) => fault.after <= deeds.acts,
     }
 }
 
@@ -35,125 +27,76 @@ fn due_kind<L: Look>(look: &L, role: Role) -> Option<FaultKind>
     ensures { result ≡ due_kind (L.site look.now) role (L.state look.now) }
 {
     let fault = fault_of(look.config(), role, strikes_of(look, role))?;
-    let deeds = look.role(role)?;
-    if fault.after <= deeds.acts {
+    if is_due(look, role, &fault) {
         Some(fault.kind)
     } else {
         None
     }
 }
 
-/// The kind of the fault that is due for the session's role, if it is the role's current session.
-fn struck_kind<L: Look>(look: &L, session: SessionId) -> Option<FaultKind>
-    requires { Fits (L.site look.now) (L.state look.now) }
-    ensures { result ≡ struck_kind (L.site look.now) (L.state look.now) session }
+/// What a fault of the kind does to the session: the session ends, or its party crashes.
+fn strike_on(kind: FaultKind, session: SessionId) -> Event
+    ensures { result ≡ strike_on kind session }
 {
-    let facts = look.session(session)?;
-    if !speaks_for(facts.role, &facts) {
-        return None;
-    }
-    let kind = due_kind(look, facts.role)?;
-    if is_spoken_later(look, facts.role, session) {
-        return None;
-    }
-    Some(kind)
-}
-
-/// Whether the session's party has stopped.
-fn is_mute<L: Look>(look: &L, session: SessionId) -> bool
-    ensures { result ≡ is_mute session (L.state look.now) }
-{
-    match look.session(session) {
-        None => false,
-        Some(facts) => facts.mute,
+    match kind {
+        FaultKind::Expire => Event::Expire { session },
+        FaultKind::Crash | FaultKind::Stop => Event::Crash { session },
     }
 }
 
-/// Whether an expiry is due for the session.
-fn is_to_expire<L: Look>(look: &L, session: SessionId) -> bool
-    requires { Fits (L.site look.now) (L.state look.now) }
-    ensures { result ≡ is_struck_by is_expire (L.site look.now) (L.state look.now) session }
+/// What the role's next fault does to the role's current session, if the fault is due. It walks the
+/// configuration's faults up to that one, or all if none is left, and looks the session up only for
+/// one that is due.
+fn strike_of<L: Look>(look: &L, role: Role) -> Option<Event>
+    ensures { result ≡ strike_of (L.site look.now) (L.state look.now) role }
 {
-    match struck_kind(look, session) {
-        None => false,
-        Some(kind) => kind == FaultKind::Expire,
+    let kind = due_kind(look, role)?;
+    let session = look.current_session(role)?;
+    Some(strike_on(kind, session))
+}
+
+/// What strikes the role of a fault now, if the role has as many accepted events as the fault waits
+/// for. If it has fewer, the cost is one lookup.
+fn strike_by<L: Look>(look: &L, fault: &Fault) -> Option<Event>
+    ensures { result ≡ strike_by (L.site look.now) (L.state look.now) fault.now }
+{
+    if is_due(look, fault.role, fault) {
+        strike_of(look, fault.role)
+    } else {
+        None
     }
 }
 
-/// Whether a crash or a stop is due for the session.
-fn is_to_crash<L: Look>(look: &L, session: SessionId) -> bool
-    requires { Fits (L.site look.now) (L.state look.now) }
-    ensures { result ≡ is_struck_by (λ kind. not (is_expire kind)) (L.site look.now)
-        (L.state look.now) session }
+/// What strikes a role now, for the first fault in the configuration's order whose role is struck,
+/// or `None` if and only if no role is. It walks the faults up to that one.
+fn first_strike<L: Look>(look: &L) -> Option<Event>
+    ensures { ChoosesStrike (L.site look.now) (L.state look.now) result }
 {
-    match struck_kind(look, session) {
-        None => false,
-        Some(kind) => kind != FaultKind::Expire,
-    }
-}
-
-/// The rows of the reaper.
-#[derive(Clone, Copy)]
-struct ReaperRows;
-
-impl Rows for ReaperRows {
-    ghost role = { λ rows. Reaper };
-
-    ghost knows = { λ rows c s. Unit {0} };
-
-    fn holds<L: Look>(&self, look: &L, event: Event) -> bool {
-        match event {
-            Event::Expire { session } => is_mute(look, session) || is_to_expire(look, session),
-            Event::Crash { session } => is_to_crash(look, session),
-            _ => false,
+    let config = look.config();
+    config.soundness();
+    let mut at = 0;
+    while let Some(fault) = config.fault(at) {
+        let found = strike_by(look, fault);
+        if found.is_some() {
+            return found;
         }
+        at += 1;
     }
+    None
 }
 
-/// The events of the kind, by session.
-#[derive(Clone, Copy)]
-struct OfSessions {
-    kind: SessionKind,
-}
-
-impl Candidates for OfSessions {
-    ghost places = { λ of c s. length s.sessions };
-
-    ghost candidate = { λ of c s at. session_candidate s of.kind at };
-
-    fn places<L: Look>(&self, look: &L) -> u32 {
-        look.sessions()
-    }
-
-    fn candidate<L: Look>(&self, look: &L, at: u32) -> Option<Event> {
-        if at < look.sessions() {
-            Some(session_event(self.kind, SessionId(at + 1)))
-        } else {
-            None
-        }
-    }
-}
-
-/// The first useful event of the kind, in the order of sessions, or `None` if and only if there is
-/// none.
-fn first_of_sessions<L: Look>(look: &L, kind: SessionKind) -> Option<Event>
-    requires { Fits (L.site look.now) (L.state look.now) }
-    ensures { ChoosesOfSessions (L.site look.now) (L.state look.now) kind result }
-{
-    first_that_passes(look, &ReaperRows, &OfSessions { kind })
-}
-
-/// A useful event of the reaper, or `None` if and only if there is none: for the oldest session
-/// that must expire, and otherwise for the oldest whose crash or stop is due. Its cost grows with
-/// the number of sessions ever begun, and for each one that is not over with the configuration's
-/// faults and, if a fault of its role is due, with the sessions that began after it.
+/// A useful event of the reaper, or `None` if and only if there is none. First comes the expiry of
+/// the oldest session that is live and mute. Then come the expiries and crashes that are due, in
+/// the order of the configuration's faults. Its cost grows with the number of these faults and not
+/// with the number of sessions, if the readers `first_mute` and `current_session` are lookups, as
+/// with an index: a fault for which its role has not acted enough yet costs one lookup, and any
+/// other a walk of the faults up to the role's next one, or of all if none is left. If that one is
+/// due, the role's session is looked up.
 pub fn choose_reaper<L: Look>(look: &L) -> Option<Event>
-    requires { Fits (L.site look.now) (L.state look.now) }
     ensures { Chooses (L.site look.now) (L.state look.now) Reaper result }
 {
-    let found = first_of_sessions(look, SessionKind::Expire);
-    if found.is_some() {
-        return found;
+    match look.first_mute() {
+        Some(session) => Some(Event::Expire { session }),
+        None => first_strike(look),
     }
-    first_of_sessions(look, SessionKind::Crash)
 }

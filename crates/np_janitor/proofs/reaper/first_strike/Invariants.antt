@@ -1,0 +1,12 @@
+use Rattle.std.proofs.Common.{◌≡◌, ◌<◌, ◌-◌, ℕ, length, Some, None}
+use Rattle.std.specs.Prelude.{slice_get}
+use Rattle.np_site.specs.declared.row.Fault.{Fault}
+use Rattle.np_janitor.specs.Struck.{strike_by}
+use Rattle.np_janitor.proofs.reaper.first_strike.Given as goal
+
+abbrev pub invariant-loop-fault : goal.invariant-loop-fault
+invariant-loop-fault g l =
+    (k : ℕ) → k < l.at → (f : Fault) → slice_get l.config.faults k ≡ Some f → strike_by (g.L.Look.site l.look) (g.L.Look.state l.look) f ≡ None
+
+abbrev pub decreases-loop-fault : goal.decreases-loop-fault
+decreases-loop-fault g l = length l.config.faults - l.at
