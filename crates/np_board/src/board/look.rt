@@ -252,7 +252,11 @@ impl Look for Board {
         self.index().current_session(role)
     }
 
+    fn first_mute(&self) -> Option<SessionId> {
+        self.index().first_mute()
+    }
+
     fn has_live_session(&self, requester: RequesterId) -> bool {
-        self.tree().has_live_session(requester)
+        self.index().has_live_session(requester)
     }
 }
