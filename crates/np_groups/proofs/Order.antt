@@ -1,6 +1,6 @@
 -- the order of members, from that of their ids
-use Rattle.std.proofs.Common.{◌≡◌, Bool, true, false, not, cond, refl, arith}
-use Rattle.std.specs.Prelude.{◌&&◌}
+use Rattle.std.proofs.Common.{◌≡◌, ℕ, Bool, true, false, not, cond, refl, arith}
+use Rattle.std.specs.Prelude.{◌&&◌, ◌==◌, nat_lt}
 use Rattle.std.proofs.lemmas.Bool.Decides.{nat_tests}
 use Rattle.np_groups.specs.declared.groups.Group.{Group}
 use Rattle.np_groups.specs.declared.groups.Member.{Member}
@@ -13,7 +13,8 @@ group-equal a b same =
     let class : a.class ≡ b.class = grind (arith, nat_tests) in
     let first : a.first ≡ b.first = grind (arith, nat_tests) in
     let second : a.second ≡ b.second = grind (arith, nat_tests) in
-    let group : record { class = a.class; first = a.first; second = a.second } ≡ record { class = b.class; first = b.first; second = b.second } = rw (class, first, second) refl in
+    let third : a.third ≡ b.third = grind (arith, nat_tests) in
+    let group : record { class = a.class; first = a.first; second = a.second; third = a.third } ≡ record { class = b.class; first = b.first; second = b.second; third = b.third } = rw (class, first, second, third) refl in
     group
 
 pub group-itself : (a : Group) → same_group a a ≡ true
@@ -26,8 +27,19 @@ group-turned a b false other = grind (arith, nat_tests)
 pub group-apart : (a b : Group) → is_group_before a b ≡ true → same_group a b ≡ false
 group-apart a b first = grind (arith, nat_tests)
 
+lt-transitive : (x y z : ℕ) → nat_lt x y ≡ true → nat_lt y z ≡ true → nat_lt x z ≡ true
+lt-transitive x y z first second = grind (arith, nat_tests)
+
+-- an order by a number, and between equal ones by what follows
+number-transitive : (x y z : ℕ) (xy yz xz : Bool) → (xy ≡ true → yz ≡ true → xz ≡ true)
+    → cond (x == y) xy (nat_lt x y) ≡ true → cond (y == z) yz (nat_lt y z) ≡ true → cond (x == z) xz (nat_lt x z) ≡ true
+number-transitive x y z xy yz xz rest first second = grind (arith, nat_tests)
+
 pub group-transitive : (a b k : Group) → is_group_before a b ≡ true → is_group_before b k ≡ true → is_group_before a k ≡ true
-group-transitive a b k first second = grind (arith, nat_tests)
+group-transitive a b k =
+    number-transitive a.class b.class k.class _ _ _
+    (number-transitive a.first b.first k.first _ _ _
+    (number-transitive a.second b.second k.second _ _ _ (lt-transitive a.third b.third k.third)))
 
 pub group-one_way : (a b : Group) → is_group_before a b ≡ true → is_group_before b a ≡ false
 group-one_way a b first = grind (arith, nat_tests)

@@ -9,13 +9,13 @@ use Rattle.np_groups.specs.declared.groups.Member.{Member}
 -- ## the order
 
 abbrev pub same_group : Group → Group → Bool
-same_group a b = (a.class == b.class) && ((a.first == b.first) && (a.second == b.second))
+same_group a b = (a.class == b.class) && ((a.first == b.first) && ((a.second == b.second) && (a.third == b.third)))
 
--- by class, then by the first number, then by the second
+-- by class, then by the first number, then by the second, then by the third
 abbrev pub is_group_before : Group → Group → Bool
 is_group_before a b =
     if a.class == b.class
-    then (if a.first == b.first then nat_lt a.second b.second else nat_lt a.first b.first)
+    then (if a.first == b.first then (if a.second == b.second then nat_lt a.third b.third else nat_lt a.second b.second) else nat_lt a.first b.first)
     else nat_lt a.class b.class
 
 -- by group, then by id

@@ -15,12 +15,13 @@ use np_table::Order;
 use std::alloc::{AllocError, Global};
 use std::marker::Model;
 
-/// Which group: by a class, and up to two numbers. Where a class needs fewer, the others are 0.
+/// Which group: by a class, and up to three numbers. Where a class needs fewer, the others are 0.
 #[derive(Clone, Copy, PartialEq)]
 pub struct Group {
     pub class: u8,
     pub first: u16,
     pub second: u16,
+    pub third: u64,
 }
 
 /// An id in a group.
@@ -33,7 +34,10 @@ pub struct Member<K> {
 fn is_same_group(one: Group, other: Group) -> bool
     ensures { result ≡ same_group one other }
 {
-    one.class == other.class && one.first == other.first && one.second == other.second
+    one.class == other.class
+        && one.first == other.first
+        && one.second == other.second
+        && one.third == other.third
 }
 
 fn is_group_before(one: Group, other: Group) -> bool
@@ -45,7 +49,10 @@ fn is_group_before(one: Group, other: Group) -> bool
     if one.first != other.first {
         return one.first < other.first;
     }
-    one.second < other.second
+    if one.second != other.second {
+        return one.second < other.second;
+    }
+    one.third < other.third
 }
 
 fn is_member_before<O: Order>(one: Member<O::Key>, other: Member<O::Key>) -> bool
