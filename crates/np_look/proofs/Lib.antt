@@ -6,3 +6,4 @@ pub mod Used
 pub mod Blocking
 pub mod Placed
 pub mod Speakers
+pub mod Due

@@ -28,7 +28,7 @@ use Rattle.np_machine.specs.Reasons.{is_spare, is_stuck, next_label}
 use Rattle.np_fits.specs.Fits.{most, Fits, NodeFits}
 use Rattle.np_look.specs.Views.{request_view, node_view, request_seen, node_seen, comes_first}
 use Rattle.np_look.specs.declared.asked.RequestView.{RequestView}
-use Rattle.np_look.specs.Readers.{short_label, is_unheld}
+use Rattle.np_look.specs.Readers.{short_label}
 use Rattle.np_look.proofs.Walks.{take_there, drop_past}
 
 spare_by : (p : PoolId) (l : LabelId) (n : NodeId) (k : NodeRecord) (queue : List SessionId) → is_spare p l (record { id = n; kept = k; queue = queue }) ≡ is_spare p l (node_seen (node_view (record { id = n; kept = k; queue = queue })))
@@ -37,15 +37,6 @@ spare_by p l n k (session ∷ queue) = refl
 
 pub spare-seen : (p : PoolId) (l : LabelId) (e : NodeEntry) → is_spare p l e ≡ is_spare p l (node_seen (node_view e))
 spare-seen p l e = spare_by p l e.id e.kept e.queue
-
--- by the queue
-unheld_by : (p : PoolId) (n : NodeId) (k : NodeRecord) (queue : List SessionId) → is_unheld p (record { id = n; kept = k; queue = queue }) ≡ is_unheld p (node_seen (node_view (record { id = n; kept = k; queue = queue })))
-unheld_by p n k [] = refl
-unheld_by p n k (session ∷ queue) = refl
-
--- a node is as unheld as its view shows it
-pub unheld-seen : (p : PoolId) (e : NodeEntry) → is_unheld p e ≡ is_unheld p (node_seen (node_view e))
-unheld-seen p e = unheld_by p e.id e.kept e.queue
 
 open_by : (p : PoolId) (r : RequestId) (k : RequestRecord) (queue : List SessionId) → is_open_to p (record { id = r; kept = k; queue = queue }) ≡ is_open_to p (request_seen (request_view (record { id = r; kept = k; queue = queue })))
 open_by p r k [] = refl

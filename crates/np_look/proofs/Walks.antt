@@ -1,6 +1,6 @@
 -- a list from a place on, and up to a place
 use Rattle.std.proofs.Common.{◌≡◌, ◌<◌, ◌≤◌, ℕ, zero, suc, ◌+◌, ◌-◌, List, [], ◌∷◌, ◌++◌, length, take, drop, map, refl, ap, sym, ◌∙◌, arith, Bool, true, false, cond, Option, Some, None}
-use Rattle.std.specs.Prelude.{slice_get, ◌||◌, ◌&&◌, count_by, filter}
+use Rattle.std.specs.Prelude.{slice_get, ◌||◌, ◌&&◌, count_by, filter, find}
 use Rattle.std.specs.Option.{option_map}
 use Rattle.std.specs.List.{list_any, list_all}
 use Rattle.std.proofs.lemmas.List.{take_more, length-map}
@@ -25,6 +25,17 @@ module _ {X Y : Type 0} (p : Y → Bool) (f : X → Y) (q : X → Bool) (same : 
   count_here [] i y is = absurd cc
   count_here (x ∷ xs) zero y is = let here : f x ≡ y = cc in sum_by-cons (λ z. cond (q z) 1 0) x xs ∙ rw (same x, here) refl
   count_here (x ∷ xs) (suc i) y is = count_here xs i y is
+
+  -- the first that passes is here, or later
+  pub found_here : {I : Type 0} (id : Y → I) (xs : List X) (i : ℕ) (y : Y) → option_map f (slice_get xs i) ≡ Some y → p y ≡ true → option_map (λ x. id (f x)) (find q (drop i xs)) ≡ Some (id y)
+  found_here id [] i y is passes = absurd cc
+  found_here id (x ∷ xs) zero y is passes = let here : f x ≡ y = cc in rw (same x, here, passes) (ap (λ (z : Y). Some (id z)) here)
+  found_here id (x ∷ xs) (suc i) y is passes = found_here id xs i y is passes
+
+  pub found_later : (xs : List X) (i : ℕ) (y : Y) → option_map f (slice_get xs i) ≡ Some y → p y ≡ false → find q (drop i xs) ≡ find q (drop (suc i) xs)
+  found_later [] i y is fails = absurd cc
+  found_later (x ∷ xs) zero y is fails = let here : f x ≡ y = cc in rw (same x, here, fails) refl
+  found_later (x ∷ xs) (suc i) y is fails = found_later xs i y is fails
 
 -- past the end there is none
 pub drop_past : {X : Type 0} (xs : List X) (i : ℕ) → slice_get xs i ≡ None → drop i xs ≡ []

@@ -1,5 +1,5 @@
 -- what the readers of a state return, beyond the machine's own definitions
-use Rattle.std.specs.Prelude.{ℕ, suc, Bool, false, ◌==◌, ◌&&◌, ◌||◌, not, if◌then◌else◌, List, [], ◌∷◌, filter, map, Option, Some, None, is_some, is_none, option_and_then, slice_get, length}
+use Rattle.std.specs.Prelude.{ℕ, suc, Bool, true, false, ◌==◌, ◌&&◌, ◌||◌, not, if◌then◌else◌, List, [], ◌∷◌, filter, find, fold, map, Option, Some, None, is_some, is_none, option_and_then, slice_get, length, nat_lt}
 use Rattle.std.specs.Option.{option_map, option_map_or, option_or}
 use Rattle.np_amount.specs.declared.amount.Amount.{Amount}
 use Rattle.np_amount.specs.declared.amount.Limit.{Limit}
@@ -15,6 +15,9 @@ use Rattle.np_text.specs.declared.id.SessionId.{SessionId}
 use Rattle.np_text.specs.declared.id.TenantId.{TenantId}
 use Rattle.np_text.specs.declared.id.Role.{Role}
 use Rattle.np_text.specs.declared.word.RequestState.{RequestState}
+use Rattle.np_text.specs.declared.word.NodeState.{NodeState}
+use Rattle.np_text.specs.declared.word.NodeState.TheVariants as node_state
+use Rattle.np_record.specs.declared.record.NodeRecord.{NodeRecord}
 use Rattle.np_record.specs.declared.record.RequestRecord.{RequestRecord}
 use Rattle.np_record.specs.declared.record.JobRecord.{JobRecord}
 use Rattle.np_machine.specs.Entries.{RequestEntry, NodeEntry}
@@ -22,13 +25,16 @@ use Rattle.np_machine.specs.State.{State}
 use Rattle.np_machine.specs.Tables.{request_in, is_queued, holder}
 use Rattle.np_machine.specs.Count.{amount_of, limit_of}
 use Rattle.np_machine.specs.Tenants.{limit_of_tenant, tenant_of_request, is_tenant, amount_of_node, rest_of_request, is_pending_of}
-use Rattle.np_machine.specs.Kinds.{is_asked, is_using, is_over, is_requested, is_fulfilled, is_failed}
+use Rattle.np_machine.specs.Kinds.{is_asked, is_new, is_using, is_over, is_requested, is_fulfilled, is_failed}
 use Rattle.np_machine.specs.Laws.{speaks_for}
 use Rattle.np_machine.specs.declared.state.SessionFacts.{SessionFacts}
-use Rattle.np_machine.specs.Reasons.{next_label, is_spare}
+use Rattle.np_machine.specs.Reasons.{next_label, is_spare, ready_age, due_tick}
 use Rattle.np_machine.specs.First.{may_fit}
 use Rattle.np_machine.specs.Order.{is_declined_by, is_pending_by}
 use Rattle.np_machine.specs.Request.{undeclined}
+use Rattle.np_machine.specs.Node.{standing}
+use Rattle.np_look.specs.declared.asked.UnheldKind.{UnheldKind}
+use Rattle.np_look.specs.declared.asked.UnheldKind.TheVariants as kind
 use Rattle.np_changes.specs.Readers.{is_last_pool}
 
 -- whether the pool is among the request's declines
@@ -126,6 +132,14 @@ active_jobs c q s = jobs_from (is_active_job c s q) 0 s.jobs
 abbrev pub active_of : Configuration → RequesterId → ℕ → State → Option JobId
 active_of c q at s = slice_get (active_jobs c q s) at
 
+-- a job of the requester that is new
+abbrev pub is_new_job : Configuration → RequesterId → JobId → JobRecord → Bool
+is_new_job c q j kept = option_map_or (λ row. row.requester.0 == q.0) (slice_get c.jobs j.0) false && is_new kept.phase
+
+-- the new jobs of the requester, in order: the one at this place
+abbrev pub new_of : Configuration → RequesterId → ℕ → State → Option JobId
+new_of c q at s = slice_get (jobs_from (is_new_job c q) 0 s.jobs) at
+
 -- ## sessions
 
 -- the last of these sessions that speaks for the role, the first of which has this number
@@ -163,18 +177,77 @@ queued_nodes session s = map (λ e. e.id) (filter (λ e. is_queued session e.que
 abbrev pub pending_requests : PoolId → State → List RequestId
 pending_requests p s = map (λ e. e.id) (filter (λ e. is_pending_by p e.kept) s.requests)
 
--- requested, and at least one pool declined it
-abbrev pub is_still_requested : RequestRecord → Bool
-is_still_requested request = is_requested request.state && not (length request.declined == 0)
+-- requested, and every registered pool declined it
+abbrev pub is_declined_by_all : State → RequestRecord → Bool
+is_declined_by_all s request = is_requested request.state && (undeclined s.registrations request == 0)
 
--- the requests that are requested, and that at least one pool declined
-abbrev pub declined_requests : State → List RequestId
-declined_requests s = map (λ e. e.id) (filter (λ e. is_still_requested e.kept) s.requests)
+-- the first such request, if a pool is registered
+abbrev pub first_declined_by_all : State → Option RequestId
+first_declined_by_all s = if length s.registrations == 0 then None else option_map (λ e. e.id) (find (λ e. is_declined_by_all s e.kept) s.requests)
+
+-- ## nodes that nobody holds, by kind
 
 -- a node of the pool that nobody holds
 abbrev pub is_unheld : PoolId → NodeEntry → Bool
 is_unheld p e = (e.kept.pool.0 == p.0) && is_none (holder e.queue)
 
--- the nodes of the pool that nobody holds, by number
-abbrev pub unheld_nodes : PoolId → State → List NodeId
-unheld_nodes p s = map (λ e. e.id) (filter (is_unheld p) s.nodes)
+-- allocated to no request, or to one that is gone
+abbrev pub is_unclaimed : State → NodeRecord → Bool
+is_unclaimed s k = is_none (standing s k.allocated_to)
+
+-- the kind of a node in this state, by whether it is unclaimed; a ready node that a request claims is
+-- of no kind
+abbrev pub unheld_kind_as : NodeState → Bool → NodeRecord → Option UnheldKind
+unheld_kind_as node_state.Building unclaimed k = Some kind.Abandoned
+unheld_kind_as node_state.Ready unclaimed k =
+    if unclaimed then (if is_none k.allocated_to then Some kind.Free else Some kind.LeftOver) else None
+unheld_kind_as node_state.InUse unclaimed k = Some kind.Abandoned
+unheld_kind_as node_state.Used unclaimed k = Some kind.Abandoned
+unheld_kind_as node_state.Hold unclaimed k = Some kind.Hold
+unheld_kind_as node_state.Deleting unclaimed k = Some kind.Abandoned
+unheld_kind_as node_state.Failed unclaimed k = Some kind.Abandoned
+
+abbrev pub unheld_kind : Bool → NodeRecord → Option UnheldKind
+unheld_kind unclaimed k = unheld_kind_as k.state unclaimed k
+
+abbrev pub same_kind : UnheldKind → UnheldKind → Bool
+same_kind kind.Free kind.Free = true
+same_kind kind.LeftOver kind.LeftOver = true
+same_kind kind.Hold kind.Hold = true
+same_kind kind.Abandoned kind.Abandoned = true
+same_kind _ _ = false
+
+-- a node of the pool that nobody holds, of this kind, by whether it is unclaimed
+abbrev pub is_unheld_by : PoolId → UnheldKind → Bool → NodeEntry → Bool
+is_unheld_by p kind unclaimed e = is_unheld p e && option_map_or (same_kind kind) (unheld_kind unclaimed e.kept) false
+
+abbrev pub is_unheld_as : State → PoolId → UnheldKind → NodeEntry → Bool
+is_unheld_as s p kind e = is_unheld_by p kind (is_unclaimed s e.kept) e
+
+-- after all ticks: 2 to the 33rd, more than two numbers of 32 bits and one
+abbrev pub never : ℕ
+never = 8589934592
+
+-- the first tick at which it is past the age; `never` if there is no age
+abbrev pub due_after : ℕ → ℕ → ℕ
+due_after age since = if age == 0 then never else due_tick age since
+
+-- the tick at which a node of the kind is due: when it is past its age, or when its state began if no
+-- age counts
+abbrev pub due_of : Configuration → UnheldKind → NodeRecord → ℕ
+due_of c kind.Free k = due_after (ready_age c k.label) k.since
+due_of c kind.LeftOver k = k.since
+due_of c kind.Hold k = due_after c.max_hold_age k.since
+due_of c kind.Abandoned k = k.since
+
+-- of two nodes the one that is due first; of two that are due at one tick the first
+abbrev pub sooner : Configuration → UnheldKind → Option NodeEntry → NodeEntry → Option NodeEntry
+sooner c kind None e = Some e
+sooner c kind (Some best) e = if nat_lt (due_of c kind e.kept) (due_of c kind best.kept) then Some e else Some best
+
+abbrev pub soonest : Configuration → UnheldKind → List NodeEntry → Option NodeEntry
+soonest c kind rows = fold (sooner c kind) None rows
+
+-- the node of the pool that nobody holds and that is of this kind which is due first
+abbrev pub first_due : Configuration → PoolId → UnheldKind → State → Option NodeId
+first_due c p kind s = option_map (λ e. e.id) (soonest c kind (filter (is_unheld_as s p kind) s.nodes))

@@ -1,10 +1,13 @@
 -- rows with who holds them
-use Rattle.std.specs.Prelude.{List, [], ◌∷◌, Bool, true, Option, Some, None}
+use Rattle.std.specs.Prelude.{List, [], ◌∷◌, Bool, true, Option, Some, None, nat_lt}
 use Rattle.np_text.specs.declared.id.SessionId.{SessionId}
 use Rattle.np_machine.specs.Entries.{RequestEntry, NodeEntry}
 use Rattle.np_machine.specs.Tables.{holder}
 use Rattle.np_machine.specs.Order.{comes_before}
+use Rattle.np_site.specs.Configuration.{Configuration}
+use Rattle.np_look.specs.Readers.{due_of}
 use Rattle.np_look.specs.declared.asked.RequestView.{RequestView}
+use Rattle.np_look.specs.declared.asked.UnheldKind.{UnheldKind}
 use Rattle.np_look.specs.declared.asked.NodeView.{NodeView}
 
 abbrev pub request_view : RequestEntry → RequestView
@@ -29,3 +32,8 @@ node_seen v = record { id = v.id; kept = v.kept; queue = held_by v.holder }
 abbrev pub comes_first : Option RequestView → RequestView → Bool
 comes_first None v = true
 comes_first (Some best) v = comes_before (request_seen v) (request_seen best)
+
+-- due before the best so far, if there is one
+abbrev pub is_sooner : Configuration → UnheldKind → Option NodeView → NodeView → Bool
+is_sooner c kind None v = true
+is_sooner c kind (Some best) v = nat_lt (due_of c kind v.kept) (due_of c kind best.kept)

@@ -11,7 +11,7 @@ mod look;
 mod tenant;
 mod walk;
 
-pub use asked::{NodeView, RequestView};
+pub use asked::{NodeView, RequestView, UnheldKind};
 pub use count::{
     NOTHING, amount, amount_of_all, first_unoffered, is_offered, is_too_much, lacks_room, offers,
     ready_age, retries,
@@ -19,7 +19,7 @@ pub use count::{
 pub use look::Look;
 pub use tenant::{is_short_of, limited_tenant, tenant_never_fits, tenant_of_job};
 pub use walk::{
-    asked_of, comes_before, declines_or_is, is_active_job, is_coming, is_declined_by,
-    is_free_ready, is_live_of, is_marked, is_mute, is_open_to, is_requester, is_same_role,
-    is_spent_min_ready, speaks_for,
+    asked_of, comes_before, declines_or_is, due_of, is_active_job, is_coming, is_declined_by,
+    is_free_ready, is_live_of, is_marked, is_mute, is_new_job, is_open_to, is_requester,
+    is_same_role, is_spent_min_ready, speaks_for, unheld_kind,
 };

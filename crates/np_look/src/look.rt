@@ -10,22 +10,22 @@ ghost use Rattle.np_machine.specs.Count.{count_of};
 ghost use Rattle.np_machine.specs.Tenants.{count_of_tenant};
 ghost use Rattle.np_machine.specs.Reasons.{is_spare, is_paused};
 ghost use Rattle.np_machine.specs.First.{blocking, first_of};
-ghost use Rattle.np_machine.specs.Request.{is_spent_min_ready, ready_count};
+ghost use Rattle.np_machine.specs.Request.{is_spent_min_ready, ready_count, undeclined};
 ghost use Rattle.np_machine.specs.Node.{is_swept};
 ghost use Rattle.np_machine.specs.Semaphore.{has_live_session};
 ghost use Rattle.np_fits.specs.Fits.{Fits};
 ghost use Rattle.np_changes.specs.Asked.{asked_of, new_record};
 ghost use Rattle.np_look.specs.Views.{request_view, node_view};
 ghost use Rattle.np_changes.specs.Readers.{owner_of};
-ghost use Rattle.np_look.specs.Readers.{is_declined, undeclined_of, is_last_pool_of, free_ready_of, unfinished_of, active_of, request_state_of, first_mute, current_of, queued_requests, queued_nodes, pending_requests, declined_requests, unheld_nodes};
+ghost use Rattle.np_look.specs.Readers.{is_declined, undeclined_of, is_last_pool_of, free_ready_of, unfinished_of, active_of, new_of, request_state_of, first_mute, current_of, queued_requests, queued_nodes, pending_requests, is_declined_by_all, first_declined_by_all, is_unclaimed, first_due};
 
-use crate::asked::{NodeView, RequestView};
+use crate::asked::{NodeView, RequestView, UnheldKind};
 use crate::count::{NOTHING, amount_at};
 use crate::tenant::{amount_for, is_short_of, limited_tenant, rest_for};
 use crate::walk::{
     asked_of, declines_or_is, is_active_job, is_better, is_coming, is_declined_by, is_free_ready,
-    is_live_of, is_marked, is_mute, is_pending_by, is_spare, is_spent_min_ready,
-    is_still_requested, is_unfinished_job, is_unheld, one_if, short_label, speaks_for,
+    is_live_of, is_marked, is_mute, is_new_job, is_pending_by, is_requested, is_sooner_unheld,
+    is_spare, is_spent_min_ready, is_unfinished_job, one_if, short_label, speaks_for,
 };
 use np_amount::Amount;
 use np_changes::Asked;
@@ -207,13 +207,10 @@ pub trait Look {
         }
     }
 
-    /// How many registered pools have not declined the request.
-    fn undeclined(&self, request: RequestId) -> u32
-        ensures { result ≡ undeclined_of request (state self.now) }
+    /// How many registered pools are not among the record's declines.
+    fn undeclined_by(&self, kept: &RequestRecord) -> u32
+        ensures { result ≡ undeclined (state self.now).registrations kept.now }
     {
-        let Some(kept) = self.request(request) else {
-            return 0;
-        };
         let mut count = 0;
         for at in 0..self.registrations() {
             let Some(row) = self.registration_at(at) else {
@@ -222,6 +219,16 @@ pub trait Look {
             count += one_if(!is_declined_by(row.pool, kept.declined.items()));
         }
         count
+    }
+
+    /// How many registered pools have not declined the request.
+    fn undeclined(&self, request: RequestId) -> u32
+        ensures { result ≡ undeclined_of request (state self.now) }
+    {
+        match self.request(request) {
+            None => 0,
+            Some(kept) => self.undeclined_by(&kept),
+        }
     }
 
     /// Whether every other registered pool has declined the request.
@@ -508,6 +515,27 @@ pub trait Look {
         None
     }
 
+    /// The job at a place among the requester's new jobs, in order of their numbers. This body scans
+    /// every job up to that one.
+    fn new_job(&self, requester: RequesterId, at: u32) -> Option<JobId>
+        ensures { result ≡ new_of (site self.now) requester at (state self.now) }
+    {
+        let mut left = at;
+        for number in 0..self.jobs() {
+            let Some(kept) = self.job(JobId(number)) else {
+                return None;
+            };
+            if !is_new_job(self.config(), requester, JobId(number), &kept) {
+                continue;
+            }
+            if left == 0 {
+                return Some(JobId(number));
+            }
+            left -= 1;
+        }
+        None
+    }
+
     /// The first job that has the node.
     fn owner(&self, node: NodeId) -> Option<JobId>
         ensures { result ≡ owner_of node (state self.now).jobs }
@@ -604,69 +632,58 @@ pub trait Look {
         None
     }
 
-    /// How many requests are requested and declined by some pool. This body scans every request.
-    fn declined_requests(&self) -> u32
-        ensures { result ≡ length (declined_requests (state self.now)) }
+    /// Whether the request with this record is requested and every registered pool declined it.
+    fn is_declined_by_all(&self, kept: &RequestRecord) -> bool
+        ensures { result ≡ is_declined_by_all (state self.now) kept.now }
     {
-        let mut count = 0;
+        is_requested(kept) && self.undeclined_by(kept) == 0
+    }
+
+    /// The first request, by priority and then sequence, that is requested and that every registered
+    /// pool declined; `None` if there is none, or no pool is registered. This body scans the requests
+    /// up to that one.
+    fn first_declined_by_all(&self) -> Option<RequestId>
+        ensures { result ≡ first_declined_by_all (state self.now) }
+    {
+        if self.registrations() == 0 {
+            return None;
+        }
         for at in 0..self.requests() {
-            let Some(view) = self.request_view(at) else {
-                return 0;
-            };
-            count += one_if(is_still_requested(&view.kept));
-        }
-        count
-    }
-
-    /// The request at a place among those that are requested and declined by some pool, by priority
-    /// and then sequence. This body scans every request up to that one.
-    fn declined_request_at(&self, at: u32) -> Option<RequestId>
-        ensures { result ≡ slice_get (declined_requests (state self.now)) at }
-    {
-        let mut left = at;
-        for place in 0..self.requests() {
-            let view = self.request_view(place)?;
-            if !is_still_requested(&view.kept) {
-                continue;
-            }
-            if left == 0 {
+            let view = self.request_view(at)?;
+            if self.is_declined_by_all(&view.kept) {
                 return Some(view.id);
             }
-            left -= 1;
         }
         None
     }
 
-    /// How many nodes of the pool nobody holds. This body scans every node.
-    fn unheld_nodes(&self, pool: PoolId) -> u32
-        ensures { result ≡ length (unheld_nodes pool (state self.now)) }
+    /// Whether the node is allocated to no request, or to one that is gone.
+    fn is_unclaimed(&self, kept: &NodeRecord) -> bool
+        ensures { result ≡ is_unclaimed (state self.now) kept.now }
     {
-        let mut count = 0;
+        match kept.allocated_to {
+            None => true,
+            Some(request) => self.asked(request).is_none(),
+        }
+    }
+
+    /// The node of the pool that nobody holds and that is of this kind which is due first, and of
+    /// several the first by number. This body scans every node.
+    fn first_due(&self, pool: PoolId, kind: UnheldKind) -> Option<NodeId>
+        ensures { result ≡ first_due (site self.now) pool kind (state self.now) }
+    {
+        let mut best: Option<NodeView> = None;
         for at in 0..self.nodes() {
-            let Some(view) = self.node_view(at) else {
-                return 0;
-            };
-            count += one_if(is_unheld(pool, &view));
-        }
-        count
-    }
-
-    /// The node at a place among those of the pool that nobody holds, by number. This body scans
-    /// every node up to that one.
-    fn unheld_node_at(&self, pool: PoolId, at: u32) -> Option<NodeId>
-        ensures { result ≡ slice_get (unheld_nodes pool (state self.now)) at }
-    {
-        let mut left = at;
-        for place in 0..self.nodes() {
-            let view = self.node_view(place)?;
-            if !is_unheld(pool, &view) {
+            let view = self.node_view(at)?;
+            let unclaimed = self.is_unclaimed(&view.kept);
+            if !is_sooner_unheld(self.config(), pool, kind, unclaimed, &best, &view) {
                 continue;
             }
-            if left == 0 {
-                return Some(view.id);
-            }
-            left -= 1;
+            best = Some(view);
         }
-        None
+        match best {
+            None => None,
+            Some(view) => Some(view.id),
+        }
     }
 }

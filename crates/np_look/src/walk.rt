@@ -6,7 +6,7 @@ ghost use Rattle.std.specs.Option.{option_map_or};
 ghost use Rattle.np_text.specs.declared.id.LabelId.{LabelId};
 ghost use Rattle.np_machine.specs.Count.{amount_of};
 ghost use Rattle.np_fits.specs.Fits.{AmountFits};
-ghost use Rattle.np_look.specs.Readers.{short_label, is_unfinished_job, is_answered, is_active_by, is_still_requested, is_unheld};
+ghost use Rattle.np_look.specs.Readers.{short_label, is_unfinished_job, is_answered, is_active_by, is_new_job, is_unheld, unheld_kind, same_kind, is_unheld_by, due_after, due_of};
 ghost use Rattle.np_machine.specs.Laws.{same_role, speaks_for};
 ghost use Rattle.np_machine.specs.Kinds.{is_requested, is_pending, is_failed, is_ready};
 ghost use Rattle.np_machine.specs.Tables.{is_marked};
@@ -16,10 +16,10 @@ ghost use Rattle.np_machine.specs.First.{is_open_to};
 ghost use Rattle.np_machine.specs.Request.{is_min_ready_for};
 ghost use Rattle.np_machine.specs.Semaphore.{is_requesters};
 ghost use Rattle.np_changes.specs.Asked.{asked_of};
-ghost use Rattle.np_look.specs.Views.{request_seen, node_seen, comes_first};
+ghost use Rattle.np_look.specs.Views.{request_seen, node_seen, comes_first, is_sooner};
 
-use crate::asked::{NodeView, RequestView};
-use crate::count::lacks_room;
+use crate::asked::{NodeView, RequestView, UnheldKind};
+use crate::count::{lacks_room, ready_age};
 use np_amount::Amount;
 use np_changes::Asked;
 use np_config::Config;
@@ -176,18 +176,108 @@ pub fn is_pending_by(pool: PoolId, request: &RequestRecord) -> bool
     request.state == RequestState::Pending && names_pool(pool, request.pool)
 }
 
-/// Whether the request is requested and at least one pool declined it.
-pub fn is_still_requested(request: &RequestRecord) -> bool
-    ensures { result ≡ is_still_requested request.now }
+/// Whether the request is requested.
+pub fn is_requested(request: &RequestRecord) -> bool
+    ensures { result ≡ is_requested request.now.state }
 {
-    request.state == RequestState::Requested && !request.declined.items().is_empty()
+    request.state == RequestState::Requested
 }
 
 /// Whether it is a node of the pool that nobody holds.
-pub fn is_unheld(pool: PoolId, view: &NodeView) -> bool
+fn is_unheld(pool: PoolId, view: &NodeView) -> bool
     ensures { result ≡ is_unheld pool (node_seen view.now) }
 {
     view.kept.pool.0 == pool.0 && view.holder.is_none()
+}
+
+/// Of which kind a node with this record is, by whether it is unclaimed: allocated to no request, or
+/// to one that is gone. A ready node that a request claims is of no kind.
+pub fn unheld_kind(unclaimed: bool, kept: &NodeRecord) -> Option<UnheldKind>
+    ensures { result ≡ unheld_kind unclaimed kept.now }
+{
+    match kept.state {
+        NodeState::Building | NodeState::InUse | NodeState::Used => Some(UnheldKind::Abandoned),
+        NodeState::Deleting | NodeState::Failed => Some(UnheldKind::Abandoned),
+        NodeState::Hold => Some(UnheldKind::Hold),
+        NodeState::Ready if !unclaimed => None,
+        NodeState::Ready if kept.allocated_to.is_none() => Some(UnheldKind::Free),
+        NodeState::Ready => Some(UnheldKind::LeftOver),
+    }
+}
+
+/// Whether both are the same kind.
+fn is_same_kind(one: UnheldKind, other: UnheldKind) -> bool
+    ensures { result ≡ same_kind one other }
+{
+    match (one, other) {
+        (UnheldKind::Free, UnheldKind::Free) => true,
+        (UnheldKind::LeftOver, UnheldKind::LeftOver) => true,
+        (UnheldKind::Hold, UnheldKind::Hold) => true,
+        (UnheldKind::Abandoned, UnheldKind::Abandoned) => true,
+        _ => false,
+    }
+}
+
+/// Whether it is a node of the pool that nobody holds and of this kind, by whether it is unclaimed.
+fn is_unheld_by(pool: PoolId, kind: UnheldKind, unclaimed: bool, view: &NodeView) -> bool
+    ensures { result ≡ is_unheld_by pool kind unclaimed (node_seen view.now) }
+{
+    match unheld_kind(unclaimed, &view.kept) {
+        None => false,
+        Some(of) => is_unheld(pool, view) && is_same_kind(kind, of),
+    }
+}
+
+/// After all ticks.
+const NEVER: u64 = 8_589_934_592;
+
+/// The first tick at which it is past the age, or `NEVER` if there is no age: 0 is no age.
+fn due_after(age: u32, since: u32) -> u64
+    ensures { result ≡ due_after age since }
+{
+    if age == 0 {
+        return NEVER;
+    }
+    since as u64 + age as u64 + 1
+}
+
+/// The tick at which a node of the kind is due: when a free node is past its label's ready age, and
+/// one on hold past the configuration's age; any other when its state began.
+pub fn due_of(config: &Config, kind: UnheldKind, kept: &NodeRecord) -> u64
+    ensures { result ≡ due_of config.now kind kept.now }
+{
+    match kind {
+        UnheldKind::Free => due_after(ready_age(config, kept.label), kept.since),
+        UnheldKind::Hold => due_after(config.max_hold_age(), kept.since),
+        UnheldKind::LeftOver | UnheldKind::Abandoned => kept.since as u64,
+    }
+}
+
+/// Whether it is due before the best so far.
+fn is_sooner(config: &Config, kind: UnheldKind, best: &Option<NodeView>, view: &NodeView) -> bool
+    ensures { result ≡ is_sooner config.now kind best.now view.now }
+{
+    match best {
+        None => true,
+        Some(other) => due_of(config, kind, &view.kept) < due_of(config, kind, &other.kept),
+    }
+}
+
+/// Whether it is a node of the pool that nobody holds and of this kind, by whether it is unclaimed,
+/// and due before the best so far.
+pub fn is_sooner_unheld(
+    config: &Config,
+    pool: PoolId,
+    kind: UnheldKind,
+    unclaimed: bool,
+    best: &Option<NodeView>,
+    view: &NodeView,
+) -> bool
+    ensures { result ≡
+        (is_unheld_by pool kind unclaimed (node_seen view.now)
+        && is_sooner config.now kind best.now view.now) }
+{
+    is_unheld_by(pool, kind, unclaimed, view) && is_sooner(config, kind, best, view)
 }
 
 /// The next label of the request, if the pool serves it and has no room for a node of the label.
@@ -255,6 +345,16 @@ pub fn is_unfinished_job(
     match config.job(job) {
         None => false,
         Some(row) => row.requester.0 == requester.0 && kept.phase != Phase::Over,
+    }
+}
+
+/// Whether the job is the requester's and new.
+pub fn is_new_job(config: &Config, requester: RequesterId, job: JobId, kept: &JobRecord) -> bool
+    ensures { result ≡ is_new_job config.now requester job kept.now }
+{
+    match config.job(job) {
+        None => false,
+        Some(row) => row.requester.0 == requester.0 && kept.phase == Phase::New,
     }
 }
 

@@ -1,6 +1,6 @@
 use Rattle.std.proofs.Common.{◌≡◌, ◌≤◌, ◌+◌, drop}
 use Rattle.np_machine.specs.Request.{undeclined}
-use Rattle.np_look.proofs.look.Look.undeclined.Given as goal
+use Rattle.np_look.proofs.look.Look.undeclined_by.Given as goal
 
 abbrev pub invariant-loop-at : goal.invariant-loop-at
 invariant-loop-at g l = record {
