@@ -7,7 +7,7 @@ use np_amount::Amount;
 use np_changes::Asked;
 use np_config::Config;
 use np_decision::StateKeeper;
-use np_look::{Look, NodeView, RequestView};
+use np_look::{Look, NodeView, RequestView, UnheldKind};
 use np_machine::{Registration, SessionFacts};
 use np_record::{JobRecord, NodeRecord, RequestRecord, RoleRecord};
 use np_text::{
@@ -117,20 +117,12 @@ impl<K: StateKeeper + Drop> Look for JournalKeeper<K> {
         self.keeper.pending_request_at(pool, at)
     }
 
-    fn declined_requests(&self) -> u32 {
-        self.keeper.declined_requests()
+    fn first_declined_by_all(&self) -> Option<RequestId> {
+        self.keeper.first_declined_by_all()
     }
 
-    fn declined_request_at(&self, at: u32) -> Option<RequestId> {
-        self.keeper.declined_request_at(at)
-    }
-
-    fn unheld_nodes(&self, pool: PoolId) -> u32 {
-        self.keeper.unheld_nodes(pool)
-    }
-
-    fn unheld_node_at(&self, pool: PoolId, at: u32) -> Option<NodeId> {
-        self.keeper.unheld_node_at(pool, at)
+    fn first_due(&self, pool: PoolId, kind: UnheldKind) -> Option<NodeId> {
+        self.keeper.first_due(pool, kind)
     }
 
     fn handles(&self, semaphore: SemId) -> u32 {
@@ -243,6 +235,10 @@ impl<K: StateKeeper + Drop> Look for JournalKeeper<K> {
 
     fn active(&self, requester: RequesterId, at: u32) -> Option<JobId> {
         self.keeper.active(requester, at)
+    }
+
+    fn new_job(&self, requester: RequesterId, at: u32) -> Option<JobId> {
+        self.keeper.new_job(requester, at)
     }
 
     fn owner(&self, node: NodeId) -> Option<JobId> {
