@@ -1,4 +1,5 @@
 pub mod Folds
+pub mod Declines
 pub mod Untouched
 pub mod Listed
 pub mod Noted

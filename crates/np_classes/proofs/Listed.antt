@@ -6,11 +6,14 @@ use Rattle.std.specs.List.{list_any}
 use Rattle.np_text.specs.declared.id.NodeId.{NodeId}
 use Rattle.np_text.specs.declared.id.RequestId.{RequestId}
 use Rattle.np_text.specs.declared.id.SessionId.{SessionId}
+use Rattle.np_text.specs.declared.word.Phase.{Phase}
+use Rattle.np_text.specs.declared.word.Phase.TheVariants as phase
 use Rattle.np_record.specs.declared.record.NodeRecord.{NodeRecord}
 use Rattle.np_record.specs.declared.record.RequestRecord.{RequestRecord}
 use Rattle.np_site.specs.Configuration.{Configuration}
 use Rattle.np_keys.specs.Keys.{same_node, request_equal}
 use Rattle.np_machine.specs.Entries.{NodeEntry}
+use Rattle.np_machine.specs.Kinds.{is_asked, is_new}
 use Rattle.np_machine.specs.State.{State}
 use Rattle.np_machine.specs.Tables.{is_queued, is_request, node_in, node_queue, request_in, same_request}
 use Rattle.np_changes.specs.declared.changes.Changes.{Changes}
@@ -23,14 +26,14 @@ use Rattle.np_changes.specs.declared.changes.NodesChange.TheVariants as nodes
 use Rattle.np_changes.specs.declared.changes.SessionsChange.{SessionsChange}
 use Rattle.np_changes.specs.declared.changes.SessionsChange.TheVariants as sessions
 use Rattle.np_changes.specs.Planned.{IsReached, IsPlanned}
-use Rattle.np_changes.specs.Premises.{Premises, NodesPremise, RequestsPremise, EmptiesRequest}
+use Rattle.np_changes.specs.Premises.{Premises, NodesPremise, RequestsPremise, GoesWithdrawn, EmptiesRequest}
 use Rattle.np_changes.proofs.PremisesOf.{premises}
 use Rattle.np_look.specs.Readers.{queued_nodes}
-use Rattle.np_safe.specs.Parts.{AllocationsListed}
+use Rattle.np_safe.specs.Parts.{AllocationsListed, Invariant, IsAsking, JobIn, JobsStand}
 use Rattle.np_safe.proofs.Runs.{invariant-Runs}
-use Rattle.np_classes.specs.Touched.{grows_node, changes_node, ends_at_node, touches_node, grows_request, changes_request, touches_request}
+use Rattle.np_classes.specs.Touched.{grows_node, changes_node, ends_at_node, unclaims_node, touches_node, grows_request, changes_request, touches_request}
 use Rattle.np_classes.specs.Placed.{members_of, placed_node, placed_request}
-use Rattle.np_classes.specs.Prepared.{IsPrepared, TouchedOf, grown_nodes, changed_nodes, ended_nodes, touched_nodes, grown_requests, changed_requests, touched_requests}
+use Rattle.np_classes.specs.Prepared.{IsPrepared, TouchedOf, grown_nodes, changed_nodes, ended_nodes, unclaimed_nodes, touched_nodes, grown_requests, changed_requests, touched_requests}
 
 -- ## lists
 
@@ -49,17 +52,15 @@ list_any-append p (x ∷ xs) ys = by (p x) (list_any-append p xs ys) where
   by true rest = refl
   by false rest = rest
 
--- each of three parts, if one of them passes
-three : (a b d x y z : Bool) → (a ≡ true → x ≡ true) → (b ≡ true → y ≡ true) → (d ≡ true → z ≡ true) → ((a || b) || d) ≡ true → ((x || y) || z) ≡ true
-three true b d x y z first second third is = ap (λ (v : Bool). (v || y) || z) (first refl)
-three false true d x y z first second third is = ap (λ (v : Bool). (x || v) || z) (second refl) ∙ ap (λ (v : Bool). v || z) (or_true x)
-three false false true x y z first second third is = ap (λ (v : Bool). (x || y) || v) (third refl) ∙ or_true (x || y)
-three false false false x y z first second third is = absurd cc
-
 -- ## nodes
 
 abbrev listed : NodeId → List NodeId → Bool
 listed n ns = list_any (λ m. same_node m n) ns
+
+-- what is touched in one of two ways is in the list of that way
+either-listed : (n : NodeId) (a b : Bool) (xs ys : List NodeId) → (a ≡ true → listed n xs ≡ true) → (b ≡ true → listed n ys ≡ true) → (a || b) ≡ true → listed n (xs ++ ys) ≡ true
+either-listed n true b xs ys first second is = list_any-append (λ m. same_node m n) xs ys ∙ ap (λ (v : Bool). v || listed n ys) (first refl)
+either-listed n false b xs ys first second is = list_any-append (λ m. same_node m n) xs ys ∙ ap (λ (v : Bool). listed n xs || v) (second is) ∙ or_true (listed n xs)
 
 grown-listed : (g : Growth) (s : State) (n : NodeId) → grows_node g s n ≡ true → listed n (grown_nodes g s) ≡ true
 grown-listed grow.Nothing s n is = is
@@ -84,30 +85,58 @@ freed-listed s r n request allocations stands (Some k) at is = by k.allocated_to
       let alike : other ≡ r = request_equal other r is_it in
       (allocations n k r at (to ∙ ap (λ (x : RequestId). Some x) alike)).listed request stands
 
--- the request whose nodes are freed is there
-freed-stands : (c : Configuration) (s : State) (ch : Changes) (r : RequestId) → Premises c s ch → ch.nodes ≡ nodes.FreeAll r → (request : RequestRecord) × (request_in r s.requests ≡ Some request)
-freed-stands c s ch r given frees = by (subst (λ (change : NodesChange). NodesPremise c s ch change) frees given.nodes) where
-  removed : RequestsPremise c s ch (requests.Remove r) → (request : RequestRecord) × (request_in r s.requests ≡ Some request)
-  removed (inl goes) = (goes.fulfils.request, goes.fulfils.worked_on.stands)
-  removed (inr (inl takes)) = (takes.request, takes.request_stands)
-  removed (inr (inr goes)) = let same : ch.nodes ≡ nodes.Same = goes.withdraws.same_nodes in absurd cc
+-- the request of a job that is given up is there
+withdrawn-stands : (s : State) (ch : Changes) (r : RequestId) → JobsStand s → GoesWithdrawn s ch r → (request : RequestRecord) × (request_in r s.requests ≡ Some request)
+withdrawn-stands s ch r stand goes = by goes.kept.phase goes.withdraws.unstarted (stand.each goes.number goes.kept goes.withdraws.stands) where
+  by : (p : Phase) → (is_new p || is_asked p) ≡ true → JobIn s goes.number goes.kept p → (request : RequestRecord) × (request_in r s.requests ≡ Some request)
+  by phase.New unstarted job =
+      let none : goes.kept.request ≡ None = job.0 in
+      absurd (cc (none, goes.of_job))
+  by phase.Asked unstarted job =
+      let asking : IsAsking s goes.number goes.kept = job.0 in
+      let same : asking.id ≡ r = cc (asking.asks, goes.of_job) in
+      (asking.request, subst (λ (x : RequestId). request_in x s.requests ≡ Some asking.request) same asking.stands)
+  by phase.Using unstarted job = absurd cc
+  by phase.Over unstarted job = absurd cc
 
+-- a request that is removed is there before
+removed-stands : (c : Configuration) (s : State) (ch : Changes) (r : RequestId) → JobsStand s → RequestsPremise c s ch (requests.Remove r) → (request : RequestRecord) × (request_in r s.requests ≡ Some request)
+removed-stands c s ch r stand (inl goes) = (goes.fulfils.request, goes.fulfils.worked_on.stands)
+removed-stands c s ch r stand (inr (inl takes)) = (takes.request, takes.request_stands)
+removed-stands c s ch r stand (inr (inr goes)) = withdrawn-stands s ch r stand goes
+
+-- the request whose nodes are freed is there
+freed-stands : (c : Configuration) (s : State) (ch : Changes) (r : RequestId) → JobsStand s → Premises c s ch → ch.nodes ≡ nodes.FreeAll r → (request : RequestRecord) × (request_in r s.requests ≡ Some request)
+freed-stands c s ch r stand given frees = by (subst (λ (change : NodesChange). NodesPremise c s ch change) frees given.nodes) where
   by : EmptiesRequest r ch.requests → (request : RequestRecord) × (request_in r s.requests ≡ Some request)
-  by (inl is) = removed (subst (λ (change : RequestsChange). RequestsPremise c s ch change) is given.requests)
+  by (inl is) = removed-stands c s ch r stand (subst (λ (change : RequestsChange). RequestsPremise c s ch change) is given.requests)
   by (inr (inl is)) = let gives = subst (λ (change : RequestsChange). RequestsPremise c s ch change) is given.requests in (gives.request, gives.stands)
   by (inr (inr (p, why, failed, is))) = let declines = subst (λ (change : RequestsChange). RequestsPremise c s ch change) is given.requests in (declines.request, declines.worked_on.stands)
 
-changed-listed : (c : Configuration) (s : State) (ch : Changes) (n : NodeId) → AllocationsListed s → Premises c s ch
-    → (change : NodesChange) → ch.nodes ≡ change → changes_node change s n ≡ true → listed n (changed_nodes change s) ≡ true
-changed-listed c s ch n allocations given nodes.Same this is = is
-changed-listed c s ch n allocations given (nodes.Put m kept) this is = or_false (m.0 == n.0) ∙ is
-changed-listed c s ch n allocations given (nodes.Remove m) this is = or_false (m.0 == n.0) ∙ is
-changed-listed c s ch n allocations given (nodes.Leave m) this is = or_false (m.0 == n.0) ∙ is
-changed-listed c s ch n allocations given (nodes.FreeAll r) this is =
-    let there = freed-stands c s ch r given this in
+-- the nodes that are allocated to a request that is there are those of its list
+own-listed : (s : State) (r : RequestId) (n : NodeId) → AllocationsListed s → (request : RequestRecord) × (request_in r s.requests ≡ Some request)
+    → option_map_or (λ k. is_request r k.allocated_to) (node_in n s.nodes) false ≡ true → listed n (option_map_or (λ k. k.nodes) (request_in r s.requests) []) ≡ true
+own-listed s r n allocations there is =
     ap (λ (o : Option RequestRecord). listed n (option_map_or (λ k. k.nodes) o [])) there.1
     ∙ freed-listed s r n there.0 allocations there.1 (node_in n s.nodes) refl is
-changed-listed c s ch n allocations given (nodes.TakeOver numbers) this is = is
+
+changed-listed : (c : Configuration) (s : State) (ch : Changes) (n : NodeId) → AllocationsListed s → JobsStand s → Premises c s ch
+    → (change : NodesChange) → ch.nodes ≡ change → changes_node change s n ≡ true → listed n (changed_nodes change s) ≡ true
+changed-listed c s ch n allocations stand given nodes.Same this is = is
+changed-listed c s ch n allocations stand given (nodes.Put m kept) this is = or_false (m.0 == n.0) ∙ is
+changed-listed c s ch n allocations stand given (nodes.Remove m) this is = or_false (m.0 == n.0) ∙ is
+changed-listed c s ch n allocations stand given (nodes.Leave m) this is = or_false (m.0 == n.0) ∙ is
+changed-listed c s ch n allocations stand given (nodes.FreeAll r) this is = own-listed s r n allocations (freed-stands c s ch r stand given this) is
+changed-listed c s ch n allocations stand given (nodes.TakeOver numbers) this is = is
+
+-- a node whose request goes away
+unclaimed-listed : (c : Configuration) (s : State) (ch : Changes) (n : NodeId) → AllocationsListed s → JobsStand s → Premises c s ch
+    → (change : RequestsChange) → ch.requests ≡ change → unclaims_node change s n ≡ true → listed n (unclaimed_nodes change s) ≡ true
+unclaimed-listed c s ch n allocations stand given requests.Same this is = is
+unclaimed-listed c s ch n allocations stand given (requests.Edit r edit) this is = is
+unclaimed-listed c s ch n allocations stand given (requests.Remove r) this is =
+    own-listed s r n allocations (removed-stands c s ch r stand (subst (λ (change : RequestsChange). RequestsPremise c s ch change) this given.requests)) is
+unclaimed-listed c s ch n allocations stand given (requests.Leave r) this is = is
 
 -- the ids of the rows in whose queues the session is
 abbrev waiting : SessionId → List NodeEntry → List NodeId
@@ -175,21 +204,21 @@ pub node-listed : (c : Configuration) (s : State) (ch : Changes) (queued : List 
     → (n : NodeId) → touches_node ch s n ≡ true → listed n (touched_nodes ch queued s) ≡ true
 node-listed c s ch queued reached planned all n is =
     let given : Premises c s ch = subst (Premises c s) (sym planned.plan) (premises c s planned.event planned.accepted) in
-    let allocations : AllocationsListed s = (invariant-Runs c reached.journal s reached.runs).owned.allocations in
-    list_any-append (λ m. same_node m n) (grown_nodes ch.grows s ++ changed_nodes ch.nodes s) (ended_nodes ch.sessions queued)
-    ∙ ap (λ (b : Bool). b || listed n (ended_nodes ch.sessions queued)) (list_any-append (λ m. same_node m n) (grown_nodes ch.grows s) (changed_nodes ch.nodes s))
-    ∙ three (grows_node ch.grows s n) (changes_node ch.nodes s n) (ends_at_node ch.sessions s n)
-    (listed n (grown_nodes ch.grows s)) (listed n (changed_nodes ch.nodes s)) (listed n (ended_nodes ch.sessions queued))
+    let holds : Invariant c s = invariant-Runs c reached.journal s reached.runs in
+    either-listed n _ _ _ (unclaimed_nodes ch.requests s)
+    (either-listed n _ _ _ (ended_nodes ch.sessions queued)
+    (either-listed n _ _ (grown_nodes ch.grows s) (changed_nodes ch.nodes s)
     (grown-listed ch.grows s n)
-    (changed-listed c s ch n allocations given ch.nodes refl)
-    (ended-listed s queued n ch.sessions all)
+    (changed-listed c s ch n holds.owned.allocations holds.jobs given ch.nodes refl))
+    (ended-listed s queued n ch.sessions all))
+    (unclaimed-listed c s ch n holds.owned.allocations holds.jobs given ch.requests refl)
     is
 
 -- what is listed, with the members of groups that it is, is prepared
 pub is-prepared : (c : Configuration) (s : State) (ch : Changes) (queued : List NodeId) (touched : TouchedOf) → IsReached c s → IsPlanned c s ch
     → ((session : SessionId) → ch.sessions ≡ sessions.End session → queued ≡ queued_nodes session s)
     → touched.nodes ≡ touched_nodes ch queued s → touched.requests ≡ touched_requests ch s
-    → touched.node_members ≡ members_of (map (placed_node s) touched.nodes) → touched.request_members ≡ members_of (map (placed_request c s) touched.requests)
+    → touched.node_members ≡ members_of (map (placed_node c s) touched.nodes) → touched.request_members ≡ members_of (map (placed_request c s) touched.requests)
     → IsPrepared c s ch touched
 is-prepared c s ch queued touched reached planned all nodes requests node_members request_members = record {
   nodes = λ n is. ap (listed n) nodes ∙ node-listed c s ch queued reached planned all n is;

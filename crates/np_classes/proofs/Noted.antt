@@ -18,6 +18,7 @@ use Rattle.np_machine.specs.Tables.{holder, node_in, node_holder, request_in, sa
 use Rattle.np_changes.specs.Changes.{changed}
 use Rattle.np_changes.specs.Planned.{IsReached}
 use Rattle.np_changes.specs.declared.changes.Changes.{Changes}
+use Rattle.np_look.specs.Readers.{is_unclaimed}
 use Rattle.np_safe.specs.Parts.{IsNumbered}
 use Rattle.np_safe.proofs.Numbered.{numbered}
 use Rattle.np_safe.proofs.Runs.{invariant-Runs}
@@ -26,12 +27,12 @@ use Rattle.np_classes.specs.Placed.{Placed, groups_of_node, groups_of_request, m
 use Rattle.np_classes.specs.Prepared.{IsPrepared, TouchedOf}
 use Rattle.np_classes.specs.Touched.{touches_node, touches_request}
 use Rattle.np_classes.proofs.Folds.{moved, rises-with_all, rises-without_all}
-use Rattle.np_classes.proofs.Untouched.{node-untouched, request-untouched}
+use Rattle.np_classes.proofs.Untouched.{node-untouched, request-untouched, unclaimed-untouched}
 
 -- the groups of a node that is not there are none
-pub node-among : (s : State) (g : Group) (n : NodeId) → is_among g (groups_of_node s n) ≡ node_is_in s g n
-node-among s g n = by (node_in n s.nodes) where
-  by : (o : Option NodeRecord) → is_among g (option_map_or (λ k. node_groups k (is_none (node_holder n s.nodes))) o no_node_groups) ≡ option_map_or (λ k. is_among g (node_groups k (is_none (node_holder n s.nodes)))) o false
+pub node-among : (c : Configuration) (s : State) (g : Group) (n : NodeId) → is_among g (groups_of_node c s n) ≡ node_is_in c s g n
+node-among c s g n = by (node_in n s.nodes) where
+  by : (o : Option NodeRecord) → is_among g (option_map_or (λ k. node_groups c k (is_none (node_holder n s.nodes)) (is_unclaimed s k)) o no_node_groups) ≡ option_map_or (λ k. is_among g (node_groups c k (is_none (node_holder n s.nodes)) (is_unclaimed s k))) o false
   by None = refl
   by (Some k) = refl
 
@@ -46,29 +47,37 @@ untouched : (a b : Bool) → (a ≡ true → b ≡ true) → b ≡ false → a �
 untouched true b all out = let is : b ≡ true = all refl in cc
 untouched false b all out = refl
 
-module _ (c : Configuration) (s : State) (ch : Changes) (touched : TouchedOf) (prepared : IsPrepared c s ch touched) (later : IsNumbered (changed c ch s)) where
-  nodes-noted : (ms new : List (Member NodeId)) → AreNodeGroups s ms
-      → new ≡ with_all is_node_before same_node (map (placed_node (changed c ch s)) touched.nodes) (without_all same_node touched.node_members ms)
-      → AreNodeGroups (changed c ch s) new
+module _ (c : Configuration) (s : State) (ch : Changes) (touched : TouchedOf) (reached : IsReached c s) (prepared : IsPrepared c s ch touched) (later : IsNumbered (changed c ch s)) where
+  nodes-noted : (ms new : List (Member NodeId)) → AreNodeGroups c s ms
+      → new ≡ with_all is_node_before same_node (map (placed_node c (changed c ch s)) touched.nodes) (without_all same_node touched.node_members ms)
+      → AreNodeGroups c (changed c ch s) new
   nodes-noted ms new old is = rw (is, prepared.node_members) (record {
     rises =
         rises-with_all is_node_before same_node node_transitive node_one_way node_some_way node_equal
-        (map (placed_node (changed c ch s)) touched.nodes) (without_all same_node (members_of (map (placed_node s) touched.nodes)) ms)
-        (rises-without_all is_node_before same_node node_transitive node_one_way node_some_way node_equal (members_of (map (placed_node s) touched.nodes)) ms old.rises);
+        (map (placed_node c (changed c ch s)) touched.nodes) (without_all same_node (members_of (map (placed_node c s) touched.nodes)) ms)
+        (rises-without_all is_node_before same_node node_transitive node_one_way node_some_way node_equal (members_of (map (placed_node c s) touched.nodes)) ms old.rises);
     each = λ g n.
         moved is_node_before same_node node_transitive node_one_way node_some_way node_equal g n
-        (groups_of_node s) (groups_of_node (changed c ch s)) touched.nodes ms old.rises
-        (old.each g n ∙ sym (node-among s g n))
+        (groups_of_node c s) (groups_of_node c (changed c ch s)) touched.nodes ms old.rises
+        (old.each g n ∙ sym (node-among c s g n))
         (λ out. ap (is_among g) (stays n out))
-        ∙ node-among (changed c ch s) g n;
+        ∙ node-among c (changed c ch s) g n;
     once = later.nodes_rise;
   })
     where
-      stays : (n : NodeId) → list_any (λ m. same_node m n) touched.nodes ≡ false → groups_of_node (changed c ch s) n ≡ groups_of_node s n
+      stays : (n : NodeId) → list_any (λ m. same_node m n) touched.nodes ≡ false → groups_of_node c (changed c ch s) n ≡ groups_of_node c s n
       stays n out =
-          let same = node-untouched c ch s n (untouched (touches_node ch s n) (list_any (λ m. same_node m n) touched.nodes) (prepared.nodes n) out) in
-          ap (λ (o : Option NodeRecord). option_map_or (λ k. node_groups k (is_none (node_holder n (changed c ch s).nodes))) o no_node_groups) same.0
-          ∙ ap (λ (queue : List SessionId). option_map_or (λ k. node_groups k (is_none (holder queue))) (node_in n s.nodes) no_node_groups) same.1
+          let none : touches_node ch s n ≡ false = untouched (touches_node ch s n) (list_any (λ m. same_node m n) touched.nodes) (prepared.nodes n) out in
+          let same = node-untouched c ch s n none in
+          ap (λ (o : Option NodeRecord). option_map_or (λ k. node_groups c k (is_none (node_holder n (changed c ch s).nodes)) (is_unclaimed (changed c ch s) k)) o no_node_groups) same.0
+          ∙ ap (λ (queue : List SessionId). option_map_or (λ k. node_groups c k (is_none (holder queue)) (is_unclaimed (changed c ch s) k)) (node_in n s.nodes) no_node_groups) same.1
+          ∙ by none (node_in n s.nodes) refl
+        where
+          by : touches_node ch s n ≡ false → (o : Option NodeRecord) → node_in n s.nodes ≡ o
+              → option_map_or (λ k. node_groups c k (is_none (node_holder n s.nodes)) (is_unclaimed (changed c ch s) k)) o no_node_groups
+              ≡ option_map_or (λ k. node_groups c k (is_none (node_holder n s.nodes)) (is_unclaimed s k)) o no_node_groups
+          by none None at = refl
+          by none (Some k) at = ap (node_groups c k (is_none (node_holder n s.nodes))) (unclaimed-untouched c ch s n k (invariant-Runs c reached.journal s reached.runs).owned.allocations at none)
 
   requests-noted : (ms new : List (Member RequestId)) → AreRequestGroups c s ms
       → new ≡ with_all is_id_before same_request (map (placed_request c (changed c ch s)) touched.requests) (without_all same_request touched.request_members ms)
@@ -105,19 +114,19 @@ moved-by before same place old was between new gone listed_gone ids listed given
 
 -- what is touched leaves its groups, and is put where it is after the change
 pub classes-noted : (c site : Configuration) (s t : State) (ch : Changes) (touched : TouchedOf) (old new : ClassesOf)
-    → new.nodes ≡ with_all is_node_before same_node (map (placed_node t) touched.nodes) (without_all same_node touched.node_members old.nodes)
+    → new.nodes ≡ with_all is_node_before same_node (map (placed_node site t) touched.nodes) (without_all same_node touched.node_members old.nodes)
     → new.requests ≡ with_all is_id_before same_request (map (placed_request site t) touched.requests) (without_all same_request touched.request_members old.requests)
     → IsReached c s → IsPrepared c s ch touched → site ≡ c → t ≡ changed c ch s → AreClasses c s old → AreClasses c (changed c ch s) new
 classes-noted c site s t ch touched old new nodes requests reached prepared same_site after was =
     let later : IsNumbered (changed c ch s) = numbered c s ch (invariant-Runs c reached.journal s reached.runs).numbered in
     record {
-      nodes = nodes-noted c s ch touched prepared later old.nodes new.nodes was.nodes (rw (← after) nodes);
-      requests = requests-noted c s ch touched prepared later old.requests new.requests was.requests (rw (← after, ← same_site) requests);
+      nodes = nodes-noted c s ch touched reached prepared later old.nodes new.nodes was.nodes (rw (← after, ← same_site) nodes);
+      requests = requests-noted c s ch touched reached prepared later old.requests new.requests was.requests (rw (← after, ← same_site) requests);
     }
 
 -- members that stay are those of the same states
 pub classes-same : (c : Configuration) (s : State) (old new : ClassesOf) → new.nodes ≡ old.nodes → new.requests ≡ old.requests → AreClasses c s old → AreClasses c s new
 classes-same c s old new nodes requests was = record {
-  nodes = subst (AreNodeGroups s) (sym nodes) was.nodes;
+  nodes = subst (AreNodeGroups c s) (sym nodes) was.nodes;
   requests = subst (AreRequestGroups c s) (sym requests) was.requests;
 }

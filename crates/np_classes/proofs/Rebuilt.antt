@@ -18,6 +18,7 @@ use Rattle.np_machine.specs.Tables.{holder, same_request}
 use Rattle.np_changes.specs.Planned.{IsReached}
 use Rattle.np_safe.specs.Parts.{IsNumbered}
 use Rattle.np_safe.proofs.Runs.{invariant-Runs}
+use Rattle.np_look.specs.Readers.{is_unclaimed}
 use Rattle.np_look.specs.Views.{node_view, request_view}
 use Rattle.np_look.proofs.Walks.{take_there}
 use Rattle.np_classes.specs.Classes.{AreNodeGroups, AreRequestGroups, is_among, node_groups, node_is_in, request_groups, request_is_in}
@@ -101,25 +102,25 @@ module _ (c : Configuration) (s : State) (reached : IsReached c s) where
   -- ## nodes
 
   abbrev pub nodes_made : ℕ → List (Member NodeId)
-  nodes_made at = made is_node_before same_node node_view placed_node_view s.nodes at
+  nodes_made at = made is_node_before same_node node_view (placed_node_view c s) s.nodes at
 
-  node-is : (g : Group) (n : NodeId) → has_member same_node g n (with_all is_node_before same_node (map (λ e. placed_node_view (node_view e)) s.nodes) []) ≡ node_is_in s g n
+  node-is : (g : Group) (n : NodeId) → has_member same_node g n (with_all is_node_before same_node (map (λ e. placed_node_view c s (node_view e)) s.nodes) []) ≡ node_is_in c s g n
   node-is g n =
-      with-all is_node_before same_node node_transitive node_one_way node_some_way node_equal g n (map (λ e. placed_node_view (node_view e)) s.nodes) []
+      with-all is_node_before same_node node_transitive node_one_way node_some_way node_equal g n (map (λ e. placed_node_view c s (node_view e)) s.nodes) []
       ∙ or_false _
-      ∙ row-placed (λ (e : NodeEntry). e.id) (λ (e : NodeEntry). node_groups e.kept (is_none (holder e.queue))) is_node_before same_node node_one_way node_equal g n s.nodes numbers.nodes_rise
+      ∙ row-placed (λ (e : NodeEntry). e.id) (λ (e : NodeEntry). node_groups c e.kept (is_none (holder e.queue)) (is_unclaimed s e.kept)) is_node_before same_node node_one_way node_equal g n s.nodes numbers.nodes_rise
       ∙ by (find (λ (e : NodeEntry). same_node e.id n) s.nodes)
     where
-      by : (o : Option NodeEntry) → option_map_or (λ e. is_among g (node_groups e.kept (is_none (holder e.queue)))) o false
-          ≡ option_map_or (λ k. is_among g (node_groups k (is_none (holder (option_map_or (λ e. e.queue) o []))))) (option_map (λ e. e.kept) o) false
+      by : (o : Option NodeEntry) → option_map_or (λ e. is_among g (node_groups c e.kept (is_none (holder e.queue)) (is_unclaimed s e.kept))) o false
+          ≡ option_map_or (λ k. is_among g (node_groups c k (is_none (holder (option_map_or (λ e. e.queue) o []))) (is_unclaimed s k))) (option_map (λ e. e.kept) o) false
       by None = refl
       by (Some e) = refl
 
-  pub nodes-made : (at : ℕ) (ms : List (Member NodeId)) → at ≡ length s.nodes → ms ≡ nodes_made at → AreNodeGroups s ms
-  nodes-made at ms all is = rw (is, made-all is_node_before same_node node_view placed_node_view s.nodes at all) (record {
+  pub nodes-made : (at : ℕ) (ms : List (Member NodeId)) → at ≡ length s.nodes → ms ≡ nodes_made at → AreNodeGroups c s ms
+  nodes-made at ms all is = rw (is, made-all is_node_before same_node node_view (placed_node_view c s) s.nodes at all) (record {
     rises =
         rises-with_all is_node_before same_node node_transitive node_one_way node_some_way node_equal
-        (map (λ e. placed_node_view (node_view e)) s.nodes) [] tt;
+        (map (λ e. placed_node_view c s (node_view e)) s.nodes) [] tt;
     each = node-is;
     once = numbers.nodes_rise;
   })

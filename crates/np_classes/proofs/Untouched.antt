@@ -1,6 +1,6 @@
 -- what the changes of an event do not touch is found after them as before
-use Rattle.std.proofs.Common.{◌≡◌, ◌∙◌, sym, ℕ, List, refl, ap, Option, Some, None, Bool, true, false, cond}
-use Rattle.std.specs.Prelude.{◌==◌, ◌||◌}
+use Rattle.std.proofs.Common.{◌≡◌, ◌∙◌, sym, ℕ, List, refl, ap, Option, Some, None, Bool, true, false, cond, subst}
+use Rattle.std.specs.Prelude.{◌==◌, ◌||◌, is_none}
 use Rattle.std.specs.Option.{option_map, option_map_or}
 use Rattle.std.specs.List.{list_any}
 use Rattle.np_text.specs.declared.id.SessionId.{SessionId}
@@ -8,13 +8,15 @@ use Rattle.np_text.specs.declared.id.NodeId.{NodeId}
 use Rattle.np_text.specs.declared.id.RequestId.{RequestId}
 use Rattle.np_text.specs.declared.id.TenantId.{TenantId}
 use Rattle.np_record.specs.declared.record.NodeRecord.{NodeRecord}
+use Rattle.np_record.specs.declared.record.RequestRecord.{RequestRecord}
 use Rattle.np_site.specs.Configuration.{Configuration}
 use Rattle.np_lists.specs.Change.{change_first}
 use Rattle.np_lists.proofs.FilterLemmas.{none-list_any, filter-not_none}
 use Rattle.np_machine.specs.Entries.{RequestEntry, NodeEntry}
 use Rattle.np_machine.specs.State.{State}
 use Rattle.np_machine.specs.Tables.{is_queued, is_request, is_session, same_request, joined, left, request_in, node_in, node_queue, put_node_queue, freed}
-use Rattle.np_machine.specs.Node.{allocated}
+use Rattle.np_machine.specs.Node.{allocated, standing}
+use Rattle.np_keys.specs.Keys.{request_equal}
 use Rattle.np_changes.specs.declared.changes.Maker.{Maker}
 use Rattle.np_changes.specs.declared.changes.Changes.{Changes}
 use Rattle.np_changes.specs.declared.changes.Growth.{Growth}
@@ -26,9 +28,11 @@ use Rattle.np_changes.specs.declared.changes.NodesChange.TheVariants as nodes
 use Rattle.np_changes.specs.declared.changes.SessionsChange.{SessionsChange}
 use Rattle.np_changes.specs.declared.changes.SessionsChange.TheVariants as sessions
 use Rattle.np_changes.specs.Changes.{grown, edited, requests_changed, nodes_changed, nodes_left, changed}
+use Rattle.np_look.specs.Readers.{is_unclaimed}
+use Rattle.np_safe.specs.Parts.{AllocationsListed}
 use Rattle.np_safe.proofs.Lookups.{request_in-edit, request_in-insert, request_in-remove, used_from, node_in-put, node_in-allocated, node_in-queue, node_in-left, node_in-freed, node_in-in_use, node_in-other, node_in-remove, node_queue-put, node_queue-freed, node_queue-in_use, node_queue-allocated, node_queue-queue, node_queue-nowhere, node_queue-left, node_queue-other, node_queue-remove}
-use Rattle.np_safe.proofs.After.{grown-request, calm-request, left-request}
-use Rattle.np_classes.specs.Touched.{grows_node, changes_node, ends_at_node, touches_node, grows_request, changes_request, touches_request}
+use Rattle.np_safe.proofs.After.{found-grown, grown-request, calm-request, left-request}
+use Rattle.np_classes.specs.Touched.{grows_node, changes_node, ends_at_node, unclaims_node, touches_node, grows_request, changes_request, touches_request}
 
 -- none of two
 neither : (a b : Bool) → (a || b) ≡ false → (a ≡ false) × (b ≡ false)
@@ -110,7 +114,8 @@ left-untouched (sessions.End session) s n rows same out =
 -- a node that the changes do not touch has the same record and the same queue after them
 pub node-untouched : (c : Configuration) (ch : Changes) (s : State) (n : NodeId) → touches_node ch s n ≡ false → (node_in n (changed c ch s).nodes ≡ node_in n s.nodes) × (node_queue n (changed c ch s).nodes ≡ node_queue n s.nodes)
 node-untouched c ch s n out =
-    let both = neither (grows_node ch.grows s n || changes_node ch.nodes s n) (ends_at_node ch.sessions s n) out in
+    let all = neither (grows_node ch.grows s n || changes_node ch.nodes s n || ends_at_node ch.sessions s n) (unclaims_node ch.requests s n) out in
+    let both = neither (grows_node ch.grows s n || changes_node ch.nodes s n) (ends_at_node ch.sessions s n) all.0 in
     let first = neither (grows_node ch.grows s n) (changes_node ch.nodes s n) both.0 in
     let more : State = grown c ch.maker ch.grows s in
     let grew = grown-untouched c ch.maker ch.grows s n first.0 in
@@ -139,3 +144,47 @@ request-untouched c ch s r out =
     left-request ch.sessions r (requests_changed ch.maker ch.requests more.requests)
     ∙ request-changed ch.maker ch.requests r more.requests both.1
     ∙ request-grown c ch.maker ch.grows s r both.0
+
+-- ## whether a node is unclaimed
+
+-- an edit leaves the request in its place
+edited-there : (b : Bool) (f : RequestRecord → RequestRecord) (r : RequestId) (o : Option RequestRecord) → is_none (option_map (λ _. r) (option_map (λ q. cond b (f q) q) o)) ≡ is_none (option_map (λ _. r) o)
+edited-there b f r None = refl
+edited-there b f r (Some q) = refl
+
+-- two requests that are not the same, in either order
+apart : (a b : RequestId) → same_request a b ≡ false → same_request b a ≡ false
+apart a b other = by (same_request b a) refl where
+  by : (x : Bool) → same_request b a ≡ x → x ≡ false
+  by true is =
+      let itself : same_request b b ≡ false = subst (λ (x : RequestId). same_request x b ≡ false) (sym (request_equal b a is)) other in
+      let same : same_request b b ≡ true = subst (λ (x : RequestId). same_request b x ≡ true) (sym (request_equal b a is)) is in
+      absurd cc
+  by false is = refl
+
+-- the request that a node is allocated to is there after a change as before it, if the node is not touched
+stays-there : (maker : Option Maker) (change : RequestsChange) (s : State) (n : NodeId) (k : NodeRecord) (r : RequestId) (rows : List RequestEntry)
+    → node_in n s.nodes ≡ Some k → k.allocated_to ≡ Some r → unclaims_node change s n ≡ false
+    → is_none (option_map (λ _. r) (request_in r (requests_changed maker change rows))) ≡ is_none (option_map (λ _. r) (request_in r rows))
+stays-there maker (requests.Edit r0 edit) s n k r rows at to out =
+    ap (λ (o : Option RequestRecord). is_none (option_map (λ _. r) o)) (request_in-edit r0 r (edited edit) rows) ∙ edited-there (same_request r0 r) (edited edit) r (request_in r rows)
+stays-there maker (requests.Remove r0) s n k r rows at to out =
+    let claims : is_request r0 k.allocated_to ≡ false = ap (λ (o : Option NodeRecord). option_map_or (λ k. is_request r0 k.allocated_to) o false) (sym at) ∙ out in
+    let other : same_request r r0 ≡ false = ap (is_request r0) (sym to) ∙ claims in
+    ap (λ (o : Option RequestRecord). is_none (option_map (λ _. r) o)) (request_in-remove r0 r rows (apart r r0 other))
+stays-there maker change s n k r rows at to out = ap (λ (o : Option RequestRecord). is_none (option_map (λ _. r) o)) (calm-request maker change r rows tt)
+
+-- a node that the changes do not touch is unclaimed after them as before
+pub unclaimed-untouched : (c : Configuration) (ch : Changes) (s : State) (n : NodeId) (k : NodeRecord) → AllocationsListed s → node_in n s.nodes ≡ Some k → touches_node ch s n ≡ false
+    → is_unclaimed (changed c ch s) k ≡ is_unclaimed s k
+unclaimed-untouched c ch s n k allocations at out = by k.allocated_to refl where
+  stays : unclaims_node ch.requests s n ≡ false
+  stays = (neither (grows_node ch.grows s n || changes_node ch.nodes s n || ends_at_node ch.sessions s n) (unclaims_node ch.requests s n) out).1
+
+  by : (o : Option RequestId) → k.allocated_to ≡ o → is_none (standing (changed c ch s) o) ≡ is_none (standing s o)
+  by None to = refl
+  by (Some r) to =
+      let more : State = grown c ch.maker ch.grows s in
+      ap (λ (o : Option RequestRecord). is_none (option_map (λ _. r) o)) (left-request ch.sessions r (requests_changed ch.maker ch.requests more.requests))
+      ∙ stays-there ch.maker ch.requests s n k r more.requests at to stays
+      ∙ ap (λ (o : Option RequestRecord). is_none (option_map (λ _. r) o)) (found-grown c s ch.maker ch.grows r (allocations n k r at to).below)

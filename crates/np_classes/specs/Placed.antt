@@ -9,6 +9,7 @@ use Rattle.np_groups.specs.declared.groups.Member.{Member}
 use Rattle.np_groups.specs.Groups.{member, with_member, without_member}
 use Rattle.np_machine.specs.State.{State}
 use Rattle.np_machine.specs.Tables.{node_in, node_holder, request_in}
+use Rattle.np_look.specs.Readers.{is_unclaimed}
 use Rattle.np_look.specs.declared.asked.NodeView.{NodeView}
 use Rattle.np_look.specs.declared.asked.RequestView.{RequestView}
 use Rattle.np_classes.specs.Classes.{node_groups, request_groups}
@@ -68,21 +69,21 @@ abbrev pub no_request_groups : List (Option Group)
 no_request_groups = None ∷ None ∷ None ∷ None ∷ None ∷ None ∷ None ∷ []
 
 -- the groups of the node, if it is there
-abbrev pub groups_of_node : State → NodeId → List (Option Group)
-groups_of_node s n = option_map_or (λ k. node_groups k (is_none (node_holder n s.nodes))) (node_in n s.nodes) no_node_groups
+abbrev pub groups_of_node : Configuration → State → NodeId → List (Option Group)
+groups_of_node c s n = option_map_or (λ k. node_groups c k (is_none (node_holder n s.nodes)) (is_unclaimed s k)) (node_in n s.nodes) no_node_groups
 
 abbrev pub groups_of_request : Configuration → State → RequestId → List (Option Group)
 groups_of_request c s r = option_map_or (λ k. request_groups c k) (request_in r s.requests) no_request_groups
 
-abbrev pub placed_node : State → NodeId → Placed NodeId
-placed_node s n = record { id = n; groups = groups_of_node s n }
+abbrev pub placed_node : Configuration → State → NodeId → Placed NodeId
+placed_node c s n = record { id = n; groups = groups_of_node c s n }
 
 abbrev pub placed_request : Configuration → State → RequestId → Placed RequestId
 placed_request c s r = record { id = r; groups = groups_of_request c s r }
 
 -- as a walk sees them
-abbrev pub placed_node_view : NodeView → Placed NodeId
-placed_node_view v = record { id = v.id; groups = node_groups v.kept (is_none v.holder) }
+abbrev pub placed_node_view : Configuration → State → NodeView → Placed NodeId
+placed_node_view c s v = record { id = v.id; groups = node_groups c v.kept (is_none v.holder) (is_unclaimed s v.kept) }
 
 abbrev pub placed_request_view : Configuration → RequestView → Placed RequestId
 placed_request_view c v = record { id = v.id; groups = request_groups c v.kept }

@@ -46,8 +46,16 @@ ended_nodes sessions.Same queued = []
 ended_nodes (sessions.Mute session) queued = []
 ended_nodes (sessions.End session) queued = queued
 
+-- the nodes in the list of the request that goes away
+abbrev pub unclaimed_nodes : RequestsChange → State → List NodeId
+unclaimed_nodes requests.Same s = []
+unclaimed_nodes (requests.Edit r edit) s = []
+unclaimed_nodes (requests.Remove r) s = option_map_or (λ k. k.nodes) (request_in r s.requests) []
+unclaimed_nodes (requests.Leave r) s = []
+
+-- a node that is freed by a request that goes away is listed twice
 abbrev pub touched_nodes : Changes → List NodeId → State → List NodeId
-touched_nodes ch queued s = (grown_nodes ch.grows s ++ changed_nodes ch.nodes s) ++ ended_nodes ch.sessions queued
+touched_nodes ch queued s = ((grown_nodes ch.grows s ++ changed_nodes ch.nodes s) ++ ended_nodes ch.sessions queued) ++ unclaimed_nodes ch.requests s
 
 -- ## requests
 
@@ -77,7 +85,7 @@ pub record TouchedOf : Type 0 where
 pub record IsPrepared (c : Configuration) (s : State) (ch : Changes) (touched : TouchedOf) : Type 0 where
   pub nodes : (n : NodeId) → touches_node ch s n ≡ true → list_any (λ m. same_node m n) touched.nodes ≡ true
   pub requests : (r : RequestId) → touches_request ch s r ≡ true → list_any (λ x. same_request x r) touched.requests ≡ true
-  pub node_members : touched.node_members ≡ members_of (map (placed_node s) touched.nodes)
+  pub node_members : touched.node_members ≡ members_of (map (placed_node c s) touched.nodes)
   pub request_members : touched.request_members ≡ members_of (map (placed_request c s) touched.requests)
 
 -- there is room for each node in the five groups that it may be in, and for each request in its seven

@@ -40,9 +40,16 @@ ends_at_node sessions.Same s n = false
 ends_at_node (sessions.Mute session) s n = false
 ends_at_node (sessions.End session) s n = is_queued session (node_queue n s.nodes)
 
--- the record or the queue of the node may change
+-- the request that the node is allocated to goes away
+abbrev pub unclaims_node : RequestsChange → State → NodeId → Bool
+unclaims_node requests.Same s n = false
+unclaims_node (requests.Edit r edit) s n = false
+unclaims_node (requests.Remove r) s n = option_map_or (λ k. is_request r k.allocated_to) (node_in n s.nodes) false
+unclaims_node (requests.Leave r) s n = false
+
+-- the record or the queue of the node may change, or whether it is unclaimed
 abbrev pub touches_node : Changes → State → NodeId → Bool
-touches_node ch s n = grows_node ch.grows s n || changes_node ch.nodes s n || ends_at_node ch.sessions s n
+touches_node ch s n = grows_node ch.grows s n || changes_node ch.nodes s n || ends_at_node ch.sessions s n || unclaims_node ch.requests s n
 
 -- ## requests
 

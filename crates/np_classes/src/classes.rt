@@ -44,7 +44,8 @@ impl Model for Classes {
 }
 
 impl Classes {
-    /// The groups of the state. It reads each node and each request once.
+    /// The groups of the state. It reads each node and each request once, and looks up the request
+    /// that each node is allocated to.
     pub fn rebuild<L: Look>(alloc: Global, look: &L) -> Result<Classes, AllocError>
         requires { IsReached (L.site look.now) (L.state look.now) }
         ensures { IfOk result (λ x. AreClasses (L.site look.now) (L.state look.now) x) }
@@ -67,6 +68,20 @@ impl Classes {
         ensures { result ≡ slice_get (ids_in group self.now.nodes) at }
     {
         self.nodes.at(group, at)
+    }
+
+    /// The first group from this one on that a node is in. One binary search.
+    pub fn node_group_from(&self, group: Group) -> Option<Group>
+        ensures { result ≡ group_from group self.now.nodes }
+    {
+        self.nodes.group_from(group)
+    }
+
+    /// The first group after this one that a node is in. One binary search.
+    pub fn node_group_after(&self, group: Group) -> Option<Group>
+        ensures { result ≡ group_after group self.now.nodes }
+    {
+        self.nodes.group_after(group)
     }
 
     /// How many requests are in the group. Two binary searches.
@@ -100,8 +115,9 @@ impl Classes {
 
     /// Lists what the changes touch, before the state changes, and takes the memory for `note`. The
     /// members stay as they are, so nothing need be undone if the change fails. Where a session
-    /// ends, `queued` is the nodes in whose queues it is. It costs a few lookups for each node and
-    /// request that is touched.
+    /// ends, `queued` is the nodes in whose queues it is; where a request goes away, its nodes are
+    /// touched too. It costs a few lookups for each node and request that is touched, and for a
+    /// request that pools declined one scan of its declines for each of the 64 pools.
     pub fn prepare<L: Look>(
         &mut self,
         alloc: Global,
@@ -126,7 +142,8 @@ impl Classes {
     }
 
     /// Puts what was touched where it is now, after the state has changed. It takes no memory, and
-    /// costs a few lookups and binary searches for each node and request that was touched.
+    /// costs a few lookups and binary searches for each node and request that was touched, and for
+    /// a request that pools declined one scan of its declines for each of the 64 pools.
     pub fn note<L: Look>(&mut self, look: &L, touched: &Touched)
         requires { HasRoom touched.now self.old }
         ensures { (c : Configuration) (s : State) (ch : Changes)

@@ -1,14 +1,15 @@
 //! Which groups nodes and requests are in, by their records.
 
-ghost use Rattle.std.specs.Prelude.{◌≡◌, None};
+ghost use Rattle.std.specs.Prelude.{◌≡◌, ◌≤◌, None, if◌then◌else◌};
 ghost use Rattle.std.specs.Option.{option_map};
-ghost use Rattle.np_classes.specs.Classes.{coming_group, coming_group_of, declined_group, declined_group_of, free_group, group_if, kind_group, next_label_group, next_label_group_of, node_groups, pending_group, pending_group_of, pinned_label_group, pinned_label_group_of, request_groups, spare_group, spent_group, spent_group_of, tenant_group, unheld_group, waiting_group, waiting_group_of};
+ghost use Rattle.np_machine.specs.Order.{is_declined_by};
+ghost use Rattle.np_classes.specs.Classes.{coming_group, coming_group_of, decline_set, declined_group, declined_group_of, free_group, group_if, kind_group, next_label_group, next_label_group_of, node_groups, pending_group, pending_group_of, pinned_label_group, pinned_label_group_of, request_groups, spare_group, spent_group, spent_group_of, tenant_group, unheld_class, unheld_group, unheld_group_of, waiting_group, waiting_group_of};
 
 use np_config::Config;
 use np_groups::Group;
-use np_look::tenant_of_job;
-use np_record::{NodeRecord, RequestRecord};
-use np_text::{LabelId, NodeState, PoolId, RequestState, TenantId};
+use np_look::{UnheldKind, due_of, is_declined_by, tenant_of_job, unheld_kind};
+use np_record::{Declined, NodeRecord, RequestRecord};
+use np_text::{LabelId, NodeState, POOLS, PoolId, RequestState, TenantId};
 
 /// All nodes of the pool with the label.
 pub fn kind_group(pool: PoolId, label: LabelId) -> Group
@@ -18,6 +19,7 @@ pub fn kind_group(pool: PoolId, label: LabelId) -> Group
         class: 0,
         first: pool.0,
         second: label.0,
+        third: 0,
     }
 }
 
@@ -29,6 +31,7 @@ pub fn spare_group(pool: PoolId, label: LabelId) -> Group
         class: 1,
         first: pool.0,
         second: label.0,
+        third: 0,
     }
 }
 
@@ -40,28 +43,42 @@ pub fn free_group(label: LabelId) -> Group
         class: 2,
         first: 0,
         second: label.0,
+        third: 0,
     }
 }
 
-/// The nodes of the tenant.
-pub fn tenant_group(tenant: TenantId) -> Group
-    ensures { result ≡ tenant_group tenant }
+/// The tenant's nodes of the pool with the label.
+pub fn tenant_group(tenant: TenantId, pool: PoolId, label: LabelId) -> Group
+    ensures { result ≡ tenant_group tenant pool label }
 {
     Group {
         class: 3,
         first: tenant.0,
-        second: 0,
+        second: pool.0,
+        third: label.0 as u64,
     }
 }
 
-/// The nodes of the pool that nobody holds.
-pub fn unheld_group(pool: PoolId) -> Group
-    ensures { result ≡ unheld_group pool }
+fn unheld_class(kind: UnheldKind) -> u8
+    ensures { result ≡ unheld_class kind }
+{
+    match kind {
+        UnheldKind::Free => 4,
+        UnheldKind::LeftOver => 5,
+        UnheldKind::Hold => 6,
+        UnheldKind::Abandoned => 7,
+    }
+}
+
+/// The nodes of the pool that nobody holds, of this kind, that are due at this tick.
+pub fn unheld_group(pool: PoolId, kind: UnheldKind, due: u64) -> Group
+    ensures { result ≡ unheld_group pool kind due }
 {
     Group {
-        class: 4,
+        class: unheld_class(kind),
         first: pool.0,
         second: 0,
+        third: due,
     }
 }
 
@@ -73,10 +90,11 @@ pub fn pending_group(pool: PoolId) -> Group
         class: 0,
         first: pool.0,
         second: 0,
+        third: 0,
     }
 }
 
-/// The pending requests whose job is of the tenant.
+/// The pending requests that still wait for nodes and whose job is of the tenant.
 pub fn waiting_group(tenant: TenantId) -> Group
     ensures { result ≡ waiting_group tenant }
 {
@@ -84,6 +102,7 @@ pub fn waiting_group(tenant: TenantId) -> Group
         class: 1,
         first: tenant.0,
         second: 0,
+        third: 0,
     }
 }
 
@@ -95,6 +114,7 @@ pub fn coming_group(label: LabelId) -> Group
         class: 2,
         first: 0,
         second: label.0,
+        third: 0,
     }
 }
 
@@ -106,17 +126,20 @@ pub fn spent_group(pool: PoolId, label: LabelId) -> Group
         class: 3,
         first: pool.0,
         second: label.0,
+        third: 0,
     }
 }
 
-/// The requests that are requested, and that at least one pool declined.
-pub fn declined_group() -> Group
-    ensures { result ≡ declined_group }
+/// The requests that are requested, and that the pools of this set declined and no others. The set
+/// is a number with a binary digit for each pool, the first pool's the last digit.
+pub fn declined_group(set: u64) -> Group
+    ensures { result ≡ declined_group set }
 {
     Group {
         class: 4,
         first: 0,
         second: 0,
+        third: set,
     }
 }
 
@@ -128,6 +151,7 @@ pub fn next_label_group(pool: PoolId, label: LabelId) -> Group
         class: 5,
         first: pool.0,
         second: label.0,
+        third: 0,
     }
 }
 
@@ -139,6 +163,7 @@ pub fn pinned_label_group(pool: PoolId, label: LabelId) -> Group
         class: 6,
         first: pool.0,
         second: label.0,
+        third: 0,
     }
 }
 
@@ -149,23 +174,46 @@ fn group_if(is_in: bool, group: Group) -> Option<Group>
     if is_in { Some(group) } else { None }
 }
 
-fn group_of_tenant(tenant: Option<TenantId>) -> Option<Group>
-    ensures { result ≡ option_map tenant_group tenant }
+/// The group of the node among those of its tenant, if it has one.
+fn group_of_tenant(kept: &NodeRecord) -> Option<Group>
+    ensures { result ≡ option_map (λ t. tenant_group t kept.now.pool kept.now.label) kept.now.tenant }
 {
-    Some(tenant_group(tenant?))
+    Some(tenant_group(kept.tenant?, kept.pool, kept.label))
 }
 
-/// The groups of a node with this record.
-pub(crate) fn node_groups(kept: &NodeRecord, is_unlocked: bool) -> [Option<Group>; 5]
-    ensures { result ≡ node_groups kept.now is_unlocked }
+/// Its group among the nodes that nobody holds, if it is unlocked and of a kind.
+fn unheld_group_of(
+    config: &Config,
+    kept: &NodeRecord,
+    is_unlocked: bool,
+    is_unclaimed: bool,
+) -> Option<Group>
+    ensures { result ≡ unheld_group_of config.now kept.now is_unlocked is_unclaimed }
+{
+    if !is_unlocked {
+        return None;
+    }
+    let kind = unheld_kind(is_unclaimed, kept)?;
+    Some(unheld_group(kept.pool, kind, due_of(config, kind, kept)))
+}
+
+/// The groups of a node with this record, by whether it is unlocked and whether it is unclaimed:
+/// allocated to no request, or to one that is gone.
+pub(crate) fn node_groups(
+    config: &Config,
+    kept: &NodeRecord,
+    is_unlocked: bool,
+    is_unclaimed: bool,
+) -> [Option<Group>; 5]
+    ensures { result ≡ node_groups config.now kept.now is_unlocked is_unclaimed }
 {
     let is_free = kept.state == NodeState::Ready && kept.allocated_to.is_none();
     [
         Some(kind_group(kept.pool, kept.label)),
         group_if(is_free, free_group(kept.label)),
         group_if(is_free && is_unlocked, spare_group(kept.pool, kept.label)),
-        group_of_tenant(kept.tenant),
-        group_if(is_unlocked, unheld_group(kept.pool)),
+        group_of_tenant(kept),
+        unheld_group_of(config, kept, is_unlocked, is_unclaimed),
     ]
 }
 
@@ -181,7 +229,7 @@ fn pending_group_of(kept: &RequestRecord) -> Option<Group>
 fn waiting_group_of(config: &Config, kept: &RequestRecord) -> Option<Group>
     ensures { result ≡ waiting_group_of config.now kept.now }
 {
-    if kept.state != RequestState::Pending {
+    if kept.state != RequestState::Pending || kept.labels.at(kept.nodes.len()).is_none() {
         return None;
     }
     Some(waiting_group(tenant_of_job(config, kept.job)?))
@@ -207,11 +255,35 @@ fn spent_group_of(kept: &RequestRecord) -> Option<Group>
     Some(spent_group(pool, kept.labels.at(0)?))
 }
 
+/// 1 if the pool is among the declines.
+fn decline_digit(pool: PoolId, declined: &[Declined]) -> u64
+    ensures digit { result ≡ (if is_declined_by pool declined.now then 1 else 0) }
+    ensures few { result ≤ 1 }
+{
+    if is_declined_by(pool, declined) { 1 } else { 0 }
+}
+
+/// The pools among the declines as a number: a binary digit for each pool, the first pool's the
+/// last digit. It scans the declines once for each of the 64 pools that there can be.
+fn decline_set(declined: &[Declined]) -> u64
+    ensures { result ≡ decline_set declined.now }
+{
+    let mut set = 0;
+    let mut left = POOLS as u16;
+    while left > 0 {
+        left -= 1;
+        set = set * 2 + decline_digit(PoolId(left), declined);
+    }
+    set
+}
+
 fn declined_group_of(kept: &RequestRecord) -> Option<Group>
     ensures { result ≡ declined_group_of kept.now }
 {
-    let is_declined = kept.state == RequestState::Requested && kept.declined.len() > 0;
-    group_if(is_declined, declined_group())
+    if kept.state != RequestState::Requested || kept.declined.len() == 0 {
+        return None;
+    }
+    Some(declined_group(decline_set(kept.declined.items())))
 }
 
 fn next_label_group_of(kept: &RequestRecord) -> Option<Group>

@@ -56,7 +56,8 @@ pub(crate) fn put_nodes<L: Look>(groups: &mut Groups<ByNode>, look: &L, nodes: &
     requires { 5 * length nodes.now ≤ groups.old.room }
     ensures { groups.new.members
         ≡ with_all is_node_before same_node
-        (map (placed_node (L.state look.now)) nodes.now) groups.old.members }
+        (map (placed_node (L.site look.now) (L.state look.now)) nodes.now)
+        groups.old.members }
 {
     for node in nodes {
         put_in(groups, *node, &groups_of_node(look, *node));
@@ -81,29 +82,34 @@ pub(crate) fn put_requests<L: Look>(
 }
 
 /// Puts the node in its groups, and takes the memory.
-fn add_node(groups: &mut Groups<ByNode>, view: &NodeView) -> Result<(), AllocError>
+fn add_node<L: Look>(
+    groups: &mut Groups<ByNode>,
+    look: &L,
+    view: &NodeView,
+) -> Result<(), AllocError>
     ensures { OnOk result (groups.new.members
         ≡ with_groups is_node_before same_node view.now.id
-        (placed_node_view view.now).groups groups.old.members) }
+        (placed_node_view (L.site look.now) (L.state look.now) view.now).groups
+        groups.old.members) }
 {
+    let is_unclaimed = look.is_unclaimed(&view.kept);
+    let is_unlocked = view.holder.is_none();
+    let places = node_groups(look.config(), &view.kept, is_unlocked, is_unclaimed);
     groups.reserve(5)?;
-    put_in(
-        groups,
-        view.id,
-        &node_groups(&view.kept, view.holder.is_none()),
-    );
+    put_in(groups, view.id, &places);
     Ok(())
 }
 
-/// The groups of all nodes, by one walk over them.
+/// The groups of all nodes, by one walk over them, with a lookup of each one's request.
 pub(crate) fn all_nodes<L: Look>(alloc: Global, look: &L) -> Result<Groups<ByNode>, AllocError>
     requires { IsReached (L.site look.now) (L.state look.now) }
-    ensures { IfOk result (λ groups. AreNodeGroups (L.state look.now) groups.members) }
+    ensures { IfOk result (λ groups.
+        AreNodeGroups (L.site look.now) (L.state look.now) groups.members) }
 {
     let mut groups = Groups::new(alloc);
     for at in 0..look.nodes() {
         if let Some(view) = look.node_view(at) {
-            add_node(&mut groups, &view)?;
+            add_node(&mut groups, look, &view)?;
         }
     }
     Ok(groups)

@@ -6,7 +6,7 @@ ghost use Rattle.np_changes.specs.declared.changes.SessionsChange.TheVariants as
 ghost use Rattle.np_changes.specs.Planned.{IsPlanned, IsReached};
 ghost use Rattle.np_look.specs.Readers.{queued_nodes};
 ghost use Rattle.np_classes.specs.Placed.{groups_of_node, groups_of_request, members_of, placed_node, placed_request, then_member, then_members};
-ghost use Rattle.np_classes.specs.Prepared.{IsPrepared, changed_nodes, changed_requests, ended_nodes, grown_nodes, grown_requests, touched_nodes, touched_requests};
+ghost use Rattle.np_classes.specs.Prepared.{IsPrepared, changed_nodes, changed_requests, ended_nodes, grown_nodes, grown_requests, touched_nodes, touched_requests, unclaimed_nodes};
 
 use crate::group::{node_groups, request_groups};
 use np_changes::{Changes, Growth, NodesChange, RequestsChange, SessionsChange};
@@ -54,14 +54,17 @@ const NO_NODE_GROUPS: [Option<Group>; 5] = [None, None, None, None, None];
 /// A request in no group.
 const NO_REQUEST_GROUPS: [Option<Group>; 7] = [None, None, None, None, None, None, None];
 
-/// The groups that the node is in, if it is there. Two lookups.
+/// The groups that the node is in, if it is there. Three lookups: of the node, of its queue and of
+/// the request that it is allocated to.
 pub(crate) fn groups_of_node<L: Look>(look: &L, node: NodeId) -> [Option<Group>; 5]
-    ensures { result ≡ groups_of_node (L.state look.now) node }
+    ensures { result ≡ groups_of_node (L.site look.now) (L.state look.now) node }
 {
-    match look.node(node) {
-        None => NO_NODE_GROUPS,
-        Some(kept) => node_groups(&kept, look.node_holder(node).is_none()),
-    }
+    let Some(kept) = look.node(node) else {
+        return NO_NODE_GROUPS;
+    };
+    let is_unlocked = look.node_holder(node).is_none();
+    let is_unclaimed = look.is_unclaimed(&kept);
+    node_groups(look.config(), &kept, is_unlocked, is_unclaimed)
 }
 
 /// The groups that the request is in, if it is there. One lookup.
@@ -132,6 +135,23 @@ fn list_ended_nodes(
     }
 }
 
+fn list_unclaimed_nodes<L: Look>(
+    list: &mut Vec<NodeId>,
+    look: &L,
+    change: &RequestsChange,
+) -> Result<(), AllocError>
+    ensures { OnOk result
+        (list.new.items ≡ list.old.items ++ unclaimed_nodes change.now (L.state look.now)) }
+{
+    let RequestsChange::Remove { request } = change else {
+        return Ok(());
+    };
+    match look.asked(*request) {
+        None => Ok(()),
+        Some(gone) => list.extend_from_slice(gone.nodes.items()),
+    }
+}
+
 fn touched_nodes<L: Look>(
     alloc: Global,
     look: &L,
@@ -145,6 +165,7 @@ fn touched_nodes<L: Look>(
     list_if(&mut list, grown_node(look, &changes.grows))?;
     list_changed_nodes(&mut list, look, &changes.nodes)?;
     list_ended_nodes(&mut list, &changes.sessions, queued)?;
+    list_unclaimed_nodes(&mut list, look, &changes.requests)?;
     Ok(list)
 }
 
@@ -217,8 +238,8 @@ fn node_members<L: Look>(
     look: &L,
     nodes: &[NodeId],
 ) -> Result<Vec<Member<NodeId>>, AllocError>
-    ensures { IfOk result (λ list.
-        list.items ≡ members_of (map (placed_node (L.state look.now)) nodes.now)) }
+    ensures { IfOk result (λ list. list.items
+        ≡ members_of (map (placed_node (L.site look.now) (L.state look.now)) nodes.now)) }
 {
     let mut list = Vec::new(alloc);
     for node in nodes {
@@ -242,8 +263,8 @@ fn request_members<L: Look>(
     Ok(list)
 }
 
-/// What the changes touch. The nodes that are freed are read from their request, and those in whose
-/// queues a session is that ends are passed.
+/// What the changes touch. The nodes that are freed or whose request goes away are read from that
+/// request, and those in whose queues a session is that ends are passed.
 pub(crate) fn touched_by<L: Look>(
     alloc: Global,
     look: &L,

@@ -11,7 +11,7 @@ pub loop-at-preserved : goal.loop-at-preserved
 loop-at-preserved g c =
     elim c.match-node_view.branch [
       | in-Some+in_ok-add_node w ↦
-          made-more is_node_before same_node node_view placed_node_view (g.L.Look.state c.args.look.now).nodes c.loop-at.at w.in-Some.view _ _ w.in-Some.ensures c.loop-at.invariant
+          made-more is_node_before same_node node_view (placed_node_view (g.L.Look.site c.args.look.now) (g.L.Look.state c.args.look.now)) (g.L.Look.state c.args.look.now).nodes c.loop-at.at w.in-Some.view _ _ w.in-Some.ensures c.loop-at.invariant
           (ap (λ (m : _). m.members) w.groups-is ∙ w.in_ok-add_node.ensures)
       | in_default w ↦
           let within : c.loop-at.at < length (g.L.Look.state c.args.look.now).nodes = omega (arith, c.nodes-at-end.ensures) in

@@ -9,7 +9,7 @@ use Rattle.np_classes.proofs.classes.Classes.note.Goals as goal
 pub returns : goal.returns
 returns g c site s ch reached prepared same_site after was =
     classes-noted site (g.L.Look.site c.args.look.now) s (g.L.Look.state c.args.look.now) ch c.args.touched.now c.args.self.now _
-    (moved-by is_node_before same_node (placed_node (g.L.Look.state c.args.look.now)) _ _ _ _ _ _ _ _ _ _
+    (moved-by is_node_before same_node (placed_node (g.L.Look.site c.args.look.now) (g.L.Look.state c.args.look.now)) _ _ _ _ _ _ _ _ _ _
     (ap (λ (x : _). x.nodes) c.self.view_is) (ap (λ (x : _). x.node_members) c.touched.view_is) (ap (λ (x : _). x.nodes) c.touched.view_is)
     c.as_slice.ensures.value c.as_slice-2.ensures.value c.take_out.ensures.members c.put_nodes.ensures)
     (moved-by is_id_before same_request (placed_request (g.L.Look.site c.args.look.now) (g.L.Look.state c.args.look.now)) _ _ _ _ _ _ _ _ _ _
