@@ -1,12 +1,24 @@
 -- whether a member of a list passes a test
 use Rattle.std.proofs.Common.{◌≡◌, ◌∙◌, Bool, true, false, cond, List, [], ◌∷◌, Some, refl, sym, ap}
-use Rattle.std.specs.Prelude.{◌||◌, find}
+use Rattle.std.specs.Prelude.{◌&&◌, ◌||◌, find}
 use Rattle.std.specs.List.{AllByRecursion, list_any}
 use Rattle.np_lists.proofs.FoundLemmas.{find-passes}
 
 -- ## answers
 
-or_true : (a b : Bool) → b ≡ true → (a || b) ≡ true
+pub and-first : (a b : Bool) → (a && b) ≡ true → a ≡ true
+and-first true b is = refl
+and-first false b is = absurd cc
+
+pub and-second : (a b : Bool) → (a && b) ≡ true → b ≡ true
+and-second true b is = is
+and-second false b is = absurd cc
+
+pub and-both : (a b : Bool) → a ≡ true → b ≡ true → (a && b) ≡ true
+and-both true b first second = second
+and-both false b first second = absurd cc
+
+pub or_true : (a b : Bool) → b ≡ true → (a || b) ≡ true
 or_true true b is = refl
 or_true false b is = is
 

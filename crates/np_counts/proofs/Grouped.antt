@@ -15,9 +15,11 @@ use Rattle.np_machine.specs.Order.{is_id_before}
 use Rattle.np_machine.specs.State.{State}
 use Rattle.np_machine.specs.Tables.{holder, node_entry, request_entry, same_request}
 use Rattle.np_classes.specs.Classes.{node_groups, request_groups, is_among, AreNodeGroups, AreRequestGroups}
+use Rattle.np_look.specs.Readers.{is_unclaimed}
 use Rattle.np_safe.proofs.Lookups.{same_request-self}
 use Rattle.np_groups.proofs.Ids.{ids-rise, ids-has, same-list}
 use Rattle.np_counts.proofs.Rows.{filter-each, ids-in_order, row-passes}
+use Rattle.np_counts.proofs.Tests.{groups_of}
 use Rattle.std.proofs.lemmas.Bool.Decides.{nat_tests}
 
 -- ## ids
@@ -33,16 +35,16 @@ request-apart a b order = grind (arith, nat_tests)
 
 -- ## nodes
 
-module _ (s : State) (ms : List (Member NodeId)) (are : AreNodeGroups s ms) where
-  node-by : (g : Group) (o : Option NodeEntry) → option_map_or (λ (e : NodeEntry). is_among g (node_groups e.kept (is_none (holder e.queue)))) o false
-      ≡ option_map_or (λ k. is_among g (node_groups k (is_none (holder (option_map_or (λ (e : NodeEntry). e.queue) o []))))) (option_map (λ (e : NodeEntry). e.kept) o) false
+module _ (c : Configuration) (s : State) (ms : List (Member NodeId)) (are : AreNodeGroups c s ms) where
+  node-by : (g : Group) (o : Option NodeEntry) → option_map_or (λ (e : NodeEntry). is_among g (groups_of c s e)) o false
+      ≡ option_map_or (λ k. is_among g (node_groups c k (is_none (holder (option_map_or (λ (e : NodeEntry). e.queue) o []))) (is_unclaimed s k))) (option_map (λ (e : NodeEntry). e.kept) o) false
   node-by g None = refl
   node-by g (Some e) = refl
 
   -- the ids of a group are those of the nodes that are in it, by number
-  pub grouped-nodes : (g : Group) → ids_in g ms ≡ map (λ e. e.id) (filter (λ e. is_among g (node_groups e.kept (is_none (holder e.queue)))) s.nodes)
+  pub grouped-nodes : (g : Group) → ids_in g ms ≡ map (λ e. e.id) (filter (λ e. is_among g (groups_of c s e)) s.nodes)
   grouped-nodes g =
-      let test = λ (e : NodeEntry). is_among g (node_groups e.kept (is_none (holder e.queue))) in
+      let test = λ (e : NodeEntry). is_among g (groups_of c s e) in
       let id = λ (e : NodeEntry). e.id in
       same-list is_node_before same_node node_one_way node_equal same_node-self (ids_in g ms) (map id (filter test s.nodes))
       (ids-rise g is_node_before ms are.rises)
@@ -50,8 +52,8 @@ module _ (s : State) (ms : List (Member NodeId)) (are : AreNodeGroups s ms) wher
       (λ n. ids-has same_node g n ms ∙ are.each g n ∙ sym (row-passes is_node_before same_node id node_equal node-apart test n s.nodes are.once ∙ node-by g (node_entry n s.nodes)))
 
   -- by another test that says the same
-  pub nodes-by : (g : Group) (test : NodeEntry → Bool) → ((e : NodeEntry) → is_among g (node_groups e.kept (is_none (holder e.queue))) ≡ test e) → ids_in g ms ≡ map (λ e. e.id) (filter test s.nodes)
-  nodes-by g test same = grouped-nodes g ∙ ap (λ (es : List NodeEntry). map {A = NodeEntry} {B = NodeId} (λ e. e.id) es) (filter-each (λ (e : NodeEntry). is_among g (node_groups e.kept (is_none (holder e.queue)))) test (λ e. sym (same e)) s.nodes)
+  pub nodes-by : (g : Group) (test : NodeEntry → Bool) → ((e : NodeEntry) → is_among g (groups_of c s e) ≡ test e) → ids_in g ms ≡ map (λ e. e.id) (filter test s.nodes)
+  nodes-by g test same = grouped-nodes g ∙ ap (λ (es : List NodeEntry). map {A = NodeEntry} {B = NodeId} (λ e. e.id) es) (filter-each (λ (e : NodeEntry). is_among g (groups_of c s e)) test (λ e. sym (same e)) s.nodes)
 
 -- ## requests
 

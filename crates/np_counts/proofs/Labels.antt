@@ -2,49 +2,74 @@
 use Rattle.std.proofs.Common.{◌≡◌, ◌∙◌, ◌<◌, ℕ, Bool, true, false, not, List, Option, Some, None, refl, sym, ap, subst, arith}
 use Rattle.std.specs.Prelude.{◌&&◌, ◌||◌, if◌then◌else◌, find}
 use Rattle.std.specs.Option.{option_map, option_map_or}
-use Rattle.std.specs.List.{list_any}
+use Rattle.std.specs.List.{AllByRecursion, list_any}
 use Rattle.std.proofs.lemmas.Bool.Decides.{nat_tests}
 use Rattle.np_text.specs.declared.id.LabelId.{LabelId}
 use Rattle.np_lists.specs.Rising.{Rises}
-use Rattle.np_lists.proofs.Each.{all-weaker}
+use Rattle.np_lists.proofs.Each.{all-find, all-weaker}
 use Rattle.np_lists.proofs.FilterLemmas.{list_any-none}
+use Rattle.np_lists.proofs.FoundLemmas.{find-passes}
 use Rattle.np_lists.proofs.Halves.{none-find}
 use Rattle.np_groups.specs.declared.groups.Group.{Group}
 use Rattle.np_groups.specs.declared.groups.Member.{Member}
 use Rattle.np_groups.specs.Groups.{same_group, is_group_before, is_member_before, group_from, group_after}
-use Rattle.np_groups.proofs.Order.{group-equal}
+use Rattle.np_groups.proofs.Order.{group-equal, group-some_way, group-transitive}
 use Rattle.np_groups.proofs.Walk.{IsLeast, group-not_before, least-found}
 use Rattle.np_counts.specs.Waiting.{is_beside, label_if}
-use Rattle.np_counts.proofs.Any.{any-each, any-same, any-weaker}
+use Rattle.np_counts.proofs.Any.{any-each, any-find, any-same, any-weaker}
 use Rattle.np_counts.proofs.Tests.{and_false}
+
+pub not-is : (b : Bool) → not b ≡ true → b ≡ false
+not-is true is = absurd cc
+not-is false is = refl
 
 -- ## groups beside one another
 
 -- the group of a class, a first number and a label
 abbrev pub group_of : ℕ → ℕ → LabelId → Group
-group_of class first l = record { class = class; first = first; second = l.0 }
+group_of class first l = record { class = class; first = first; second = l.0; third = 0 }
 
 -- that of the first label
 abbrev pub first_group : ℕ → ℕ → Group
-first_group class first = record { class = class; first = first; second = 0 }
+first_group class first = record { class = class; first = first; second = 0; third = 0 }
 
--- a group beside one of them is one of them
-pub beside-is : (class first : ℕ) (h : Group) → is_beside h (first_group class first) ≡ true → h ≡ group_of class first (record { 0 = h.second })
-beside-is class first h here = group-equal h (group_of class first (record { 0 = h.second })) (grind (arith, nat_tests))
+-- a group beside one of them is one of them, if its third number is 0
+pub beside-is : (class first : ℕ) (h : Group) → is_beside h (first_group class first) ≡ true → h.third ≡ 0 → h ≡ group_of class first (record { 0 = h.second })
+beside-is class first h here flat = group-equal h (group_of class first (record { 0 = h.second })) (grind (arith, nat_tests))
+
+-- the third number of each member that is beside them is 0
+abbrev pub AreFlat : {K : Type 0} → ℕ → ℕ → List (Member K) → Type 0
+AreFlat class first ms = AllByRecursion (λ m. is_beside m.group (first_group class first) ≡ true → m.group.third ≡ 0) ms
+
+-- so is that of a group with a member
+flat-group : {K : Type 0} (class first : ℕ) (ms : List (Member K)) → AreFlat class first ms → (h : Group) → list_any (λ (m : Member K). same_group m.group h) ms ≡ true
+    → is_beside h (first_group class first) ≡ true → h.third ≡ 0
+flat-group {K = K} class first ms flat h some here =
+    let found = any-find (λ (m : Member K). same_group m.group h) ms some in
+    let same : found.0.group ≡ h = group-equal found.0.group h (find-passes (λ (m : Member K). same_group m.group h) ms found.0 found.1) in
+    let third = all-find (λ (m : Member K). is_beside m.group (first_group class first) ≡ true → m.group.third ≡ 0) (λ (m : Member K). same_group m.group h) ms found.0 flat found.1 in
+    subst (λ (g : Group). is_beside g (first_group class first) ≡ true → g.third ≡ 0) same third here
 
 pub beside-of : (class first : ℕ) (l : LabelId) → is_beside (group_of class first l) (first_group class first) ≡ true
 beside-of class first l = grind (arith, nat_tests)
 
 -- a later group that is not beside this one comes after all that are
-beside-before : (g m h : Group) → is_beside m g ≡ true → is_beside h g ≡ false → is_group_before h g ≡ false → is_group_before m h ≡ true
+pub beside-before : (g m h : Group) → is_beside m g ≡ true → is_beside h g ≡ false → is_group_before h g ≡ false → is_group_before m h ≡ true
 beside-before g m h here other past = grind (arith, nat_tests)
 
 -- what is not before a group that is not before this one, is not before this one
 pub from-up : (g m h : Group) → not (is_group_before h g) ≡ true → is_group_before m h ≡ false → not (is_group_before m g) ≡ true
-from-up g m h past later = grind (arith, nat_tests)
+from-up g m h past later = by (is_group_before m g) (same_group h g) refl refl where
+  by : (b same : Bool) → is_group_before m g ≡ b → same_group h g ≡ same → not b ≡ true
+  by false same is alike = refl
+  by true true is alike = absurd (let before : is_group_before m h ≡ true = rw (group-equal h g alike) is in cc)
+  by true false is alike = absurd (let before : is_group_before m h ≡ true = group-transitive m g h is (group-some_way h g (not-is (is_group_before h g) past) alike) in cc)
 
 pub after-up : (g m h : Group) → is_group_before g h ≡ true → is_group_before m h ≡ false → is_group_before g m ≡ true
-after-up g m h past later = grind (arith, nat_tests)
+after-up g m h past later = by (same_group m h) refl where
+  by : (same : Bool) → same_group m h ≡ same → is_group_before g m ≡ true
+  by true alike = rw (group-equal m h alike) past
+  by false alike = group-transitive g h m past (group-some_way m h later alike)
 
 beside-first : (class first : ℕ) (h : Group) → is_beside h (first_group class first) ≡ true → is_group_before h (first_group class first) ≡ false
 beside-first class first h here = grind (arith, nat_tests)
@@ -59,10 +84,6 @@ group-turn : (g m : Group) → same_group m g ≡ false → is_group_before g m 
 group-turn g m other = grind (arith, nat_tests)
 
 -- ## one member
-
-not-is : (b : Bool) → not b ≡ true → b ≡ false
-not-is true is = absurd cc
-not-is false is = refl
 
 past-by : (a b t : Bool) → (b ≡ true → a ≡ false) → (not a && (b && t)) ≡ (b && t)
 past-by true true t past = absurd (let no : true ≡ false = past refl in cc)
@@ -99,11 +120,12 @@ module _ (class first : ℕ) (test : LabelId → Bool) where
   later-by l m false other fails = ap (λ (b : Bool). b && is_wanted m) (group-turn (group_of class first l) m other)
 
   -- a label that a group was found of
-  label-is : (h : Group) (b : Bool) (l : LabelId) → is_beside h (first_group class first) ≡ b → (if b then Some (record { 0 = h.second }) else None) ≡ Some l → h ≡ group_of class first l
-  label-is h true l here is =
+  label-is : (h : Group) (b : Bool) (l : LabelId) → is_beside h (first_group class first) ≡ b → (is_beside h (first_group class first) ≡ true → h.third ≡ 0)
+      → (if b then Some (record { 0 = h.second }) else None) ≡ Some l → h ≡ group_of class first l
+  label-is h true l here flat is =
       let same : record { 0 = h.second } ≡ l = cc in
-      beside-is class first h here ∙ ap (group_of class first) same
-  label-is h false l other is = absurd cc
+      beside-is class first h here (flat here) ∙ ap (group_of class first) same
+  label-is h false l other flat is = absurd cc
 
   module _ {K : Type 0} (ms : List (Member K)) where
     -- whether a member passes that is not of a group before the label's
@@ -125,13 +147,13 @@ module _ (class first : ℕ) (test : LabelId → Bool) where
         now-by : is_group_before (group_of class first l) (group_of class first l) ≡ false → test l ≡ true → (not (is_group_before (group_of class first l) (group_of class first l)) && is_wanted (group_of class first l)) ≡ true
         now-by past is = grind (arith, nat_tests)
 
-    module _ (q : Group → Bool) (low : (h : Group) → q h ≡ true → is_group_before h (first_group class first) ≡ false)
+    module _ (flat : AreFlat class first ms) (q : Group → Bool) (low : (h : Group) → q h ≡ true → is_group_before h (first_group class first) ≡ false)
         (up : (m h : Group) → q h ≡ true → is_group_before m h ≡ false → q m ≡ true) where
       -- the least group that passes is beside, or none is
       found-by : (h : Group) (b : Bool) → is_beside h (first_group class first) ≡ b → IsLeast q ms h
           → list_any (λ m. q m.group && is_wanted m.group) ms ≡ rest_from (if b then Some (record { 0 = h.second }) else None)
       found-by h true here least =
-          let same : h ≡ group_of class first (record { 0 = h.second }) = beside-is class first h here in
+          let same : h ≡ group_of class first (record { 0 = h.second }) = beside-is class first h here (flat-group class first ms flat h least.member here) in
           any-each (λ m. q m.group && is_wanted m.group) (λ m. not (is_group_before m.group (group_of class first (record { 0 = h.second }))) && is_wanted m.group) ms
           (all-weaker (λ (m : Member K). (not (q m.group) || not (is_group_before m.group h)) ≡ true)
           (λ (m : Member K). (q m.group && is_wanted m.group) ≡ (not (is_group_before m.group (group_of class first (record { 0 = h.second }))) && is_wanted m.group))
@@ -156,12 +178,12 @@ module _ (class first : ℕ) (test : LabelId → Bool) where
       next-by before rises (Some m) is = found-by m.group (is_beside m.group (first_group class first)) refl
           (least-found before q ms rises m.group (ap (option_map (λ (m : Member K). m.group)) is))
 
-    module _ (before : K → K → Bool) (rises : Rises (is_member_before before) ms) where
+    module _ (flat : AreFlat class first ms) (before : K → K → Bool) (rises : Rises (is_member_before before) ms) where
       least-label : (q : Group → Bool) (o : Option (Member K)) → find (λ m. q m.group) ms ≡ o → (l : LabelId) → label_if (first_group class first) (option_map (λ m. m.group) o) ≡ Some l → IsLeast q ms (group_of class first l)
       least-label q None found l is = absurd cc
       least-label q (Some m) found l is =
-          subst (λ (h : Group). IsLeast q ms h) (label-is m.group (is_beside m.group (first_group class first)) l refl is)
-          (least-found before q ms rises m.group (ap (option_map (λ (m : Member K). m.group)) found))
+          let least = least-found before q ms rises m.group (ap (option_map (λ (m : Member K). m.group)) found) in
+          subst (λ (h : Group). IsLeast q ms h) (label-is m.group (is_beside m.group (first_group class first)) l refl (flat-group class first ms flat m.group least.member) is) least
 
       has-by : (q : Group → Bool) (next : Option LabelId) → label_if (first_group class first) (option_map (λ m. m.group) (find (λ m. q m.group) ms)) ≡ next → has_label next ≡ true
       has-by q None is = refl
@@ -173,7 +195,7 @@ module _ (class first : ℕ) (test : LabelId → Bool) where
       pub start-rest : rest_from (label_if (first_group class first) (group_from (first_group class first) ms)) ≡ list_any (λ m. is_wanted m.group) ms
       start-rest =
           let start = first_group class first in
-          sym (next-by (λ h. not (is_group_before h start)) (λ h past. not-is (is_group_before h start) past) (λ m h. from-up start m h)
+          sym (next-by flat (λ h. not (is_group_before h start)) (λ h past. not-is (is_group_before h start) past) (λ m h. from-up start m h)
           before rises (find (λ m. not (is_group_before m.group start)) ms) refl)
           ∙ any-same (λ m. not (is_group_before m.group start) && is_wanted m.group) (λ m. is_wanted m.group)
           (λ m. past-by (is_group_before m.group start) (is_beside m.group start) (test (record { 0 = m.group.second })) (beside-first class first m.group)) ms
@@ -188,7 +210,7 @@ module _ (class first : ℕ) (test : LabelId → Bool) where
         pub after-rest : test l ≡ false → rest_from (label_if (first_group class first) (group_after (group_of class first l) ms)) ≡ rest_from (Some l)
         after-rest fails =
             let g = group_of class first l in
-            sym (next-by (λ h. is_group_before g h) (λ h past. after-low class first l h past) (λ m h. after-up g m h) before rises (find (λ m. is_group_before g m.group) ms) refl)
+            sym (next-by flat (λ h. is_group_before g h) (λ h past. after-low class first l h past) (λ m h. after-up g m h) before rises (find (λ m. is_group_before g m.group) ms) refl)
             ∙ any-same (λ m. is_group_before g m.group && is_wanted m.group) (λ m. not (is_group_before m.group g) && is_wanted m.group)
             (λ m. later-by l m.group (same_group m.group g) refl fails) ms
 

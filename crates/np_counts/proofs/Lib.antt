@@ -6,4 +6,10 @@ pub mod ByIds
 pub mod Sums
 pub mod Any
 pub mod Labels
+pub mod Flat
 pub mod Waiting
+pub mod Thirds
+pub mod DueLemmas
+pub mod DeclinedLemmas
+pub mod Totals
+pub mod TenantLemmas

@@ -1,6 +1,6 @@
 -- how many members a group has, and the one at a place
 use Rattle.std.proofs.Common.{◌≡◌, ◌∙◌, ◌≤◌, ℕ, Bool, true, false, cond, List, [], ◌∷◌, length, refl, ap, arith}
-use Rattle.std.specs.Prelude.{◌||◌, filter, slice_get, nat_lt, count_by, is_none}
+use Rattle.std.specs.Prelude.{◌||◌, filter, slice_get, nat_lt, count_by}
 use Rattle.std.specs.List.{list_any}
 use Rattle.std.proofs.lemmas.List.{length-map}
 use Rattle.std.proofs.lemmas.List.Sums.{length-filter}
@@ -20,11 +20,10 @@ use Rattle.np_machine.specs.Count.{is_kind, number_of}
 use Rattle.np_machine.specs.Reasons.{is_spare}
 use Rattle.np_machine.specs.Request.{is_spent_min_ready, is_coming, is_free_ready}
 use Rattle.np_machine.specs.State.{State}
-use Rattle.np_machine.specs.Tables.{holder}
-use Rattle.np_look.specs.Readers.{free_ready_of, is_still_requested, is_unheld, pending_requests, declined_requests, unheld_nodes}
-use Rattle.np_classes.specs.Classes.{kind_group, spare_group, free_group, unheld_group, pending_group, coming_group, spent_group, declined_group, node_groups, request_groups, is_among, ClassesOf, AreClasses}
+use Rattle.np_look.specs.Readers.{free_ready_of, pending_requests}
+use Rattle.np_classes.specs.Classes.{kind_group, spare_group, free_group, pending_group, coming_group, spent_group, request_groups, is_among, ClassesOf, AreClasses}
 use Rattle.np_counts.proofs.Grouped.{grouped-nodes, grouped-requests, nodes-by, requests-by}
-use Rattle.np_counts.proofs.Tests.{kind-test, spare-test, free-test, unheld-test, pending-test, coming-test, spent-test, declined-test}
+use Rattle.np_counts.proofs.Tests.{groups_of, kind-test, spare-test, free-test, pending-test, coming-test, spent-test}
 
 -- ## of any rows
 
@@ -44,39 +43,31 @@ module _ (c : Configuration) (s : State) (classes : ClassesOf) (are : AreClasses
   -- no group has more members than there are nodes
   pub few-nodes : (g : Group) → length (ids_in g classes.nodes) ≤ length s.nodes
   few-nodes g =
-      let test = λ (e : NodeEntry). is_among g (node_groups e.kept (is_none (holder e.queue))) in
-      let all : length (ids_in g classes.nodes) ≡ length (filter test s.nodes) = ap (λ (ids : List NodeId). length ids) (grouped-nodes s classes.nodes are.nodes g) ∙ length-map (filter test s.nodes) (λ (e : NodeEntry). e.id) in
+      let test = λ (e : NodeEntry). is_among g (groups_of c s e) in
+      let all : length (ids_in g classes.nodes) ≡ length (filter test s.nodes) = ap (λ (ids : List NodeId). length ids) (grouped-nodes c s classes.nodes are.nodes g) ∙ length-map (filter test s.nodes) (λ (e : NodeEntry). e.id) in
       omega (arith, all, length-filter_at_most test s.nodes)
 
   -- as many members as nodes that pass
-  number-by : (g : Group) (test : NodeEntry → Bool) → ((e : NodeEntry) → is_among g (node_groups e.kept (is_none (holder e.queue))) ≡ test e) → length (ids_in g classes.nodes) ≡ length (filter test s.nodes)
-  number-by g test same = ap (λ (ids : List NodeId). length ids) (nodes-by s classes.nodes are.nodes g test same) ∙ length-map (filter test s.nodes) (λ (e : NodeEntry). e.id)
+  number-by : (g : Group) (test : NodeEntry → Bool) → ((e : NodeEntry) → is_among g (groups_of c s e) ≡ test e) → length (ids_in g classes.nodes) ≡ length (filter test s.nodes)
+  number-by g test same = ap (λ (ids : List NodeId). length ids) (nodes-by c s classes.nodes are.nodes g test same) ∙ length-map (filter test s.nodes) (λ (e : NodeEntry). e.id)
 
   -- the number of nodes of a pool and a label
   pub kind-number : (p : PoolId) (l : LabelId) → length (ids_in (kind_group p l) classes.nodes) ≡ number_of p l s.nodes
-  kind-number p l = number-by (kind_group p l) (is_kind p l) (kind-test p l)
+  kind-number p l = number-by (kind_group p l) (is_kind p l) (λ e. kind-test c s e p l)
 
   -- whether one of them is spare
   pub some-spare : (p : PoolId) (l : LabelId) → nat_lt 0 (length (ids_in (spare_group p l) classes.nodes)) ≡ list_any (is_spare p l) s.nodes
-  some-spare p l = ap (λ (n : ℕ). nat_lt 0 n) (number-by (spare_group p l) (is_spare p l) (spare-test p l)) ∙ some-passes (is_spare p l) s.nodes
+  some-spare p l = ap (λ (n : ℕ). nat_lt 0 n) (number-by (spare_group p l) (is_spare p l) (λ e. spare-test c s e p l)) ∙ some-passes (is_spare p l) s.nodes
 
   -- the spare one at a place
   pub spare-at : (p : PoolId) (l : LabelId) (at : ℕ) → slice_get (ids_in (spare_group p l) classes.nodes) at ≡ free_ready_of p l at s
   spare-at p l at =
-      ap (λ (ids : List NodeId). slice_get ids at) (nodes-by s classes.nodes are.nodes (spare_group p l) (is_spare p l) (spare-test p l))
+      ap (λ (ids : List NodeId). slice_get ids at) (nodes-by c s classes.nodes are.nodes (spare_group p l) (is_spare p l) (λ e. spare-test c s e p l))
       ∙ slice_get-map (λ (e : NodeEntry). e.id) (filter (is_spare p l) s.nodes) at
 
   -- the number of free ready nodes of a label
   pub free-number : (l : LabelId) → length (ids_in (free_group l) classes.nodes) ≡ count_by (is_free_ready l) s.nodes
-  free-number l = number-by (free_group l) (is_free_ready l) (free-test l) ∙ length-filter (is_free_ready l) s.nodes
-
-  -- the nodes of a pool that nobody holds
-  pub unheld-ids : (p : PoolId) → ids_in (unheld_group p) classes.nodes ≡ unheld_nodes p s
-  unheld-ids p = nodes-by s classes.nodes are.nodes (unheld_group p) (is_unheld p) (unheld-test p)
-
-  -- the one at a place
-  pub unheld-at : (p : PoolId) (at : ℕ) → slice_get (ids_in (unheld_group p) classes.nodes) at ≡ slice_get (unheld_nodes p s) at
-  unheld-at p at = ap (λ (ids : List NodeId). slice_get ids at) (unheld-ids p)
+  free-number l = number-by (free_group l) (is_free_ready l) (λ e. free-test c s e l) ∙ length-filter (is_free_ready l) s.nodes
 
   -- ## requests
 
@@ -106,11 +97,3 @@ module _ (c : Configuration) (s : State) (classes : ClassesOf) (are : AreClasses
   -- the one at a place
   pub pending-at : (p : PoolId) (at : ℕ) → slice_get (ids_in (pending_group p) classes.requests) at ≡ slice_get (pending_requests p s) at
   pending-at p at = ap (λ (ids : List RequestId). slice_get ids at) (pending-ids p)
-
-  -- the requests that are requested, and that at least one pool declined
-  pub declined-ids : ids_in declined_group classes.requests ≡ declined_requests s
-  declined-ids = requests-by c s classes.requests are.requests declined_group (λ (e : RequestEntry). is_still_requested e.kept) (declined-test c)
-
-  -- the one at a place
-  pub declined-at : (at : ℕ) → slice_get (ids_in declined_group classes.requests) at ≡ slice_get (declined_requests s) at
-  declined-at at = ap (λ (ids : List RequestId). slice_get ids at) declined-ids

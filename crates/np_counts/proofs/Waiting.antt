@@ -4,6 +4,7 @@ use Rattle.std.specs.Prelude.{◌==◌, ◌&&◌, ◌||◌, not, is_some, is_non
 use Rattle.std.specs.Option.{option_map, option_map_or}
 use Rattle.std.specs.List.{list_any}
 use Rattle.std.proofs.lemmas.Bool.{eqb-true, eq-eqb}
+use Rattle.std.proofs.lemmas.Bool.Decides.{nat_tests}
 use Rattle.np_amount.specs.declared.amount.Amount.{Amount}
 use Rattle.np_amount.specs.Amounts.{plus, fits}
 use Rattle.np_text.specs.declared.id.PoolId.{PoolId}
@@ -11,12 +12,11 @@ use Rattle.np_text.specs.declared.id.LabelId.{LabelId}
 use Rattle.np_text.specs.declared.id.RequestId.{RequestId}
 use Rattle.np_record.specs.declared.record.RequestRecord.{RequestRecord}
 use Rattle.np_site.specs.Configuration.{Configuration}
-use Rattle.np_lists.specs.Rising.{Rises}
 use Rattle.np_lists.proofs.Each.{all-find}
 use Rattle.np_lists.proofs.FoundLemmas.{find-passes}
 use Rattle.np_groups.specs.declared.groups.Group.{Group}
 use Rattle.np_groups.specs.declared.groups.Member.{Member}
-use Rattle.np_groups.specs.Groups.{same_group, is_member_before, same_member, member, group_from, group_after, has_member}
+use Rattle.np_groups.specs.Groups.{same_group, same_member, member, group_from, group_after, has_member}
 use Rattle.np_groups.proofs.Order.{group-equal, group-itself}
 use Rattle.np_machine.specs.Count.{count_of, amount_of, limit_of, is_short}
 use Rattle.np_machine.specs.Entries.{RequestEntry}
@@ -27,24 +27,11 @@ use Rattle.np_machine.specs.Tables.{request_entry, same_request}
 use Rattle.np_safe.proofs.Lookups.{same_request-self}
 use Rattle.np_classes.specs.Classes.{request_groups, is_among, request_is_in, AreRequestGroups, ClassesOf, AreClasses}
 use Rattle.np_counts.specs.Waiting.{label_group, is_beside, label_if, is_pinned_as, is_stuck_label, is_stuck_as}
-use Rattle.np_counts.proofs.Any.{both, any-either, any-find, find-any, any-weaker}
+use Rattle.np_counts.proofs.Any.{and-both, and-first, and-second, both, any-either, any-find, find-any, any-weaker}
 use Rattle.np_counts.proofs.ByIds.{requests-found}
-use Rattle.np_counts.proofs.Labels.{group_of, first_group, beside-is, beside-of, is_wanted, has_label, rest_from, start-rest, start-has, now-rest, after-rest, after-has, after-greater}
+use Rattle.np_counts.proofs.Flat.{third-test, flat-requests}
+use Rattle.np_counts.proofs.Labels.{AreFlat, group_of, first_group, beside-is, beside-of, is_wanted, has_label, rest_from, start-rest, start-has, now-rest, after-rest, after-has, after-greater}
 use Rattle.np_counts.proofs.Tests.{waits_for, label-test}
-
--- ## two answers
-
-and-first : (a b : Bool) → (a && b) ≡ true → a ≡ true
-and-first true b is = refl
-and-first false b is = absurd cc
-
-and-second : (a b : Bool) → (a && b) ≡ true → b ≡ true
-and-second true b is = is
-and-second false b is = absurd cc
-
-and-both : (a b : Bool) → a ≡ true → b ≡ true → (a && b) ≡ true
-and-both true b first second = second
-and-both false b first second = absurd cc
 
 -- ## a request and its next label
 
@@ -65,6 +52,10 @@ pinned-by false None is = refl
 
 label-same : (m l : LabelId) → (m.0 == l.0) ≡ true → m ≡ l
 label-same m l is = let same : m.0 ≡ l.0 = eqb-true m.0 l.0 is in let label : record { 0 = m.0 } ≡ record { 0 = l.0 } = rw same refl in label
+
+-- a group beside others is of their class
+class-apart : (class first : ℕ) (g : Group) → is_beside g (first_group class first) ≡ true → (class == 4) ≡ false → (g.class == 4) ≡ false
+class-apart class first g here other = grind (arith, nat_tests)
 
 label-itself : (l : LabelId) → (l.0 == l.0) ≡ true
 label-itself l = eq-eqb l.0 l.0 refl
@@ -109,6 +100,12 @@ module _ (c : Configuration) (s : State) (p : PoolId) (pinned : Bool) where
       (and-both (is_pending_by p e.kept) (option_map_or (is_stuck_at c s p e.kept) (next_label e.kept) false) (and-first (is_pending_by p e.kept) test rest)
       (at-next e.kept l (next_label e.kept) alike (and-second (is_pending_by p e.kept) test rest) stuck))
 
+  other-class : (class_of pinned == 4) ≡ false
+  other-class = by pinned where
+    by : (b : Bool) → (class_of b == 4) ≡ false
+    by true = refl
+    by false = refl
+
   -- a member of a group by next label, at whose label a request is stuck
   abbrev pub is_wanted_member : Member RequestId → Bool
   is_wanted_member m = is_wanted (class_of pinned) p.0 (is_stuck_label c s p pinned) m.group
@@ -122,7 +119,8 @@ module _ (c : Configuration) (s : State) (p : PoolId) (pinned : Bool) where
         let l : LabelId = record { 0 = m.group.second } in
         let start = first_group (class_of pinned) p.0 in
         let stuck = is_stuck_label c s p pinned l in
-        let group : m.group ≡ label_group pinned p l = beside-is (class_of pinned) p.0 m.group (and-first (is_beside m.group start) stuck is) ∙ sym (label-group pinned p l) in
+        let here : is_beside m.group start ≡ true = and-first (is_beside m.group start) stuck is in
+        let group : m.group ≡ label_group pinned p l = beside-is (class_of pinned) p.0 m.group here (third-test m.group c e.kept (class-apart (class_of pinned) p.0 m.group here other-class) among) ∙ sym (label-group pinned p l) in
         let waits : waits_for pinned p l e.kept ≡ true = sym (label-test c pinned p l e) ∙ subst (λ (g : Group). is_among g (request_groups c e.kept) ≡ true) group among in
         find-any (λ (x : RequestEntry). same_request x.id m.id) (is_stuck_as c s p pinned) s.requests e found
         (for-stuck e l waits (and-second (is_beside m.group start) stuck is))
@@ -182,6 +180,9 @@ module _ (c : Configuration) (s : State) (p : PoolId) (pinned : Bool) (ms : List
       let here = subst IsLeft is left in
       sym (now-rest (class_of pinned) p.0 (is_stuck_label c s p pinned) ms l (sym stuck) here.has) ∙ here.rest
 
+  flat : AreRequestGroups c s ms → AreFlat (class_of pinned) p.0 ms
+  flat are = flat-requests c s ms are (class_of pinned) p.0 (other-class c s p pinned)
+
   module _ (first : Group) (first_is : first ≡ label_group pinned p (record { 0 = 0 })) (found : Option Group) (next : Option LabelId) (named : next ≡ label_if first found) where
     -- by the first group's class and pool
     named-by : (there : Group → Option Group) (group mine : Group) → found ≡ there group → group ≡ mine → next ≡ label_if (first_group (class_of pinned) p.0) (there mine)
@@ -194,11 +195,11 @@ module _ (c : Configuration) (s : State) (p : PoolId) (pinned : Bool) (ms : List
     left-first are is all =
         let same = named-by (λ g. group_from g ms) first (first_group (class_of pinned) p.0) is (first_is ∙ label-group pinned p (record { 0 = 0 })) in
         subst IsLeft (sym same) (record {
-          rest = start-rest (class_of pinned) p.0 (is_stuck_label c s p pinned) ms is_id_before are.rises ∙ all;
-          has = start-has (class_of pinned) p.0 (is_stuck_label c s p pinned) ms is_id_before are.rises;
+          rest = start-rest (class_of pinned) p.0 (is_stuck_label c s p pinned) ms (flat are) is_id_before are.rises ∙ all;
+          has = start-has (class_of pinned) p.0 (is_stuck_label c s p pinned) ms (flat are) is_id_before are.rises;
         })
 
-    module _ (rises : Rises (is_member_before is_id_before) ms) (l : LabelId) (group : Group) (group_is : group ≡ label_group pinned p l) (is : found ≡ group_after group ms) where
+    module _ (are : AreRequestGroups c s ms) (l : LabelId) (group : Group) (group_is : group ≡ label_group pinned p l) (is : found ≡ group_after group ms) where
       same-after : next ≡ label_if (first_group (class_of pinned) p.0) (group_after (group_of (class_of pinned) p.0 l) ms)
       same-after = named-by (λ g. group_after g ms) group (group_of (class_of pinned) p.0 l) is (group_is ∙ label-group pinned p l)
 
@@ -207,14 +208,14 @@ module _ (c : Configuration) (s : State) (p : PoolId) (pinned : Bool) (ms : List
       left-next now now_is left free =
           let here = subst IsLeft now_is left in
           subst IsLeft (sym same-after) (record {
-            rest = after-rest (class_of pinned) p.0 (is_stuck_label c s p pinned) ms is_id_before rises l (sym free) ∙ here.rest;
-            has = after-has (class_of pinned) p.0 (is_stuck_label c s p pinned) ms is_id_before rises l;
+            rest = after-rest (class_of pinned) p.0 (is_stuck_label c s p pinned) ms (flat are) is_id_before are.rises l (sym free) ∙ here.rest;
+            has = after-has (class_of pinned) p.0 (is_stuck_label c s p pinned) ms (flat are) is_id_before are.rises l;
           })
 
       smaller-by : (later : Option LabelId) → label_if (first_group (class_of pinned) p.0) (group_after (group_of (class_of pinned) p.0 l) ms) ≡ later → l.0 < 65536 → option_map_or (λ k. 65536 - k.0) later 0 < 65536 - l.0
       smaller-by None later_is within = omega arith
       smaller-by (Some k) later_is within =
-          let greater : l.0 < k.0 = after-greater (class_of pinned) p.0 (is_stuck_label c s p pinned) ms is_id_before rises l k later_is in
+          let greater : l.0 < k.0 = after-greater (class_of pinned) p.0 (is_stuck_label c s p pinned) ms (flat are) is_id_before are.rises l k later_is in
           omega (arith, greater)
 
       -- fewer labels are left

@@ -1,2 +1,5 @@
 pub mod Taken
 pub mod Waiting
+pub mod Thirds
+pub mod Sets
+pub mod TenantGroups

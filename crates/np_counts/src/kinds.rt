@@ -1,12 +1,16 @@
-//! The requests and the nodes of a kind, in order: how many there are, and the one at a place.
+//! The requests and the nodes of a kind: those that are pending by a pool, in order, and the node
+//! that is due first.
 
 ghost use Rattle.std.specs.Prelude.{◌≡◌, length, slice_get};
 ghost use Rattle.np_site.specs.Configuration.{Configuration};
 ghost use Rattle.np_machine.specs.State.{State};
-ghost use Rattle.np_look.specs.Readers.{declined_requests, pending_requests, unheld_nodes};
+ghost use Rattle.np_look.specs.Readers.{first_due, pending_requests};
 ghost use Rattle.np_classes.specs.Classes.{AreClasses};
+ghost use Rattle.np_counts.specs.Thirds.{third_if};
 
-use np_classes::{Classes, declined_group, pending_group, unheld_group};
+use np_classes::{Classes, pending_group, unheld_group};
+use np_groups::Group;
+use np_look::UnheldKind;
 use np_text::{NodeId, PoolId, RequestId};
 
 /// The number of requests that are pending by the pool. Two binary searches.
@@ -26,37 +30,26 @@ pub fn pending_request_at(classes: &Classes, pool: PoolId, at: u32) -> Option<Re
     classes.request_at(pending_group(pool), at as usize)
 }
 
-/// The number of requests that are requested and that at least one pool declined. Two binary
-/// searches.
-pub fn declined_requests(classes: &Classes) -> usize
-    ensures { (c : Configuration) (s : State) → AreClasses c s classes.now →
-        result ≡ length (declined_requests s) }
+/// The third number of a group that was found, if its class and its other numbers are those of the
+/// other.
+pub(crate) fn third_if(other: Group, found: Option<Group>) -> Option<u64>
+    ensures { result ≡ third_if other found }
 {
-    classes.requests_in(declined_group())
+    let found = found?;
+    if found.class != other.class || found.first != other.first || found.second != other.second {
+        return None;
+    }
+    Some(found.third)
 }
 
-/// The request at a place among those that are requested and that at least one pool declined, by
-/// priority and then sequence, counted from 0; `None` if there are no more. One binary search.
-pub fn declined_request_at(classes: &Classes, at: u32) -> Option<RequestId>
+/// The node of the pool that nobody holds and that is of this kind which is due first, and of
+/// several the first by number; `None` if there is none. Two binary searches, however many nodes
+/// there are.
+pub fn first_due(classes: &Classes, pool: PoolId, kind: UnheldKind) -> Option<NodeId>
     ensures { (c : Configuration) (s : State) → AreClasses c s classes.now →
-        result ≡ slice_get (declined_requests s) at }
+        result ≡ first_due c pool kind s }
 {
-    classes.request_at(declined_group(), at as usize)
-}
-
-/// The number of nodes of the pool that nobody holds. Two binary searches.
-pub fn unheld_nodes(classes: &Classes, pool: PoolId) -> usize
-    ensures { (c : Configuration) (s : State) → AreClasses c s classes.now →
-        result ≡ length (unheld_nodes pool s) }
-{
-    classes.nodes_in(unheld_group(pool))
-}
-
-/// The node at a place among those of the pool that nobody holds, in order of their numbers,
-/// counted from 0; `None` if there are no more. One binary search.
-pub fn unheld_node_at(classes: &Classes, pool: PoolId, at: u32) -> Option<NodeId>
-    ensures { (c : Configuration) (s : State) → AreClasses c s classes.now →
-        result ≡ slice_get (unheld_nodes pool s) at }
-{
-    classes.node_at(unheld_group(pool), at as usize)
+    let first = unheld_group(pool, kind, 0);
+    let due = third_if(first, classes.node_group_from(first))?;
+    classes.node_at(unheld_group(pool, kind, due), 0)
 }

@@ -1,21 +1,21 @@
 //! What pools, labels and tenants use, by the groups of nodes and requests that an index keeps.
 //!
 //! Each answer is that of the reader of the same name in `np_look`, which walks all nodes or all
-//! requests. Here it costs a binary search, or one for each member of a group or for each label
-//! that requests wait for.
+//! requests. Here it costs a few binary searches, or a few for each label that requests wait for,
+//! for each set of pools that declined, or for each pool and label of which a tenant has nodes and
+//! each request of the tenant's that waits for nodes.
 #![tactic(auto)]
 
 mod amounts;
+mod declined;
 mod kinds;
 mod label;
 mod pool;
 mod room;
 mod tenant;
 
-pub use kinds::{
-    declined_request_at, declined_requests, pending_request_at, pending_requests, unheld_node_at,
-    unheld_nodes,
-};
+pub use declined::first_declined_by_all;
+pub use kinds::{first_due, pending_request_at, pending_requests};
 pub use label::{has_spent_min_ready, ready_count};
 pub use pool::{free_ready, has_spare, is_paused, used};
 pub use room::blocking;

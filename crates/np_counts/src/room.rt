@@ -13,9 +13,10 @@ use np_look::{Look, is_short_of, limited_tenant};
 use np_text::{PoolId, TenantId};
 
 /// The tenant that has no room now for a request that the pool may serve. What the tenant uses is
-/// read only if the tenant has a limit and the pool may serve the request: each of its nodes and
-/// pending requests is then found by binary search. Otherwise the cost grows with the request's
-/// labels times the pool's offers.
+/// read only if the tenant has a limit and the pool may serve the request: that costs a few binary
+/// searches and one lookup of a node for each pool and label of which it has nodes, and a lookup of
+/// each of its pending requests that still wait for nodes. Otherwise the cost grows with the
+/// request's labels times the pool's offers.
 pub fn blocking<L: Look>(
     classes: &Classes,
     look: &L,

@@ -5,14 +5,45 @@ ghost use Rattle.np_amount.specs.Amounts.{total};
 ghost use Rattle.np_machine.specs.Tenants.{amount_of_node, count_of_tenant, is_pending_of, is_tenant, rest_of_request};
 ghost use Rattle.np_fits.specs.Fits.{Fits, IsFew};
 ghost use Rattle.np_classes.specs.Classes.{AreClasses};
+ghost use Rattle.np_counts.specs.TenantGroups.{beside_if, is_in_tenant_group, tenant_class};
 
 use crate::amounts::{awaited_by, taken_by};
 use np_amount::Amount;
 use np_classes::{Classes, tenant_group, waiting_group};
+use np_groups::Group;
 use np_look::{Look, NOTHING};
-use np_text::TenantId;
+use np_text::{LabelId, PoolId, TenantId};
 
-/// What the tenant's nodes take.
+/// The group that was found, if its class and its first number are those of the other.
+fn beside_if(other: Group, found: Option<Group>) -> Option<Group>
+    ensures { result ≡ beside_if other found }
+{
+    let found = found?;
+    if found.class != other.class || found.first != other.first {
+        return None;
+    }
+    Some(found)
+}
+
+/// What the nodes in this group of a tenant's nodes take together. All of them are of one pool and
+/// have one label, so one is looked up and they are counted: a few binary searches, however many
+/// they are.
+fn taken_in<L: Look>(classes: &Classes, look: &L, group: Group) -> Amount
+    requires fits { Fits (L.site look.now) (L.state look.now) }
+    requires classes { AreClasses (L.site look.now) (L.state look.now) classes.now }
+    requires tenants { group.class ≡ tenant_class }
+    ensures taken { result ≡ total (map (amount_of_node (L.site look.now))
+        (filter (is_in_tenant_group group) (L.state look.now).nodes)) }
+    ensures few { IsFew result 262144 }
+{
+    let Some(node) = classes.node_at(group, 0) else {
+        return NOTHING;
+    };
+    let number = classes.nodes_in(group);
+    taken_by(look, node).times(number as u64)
+}
+
+/// What the tenant's nodes take. It walks the pools and the labels of which the tenant has nodes.
 fn taken<L: Look>(classes: &Classes, look: &L, tenant: TenantId) -> Amount
     requires fits { Fits (L.site look.now) (L.state look.now) }
     requires classes { AreClasses (L.site look.now) (L.state look.now) classes.now }
@@ -20,18 +51,18 @@ fn taken<L: Look>(classes: &Classes, look: &L, tenant: TenantId) -> Amount
         (filter (λ e. is_tenant tenant e.kept.tenant) (L.state look.now).nodes)) }
     ensures few { IsFew result 262144 }
 {
+    let first = tenant_group(tenant, PoolId(0), LabelId(0));
     let mut sum = NOTHING;
-    let group = tenant_group(tenant);
-    for at in 0..classes.nodes_in(group) {
-        let Some(node) = classes.node_at(group, at) else {
-            return NOTHING;
-        };
-        sum = sum.plus(taken_by(look, node));
+    let mut next = beside_if(first, classes.node_group_from(first));
+    while let Some(group) = next {
+        sum = sum.plus(taken_in(classes, look, group));
+        next = beside_if(first, classes.node_group_after(group));
     }
     sum
 }
 
-/// What the tenant's pending requests still wait for.
+/// What the tenant's pending requests still wait for. It walks those that wait for nodes; the
+/// others wait for nothing.
 fn awaited<L: Look>(classes: &Classes, look: &L, tenant: TenantId) -> Amount
     requires fits { Fits (L.site look.now) (L.state look.now) }
     requires classes { AreClasses (L.site look.now) (L.state look.now) classes.now }
@@ -50,8 +81,10 @@ fn awaited<L: Look>(classes: &Classes, look: &L, tenant: TenantId) -> Amount
     sum
 }
 
-/// What the tenant uses: its nodes, and what its pending requests still wait for. Each of them is
-/// found by binary search, and what it takes is looked up among its pool's offers.
+/// What the tenant uses: its nodes, and what its pending requests still wait for. It costs a few
+/// binary searches and one lookup of a node for each pool and label of which the tenant has nodes,
+/// and a lookup of each of its pending requests that still wait for nodes. What each takes is
+/// looked up among its pool's offers.
 pub fn used_by<L: Look>(classes: &Classes, look: &L, tenant: TenantId) -> Amount
     requires fits { Fits (L.site look.now) (L.state look.now) }
     requires classes { AreClasses (L.site look.now) (L.state look.now) classes.now }

@@ -18,12 +18,12 @@ pub loop-next-smaller : goal.loop-next-smaller
 loop-next-smaller g c =
     left-smaller (g.L.Look.site c.args.look.now) (g.L.Look.state c.args.look.now) c.args.pool c.args.is_pinned c.args.classes.now.requests
     c.label_group-first.result c.label_group-first.ensures c.request_group_after.result c.label_if-next-in-Some.result c.label_if-next-in-Some.ensures
-    c.requires.classes.requests.rises c.in-Some.label c.label_group-group.result c.label_group-group.ensures c.request_group_after.ensures
+    c.requires.classes.requests c.in-Some.label c.label_group-group.result c.label_group-group.ensures c.request_group_after.ensures
     c.loop-next.next c.in-Some.is (omega arith)
 
 pub loop-next-preserved : goal.loop-next-preserved
 loop-next-preserved g c =
     left-next (g.L.Look.site c.args.look.now) (g.L.Look.state c.args.look.now) c.args.pool c.args.is_pinned c.args.classes.now.requests
     c.label_group-first.result c.label_group-first.ensures c.request_group_after.result c.label_if-next-in-Some.result c.label_if-next-in-Some.ensures
-    c.requires.classes.requests.rises c.in-Some.label c.label_group-group.result c.label_group-group.ensures c.request_group_after.ensures
+    c.requires.classes.requests c.in-Some.label c.label_group-group.result c.label_group-group.ensures c.request_group_after.ensures
     c.loop-next.next c.in-Some.is c.loop-next.invariant c.if-is_stuck_label.ensures

@@ -1,0 +1,91 @@
+-- members whose third number is 0: all requests but those in groups by the pools that declined them
+use Rattle.std.proofs.Common.{◌≡◌, ◌∙◌, ℕ, Bool, true, false, List, [], ◌∷◌, Option, Some, None, refl, sym, arith}
+use Rattle.std.specs.Prelude.{◌==◌, ◌&&◌, ◌||◌, if◌then◌else◌, is_none, is_some, slice_get, option_and_then}
+use Rattle.std.specs.Option.{option_map, option_map_or}
+use Rattle.std.specs.List.{AllByRecursion, list_any}
+use Rattle.std.proofs.lemmas.Bool.Decides.{nat_tests}
+use Rattle.np_text.specs.declared.id.PoolId.{PoolId}
+use Rattle.np_text.specs.declared.id.LabelId.{LabelId}
+use Rattle.np_text.specs.declared.id.RequestId.{RequestId}
+use Rattle.np_site.specs.Configuration.{Configuration}
+use Rattle.np_record.specs.declared.record.RequestRecord.{RequestRecord}
+use Rattle.np_lists.proofs.Each.{all-weaker}
+use Rattle.np_groups.specs.declared.groups.Group.{Group}
+use Rattle.np_groups.specs.declared.groups.Member.{Member}
+use Rattle.np_groups.specs.Groups.{same_group, same_member, has_member}
+use Rattle.np_groups.proofs.Order.{group-itself}
+use Rattle.np_machine.specs.Kinds.{is_failed, is_requested, is_pending}
+use Rattle.np_machine.specs.Reasons.{next_label}
+use Rattle.np_machine.specs.State.{State}
+use Rattle.np_machine.specs.Tables.{request_in, same_request}
+use Rattle.np_machine.specs.Tenants.{tenant_of_request}
+use Rattle.np_safe.proofs.Lookups.{same_request-self}
+use Rattle.np_classes.specs.Classes.{pending_group, waiting_group, coming_group, spent_group, declined_group, decline_set, is_still_requested, next_label_group, pinned_label_group, request_groups, is_among, AreRequestGroups}
+use Rattle.np_counts.specs.Waiting.{is_beside}
+use Rattle.np_counts.proofs.Any.{or_true}
+use Rattle.np_counts.proofs.Labels.{first_group, AreFlat}
+use Rattle.np_counts.proofs.Tests.{holds}
+
+-- ## the groups of a request
+
+-- one of two tests is passed
+either : {P : Type 0} (a b : Bool) → (a ≡ true → P) → (b ≡ true → P) → (a || b) ≡ true → P
+either true b first second is = first refl
+either false b first second is = second is
+
+module _ (g : Group) where
+  third-of : (h : Group) → h.third ≡ 0 → same_group h g ≡ true → g.third ≡ 0
+  third-of h flat same = grind (arith, nat_tests)
+
+  flat-map : {X : Type 0} (f : X → Group) (o : Option X) → ((x : X) → (f x).third ≡ 0) → holds g (option_map f o) ≡ true → g.third ≡ 0
+  flat-map f None flat is = absurd cc
+  flat-map f (Some x) flat is = third-of (f x) (flat x) is
+
+  flat-both : (f : PoolId → LabelId → Group) (l : Option LabelId) (o : Option PoolId) → ((p : PoolId) (l : LabelId) → (f p l).third ≡ 0)
+      → holds g (option_and_then (λ p. option_map (f p) l) o) ≡ true → g.third ≡ 0
+  flat-both f l None flat is = absurd cc
+  flat-both f l (Some p) flat is = flat-map (f p) l (flat p) is
+
+  flat-when : (b : Bool) (o : Option Group) → (holds g o ≡ true → g.third ≡ 0) → holds g (if b then o else None) ≡ true → g.third ≡ 0
+  flat-when true o flat is = flat is
+  flat-when false o flat is = absurd cc
+
+  -- the groups by the pools that declined are of one class
+  other-class : (b : Bool) (set : ℕ) → (g.class == 4) ≡ false → holds g (if b then Some (declined_group set) else None) ≡ true → g.third ≡ 0
+  other-class true set other is = absurd (let clash : (g.class == 4) ≡ true = grind (arith, nat_tests) in cc)
+  other-class false set other is = absurd cc
+
+  pub third-test : (c : Configuration) (k : RequestRecord) → (g.class == 4) ≡ false → is_among g (request_groups c k) ≡ true → g.third ≡ 0
+  third-test c k other =
+      either _ _ (flat-when (is_pending k.state) (option_map pending_group k.pool) (flat-map pending_group k.pool (λ p. refl)))
+      (either _ _ (flat-when (is_pending k.state && is_some (next_label k)) (option_map waiting_group (tenant_of_request c k)) (flat-map waiting_group (tenant_of_request c k) (λ t. refl)))
+      (either _ _ (flat-when ((is_requested k.state || is_pending k.state) && is_some k.pinned) (option_map coming_group (slice_get k.labels 0)) (flat-map coming_group (slice_get k.labels 0) (λ l. refl)))
+      (either _ _ (flat-when (is_failed k.state) (option_and_then (λ p. option_map (spent_group p) (slice_get k.labels 0)) k.pinned) (flat-both spent_group (slice_get k.labels 0) k.pinned (λ p l. refl)))
+      (either _ _ (other-class (is_still_requested k) (decline_set k.declined) other)
+      (either _ _ (flat-when (is_pending k.state && is_none k.pinned) (option_and_then (λ p. option_map (next_label_group p) (next_label k)) k.pool) (flat-both next_label_group (next_label k) k.pool (λ p l. refl)))
+      (either _ _ (flat-when (is_pending k.state && is_some k.pinned) (option_and_then (λ p. option_map (pinned_label_group p) (next_label k)) k.pool) (flat-both pinned_label_group (next_label k) k.pool (λ p l. refl)))
+      (λ is. absurd cc)))))))
+
+-- ## the members of a state
+
+-- each member of a list is in it
+each-there : {X : Type 0} (same : X → X → Bool) → ((x : X) → same x x ≡ true) → (xs : List X) → AllByRecursion (λ y. list_any (λ x. same x y) xs ≡ true) xs
+each-there same self [] = tt
+each-there {X = X} same self (x ∷ xs) = (
+  rw (self x) refl,
+  all-weaker (λ (y : X). list_any (λ z. same z y) xs ≡ true) (λ (y : X). (same x y || list_any (λ z. same z y) xs) ≡ true) (λ y is. or_true (same x y) (list_any (λ z. same z y) xs) is) xs (each-there same self xs),
+)
+
+member-itself : (m : Member RequestId) → same_member same_request m m ≡ true
+member-itself m = rw (group-itself m.group) (same_request-self m.id)
+
+module _ (c : Configuration) (s : State) (ms : List (Member RequestId)) (are : AreRequestGroups c s ms) (class first : ℕ) (other : (class == 4) ≡ false) where
+  flat-by : (g : Group) (o : Option RequestRecord) → option_map_or (λ k. is_among g (request_groups c k)) o false ≡ true → is_beside g (first_group class first) ≡ true → g.third ≡ 0
+  flat-by g None is beside = absurd cc
+  flat-by g (Some k) is beside = third-test g c k (grind (arith, nat_tests)) is
+
+  -- no member of such a class has a third number
+  pub flat-requests : AreFlat class first ms
+  flat-requests =
+      all-weaker (λ (m : Member RequestId). has_member same_request m.group m.id ms ≡ true) (λ (m : Member RequestId). is_beside m.group (first_group class first) ≡ true → m.group.third ≡ 0)
+      (λ m is. flat-by m.group (request_in m.id s.requests) (sym (are.each m.group m.id) ∙ is)) ms (each-there (same_member same_request) member-itself ms)

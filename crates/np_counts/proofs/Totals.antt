@@ -1,0 +1,61 @@
+-- totals over the members of a list that pass a test
+use Rattle.std.proofs.Common.{◌≡◌, ◌∙◌, ◌≤◌, ℕ, Bool, true, false, cond, List, [], ◌∷◌, length, map, refl, sym, ap, arith}
+use Rattle.std.specs.Prelude.{◌&&◌, ◌||◌, filter}
+use Rattle.std.specs.List.{AllByRecursion}
+use Rattle.np_amount.specs.declared.amount.Amount.{Amount}
+use Rattle.np_amount.specs.Amounts.{nothing, plus, times, total}
+use Rattle.np_amount.proofs.Sums.{same_amount, plus-assoc, plus-comm, nothing-plus, times-suc, total-filter_at_most}
+use Rattle.np_fits.specs.Fits.{AmountFits, IsFew}
+
+-- one of two tests is passed, and never both
+pub record IsParted {X : Type 0} (p q r : X → Bool) (x : X) : Type 0 where
+  pub either : r x ≡ (p x || q x)
+  pub apart : (p x && q x) ≡ false
+
+plus-turned : (a b d : Amount) → plus a (plus b d) ≡ plus b (plus a d)
+plus-turned a b d = sym (plus-assoc a b d) ∙ ap (λ (x : Amount). plus x d) (plus-comm a b) ∙ plus-assoc b a d
+
+module _ {X : Type 0} (f : X → Amount) where
+  -- those that pass one of two tests take together what those of each test take
+  pub total-parted : (p q r : X → Bool) (xs : List X) → AllByRecursion (IsParted p q r) xs → total (map f (filter r xs)) ≡ plus (total (map f (filter p xs))) (total (map f (filter q xs)))
+  total-parted p q r [] all = sym (nothing-plus nothing)
+  total-parted p q r (x ∷ xs) all = ap (λ (b : Bool). total (map f (cond b (x ∷ filter r xs) (filter r xs)))) all.0.either ∙ by (p x) (q x) all.0.apart (total-parted p q r xs all.1) where
+    by : (a b : Bool) → (a && b) ≡ false → total (map f (filter r xs)) ≡ plus (total (map f (filter p xs))) (total (map f (filter q xs)))
+        → total (map f (cond (a || b) (x ∷ filter r xs) (filter r xs))) ≡ plus (total (map f (cond a (x ∷ filter p xs) (filter p xs)))) (total (map f (cond b (x ∷ filter q xs) (filter q xs))))
+    by true true apart rest = absurd cc
+    by true false apart rest = ap (plus (f x)) rest ∙ sym (plus-assoc (f x) (total (map f (filter p xs))) (total (map f (filter q xs))))
+    by false true apart rest = ap (plus (f x)) rest ∙ plus-turned (f x) (total (map f (filter p xs))) (total (map f (filter q xs)))
+    by false false apart rest = rest
+
+  -- if each takes the same, that times their number
+  pub total-times : (test : X → Bool) (a : Amount) → ((x : X) → test x ≡ true → f x ≡ a) → (xs : List X) → total (map f (filter test xs)) ≡ times (length (filter test xs)) a
+  total-times test a each [] = same_amount _ _ (omega arith) (omega arith) (omega arith)
+  total-times test a each (x ∷ xs) = by (test x) refl (total-times test a each xs) where
+    by : (b : Bool) → test x ≡ b → total (map f (filter test xs)) ≡ times (length (filter test xs)) a
+        → total (map f (cond b (x ∷ filter test xs) (filter test xs))) ≡ times (length (cond b (x ∷ filter test xs) (filter test xs))) a
+    by true is rest = ap (λ (y : Amount). plus y (total (map f (filter test xs)))) (each x is) ∙ ap (plus a) rest ∙ sym (times-suc (length (filter test xs)) a)
+    by false is rest = rest
+
+  -- those that take nothing may be left out
+  pub total-without : (p q : X → Bool) → ((x : X) → q x ≡ false → f x ≡ nothing) → (xs : List X) → total (map f (filter (λ x. p x && q x) xs)) ≡ total (map f (filter p xs))
+  total-without p q none [] = refl
+  total-without p q none (x ∷ xs) = by (p x) (q x) refl (total-without p q none xs) where
+    by : (a b : Bool) → q x ≡ b → total (map f (filter (λ y. p y && q y) xs)) ≡ total (map f (filter p xs))
+        → total (map f (cond (a && b) (x ∷ filter (λ y. p y && q y) xs) (filter (λ y. p y && q y) xs))) ≡ total (map f (cond a (x ∷ filter p xs) (filter p xs)))
+    by true true is rest = ap (plus (f x)) rest
+    by true false is rest = rest ∙ sym (ap (λ (y : Amount). plus y (total (map f (filter p xs)))) (none x is) ∙ nothing-plus (total (map f (filter p xs))))
+    by false b is rest = rest
+
+-- the most that an offer can take
+abbrev most : Amount
+most = record { instances = 1000000; cores = 1000000; ram = 1000000 }
+
+-- what each member takes is an offer's amount, so together they take few times that
+pub total-few : {X : Type 0} (f : X → Amount) → ((x : X) → AmountFits (f x)) → (test : X → Bool) (xs : List X) (n : ℕ) → length xs ≤ n → IsFew (total (map f (filter test xs))) n
+total-few f small test xs n few =
+    let bound = total-filter_at_most f most (λ x. record { instances = (small x).instances; cores = (small x).cores; ram = (small x).ram }) test xs in
+    record {
+      instances = omega (arith, bound.instances, few);
+      cores = omega (arith, bound.cores, few);
+      ram = omega (arith, bound.ram, few);
+    }
