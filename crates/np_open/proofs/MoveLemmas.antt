@@ -11,11 +11,11 @@ use Rattle.np_groups.specs.declared.groups.Group.{Group}
 use Rattle.np_groups.specs.declared.groups.Member.{Member}
 use Rattle.np_groups.specs.Groups.{same_group, is_member_before, has_member}
 use Rattle.np_groups.proofs.Kept.{has-with, has-without, rises-with, rises-without}
-use Rattle.np_groups.proofs.Order.{group-equal, group-itself}
+use Rattle.np_groups.proofs.Order.{member-equal}
 use Rattle.np_machine.specs.Kinds.{is_requested}
 use Rattle.np_machine.specs.Tables.{same_request}
 use Rattle.np_open.specs.declared.ranks.Rank.{Rank}
-use Rattle.np_open.specs.Moves.{AreBy, IsEither, closed_rank, open_rank, passes_with, rank_of, same_ranks, with_moved, with_rank, without_rank}
+use Rattle.np_open.specs.Moves.{AreBy, IsEither, closed_member, open_member, passes_with, same_members, with_moved, with_one, without_one}
 use Rattle.np_open.specs.Open.{closed_group, is_closed_to, is_found_in, open_group, pool_of}
 use Rattle.np_open.specs.Ranks.{is_rank_before, rank_equal, rank_one_way, rank_some_way, rank_transitive, same_rank}
 
@@ -25,214 +25,291 @@ and_false : (a : Bool) → (a && false) ≡ false
 and_false true = refl
 and_false false = refl
 
-and_true : (a : Bool) → (a && true) ≡ a
-and_true true = refl
-and_true false = refl
-
--- the rank, if there is one, is this one
-abbrev pub is_it : Rank → Option Rank → Bool
-is_it x rank = option_map_or (λ i. same_rank i x) rank false
-
 -- members by a test that says the same
 pub groups-by : (was now : Group → Rank → Bool) (ms : List (Member Rank)) → ((g : Group) (x : Rank) → was g x ≡ now g x) → AreBy was ms → AreBy now ms
 groups-by was now ms alike are = record { rises = are.rises; each = λ g x. are.each g x ∙ alike g x }
 
--- ## one group
+-- ## one member
 
-module _ (g0 g : Group) (x : Rank) where
-  has-rank : (rank : Option Rank) (ms : List (Member Rank)) → has_member same_rank g x (with_rank g0 rank ms) ≡ ((same_group g0 g && is_it x rank) || has_member same_rank g x ms)
-  has-rank None ms = sym (ap (λ (b : Bool). b || has_member same_rank g x ms) (and_false (same_group g0 g)))
-  has-rank (Some i) ms = has-with is_rank_before same_rank rank_equal g x g0 i ms
+-- the member, if there is one, is this rank in this group
+abbrev pub is_at : Group → Rank → Option (Member Rank) → Bool
+is_at g x one = option_map_or (λ m. same_group m.group g && same_rank m.id x) one false
 
-  has-no_rank : (rank : Option Rank) (ms : List (Member Rank)) → Rises (is_member_before is_rank_before) ms
-      → has_member same_rank g x (without_rank g0 rank ms) ≡ (not (same_group g0 g && is_it x rank) && has_member same_rank g x ms)
-  has-no_rank None ms rises = sym (ap (λ (b : Bool). not b && has_member same_rank g x ms) (and_false (same_group g0 g)))
-  has-no_rank (Some i) ms rises = has-without is_rank_before same_rank rank_one_way rank_equal g x g0 i ms rises
+module _ (g : Group) (x : Rank) where
+  has-one : (one : Option (Member Rank)) (ms : List (Member Rank)) → has_member same_rank g x (with_one one ms) ≡ (is_at g x one || has_member same_rank g x ms)
+  has-one None ms = refl
+  has-one (Some m) ms = has-with is_rank_before same_rank rank_equal g x m.group m.id ms
 
-rises-rank : (g0 : Group) (rank : Option Rank) (ms : List (Member Rank)) → Rises (is_member_before is_rank_before) ms → Rises (is_member_before is_rank_before) (with_rank g0 rank ms)
-rises-rank g0 None ms rises = rises
-rises-rank g0 (Some i) ms rises = rises-with is_rank_before same_rank rank_transitive rank_some_way g0 i ms rises
+  has-no_one : (one : Option (Member Rank)) (ms : List (Member Rank)) → Rises (is_member_before is_rank_before) ms
+      → has_member same_rank g x (without_one one ms) ≡ (not (is_at g x one) && has_member same_rank g x ms)
+  has-no_one None ms rises = refl
+  has-no_one (Some m) ms rises = has-without is_rank_before same_rank rank_one_way rank_equal g x m.group m.id ms rises
 
-rises-no_rank : (g0 : Group) (rank : Option Rank) (ms : List (Member Rank)) → Rises (is_member_before is_rank_before) ms → Rises (is_member_before is_rank_before) (without_rank g0 rank ms)
-rises-no_rank g0 None ms rises = rises
-rises-no_rank g0 (Some i) ms rises = rises-without is_rank_before same_rank g0 i ms rises
+rises-one : (one : Option (Member Rank)) (ms : List (Member Rank)) → Rises (is_member_before is_rank_before) ms → Rises (is_member_before is_rank_before) (with_one one ms)
+rises-one None ms rises = rises
+rises-one (Some m) ms rises = rises-with is_rank_before same_rank rank_transitive rank_some_way m.group m.id ms rises
 
-same-ranks : (a b : Option Rank) (x : Rank) → same_ranks a b ≡ true → is_it x a ≡ is_it x b
-same-ranks None None x same = refl
-same-ranks None (Some b) x same = absurd cc
-same-ranks (Some a) None x same = absurd cc
-same-ranks (Some a) (Some b) x same = ap (λ (i : Rank). same_rank i x) (rank_equal a b same)
+rises-no_one : (one : Option (Member Rank)) (ms : List (Member Rank)) → Rises (is_member_before is_rank_before) ms → Rises (is_member_before is_rank_before) (without_one one ms)
+rises-no_one None ms rises = rises
+rises-no_one (Some m) ms rises = rises-without is_rank_before same_rank m.group m.id ms rises
 
-module _ (g0 : Group) (r : RequestId) (was now : Option Rank) (old new : Rank → Bool)
-    (was_is : (x : Rank) → is_it x was ≡ (same_request r x.request && old x))
-    (now_is : (x : Rank) → is_it x now ≡ (same_request r x.request && new x))
+same-at : (a b : Option (Member Rank)) (g : Group) (x : Rank) → same_members a b ≡ true → is_at g x a ≡ is_at g x b
+same-at None None g x same = refl
+same-at None (Some b) g x same = absurd cc
+same-at (Some a) None g x same = absurd cc
+same-at (Some a) (Some b) g x same = ap (λ (m : Member Rank). same_group m.group g && same_rank m.id x) (member-equal same_rank rank_equal a b same)
+
+-- where the rank stays
+stays : (h a b : Bool) → (h ≡ a) ⊎ (h ≡ b) → a ≡ b → h ≡ b
+stays h a b (inl is) same = is ∙ same
+stays h a b (inr is) same = is
+
+-- where it goes
+goes : (h a b : Bool) → (h ≡ a) ⊎ (h ≡ b) → (b || (not a && h)) ≡ b
+goes h a true is = refl
+goes true true false is = refl
+goes true false false (inl is) = absurd cc
+goes true false false (inr is) = absurd cc
+goes false true false is = refl
+goes false false false is = refl
+
+-- of the request's ranks at most one is in these groups, before and after
+module _ (among : Group → Bool) (r : RequestId) (was now : Option (Member Rank)) (old new : Group → Rank → Bool)
+    (was_is : (g : Group) (x : Rank) → is_at g x was ≡ (among g && (same_request r x.request && old g x)))
+    (now_is : (g : Group) (x : Rank) → is_at g x now ≡ (among g && (same_request r x.request && new g x)))
     (passes : Group → Rank → Bool)
-    (either : (x : Rank) → same_request r x.request ≡ true → (passes g0 x ≡ old x) ⊎ (passes g0 x ≡ new x)) where
-  -- those of the request's ranks pass in the group that are to
+    (either : (g : Group) (x : Rank) → among g ≡ true → same_request r x.request ≡ true → (passes g x ≡ old g x) ⊎ (passes g x ≡ new g x)) where
+  -- those of the request's ranks pass in these groups that are to
   abbrev passes_one : Group → Rank → Bool
-  passes_one g x = cond (same_group g0 g && same_request r x.request) (new x) (passes g x)
+  passes_one g x = cond (among g && same_request r x.request) (new g x) (passes g x)
 
-  -- where the rank stays
-  stays : (h a b : Bool) → (h ≡ a) ⊎ (h ≡ b) → a ≡ b → h ≡ b
-  stays h a b (inl is) same = is ∙ same
-  stays h a b (inr is) same = is
-
-  left_alone : same_ranks was now ≡ true → (g : Group) (x : Rank) → passes g x ≡ passes_one g x
-  left_alone same g x = by (same_group g0 g) (same_request r x.request) refl refl where
-    both : (e : Bool) → same_request r x.request ≡ e → e ≡ true → old x ≡ new x
-    both true is at =
-        let one : is_it x was ≡ old x = rw is at (was_is x) in
-        let other : is_it x now ≡ new x = rw is at (now_is x) in
-        sym one ∙ same-ranks was now x same ∙ other
-    both false is at = absurd cc
-
-    by : (q e : Bool) → same_group g0 g ≡ q → same_request r x.request ≡ e → passes g x ≡ cond (q && e) (new x) (passes g x)
+  left_alone : same_members was now ≡ true → (g : Group) (x : Rank) → passes g x ≡ passes_one g x
+  left_alone same g x = by (among g) (same_request r x.request) refl refl where
+    by : (q e : Bool) → among g ≡ q → same_request r x.request ≡ e → passes g x ≡ cond (q && e) (new g x) (passes g x)
     by true true here is =
-        let at : passes g0 x ≡ passes g x = ap (λ (k : Group). passes k x) (group-equal g0 g here) in
-        sym at ∙ stays (passes g0 x) (old x) (new x) (either x is) (both true is refl)
+        let one : is_at g x was ≡ old g x = rw (here, is) at (was_is g x) in
+        let other : is_at g x now ≡ new g x = rw (here, is) at (now_is g x) in
+        stays (passes g x) (old g x) (new g x) (either g x here is) (sym one ∙ same-at was now g x same ∙ other)
     by true false here is = refl
     by false e other is = refl
 
-  -- where it goes
-  goes : (h a b : Bool) → (h ≡ a) ⊎ (h ≡ b) → (b || (not a && h)) ≡ b
-  goes h a true is = refl
-  goes true true false is = refl
-  goes true false false (inl is) = absurd cc
-  goes true false false (inr is) = absurd cc
-  goes false true false is = refl
-  goes false false false is = refl
-
-  moved_on : (g : Group) (x : Rank) → ((same_group g0 g && is_it x now) || (not (same_group g0 g && is_it x was) && passes g x)) ≡ passes_one g x
-  moved_on g x = rw (was_is x, now_is x) (by (same_group g0 g) (same_request r x.request) refl refl) where
-    by : (q e : Bool) → same_group g0 g ≡ q → same_request r x.request ≡ e
-        → ((q && (e && new x)) || (not (q && (e && old x)) && passes g x)) ≡ cond (q && e) (new x) (passes g x)
-    by true true here is =
-        let at : passes g0 x ≡ passes g x = ap (λ (k : Group). passes k x) (group-equal g0 g here) in
-        goes (passes g x) (old x) (new x) (subst (λ (b : Bool). (b ≡ old x) ⊎ (b ≡ new x)) at (either x is))
+  moved_on : (g : Group) (x : Rank) → (is_at g x now || (not (is_at g x was) && passes g x)) ≡ passes_one g x
+  moved_on g x = rw (was_is g x, now_is g x) (by (among g) (same_request r x.request) refl refl) where
+    by : (q e : Bool) → among g ≡ q → same_request r x.request ≡ e
+        → ((q && (e && new g x)) || (not (q && (e && old g x)) && passes g x)) ≡ cond (q && e) (new g x) (passes g x)
+    by true true here is = goes (passes g x) (old g x) (new g x) (either g x here is)
     by true false here is = refl
     by false e other is = refl
 
-  pub one-moved : (ms : List (Member Rank)) → AreBy passes ms → AreBy passes_one (with_moved g0 was now ms)
-  one-moved ms are = by (same_ranks was now) refl where
-    by : (b : Bool) → same_ranks was now ≡ b → AreBy passes_one (cond b ms (with_rank g0 now (without_rank g0 was ms)))
+  pub one-moved : (ms : List (Member Rank)) → AreBy passes ms → AreBy passes_one (with_moved was now ms)
+  one-moved ms are = by (same_members was now) refl where
+    by : (b : Bool) → same_members was now ≡ b → AreBy passes_one (cond b ms (with_one now (without_one was ms)))
     by true same = groups-by passes passes_one ms (left_alone same) are
     by false other = record {
-      rises = rises-rank g0 now (without_rank g0 was ms) (rises-no_rank g0 was ms are.rises);
+      rises = rises-one now (without_one was ms) (rises-no_one was ms are.rises);
       each = λ g x.
-          has-rank g0 g x now (without_rank g0 was ms)
-          ∙ ap (λ (b : Bool). (same_group g0 g && is_it x now) || b) (has-no_rank g0 g x was ms are.rises ∙ ap (λ (b : Bool). not (same_group g0 g && is_it x was) && b) (are.each g x))
+          has-one g x now (without_one was ms)
+          ∙ ap (λ (b : Bool). is_at g x now || b) (has-no_one g x was ms are.rises ∙ ap (λ (b : Bool). not (is_at g x was) && b) (are.each g x))
           ∙ moved_on g x;
     }
 
+-- ## kinds of groups
+
+-- a group of requested requests, of whatever line
+abbrev pub is_open : Group → Bool
+is_open g = same_group (open_group g.third) g
+
+-- one of those that are closed to the pool
+abbrev pub is_closed_of : PoolId → Group → Bool
+is_closed_of p g = same_group (closed_group g.third p) g
+
+-- one of those that are closed to some pool
+abbrev pub is_closed : Group → Bool
+is_closed g = is_closed_of (pool_of g) g
+
+not-open : (g : Group) (line : ℕ) → is_open g ≡ false → same_group (open_group line) g ≡ false
+not-open g line out = grind (arith, nat_tests)
+
+not-closed : (g : Group) (line : ℕ) (p : PoolId) → is_closed_of p g ≡ false → same_group (closed_group line p) g ≡ false
+not-closed g line p out = grind (arith, nat_tests)
+
+open-not_closed : (g : Group) (line : ℕ) (p : PoolId) → is_open g ≡ true → same_group (closed_group line p) g ≡ false
+open-not_closed g line p is = grind (arith, nat_tests)
+
+closed-not_open : (g : Group) (line : ℕ) (p : PoolId) → is_closed_of p g ≡ true → same_group (open_group line) g ≡ false
+closed-not_open g line p is = grind (arith, nat_tests)
+
+closed-first : (g : Group) (p : PoolId) → is_closed_of p g ≡ true → p.0 ≡ g.first
+closed-first g p is = grind (arith, nat_tests)
+
+abbrev pub pool_by : ℕ → PoolId
+pool_by n = record { 0 = n }
+
 -- ## the groups of a record
 
-module _ (pools : ℕ) (r : RequestId) where
-  open-is : (found : Option RequestRecord) (x : Rank) → is_it x (open_rank r found) ≡ (same_request r x.request && is_found_in pools open_group x found)
-  open-is None x = sym (and_false (same_request r x.request))
-  open-is (Some k) x = by (is_requested k.state) where
-    by : (b : Bool) → is_it x (cond b (Some (rank_of r k)) None) ≡ (same_request r x.request && ((k.relative_priority == x.relative) && (b && true)))
-    by true = ap (λ (b : Bool). same_request r x.request && b) (sym (and_true (k.relative_priority == x.relative)))
-    by false = sym (ap (λ (b : Bool). same_request r x.request && b) (and_false (k.relative_priority == x.relative)) ∙ and_false (same_request r x.request))
+-- the group is that of the line, or it is that of those that are closed to the pool and the record is
+abbrev is_said : ℕ → ℕ → Group → RequestRecord → PoolId → Bool
+is_said pools line g k p = same_group (open_group line) g || (same_group (closed_group line p) g && (nat_lt p.0 pools && is_closed_to p k))
+
+module _ (pools : ℕ) (of : RequestRecord → ℕ) (r : RequestId) where
+  open-is : (found : Option RequestRecord) (g : Group) (x : Rank)
+      → is_at g x (open_member (option_map_or of found 0) r found) ≡ (is_open g && (same_request r x.request && is_found_in pools of g x found))
+  open-is None g x = sym (ap (λ (b : Bool). is_open g && b) (and_false (same_request r x.request)) ∙ and_false (is_open g))
+  open-is (Some k) g x = by (nat_lt g.first pools && is_closed_to (pool_of g) k) (is_requested k.state) (is_open g) refl where
+    table : (s e a : Bool) → (s && (e && a)) ≡ (e && (a && (s || false)))
+    table true true true = refl
+    table true true false = refl
+    table true false a = refl
+    table false true true = refl
+    table false true false = refl
+    table false false a = refl
+
+    fails : (o e a d : Bool) → false ≡ (o && (e && (a && (false && d))))
+    fails true true true d = refl
+    fails true true false d = refl
+    fails true false a d = refl
+    fails false e a d = refl
+
+    by : (d b o : Bool) → is_open g ≡ o
+        → is_at g x (cond b (Some (record { group = open_group (of k); id = record { request = r; relative = k.relative_priority } })) None)
+        ≡ (o && (same_request r x.request && ((k.relative_priority == x.relative) && (b && (same_group (open_group (of k)) g || (same_group (closed_group (of k) (pool_of g)) g && d))))))
+    by d true true is = rw (open-not_closed g (of k) (pool_of g) is) (table (same_group (open_group (of k)) g) (same_request r x.request) (k.relative_priority == x.relative))
+    by d true false out = rw (not-open g (of k) out) refl
+    by d false o is = fails o (same_request r x.request) (k.relative_priority == x.relative) (same_group (open_group (of k)) g || (same_group (closed_group (of k) (pool_of g)) g && d))
 
   module _ (p : PoolId) (within : nat_lt p.0 pools ≡ true) where
-    closed-is : (found : Option RequestRecord) (x : Rank) → is_it x (closed_rank p r found) ≡ (same_request r x.request && is_found_in pools (closed_group p) x found)
-    closed-is None x = sym (and_false (same_request r x.request))
-    closed-is (Some k) x = rw (group-itself (closed_group p), within) (by (is_requested k.state) (is_closed_to p k)) where
-      by : (a b : Bool) → is_it x (cond (a && b) (Some (rank_of r k)) None) ≡ (same_request r x.request && ((k.relative_priority == x.relative) && (a && b)))
-      by true true = ap (λ (b : Bool). same_request r x.request && b) (sym (and_true (k.relative_priority == x.relative)))
-      by true false = sym (ap (λ (b : Bool). same_request r x.request && b) (and_false (k.relative_priority == x.relative)) ∙ and_false (same_request r x.request))
-      by false b = sym (ap (λ (b : Bool). same_request r x.request && b) (and_false (k.relative_priority == x.relative)) ∙ and_false (same_request r x.request))
+    closed-is : (found : Option RequestRecord) (g : Group) (x : Rank)
+        → is_at g x (closed_member (option_map_or of found 0) p r found) ≡ (is_closed_of p g && (same_request r x.request && is_found_in pools of g x found))
+    closed-is None g x = sym (ap (λ (b : Bool). is_closed_of p g && b) (and_false (same_request r x.request)) ∙ and_false (is_closed_of p g))
+    closed-is (Some k) g x = by (is_closed_of p g) refl where
+      table : (b d : Bool) → is_at g x (cond (b && d) (Some (record { group = closed_group (of k) p; id = record { request = r; relative = k.relative_priority } })) None) ≡ cond (b && d) (same_group (closed_group (of k) p) g && (same_request r x.request && (k.relative_priority == x.relative))) false
+      table true true = refl
+      table true false = refl
+      table false d = refl
+
+      here : (b d s e a : Bool) → cond (b && d) (s && (e && a)) false ≡ (e && (a && (b && (false || (s && (true && d))))))
+      here true true true true true = refl
+      here true true true true false = refl
+      here true true true false a = refl
+      here true true false true true = refl
+      here true true false true false = refl
+      here true true false false a = refl
+      here true false true true true = refl
+      here true false true true false = refl
+      here true false true false a = refl
+      here true false false true true = refl
+      here true false false true false = refl
+      here true false false false a = refl
+      here false d s true true = refl
+      here false d s true false = refl
+      here false d s false a = refl
+
+      none : (b d : Bool) → cond (b && d) (false && (same_request r x.request && (k.relative_priority == x.relative))) false ≡ false
+      none true true = refl
+      none true false = refl
+      none false d = refl
+
+      by : (q : Bool) → is_closed_of p g ≡ q
+          → is_at g x (cond (is_requested k.state && is_closed_to p k) (Some (record { group = closed_group (of k) p; id = record { request = r; relative = k.relative_priority } })) None)
+          ≡ (q && (same_request r x.request && ((k.relative_priority == x.relative) && (is_requested k.state && is_said pools (of k) g k (pool_of g)))))
+      by true is =
+          table (is_requested k.state) (is_closed_to p k)
+          ∙ subst (λ (n : ℕ). cond (is_requested k.state && is_closed_to p k) (same_group (closed_group (of k) p) g && (same_request r x.request && (k.relative_priority == x.relative))) false
+          ≡ (same_request r x.request && ((k.relative_priority == x.relative) && (is_requested k.state && is_said pools (of k) g k (pool_by n)))))
+          (closed-first g p is)
+          (rw (closed-not_open g (of k) p is, within) (here (is_requested k.state) (is_closed_to p k) (same_group (closed_group (of k) p) g) (same_request r x.request) (k.relative_priority == x.relative)))
+      by false out = table (is_requested k.state) (is_closed_to p k) ∙ rw (not-closed g (of k) p out) (none (is_requested k.state) (is_closed_to p k))
 
 -- ## the groups so far
 
--- the open group, or that of a pool below this number
+-- a group of requested requests, or one of those that are closed to a pool below this number
 abbrev pub is_done : ℕ → Group → Bool
-is_done n g = same_group open_group g || (same_group (closed_group (pool_of g)) g && nat_lt g.first n)
+is_done n g = is_open g || (is_closed g && nat_lt g.first n)
 
 -- of the request's ranks those pass in the groups so far that the record has there
-abbrev pub passes_so_far : ℕ → RequestId → Option RequestRecord → ℕ → (Group → Rank → Bool) → Group → Rank → Bool
-passes_so_far pools r now n passes g x = cond (same_request r x.request && is_done n g) (is_found_in pools g x now) (passes g x)
+abbrev pub passes_so_far : ℕ → (RequestRecord → ℕ) → RequestId → Option RequestRecord → ℕ → (Group → Rank → Bool) → Group → Rank → Bool
+passes_so_far pools of r now n passes g x = cond (same_request r x.request && is_done n g) (is_found_in pools of g x now) (passes g x)
 
 none_below : (n : ℕ) → nat_lt n 0 ≡ false
 none_below n = grind (arith, nat_tests)
-
-not_below : (n : ℕ) → nat_lt n n ≡ false
-not_below n = grind (arith, nat_tests)
 
 below : (m n : ℕ) → m < n → nat_lt m n ≡ true
 below m n less = grind (arith, nat_tests)
 
 -- a group of another pool
-other-done : (p : PoolId) (g : Group) → same_group (closed_group p) g ≡ false → (same_group (closed_group (pool_of g)) g && nat_lt g.first (p.0 + 1)) ≡ (same_group (closed_group (pool_of g)) g && nat_lt g.first p.0)
+other-done : (p : PoolId) (g : Group) → is_closed_of p g ≡ false → (is_closed g && nat_lt g.first (p.0 + 1)) ≡ (is_closed g && nat_lt g.first p.0)
 other-done p g other = grind (arith, nat_tests)
 
--- the pool's own group
-own-done : (p : PoolId) → is_done (p.0 + 1) (closed_group p) ≡ true
-own-done p = grind (arith, nat_tests)
+-- one of the pool
+own-done : (p : PoolId) (g : Group) → is_closed_of p g ≡ true → is_done (p.0 + 1) g ≡ true
+own-done p g is = grind (arith, nat_tests)
 
-not-done : (p : PoolId) → is_done p.0 (closed_group p) ≡ false
-not-done p = rw (not_below p.0) (and_false (same_group (closed_group p) (closed_group p)))
+not-done : (p : PoolId) (g : Group) → is_closed_of p g ≡ true → is_done p.0 g ≡ false
+not-done p g is = grind (arith, nat_tests)
 
--- a group of no pool, and not the open one, has no rank
-none-found : (pools : ℕ) (g : Group) (x : Rank) (found : Option RequestRecord) → is_done pools g ≡ false → is_found_in pools g x found ≡ false
-none-found pools g x None out = refl
-none-found pools g x (Some k) out = ap (λ (b : Bool). (k.relative_priority == x.relative) && (is_requested k.state && b)) none ∙ ap (λ (b : Bool). (k.relative_priority == x.relative) && b) (and_false (is_requested k.state)) ∙ and_false (k.relative_priority == x.relative) where
-  by : (a s l d : Bool) → (a || (s && l)) ≡ false → (a || (s && (l && d))) ≡ false
-  by true s l d is = absurd cc
-  by false true true d is = absurd cc
-  by false true false d is = refl
-  by false false l d is = refl
+-- a group of no pool, and not of requested requests, has no rank
+none-found : (pools : ℕ) (of : RequestRecord → ℕ) (g : Group) (x : Rank) (found : Option RequestRecord) → is_done pools g ≡ false → is_found_in pools of g x found ≡ false
+none-found pools of g x None out = refl
+none-found pools of g x (Some k) out =
+    ap (λ (b : Bool). (k.relative_priority == x.relative) && (is_requested k.state && b)) (by (is_open g) (is_closed g) (nat_lt g.first pools) refl refl out)
+    ∙ ap (λ (b : Bool). (k.relative_priority == x.relative) && b) (and_false (is_requested k.state)) ∙ and_false (k.relative_priority == x.relative)
+  where
+    by : (a s l : Bool) → is_open g ≡ a → is_closed g ≡ s → (a || (s && l)) ≡ false
+        → (same_group (open_group (of k)) g || (same_group (closed_group (of k) (pool_of g)) g && (l && is_closed_to (pool_of g) k))) ≡ false
+    by true s l is other all = absurd cc
+    by false true true is other all = absurd cc
+    by false true false is other all = rw (not-open g (of k) is) (and_false (same_group (closed_group (of k) (pool_of g)) g))
+    by false false l is other all = rw (not-open g (of k) is, not-closed g (of k) (pool_of g) other) refl
 
-  none : (same_group open_group g || (same_group (closed_group (pool_of g)) g && (nat_lt g.first pools && is_closed_to (pool_of g) k))) ≡ false
-  none = by (same_group open_group g) (same_group (closed_group (pool_of g)) g) (nat_lt g.first pools) (is_closed_to (pool_of g) k) out
+module _ (pools : ℕ) (of : RequestRecord → ℕ) (r : RequestId) (was now : Option RequestRecord) (passes : Group → Rank → Bool) (either : IsEither pools of r was now passes) where
+  abbrev line_was : ℕ
+  line_was = option_map_or of was 0
 
-module _ (pools : ℕ) (r : RequestId) (was now : Option RequestRecord) (passes : Group → Rank → Bool) (either : IsEither pools r was now passes) where
-  -- first in the open group
+  abbrev line_now : ℕ
+  line_now = option_map_or of now 0
+
+  -- first in the groups of requested requests
   pub open-moved : (ms : List (Member Rank)) → AreBy passes ms
-      → AreBy (passes_so_far pools r now 0 passes) (with_moved open_group (open_rank r was) (open_rank r now) ms)
+      → AreBy (passes_so_far pools of r now 0 passes) (with_moved (open_member line_was r was) (open_member line_now r now) ms)
   open-moved ms are =
-      groups-by _ (passes_so_far pools r now 0 passes) _ (λ g x. by g x (same_group open_group g) (same_request r x.request) refl)
-      (one-moved open_group r (open_rank r was) (open_rank r now) (λ x. is_found_in pools open_group x was) (λ x. is_found_in pools open_group x now)
-      (open-is pools r was) (open-is pools r now) passes (λ x is. either open_group x is) ms are)
+      groups-by _ (passes_so_far pools of r now 0 passes) _ (λ g x. by g x (is_open g) (same_request r x.request))
+      (one-moved is_open r (open_member line_was r was) (open_member line_now r now) (λ g x. is_found_in pools of g x was) (λ g x. is_found_in pools of g x now)
+      (open-is pools of r was) (open-is pools of r now) passes (λ g x here is. either g x is) ms are)
     where
-      by : (g : Group) (x : Rank) (q e : Bool) → same_group open_group g ≡ q
-          → cond (q && e) (is_found_in pools open_group x now) (passes g x) ≡ cond (e && (q || (same_group (closed_group (pool_of g)) g && nat_lt g.first 0))) (is_found_in pools g x now) (passes g x)
-      by g x true true here = ap (λ (k : Group). is_found_in pools k x now) (group-equal open_group g here)
-      by g x true false here = refl
-      by g x false true other = rw (none_below g.first, and_false (same_group (closed_group (pool_of g)) g)) refl
-      by g x false false other = refl
+      by : (g : Group) (x : Rank) (q e : Bool)
+          → cond (q && e) (is_found_in pools of g x now) (passes g x) ≡ cond (e && (q || (is_closed g && nat_lt g.first 0))) (is_found_in pools of g x now) (passes g x)
+      by g x true true = refl
+      by g x true false = refl
+      by g x false true = rw (none_below g.first, and_false (is_closed g)) refl
+      by g x false false = refl
 
-  -- then in that of each pool
-  pub closed-moved : (p : PoolId) → p.0 < pools → (ms : List (Member Rank)) → AreBy (passes_so_far pools r now p.0 passes) ms
-      → AreBy (passes_so_far pools r now (p.0 + 1) passes) (with_moved (closed_group p) (closed_rank p r was) (closed_rank p r now) ms)
+  -- then in those of each pool
+  pub closed-moved : (p : PoolId) → p.0 < pools → (ms : List (Member Rank)) → AreBy (passes_so_far pools of r now p.0 passes) ms
+      → AreBy (passes_so_far pools of r now (p.0 + 1) passes) (with_moved (closed_member line_was p r was) (closed_member line_now p r now) ms)
   closed-moved p within ms are =
-      groups-by _ (passes_so_far pools r now (p.0 + 1) passes) _ (λ g x. by g x (same_group (closed_group p) g) (same_request r x.request) refl)
-      (one-moved (closed_group p) r (closed_rank p r was) (closed_rank p r now) (λ x. is_found_in pools (closed_group p) x was) (λ x. is_found_in pools (closed_group p) x now)
-      (closed-is pools r p (below p.0 pools within) was) (closed-is pools r p (below p.0 pools within) now) (passes_so_far pools r now p.0 passes)
-      (λ x is. rw (is, not-done p) (either (closed_group p) x is)) ms are)
+      groups-by _ (passes_so_far pools of r now (p.0 + 1) passes) _ (λ g x. by g x (is_closed_of p g) (same_request r x.request) refl)
+      (one-moved (is_closed_of p) r (closed_member line_was p r was) (closed_member line_now p r now) (λ g x. is_found_in pools of g x was) (λ g x. is_found_in pools of g x now)
+      (closed-is pools of r p (below p.0 pools within) was) (closed-is pools of r p (below p.0 pools within) now) (passes_so_far pools of r now p.0 passes)
+      (λ g x here is. rw (is, not-done p g here) (either g x is)) ms are)
     where
-      by : (g : Group) (x : Rank) (q e : Bool) → same_group (closed_group p) g ≡ q
-          → cond (q && e) (is_found_in pools (closed_group p) x now) (cond (e && is_done p.0 g) (is_found_in pools g x now) (passes g x))
-          ≡ cond (e && is_done (p.0 + 1) g) (is_found_in pools g x now) (passes g x)
-      by g x true true here =
-          let alike : closed_group p ≡ g = group-equal (closed_group p) g here in
-          subst (λ (k : Group). is_found_in pools (closed_group p) x now ≡ cond (is_done (p.0 + 1) k) (is_found_in pools k x now) (passes k x)) alike (rw (own-done p) refl)
+      by : (g : Group) (x : Rank) (q e : Bool) → is_closed_of p g ≡ q
+          → cond (q && e) (is_found_in pools of g x now) (cond (e && is_done p.0 g) (is_found_in pools of g x now) (passes g x))
+          ≡ cond (e && is_done (p.0 + 1) g) (is_found_in pools of g x now) (passes g x)
+      by g x true true here = rw (own-done p g here) refl
       by g x true false here = refl
-      by g x false true other = ap (λ (b : Bool). cond (same_group open_group g || b) (is_found_in pools g x now) (passes g x)) (sym (other-done p g other))
+      by g x false true other = ap (λ (b : Bool). cond (is_open g || b) (is_found_in pools of g x now) (passes g x)) (sym (other-done p g other))
       by g x false false other = refl
 
   -- and no other group has ranks
-  pub all-moved : (ms : List (Member Rank)) → AreBy (passes_so_far pools r now pools passes) ms → AreBy (passes_with pools r now passes) ms
-  all-moved ms are = groups-by _ (passes_with pools r now passes) ms (λ g x. by g x (same_request r x.request) (is_done pools g) refl refl) are where
+  pub all-moved : (ms : List (Member Rank)) → AreBy (passes_so_far pools of r now pools passes) ms → AreBy (passes_with pools of r now passes) ms
+  all-moved ms are = groups-by _ (passes_with pools of r now passes) ms (λ g x. by g x (same_request r x.request) (is_done pools g) refl refl) are where
     by : (g : Group) (x : Rank) (e d : Bool) → same_request r x.request ≡ e → is_done pools g ≡ d
-        → cond (e && d) (is_found_in pools g x now) (passes g x) ≡ cond e (is_found_in pools g x now) (passes g x)
+        → cond (e && d) (is_found_in pools of g x now) (passes g x) ≡ cond e (is_found_in pools of g x now) (passes g x)
     by g x true true is done = refl
-    by g x true false is out = stays (passes g x) (is_found_in pools g x was) (is_found_in pools g x now) (either g x is) (none-found pools g x was out ∙ sym (none-found pools g x now out)) where
-      stays : (h a b : Bool) → (h ≡ a) ⊎ (h ≡ b) → a ≡ b → h ≡ b
-      stays h a b (inl same) alike = same ∙ alike
-      stays h a b (inr same) alike = same
+    by g x true false is out =
+        stays (passes g x) (is_found_in pools of g x was) (is_found_in pools of g x now) (either g x is) (none-found pools of g x was out ∙ sym (none-found pools of g x now out))
     by g x false d is done = refl
 
 -- what a call is passed, as it is defined
-pub moved-as : (g h : Group) (a b k l : Option Rank) (ms later : List (Member Rank)) → later ≡ with_moved g a b ms → g ≡ h → a ≡ k → b ≡ l → later ≡ with_moved h k l ms
-moved-as g h a b k l ms later is group was now = rw (← group, ← was, ← now) is
+pub moved-as : (a b k l : Option (Member Rank)) (ms later : List (Member Rank)) → later ≡ with_moved a b ms → a ≡ k → b ≡ l → later ≡ with_moved k l ms
+moved-as a b k l ms later is was now = rw (← was, ← now) is

@@ -3,6 +3,7 @@ use Rattle.std.proofs.Common.{◌≡◌, ◌∙◌, inl, inr, ◌⊎◌, ◌+◌
 use Rattle.std.specs.Prelude.{◌||◌, slice_get}
 use Rattle.std.specs.List.{list_any}
 use Rattle.std.proofs.lemmas.Option.{slice_get-get_or}
+use Rattle.np_text.specs.declared.id.JobId.{JobId}
 use Rattle.np_text.specs.declared.id.RequestId.{RequestId}
 use Rattle.np_record.specs.declared.record.RequestRecord.{RequestRecord}
 use Rattle.np_site.specs.Configuration.{Configuration}
@@ -22,6 +23,7 @@ use Rattle.np_classes.specs.Touched.{touches_request}
 use Rattle.np_classes.proofs.Untouched.{request-untouched}
 use Rattle.np_open.specs.declared.moves.Past.{Past}
 use Rattle.np_open.specs.declared.ranks.Rank.{Rank}
+use Rattle.np_open.specs.Lines.{line_of}
 use Rattle.np_open.specs.Moves.{AreAsKept, AreBy, IsEither, passes_moved, passes_with}
 use Rattle.np_open.specs.Prepared.{AreListed, IsPrepared, is_listed, past_of}
 use Rattle.np_open.specs.Open.{AreOpen, OpenOf, is_found_in, rank_is_in}
@@ -60,49 +62,54 @@ or_false true = refl
 or_false false = refl
 
 -- what a call makes of the members by a test, for one request
-abbrev Moves_one : ℕ → Past → Option RequestRecord → List (Member Rank) → List (Member Rank) → Type 0
-Moves_one pools past found ms later = (passes : Group → Rank → Bool) → IsEither pools past.request past.kept found passes → AreBy passes ms → AreBy (passes_with pools past.request found passes) later
+abbrev Moves_one : ℕ → (RequestRecord → ℕ) → Past → Option RequestRecord → List (Member Rank) → List (Member Rank) → Type 0
+Moves_one pools of past found ms later = (passes : Group → Rank → Bool) → IsEither pools of past.request past.kept found passes → AreBy passes ms → AreBy (passes_with pools of past.request found passes) later
 
-module _ (c : Configuration) (s : State) (moved : List Past) (at : ℕ) (past : Past) (there : slice_get moved at ≡ Some past) (passes : Group → Rank → Bool) where
+module _ (c : Configuration) (s : State) (lines : List JobId) (moved : List Past) (at : ℕ) (past : Past) (there : slice_get moved at ≡ Some past) (passes : Group → Rank → Bool) where
   abbrev now : Option RequestRecord
   now = request_in past.request s.requests
 
+  abbrev found_in : Group → Rank → Option RequestRecord → Bool
+  found_in g x found = is_found_in (length c.pools) (line_of c lines) g x found
+
   -- the state's record of a rank's request
-  state-has : (g : Group) (x : Rank) → same_request past.request x.request ≡ true → rank_is_in c s g x ≡ is_found_in (length c.pools) g x now
-  state-has g x same = ap (λ (r : RequestId). is_found_in (length c.pools) g x (request_in r s.requests)) (sym (request_equal past.request x.request same))
+  state-has : (g : Group) (x : Rank) → same_request past.request x.request ≡ true → rank_is_in c s lines g x ≡ found_in g x now
+  state-has g x same = ap (λ (r : RequestId). found_in g x (request_in r s.requests)) (sym (request_equal past.request x.request same))
 
-  moved-either : AreAsKept (length c.pools) moved passes → IsEither (length c.pools) past.request past.kept now (passes_moved c s (take at moved) passes)
+  moved-either : AreAsKept c lines moved passes → IsEither (length c.pools) (line_of c lines) past.request past.kept now (passes_moved c s lines (take at moved) passes)
   moved-either kept g x same = by (is_listed x.request (take at moved)) where
-    one : (g : Group) (rank : Rank) → same_request past.request rank.request ≡ true → passes g rank ≡ is_found_in (length c.pools) g rank past.kept
-    one = all-at (λ (w : Past). (g : Group) (rank : Rank) → same_request w.request rank.request ≡ true → passes g rank ≡ is_found_in (length c.pools) g rank w.kept) moved at past kept there
+    one : (g : Group) (rank : Rank) → same_request past.request rank.request ≡ true → passes g rank ≡ found_in g rank past.kept
+    one = all-at (λ (w : Past). (g : Group) (rank : Rank) → same_request w.request rank.request ≡ true → passes g rank ≡ found_in g rank w.kept) moved at past kept there
 
-    by : (b : Bool) → (cond b (rank_is_in c s g x) (passes g x) ≡ is_found_in (length c.pools) g x past.kept) ⊎ (cond b (rank_is_in c s g x) (passes g x) ≡ is_found_in (length c.pools) g x now)
+    by : (b : Bool) → (cond b (rank_is_in c s lines g x) (passes g x) ≡ found_in g x past.kept) ⊎ (cond b (rank_is_in c s lines g x) (passes g x) ≡ found_in g x now)
     by true = inr (state-has g x same)
     by false = inl (one g x same)
 
-  moved-next : (g : Group) (x : Rank) → passes_with (length c.pools) past.request now (passes_moved c s (take at moved) passes) g x ≡ passes_moved c s (take (at + 1) moved) passes g x
+  moved-next : (g : Group) (x : Rank)
+      → passes_with (length c.pools) (line_of c lines) past.request now (passes_moved c s lines (take at moved) passes) g x ≡ passes_moved c s lines (take (at + 1) moved) passes g x
   moved-next g x =
       by (same_request past.request x.request) refl
-      ∙ ap (λ (b : Bool). cond b (rank_is_in c s g x) (passes g x)) (sym (kept-push (take at moved) past x.request))
-      ∙ ap (λ (some : List Past). passes_moved c s some passes g x) (sym (take_there moved at past there))
+      ∙ ap (λ (b : Bool). cond b (rank_is_in c s lines g x) (passes g x)) (sym (kept-push (take at moved) past x.request))
+      ∙ ap (λ (some : List Past). passes_moved c s lines some passes g x) (sym (take_there moved at past there))
     where
       by : (b : Bool) → same_request past.request x.request ≡ b
-          → cond b (is_found_in (length c.pools) g x now) (cond (is_listed x.request (take at moved)) (rank_is_in c s g x) (passes g x))
-          ≡ cond (is_listed x.request (take at moved) || b) (rank_is_in c s g x) (passes g x)
+          → cond b (found_in g x now) (cond (is_listed x.request (take at moved)) (rank_is_in c s lines g x) (passes g x))
+          ≡ cond (is_listed x.request (take at moved) || b) (rank_is_in c s lines g x) (passes g x)
       by true same = rw (or_true (is_listed x.request (take at moved))) (sym (state-has g x same))
       by false other = rw (or_false (is_listed x.request (take at moved))) refl
 
-  moved-more : (ms : List (Member Rank)) → AreBy (passes_with (length c.pools) past.request now (passes_moved c s (take at moved) passes)) ms
-      → AreBy (passes_moved c s (take (at + 1) moved) passes) ms
-  moved-more ms are = groups-by _ (passes_moved c s (take (at + 1) moved) passes) ms moved-next are
+  moved-more : (ms : List (Member Rank)) → AreBy (passes_with (length c.pools) (line_of c lines) past.request now (passes_moved c s lines (take at moved) passes)) ms
+      → AreBy (passes_moved c s lines (take (at + 1) moved) passes) ms
+  moved-more ms are = groups-by _ (passes_moved c s lines (take (at + 1) moved) passes) ms moved-next are
 
-  pub move-next : (pools : ℕ) (found : Option RequestRecord) (ms later : List (Member Rank)) → pools ≡ length c.pools → found ≡ now
-      → Moves_one pools past found ms later → AreAsKept (length c.pools) moved passes → AreBy (passes_moved c s (take at moved) passes) ms
-      → AreBy (passes_moved c s (take (at + 1) moved) passes) later
-  move-next pools found ms later pools_are found_is moves kept are =
-      let one : Moves_one (length c.pools) past found ms later = subst (λ (n : ℕ). Moves_one n past found ms later) pools_are moves in
-      let it : Moves_one (length c.pools) past now ms later = subst (λ (o : Option RequestRecord). Moves_one (length c.pools) past o ms later) found_is one in
-      moved-more later (it (passes_moved c s (take at moved) passes) (moved-either kept) are)
+  pub move-next : (config : Configuration) (pools : ℕ) (found : Option RequestRecord) (ms later : List (Member Rank)) → config ≡ c → pools ≡ length c.pools → found ≡ now
+      → Moves_one pools (line_of config lines) past found ms later → AreAsKept c lines moved passes → AreBy (passes_moved c s lines (take at moved) passes) ms
+      → AreBy (passes_moved c s lines (take (at + 1) moved) passes) later
+  move-next config pools found ms later site pools_are found_is moves kept are =
+      let of_site : Moves_one pools (line_of c lines) past found ms later = subst (λ (k : Configuration). Moves_one pools (line_of k lines) past found ms later) site moves in
+      let one : Moves_one (length c.pools) (line_of c lines) past found ms later = subst (λ (n : ℕ). Moves_one n (line_of c lines) past found ms later) pools_are of_site in
+      let it : Moves_one (length c.pools) (line_of c lines) past now ms later = subst (λ (o : Option RequestRecord). Moves_one (length c.pools) (line_of c lines) past o ms later) found_is one in
+      moved-more later (it (passes_moved c s lines (take at moved) passes) (moved-either kept) are)
 
 -- ## all of them
 
@@ -111,40 +118,40 @@ untouched : (a b : Bool) → (a ≡ true → b ≡ true) → b ≡ false → a �
 untouched true b all out = let is : b ≡ true = all refl in cc
 untouched false b all out = refl
 
-module _ (c : Configuration) (s : State) (ch : Changes) (moved : List Past) (prepared : IsPrepared s ch moved) where
-  as-kept : AreAsKept (length c.pools) moved (rank_is_in c s)
+module _ (c : Configuration) (s : State) (lines : List JobId) (ch : Changes) (moved : List Past) (prepared : IsPrepared s ch moved) where
+  as-kept : AreAsKept c lines moved (rank_is_in c s lines)
   as-kept =
       all-weaker (λ (past : Past). past.kept ≡ request_in past.request s.requests)
-      (λ (past : Past). (g : Group) (x : Rank) → same_request past.request x.request ≡ true → rank_is_in c s g x ≡ is_found_in (length c.pools) g x past.kept)
+      (λ (past : Past). (g : Group) (x : Rank) → same_request past.request x.request ≡ true → rank_is_in c s lines g x ≡ is_found_in (length c.pools) (line_of c lines) g x past.kept)
       (λ past is g x same.
-      ap (λ (r : RequestId). is_found_in (length c.pools) g x (request_in r s.requests)) (sym (request_equal past.request x.request same))
-      ∙ ap (is_found_in (length c.pools) g x) (sym is))
+      ap (λ (r : RequestId). is_found_in (length c.pools) (line_of c lines) g x (request_in r s.requests)) (sym (request_equal past.request x.request same))
+      ∙ ap (is_found_in (length c.pools) (line_of c lines) g x) (sym is))
       moved prepared.kept
 
-  stays : (g : Group) (x : Rank) → passes_moved c (changed c ch s) moved (rank_is_in c s) g x ≡ rank_is_in c (changed c ch s) g x
+  stays : (g : Group) (x : Rank) → passes_moved c (changed c ch s) lines moved (rank_is_in c s lines) g x ≡ rank_is_in c (changed c ch s) lines g x
   stays g x = by (is_listed x.request moved) refl where
-    by : (b : Bool) → is_listed x.request moved ≡ b → cond b (rank_is_in c (changed c ch s) g x) (rank_is_in c s g x) ≡ rank_is_in c (changed c ch s) g x
+    by : (b : Bool) → is_listed x.request moved ≡ b → cond b (rank_is_in c (changed c ch s) lines g x) (rank_is_in c s lines g x) ≡ rank_is_in c (changed c ch s) lines g x
     by true listed = refl
     by false out =
-        ap (is_found_in (length c.pools) g x)
+        ap (is_found_in (length c.pools) (line_of c lines) g x)
         (sym (request-untouched c ch s x.request (untouched (touches_request ch s x.request) (is_listed x.request moved) (prepared.touched x.request) out)))
 
 -- the same for all
-abbrev pub Moves : List Past → List (Member Rank) → List (Member Rank) → Configuration → State → Type 0
-Moves moved old new c t = (passes : Group → Rank → Bool) → AreAsKept (length c.pools) moved passes → AreBy passes old → AreBy (passes_moved c t moved passes) new
+abbrev pub Moves : List JobId → List Past → List (Member Rank) → List (Member Rank) → Configuration → State → Type 0
+Moves lines moved old new c t = (passes : Group → Rank → Bool) → AreAsKept c lines moved passes → AreBy passes old → AreBy (passes_moved c t lines moved passes) new
 
 -- what was listed is where it is after the change, and all else where it was
-pub open-noted : (c site : Configuration) (s t : State) (ch : Changes) (moved : List Past) (old new : OpenOf) → Moves moved old.members new.members site t
+pub open-noted : (c site : Configuration) (s t : State) (ch : Changes) (moved : List Past) (old new : OpenOf) → new.lines ≡ old.lines → Moves old.lines moved old.members new.members site t
     → IsReached c s → IsPrepared s ch moved → site ≡ c → t ≡ changed c ch s → AreOpen c s old → AreOpen c (changed c ch s) new
-open-noted c site s t ch moved old new moves reached prepared same_site after was =
-    let later : Moves moved old.members new.members site (changed c ch s) = subst (Moves moved old.members new.members site) after moves in
-    let all : Moves moved old.members new.members c (changed c ch s) = subst (λ (k : Configuration). Moves moved old.members new.members k (changed c ch s)) same_site later in
-    let are : AreBy (rank_is_in c (changed c ch s)) new.members =
-    groups-by _ (rank_is_in c (changed c ch s)) new.members (stays c s ch moved prepared)
-    (all (rank_is_in c s) (as-kept c s ch moved prepared) (record { rises = was.rises; each = was.each })) in
+open-noted c site s t ch moved old new same_lines moves reached prepared same_site after was =
+    let later : Moves old.lines moved old.members new.members site (changed c ch s) = subst (Moves old.lines moved old.members new.members site) after moves in
+    let all : Moves old.lines moved old.members new.members c (changed c ch s) = subst (λ (k : Configuration). Moves old.lines moved old.members new.members k (changed c ch s)) same_site later in
+    let are : AreBy (rank_is_in c (changed c ch s) old.lines) new.members =
+    groups-by _ (rank_is_in c (changed c ch s) old.lines) new.members (stays c s old.lines ch moved prepared)
+    (all (rank_is_in c s old.lines) (as-kept c s old.lines ch moved prepared) (record { rises = was.rises; each = was.each })) in
     record {
       rises = are.rises;
-      each = are.each;
+      each = λ g x. are.each g x ∙ ap (λ (lines : List JobId). rank_is_in c (changed c ch s) lines g x) (sym same_lines);
       once = (numbered c s ch (invariant-Runs c reached.journal s reached.runs).numbered).requests_rise;
     }
 

@@ -1,10 +1,14 @@
--- what the ranks say of the requests of a state, and which of them a search passes over
+-- what the ranks of a line say of the requests of a state, and which of them a search passes over
 use Rattle.std.proofs.Common.{◌≡◌, ◌∙◌, ℕ, zero, suc, ◌+◌, ◌-◌, ◌<◌, ◌≤◌, Bool, true, false, List, [], ◌∷◌, length, drop, Option, Some, None, not, refl, sym, ap, arith}
 use Rattle.std.specs.Prelude.{◌==◌, ◌&&◌, ◌||◌, filter, is_none, slice_get}
+use Rattle.std.specs.List.{list_any}
 use Rattle.std.specs.Option.{option_map, option_map_or}
+use Rattle.std.proofs.lemmas.Bool.Decides.{nat_tests}
+use Rattle.np_text.specs.declared.id.JobId.{JobId}
 use Rattle.np_text.specs.declared.id.PoolId.{PoolId}
 use Rattle.np_record.specs.declared.record.RequestRecord.{RequestRecord}
 use Rattle.np_site.specs.Configuration.{Configuration}
+use Rattle.np_lists.proofs.EditLemmas.{list_any-there}
 use Rattle.np_groups.specs.declared.groups.Member.{Member}
 use Rattle.np_groups.specs.Groups.{same_group}
 use Rattle.np_groups.proofs.Ids.{ids-has, ids-rise}
@@ -15,37 +19,89 @@ use Rattle.np_machine.specs.Order.{is_declined_by, is_pinned_away}
 use Rattle.np_machine.specs.State.{State}
 use Rattle.np_machine.specs.Tables.{holder, request_entry, request_in}
 use Rattle.np_open.specs.declared.ranks.Rank.{Rank}
-use Rattle.np_open.specs.Open.{AreOpen, AreRequested, IsOpenFrom, OpenOf, closed_group, is_closed_rank, is_found_in, is_requested_at, open_group, ranks_of}
+use Rattle.np_open.specs.Lines.{line_of}
+use Rattle.np_open.specs.Open.{AreOpen, AreRequested, IsOpenFrom, IsWaiting, OpenOf, closed_group, is_closed_rank, is_found_in, is_requested_at, open_group, ranks_of}
 use Rattle.np_open.specs.Ranks.{is_rank_before, same_rank}
+use Rattle.np_open.proofs.RunLemmas.{same_rank-itself}
 
 -- ## the ranks
 
-found-requested : (pools : ℕ) (x : Rank) (found : Option RequestRecord) → is_found_in pools open_group x found ≡ is_requested_at x found
-found-requested pools x None = refl
-found-requested pools x (Some k) = by (k.relative_priority == x.relative) (is_requested k.state) where
-  by : (a b : Bool) → (a && (b && true)) ≡ (b && a)
-  by true true = refl
-  by true false = refl
-  by false true = refl
-  by false false = refl
+found-requested : (c : Configuration) (lines : List JobId) (line : ℕ) (x : Rank) (found : Option RequestRecord)
+    → is_found_in (length c.pools) (line_of c lines) (open_group line) x found ≡ is_requested_at c lines line x found
+found-requested c lines line x None = refl
+found-requested c lines line x (Some k) = by (k.relative_priority == x.relative) (is_requested k.state) (line_of c lines k == line) where
+  by : (a b e : Bool) → (a && (b && (e || false))) ≡ (b && a && e)
+  by true true true = refl
+  by true true false = refl
+  by true false e = refl
+  by false true e = refl
+  by false false e = refl
 
--- they are those of the requested requests
-pub ranks-are : (c : Configuration) (s : State) (kept : OpenOf) → AreOpen c s kept → AreRequested s (ranks_of kept.members)
-ranks-are c s kept are = record {
-  rises = ids-rise open_group is_rank_before kept.members are.rises;
-  each = λ x.
-      ids-has same_rank open_group x kept.members
-      ∙ are.each open_group x
-      ∙ found-requested (length c.pools) x (request_in x.request s.requests);
-  once = are.once;
-}
+module _ (c : Configuration) (s : State) (kept : OpenOf) (are : AreOpen c s kept) (line : ℕ) where
+  -- they are those of the line's requested requests
+  pub ranks-are : AreRequested c s kept.lines line (ranks_of line kept.members)
+  ranks-are = record {
+    rises = ids-rise (open_group line) is_rank_before kept.members are.rises;
+    each = λ x.
+        ids-has same_rank (open_group line) x kept.members
+        ∙ are.each (open_group line) x
+        ∙ found-requested c kept.lines line x (request_in x.request s.requests);
+    once = are.once;
+  }
+
+  -- a requested request waits in its line
+  pub waits-there : (x : Rank) (k : RequestRecord) → IsWaiting c s kept.lines line x k → list_any (λ other. same_rank other x) (ranks_of line kept.members) ≡ true
+  waits-there x k waits =
+      ranks-are.each x
+      ∙ ap (is_requested_at c kept.lines line x) waits.there
+      ∙ rw (waits.requested) (both (k.relative_priority == x.relative) (line_of c kept.lines k == line) (same k.relative_priority x.relative waits.relative) (same (line_of c kept.lines k) line waits.of_line))
+    where
+      same : (a b : ℕ) → a ≡ b → (a == b) ≡ true
+      same a b is = grind (arith, nat_tests)
+
+      both : (a b : Bool) → a ≡ true → b ≡ true → (true && a && b) ≡ true
+      both a b first second = rw (first, second) refl
+
+  -- and each rank of the line is that of such a request
+  pub rank-waits : (at : ℕ) (x : Rank) → slice_get (ranks_of line kept.members) at ≡ Some x → (k : RequestRecord) × IsWaiting c s kept.lines line x k
+  rank-waits at x is = by (request_in x.request s.requests) refl (sym (ranks-are.each x) ∙ list_any-there (λ other. same_rank other x) (ranks_of line kept.members) at x is (same_rank-itself x)) where
+    equal : (a b : ℕ) → (a == b) ≡ true → a ≡ b
+    equal a b same = grind (arith, nat_tests)
+
+    first : (a b e : Bool) → (a && b && e) ≡ true → a ≡ true
+    first true b e all = refl
+    first false b e all = absurd cc
+
+    second : (a b e : Bool) → (a && b && e) ≡ true → b ≡ true
+    second true true e all = refl
+    second true false e all = absurd cc
+    second false b e all = absurd cc
+
+    third : (a b e : Bool) → (a && b && e) ≡ true → e ≡ true
+    third true true true all = refl
+    third true true false all = absurd cc
+    third true false e all = absurd cc
+    third false b e all = absurd cc
+
+    by : (o : Option RequestRecord) → request_in x.request s.requests ≡ o → is_requested_at c kept.lines line x o ≡ true → (k : RequestRecord) × IsWaiting c s kept.lines line x k
+    by None none all = absurd cc
+    by (Some k) there all = (
+      k,
+      record {
+        there = there;
+        requested = first (is_requested k.state) (k.relative_priority == x.relative) (line_of c kept.lines k == line) all;
+        relative = equal k.relative_priority x.relative (second (is_requested k.state) (k.relative_priority == x.relative) (line_of c kept.lines k == line) all);
+        of_line = equal (line_of c kept.lines k) line (third (is_requested k.state) (k.relative_priority == x.relative) (line_of c kept.lines k == line) all);
+      },
+    )
 
 -- ## closed ranks
 
-found-closed : (pools : ℕ) (p : PoolId) (x : Rank) (o : Option RequestEntry) → is_found_in pools (closed_group p) x (option_map (λ e. e.kept) o) ≡ true → option_map_or (is_open_to p) o false ≡ false
-found-closed pools p x None is = refl
-found-closed pools p x (Some e) is =
-    by (e.kept.relative_priority == x.relative) (is_requested e.kept.state) (same_group (closed_group p) (closed_group p)) _
+found-closed : (pools : ℕ) (of : RequestRecord → ℕ) (line : ℕ) (p : PoolId) (x : Rank) (o : Option RequestEntry)
+    → is_found_in pools of (closed_group line p) x (option_map (λ e. e.kept) o) ≡ true → option_map_or (is_open_to p) o false ≡ false
+found-closed pools of line p x None is = refl
+found-closed pools of line p x (Some e) is =
+    by (e.kept.relative_priority == x.relative) (is_requested e.kept.state) (same_group (closed_group (of e.kept) p) (closed_group line p)) _
     (is_declined_by p e.kept.declined) (is_pinned_away p e.kept) (is_none (holder e.queue)) is where
       by : (a b g w d q h : Bool) → (a && (b && (g && (w && (d || q))))) ≡ true → (b && h && not d && not q) ≡ false
       by true true true true true q true is = refl
@@ -58,9 +114,10 @@ found-closed pools p x (Some e) is =
       by false b g w d q h is = absurd cc
 
 -- the request of a closed rank is not open to the pool
-pub closed-shut : (c : Configuration) (s : State) (kept : OpenOf) → AreOpen c s kept → (p : PoolId) (x : Rank) → is_closed_rank p x kept.members ≡ true
+pub closed-shut : (c : Configuration) (s : State) (kept : OpenOf) → AreOpen c s kept → (line : ℕ) (p : PoolId) (x : Rank) → is_closed_rank line p x kept.members ≡ true
     → option_map_or (is_open_to p) (request_entry x.request s.requests) false ≡ false
-closed-shut c s kept are p x is = found-closed (length c.pools) p x (request_entry x.request s.requests) (sym (are.each (closed_group p) x) ∙ is)
+closed-shut c s kept are line p x is =
+    found-closed (length c.pools) (line_of c kept.lines) line p x (request_entry x.request s.requests) (sym (are.each (closed_group line p) x) ∙ is)
 
 -- ## a search
 
@@ -91,10 +148,10 @@ module _ {X : Type 0} (q : X → Bool) where
       ∙ ap (λ (n : ℕ). filter q (drop n xs)) (sym one)
 
 -- what passes from a place on passes from where the search ends on, if no closed rank passes
-pub filter-open_from : (q : Rank → Bool) (p : PoolId) (members : List (Member Rank)) → ((x : Rank) → is_closed_rank p x members ≡ true → q x ≡ false)
-    → (place found : ℕ) → IsOpenFrom members p place found → filter q (drop place (ranks_of members)) ≡ filter q (drop found (ranks_of members))
-filter-open_from q p members shut place found is =
+pub filter-open_from : (q : Rank → Bool) (line : ℕ) (p : PoolId) (members : List (Member Rank)) → ((x : Rank) → is_closed_rank line p x members ≡ true → q x ≡ false)
+    → (place found : ℕ) → IsOpenFrom members line p place found → filter q (drop place (ranks_of line members)) ≡ filter q (drop found (ranks_of line members))
+filter-open_from q line p members shut place found is =
     let from : place ≤ found = is.from in
     let whole : place + (found - place) ≡ found = omega arith in
-    filter-run q (ranks_of members) place (found - place) (λ k x low high there. shut x (is.closed_before k x low (omega arith) there))
-    ∙ ap (λ (n : ℕ). filter q (drop n (ranks_of members))) whole
+    filter-run q (ranks_of line members) place (found - place) (λ k x low high there. shut x (is.closed_before k x low (omega arith) there))
+    ∙ ap (λ (n : ℕ). filter q (drop n (ranks_of line members))) whole

@@ -18,7 +18,8 @@ use Rattle.np_machine.specs.Kinds.{is_requested}
 use Rattle.np_machine.specs.State.{State}
 use Rattle.np_machine.specs.Tables.{request_in}
 use Rattle.np_open.specs.declared.ranks.Rank.{Rank}
-use Rattle.np_open.specs.Open.{AreOpen, IsOpenFrom, OpenOf, closed_group, is_closed_group, is_closed_rank, is_found_in, open_group, ranks_of}
+use Rattle.np_open.specs.Lines.{line_of}
+use Rattle.np_open.specs.Open.{AreOpen, IsOpenFrom, OpenOf, closed_group, is_closed_rank, is_found_in, open_group, ranks_of}
 use Rattle.np_open.specs.Ranks.{is_rank_before, rank_equal, rank_one_way, same_rank}
 use Rattle.np_open.specs.Runs.{IsRunEnd, count_before, is_run}
 
@@ -129,7 +130,7 @@ module _ {X : Type 0} (p : X → Bool) where
 
 -- ## the closed ranks are a part of all
 
-same_rank-itself : (a : Rank) → same_rank a a ≡ true
+pub same_rank-itself : (a : Rank) → same_rank a a ≡ true
 same_rank-itself a = grind (arith, nat_tests)
 
 -- the rank is among those that pass if it passes and is there
@@ -148,43 +149,46 @@ has-passes q x (k ∷ ks) = by (same_rank k x) (q k) (q x) refl refl refl (has-p
   by false true d is passes that later = rw is later
   by false false d is passes that later = later
 
--- a record that is in the group of a pool is in the open group
-found-open : (pools : ℕ) (p : PoolId) (x : Rank) (found : Option RequestRecord) → is_found_in pools (closed_group p) x found ≡ true → is_found_in pools open_group x found ≡ true
-found-open pools p x None is = is
-found-open pools p x (Some k) is = by (k.relative_priority == x.relative) (is_requested k.state) (is_closed_group pools (closed_group p) k) is where
-  by : (a b d : Bool) → (a && (b && d)) ≡ true → (a && (b && true)) ≡ true
-  by true true d is = refl
-  by true false d is = is
-  by false b d is = is
+-- a record that is in the group of a pool is in the line's open group
+found-open : (pools : ℕ) (of : RequestRecord → ℕ) (line : ℕ) (p : PoolId) (x : Rank) (found : Option RequestRecord)
+    → is_found_in pools of (closed_group line p) x found ≡ true → is_found_in pools of (open_group line) x found ≡ true
+found-open pools of line p x None is = is
+found-open pools of line p x (Some k) is = by (k.relative_priority == x.relative) (is_requested k.state) (of k == line) (p.0 == p.0) _ is where
+  by : (a b e i d : Bool) → (a && (b && ((i && e) && d))) ≡ true → (a && (b && (e || false))) ≡ true
+  by true true true i d is = refl
+  by true true false true d is = absurd cc
+  by true true false false d is = absurd cc
+  by true false e i d is = is
+  by false b e i d is = is
 
-module _ (c : Configuration) (s : State) (kept : OpenOf) (are : AreOpen c s kept) (p : PoolId) where
+module _ (c : Configuration) (s : State) (kept : OpenOf) (are : AreOpen c s kept) (line : ℕ) (p : PoolId) where
   abbrev closed : Rank → Bool
-  closed x = is_closed_rank p x kept.members
+  closed x = is_closed_rank line p x kept.members
 
-  both : (x : Rank) → (closed x && has_member same_rank open_group x kept.members) ≡ closed x
+  both : (x : Rank) → (closed x && has_member same_rank (open_group line) x kept.members) ≡ closed x
   both x = by (closed x) refl where
-    by : (b : Bool) → closed x ≡ b → (b && has_member same_rank open_group x kept.members) ≡ b
-    by true is = are.each open_group x ∙ found-open (length c.pools) p x (request_in x.request s.requests) (sym (are.each (closed_group p) x) ∙ is)
+    by : (b : Bool) → closed x ≡ b → (b && has_member same_rank (open_group line) x kept.members) ≡ b
+    by true is = are.each (open_group line) x ∙ found-open (length c.pools) (line_of c kept.lines) line p x (request_in x.request s.requests) (sym (are.each (closed_group line p) x) ∙ is)
     by false out = refl
 
-  pub closed-part : ids_in (closed_group p) kept.members ≡ filter closed (ranks_of kept.members)
+  pub closed-part : ids_in (closed_group line p) kept.members ≡ filter closed (ranks_of line kept.members)
   closed-part =
       same-list is_rank_before same_rank rank_one_way rank_equal same_rank-itself
-      (ids_in (closed_group p) kept.members) (filter closed (ranks_of kept.members))
-      (ids-rise (closed_group p) is_rank_before kept.members are.rises)
-      (Rises-filter is_rank_before closed (ranks_of kept.members) (ids-rise open_group is_rank_before kept.members are.rises))
-      (λ x. ids-has same_rank (closed_group p) x kept.members
-      ∙ sym (has-passes closed x (ranks_of kept.members) ∙ ap (λ (b : Bool). closed x && b) (ids-has same_rank open_group x kept.members) ∙ both x))
+      (ids_in (closed_group line p) kept.members) (filter closed (ranks_of line kept.members))
+      (ids-rise (closed_group line p) is_rank_before kept.members are.rises)
+      (Rises-filter is_rank_before closed (ranks_of line kept.members) (ids-rise (open_group line) is_rank_before kept.members are.rises))
+      (λ x. ids-has same_rank (closed_group line p) x kept.members
+      ∙ sym (has-passes closed x (ranks_of line kept.members) ∙ ap (λ (b : Bool). closed x && b) (ids-has same_rank (open_group line) x kept.members) ∙ both x))
 
   -- so the count before a place is that of the closed ranks up to it
-  count-is : (at : ℕ) → count_before (closed_group p) kept.members at ≡ counted closed (ranks_of kept.members) at
-  count-is at = by (slice_get (ranks_of kept.members) at) refl where
-    by : (o : Option Rank) → slice_get (ranks_of kept.members) at ≡ o
-        → option_map_or (λ rank. prefix_len (λ k. is_rank_before k rank) (ids_in (closed_group p) kept.members)) o (length (ids_in (closed_group p) kept.members)) ≡ counted closed (ranks_of kept.members) at
-    by None none = ap length closed-part ∙ counted-past closed (ranks_of kept.members) at none
+  count-is : (at : ℕ) → count_before line (closed_group line p) kept.members at ≡ counted closed (ranks_of line kept.members) at
+  count-is at = by (slice_get (ranks_of line kept.members) at) refl where
+    by : (o : Option Rank) → slice_get (ranks_of line kept.members) at ≡ o
+        → option_map_or (λ rank. prefix_len (λ k. is_rank_before k rank) (ids_in (closed_group line p) kept.members)) o (length (ids_in (closed_group line p) kept.members)) ≡ counted closed (ranks_of line kept.members) at
+    by None none = ap length closed-part ∙ counted-past closed (ranks_of line kept.members) at none
     by (Some rank) there =
         ap (prefix_len (λ k. is_rank_before k rank)) closed-part
-        ∙ counted-before closed is_rank_before rank_one_way (ranks_of kept.members) (ids-rise open_group is_rank_before kept.members are.rises) at rank there
+        ∙ counted-before closed is_rank_before rank_one_way (ranks_of line kept.members) (ids-rise (open_group line) is_rank_before kept.members are.rises) at rank there
 
   test-true : (a b : ℕ) → (a == b) ≡ true → a ≡ b
   test-true a b is = grind (arith, nat_tests)
@@ -192,67 +196,67 @@ module _ (c : Configuration) (s : State) (kept : OpenOf) (are : AreOpen c s kept
   test-false : (a b : ℕ) → (a == b) ≡ false → a ≡ b → ⊥
   test-false a b is same = grind (arith, nat_tests)
 
-  run-closed : (place after : ℕ) → place < after → after ≤ length (ranks_of kept.members) → is_run (closed_group p) kept.members place after ≡ true
-      → (at : ℕ) (rank : Rank) → place ≤ at → at < after → slice_get (ranks_of kept.members) at ≡ Some rank → closed rank ≡ true
+  run-closed : (place after : ℕ) → place < after → after ≤ length (ranks_of line kept.members) → is_run line (closed_group line p) kept.members place after ≡ true
+      → (at : ℕ) (rank : Rank) → place ≤ at → at < after → slice_get (ranks_of line kept.members) at ≡ Some rank → closed rank ≡ true
   run-closed place after some within run at rank low high there =
       let whole : place + (after - place) ≡ after = omega arith in
       let counts = test-true _ _ run in
-      run-all closed (ranks_of kept.members) place (after - place) (omega arith)
-      (ap (counted closed (ranks_of kept.members)) whole ∙ sym (count-is after) ∙ counts ∙ ap (λ (n : ℕ). n + (after - place)) (count-is place))
+      run-all closed (ranks_of line kept.members) place (after - place) (omega arith)
+      (ap (counted closed (ranks_of line kept.members)) whole ∙ sym (count-is after) ∙ counts ∙ ap (λ (n : ℕ). n + (after - place)) (count-is place))
       at rank low (omega arith) there
 
-  closed-run : (place after : ℕ) → place < after → after ≤ length (ranks_of kept.members)
-      → ((at : ℕ) (rank : Rank) → place ≤ at → at < after → slice_get (ranks_of kept.members) at ≡ Some rank → closed rank ≡ true)
-      → is_run (closed_group p) kept.members place after ≡ false → ⊥
+  closed-run : (place after : ℕ) → place < after → after ≤ length (ranks_of line kept.members)
+      → ((at : ℕ) (rank : Rank) → place ≤ at → at < after → slice_get (ranks_of line kept.members) at ≡ Some rank → closed rank ≡ true)
+      → is_run line (closed_group line p) kept.members place after ≡ false → ⊥
   closed-run place after some within all out =
       let whole : place + (after - place) ≡ after = omega arith in
       test-false _ _ out
       (count-is after
-      ∙ ap (counted closed (ranks_of kept.members)) (sym whole)
-      ∙ all-run closed (ranks_of kept.members) place (after - place) (omega arith) (λ k x low high there. all k x low (omega arith) there)
+      ∙ ap (counted closed (ranks_of line kept.members)) (sym whole)
+      ∙ all-run closed (ranks_of line kept.members) place (after - place) (omega arith) (λ k x low high there. all k x low (omega arith) there)
       ∙ ap (λ (n : ℕ). n + (after - place)) (sym (count-is place)))
 
-  module _ (place : ℕ) (rank : Rank) (there : slice_get (ranks_of kept.members) place ≡ Some rank) where
-    same-there : (o : Rank) (at : ℕ) → at ≡ place → slice_get (ranks_of kept.members) at ≡ Some o → rank ≡ o
-    same-there o at is here = let also : Some rank ≡ Some o = sym there ∙ ap (slice_get (ranks_of kept.members)) (sym is) ∙ here in cc
+  module _ (place : ℕ) (rank : Rank) (there : slice_get (ranks_of line kept.members) place ≡ Some rank) where
+    same-there : (o : Rank) (at : ℕ) → at ≡ place → slice_get (ranks_of line kept.members) at ≡ Some o → rank ≡ o
+    same-there o at is here = let also : Some rank ≡ Some o = sym there ∙ ap (slice_get (ranks_of line kept.members)) (sym is) ∙ here in cc
 
-    module _ (is_closed : closed rank ≡ true) (after : ℕ) (ends : IsRunEnd (closed_group p) kept.members place after) where
-      up-to : (at : ℕ) (x : Rank) → place ≤ at → at < after → slice_get (ranks_of kept.members) at ≡ Some x → closed x ≡ true
+    module _ (is_closed : closed rank ≡ true) (after : ℕ) (ends : IsRunEnd line (closed_group line p) kept.members place after) where
+      up-to : (at : ℕ) (x : Rank) → place ≤ at → at < after → slice_get (ranks_of line kept.members) at ≡ Some x → closed x ≡ true
       up-to at x low high here = by ends.run where
-        by : (after ≡ place + 1) ⊎ (is_run (closed_group p) kept.members place after ≡ true) → closed x ≡ true
+        by : (after ≡ place + 1) ⊎ (is_run line (closed_group line p) kept.members place after ≡ true) → closed x ≡ true
         by (inl one) = let first : at ≡ place = omega arith in subst (λ (y : Rank). closed y ≡ true) (same-there x at first here) is_closed
         by (inr run) = run-closed place after ends.some ends.within run at x low high here
 
-      not-there : (x : Rank) → slice_get (ranks_of kept.members) after ≡ Some x → closed x ≡ false
+      not-there : (x : Rank) → slice_get (ranks_of line kept.members) after ≡ Some x → closed x ≡ false
       not-there x here = by (closed x) refl ends.longest where
-        within : after < length (ranks_of kept.members)
-        within = slice_get_within (ranks_of kept.members) after x here
+        within : after < length (ranks_of line kept.members)
+        within = slice_get_within (ranks_of line kept.members) after x here
 
-        more : closed x ≡ true → (at : ℕ) (y : Rank) → place ≤ at → at < after + 1 → slice_get (ranks_of kept.members) at ≡ Some y → closed y ≡ true
+        more : closed x ≡ true → (at : ℕ) (y : Rank) → place ≤ at → at < after + 1 → slice_get (ranks_of line kept.members) at ≡ Some y → closed y ≡ true
         more is at y low high at_y = at_end (at == after) refl where
           at_end : (b : Bool) → (at == after) ≡ b → closed y ≡ true
           at_end true same =
               let last : at ≡ after = test-true at after same in
-              let alike : Some x ≡ Some y = sym here ∙ ap (slice_get (ranks_of kept.members)) (sym last) ∙ at_y in
+              let alike : Some x ≡ Some y = sym here ∙ ap (slice_get (ranks_of line kept.members)) (sym last) ∙ at_y in
               let it : x ≡ y = cc in
               subst (λ (k : Rank). closed k ≡ true) it is
           at_end false other =
               let less : at < after = grind (arith, nat_tests) in
               up-to at y low less at_y
 
-        by : (b : Bool) → closed x ≡ b → (after ≡ length (ranks_of kept.members)) ⊎ (is_run (closed_group p) kept.members place (after + 1) ≡ false) → b ≡ false
+        by : (b : Bool) → closed x ≡ b → (after ≡ length (ranks_of line kept.members)) ⊎ (is_run line (closed_group line p) kept.members place (after + 1) ≡ false) → b ≡ false
         by true is (inl last) = absurd (omega (arith, within, last))
         by true is (inr out) = absurd (let some : place < after + 1 = omega (arith, ends.some) in closed-run place (after + 1) some (omega (arith, within)) (more is) out)
         by false is longest = refl
 
-      pub open-after : IsOpenFrom kept.members p place after
+      pub open-after : IsOpenFrom kept.members line p place after
       open-after =
           let some : place < after = ends.some in
-          let within : after ≤ length (ranks_of kept.members) = ends.within in
+          let within : after ≤ length (ranks_of line kept.members) = ends.within in
           record { from = omega arith; within = omega arith; closed_before = up-to; open_there = not-there }
 
     -- an open rank ends the search at once
-    pub open-here : closed rank ≡ false → IsOpenFrom kept.members p place place
+    pub open-here : closed rank ≡ false → IsOpenFrom kept.members line p place place
     open-here out = record {
       from = omega arith;
       within = omega arith;
@@ -261,7 +265,7 @@ module _ (c : Configuration) (s : State) (kept : OpenOf) (are : AreOpen c s kept
     }
 
   -- and so does the end
-  pub open-none : (place : ℕ) → slice_get (ranks_of kept.members) place ≡ None → IsOpenFrom kept.members p place place
+  pub open-none : (place : ℕ) → slice_get (ranks_of line kept.members) place ≡ None → IsOpenFrom kept.members line p place place
   open-none place none = record {
     from = omega arith;
     within = omega arith;

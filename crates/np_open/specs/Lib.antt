@@ -1,4 +1,5 @@
 pub mod Ranks
+pub mod Lines
 pub mod Open
 pub mod Prepared
 pub mod Moves

@@ -27,6 +27,6 @@ pub record IsPrepared (s : State) (ch : Changes) (moved : List Past) : Type 0 wh
   pub touched : (r : RequestId) → touches_request ch s r ≡ true → is_listed r moved ≡ true
   pub kept : AllByRecursion (λ past. past.kept ≡ request_in past.request s.requests) moved
 
--- there is room for each of them in the open group and in that of each pool
+-- there is room for each of them in a group of open requests and in one of each pool
 abbrev pub HasRoom : Configuration → List Past → OpenOf → Type 0
 HasRoom c moved kept = length moved * (length c.pools + 1) ≤ kept.room

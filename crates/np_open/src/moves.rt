@@ -4,15 +4,18 @@
 ghost use Rattle.std.specs.Prelude.{◌≡◌, ◌<◌, ◌≤◌, ◌+◌, ◌*◌, Bool, length};
 ghost use Rattle.np_groups.specs.declared.groups.Group.{Group};
 ghost use Rattle.np_open.specs.declared.ranks.Rank.{Rank};
-ghost use Rattle.np_open.specs.Moves.{AreAsKept, AreBy, IsEither, passes_moved, passes_with, same_ranks, with_moved, with_rank, without_rank};
+ghost use Rattle.np_open.specs.Lines.{line_of};
+ghost use Rattle.np_open.specs.Moves.{AreAsKept, AreBy, IsEither, passes_moved, passes_with, same_members, with_moved, with_one, without_one};
 
-use crate::group::{closed_group, closed_rank, open_group, open_rank, pools_of};
+use crate::group::{closed_member, open_member, pools_of};
+use crate::lines::line_of;
 use crate::ranks::{ByRank, Rank};
-use np_groups::{Group, Groups};
+use np_config::Config;
+use np_groups::{Groups, Member};
 use np_look::Look;
 use np_record::RequestRecord;
 use np_table::Order;
-use np_text::{PoolId, RequestId};
+use np_text::{JobId, PoolId, RequestId};
 
 /// A request and its record before a change, if it was there.
 #[derive(Clone, Copy)]
@@ -21,94 +24,104 @@ pub(crate) struct Past {
     pub(crate) kept: Option<RequestRecord>,
 }
 
-/// Takes the rank out of the group, if there is one.
-fn take_one(groups: &mut Groups<ByRank>, group: Group, rank: Option<Rank>)
-    ensures members { groups.new.members ≡ without_rank group rank groups.old.members }
+/// Takes the member out, if there is one.
+fn take_one(groups: &mut Groups<ByRank>, one: Option<Member<Rank>>)
+    ensures members { groups.new.members ≡ without_one one groups.old.members }
     ensures room { groups.old.room ≤ groups.new.room }
 {
-    if let Some(rank) = rank {
-        groups.remove(group, rank);
+    if let Some(member) = one {
+        groups.remove(member.group, member.id);
     }
 }
 
-/// Puts the rank in the group, if there is one.
-fn put_one(groups: &mut Groups<ByRank>, group: Group, rank: Option<Rank>)
+/// Puts the member in its group, if there is one.
+fn put_one(groups: &mut Groups<ByRank>, one: Option<Member<Rank>>)
     requires { 0 < groups.old.room }
-    ensures members { groups.new.members ≡ with_rank group rank groups.old.members }
+    ensures members { groups.new.members ≡ with_one one groups.old.members }
     ensures room { groups.old.room ≤ groups.new.room + 1 }
 {
-    if let Some(rank) = rank {
-        groups.put(group, rank);
+    if let Some(member) = one {
+        groups.put(member.group, member.id);
     }
 }
 
-fn are_same(one: Option<Rank>, other: Option<Rank>) -> bool
-    ensures { result ≡ same_ranks one other }
+fn are_same(one: Option<Member<Rank>>, other: Option<Member<Rank>>) -> bool
+    ensures { result ≡ same_members one other }
 {
     match (one, other) {
         (None, None) => true,
-        (Some(one), Some(other)) => ByRank::is_same(one, other),
+        (Some(one), Some(other)) => one.group == other.group && ByRank::is_same(one.id, other.id),
         _ => false,
     }
 }
 
-/// Takes the one rank out of the group and puts the other in it, unless they are the same.
-fn move_one(groups: &mut Groups<ByRank>, group: Group, was: Option<Rank>, now: Option<Rank>)
+/// Takes the one member out and puts the other in, unless they are the same.
+fn move_one(groups: &mut Groups<ByRank>, was: Option<Member<Rank>>, now: Option<Member<Rank>>)
     requires { 0 < groups.old.room }
-    ensures members { groups.new.members ≡ with_moved group was now groups.old.members }
+    ensures members { groups.new.members ≡ with_moved was now groups.old.members }
     ensures room { groups.old.room ≤ groups.new.room + 1 }
 {
     if are_same(was, now) {
         return;
     }
-    take_one(groups, group, was);
-    put_one(groups, group, now);
+    take_one(groups, was);
+    put_one(groups, now);
 }
 
 /// Moves a request from the groups that it is in by the one record to those that it is in by the
-/// other. For each pool it reads the declines of both.
+/// other. It finds the line of both, and for each pool it reads the declines of both.
 pub(crate) fn move_request(
     groups: &mut Groups<ByRank>,
+    config: &Config,
+    lines: &[JobId],
     pools: u16,
     request: RequestId,
     was: &Option<RequestRecord>,
     now: &Option<RequestRecord>,
 )
     requires { pools + 1 ≤ groups.old.room }
-    ensures members { (passes : Group → Rank → Bool) → IsEither pools request was.now now.now passes
+    ensures members { (passes : Group → Rank → Bool)
+        → IsEither pools (line_of config.now lines.now) request was.now now.now passes
         → AreBy passes groups.old.members
-        → AreBy (passes_with pools request now.now passes) groups.new.members }
+        → AreBy (passes_with pools (line_of config.now lines.now) request now.now passes)
+        groups.new.members }
     ensures room { groups.old.room ≤ groups.new.room + (pools + 1) }
 {
+    let left = line_of(config, lines, was);
+    let joined = line_of(config, lines, now);
     move_one(
         groups,
-        open_group(),
-        open_rank(request, was),
-        open_rank(request, now),
+        open_member(left, request, was),
+        open_member(joined, request, now),
     );
     for number in 0..pools {
         let pool = PoolId(number);
         move_one(
             groups,
-            closed_group(pool),
-            closed_rank(pool, request, was),
-            closed_rank(pool, request, now),
+            closed_member(left, pool, request, was),
+            closed_member(joined, pool, request, now),
         );
     }
 }
 
 /// Moves each of these requests to where the state has it.
-pub(crate) fn move_all<L: Look>(groups: &mut Groups<ByRank>, look: &L, moved: &[Past])
+pub(crate) fn move_all<L: Look>(
+    groups: &mut Groups<ByRank>,
+    look: &L,
+    lines: &[JobId],
+    moved: &[Past],
+)
     requires { length moved.now * (length (L.site look.now).pools + 1) ≤ groups.old.room }
     ensures { (passes : Group → Rank → Bool)
-        → AreAsKept (length (L.site look.now).pools) moved.now passes
+        → AreAsKept (L.site look.now) lines.now moved.now passes
         → AreBy passes groups.old.members
-        → AreBy (passes_moved (L.site look.now) (L.state look.now) moved.now passes)
+        → AreBy (passes_moved (L.site look.now) (L.state look.now) lines.now moved.now passes)
         groups.new.members }
 {
-    let pools = pools_of(look.config());
+    let config = look.config();
+    let pools = pools_of(config);
     for past in moved {
         let now = look.request(past.request);
-        move_request(groups, pools, past.request, &past.kept, &now);
+        move_request(groups, config, lines, pools, past.request, &past.kept, &now);
     }
 }

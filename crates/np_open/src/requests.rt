@@ -1,6 +1,8 @@
-//! The requested requests and those that are closed to each pool, kept as events change them.
+//! The requested requests in lines and those that are closed to each pool, kept as events change
+//! them.
 
-ghost use Rattle.std.specs.Prelude.{◌≡◌, Bool, IfOk, None, OnOk, Some, length, map, slice_get};
+ghost use Rattle.std.specs.Prelude.{◌≡◌, Bool, IfOk, None, OnOk, Some, length, map, not, slice_get};
+ghost use Rattle.std.specs.List.{count_by};
 ghost use Rattle.np_site.specs.Configuration.{Configuration};
 ghost use Rattle.np_machine.specs.State.{State};
 ghost use Rattle.np_changes.specs.Changes.{changed};
@@ -8,25 +10,32 @@ ghost use Rattle.np_changes.specs.declared.changes.Changes.{Changes};
 ghost use Rattle.np_changes.specs.Planned.{IsReached};
 ghost use Rattle.np_groups.specs.declared.groups.Group.{Group};
 ghost use Rattle.np_open.specs.declared.ranks.Rank.{Rank};
-ghost use Rattle.np_open.specs.Open.{AreOpen, IsOpenFrom, rank_is_in, ranks_of};
+ghost use Rattle.np_open.specs.Lines.{line_of};
+ghost use Rattle.np_open.specs.Open.{AreOpen, IsOpenFrom, first_line, line_after, rank_is_in, ranks_of};
 ghost use Rattle.np_open.specs.Prepared.{AreListed, HasRoom, IsPrepared, past_of};
 ghost use Rattle.np_open.specs.Moves.{AreBy, IsEither, passes_with};
+ghost use Rattle.np_open.specs.Ranks.{is_rank_before};
 
-use crate::group::{closed_group, open_group, pools_of};
+use crate::group::{closed_group, line_if, open_group, pools_of};
+use crate::lines::lines_of;
 use crate::moves::{Past, move_all, move_request};
 use crate::ranks::{ByRank, Rank};
 use crate::runs::run_end;
+use np_config::Config;
 use np_groups::Groups;
 use np_look::{Look, RequestView};
-use np_text::{PoolId, RequestId};
+use np_text::{JobId, PoolId, RequestId};
 use std::alloc::{AllocError, Global};
 use std::marker::Model;
 
-/// The requests that are requested, in the order in which launchers take them up, and for each pool
-/// those of them that are closed to it: it declined them, or they are pinned to another.
+/// The requests that are requested, in lines of those that are alike, each line in the order in
+/// which launchers take them up, and for each pool those of a line that are closed to it: it
+/// declined them, or they are pinned to another.
 #[derive(Drop)]
 pub struct Open {
     groups: Groups<ByRank>,
+    /// For each job one that has its tenant and its labels.
+    lines: Vec<JobId>,
 }
 
 impl Model for Open {
@@ -34,7 +43,11 @@ impl Model for Open {
 
     ghost Value = { OpenOf };
 
-    ghost view = { λ kept. record { members = kept.groups.members; room = kept.groups.room } };
+    ghost view = { λ kept. record {
+      members = kept.groups.members;
+      room = kept.groups.room;
+      lines = kept.lines.items;
+    } };
 }
 
 /// The requests that an event's changes touch, with their records before it.
@@ -55,30 +68,47 @@ impl Model for Moved {
 /// Puts the request in its groups, and takes the memory.
 fn add_request(
     groups: &mut Groups<ByRank>,
+    config: &Config,
+    lines: &[JobId],
     pools: u16,
     view: &RequestView,
 ) -> Result<(), AllocError>
     ensures { OnOk result ((passes : Group → Rank → Bool)
-        → IsEither pools view.now.id None (Some view.now.kept) passes
+        → IsEither pools (line_of config.now lines.now) view.now.id None
+        (Some view.now.kept) passes
         → AreBy passes groups.old.members
-        → AreBy (passes_with pools view.now.id (Some view.now.kept) passes) groups.new.members) }
+        → AreBy (passes_with pools (line_of config.now lines.now) view.now.id
+        (Some view.now.kept) passes) groups.new.members) }
 {
     groups.reserve(pools as usize + 1)?;
-    move_request(groups, pools, view.id, &None, &Some(view.kept));
+    move_request(
+        groups,
+        config,
+        lines,
+        pools,
+        view.id,
+        &None,
+        &Some(view.kept),
+    );
     Ok(())
 }
 
 /// The groups of all requests, by one walk over them.
-fn all_requests<L: Look>(alloc: Global, look: &L) -> Result<Groups<ByRank>, AllocError>
+fn all_requests<L: Look>(
+    alloc: Global,
+    look: &L,
+    lines: &[JobId],
+) -> Result<Groups<ByRank>, AllocError>
     requires { IsReached (L.site look.now) (L.state look.now) }
     ensures { IfOk result (λ groups.
-        AreBy (rank_is_in (L.site look.now) (L.state look.now)) groups.members) }
+        AreBy (rank_is_in (L.site look.now) (L.state look.now) lines.now) groups.members) }
 {
-    let pools = pools_of(look.config());
+    let config = look.config();
+    let pools = pools_of(config);
     let mut groups = Groups::new(alloc);
     for at in 0..look.requests() {
         if let Some(view) = look.request_view(at) {
-            add_request(&mut groups, pools, &view)?;
+            add_request(&mut groups, config, lines, pools, &view)?;
         }
     }
     Ok(groups)
@@ -103,54 +133,85 @@ fn records_of<L: Look>(
 }
 
 impl Open {
-    /// The requests of the state. It reads each request once, and for each pool the declines of one
-    /// that is requested.
+    /// The requests of the state. For each job it finds the first that has the same tenant and
+    /// labels, which costs the number of jobs times that of different lines. Then it reads each
+    /// request once, and for each pool the declines of one that is requested.
     pub fn rebuild<L: Look>(alloc: Global, look: &L) -> Result<Open, AllocError>
         requires { IsReached (L.site look.now) (L.state look.now) }
         ensures { IfOk result (λ x. AreOpen (L.site look.now) (L.state look.now) x) }
     {
-        Ok(Open {
-            groups: all_requests(alloc, look)?,
-        })
+        let lines = lines_of(alloc, look.config())?;
+        let groups = all_requests(alloc, look, lines.as_slice())?;
+        Ok(Open { groups, lines })
     }
 
-    /// How many requests are requested. Two binary searches.
-    pub fn len(&self) -> usize
-        ensures { result ≡ length (ranks_of self.now.members) }
+    /// The first line that has a request, or `None` if none is requested. One binary search.
+    pub fn first_line(&self) -> Option<u64>
+        ensures { result ≡ first_line self.now.members }
     {
-        self.groups.count(open_group())
+        line_if(self.groups.group_from(open_group(0)))
     }
 
-    /// The rank of the request at this place, counted from 0 in the order in which launchers take
-    /// requests up. One binary search.
-    pub fn at(&self, place: usize) -> Option<Rank>
-        ensures { result ≡ slice_get (ranks_of self.now.members) place }
+    /// The first line after this one that has a request. One binary search.
+    pub fn line_after(&self, line: u64) -> Option<u64>
+        ensures { result ≡ line_after line self.now.members }
     {
-        self.groups.at(open_group(), place)
+        line_if(self.groups.group_after(open_group(line)))
     }
 
-    /// The first place from this one on whose request is not closed to the pool, or the number of
-    /// requests (or the place, if that is larger) if there is none. It costs two binary searches if
-    /// the request at the place itself is not closed, and else the square of a logarithm, however
-    /// many closed ones are skipped.
-    pub fn open_from(&self, pool: PoolId, place: usize) -> usize
+    /// How many requests wait in the line. Two binary searches.
+    pub fn len(&self, line: u64) -> usize
+        ensures { result ≡ length (ranks_of line self.now.members) }
+    {
+        self.groups.count(open_group(line))
+    }
+
+    /// The rank of the request at this place of the line, counted from 0 in the order in which
+    /// launchers take requests up. One binary search.
+    pub fn at(&self, line: u64, place: usize) -> Option<Rank>
+        ensures { result ≡ slice_get (ranks_of line self.now.members) place }
+    {
+        self.groups.at(open_group(line), place)
+    }
+
+    /// How many requests of the line do not come after this rank, which need not be in it. A few
+    /// binary searches.
+    pub fn past(&self, line: u64, rank: Rank) -> usize
         ensures { (c : Configuration) (s : State) → AreOpen c s self.now
-            → IsOpenFrom self.now.members pool place result }
+            → result ≡ count_by (λ x. not (is_rank_before rank x))
+            (ranks_of line self.now.members) }
     {
-        let group = closed_group(pool);
-        let Some(rank) = self.at(place) else {
+        let group = open_group(line);
+        let before = self.groups.before(group, rank);
+        if before < self.groups.count(group) && self.groups.has(group, rank) {
+            before + 1
+        } else {
+            before
+        }
+    }
+
+    /// The first place of the line from this one on whose request is not closed to the pool, or the
+    /// number of the line's requests (or the place, if that is larger) if there is none. It costs
+    /// two binary searches if the request at the place itself is not closed, and else the square of
+    /// a logarithm, however many closed ones are skipped.
+    pub fn open_from(&self, pool: PoolId, line: u64, place: usize) -> usize
+        ensures { (c : Configuration) (s : State) → AreOpen c s self.now
+            → IsOpenFrom self.now.members line pool place result }
+    {
+        let group = closed_group(line, pool);
+        let Some(rank) = self.at(line, place) else {
             return place;
         };
         if !self.groups.has(group, rank) {
             return place;
         }
-        run_end(&self.groups, group, place)
+        run_end(&self.groups, line, group, place)
     }
 
     /// Lists the requests that an event's changes touch, with their records, before the state
     /// changes, and takes the memory for `note`. The members stay as they are, so nothing need be
-    /// undone if the change fails. It costs one lookup for each request, and takes memory for each to
-    /// be in the group of every pool.
+    /// undone if the change fails. It costs one lookup for each request, and takes memory for each
+    /// to be in a group of every pool.
     pub fn prepare<L: Look>(
         &mut self,
         alloc: Global,
@@ -158,6 +219,7 @@ impl Open {
         requests: &[RequestId],
     ) -> Result<Moved, AllocError>
         ensures members { self.new.members ≡ self.old.members }
+        ensures lines { self.new.lines ≡ self.old.lines }
         ensures prepared { IfOk result (λ moved. (ch : Changes)
             → AreListed ch (L.state look.now) requests.now
             → IsPrepared (L.state look.now) ch moved) }
@@ -173,9 +235,9 @@ impl Open {
     }
 
     /// Moves what was listed to where it is now, after the state has changed. It takes no memory.
-    /// For each request it costs one lookup, for each pool a reading of the declines before and
-    /// after the change, and a few binary searches for each group that the request leaves or joins:
-    /// where it stays, nothing is searched.
+    /// For each request it costs one lookup, the line before and after the change, for each pool a
+    /// reading of the declines before and after it, and a few binary searches for each group that
+    /// the request leaves or joins: where it stays, nothing is searched.
     pub fn note<L: Look>(&mut self, look: &L, moved: &Moved)
         requires { HasRoom (L.site look.now) moved.now self.old }
         ensures { (c : Configuration) (s : State) (ch : Changes)
@@ -183,6 +245,11 @@ impl Open {
             → L.site look.now ≡ c → L.state look.now ≡ changed c ch s
             → AreOpen c s self.old → AreOpen c (changed c ch s) self.new }
     {
-        move_all(&mut self.groups, look, moved.rows.as_slice());
+        move_all(
+            &mut self.groups,
+            look,
+            self.lines.as_slice(),
+            moved.rows.as_slice(),
+        );
     }
 }

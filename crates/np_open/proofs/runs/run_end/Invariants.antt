@@ -7,9 +7,9 @@ abbrev pub invariant-loop-low : goal.invariant-loop-low
 invariant-loop-low l = record {
   some : l.place < l.low;
   order : l.low ≤ l.high;
-  within : l.high ≤ length (ranks_of l.groups.members);
-  run : (l.low ≡ l.place + 1) ⊎ (is_run l.group l.groups.members l.place l.low ≡ true);
-  longest : (l.high ≡ length (ranks_of l.groups.members)) ⊎ (is_run l.group l.groups.members l.place (l.high + 1) ≡ false);
+  within : l.high ≤ length (ranks_of l.line l.groups.members);
+  run : (l.low ≡ l.place + 1) ⊎ (is_run l.line l.group l.groups.members l.place l.low ≡ true);
+  longest : (l.high ≡ length (ranks_of l.line l.groups.members)) ⊎ (is_run l.line l.group l.groups.members l.place (l.high + 1) ≡ false);
 }
 
 abbrev pub decreases-loop-low : goal.decreases-loop-low

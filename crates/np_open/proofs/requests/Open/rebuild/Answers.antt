@@ -1,5 +1,6 @@
+use Rattle.std.proofs.Common.{sym}
 use Rattle.np_open.proofs.RebuildLemmas.{open-rebuilt}
 use Rattle.np_open.proofs.requests.Open.rebuild.Goals as goal
 
 pub returns : goal.returns
-returns g c = open-rebuilt (g.L.Look.site c.args.look.now) (g.L.Look.state c.args.look.now) c.requires _ c.in_ok-all_requests.ensures
+returns g c = open-rebuilt (g.L.Look.site c.args.look.now) (g.L.Look.state c.args.look.now) c.as_slice.result.now c.requires _ (sym c.as_slice.ensures.value) c.in_ok-groups.ensures
