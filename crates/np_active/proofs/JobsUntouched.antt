@@ -4,6 +4,7 @@ use Rattle.std.specs.Prelude.{◌==◌, ◌||◌, ◌&&◌, slice_get, slice_set
 use Rattle.std.specs.Option.{option_map_or}
 use Rattle.std.proofs.lemmas.Bool.Decides.{nat_tests}
 use Rattle.np_text.specs.declared.id.JobId.{JobId}
+use Rattle.np_text.specs.declared.id.NodeId.{NodeId}
 use Rattle.np_text.specs.declared.id.RequestId.{RequestId}
 use Rattle.np_text.specs.declared.id.RequesterId.{RequesterId}
 use Rattle.np_text.specs.declared.word.Phase.{Phase}
@@ -25,7 +26,7 @@ use Rattle.np_safe.proofs.JobsLater.{jobs-grown}
 use Rattle.np_safe.proofs.Lookups.{request_in-below}
 use Rattle.np_safe.proofs.Runs.{invariant-Runs}
 use Rattle.np_look.specs.Readers.{is_active_job, is_answered, request_state_of}
-use Rattle.np_active.specs.Active.{asker_of, is_active_in}
+use Rattle.np_active.specs.Active.{JobKind, active_ones, asker_of, is_job_in, is_job_of, new_ones}
 use Rattle.np_active.proofs.RequestsUntouched.{asks, request-untouched}
 
 -- a put at another place
@@ -42,18 +43,22 @@ puts_job jobs.Same i = false
 puts_job (jobs.Put j kept) i = same_job j i
 puts_job (jobs.EndNode j n) i = false
 
--- whether by this row the job is active, for the requester
-abbrev active_in_row : Configuration → State → RequesterId → JobId → Option JobRecord → Bool
-active_in_row c s q i row = option_map_or (λ kept. is_active_job c s q i kept) row false
+-- whether by this row the job is of the kind
+abbrev kind_in_row : Configuration → State → JobKind → JobId → Option JobRecord → Bool
+kind_in_row c s kind i row = option_map_or (λ kept. is_job_of c s kind i kept) row false
 
 -- a mark leaves the phase and the request of a job
-rows-untouched : (c : Configuration) (t : State) (change : JobsChange) (q : RequesterId) (i : JobId) (rows : List JobRecord) → puts_job change i ≡ false
-    → active_in_row c t q i (slice_get (jobs_changed change rows) i.0) ≡ active_in_row c t q i (slice_get rows i.0)
-rows-untouched c t jobs.Same q i rows out = refl
-rows-untouched c t (jobs.Put j kept) q i rows out = ap (active_in_row c t q i) (set-other rows j.0 i.0 kept (λ same. absurd (grind (arith, nat_tests))))
-rows-untouched c t (jobs.EndNode j n) q i rows out = kept-change_at (active_in_row c t q i) j.0 i.0 (with_mark n) rows (λ kept. refl)
+mark-untouched : (c : Configuration) (t : State) (kind : JobKind) (i : JobId) (n : NodeId) (kept : JobRecord) → is_job_of c t kind i (with_mark n kept) ≡ is_job_of c t kind i kept
+mark-untouched c t (active_ones q) i n kept = refl
+mark-untouched c t (new_ones q) i n kept = refl
 
-module _ (c : Configuration) (ch : Changes) (s : State) (invariant : Invariant c s) (planned : IsPlanned c s ch) (q : RequesterId) (i : JobId) where
+rows-untouched : (c : Configuration) (t : State) (change : JobsChange) (kind : JobKind) (i : JobId) (rows : List JobRecord) → puts_job change i ≡ false
+    → kind_in_row c t kind i (slice_get (jobs_changed change rows) i.0) ≡ kind_in_row c t kind i (slice_get rows i.0)
+rows-untouched c t jobs.Same kind i rows out = refl
+rows-untouched c t (jobs.Put j kept) kind i rows out = ap (kind_in_row c t kind i) (set-other rows j.0 i.0 kept (λ same. absurd (grind (arith, nat_tests))))
+rows-untouched c t (jobs.EndNode j n) kind i rows out = kept-change_at (kind_in_row c t kind i) j.0 i.0 (with_mark n) rows (λ kept. mark-untouched c t kind i n kept)
+
+module _ (c : Configuration) (ch : Changes) (s : State) (invariant : Invariant c s) (planned : IsPlanned c s ch) (i : JobId) where
   -- the request of an asked job that does not ask for one that is answered or removed is answered as before
   answer-untouched : (kept : JobRecord) → asks (asker_of ch.requests s) i ≡ false → JobIn s i kept phase.Asked
       → option_map_or is_answered (request_state_of kept.request (changed c ch s)) false ≡ option_map_or is_answered (request_state_of kept.request s) false
@@ -64,8 +69,8 @@ module _ (c : Configuration) (ch : Changes) (s : State) (invariant : Invariant c
       ∙ sym (ap (λ (r : Option RequestId). option_map_or is_answered (request_state_of r s) false) is.0.asks)
 
   -- whether its request is answered matters for an asked job only
-  kept-untouched : (kept : JobRecord) → slice_get s.jobs i.0 ≡ Some kept → asks (asker_of ch.requests s) i ≡ false → is_active_job c (changed c ch s) q i kept ≡ is_active_job c s q i kept
-  kept-untouched kept stands out = by kept.phase refl (invariant.jobs.each i kept stands) where
+  kept-untouched : (q : RequesterId) (kept : JobRecord) → slice_get s.jobs i.0 ≡ Some kept → asks (asker_of ch.requests s) i ≡ false → is_active_job c (changed c ch s) q i kept ≡ is_active_job c s q i kept
+  kept-untouched q kept stands out = by kept.phase refl (invariant.jobs.each i kept stands) where
     by : (p : Phase) → kept.phase ≡ p → JobIn s i kept p → is_active_job c (changed c ch s) q i kept ≡ is_active_job c s q i kept
     by phase.New at is = rw at refl
     by phase.Asked at is =
@@ -73,14 +78,16 @@ module _ (c : Configuration) (ch : Changes) (s : State) (invariant : Invariant c
     by phase.Using at is = rw at refl
     by phase.Over at is = rw at refl
 
-  row-untouched : (o : Option JobRecord) → slice_get s.jobs i.0 ≡ o → asks (asker_of ch.requests s) i ≡ false → active_in_row c (changed c ch s) q i o ≡ active_in_row c s q i o
-  row-untouched None none out = refl
-  row-untouched (Some kept) stands out = kept-untouched kept stands out
+  -- and whether a job is new depends on its record alone
+  row-untouched : (kind : JobKind) (o : Option JobRecord) → slice_get s.jobs i.0 ≡ o → asks (asker_of ch.requests s) i ≡ false → kind_in_row c (changed c ch s) kind i o ≡ kind_in_row c s kind i o
+  row-untouched kind None none out = refl
+  row-untouched (active_ones q) (Some kept) stands out = kept-untouched q kept stands out
+  row-untouched (new_ones q) (Some kept) stands out = refl
 
--- a job whose record is not put, and that does not ask for a request that is answered or removed, is active as before
-pub job-untouched : (c : Configuration) (ch : Changes) (s : State) → IsReached c s → IsPlanned c s ch → (q : RequesterId) (i : JobId) → puts_job ch.jobs i ≡ false → asks (asker_of ch.requests s) i ≡ false
-    → is_active_in c (changed c ch s) q i ≡ is_active_in c s q i
-job-untouched c ch s reached planned q i out not_asking =
-    rows-untouched c (changed c ch s) ch.jobs q i (grown c ch.maker ch.grows s).jobs out
-    ∙ ap (λ (rows : List JobRecord). active_in_row c (changed c ch s) q i (slice_get rows i.0)) (jobs-grown c ch.maker ch.grows s)
-    ∙ row-untouched c ch s (invariant-Runs c reached.journal s reached.runs) planned q i (slice_get s.jobs i.0) refl not_asking
+-- a job whose record is not put, and that does not ask for a request that is answered or removed, is of the kinds that it was of
+pub job-untouched : (c : Configuration) (ch : Changes) (s : State) → IsReached c s → IsPlanned c s ch → (kind : JobKind) (i : JobId) → puts_job ch.jobs i ≡ false → asks (asker_of ch.requests s) i ≡ false
+    → is_job_in c (changed c ch s) kind i ≡ is_job_in c s kind i
+job-untouched c ch s reached planned kind i out not_asking =
+    rows-untouched c (changed c ch s) ch.jobs kind i (grown c ch.maker ch.grows s).jobs out
+    ∙ ap (λ (rows : List JobRecord). kind_in_row c (changed c ch s) kind i (slice_get rows i.0)) (jobs-grown c ch.maker ch.grows s)
+    ∙ row-untouched c ch s (invariant-Runs c reached.journal s reached.runs) planned i kind (slice_get s.jobs i.0) refl not_asking

@@ -1,9 +1,7 @@
 -- the members of groups after the changes of an event, from those before it
 use Rattle.std.proofs.Common.{◌≡◌, ◌∙◌, Bool, true, false, cond, List, [], length, Option, None, Some, refl, sym, ap, subst}
 use Rattle.std.specs.Option.{option_map_or}
-use Rattle.std.specs.List.{list_any}
 use Rattle.np_text.specs.declared.id.JobId.{JobId}
-use Rattle.np_text.specs.declared.id.RequesterId.{RequesterId}
 use Rattle.np_text.specs.declared.id.SessionId.{SessionId}
 use Rattle.np_site.specs.Configuration.{Configuration}
 use Rattle.np_groups.specs.declared.groups.Member.{Member}
@@ -20,10 +18,10 @@ use Rattle.np_changes.specs.declared.changes.JobsChange.{JobsChange}
 use Rattle.np_changes.specs.declared.changes.JobsChange.TheVariants as jobs
 use Rattle.np_changes.specs.declared.changes.SessionsChange.{SessionsChange}
 use Rattle.np_changes.specs.declared.changes.SessionsChange.TheVariants as sessions
-use Rattle.np_active.specs.Active.{ActiveOf, AreActive, AreGroups, AreHandleGroups, AreJobGroups, AreSessionGroups, SessionKind, asker_of, is_active_in, is_kind_in, is_of_kind, job_group, session_group}
-use Rattle.np_active.specs.Members.{kinds_of, requesters_of, with_asker, with_changed_job, with_changed_session, with_job, with_new_handles, with_new_session, with_session, without_handles}
+use Rattle.np_active.specs.Active.{ActiveOf, AreActive, AreGroups, AreHandleGroups, AreJobGroups, AreSessionGroups, JobKind, SessionKind, asker_of, is_job_in, is_kind_in, is_of_kind, job_group, session_group}
+use Rattle.np_active.specs.Members.{kinds_of, kinds_of_job, with_asker, with_changed_job, with_changed_session, with_job, with_new_handles, with_new_session, with_session, without_handles}
 use Rattle.np_active.proofs.Own.{groups-by, put-own}
-use Rattle.np_active.proofs.Roles.{same_requester, requester-groups, requester-equal, job-own, same_kind, session-groups, kind-equal, is_among_kinds, session-own, session-own_now}
+use Rattle.np_active.proofs.Roles.{same_job_kind, job-groups, job_kind-equal, is_among_job_kinds, job-own, same_kind, session-groups, kind-equal, is_among_kinds, session-own, session-own_now}
 use Rattle.np_active.proofs.Begun.{planned-begun}
 use Rattle.np_active.proofs.Holders.{handles-noted}
 use Rattle.np_active.proofs.RequestsUntouched.{asks}
@@ -32,50 +30,50 @@ use Rattle.np_active.proofs.SessionsUntouched.{begins, stops, session-untouched,
 
 -- ## jobs
 
-abbrev pub AreJobsBy : (RequesterId → JobId → Bool) → List (Member JobId) → Type 0
+abbrev pub AreJobsBy : (JobKind → JobId → Bool) → List (Member JobId) → Type 0
 AreJobsBy passes ms = AreGroups is_job_before same_job job_group passes ms
 
 -- members by a test that says the same
-pub jobs-by : (was now : RequesterId → JobId → Bool) (ms : List (Member JobId)) → ((q : RequesterId) (i : JobId) → was q i ≡ now q i) → AreJobsBy was ms → AreJobsBy now ms
+pub jobs-by : (was now : JobKind → JobId → Bool) (ms : List (Member JobId)) → ((q : JobKind) (i : JobId) → was q i ≡ now q i) → AreJobsBy was ms → AreJobsBy now ms
 jobs-by was now ms alike are = groups-by is_job_before same_job job_group was now ms alike are
 
 -- one job is where the state has it, and all others are where they were
-pub job-put : (c : Configuration) (t : State) (was : RequesterId → JobId → Bool) (j : JobId) (ms : List (Member JobId)) → AreJobsBy was ms
-    → ((q : RequesterId) → list_any (λ r. same_requester r q) (requesters_of c j) ≡ false → was q j ≡ false)
-    → AreJobsBy (λ q i. cond (same_job j i) (is_active_in c t q i) (was q i)) (with_job c t j ms)
+pub job-put : (c : Configuration) (t : State) (was : JobKind → JobId → Bool) (j : JobId) (ms : List (Member JobId)) → AreJobsBy was ms
+    → ((q : JobKind) → is_among_job_kinds q (kinds_of_job c j) ≡ false → was q j ≡ false)
+    → AreJobsBy (λ q i. cond (same_job j i) (is_job_in c t q i) (was q i)) (with_job c t j ms)
 job-put c t was j ms are out =
-    put-own is_job_before same_job job_transitive job_one_way job_some_way job_equal job_group same_requester requester-groups requester-equal
-    was (is_active_in c t) j (requesters_of c j) ms are out (λ q other. job-own c t j q other)
+    put-own is_job_before same_job job_transitive job_one_way job_some_way job_equal job_group same_job_kind job-groups job_kind-equal
+    was (is_job_in c t) j (kinds_of_job c j) ms are out (λ q other. job-own c t j q other)
 
 module _ (c : Configuration) (s t : State) where
   -- after the job that asks is put
-  abbrev with_asking : Option JobId → RequesterId → JobId → Bool
-  with_asking asker q i = cond (asks asker i) (is_active_in c t q i) (is_active_in c s q i)
+  abbrev with_asking : Option JobId → JobKind → JobId → Bool
+  with_asking asker q i = cond (asks asker i) (is_job_in c t q i) (is_job_in c s q i)
 
-  -- it is active for its own requester only
-  asking-own : (asker : Option JobId) (j : JobId) (q : RequesterId) → list_any (λ r. same_requester r q) (requesters_of c j) ≡ false → with_asking asker q j ≡ false
+  -- it is of no other kind than one of its requester's
+  asking-own : (asker : Option JobId) (j : JobId) (q : JobKind) → is_among_job_kinds q (kinds_of_job c j) ≡ false → with_asking asker q j ≡ false
   asking-own asker j q other = by (asks asker j) where
-    by : (b : Bool) → cond b (is_active_in c t q j) (is_active_in c s q j) ≡ false
+    by : (b : Bool) → cond b (is_job_in c t q j) (is_job_in c s q j) ≡ false
     by true = job-own c t j q other
     by false = job-own c s j q other
 
   job-asks : (asker : Option JobId) (ms : List (Member JobId)) → AreJobGroups c s ms → AreJobsBy (with_asking asker) (with_asker c t asker ms)
   job-asks None ms are = are
-  job-asks (Some j) ms are = job-put c t (is_active_in c s) j ms are (λ q other. job-own c s j q other)
+  job-asks (Some j) ms are = job-put c t (is_job_in c s) j ms are (λ q other. job-own c s j q other)
 
   job-changed : (asker : Option JobId) (change : JobsChange) (ms : List (Member JobId)) → AreJobsBy (with_asking asker) ms
-      → AreJobsBy (λ q i. cond (puts_job change i) (is_active_in c t q i) (with_asking asker q i)) (with_changed_job c t change ms)
+      → AreJobsBy (λ q i. cond (puts_job change i) (is_job_in c t q i) (with_asking asker q i)) (with_changed_job c t change ms)
   job-changed asker jobs.Same ms are = are
   job-changed asker (jobs.Put j kept) ms are = job-put c t (with_asking asker) j ms are (λ q other. asking-own asker j q other)
   job-changed asker (jobs.EndNode j n) ms are = are
 
-  jobs-noted : (asker : Option JobId) (change : JobsChange) (ms : List (Member JobId)) → ((q : RequesterId) (i : JobId) → puts_job change i ≡ false → asks asker i ≡ false → is_active_in c t q i ≡ is_active_in c s q i)
+  jobs-noted : (asker : Option JobId) (change : JobsChange) (ms : List (Member JobId)) → ((q : JobKind) (i : JobId) → puts_job change i ≡ false → asks asker i ≡ false → is_job_in c t q i ≡ is_job_in c s q i)
       → AreJobGroups c s ms → AreJobGroups c t (with_changed_job c t change (with_asker c t asker ms))
   jobs-noted asker change ms same are =
       jobs-by _ _ _ (λ q i. by q i (puts_job change i) (asks asker i) refl refl) (job-changed asker change (with_asker c t asker ms) (job-asks asker ms are))
     where
-      by : (q : RequesterId) (i : JobId) (a b : Bool) → puts_job change i ≡ a → asks asker i ≡ b
-          → cond a (is_active_in c t q i) (cond b (is_active_in c t q i) (is_active_in c s q i)) ≡ is_active_in c t q i
+      by : (q : JobKind) (i : JobId) (a b : Bool) → puts_job change i ≡ a → asks asker i ≡ b
+          → cond a (is_job_in c t q i) (cond b (is_job_in c t q i) (is_job_in c s q i)) ≡ is_job_in c t q i
       by q i true b is asking = refl
       by q i false true out asking = refl
       by q i false false out quiet = sym (same q i out quiet)

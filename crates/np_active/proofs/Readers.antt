@@ -1,4 +1,4 @@
--- the members of a group are the active jobs of a requester or the sessions of a kind, in order
+-- the members of a group are the jobs or the sessions of a kind, in order
 use Rattle.std.proofs.Common.{◌≡◌, ◌∙◌, ◌<◌, ◌+◌, ◌-◌, ℕ, suc, Bool, true, false, cond, List, [], ◌∷◌, length, Option, Some, None, refl, sym, ap, arith}
 use Rattle.std.specs.Prelude.{◌==◌, ◌&&◌, ◌||◌, is_some, slice_get}
 use Rattle.std.specs.Option.{option_map_or, option_or}
@@ -20,8 +20,8 @@ use Rattle.np_machine.specs.Laws.{speaks_for}
 use Rattle.np_machine.specs.Semaphore.{has_live_session}
 use Rattle.np_machine.specs.State.{State}
 use Rattle.np_machine.specs.declared.state.SessionFacts.{SessionFacts}
-use Rattle.np_look.specs.Readers.{active_jobs, active_of, current_of, first_mute, is_active_job, jobs_from, mute_from, speaker_from}
-use Rattle.np_active.specs.Active.{ActiveOf, AreActive, SessionKind, is_kind_in, is_of_kind, job_group, live_group, live_ones, mute_group, mute_ones, role_group, session_group, speakers}
+use Rattle.np_look.specs.Readers.{active_of, current_of, first_mute, jobs_from, mute_from, new_of, speaker_from}
+use Rattle.np_active.specs.Active.{ActiveOf, AreActive, JobKind, SessionKind, active_group, active_ones, is_job_of, is_kind_in, is_of_kind, job_group, live_group, live_ones, mute_group, mute_ones, new_group, new_ones, role_group, session_group, speakers}
 use Rattle.np_active.proofs.Rows.{has-at, ids_from, last-at, last_of, none-before, numbers-rise}
 
 -- ## jobs
@@ -34,18 +34,21 @@ jobs-are passes n [] = refl
 jobs-are passes n (kept ∷ rows) = rw (jobs-are passes (suc n) rows) refl
 
 module _ (c : Configuration) (s : State) (active : ActiveOf) (are : AreActive c s active) where
-  jobs-grouped : (q : RequesterId) → ids_in (job_group q) active.jobs ≡ active_jobs c q s
-  jobs-grouped q =
+  jobs-grouped : (kind : JobKind) → ids_in (job_group kind) active.jobs ≡ jobs_from (is_job_of c s kind) 0 s.jobs
+  jobs-grouped kind =
       same-list is_job_before same_job job_one_way job_equal (same-itself is_job_before same_job job_one_way job_some_way)
-      (ids_in (job_group q) active.jobs) (job_ids (is_active_job c s q) 0 s.jobs)
-      (ids-rise (job_group q) is_job_before active.jobs are.jobs.rises)
-      (numbers-rise (λ (j : JobId). j.0) (λ n. record { 0 = n }) (λ n. refl) (λ j. refl) (is_active_job c s q) 0 s.jobs)
-      (λ i. ids-has same_job (job_group q) i active.jobs ∙ are.jobs.each q i
-      ∙ sym (has-at (λ (j : JobId). j.0) (λ n. record { 0 = n }) (λ n. refl) (λ j. refl) (is_active_job c s q) i i.0 0 s.jobs (omega arith)))
-      ∙ sym (jobs-are (is_active_job c s q) 0 s.jobs)
+      (ids_in (job_group kind) active.jobs) (job_ids (is_job_of c s kind) 0 s.jobs)
+      (ids-rise (job_group kind) is_job_before active.jobs are.jobs.rises)
+      (numbers-rise (λ (j : JobId). j.0) (λ n. record { 0 = n }) (λ n. refl) (λ j. refl) (is_job_of c s kind) 0 s.jobs)
+      (λ i. ids-has same_job (job_group kind) i active.jobs ∙ are.jobs.each kind i
+      ∙ sym (has-at (λ (j : JobId). j.0) (λ n. record { 0 = n }) (λ n. refl) (λ j. refl) (is_job_of c s kind) i i.0 0 s.jobs (omega arith)))
+      ∙ sym (jobs-are (is_job_of c s kind) 0 s.jobs)
 
-  pub active-job_at : (q : RequesterId) (at : ℕ) → slice_get (ids_in (job_group q) active.jobs) at ≡ active_of c q at s
-  active-job_at q at = ap (λ (ids : List JobId). slice_get ids at) (jobs-grouped q)
+  pub active-job_at : (q : RequesterId) (at : ℕ) → slice_get (ids_in (active_group q) active.jobs) at ≡ active_of c q at s
+  active-job_at q at = ap (λ (ids : List JobId). slice_get ids at) (jobs-grouped (active_ones q))
+
+  pub new-job_at : (q : RequesterId) (at : ℕ) → slice_get (ids_in (new_group q) active.jobs) at ≡ new_of c q at s
+  new-job_at q at = ap (λ (ids : List JobId). slice_get ids at) (jobs-grouped (new_ones q))
 
 -- ## sessions
 

@@ -5,14 +5,12 @@ use Rattle.std.specs.Option.{option_map_or}
 use Rattle.std.proofs.lemmas.Bool.Decides.{nat_tests}
 use Rattle.std.proofs.lemmas.Option.{slice_get_past}
 use Rattle.np_text.specs.declared.id.JobId.{JobId}
-use Rattle.np_text.specs.declared.id.RequesterId.{RequesterId}
 use Rattle.np_text.specs.declared.id.SessionId.{SessionId}
 use Rattle.np_record.specs.declared.record.JobRecord.{JobRecord}
 use Rattle.np_site.specs.Configuration.{Configuration}
 use Rattle.np_groups.specs.declared.groups.Member.{Member}
 use Rattle.np_machine.specs.State.{State}
-use Rattle.np_look.specs.Readers.{is_active_job}
-use Rattle.np_active.specs.Active.{AreJobGroups, AreSessionGroups, SessionKind, is_active_in, is_kind_in, is_of_kind}
+use Rattle.np_active.specs.Active.{AreJobGroups, AreSessionGroups, JobKind, SessionKind, is_job_in, is_job_of, is_kind_in, is_of_kind}
 use Rattle.np_active.specs.Members.{with_job, with_session}
 use Rattle.np_active.proofs.Noted.{AreJobsBy, AreSessionsBy, job-put, jobs-by, session-put, sessions-by}
 
@@ -31,25 +29,25 @@ past-end i n is = grind (arith, nat_tests)
 
 -- ## jobs
 
--- the active jobs with a number below this one
-abbrev pub active_below : Configuration → State → ℕ → RequesterId → JobId → Bool
-active_below c s n q i = nat_lt i.0 n && is_active_in c s q i
+-- the jobs of a kind with a number below this one
+abbrev pub is_job_below : Configuration → State → ℕ → JobKind → JobId → Bool
+is_job_below c s n q i = nat_lt i.0 n && is_job_in c s q i
 
 -- with the next one
-pub jobs-more : (c : Configuration) (s : State) (n : ℕ) (ms between later : List (Member JobId)) → AreJobsBy (active_below c s n) ms
-    → between ≡ ms → later ≡ with_job c s (record { 0 = n }) between → AreJobsBy (active_below c s (n + 1)) later
+pub jobs-more : (c : Configuration) (s : State) (n : ℕ) (ms between later : List (Member JobId)) → AreJobsBy (is_job_below c s n) ms
+    → between ≡ ms → later ≡ with_job c s (record { 0 = n }) between → AreJobsBy (is_job_below c s (n + 1)) later
 jobs-more c s n ms between later are same put =
-    subst (AreJobsBy (active_below c s (n + 1))) (sym (put ∙ ap (λ (xs : List (Member JobId)). with_job c s (record { 0 = n }) xs) same))
-    (jobs-by _ _ _ (λ q i. below_more n i.0 (is_active_in c s q i))
-    (job-put c s (active_below c s n) (record { 0 = n }) ms are (λ q other. ap (λ (b : Bool). b && is_active_in c s q (record { 0 = n })) (below_it n))))
+    subst (AreJobsBy (is_job_below c s (n + 1))) (sym (put ∙ ap (λ (xs : List (Member JobId)). with_job c s (record { 0 = n }) xs) same))
+    (jobs-by _ _ _ (λ q i. below_more n i.0 (is_job_in c s q i))
+    (job-put c s (is_job_below c s n) (record { 0 = n }) ms are (λ q other. ap (λ (b : Bool). b && is_job_in c s q (record { 0 = n })) (below_it n))))
 
-pub jobs-all : (c : Configuration) (s : State) (n : ℕ) (ms : List (Member JobId)) → length s.jobs ≤ n → AreJobsBy (active_below c s n) ms → AreJobGroups c s ms
+pub jobs-all : (c : Configuration) (s : State) (n : ℕ) (ms : List (Member JobId)) → length s.jobs ≤ n → AreJobsBy (is_job_below c s n) ms → AreJobGroups c s ms
 jobs-all c s n ms all are = jobs-by _ _ _ (λ q i. by q i (nat_lt i.0 n) refl) are where
-  by : (q : RequesterId) (i : JobId) (b : Bool) → nat_lt i.0 n ≡ b → (b && is_active_in c s q i) ≡ is_active_in c s q i
+  by : (q : JobKind) (i : JobId) (b : Bool) → nat_lt i.0 n ≡ b → (b && is_job_in c s q i) ≡ is_job_in c s q i
   by q i true is = refl
   by q i false out =
       let past : length s.jobs ≤ i.0 = omega (arith, all, past-end i.0 n out) in
-      sym (ap (λ (o : Option JobRecord). option_map_or (λ kept. is_active_job c s q i kept) o false) (slice_get_past s.jobs i.0 past))
+      sym (ap (λ (o : Option JobRecord). option_map_or (λ kept. is_job_of c s q i kept) o false) (slice_get_past s.jobs i.0 past))
 
 -- ## sessions
 

@@ -9,6 +9,7 @@ use Rattle.np_text.specs.declared.id.Role.{Role}
 use Rattle.np_text.specs.declared.id.Role.TheVariants.{Launcher, Janitor, Requester, Reaper}
 use Rattle.np_text.specs.declared.id.SemId.{SemId}
 use Rattle.np_text.specs.declared.id.SessionId.{SessionId}
+use Rattle.np_record.specs.declared.record.JobRecord.{JobRecord}
 use Rattle.np_site.specs.Configuration.{Configuration}
 use Rattle.np_lists.specs.Rising.{Rises}
 use Rattle.np_groups.specs.declared.groups.Group.{Group}
@@ -28,32 +29,48 @@ use Rattle.np_changes.specs.declared.changes.RequestEdit.{RequestEdit}
 use Rattle.np_changes.specs.declared.changes.RequestEdit.TheVariants as edit
 use Rattle.np_changes.specs.declared.changes.RequestsChange.{RequestsChange}
 use Rattle.np_changes.specs.declared.changes.RequestsChange.TheVariants as requests
-use Rattle.np_look.specs.Readers.{is_active_job}
+use Rattle.np_look.specs.Readers.{is_active_job, is_new_job}
 
 -- ## groups (own)
 
 -- the active jobs of the requester
-abbrev pub job_group : RequesterId → Group
-job_group q = record { class = 0; first = q.0; second = 0 }
+abbrev pub active_group : RequesterId → Group
+active_group q = record { class = 0; first = q.0; second = 0; third = 0 }
+
+-- the new jobs of the requester
+abbrev pub new_group : RequesterId → Group
+new_group q = record { class = 1; first = q.0; second = 0; third = 0 }
+
+-- a kind of jobs: a job is of one at most
+pub data JobKind : Type 0 where
+  -- the active ones of the requester
+  active_ones : RequesterId → JobKind
+  -- the new ones of the requester
+  new_ones : RequesterId → JobKind
+
+-- the group of each kind
+abbrev pub job_group : JobKind → Group
+job_group (active_ones q) = active_group q
+job_group (new_ones q) = new_group q
 
 -- the jobs that have a handle of the semaphore
 abbrev pub handle_group : SemId → Group
-handle_group x = record { class = 0; first = x.0; second = 0 }
+handle_group x = record { class = 0; first = x.0; second = 0; third = 0 }
 
 -- the sessions that speak for the role
 abbrev pub role_group : Role → Group
-role_group (Launcher p) = record { class = 0; first = p.0; second = 0 }
-role_group (Janitor p) = record { class = 1; first = p.0; second = 0 }
-role_group (Requester q) = record { class = 2; first = q.0; second = 0 }
-role_group Reaper = record { class = 3; first = 0; second = 0 }
+role_group (Launcher p) = record { class = 0; first = p.0; second = 0; third = 0 }
+role_group (Janitor p) = record { class = 1; first = p.0; second = 0; third = 0 }
+role_group (Requester q) = record { class = 2; first = q.0; second = 0; third = 0 }
+role_group Reaper = record { class = 3; first = 0; second = 0; third = 0 }
 
 -- the live sessions that are mute
 abbrev pub mute_group : Group
-mute_group = record { class = 4; first = 0; second = 0 }
+mute_group = record { class = 4; first = 0; second = 0; third = 0 }
 
 -- the live sessions of the requester, mute or not
 abbrev pub live_group : RequesterId → Group
-live_group q = record { class = 5; first = q.0; second = 0 }
+live_group q = record { class = 5; first = q.0; second = 0; third = 0 }
 
 -- a kind of sessions: a session can be of several
 pub data SessionKind : Type 0 where
@@ -72,9 +89,14 @@ session_group (live_ones q) = live_group q
 
 -- ## what a state says
 
--- the job is there, and an active one of the requester
-abbrev pub is_active_in : Configuration → State → RequesterId → JobId → Bool
-is_active_in c s q j = option_map_or (λ kept. is_active_job c s q j kept) (slice_get s.jobs j.0) false
+-- the job with this record is of the kind
+abbrev pub is_job_of : Configuration → State → JobKind → JobId → JobRecord → Bool
+is_job_of c s (active_ones q) j kept = is_active_job c s q j kept
+is_job_of c s (new_ones q) j kept = is_new_job c q j kept
+
+-- the job is there, and of the kind
+abbrev pub is_job_in : Configuration → State → JobKind → JobId → Bool
+is_job_in c s kind j = option_map_or (λ kept. is_job_of c s kind j kept) (slice_get s.jobs j.0) false
 
 -- the session is of the kind
 abbrev pub is_of_kind : SessionKind → SessionFacts → Bool
@@ -91,9 +113,9 @@ pub record AreGroups {K Q : Type 0} (before same : K → K → Bool) (group : Q 
   pub rises : Rises (is_member_before before) members
   pub each : (q : Q) (i : K) → has_member same (group q) i members ≡ passes q i
 
--- the members of a requester's group are its active jobs
+-- the members of the group of each kind are the jobs of the kind
 abbrev pub AreJobGroups : Configuration → State → List (Member JobId) → Type 0
-AreJobGroups c s members = AreGroups is_job_before same_job job_group (is_active_in c s) members
+AreJobGroups c s members = AreGroups is_job_before same_job job_group (is_job_in c s) members
 
 -- the members of a semaphore's group are the jobs that have a handle of it, which a state has in order
 -- and which are no more than may
@@ -148,9 +170,9 @@ abbrev pub new_semaphores : Configuration → Growth → List SemId
 new_semaphores c (grow.Handles j) = semaphores_of c j
 new_semaphores c growth = []
 
--- there is room for a job that asks and for one whose record is put, for a job's handles, and in three
--- groups each for a session that begins and for one that is mute or over
+-- there is room in two groups each for a job that asks and for one whose record is put, for a job's
+-- handles, and in three groups each for a session that begins and for one that is mute or over
 pub record HasRoom (c : Configuration) (changes : Changes) (active : ActiveOf) : Type 0 where
-  pub jobs : 2 ≤ active.job_room
+  pub jobs : 4 ≤ active.job_room
   pub handles : length (new_semaphores c changes.grows) ≤ active.handle_room
   pub sessions : 6 ≤ active.session_room

@@ -23,7 +23,7 @@ use Rattle.np_changes.specs.declared.changes.JobsChange.{JobsChange}
 use Rattle.np_changes.specs.declared.changes.JobsChange.TheVariants as jobs
 use Rattle.np_changes.specs.declared.changes.SessionsChange.{SessionsChange}
 use Rattle.np_changes.specs.declared.changes.SessionsChange.TheVariants as sessions
-use Rattle.np_active.specs.Active.{SessionKind, handle_group, is_active_in, is_kind_in, job_group, live_ones, mute_ones, session_group, speakers}
+use Rattle.np_active.specs.Active.{JobKind, SessionKind, active_ones, handle_group, is_job_in, is_kind_in, job_group, live_ones, mute_ones, new_ones, session_group, speakers}
 
 -- ## one id
 
@@ -35,13 +35,17 @@ with_member_if before same g i is_in ms = if is_in then with_member before same 
 abbrev pub with_each : {K Q : Type 0} → (K → K → Bool) → (K → K → Bool) → (Q → Group) → (Q → Bool) → K → List Q → List (Member K) → List (Member K)
 with_each before same group passes i these ms = fold (λ xs q. with_member_if before same (group q) i (passes q) xs) ms these
 
--- whose job it is, if it is one
-abbrev pub requesters_of : Configuration → JobId → List RequesterId
-requesters_of c j = option_map_or (λ row. row.requester ∷ []) (slice_get c.jobs j.0) []
+-- of which kinds a job of the requester can be
+abbrev pub job_kinds_of : RequesterId → List JobKind
+job_kinds_of q = active_ones q ∷ new_ones q ∷ []
+
+-- of which kinds the job can be, if it is one
+abbrev pub kinds_of_job : Configuration → JobId → List JobKind
+kinds_of_job c j = option_map_or (λ row. job_kinds_of row.requester) (slice_get c.jobs j.0) []
 
 -- the job where the state has it
 abbrev pub with_job : Configuration → State → JobId → List (Member JobId) → List (Member JobId)
-with_job c s j ms = with_each is_job_before same_job job_group (λ q. is_active_in c s q j) j (requesters_of c j) ms
+with_job c s j ms = with_each is_job_before same_job job_group (λ kind. is_job_in c s kind j) j (kinds_of_job c j) ms
 
 -- of which kinds a session of the role can be
 abbrev pub kinds_of : Role → List SessionKind

@@ -1,5 +1,5 @@
-//! The groups of a state's active jobs, of its handles and of its sessions, kept as events change
-//! it.
+//! The groups of a state's active and new jobs, of its handles and of its sessions, kept as events
+//! change it.
 
 ghost use Rattle.std.specs.Prelude.{◌≡◌, IfOk, OnOk, length, slice_get};
 ghost use Rattle.np_site.specs.Configuration.{Configuration};
@@ -8,12 +8,12 @@ ghost use Rattle.np_machine.specs.State.{State};
 ghost use Rattle.np_machine.specs.Tables.{handles_of, has_handle};
 ghost use Rattle.np_changes.specs.Changes.{changed};
 ghost use Rattle.np_changes.specs.Planned.{IsPlanned, IsReached};
-ghost use Rattle.np_look.specs.Readers.{active_of, current_of, first_mute};
+ghost use Rattle.np_look.specs.Readers.{active_of, current_of, first_mute, new_of};
 ghost use Rattle.np_active.specs.Active.{AreActive, HasRoom, asker_of};
 
 use crate::handles::{all_handles, handle_group, new_handles, put_new_handles, take_handles};
 use crate::members::{
-    all_jobs, all_sessions, asker_of, job_group, live_group, mute_group, put_asker,
+    active_group, all_jobs, all_sessions, asker_of, live_group, mute_group, new_group, put_asker,
     put_changed_job, put_changed_session, put_new_session, role_group,
 };
 use np_changes::Changes;
@@ -24,8 +24,9 @@ use np_text::{JobId, RequesterId, Role, SemId, SessionId};
 use std::alloc::{AllocError, Global};
 use std::marker::Model;
 
-/// Which jobs of each requester are active, which jobs have a handle of each semaphore, which
-/// sessions speak for each role, which live ones are mute, and which live ones each requester has.
+/// Which jobs of each requester are active and which are new, which jobs have a handle of each
+/// semaphore, which sessions speak for each role, which live ones are mute, and which live ones
+/// each requester has.
 #[derive(Drop)]
 pub struct Active {
     jobs: Groups<ByJob>,
@@ -49,8 +50,8 @@ impl Model for Active {
 }
 
 impl Active {
-    /// The groups of the state. It reads each job, each handle and each session once, with a binary
-    /// search for each job and handle, and up to three for each session.
+    /// The groups of the state. It reads each job, each handle and each session once, with two
+    /// binary searches for each job, one for each handle, and up to three for each session.
     pub fn rebuild<L: Look>(alloc: Global, look: &L) -> Result<Active, AllocError>
         requires { IsReached (L.site look.now) (L.state look.now) }
         ensures { IfOk result (λ x. AreActive (L.site look.now) (L.state look.now) x) }
@@ -71,7 +72,16 @@ impl Active {
         ensures { (c : Configuration) (s : State) → AreActive c s self.now
             → result ≡ active_of c requester at s }
     {
-        self.jobs.at(job_group(requester), at as usize)
+        self.jobs.at(active_group(requester), at as usize)
+    }
+
+    /// The job at a place among the requester's new jobs, in order of their numbers, counted from
+    /// 0; `None` if there are no more. One binary search.
+    pub fn new_job_at(&self, requester: RequesterId, at: u32) -> Option<JobId>
+        ensures { (c : Configuration) (s : State) → AreActive c s self.now
+            → result ≡ new_of c requester at s }
+    {
+        self.jobs.at(new_group(requester), at as usize)
     }
 
     /// How many jobs have a handle of the semaphore. Two binary searches.
@@ -144,7 +154,7 @@ impl Active {
             asker ≡ asker_of changes.now.requests (L.state look.now)) }
         ensures room { OnOk result (HasRoom (L.site look.now) changes.now self.new) }
     {
-        self.jobs.reserve(2)?;
+        self.jobs.reserve(4)?;
         self.handles
             .reserve(new_handles(look.config(), &changes.grows))?;
         self.sessions.reserve(6)?;
@@ -152,10 +162,10 @@ impl Active {
     }
 
     /// Puts the jobs and the sessions that the changes name, and the job that `prepare` returned,
-    /// where they are now, after the state has changed. It takes no memory, and costs up to four
-    /// lookups and a binary search for the job whose record is put and for the one that `prepare`
-    /// returned, if there is one, a lookup and a binary search for each handle that is taken or
-    /// given back, and a lookup and up to three binary searches for a session.
+    /// where they are now, after the state has changed. It takes no memory, and costs up to five
+    /// lookups and two binary searches for the job whose record is put and for the one that
+    /// `prepare` returned, if there is one, a lookup and a binary search for each handle that is
+    /// taken or given back, and a lookup and up to three binary searches for a session.
     pub fn note<L: Look>(&mut self, look: &L, changes: &Changes, asker: Option<JobId>)
         requires { HasRoom (L.site look.now) changes.now self.old }
         ensures { (c : Configuration) (s : State) → IsReached c s → IsPlanned c s changes.now

@@ -25,6 +25,7 @@ pub(crate) fn handle_group(semaphore: SemId) -> Group
         class: 0,
         first: semaphore.0,
         second: 0,
+        third: 0,
     }
 }
 

@@ -1,7 +1,7 @@
-//! The active jobs of each requester, the jobs that have a handle of each semaphore, the sessions
-//! that speak for each role, the live sessions that are mute, and the live sessions of each
-//! requester. A job is active if it uses its nodes, or has asked for them and its request is
-//! fulfilled or failed.
+//! The active jobs and the new jobs of each requester, the jobs that have a handle of each
+//! semaphore, the sessions that speak for each role, the live sessions that are mute, and the live
+//! sessions of each requester. A job is active if it uses its nodes, or has asked for them and its
+//! request is fulfilled or failed. It is new as long as it has not asked and is not over.
 //!
 //! `specs/Active` says which groups a job and a session are in, and when the members of all groups
 //! are those of a state. `Active` keeps them as each event changes the state: `prepare` takes the
@@ -15,6 +15,7 @@
 //! | reader | members of which group | binary searches |
 //! |---|---|---|
 //! | `job_at` | the requester's active jobs | 1 |
+//! | `new_job_at` | the requester's new jobs | 1 |
 //! | `handles` | the jobs that have a handle of the semaphore | 2 |
 //! | `handle_at`, `has_handle` | the same | 1 |
 //! | `current_session` | the sessions that speak for the role | 3 |

@@ -1,0 +1,13 @@
+use Rattle.std.proofs.Common.{◌∙◌, List, ap, slice_get}
+use Rattle.np_groups.specs.declared.groups.Group.{Group}
+use Rattle.np_groups.specs.declared.groups.Member.{Member}
+use Rattle.np_groups.specs.Groups.{ids_in}
+use Rattle.np_active.specs.Active.{new_group}
+use Rattle.np_active.proofs.Readers.{new-job_at}
+use Rattle.np_active.proofs.active.Active.new_job_at.Goals as goal
+
+pub returns : goal.returns
+returns c site state are =
+    c.at.ensures ∙ ap (λ (g : Group). slice_get (ids_in g c.self.inside.jobs.members) c.args.at) c.new_group.ensures
+    ∙ ap (λ (ms : List (Member _)). slice_get (ids_in (new_group c.args.requester) ms) c.args.at) (ap (λ (x : _). x.jobs) c.self.view_is)
+    ∙ new-job_at site state c.args.self.now are c.args.requester c.args.at
