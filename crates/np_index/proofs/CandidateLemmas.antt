@@ -1,6 +1,6 @@
--- a pool's candidates in order are the requests of the ranks that its launcher may take up, and the
--- first of them is the least
-use Rattle.std.proofs.Common.{◌≡◌, ◌∙◌, ◌+◌, ◌-◌, ℕ, suc, Bool, true, false, cond, List, [], ◌∷◌, drop, Option, Some, None, refl, sym, ap, arith}
+-- a pool's candidates in order, of which the first is the least, and their ranks, which are those of the
+-- lines' ranks that the launcher may take up
+use Rattle.std.proofs.Common.{◌≡◌, ◌∙◌, ℕ, Bool, true, false, cond, List, [], ◌∷◌, Option, Some, None, not, refl, sym, ap, arith}
 use Rattle.std.specs.Prelude.{◌==◌, ◌&&◌, ◌||◌, IfSome, filter, fold, is_none, map, slice_get}
 use Rattle.std.specs.List.{AllByRecursion, list_any}
 use Rattle.std.specs.Option.{option_map, option_map_or}
@@ -13,25 +13,24 @@ use Rattle.np_lists.specs.Rising.{Rises}
 use Rattle.np_lists.proofs.Each.{all-weaker, all-insert_before}
 use Rattle.np_lists.proofs.FilterLemmas.{list_any-insert_before}
 use Rattle.np_lists.proofs.RisingLemmas.{Rises-filter}
-use Rattle.np_groups.proofs.Ids.{same-list}
 use Rattle.np_machine.specs.Entries.{RequestEntry}
-use Rattle.np_machine.specs.First.{blocking, is_candidate, is_open_to, earlier, least, first_of}
+use Rattle.np_machine.specs.First.{blocking, is_candidate, earlier, least, first_of}
 use Rattle.np_machine.specs.Kinds.{is_requested}
-use Rattle.np_machine.specs.Order.{comes_before, is_id_before}
+use Rattle.np_machine.specs.Order.{comes_before, is_declined_by, is_id_before, is_pinned_away}
 use Rattle.np_machine.specs.State.{State}
-use Rattle.np_machine.specs.Tables.{same_request, request_entry}
+use Rattle.np_machine.specs.Tables.{holder, same_request, request_entry}
 use Rattle.np_safe.proofs.Lookups.{same_request-is}
 use Rattle.np_safe.proofs.Rising.{rises-insert_before}
 use Rattle.np_open.specs.declared.ranks.Rank.{Rank}
+use Rattle.np_open.specs.Lines.{line_of}
 use Rattle.np_open.specs.Moves.{rank_of}
-use Rattle.np_open.specs.Open.{AreOpen, IsOpenFrom, OpenOf, is_closed_rank, is_requested_at, ranks_of}
-use Rattle.np_open.proofs.OpenLemmas.{closed-shut, filter-open_from, ranks-are}
-use Rattle.np_open.proofs.RunLemmas.{has-passes}
+use Rattle.np_open.specs.Open.{AreOpen, OpenOf, is_requested_at, ranks_of}
+use Rattle.np_open.proofs.OpenLemmas.{ranks-are, waits-there}
 use Rattle.np_open.specs.Ranks.{is_rank_before, same_rank, rank_transitive, rank_one_way, rank_equal}
 use Rattle.np_counts.proofs.Grouped.{request-apart}
 use Rattle.np_counts.proofs.Rows.{ids-in_order, row-passes}
-use Rattle.np_look.proofs.Placed.{there}
-use Rattle.np_index.specs.Candidates.{in_order, candidate_of, may_take_up}
+use Rattle.np_index.proofs.Firsts.{has}
+use Rattle.np_index.specs.Candidates.{in_order, candidate_of, candidate_ranks, may_take_up}
 
 -- ## entries in order
 
@@ -119,15 +118,8 @@ least-first (e ∷ es) rises = in_order-first e es ∙ sym (least-from e es rise
 
 -- ## their ranks
 
--- the rank is among these
-abbrev has : Rank → List Rank → Bool
-has x ranks = list_any (λ other. same_rank other x) ranks
-
 apart : (a b : Rank) → is_rank_before a b ≡ true → same_rank b a ≡ false
 apart a b first = grind (arith, nat_tests)
-
-same_rank-self : (a : Rank) → same_rank a a ≡ true
-same_rank-self a = grind (arith, nat_tests)
 
 -- a rank is among those of entries if an entry has it
 has-ranks : (x : Rank) (es : List RequestEntry) → has x (map rank es) ≡ list_any (λ e. same_rank (rank e) x) es
@@ -173,98 +165,76 @@ module _ (test : RequestEntry → Bool) where
         ∙ by-ids x es
         ∙ row-passes is_id_before same_request (λ (e : RequestEntry). e.id) same_request-is request-apart (fits x) x.request es once
 
--- ## those that a launcher may take up
-
-and_false : (a b : Bool) → a ≡ false → (a && b) ≡ false
-and_false a b is = rw is refl
+-- ## the candidates
 
 module _ (c : Configuration) (s : State) (p : PoolId) where
-  abbrev takes : Rank → Bool
-  takes x = may_take_up c s p x.request
+  -- the candidate at a place by its rank
+  pub candidate-rank : (at : ℕ) → option_map (λ x. x.request) (slice_get (candidate_ranks c s p) at) ≡ candidate_of c s p at
+  candidate-rank at = ap (option_map (λ (x : Rank). x.request)) (slice_get-map rank (in_order (filter (is_candidate c s p) s.requests)) at) ∙ by (slice_get (in_order (filter (is_candidate c s p) s.requests)) at) where
+    by : (o : Option RequestEntry) → option_map (λ x. x.request) (option_map rank o) ≡ option_map (λ e. e.id) o
+    by None = refl
+    by (Some e) = refl
 
-  module _ (kept : OpenOf) (are : AreOpen c s kept) where
-    -- a rank passes and is there if the request with its id is a candidate and has its relative priority
-    alike : (x : Rank) → has x (map rank (in_order (filter (is_candidate c s p) s.requests))) ≡ has x (filter takes (ranks_of kept.members))
-    alike x =
+  module _ (once : Rises (λ a b. is_id_before a.id b.id) s.requests) where
+    -- if no two requests have one id, the first candidate in order is the least
+    pub candidate-first : candidate_of c s p 0 ≡ first_of c s p
+    candidate-first =
+        ap (option_map (λ (e : RequestEntry). e.id))
+        (least-first (filter (is_candidate c s p) s.requests) (Rises-filter (λ a b. is_id_before a.id b.id) (is_candidate c s p) s.requests once))
+
+    -- their ranks are in order
+    pub candidates-rise : Rises is_rank_before (candidate_ranks c s p)
+    candidates-rise = ranks-rise (is_candidate c s p) s.requests once
+
+  module _ (kept : OpenOf) (are : AreOpen c s kept) (x : Rank) where
+    and-both : (a b : Bool) → a ≡ true → b ≡ true → (a && b) ≡ true
+    and-both a b first second = rw (first, second) refl
+
+    middle : (a b e : Bool) → (a && b && e) ≡ true → b ≡ true
+    middle true true e all = refl
+    middle true false e all = absurd cc
+    middle false b e all = absurd cc
+
+    -- a rank of a line whose request may be taken up is that of a candidate
+    pub line-candidate : (line : ℕ) → has x (ranks_of line kept.members) ≡ true → may_take_up c s p x.request ≡ true → has x (candidate_ranks c s p) ≡ true
+    line-candidate line there takes =
         ranks-have (is_candidate c s p) s.requests are.once x
-        ∙ by (request_entry x.request s.requests)
-        ∙ sym (has-passes takes x (ranks_of kept.members) ∙ ap (λ (b : Bool). takes x && b) ((ranks-are c s kept are).each x))
+        ∙ by (request_entry x.request s.requests) (sym ((ranks-are c s kept are line).each x) ∙ there) takes
       where
-        one : (e : RequestEntry) (b : Bool) → is_requested e.kept.state ≡ b → (is_candidate c s p e && (e.kept.relative_priority == x.relative)) ≡ (is_candidate c s p e && (is_requested e.kept.state && (e.kept.relative_priority == x.relative)))
-        one e true is = rw is refl
-        one e false is = rw is refl
+        by : (o : Option RequestEntry) → is_requested_at c kept.lines line x (option_map (λ e. e.kept) o) ≡ true → option_map_or (is_candidate c s p) o false ≡ true → option_map_or (fits (is_candidate c s p) x) o false ≡ true
+        by None at passes = absurd cc
+        by (Some e) at passes = and-both (is_candidate c s p e) (e.kept.relative_priority == x.relative) passes (middle (is_requested e.kept.state) (e.kept.relative_priority == x.relative) (line_of c kept.lines e.kept == line) at)
 
-        by : (o : Option RequestEntry) → option_map_or (fits (is_candidate c s p) x) o false ≡ (option_map_or (is_candidate c s p) o false && is_requested_at x (option_map (λ e. e.kept) o))
-        by None = refl
-        by (Some e) = one e (is_requested e.kept.state) refl
+    -- a candidate's rank is in the line of its request
+    pub candidate-line : has x (candidate_ranks c s p) ≡ true → (line : ℕ) × (has x (ranks_of line kept.members) ≡ true) × (may_take_up c s p x.request ≡ true)
+    candidate-line there = by (request_entry x.request s.requests) refl (sym (ranks-have (is_candidate c s p) s.requests are.once x) ∙ there) where
+      one : (a b : Bool) → (a && b) ≡ true → a ≡ true
+      one true b all = refl
+      one false b all = absurd cc
 
-    candidates-are : map rank (in_order (filter (is_candidate c s p) s.requests)) ≡ filter takes (ranks_of kept.members)
-    candidates-are =
-        same-list is_rank_before same_rank rank_one_way rank_equal same_rank-self
-        (map rank (in_order (filter (is_candidate c s p) s.requests))) (filter takes (ranks_of kept.members))
-        (ranks-rise (is_candidate c s p) s.requests are.once)
-        (Rises-filter is_rank_before takes (ranks_of kept.members) (ranks-are c s kept are).rises) alike
+      other : (a b : Bool) → (a && b) ≡ true → b ≡ true
+      other true b all = all
+      other false b all = absurd cc
 
-    -- the candidate at a place is the request of the rank at that place among those that pass
-    pub candidate-rank : (at : ℕ) → option_map (λ x. x.request) (slice_get (filter (λ x. may_take_up c s p x.request) (ranks_of kept.members)) at) ≡ candidate_of c s p at
-    candidate-rank at =
-        ap (λ (xs : List Rank). option_map (λ (x : Rank). x.request) (slice_get xs at)) (sym candidates-are)
-        ∙ ap (option_map (λ (x : Rank). x.request)) (slice_get-map rank (in_order (filter (is_candidate c s p) s.requests)) at)
-        ∙ by (slice_get (in_order (filter (is_candidate c s p) s.requests)) at)
-      where
-        by : (o : Option RequestEntry) → option_map (λ x. x.request) (option_map rank o) ≡ option_map (λ e. e.id) o
-        by None = refl
-        by (Some e) = refl
+      requested : (a b d e k : Bool) → ((a && b && d && e) && k) ≡ true → a ≡ true
+      requested true b d e k all = refl
+      requested false b d e k all = absurd cc
 
-    -- a rank that is closed to the pool does not pass
-    closed-fails : (x : Rank) → is_closed_rank p x kept.members ≡ true → takes x ≡ false
-    closed-fails x closed = by (request_entry x.request s.requests) (closed-shut c s kept are p x closed) where
-      by : (o : Option RequestEntry) → option_map_or (is_open_to p) o false ≡ false → option_map_or (is_candidate c s p) o false ≡ false
-      by None is = refl
-      by (Some e) is = and_false (is_open_to p e) (is_none (blocking c s p e.kept)) is
+      equal : (a b : ℕ) → (a == b) ≡ true → a ≡ b
+      equal a b same = grind (arith, nat_tests)
 
-    -- so from a place on the same pass as from the next place that is not closed
-    passed-over : (place found : ℕ) → IsOpenFrom kept.members p place found → filter takes (drop place (ranks_of kept.members)) ≡ filter takes (drop found (ranks_of kept.members))
-    passed-over place found ends = filter-open_from takes p kept.members closed-fails place found ends
-
-    -- the walk from place to place: what is left of those that pass
-    module _ (at : ℕ) where
-      abbrev left-of : ℕ → ℕ → Option Rank
-      left-of place left = slice_get (filter takes (drop place (ranks_of kept.members))) left
-
-      abbrev sought : Option Rank
-      sought = slice_get (filter takes (ranks_of kept.members)) at
-
-      pub walk-begins : (found : ℕ) → IsOpenFrom kept.members p 0 found → left-of found at ≡ sought
-      walk-begins found ends = ap (λ (xs : List Rank). slice_get xs at) (sym (passed-over 0 found ends))
-
-      module _ (place left : ℕ) (x : Rank) (is : slice_get (ranks_of kept.members) place ≡ Some x) (so_far : left-of place left ≡ sought) where
-        -- the last one that is to pass is the one sought
-        pub walk-ends : takes x ≡ true → left ≡ 0 → Some x.request ≡ option_map (λ rank. rank.request) sought
-        walk-ends passes last =
-            let here : left-of place left ≡ Some x = rw (there (ranks_of kept.members) place x is, passes, last) refl in
-            ap (option_map (λ (rank : Rank). rank.request)) (sym here ∙ so_far)
-
-        next-place : (found : ℕ) → IsOpenFrom kept.members p (place + 1) found → filter takes (drop (suc place) (ranks_of kept.members)) ≡ filter takes (drop found (ranks_of kept.members))
-        next-place found ends =
-            let next : suc place ≡ place + 1 = omega arith in
-            ap (λ (n : ℕ). filter takes (drop n (ranks_of kept.members))) next ∙ passed-over (place + 1) found ends
-
-        -- one that fails leaves as many
-        pub walk-fails : (found : ℕ) → IsOpenFrom kept.members p (place + 1) found → takes x ≡ false → left-of found left ≡ sought
-        walk-fails found ends fails =
-            let here : filter takes (drop place (ranks_of kept.members)) ≡ filter takes (drop (suc place) (ranks_of kept.members)) = rw (there (ranks_of kept.members) place x is, fails) refl in
-            ap (λ (xs : List Rank). slice_get xs left) (sym (here ∙ next-place found ends)) ∙ so_far
-
-        -- one that passes leaves one fewer
-        pub walk-passes : (found : ℕ) → IsOpenFrom kept.members p (place + 1) found → takes x ≡ true → (left ≡ 0 → ⊥) → left-of found (left - 1) ≡ sought
-        walk-passes found ends passes more =
-            let one : suc (left - 1) ≡ left = omega (arith, more) in
-            let here : slice_get (filter takes (drop place (ranks_of kept.members))) (suc (left - 1)) ≡ slice_get (filter takes (drop (suc place) (ranks_of kept.members))) (left - 1) = rw (there (ranks_of kept.members) place x is, passes) refl in
-            ap (λ (xs : List Rank). slice_get xs (left - 1)) (sym (next-place found ends)) ∙ sym here ∙ ap (left-of place) one ∙ so_far
-
-  -- if no two requests have one id, the first candidate in order is the least
-  pub candidate-first : Rises (λ a b. is_id_before a.id b.id) s.requests → candidate_of c s p 0 ≡ first_of c s p
-  candidate-first once =
-      ap (option_map (λ (e : RequestEntry). e.id))
-      (least-first (filter (is_candidate c s p) s.requests) (Rises-filter (λ a b. is_id_before a.id b.id) (is_candidate c s p) s.requests once))
+      by : (o : Option RequestEntry) → request_entry x.request s.requests ≡ o → option_map_or (fits (is_candidate c s p) x) o false ≡ true
+          → (line : ℕ) × (has x (ranks_of line kept.members) ≡ true) × (may_take_up c s p x.request ≡ true)
+      by None none all = absurd cc
+      by (Some e) found all =
+          let takes : is_candidate c s p e ≡ true = one (is_candidate c s p e) (e.kept.relative_priority == x.relative) all in
+          let same : e.kept.relative_priority ≡ x.relative = equal e.kept.relative_priority x.relative (other (is_candidate c s p e) (e.kept.relative_priority == x.relative) all) in (
+            line_of c kept.lines e.kept,
+            waits-there c s kept are (line_of c kept.lines e.kept) x e.kept (record {
+              there = ap (option_map (λ (k : RequestEntry). k.kept)) found;
+              requested = requested (is_requested e.kept.state) (is_none (holder e.queue)) (not (is_declined_by p e.kept.declined)) (not (is_pinned_away p e.kept)) (is_none (blocking c s p e.kept)) takes;
+              relative = same;
+              of_line = refl;
+            }),
+            ap (λ (o : Option RequestEntry). option_map_or (is_candidate c s p) o false) found ∙ takes,
+          )

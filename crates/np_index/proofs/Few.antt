@@ -4,16 +4,10 @@ use Rattle.std.specs.Prelude.{filter}
 use Rattle.std.proofs.lemmas.List.{length-map}
 use Rattle.np_text.specs.declared.id.PoolId.{PoolId}
 use Rattle.np_lists.proofs.Each.{length-filter_at_most}
-use Rattle.np_machine.specs.Entries.{NodeEntry, RequestEntry}
+use Rattle.np_machine.specs.Entries.{RequestEntry}
 use Rattle.np_machine.specs.Order.{is_pending_by}
 use Rattle.np_machine.specs.State.{State}
-use Rattle.np_look.specs.Readers.{declined_requests, is_still_requested, is_unheld, pending_requests, unheld_nodes}
+use Rattle.np_look.specs.Readers.{pending_requests}
 
 pub few-pending : (p : PoolId) (s : State) → length (pending_requests p s) ≤ length s.requests
 few-pending p s = omega (arith, length-map (filter (λ (e : RequestEntry). is_pending_by p e.kept) s.requests) (λ (e : RequestEntry). e.id), length-filter_at_most (λ (e : RequestEntry). is_pending_by p e.kept) s.requests)
-
-pub few-declined : (s : State) → length (declined_requests s) ≤ length s.requests
-few-declined s = omega (arith, length-map (filter (λ (e : RequestEntry). is_still_requested e.kept) s.requests) (λ (e : RequestEntry). e.id), length-filter_at_most (λ (e : RequestEntry). is_still_requested e.kept) s.requests)
-
-pub few-unheld : (p : PoolId) (s : State) → length (unheld_nodes p s) ≤ length s.nodes
-few-unheld p s = omega (arith, length-map (filter (is_unheld p) s.nodes) (λ (e : NodeEntry). e.id), length-filter_at_most (is_unheld p) s.nodes)

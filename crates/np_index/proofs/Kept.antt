@@ -5,10 +5,12 @@ use Rattle.np_machine.specs.State.{State}
 use Rattle.np_open.specs.Open.{AreOpen, OpenOf}
 use Rattle.np_active.specs.Active.{ActiveOf, AreActive, AreHandleGroups, AreJobGroups, AreSessionGroups}
 
--- where the members stay, they are those of the same state
-pub open-same : (c : Configuration) (s : State) (old new : OpenOf) → new.members ≡ old.members → AreOpen c s old → AreOpen c s new
-open-same c s old new members was =
-    subst (λ list. AreOpen c s (record { members = list; room = new.room })) (sym members) (record { rises = was.rises; each = was.each; once = was.once })
+-- where the members and the lines stay, they are those of the same state
+pub open-same : (c : Configuration) (s : State) (old new : OpenOf) → new.members ≡ old.members → new.lines ≡ old.lines → AreOpen c s old → AreOpen c s new
+open-same c s old new members lines was =
+    subst (λ list. AreOpen c s (record { members = list; room = new.room; lines = new.lines })) (sym members)
+    (subst (λ list. AreOpen c s (record { members = old.members; room = new.room; lines = list })) (sym lines)
+    (record { rises = was.rises; each = was.each; once = was.once }))
 
 pub active-same : (c : Configuration) (s : State) (old new : ActiveOf) → new.jobs ≡ old.jobs → new.handles ≡ old.handles → new.sessions ≡ old.sessions → AreActive c s old → AreActive c s new
 active-same c s old new jobs handles sessions was = record {

@@ -1,3 +1,6 @@
 pub mod Few
+pub mod Firsts
 pub mod CandidateLemmas
+pub mod WalkLemmas
+pub mod BestLemmas
 pub mod Kept

@@ -1,83 +1,119 @@
 //! The requests that a pool's launcher may take up, by their order.
 
-ghost use Rattle.std.specs.Prelude.{◌≡◌, filter, slice_get};
-ghost use Rattle.std.specs.Option.{option_map};
+ghost use Rattle.std.specs.Prelude.{◌≡◌};
 ghost use Rattle.np_fits.specs.Fits.{Fits};
 ghost use Rattle.np_machine.specs.First.{first_of};
 ghost use Rattle.np_classes.specs.Classes.{AreClasses};
 ghost use Rattle.np_open.specs.Open.{AreOpen, ranks_of};
-ghost use Rattle.np_index.specs.Candidates.{candidate_of, may_take_up};
+ghost use Rattle.np_index.specs.Candidates.{candidate_of, earlier_rank, next_among, open_record};
 ghost use Rattle.np_index.specs.Index.{IsIndexOf};
 
 use crate::index::Index;
 use np_classes::Classes;
 use np_counts::blocking;
 use np_look::{Look, asked_of, is_open_to};
-use np_open::Open;
+use np_open::{ByRank, Open, Rank};
+use np_record::RequestRecord;
+use np_table::Order;
 use np_text::{PoolId, RequestId};
 
-/// Whether the request is open to the pool and its tenant has room. Of a request that is held, only
-/// its holder is looked up.
-fn may_take_up<L: Look>(classes: &Classes, look: &L, pool: PoolId, request: RequestId) -> bool
-    requires fits { Fits (L.site look.now) (L.state look.now) }
-    requires classes { AreClasses (L.site look.now) (L.state look.now) classes.now }
-    ensures { result ≡ may_take_up (L.site look.now) (L.state look.now) pool request }
+/// The record of the request, if it is open to the pool. Of a request that is held, only its holder
+/// is looked up.
+fn open_record<L: Look>(look: &L, pool: PoolId, request: RequestId) -> Option<RequestRecord>
+    ensures { result ≡ open_record pool request (L.state look.now) }
 {
     if look.request_holder(request).is_some() {
-        return false;
+        return None;
     }
-    let Some(kept) = look.request(request) else {
-        return false;
-    };
-    is_open_to(pool, &kept, None) && blocking(classes, look, pool, &asked_of(&kept)).is_none()
+    let kept = look.request(request)?;
+    if is_open_to(pool, &kept, None) {
+        Some(kept)
+    } else {
+        None
+    }
 }
 
-/// The request at a place among the requested ones that the pool's launcher may take up. A run of
-/// requests that the pool declined, or that are pinned to others, is passed over at once.
-fn candidate_among<L: Look>(
+/// The first rank of the line whose request the pool's launcher may take up, of those after `after`
+/// if that is there; but the best so far if that comes first. The walk ends where ranks come after
+/// the best so far. Requests that are closed to the pool are passed over a run at a time, and one
+/// that is held at the cost of looking its holder up. In the common line the tenants of the others
+/// are asked for room until one has it; in any other line only that of the first, since the requests
+/// there are alike.
+fn earlier_in_line<L: Look>(
     classes: &Classes,
     requested: &Open,
     look: &L,
     pool: PoolId,
-    at: u32,
-) -> Option<RequestId>
+    line: u64,
+    after: Option<Rank>,
+    best: Option<Rank>,
+) -> Option<Rank>
     requires fits { Fits (L.site look.now) (L.state look.now) }
     requires classes { AreClasses (L.site look.now) (L.state look.now) classes.now }
     requires requested { AreOpen (L.site look.now) (L.state look.now) requested.now }
-    ensures { result ≡ option_map (λ rank. rank.request) (slice_get (filter
-        (λ rank. may_take_up (L.site look.now) (L.state look.now) pool rank.request)
-        (ranks_of requested.now.members)) at) }
+    ensures { result ≡ earlier_rank best (next_among (L.site look.now) (L.state look.now) pool after
+        (ranks_of line requested.now.members)) }
 {
-    let end = requested.len();
-    let mut left = at;
-    let mut place = requested.open_from(pool, 0);
+    let are_alike = line != 0;
+    let from = match after {
+        None => 0,
+        Some(rank) => requested.past(line, rank),
+    };
+    let end = requested.len(line);
+    let mut place = requested.open_from(pool, line, from);
     while place < end {
-        let Some(rank) = requested.at(place) else {
-            return None;
+        let rank = requested.at(line, place)?;
+        let is_first = match &best {
+            None => true,
+            Some(first) => ByRank::is_before(rank, *first),
         };
-        if may_take_up(classes, look, pool, rank.request) {
-            if left == 0 {
-                return Some(rank.request);
-            }
-            left -= 1;
+        if !is_first {
+            return best;
         }
-        place = requested.open_from(pool, place + 1);
+        if let Some(kept) = open_record(look, pool, rank.request) {
+            if blocking(classes, look, pool, &asked_of(&kept)).is_none() {
+                return Some(rank);
+            }
+            if are_alike {
+                return best;
+            }
+        }
+        place = requested.open_from(pool, line, place + 1);
     }
-    None
+    best
 }
 
 impl Index {
     /// The request at a place among those that the pool's launcher may take up, in the order in
-    /// which launchers take them up. Requests that are closed to the pool, since it declined them or
-    /// they are pinned to others, are passed over a run at a time, which costs the square of the
-    /// logarithm. Of each other request before the answer that is held the holder is looked up, and
-    /// of one whose tenant has no room what the tenant uses.
+    /// which launchers take them up. For each request up to that place each line that has a request
+    /// is found by a binary search, and walked to the first that may be taken up and comes after the
+    /// request before; no further than to the best of the lines before it.
+    ///
+    /// In a line, requests that are closed to the pool, since it declined them or they are pinned to
+    /// others, are passed over a run at a time, which costs the square of the logarithm; of one that
+    /// is held, the holder is looked up. What a tenant uses is read for at most one request of each
+    /// line but the common one, so that a tenant at its limit costs by the different label lists that
+    /// wait, and not by its requests. In the common line a request that is pinned, or has no tenant
+    /// with a limit, has room without that; for each other one there, as one whose labels are not
+    /// those of its job, what its tenant uses may be read.
     pub fn candidate_at<L: Look>(&self, look: &L, pool: PoolId, at: u32) -> Option<RequestId>
         requires fits { Fits (L.site look.now) (L.state look.now) }
         requires index { IsIndexOf (L.site look.now) (L.state look.now) self.now }
         ensures { result ≡ candidate_of (L.site look.now) (L.state look.now) pool at }
     {
-        candidate_among(&self.classes, &self.requested, look, pool, at)
+        let requested = &self.requested;
+        let mut after = None;
+        for _place in 0..=at {
+            let mut best = None;
+            let mut next = requested.first_line();
+            while let Some(line) = next {
+                best = earlier_in_line(&self.classes, requested, look, pool, line, after, best);
+                next = requested.line_after(line);
+            }
+            let found = best?;
+            after = Some(found);
+        }
+        Some(after?.request)
     }
 
     /// The first request that the pool's launcher may take up. It costs what `candidate_at` does.

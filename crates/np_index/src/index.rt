@@ -15,14 +15,14 @@ ghost use Rattle.np_machine.specs.Semaphore.{has_live_session};
 ghost use Rattle.np_machine.specs.State.{State};
 ghost use Rattle.np_machine.specs.Tables.{handles_of, has_handle};
 ghost use Rattle.np_machine.specs.Tenants.{count_of_tenant};
-ghost use Rattle.np_look.specs.Readers.{active_of, current_of, declined_requests, first_mute, free_ready_of, pending_requests, queued_nodes, queued_requests, unfinished_of, unheld_nodes};
+ghost use Rattle.np_look.specs.Readers.{active_of, current_of, first_declined_by_all, first_due, first_mute, free_ready_of, new_of, pending_requests, queued_nodes, queued_requests, unfinished_of};
 ghost use Rattle.np_index.specs.Index.{IsIndexOf};
 
 use np_active::Active;
 use np_amount::Amount;
 use np_changes::Asked;
 use np_classes::Classes;
-use np_look::Look;
+use np_look::{Look, UnheldKind};
 use np_lookups::Lookups;
 use np_open::Open;
 use np_text::{
@@ -92,6 +92,15 @@ impl Index {
             → result ≡ active_of c requester at s }
     {
         self.active.job_at(requester, at)
+    }
+
+    /// The job at a place among the requester's new jobs, in order of their numbers. It costs one
+    /// lookup.
+    pub fn new_job(&self, requester: RequesterId, at: u32) -> Option<JobId>
+        ensures { (c : Configuration) (s : State) → IsIndexOf c s self.now
+            → result ≡ new_of c requester at s }
+    {
+        self.active.new_job_at(requester, at)
     }
 
     /// How many jobs have a handle of the semaphore. It costs two lookups.
@@ -169,8 +178,8 @@ impl Index {
         self.lookups.owner(node)
     }
 
-    /// The tenant that has no room now for a request that the pool may serve. It costs what the tenant
-    /// uses, if the tenant has a limit.
+    /// The tenant that has no room now for a request that the pool may serve. It costs what `used_by`
+    /// does, if the tenant has a limit.
     pub fn blocking<L: Look>(&self, look: &L, pool: PoolId, asked: &Asked) -> Option<TenantId>
         requires fits { Fits (L.site look.now) (L.state look.now) }
         requires index { IsIndexOf (L.site look.now) (L.state look.now) self.now }
@@ -192,8 +201,9 @@ impl Index {
         np_counts::used(&self.classes, look, pool)
     }
 
-    /// What the tenant uses: its nodes, and what its pending requests still wait for. It costs a
-    /// lookup for each of these.
+    /// What the tenant uses: its nodes, and what its pending requests still wait for. It costs a few
+    /// lookups for each pool and label of which the tenant has nodes, and one for each of its pending
+    /// requests that still wait for nodes.
     pub fn used_by<L: Look>(&self, look: &L, tenant: TenantId) -> Amount
         requires fits { Fits (L.site look.now) (L.state look.now) }
         requires index { IsIndexOf (L.site look.now) (L.state look.now) self.now }
@@ -240,8 +250,8 @@ impl Index {
         np_counts::has_spent_min_ready(&self.classes, pool, label)
     }
 
-    /// Whether a request that is pending by the pool waits for room. It costs what the pool uses and
-    /// a lookup of each request that is pending by the pool.
+    /// Whether a request that is pending by the pool waits for room. It costs what `used` does, and a
+    /// few lookups for each label that such requests wait for.
     pub fn is_paused<L: Look>(&self, look: &L, pool: PoolId) -> bool
         requires fits { Fits (L.site look.now) (L.state look.now) }
         requires index { IsIndexOf (L.site look.now) (L.state look.now) self.now }
@@ -267,36 +277,23 @@ impl Index {
         np_counts::pending_request_at(&self.classes, pool, at)
     }
 
-    /// How many requests are requested and declined by at least one pool. It costs one lookup.
-    pub fn declined_requests(&self) -> usize
-        ensures { (c : Configuration) (s : State) → IsIndexOf c s self.now
-            → result ≡ length (declined_requests s) }
+    /// The first request, by priority and then sequence, that is requested and that every registered
+    /// pool declined; `None` if there is none, or no pool is registered. It costs a few lookups for
+    /// each different set of pools that declined, and of the first request of each set one lookup
+    /// and a scan of its declines for each registered pool.
+    pub fn first_declined_by_all<L: Look>(&self, look: &L) -> Option<RequestId>
+        requires index { IsIndexOf (L.site look.now) (L.state look.now) self.now }
+        ensures { result ≡ first_declined_by_all (L.state look.now) }
     {
-        np_counts::declined_requests(&self.classes)
+        np_counts::first_declined_by_all(&self.classes, look)
     }
 
-    /// The request at a place among those that are requested and declined by at least one pool, by
-    /// priority and then sequence. It costs one lookup.
-    pub fn declined_request_at(&self, at: u32) -> Option<RequestId>
+    /// The node of the pool that nobody holds and that is of this kind which is due first, and of
+    /// several the first by number. It costs two lookups.
+    pub fn first_due(&self, pool: PoolId, kind: UnheldKind) -> Option<NodeId>
         ensures { (c : Configuration) (s : State) → IsIndexOf c s self.now
-            → result ≡ slice_get (declined_requests s) at }
+            → result ≡ first_due c pool kind s }
     {
-        np_counts::declined_request_at(&self.classes, at)
-    }
-
-    /// How many nodes of the pool nobody holds. It costs one lookup.
-    pub fn unheld_nodes(&self, pool: PoolId) -> usize
-        ensures { (c : Configuration) (s : State) → IsIndexOf c s self.now
-            → result ≡ length (unheld_nodes pool s) }
-    {
-        np_counts::unheld_nodes(&self.classes, pool)
-    }
-
-    /// The node at a place among those of the pool that nobody holds, by number. It costs one lookup.
-    pub fn unheld_node_at(&self, pool: PoolId, at: u32) -> Option<NodeId>
-        ensures { (c : Configuration) (s : State) → IsIndexOf c s self.now
-            → result ≡ slice_get (unheld_nodes pool s) at }
-    {
-        np_counts::unheld_node_at(&self.classes, pool, at)
+        np_counts::first_due(&self.classes, pool, kind)
     }
 }

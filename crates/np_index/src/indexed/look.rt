@@ -1,14 +1,13 @@
 //! What can be read of a keeper with an index: what the index has, and else what the keeper reports.
 
 ghost use Rattle.std.specs.Prelude.{◌≡◌, ◌≤◌};
-ghost use Rattle.np_machine.specs.Semaphore.{max_of};
 
 use crate::indexed::Indexed;
 use np_amount::Amount;
 use np_changes::Asked;
 use np_config::Config;
 use np_decision::StateKeeper;
-use np_look::{Look, NodeView, RequestView};
+use np_look::{Look, NodeView, RequestView, UnheldKind};
 use np_machine::{Registration, SessionFacts};
 use np_record::{JobRecord, NodeRecord, RequestRecord, RoleRecord};
 use np_text::{
@@ -22,16 +21,6 @@ fn number_of(rows: usize, most: u32) -> u32
 {
     let _most = most;
     rows as u32
-}
-
-/// How many jobs may have a handle of the semaphore.
-fn most_handles(config: &Config, semaphore: SemId) -> u32
-    ensures { result ≡ max_of config.now semaphore }
-{
-    match config.semaphore(semaphore) {
-        None => 0,
-        Some(row) => row.max,
-    }
 }
 
 impl<K: StateKeeper + Drop> Look for Indexed<K> {
@@ -139,24 +128,19 @@ impl<K: StateKeeper + Drop> Look for Indexed<K> {
         self.index.pending_request_at(pool, at)
     }
 
-    fn declined_requests(&self) -> u32 {
-        number_of(self.index.declined_requests(), self.keeper.requests())
+    fn first_declined_by_all(&self) -> Option<RequestId> {
+        self.index.first_declined_by_all(&self.keeper)
     }
 
-    fn declined_request_at(&self, at: u32) -> Option<RequestId> {
-        self.index.declined_request_at(at)
-    }
-
-    fn unheld_nodes(&self, pool: PoolId) -> u32 {
-        number_of(self.index.unheld_nodes(pool), self.keeper.nodes())
-    }
-
-    fn unheld_node_at(&self, pool: PoolId, at: u32) -> Option<NodeId> {
-        self.index.unheld_node_at(pool, at)
+    fn first_due(&self, pool: PoolId, kind: UnheldKind) -> Option<NodeId> {
+        self.index.first_due(pool, kind)
     }
 
     fn handles(&self, semaphore: SemId) -> u32 {
-        let most = most_handles(self.keeper.config(), semaphore);
+        let most = match self.keeper.config().semaphore(semaphore) {
+            None => 0,
+            Some(row) => row.max,
+        };
         number_of(self.index.handles(semaphore), most)
     }
 
@@ -268,6 +252,10 @@ impl<K: StateKeeper + Drop> Look for Indexed<K> {
 
     fn active(&self, requester: RequesterId, at: u32) -> Option<JobId> {
         self.index.active(requester, at)
+    }
+
+    fn new_job(&self, requester: RequesterId, at: u32) -> Option<JobId> {
+        self.index.new_job(requester, at)
     }
 
     fn owner(&self, node: NodeId) -> Option<JobId> {

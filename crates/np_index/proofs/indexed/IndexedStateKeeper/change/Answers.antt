@@ -21,7 +21,7 @@ invariant_of-self-in-Err g c =
     rw (c.in-Err.ensures.site, c.in-Err.ensures.err) (record {
       lookups = subst (AreLookupsOf _ _) (sym c.take_back.ensures) c.in_ok-prepared.ensures.ok.unmade;
       classes = classes-same _ _ _ _ c.prepare.ensures.nodes c.prepare.ensures.requests are.classes;
-      requested = open-same _ _ _ _ c.prepare-2.ensures.members are.requested;
+      requested = open-same _ _ _ _ c.prepare-2.ensures.members c.prepare-2.ensures.lines are.requested;
       active = active-same _ _ _ _ c.prepare-3.ensures.jobs c.prepare-3.ensures.handles c.prepare-3.ensures.sessions are.active;
     })
 
@@ -38,6 +38,6 @@ invariant_of-self-2 g c =
     rw (c.in_default.ensures.site, c.in_default.ensures.ok) (record {
       lookups = subst (AreLookupsOf _ _) (sym (c.settle.ensures ∙ ap (λ config. lookups_made config c.args.changes.now c.in_ok-prepared.prepared c.prepare-4.new.self) (c.config-config.ensures ∙ site))) c.in_ok-prepared.ensures.ok.made;
       classes = c.note.ensures _ _ c.args.changes.now reached ready site state (classes-same _ _ _ _ c.prepare.ensures.nodes c.prepare.ensures.requests are.classes);
-      requested = c.note-2.ensures _ _ c.args.changes.now reached (c.in_ok-moved.ensures.prepared c.args.changes.now listed) site state (open-same _ _ _ _ c.prepare-2.ensures.members are.requested);
+      requested = c.note-2.ensures _ _ c.args.changes.now reached (c.in_ok-moved.ensures.prepared c.args.changes.now listed) site state (open-same _ _ _ _ c.prepare-2.ensures.members c.prepare-2.ensures.lines are.requested);
       active = c.note-3.ensures _ _ reached planned c.in_ok-asker.ensures.asker site state (active-same _ _ _ _ c.prepare-3.ensures.jobs c.prepare-3.ensures.handles c.prepare-3.ensures.sessions are.active);
     })
