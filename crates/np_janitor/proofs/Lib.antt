@@ -1,5 +1,9 @@
 pub mod Janitors
+pub mod Found
+pub mod Soonest
+pub mod Cleaning
 pub mod Lists
+pub mod FailLemmas
 pub mod Strikes
 pub mod FinishLemmas
 pub mod Pools

@@ -1,15 +1,13 @@
 //! Which nodes a janitor removes or frees.
 
-ghost use Rattle.std.specs.Prelude.{◌≡◌, ◌&&◌, is_some, is_none};
-ghost use Rattle.np_machine.specs.Node.{standing};
-ghost use Rattle.np_machine.specs.Reasons.{ready_age, is_past, is_old_ready, is_old_hold, is_paused};
+ghost use Rattle.std.specs.Prelude.{◌≡◌};
+ghost use Rattle.np_machine.specs.Reasons.{is_past, is_old_ready, is_old_hold, is_paused};
 ghost use Rattle.np_fits.specs.Fits.{Fits};
 ghost use Rattle.np_useful.specs.Cleanable.{is_left_over, is_to_go, is_cleanable};
 
-use np_config::Config;
-use np_look::Look;
+use np_look::{Look, ready_age};
 use np_record::NodeRecord;
-use np_text::{LabelId, NodeState, PoolId};
+use np_text::{NodeState, PoolId};
 
 /// A pool, with whether it is paused.
 #[derive(Clone, Copy)]
@@ -37,15 +35,6 @@ fn is_past(age: u32, since: u32, tick: u32) -> bool
     age > 0 && tick.saturating_sub(since) > age
 }
 
-fn ready_age(config: &Config, label: LabelId) -> u32
-    ensures { result ≡ ready_age config.now label }
-{
-    match config.label(label) {
-        None => 0,
-        Some(row) => row.max_ready_age,
-    }
-}
-
 /// Whether it has been ready for longer than its label allows.
 fn is_old_ready<L: Look>(look: &L, kept: &NodeRecord) -> bool
     ensures { result ≡ is_old_ready (L.site look.now) (L.state look.now) kept.now }
@@ -68,10 +57,7 @@ fn is_old_hold<L: Look>(look: &L, kept: &NodeRecord) -> bool
 fn is_left_over<L: Look>(look: &L, kept: &NodeRecord) -> bool
     ensures { result ≡ is_left_over (L.state look.now) kept.now }
 {
-    match kept.allocated_to {
-        None => false,
-        Some(request) => look.asked(request).is_none(),
-    }
+    kept.allocated_to.is_some() && look.is_unclaimed(kept)
 }
 
 /// Whether it is allocated to no request, and old or in a paused pool.

@@ -22,7 +22,7 @@ ghost use Rattle.np_janitor.specs.Order.{janitor_order};
 ghost use Rattle.np_janitor.specs.Finishes.{ChoosesFinish};
 
 use crate::cleanable::{PoolPause, is_cleanable};
-use crate::listed::{FailsOfDeclined, LocksOfPending, LocksOfUnheld};
+use crate::listed::{LocksOfDue, LocksOfPending};
 use np_event::Event;
 use np_look::{Look, is_same_role};
 use np_roles::{
@@ -227,10 +227,10 @@ fn lacks_registration<L: Look>(look: &L) -> bool
 }
 
 /// The first useful failing of a request, by priority and then sequence, or `None` if and only if
-/// there is none. Only while a pool of the configuration has no registration, it tests the requests
-/// that are requested and that some pool declined. Otherwise there is none: a decline that leaves
-/// no registered pool fails the request at once, so each request that is requested has a pool of
-/// the configuration left that has not declined it, and that pool is registered.
+/// there is none. Only while a pool of the configuration has no registration, it looks up and tests
+/// the first request that every registered pool declined. Otherwise there is none: a decline that
+/// leaves no registered pool fails the request at once, so each request that is requested has a
+/// pool of the configuration left that has not declined it, and that pool is registered.
 fn first_fail<L: Look>(look: &L, rows: &JanitorRows, session: SessionId) -> Option<Event>
     requires reached { IsReached (L.site look.now) (L.state look.now) }
     requires fits { Fits (L.site look.now) (L.state look.now) }
@@ -243,7 +243,15 @@ fn first_fail<L: Look>(look: &L, rows: &JanitorRows, session: SessionId) -> Opti
     if !lacks_registration(look) {
         return None;
     }
-    first_that_passes(look, rows, &FailsOfDeclined { session })
+    let Some(request) = look.first_declined_by_all() else {
+        return None;
+    };
+    let fail = Event::FailDeclined { session, request };
+    if passes(look, rows, fail) {
+        Some(fail)
+    } else {
+        None
+    }
 }
 
 /// The first useful lock of a request, by priority and then sequence, or `None` if and only if
@@ -260,9 +268,11 @@ fn first_request_lock<L: Look>(look: &L, rows: &JanitorRows, session: SessionId)
     first_that_passes(look, rows, &LocksOfPending { session, pool })
 }
 
-/// The first useful lock of a node, by number, or `None` if and only if there is none. It tests the
-/// nodes of the pool that nobody holds.
+/// A useful lock of a node, or `None` if and only if there is none. It looks up and tests four nodes
+/// at most, however many the pool has: of those that nobody holds the one that is due first, by
+/// kind, in the order abandoned, left over, on hold, free.
 fn first_node_lock<L: Look>(look: &L, rows: &JanitorRows, session: SessionId) -> Option<Event>
+    requires reached { IsReached (L.site look.now) (L.state look.now) }
     requires fits { Fits (L.site look.now) (L.state look.now) }
     requires known { rows.now.known.paused ≡
         is_paused (L.site look.now) (L.state look.now) rows.now.known.pool }
@@ -271,16 +281,18 @@ fn first_node_lock<L: Look>(look: &L, rows: &JanitorRows, session: SessionId) ->
         (Node of_node.Lock) result }
 {
     let pool = rows.known.pool;
-    first_that_passes(look, rows, &LocksOfUnheld { session, pool })
+    first_that_passes(look, rows, &LocksOfDue { session, pool })
 }
 
 /// A useful event of the pool's janitor, the first in the order of the crate's table, or `None` if
 /// and only if there is none, in a state that a run reaches. Its cost grows with what its session
-/// queues for, with the requests that are pending by the pool, with the nodes of the pool that
-/// nobody holds, with the active jobs of the requesters that stopped for good, and with the handles
-/// that jobs have: each of these is found by a lookup if the state keeps an index, and so is the
-/// janitor's session. Only while a pool of the configuration has no registration, it grows with the
-/// requests that some pool declined, too.
+/// queues for, with the requests that are pending by the pool, with the active jobs of the
+/// requesters that stopped for good, and with the handles that jobs have: each of these is found by
+/// a lookup if the state keeps an index, and so is the janitor's session. Lock-node costs four
+/// lookups, however many nodes the pool has: of those that nobody holds the one that is due first,
+/// by kind, abandoned, left over, on hold and free. Fail-declined costs one lookup, of the first
+/// request that every registered pool declined, only while a pool of the configuration has no
+/// registration.
 pub fn choose_janitor<L: Look>(look: &L, pool: PoolId) -> Option<Event>
     requires reached { IsReached (L.site look.now) (L.state look.now) }
     requires fits { Fits (L.site look.now) (L.state look.now) }

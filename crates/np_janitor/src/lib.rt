@@ -2,8 +2,8 @@
 //! if there is none. The choices keep no memory, and read the state through `Look`.
 //!
 //! A janitor takes the first useful event in this order, and within a kind the first in the order
-//! of its table. What it holds comes first, since that makes room; what takes a new lock comes
-//! last.
+//! of its table; of the nodes to lock it takes one that is due first. What it holds comes first,
+//! since that makes room; what takes a new lock comes last.
 //!
 //! | event | why it is in this place |
 //! |---|---|
@@ -29,20 +29,25 @@
 //!
 //! - the requests and nodes in whose queues its session is, for what only a session in a queue may
 //!   do,
-//! - while a pool of the configuration has no registration, the requests that are requested and
-//!   that some pool declined, for fail-declined: once each pool has its registration, each request
-//!   that is requested has a registered pool left that has not declined it,
+//! - while a pool of the configuration has no registration, the first request that is requested and
+//!   that every registered pool declined, for fail-declined: once each pool has its registration,
+//!   each request that is requested has a registered pool left that has not declined it,
 //! - the active jobs of each requester that stopped for good, which use their nodes or whose request
 //!   is fulfilled or failed, for finish,
 //! - the jobs that have a handle, semaphore by semaphore, for release,
 //! - the requests that are pending by the pool, for lock-request, and
-//! - the nodes of the pool that nobody holds, for lock-node.
+//! - for lock-node four nodes at most: of the pool's nodes that nobody holds the one that is due
+//!   first, by kind, first of the abandoned (building, in use, used, deleting or failed), then of
+//!   the ready ones whose request is gone, of those on hold, and of the free ones. If that one need
+//!   not be cleaned up, no other of its kind need be.
 //!
-//! Each of these lists is a reader of `Look`, and so is its session: if the state keeps an index,
-//! the reader is a lookup, and the choice costs nothing for the other requests, nodes, jobs and
-//! sessions. So its cost grows with the number of these, and with the limit of requesters and the
-//! configuration's faults and semaphores. A test of a node determines whether another pool is
-//! paused only if the janitor waits at a node of that pool.
+//! Each of these is a reader of `Look`, and so is its session: if the state keeps an index, the
+//! reader is a lookup, and the choice costs nothing for the other requests, nodes, jobs and
+//! sessions. So its cost grows with the lengths of these lists, and with the limit of requesters
+//! and the configuration's faults and semaphores. Lock-node costs four lookups, however many nodes
+//! the pool has, and fail-declined one, only while a pool of the configuration has no registration.
+//! A test of a node determines whether another pool is paused only if the janitor waits at a node
+//! of that pool.
 //!
 //! The oldest mute session and the current session of a role are such readers, too. So the cost of
 //! the reaper's choice grows with the configuration's faults and not with the sessions: a fault for

@@ -1,12 +1,12 @@
-//! What a janitor takes up as candidates: the requests and nodes of the three kinds that a reader
-//! of `Look` lists.
+//! What a janitor takes up as candidates: the requests that are pending by its pool, and of each
+//! kind of nodes the one that is due first.
 
-ghost use Rattle.std.specs.Prelude.{◌≡◌, length};
-ghost use Rattle.np_look.specs.Readers.{pending_requests, declined_requests, unheld_nodes};
-ghost use Rattle.np_janitor.specs.Candidates.{lock_pending_at, fail_declined_at, lock_unheld_at};
+ghost use Rattle.std.specs.Prelude.{◌≡◌, length, slice_get};
+ghost use Rattle.np_look.specs.Readers.{pending_requests};
+ghost use Rattle.np_janitor.specs.Candidates.{tried_kinds, lock_pending_at, lock_due_at};
 
 use np_event::Event;
-use np_look::Look;
+use np_look::{Look, UnheldKind};
 use np_roles::Candidates;
 use np_text::{PoolId, SessionId};
 
@@ -37,56 +37,44 @@ impl Candidates for LocksOfPending {
     }
 }
 
-/// The session's failing of the requests that are requested and that some pool declined, by
-/// priority and then sequence.
-#[derive(Clone, Copy)]
-pub(crate) struct FailsOfDeclined {
-    pub(crate) session: SessionId,
+/// The kinds of nodes that nobody holds, in the order in which they are tried.
+const TRIED: [UnheldKind; 4] = [
+    UnheldKind::Abandoned,
+    UnheldKind::LeftOver,
+    UnheldKind::Hold,
+    UnheldKind::Free,
+];
+
+/// The kind at a place of that order.
+fn kind_at(at: u32) -> Option<UnheldKind>
+    ensures { result ≡ slice_get tried_kinds at }
+{
+    TRIED.get(at as usize).copied()
 }
 
-impl Candidates for FailsOfDeclined {
-    ghost places = { λ of c s. length (declined_requests s) };
-
-    ghost candidate = { λ of c s at. fail_declined_at s of.session at };
-
-    fn places<L: Look>(&self, look: &L) -> u32 {
-        look.declined_requests()
-    }
-
-    fn candidate<L: Look>(&self, look: &L, at: u32) -> Option<Event> {
-        match look.declined_request_at(at) {
-            None => None,
-            Some(request) => Some(Event::FailDeclined {
-                session: self.session,
-                request,
-            }),
-        }
-    }
-}
-
-/// The session's locks of the nodes of the pool that nobody holds, by number.
+/// The session's locks of the nodes of the pool that nobody holds and that are due first: for each
+/// kind that of one node.
 #[derive(Clone, Copy)]
-pub(crate) struct LocksOfUnheld {
+pub(crate) struct LocksOfDue {
     pub(crate) session: SessionId,
     pub(crate) pool: PoolId,
 }
 
-impl Candidates for LocksOfUnheld {
-    ghost places = { λ of c s. length (unheld_nodes of.pool s) };
+impl Candidates for LocksOfDue {
+    ghost places = { λ of c s. length tried_kinds };
 
-    ghost candidate = { λ of c s at. lock_unheld_at s of.session of.pool at };
+    ghost candidate = { λ of c s at. lock_due_at c s of.session of.pool at };
 
-    fn places<L: Look>(&self, look: &L) -> u32 {
-        look.unheld_nodes(self.pool)
+    fn places<L: Look>(&self, _look: &L) -> u32 {
+        TRIED.len() as u32
     }
 
     fn candidate<L: Look>(&self, look: &L, at: u32) -> Option<Event> {
-        match look.unheld_node_at(self.pool, at) {
-            None => None,
-            Some(node) => Some(Event::LockNode {
-                session: self.session,
-                node,
-            }),
-        }
+        let kind = kind_at(at)?;
+        let node = look.first_due(self.pool, kind)?;
+        Some(Event::LockNode {
+            session: self.session,
+            node,
+        })
     }
 }

@@ -1,7 +1,7 @@
-use Rattle.std.proofs.Common.{◌≡◌, arith, false}
+use Rattle.std.proofs.Common.{◌≡◌, sym, arith, false}
 use Rattle.std.proofs.lemmas.Bool.Decides.{nat_tests}
 use Rattle.np_janitor.specs.Candidates.{lacks_registration}
-use Rattle.np_janitor.proofs.Lists.{declined-choose}
+use Rattle.np_janitor.proofs.FailLemmas.{no-first, first-refused, first-useful}
 use Rattle.np_janitor.proofs.Undeclined.{none-fails}
 use Rattle.np_janitor.proofs.janitor.first_fail.Goals as goal
 
@@ -10,7 +10,17 @@ returns-then-not-lacks_registration g c =
     let none_missing : lacks_registration (g.L.Look.site c.args.look.now) (g.L.Look.state c.args.look.now) ≡ false = grind (arith, nat_tests, c.lacks_registration.ensures, c.if-not-lacks_registration.ensures) in
     none-fails (g.L.Look.site c.args.look.now) (g.L.Look.state c.args.look.now) c.requires.reached none_missing c.args.rows.now.known.pool
 
-pub returns : goal.returns
-returns g c =
-    declined-choose (g.L.Look.site c.args.look.now) (g.L.Look.state c.args.look.now) c.args.rows.now.known.pool c.args.session c.requires.current
-    c.first_that_passes.result c.first_that_passes.ensures
+pub returns-in_default : goal.returns-in_default
+returns-in_default g c =
+    no-first (g.L.Look.site c.args.look.now) (g.L.Look.state c.args.look.now) c.args.session c.requires.reached c.args.rows.now.known.pool c.requires.current
+    (sym c.in_default.ensures)
+
+pub returns-then-passes : goal.returns-then-passes
+returns-then-passes g c =
+    first-useful (g.L.Look.site c.args.look.now) (g.L.Look.state c.args.look.now) c.args.session c.args.rows.now.known.pool c.requires.current
+    c.in-Some.request (sym c.if-passes.ensures)
+
+pub returns-else-passes : goal.returns-else-passes
+returns-else-passes g c =
+    first-refused (g.L.Look.site c.args.look.now) (g.L.Look.state c.args.look.now) c.args.session c.requires.reached c.args.rows.now.known.pool c.requires.current
+    c.in-Some.request (sym c.in-Some.ensures) (sym c.if-passes.ensures)
