@@ -1,3 +1,4 @@
+pub mod Rising
 pub mod WindowLemmas
 pub mod ForLemmas
 pub mod Active

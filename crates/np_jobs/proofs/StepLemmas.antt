@@ -13,14 +13,15 @@ use Rattle.np_event.specs.declared.event.Event.{Event}
 use Rattle.np_event.specs.declared.event.Event.TheVariants as ev
 use Rattle.np_event.specs.declared.reply.Done.{Done}
 use Rattle.np_machine.specs.declared.state.SessionFacts.{SessionFacts}
+use Rattle.np_machine.specs.Kinds.{is_new}
 use Rattle.np_machine.specs.Laws.{same_role, speaks_for}
 use Rattle.np_machine.specs.State.{State}
 use Rattle.np_machine.specs.Step.{judge}
 use Rattle.np_machine.specs.Tests.{maker}
-use Rattle.np_look.specs.Readers.{is_active_job, active_of, unfinished_of}
+use Rattle.np_look.specs.Readers.{is_active_job, active_of, new_of}
 use Rattle.np_useful.specs.Sessions.{is_current}
 use Rattle.np_useful.specs.Useful.{IsUseful, row_holds}
-use Rattle.np_useful.specs.Window.{window_of}
+use Rattle.np_useful.specs.Window.{is_in_window}
 use Rattle.np_roles.specs.Choices.{NoneOf, ChoosesOfAny}
 use Rattle.np_roles.specs.Passing.{passes}
 use Rattle.np_roles.specs.Kinds.{job_event}
@@ -33,10 +34,10 @@ use Rattle.np_changes.proofs.Tested.{ok-is}
 use Rattle.np_roles.proofs.Searches.{made-by, useful-passes}
 use Rattle.np_roles.proofs.Openings.{same-role}
 use Rattle.np_roles.proofs.Among.{among}
-use Rattle.np_jobs.specs.Steps.{steps, NoActiveStep, NoNewStep, ChoosesOfActive, ChoosesOfNew, ChoosesActive, ChoosesInWindow}
+use Rattle.np_jobs.specs.Steps.{phase_is, steps, NoActiveStep, NoNewStep, ChoosesOfActive, ChoosesOfNew, ChoosesActive, ChoosesInWindow}
 use Rattle.np_jobs.proofs.Active.{IsActive}
 use Rattle.np_jobs.proofs.Accepted.{IsToBegin, submit-begins, acquire-either, take-asked, finish-active}
-use Rattle.np_jobs.proofs.WindowLemmas.{window-place}
+use Rattle.np_jobs.proofs.WindowLemmas.{new-place}
 
 later : (n : ℕ) → 0 < n → (n == 0) ≡ false
 later n is = grind (arith, nat_tests)
@@ -61,16 +62,14 @@ module _ (c : Configuration) (s : State) (q : RequesterId) (session : SessionId)
       let is = spoken speaks.facts speaks.speaks in
       rw (begun, speaks.there, is.0, is.1.0) (ap (λ (role : Role). Ok role) is.1.1)
 
-  module _ (active : (k : ℕ) (j : JobId) → active_of c q k s ≡ Some j → NoActiveStep c s q session j) (begins : (k : ℕ) (j : JobId) → k < window_of c q → unfinished_of c q k s ≡ Some j → NoNewStep c s q session j) where
+  module _ (active : (k : ℕ) (j : JobId) → active_of c q k s ≡ Some j → NoActiveStep c s q session j) (begins : (j : JobId) → is_in_window c s q j ≡ true → NoNewStep c s q session j) where
     no_active_step : (j : JobId) → IsActive c s q j → NoActiveStep c s q session j
     no_active_step j is =
         let place = among (is_active_job c s q) 0 s.jobs j.0 is.kept j (omega arith) is.there is.active in
         active place.at j place.there
 
     no_new_step : (j : JobId) → IsToBegin c s q j → NoNewStep c s q session j
-    no_new_step j is =
-        let place = window-place c s q j is.within in
-        begins place.0 j place.1.0 place.1.1
+    no_new_step j is = begins j is.within
 
     -- no event of the kind is useful, if none that is accepted and whose row is true passes
     none_of : (kind : JobKind) → ((j : JobId) (what : Done) → judge c s (job_event kind session j) ≡ Ok what → row_holds c s (Requester q) (job_event kind session j) ≡ true → passes c s (Requester q) (job_event kind session j) ≡ false) → NoneOf c s (Requester q) (kind_of.Job kind)
@@ -117,6 +116,16 @@ no-new-step c s q session j (Some e) is none = absurd cc
 -- what holds of the job at a place holds of each job at that place
 pub same-job : (P : JobId → Type 0) (one other : JobId) (o : Option JobId) → o ≡ Some one → o ≡ Some other → P one → P other
 same-job P one other o first second is = let same : one ≡ other = (let told : Some one ≡ Some other = sym first ∙ second in cc) in subst P same is
+
+module _ (c : Configuration) (s : State) (q : RequesterId) (session : SessionId) where
+  if_new : (j : JobId) → (phase_is j s is_new ≡ true → NoNewStep c s q session j) → NoNewStep c s q session j
+  if_new j step = record { acquire = λ new. (step new).acquire new; submit = λ new. (step new).submit new }
+
+  -- if the walk has passed each new job in the window, no such job has such an event
+  pub window-passed : (at : ℕ) → ((k : ℕ) (j : JobId) → new_of c q k s ≡ Some j → is_in_window c s q j ≡ true → k < at) → ((k : ℕ) → k < at → (j : JobId) → new_of c q k s ≡ Some j → NoNewStep c s q session j) → (j : JobId) → is_in_window c s q j ≡ true → NoNewStep c s q session j
+  window-passed at ends passed j within = if_new j (λ new.
+      let place = new-place c s q j new within in
+      passed place.at (ends place.at j place.there within) j place.there)
 
 -- if nothing was found on the active jobs, the window decides
 pub steps-choose : (c : Configuration) (s : State) (q : RequesterId) (session : SessionId) → is_current (Requester q) session s ≡ true → (found : Option Event) → is_some found ≡ false → ChoosesActive c s q session found → (o : Option Event) → ChoosesInWindow c s q session o → ChoosesOfAny c s (Requester q) steps o

@@ -1,20 +1,26 @@
 -- the jobs of a requester that are not over, by their place among them
-use Rattle.std.proofs.Common.{◌≡◌, ◌<◌, ℕ, zero, suc, ◌+◌, List, [], ◌∷◌, take, drop, refl, sym, ap, ◌∙◌, arith, Option, Some, None, Bool, true, false, cond}
-use Rattle.std.specs.Prelude.{slice_get, count_by, nat_lt, if◌then◌else◌}
+use Rattle.std.proofs.Common.{◌≡◌, ◌<◌, ◌≤◌, ℕ, zero, suc, ◌+◌, List, [], ◌∷◌, take, drop, refl, sym, ap, ◌∙◌, arith, Option, Some, None, Bool, true, false, cond}
+use Rattle.std.specs.Prelude.{slice_get, count_by, nat_lt, nat_le, if◌then◌else◌, ◌&&◌, ◌==◌, not}
 use Rattle.std.specs.List.{zip}
 use Rattle.std.specs.Option.{option_map_or}
 use Rattle.std.proofs.lemmas.List.Sums.{sum_by-cons}
 use Rattle.std.proofs.lemmas.Bool.Decides.{nat_tests}
 use Rattle.np_text.specs.declared.id.JobId.{JobId}
 use Rattle.np_text.specs.declared.id.RequesterId.{RequesterId}
+use Rattle.np_text.specs.declared.word.Phase.{Phase}
+use Rattle.np_text.specs.declared.word.Phase.TheVariants as phase
 use Rattle.np_site.specs.Configuration.{Configuration}
 use Rattle.np_site.specs.declared.row.Job.{Job}
 use Rattle.np_record.specs.declared.record.JobRecord.{JobRecord}
+use Rattle.np_machine.specs.Kinds.{is_new, is_over}
 use Rattle.np_machine.specs.State.{State}
-use Rattle.np_look.specs.Readers.{is_unfinished_job, unfinished_from}
-use Rattle.np_roles.proofs.Among.{among}
+use Rattle.np_look.specs.Readers.{is_unfinished_job, unfinished_from, is_new_job, new_of}
+use Rattle.np_roles.proofs.Among.{IsAmong, among, before-end}
+use Rattle.np_useful.specs.Rows.{job_is}
 use Rattle.np_useful.specs.Window.{is_unfinished, jobs_of, window_of, is_in_window}
+use Rattle.np_jobs.specs.Steps.{phase_is}
 use Rattle.np_jobs.proofs.ForLemmas.{and-first}
+use Rattle.np_jobs.proofs.Rising.{listed, apart, in-order}
 
 -- ## the configuration's rows from a number on
 
@@ -141,17 +147,87 @@ module _ (c : Configuration) (s : State) (q : RequesterId) where
       let within : nat_lt place.at (window_of c q) ≡ true = sym (in-window place.at j place.there) ∙ is in
       (place.at, (grind (arith, nat_tests), place.there))
 
-  none_by : (j : JobId) (b : Bool) → is_in_window c s q j ≡ b → ((k : ℕ) → k < window_of c q → slice_get (unfinished_from c q 0 s.jobs) k ≡ Some j → ⊥) → is_in_window c s q j ≡ false
-  none_by j false is none = is
-  none_by j true is none = let place = window-place j is in absurd (none place.0 place.1.0 place.1.1)
+  unfinished_place : (j : JobId) (o : Option JobRecord) → slice_get s.jobs j.0 ≡ o → option_map_or (is_unfinished_job c q j) o false ≡ true → IsAmong (is_unfinished_job c q) 0 s.jobs j
+  unfinished_place j None there is = absurd cc
+  unfinished_place j (Some kept) there is = among (is_unfinished_job c q) 0 s.jobs j.0 kept j (omega arith) there is
 
-  -- a job that is at no place of the window is not in it
-  pub none-in-window : (j : JobId) → ((k : ℕ) → k < window_of c q → slice_get (unfinished_from c q 0 s.jobs) k ≡ Some j → ⊥) → is_in_window c s q j ≡ false
-  none-in-window j none = none_by j (is_in_window c s q j) refl none
+  -- the requester's own, and not over
+  abbrev pub IsOpen : JobId → Type 0
+  IsOpen j = option_map_or (is_unfinished_job c q j) (slice_get s.jobs j.0) false ≡ true
 
-  -- a job that is at a place of the window is in it
-  pub yes-in-window : (at : ℕ) (found j : JobId) → at < window_of c q → slice_get (unfinished_from c q 0 s.jobs) at ≡ Some found → found.0 ≡ j.0 → is_in_window c s q j ≡ true
-  yes-in-window at found j within there same =
-      let one : found ≡ j = ap (λ (n : ℕ). record { 0 = n }) same in
-      let test : nat_lt at (window_of c q) ≡ true = grind (arith, nat_tests) in
-      in-window at j (there ∙ ap (λ (x : JobId). Some x) one) ∙ test
+  -- a job that is over, or of another requester, is in no window
+  pub over-outside : (j : JobId) → option_map_or (is_unfinished_job c q j) (slice_get s.jobs j.0) false ≡ false → is_in_window c s q j ≡ false
+  over-outside j is = by (is_in_window c s q j) refl where
+    by : (b : Bool) → is_in_window c s q j ≡ b → is_in_window c s q j ≡ false
+    by false outside = outside
+    by true within =
+        let row = window_row j (slice_get (jobs_of c s) j.0) refl within in
+        absurd (let no : true ≡ false = sym row.1.1 ∙ rw row.1.0 at is in cc)
+
+  module _ (j : JobId) (own : IsOpen j) (last : ℕ) (width : last + 1 ≡ window_of c q) where
+    -- if the window's last place is past the end, each job that is not over is in the window
+    pub last-none : slice_get (unfinished_from c q 0 s.jobs) last ≡ None → is_in_window c s q j ≡ true
+    last-none none =
+        let place = unfinished_place j (slice_get s.jobs j.0) refl own in
+        let low : place.at < last = before-end (unfinished_from c q 0 s.jobs) last place.at j none place.there in
+        let test : nat_lt place.at (window_of c q) ≡ true = grind (arith, nat_tests) in
+        in-window place.at j place.there ∙ test
+
+    by_place : (end : JobId) → slice_get (unfinished_from c q 0 s.jobs) last ≡ Some end → (at : ℕ) → slice_get (unfinished_from c q 0 s.jobs) at ≡ Some j → (b : Bool) → nat_lt at (window_of c q) ≡ b → nat_lt at (window_of c q) ≡ nat_le j.0 end.0
+    by_place end found at there true test =
+        let low : at ≤ last = grind (arith, nat_tests) in
+        let order : j.0 + last ≤ end.0 + at = apart (is_unfinished_job c q) 0 s.jobs at last j end low there found in
+        let first : j.0 ≤ end.0 = omega (arith, low, order) in
+        let up_to : nat_le j.0 end.0 ≡ true = grind (arith, nat_tests) in
+        test ∙ sym up_to
+    by_place end found at there false test =
+        let past : last < at = grind (arith, nat_tests) in
+        let order : end.0 + at ≤ j.0 + last = apart (is_unfinished_job c q) 0 s.jobs last at end j (omega (arith, past)) found there in
+        let later : end.0 < j.0 = omega (arith, past, order) in
+        let beyond : nat_le j.0 end.0 ≡ false = grind (arith, nat_tests) in
+        test ∙ sym beyond
+
+    -- if there is a job at the last place, just those up to it are in the window
+    pub last-some : (end : JobId) → slice_get (unfinished_from c q 0 s.jobs) last ≡ Some end → is_in_window c s q j ≡ nat_le j.0 end.0
+    last-some end found =
+        let place = unfinished_place j (slice_get s.jobs j.0) refl own in
+        in-window place.at j place.there ∙ by_place end found place.at place.there (nat_lt place.at (window_of c q)) refl
+
+  -- ## new jobs in the window
+
+  new_unfinished : (own : Bool) (p : Phase) → (own && is_new p) ≡ true → (own && not (is_over p)) ≡ true
+  new_unfinished true phase.New is = refl
+  new_unfinished true phase.Asked is = absurd cc
+  new_unfinished true phase.Using is = absurd cc
+  new_unfinished true phase.Over is = absurd cc
+  new_unfinished false p is = absurd cc
+
+  -- a job that comes before one in the window is in the window, if it is new
+  earlier-within : (at : ℕ) (x j : JobId) → new_of c q at s ≡ Some x → x.0 ≤ j.0 → is_in_window c s q j ≡ true → is_in_window c s q x ≡ true
+  earlier-within at x j found order within =
+      let is = listed (is_new_job c q) 0 s.jobs at x found in
+      let place = among (is_unfinished_job c q) 0 s.jobs is.place is.kept x is.number_is is.there (new_unfinished _ is.kept.phase is.passed) in
+      let later = window-place j within in
+      let low : place.at ≤ later.0 = in-order (is_unfinished_job c q) 0 s.jobs place.at later.0 x j place.there later.1.1 order in
+      let first : place.at < window_of c q = omega (arith, low, later.1.0) in
+      let test : nat_lt place.at (window_of c q) ≡ true = grind (arith, nat_tests) in
+      in-window place.at x place.there ∙ test
+
+  -- past a new job that is not in the window, no new job is in it
+  pub before-outside : (at k : ℕ) (x j : JobId) → new_of c q at s ≡ Some x → is_in_window c s q x ≡ false → new_of c q k s ≡ Some j → is_in_window c s q j ≡ true → k < at
+  before-outside at k x j here outside there within = by (nat_lt k at) refl where
+    by : (b : Bool) → nat_lt k at ≡ b → k < at
+    by true test = grind (arith, nat_tests)
+    by false test =
+        let past : at ≤ k = grind (arith, nat_tests) in
+        let order : x.0 + k ≤ j.0 + at = apart (is_new_job c q) 0 s.jobs at k x j past here there in
+        let inside : is_in_window c s q x ≡ true = earlier-within at x j here (omega (arith, past, order)) within in
+        absurd (let no : true ≡ false = sym inside ∙ outside in cc)
+
+  -- a new job in the window has a place among the new ones
+  pub new-place : (j : JobId) → phase_is j s is_new ≡ true → is_in_window c s q j ≡ true → IsAmong (is_new_job c q) 0 s.jobs j
+  new-place j new within =
+      let row = window_row j (slice_get (jobs_of c s) j.0) refl within in
+      let own : job_is j c (λ job. job.requester.0 == q.0) ≡ true = and-first _ (not (is_over row.0.phase)) row.1.1 in
+      let is : is_new row.0.phase ≡ true = rw row.1.0 at new in
+      among (is_new_job c q) 0 s.jobs j.0 row.0 j (omega arith) row.1.0 (rw (own, is) refl)

@@ -1,5 +1,5 @@
 -- what a requester may do next with its jobs
-use Rattle.std.specs.Prelude.{◌≡◌, ◌<◌, ◌++◌, ℕ, List, [], ◌∷◌, Bool, true, false, Option, Some, None, slice_get}
+use Rattle.std.specs.Prelude.{◌≡◌, ◌++◌, ℕ, List, [], ◌∷◌, Bool, true, false, Option, Some, None, slice_get}
 use Rattle.std.specs.Option.{option_map_or}
 use Rattle.np_text.specs.declared.id.SessionId.{SessionId}
 use Rattle.np_text.specs.declared.id.RequesterId.{RequesterId}
@@ -12,9 +12,9 @@ use Rattle.np_event.specs.declared.event.Event.{Event}
 use Rattle.np_event.specs.declared.event.Event.TheVariants as ev
 use Rattle.np_machine.specs.Kinds.{is_new, is_asked}
 use Rattle.np_machine.specs.State.{State}
-use Rattle.np_look.specs.Readers.{unfinished_of, active_of}
+use Rattle.np_look.specs.Readers.{active_of}
 use Rattle.np_useful.specs.Useful.{IsUseful}
-use Rattle.np_useful.specs.Window.{window_of}
+use Rattle.np_useful.specs.Window.{is_in_window}
 use Rattle.np_roles.specs.declared.kind.EventKind.{EventKind}
 use Rattle.np_roles.specs.declared.kind.EventKind.TheVariants.{Node, Job}
 use Rattle.np_roles.specs.declared.kind.NodeKind.TheVariants as of_node
@@ -67,7 +67,7 @@ abbrev pub ChoosesActive : Configuration → State → RequesterId → SessionId
 ChoosesActive c s q session None = (k : ℕ) (j : JobId) → active_of c q k s ≡ Some j → NoActiveStep c s q session j
 ChoosesActive c s q session (Some e) = IsUseful c s (Requester q) e
 
--- a useful event, or none passes on a new job in the window (own)
+-- a useful event, or no acquire and submit of a new job in the window passes (own)
 abbrev pub ChoosesInWindow : Configuration → State → RequesterId → SessionId → Option Event → Type 0
-ChoosesInWindow c s q session None = (k : ℕ) (j : JobId) → k < window_of c q → unfinished_of c q k s ≡ Some j → NoNewStep c s q session j
+ChoosesInWindow c s q session None = (j : JobId) → is_in_window c s q j ≡ true → NoNewStep c s q session j
 ChoosesInWindow c s q session (Some e) = IsUseful c s (Requester q) e

@@ -19,16 +19,17 @@ use np_text::{EndAs, RequesterId, Role};
 
 /// A useful event of the requester, or `None` if and only if there is none. It takes no memory. A
 /// job is active if it uses its nodes, or has asked for them and its request is fulfilled or
-/// failed. The choice judges at most three events for each of the requester's active jobs. Then it
-/// looks up as many jobs that are not over as the window has, and judges at most two events for
-/// each of them that is new. Then it judges one event for each handle that a job has, and three for
-/// each node in whose queue its session is. Last it looks up the active jobs again, and the request
-/// of each that has asked for its nodes, and judges one event for each node of such a request that
-/// is fulfilled. It stops at the first event that is useful. An event on a node costs a few
-/// lookups, however many requests there are, if the readers `active`, `unfinished` and `owner` are
-/// lookups, as with an index. So the cost grows with the window, the requester's active jobs and
-/// the nodes that their requests have, and not with its other jobs or all nodes. A job that waits
-/// for its nodes costs two lookups if it is in the window, and else nothing.
+/// failed. The choice judges at most three events for each of the requester's active jobs. Then
+/// each of its new jobs in the window costs two lookups, two more for the window test, and at most
+/// two judged events. Then it judges one event for each handle that a job has, and three for each
+/// node in whose queue its session is. Last it looks up the active jobs again, and the request of
+/// each that has asked for its nodes, and judges one event for each node of such a request that is
+/// fulfilled. It stops at the first event that is useful. An event on a node costs a few lookups,
+/// however many requests there are, if the readers `active`, `new_job`, `unfinished` and `owner`
+/// are lookups, as with an index. So the cost grows with the requester's active jobs, the nodes
+/// that their requests have, and its new jobs in the window, and not with its other jobs or all
+/// nodes. A job that waits for its nodes costs one judged event for each handle that it has, and
+/// else nothing.
 pub fn choose_requester<L: Look>(look: &L, requester: RequesterId) -> Option<Event>
     requires there { is_role (L.site look.now) (Requester requester) ≡ true }
     requires reached { IsReached (L.site look.now) (L.state look.now) }

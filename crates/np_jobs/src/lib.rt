@@ -16,9 +16,11 @@
 //! of the first two rows, nor has one that is over, or that is new and past the window, so none is
 //! judged. For the others only the events that their phase allows are judged. A lock is tried only
 //! on a node that a job was given and does not use yet. So what a choice costs grows with the
-//! window, the requester's active jobs and the nodes that their requests have, and not with its
-//! other jobs or all nodes. A job that waits for its nodes costs two lookups if it is in the
-//! window, and else nothing.
+//! requester's active jobs, the nodes that their requests have, and its new jobs in the window, and
+//! not with its other jobs or all nodes. A job that waits for its nodes costs one judged event for
+//! each handle that it has, and else nothing. A new job in the window costs two lookups, two more
+//! for the window test, and at most two judged events: the window test reads only the job and the
+//! last one in the window.
 //!
 //! A job that is under way comes before one that begins, and what is no longer needed is given
 //! back before more is locked. Which events are useful is defined in np_useful.

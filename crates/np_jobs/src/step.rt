@@ -10,7 +10,7 @@ ghost use Rattle.np_roles.specs.Choices.{ChoosesOfAny};
 ghost use Rattle.np_jobs.specs.Steps.{steps, ChoosesOfActive, ChoosesOfNew, ChoosesActive, ChoosesInWindow};
 
 use crate::rows::RequesterRows;
-use crate::window::window;
+use crate::window::is_in_window;
 use np_event::Event;
 use np_look::Look;
 use np_record::JobRecord;
@@ -114,8 +114,9 @@ fn first_active_step<L: Look>(look: &L, rows: &RequesterRows, session: SessionId
 }
 
 /// The first useful acquire or submit of the new jobs in the requester's window, the first job
-/// first. It looks up as many jobs as the window has, and judges at most two events for each of
-/// them that is new, up to the first that is useful. One that is not new costs two lookups.
+/// first. Each of them costs two lookups, the window test, which is two more, and at most two judged
+/// events, up to the first that is useful. The walk stops at the first new job past the window. A
+/// job that is not new costs nothing.
 fn first_step_in_window<L: Look>(
     look: &L,
     rows: &RequesterRows,
@@ -127,10 +128,13 @@ fn first_step_in_window<L: Look>(
     ensures { ChoosesInWindow (L.site look.now) (L.state look.now) rows.now.requester session
         result }
 {
-    for at in 0..window(look.config(), rows.requester) {
-        let Some(job) = look.unfinished(rows.requester, at) else {
+    for at in 0..look.jobs() {
+        let Some(job) = look.new_job(rows.requester, at) else {
             return None;
         };
+        if !is_in_window(look, rows.requester, job) {
+            return None;
+        }
         let found = step_of_new(look, rows, session, job);
         if found.is_some() {
             return found;
@@ -140,8 +144,8 @@ fn first_step_in_window<L: Look>(
 }
 
 /// A useful finish, take, acquire or submit, or `None` if and only if there is none. The active
-/// jobs come first, and then the new jobs in the window. It costs the number of active jobs and the
-/// window, and not the number of jobs that are not over or that wait for their nodes.
+/// jobs come first, and then the new jobs in the window. So the cost grows with these jobs alone:
+/// one that waits for its nodes costs nothing, wherever the window ends.
 pub(crate) fn first_step<L: Look>(
     look: &L,
     rows: &RequesterRows,

@@ -1,7 +1,9 @@
 //! Which jobs of a requester are in its window, and which wait for their semaphores.
 
-ghost use Rattle.std.specs.Prelude.{◌≡◌};
+ghost use Rattle.std.specs.Prelude.{◌≡◌, false, slice_get};
+ghost use Rattle.std.specs.Option.{option_map_or};
 ghost use Rattle.np_fits.specs.Fits.{Fits};
+ghost use Rattle.np_look.specs.Readers.{is_unfinished_job};
 ghost use Rattle.np_useful.specs.Rows.{job_is};
 ghost use Rattle.np_useful.specs.Window.{window_of, is_in_window};
 ghost use Rattle.np_useful.specs.Requester.{has_fulfilled_request, waits_for_handles, is_to_acquire};
@@ -14,7 +16,7 @@ use np_site::Job;
 use np_text::{JobId, Phase, RequestState, RequesterId};
 
 /// How many jobs the requester works on at the same time.
-pub(crate) fn window(config: &Config, requester: RequesterId) -> u32
+fn window(config: &Config, requester: RequesterId) -> u32
     ensures { result ≡ window_of config.now requester }
 {
     match config.requester(requester) {
@@ -23,20 +25,37 @@ pub(crate) fn window(config: &Config, requester: RequesterId) -> u32
     }
 }
 
+/// Whether the job exists, is the requester's and is not over. It costs one lookup.
+fn is_unfinished<L: Look>(look: &L, requester: RequesterId, id: JobId) -> bool
+    ensures { result ≡ option_map_or (is_unfinished_job (L.site look.now) requester id)
+        (slice_get (L.state look.now).jobs id.0) false }
+{
+    let Some(job) = look.config().job(id) else {
+        return false;
+    };
+    let Some(kept) = look.job(id) else {
+        return false;
+    };
+    job.requester.0 == requester.0 && kept.phase != Phase::Over
+}
+
 /// Whether the job is one of the first jobs of the requester that are not over, as many as its
-/// window. It reads as many of them as the window has.
+/// window. A job that is not over is in the window unless the one at the window's last place comes
+/// before it. So this costs two lookups at most, however wide the window is.
 pub(crate) fn is_in_window<L: Look>(look: &L, requester: RequesterId, job: JobId) -> bool
     ensures { result ≡ is_in_window (L.site look.now) (L.state look.now) requester job }
 {
-    for at in 0..window(look.config(), requester) {
-        let Some(found) = look.unfinished(requester, at) else {
-            return false;
-        };
-        if found.0 == job.0 {
-            return true;
-        }
+    let width = window(look.config(), requester);
+    if width == 0 {
+        return false;
     }
-    false
+    if !is_unfinished(look, requester, job) {
+        return false;
+    }
+    match look.unfinished(requester, width - 1) {
+        None => true,
+        Some(last) => job.0 <= last.0,
+    }
 }
 
 /// Whether the job's request exists and is fulfilled.
