@@ -9,7 +9,7 @@ use np_config::Config;
 use np_desk::{Alone, Turns};
 use np_event::{Done, Entry, Event, Outcome, Reply};
 use np_index::Index;
-use np_look::Look;
+use np_look::{Look, UnheldKind};
 use np_text::{JobId, LabelId, NoMemory, NodeId, PoolId, RequesterId, Role, SessionId};
 use std::alloc::{AllocGlobal, Global};
 use std::process::Abort;
@@ -96,8 +96,25 @@ fn have_equal_groups(one: &Index, other: &Index) -> bool {
         && one.free_ready(pool, label, 0) == other.free_ready(pool, label, 0)
         && one.has_spent_min_ready(pool, label) == other.has_spent_min_ready(pool, label)
         && one.pending_request_at(pool, 0) == other.pending_request_at(pool, 0)
-        && one.declined_requests() == other.declined_requests()
-        && one.unheld_node_at(pool, 0) == other.unheld_node_at(pool, 0)
+        && one.first_due(pool, UnheldKind::Free) == other.first_due(pool, UnheldKind::Free)
+        && one.first_due(pool, UnheldKind::Abandoned)
+            == other.first_due(pool, UnheldKind::Abandoned)
+}
+
+// Both indexes have the same of the one pool's sessions and nodes, and of the requester's jobs.
+fn have_equal_members(one: &Index, other: &Index) -> bool {
+    let pool = PoolId(0);
+    let requester = RequesterId(0);
+    let left_over = UnheldKind::LeftOver;
+    one.new_job(requester, 0) == other.new_job(requester, 0)
+        && one.active(requester, 0) == other.active(requester, 0)
+        && one.owner(NodeId(0)) == other.owner(NodeId(0))
+        && one.current_session(LAUNCHER) == other.current_session(LAUNCHER)
+        && one.current_session(JANITOR) == other.current_session(JANITOR)
+        && one.current_session(REQUESTER) == other.current_session(REQUESTER)
+        && one.has_live_session(requester) == other.has_live_session(requester)
+        && one.first_mute() == other.first_mute()
+        && one.first_due(pool, left_over) == other.first_due(pool, left_over)
 }
 
 // The lists of the board's index are those of a new one.
@@ -105,7 +122,7 @@ fn is_rebuilt(alloc: Global, board: &Board) -> Result<bool, NoMemory> {
     board.soundness();
     let made = Index::rebuild(alloc, board)?;
     let kept = board.index();
-    if !have_equal_groups(&made, kept) {
+    if !have_equal_groups(&made, kept) || !have_equal_members(&made, kept) {
         return Ok(false);
     }
     for number in 0..16 {

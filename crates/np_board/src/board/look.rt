@@ -6,7 +6,7 @@ use crate::board::Board;
 use np_amount::Amount;
 use np_changes::Asked;
 use np_config::Config;
-use np_look::{Look, NodeView, RequestView};
+use np_look::{Look, NodeView, RequestView, UnheldKind};
 use np_machine::{Registration, SessionFacts};
 use np_record::{JobRecord, NodeRecord, RequestRecord, RoleRecord};
 use np_text::{
@@ -116,20 +116,12 @@ impl Look for Board {
         self.index().pending_request_at(pool, at)
     }
 
-    fn declined_requests(&self) -> u32 {
-        self.machine.declined_requests()
+    fn first_declined_by_all(&self) -> Option<RequestId> {
+        self.index().first_declined_by_all(self.tree())
     }
 
-    fn declined_request_at(&self, at: u32) -> Option<RequestId> {
-        self.index().declined_request_at(at)
-    }
-
-    fn unheld_nodes(&self, pool: PoolId) -> u32 {
-        self.machine.unheld_nodes(pool)
-    }
-
-    fn unheld_node_at(&self, pool: PoolId, at: u32) -> Option<NodeId> {
-        self.index().unheld_node_at(pool, at)
+    fn first_due(&self, pool: PoolId, kind: UnheldKind) -> Option<NodeId> {
+        self.index().first_due(pool, kind)
     }
 
     fn handles(&self, semaphore: SemId) -> u32 {
@@ -242,6 +234,10 @@ impl Look for Board {
 
     fn active(&self, requester: RequesterId, at: u32) -> Option<JobId> {
         self.index().active(requester, at)
+    }
+
+    fn new_job(&self, requester: RequesterId, at: u32) -> Option<JobId> {
+        self.index().new_job(requester, at)
     }
 
     fn owner(&self, node: NodeId) -> Option<JobId> {
