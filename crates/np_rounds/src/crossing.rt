@@ -2,16 +2,24 @@
 //! all that a board is made of is too long to be found, and a caller's proof takes the facts from them.
 
 ghost use Rattle.std.specs.Thread.{IsSend, IsSync};
+ghost use Rattle.np_active.specs.contracts.active.Active as active;
 ghost use Rattle.np_board.specs.contracts.board.Board as board;
+ghost use Rattle.np_classes.specs.contracts.classes.Classes as classes;
 ghost use Rattle.np_config.specs.contracts.config.Config as config;
 ghost use Rattle.np_index.specs.contracts.index.Index as index;
 ghost use Rattle.np_keeper.specs.contracts.keeper.TreeKeeper as keeper;
+ghost use Rattle.np_lookups.specs.contracts.lookups.Lookups as lookups;
+ghost use Rattle.np_open.specs.contracts.requests.Open as requested;
 ghost use Rattle.np_tree.specs.contracts.tree.Tree as tree;
 
+use np_active::Active;
 use np_board::Board;
+use np_classes::Classes;
 use np_config::Config;
 use np_index::{Index, Indexed};
 use np_keeper::TreeKeeper;
+use np_lookups::Lookups;
+use np_open::Open;
 use np_rules::JournalKeeper;
 use np_tree::Tree;
 
@@ -35,10 +43,42 @@ fn tree_crosses()
     crosses::<Tree>();
 }
 
+fn lookups_cross()
+    ensures send { IsSend lookups.the_row }
+    ensures sync { IsSync lookups.the_row }
+{
+    crosses::<Lookups>();
+}
+
+fn classes_cross()
+    ensures send { IsSend classes.the_row }
+    ensures sync { IsSync classes.the_row }
+{
+    crosses::<Classes>();
+}
+
+fn active_crosses()
+    ensures send { IsSend active.the_row }
+    ensures sync { IsSync active.the_row }
+{
+    crosses::<Active>();
+}
+
+fn requested_crosses()
+    ensures send { IsSend requested.the_row }
+    ensures sync { IsSync requested.the_row }
+{
+    crosses::<Open>();
+}
+
 fn index_crosses()
     ensures send { IsSend index.the_row }
     ensures sync { IsSync index.the_row }
 {
+    lookups_cross();
+    classes_cross();
+    requested_crosses();
+    active_crosses();
     crosses::<Index>();
 }
 

@@ -1,6 +1,6 @@
 //! One round of all workers.
 
-ghost use Rattle.std.specs.Prelude.{◌≡◌, ◌<◌, ◌++◌, All, IfOk, [], ◌∷◌, length, true, false, nat_lt};
+ghost use Rattle.std.specs.Prelude.{◌≡◌, ◌<◌, ◌++◌, All, IfOk, [], ◌∷◌, length, true, false};
 ghost use Rattle.np_desk.specs.Part.{IsWhole};
 ghost use Rattle.np_desk.specs.Pass.{IsOf};
 ghost use Rattle.np_board.specs.Answers.{IsFull};
