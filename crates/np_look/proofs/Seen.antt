@@ -28,7 +28,7 @@ use Rattle.np_machine.specs.Reasons.{is_spare, is_stuck, next_label}
 use Rattle.np_fits.specs.Fits.{most, Fits, NodeFits}
 use Rattle.np_look.specs.Views.{request_view, node_view, request_seen, node_seen, comes_first}
 use Rattle.np_look.specs.declared.asked.RequestView.{RequestView}
-use Rattle.np_look.specs.Readers.{short_label}
+use Rattle.np_look.specs.Readers.{is_unheld_pending, short_label}
 use Rattle.np_look.proofs.Walks.{take_there, drop_past}
 
 spare_by : (p : PoolId) (l : LabelId) (n : NodeId) (k : NodeRecord) (queue : List SessionId) → is_spare p l (record { id = n; kept = k; queue = queue }) ≡ is_spare p l (node_seen (node_view (record { id = n; kept = k; queue = queue })))
@@ -44,6 +44,13 @@ open_by p r k (session ∷ queue) = refl
 
 open-seen : (p : PoolId) (e : RequestEntry) → is_open_to p e ≡ is_open_to p (request_seen (request_view e))
 open-seen p e = open_by p e.id e.kept e.queue
+
+unheld_by : (p : PoolId) (r : RequestId) (k : RequestRecord) (queue : List SessionId) → is_unheld_pending p (record { id = r; kept = k; queue = queue }) ≡ is_unheld_pending p (request_seen (request_view (record { id = r; kept = k; queue = queue })))
+unheld_by p r k [] = refl
+unheld_by p r k (session ∷ queue) = refl
+
+pub unheld-pending-seen : (p : PoolId) (e : RequestEntry) → is_unheld_pending p e ≡ is_unheld_pending p (request_seen (request_view e))
+unheld-pending-seen p e = unheld_by p e.id e.kept e.queue
 
 -- ## the first candidate
 

@@ -1,6 +1,7 @@
 -- what the readers of a state return, beyond the machine's own definitions
-use Rattle.std.specs.Prelude.{ℕ, suc, Bool, true, false, ◌==◌, ◌&&◌, ◌||◌, not, if◌then◌else◌, List, [], ◌∷◌, filter, find, fold, map, Option, Some, None, is_some, is_none, option_and_then, slice_get, length, nat_lt}
+use Rattle.std.specs.Prelude.{ℕ, suc, drop, Bool, true, false, ◌==◌, ◌&&◌, ◌||◌, not, if◌then◌else◌, List, [], ◌∷◌, filter, find, fold, map, Option, Some, None, is_some, is_none, option_and_then, slice_get, length, nat_lt}
 use Rattle.std.specs.Option.{option_map, option_map_or, option_or}
+use Rattle.std.specs.List.{list_any}
 use Rattle.np_amount.specs.declared.amount.Amount.{Amount}
 use Rattle.np_amount.specs.declared.amount.Limit.{Limit}
 use Rattle.np_amount.specs.Amounts.{nothing, plus, fits}
@@ -23,7 +24,7 @@ use Rattle.np_record.specs.declared.record.JobRecord.{JobRecord}
 use Rattle.np_machine.specs.Entries.{RequestEntry, NodeEntry}
 use Rattle.np_machine.specs.State.{State}
 use Rattle.np_machine.specs.Tables.{request_in, is_queued, holder}
-use Rattle.np_machine.specs.Count.{amount_of, limit_of}
+use Rattle.np_machine.specs.Count.{amount_of, amount_of_all, limit_of}
 use Rattle.np_machine.specs.Tenants.{limit_of_tenant, tenant_of_request, is_tenant, amount_of_node, rest_of_request, is_pending_of}
 use Rattle.np_machine.specs.Kinds.{is_asked, is_new, is_using, is_over, is_requested, is_fulfilled, is_failed}
 use Rattle.np_machine.specs.Laws.{speaks_for}
@@ -77,6 +78,10 @@ limited_tenant c p request =
 -- what the node takes of its pool, if it is the tenant's
 abbrev pub amount_for : Configuration → TenantId → NodeEntry → Amount
 amount_for c t e = if is_tenant t e.kept.tenant then amount_of_node c e else nothing
+
+-- what the labels after the last node of a request with this record take of the pool that serves it
+abbrev pub rest_of : Configuration → RequestRecord → Amount
+rest_of c request = option_map_or (λ p. amount_of_all c p (drop (length request.nodes) request.labels)) request.pool nothing
 
 -- what the request still waits for, if it is pending and the tenant's
 abbrev pub rest_for : Configuration → TenantId → RequestEntry → Amount
@@ -176,6 +181,22 @@ queued_nodes session s = map (λ e. e.id) (filter (λ e. is_queued session e.que
 -- the requests that are pending by the pool, by priority and then sequence
 abbrev pub pending_requests : PoolId → State → List RequestId
 pending_requests p s = map (λ e. e.id) (filter (λ e. is_pending_by p e.kept) s.requests)
+
+-- a request that is pending by the pool and that nobody holds
+abbrev pub is_unheld_pending : PoolId → RequestEntry → Bool
+is_unheld_pending p e = is_pending_by p e.kept && is_none (holder e.queue)
+
+-- the first such request, by priority and then sequence
+abbrev pub first_unheld_pending : PoolId → State → Option RequestId
+first_unheld_pending p s = option_map (λ e. e.id) (find (is_unheld_pending p) s.requests)
+
+-- pending by the pool, and without a node for one of its labels
+abbrev pub is_under_way_by : PoolId → RequestRecord → Bool
+is_under_way_by p request = is_pending_by p request && is_some (next_label request)
+
+-- there is such a request
+abbrev pub has_request_under_way : PoolId → State → Bool
+has_request_under_way p s = list_any (λ e. is_under_way_by p e.kept) s.requests
 
 -- requested, and every registered pool declined it
 abbrev pub is_declined_by_all : State → RequestRecord → Bool

@@ -17,7 +17,7 @@ pub use count::{
     ready_age, retries,
 };
 pub use look::Look;
-pub use tenant::{is_short_of, limited_tenant, tenant_never_fits, tenant_of_job};
+pub use tenant::{is_short_of, limited_tenant, rest_of, tenant_never_fits, tenant_of_job};
 pub use walk::{
     asked_of, comes_before, declines_or_is, due_of, is_active_job, is_coming, is_declined_by,
     is_free_ready, is_live_of, is_marked, is_mute, is_new_job, is_open_to, is_requester,

@@ -17,7 +17,7 @@ ghost use Rattle.np_fits.specs.Fits.{Fits};
 ghost use Rattle.np_changes.specs.Asked.{asked_of, new_record};
 ghost use Rattle.np_look.specs.Views.{request_view, node_view};
 ghost use Rattle.np_changes.specs.Readers.{owner_of};
-ghost use Rattle.np_look.specs.Readers.{is_declined, undeclined_of, is_last_pool_of, free_ready_of, unfinished_of, active_of, new_of, request_state_of, first_mute, current_of, queued_requests, queued_nodes, pending_requests, is_declined_by_all, first_declined_by_all, is_unclaimed, first_due};
+ghost use Rattle.np_look.specs.Readers.{is_declined, undeclined_of, is_last_pool_of, free_ready_of, unfinished_of, active_of, new_of, request_state_of, first_mute, current_of, queued_requests, queued_nodes, pending_requests, first_unheld_pending, has_request_under_way, is_declined_by_all, first_declined_by_all, is_unclaimed, first_due};
 
 use crate::asked::{NodeView, RequestView, UnheldKind};
 use crate::count::{NOTHING, amount_at};
@@ -25,7 +25,8 @@ use crate::tenant::{amount_for, is_short_of, limited_tenant, rest_for};
 use crate::walk::{
     asked_of, declines_or_is, is_active_job, is_better, is_coming, is_declined_by, is_free_ready,
     is_live_of, is_marked, is_mute, is_new_job, is_pending_by, is_requested, is_sooner_unheld,
-    is_spare, is_spent_min_ready, is_unfinished_job, one_if, short_label, speaks_for,
+    is_spare, is_spent_min_ready, is_under_way_by, is_unfinished_job, is_unheld_pending, one_if,
+    short_label, speaks_for,
 };
 use np_amount::Amount;
 use np_changes::Asked;
@@ -630,6 +631,36 @@ pub trait Look {
             left -= 1;
         }
         None
+    }
+
+    /// The first request, by priority and then sequence, that is pending by the pool and that nobody
+    /// holds. This body scans the requests up to that one.
+    fn first_unheld_pending(&self, pool: PoolId) -> Option<RequestId>
+        ensures { result ≡ first_unheld_pending pool (state self.now) }
+    {
+        for at in 0..self.requests() {
+            let view = self.request_view(at)?;
+            if is_unheld_pending(pool, &view) {
+                return Some(view.id);
+            }
+        }
+        None
+    }
+
+    /// Whether a request is pending by the pool that lacks a node for one of its labels. This body
+    /// scans the requests up to the first such one.
+    fn has_request_under_way(&self, pool: PoolId) -> bool
+        ensures { result ≡ has_request_under_way pool (state self.now) }
+    {
+        for at in 0..self.requests() {
+            let Some(view) = self.request_view(at) else {
+                return false;
+            };
+            if is_under_way_by(pool, &view.kept) {
+                return true;
+            }
+        }
+        false
     }
 
     /// Whether the request with this record is requested and every registered pool declined it.

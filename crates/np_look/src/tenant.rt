@@ -6,18 +6,19 @@ ghost use Rattle.np_text.specs.declared.id.PoolId.{PoolId};
 ghost use Rattle.np_text.specs.declared.id.LabelId.{LabelId};
 ghost use Rattle.np_amount.specs.Amounts.{fits, plus};
 ghost use Rattle.np_machine.specs.Count.{amount_of, amount_of_all};
-ghost use Rattle.np_machine.specs.Tenants.{limit_of_tenant, is_tenant, is_pending_of, passes_tenant, rest_of_request, tenant_never_fits};
+ghost use Rattle.np_machine.specs.Tenants.{limit_of_tenant, is_tenant, is_pending_of, passes_tenant, tenant_never_fits};
 ghost use Rattle.np_machine.specs.First.{may_fit};
 ghost use Rattle.np_fits.specs.Fits.{AmountFits, IsFew};
 ghost use Rattle.np_changes.specs.Asked.{new_record};
 ghost use Rattle.np_look.specs.Views.{request_seen, node_seen};
-ghost use Rattle.np_look.specs.Readers.{tenant_of_job, has_limit, limited_tenant, amount_for, rest_for};
+ghost use Rattle.np_look.specs.Readers.{tenant_of_job, has_limit, limited_tenant, amount_for, rest_of, rest_for};
 
 use crate::asked::{NodeView, RequestView};
 use crate::count::{NO_LIMIT, NOTHING, amount, amount_of_all, first_unoffered, is_too_much};
 use np_amount::{Amount, Limit};
 use np_changes::Asked;
 use np_config::Config;
+use np_record::RequestRecord;
 use np_text::{JobId, LabelId, PoolId, RequestState, TenantId};
 
 /// The tenant of the job, if there is one.
@@ -163,17 +164,18 @@ fn labels_from(labels: &[LabelId], from: usize) -> &[LabelId]
     }
 }
 
-/// What the labels after the request's last node take of the pool that serves it.
-fn rest_of_request(config: &Config, view: &RequestView) -> Amount
+/// What the labels after the last node of a request with this record take of the pool that serves
+/// it.
+pub fn rest_of(config: &Config, kept: &RequestRecord) -> Amount
     requires small { (p : PoolId) (l : LabelId) → AmountFits (amount_of config.now p l) }
-    ensures rest { result ≡ rest_of_request config.now (request_seen view.now) }
+    ensures rest { result ≡ rest_of config.now kept.now }
     ensures few { IsFew result 32 }
 {
-    let Some(pool) = view.kept.pool else {
+    let Some(pool) = kept.pool else {
         return NOTHING;
     };
-    let _few = view.kept.labels.len();
-    let labels = labels_from(view.kept.labels.items(), view.kept.nodes.len() as usize);
+    let _few = kept.labels.len();
+    let labels = labels_from(kept.labels.items(), kept.nodes.len() as usize);
     amount_of_all(config, pool, labels)
 }
 
@@ -192,7 +194,7 @@ pub fn rest_for(config: &Config, tenant: TenantId, view: &RequestView) -> Amount
     ensures few { IsFew result 32 }
 {
     if is_pending_of(config, tenant, view) {
-        rest_of_request(config, view)
+        rest_of(config, &view.kept)
     } else {
         NOTHING
     }

@@ -6,7 +6,7 @@ ghost use Rattle.std.specs.Option.{option_map_or};
 ghost use Rattle.np_text.specs.declared.id.LabelId.{LabelId};
 ghost use Rattle.np_machine.specs.Count.{amount_of};
 ghost use Rattle.np_fits.specs.Fits.{AmountFits};
-ghost use Rattle.np_look.specs.Readers.{short_label, is_unfinished_job, is_answered, is_active_by, is_new_job, is_unheld, unheld_kind, same_kind, is_unheld_by, due_after, due_of};
+ghost use Rattle.np_look.specs.Readers.{short_label, is_unfinished_job, is_answered, is_active_by, is_new_job, is_unheld, is_unheld_pending, is_under_way_by, unheld_kind, same_kind, is_unheld_by, due_after, due_of};
 ghost use Rattle.np_machine.specs.Laws.{same_role, speaks_for};
 ghost use Rattle.np_machine.specs.Kinds.{is_requested, is_pending, is_failed, is_ready};
 ghost use Rattle.np_machine.specs.Tables.{is_marked};
@@ -174,6 +174,20 @@ pub fn is_pending_by(pool: PoolId, request: &RequestRecord) -> bool
     ensures { result ≡ is_pending_by pool request.now }
 {
     request.state == RequestState::Pending && names_pool(pool, request.pool)
+}
+
+/// Whether the request is pending, the pool serves it, and it lacks a node for one of its labels.
+pub fn is_under_way_by(pool: PoolId, request: &RequestRecord) -> bool
+    ensures { result ≡ is_under_way_by pool request.now }
+{
+    is_pending_by(pool, request) && request.labels.at(request.nodes.len()).is_some()
+}
+
+/// Whether the request is pending, the pool serves it, and nobody holds it.
+pub fn is_unheld_pending(pool: PoolId, view: &RequestView) -> bool
+    ensures { result ≡ is_unheld_pending pool (request_seen view.now) }
+{
+    is_pending_by(pool, &view.kept) && view.holder.is_none()
 }
 
 /// Whether the request is requested.
