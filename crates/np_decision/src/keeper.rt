@@ -28,8 +28,8 @@ pub trait StateKeeper: Look {
             changed (Self.site self.old) changes.now (Self.state self.old)) }
         ensures err { OnErr result (Self.state self.new ≡ Self.state self.old) };
 
-    /// The same, for a caller that knows in whose queues a session is that ends: `requests` and
-    /// `nodes`. A keeper that would search all queues for it overrides this.
+    /// The same, for a caller that knows the requests and the nodes in whose queues a session is that
+    /// ends. A keeper that would search all queues for them overrides this.
     fn change_with_queues(
         &mut self,
         changes: &Changes,
