@@ -1,0 +1,6 @@
+pub mod Rows
+pub mod Changed
+pub mod Shares
+pub mod Few
+pub mod Made
+pub mod Moved

@@ -1,0 +1,59 @@
+-- what the pending requests of each tenant still wait for
+use Rattle.std.specs.Prelude.{◌≡◌, ◌<◌, ◌^◌, suc, List, length, if◌then◌else◌, Option, None, filter, map, option_and_then, slice_get}
+use Rattle.std.specs.Option.{option_map, option_map_or}
+use Rattle.np_amount.specs.declared.amount.Amount.{Amount}
+use Rattle.np_amount.specs.Amounts.{minus, nothing, plus, total}
+use Rattle.np_text.specs.declared.id.RequestId.{RequestId}
+use Rattle.np_text.specs.declared.id.TenantId.{TenantId}
+use Rattle.np_record.specs.declared.record.RequestRecord.{RequestRecord}
+use Rattle.np_site.specs.Configuration.{Configuration}
+use Rattle.np_lists.specs.Change.{change_at}
+use Rattle.np_machine.specs.Kinds.{is_pending}
+use Rattle.np_machine.specs.State.{State}
+use Rattle.np_machine.specs.Tables.{request_in}
+use Rattle.np_machine.specs.Tenants.{is_pending_of, rest_of_request, tenant_of_request}
+use Rattle.np_look.specs.Readers.{rest_of}
+use Rattle.np_awaited.specs.declared.awaited.Rest.{Rest}
+
+-- what the tenant's pending requests still wait for
+abbrev pub awaited_by : Configuration → State → TenantId → Amount
+awaited_by c s t = total (map (rest_of_request c) (filter (is_pending_of c t) s.requests))
+
+-- what a request with this record still waits for, if it is pending and of a tenant's job
+abbrev pub rest_by : Configuration → RequestRecord → Option Rest
+rest_by c k = if is_pending k.state then option_map (λ t. record { tenant = t; amount = rest_of c k }) (tenant_of_request c k) else None
+
+-- the same of the request, if it is there
+abbrev pub rest_at : Configuration → State → RequestId → Option Rest
+rest_at c s r = option_and_then (rest_by c) (request_in r s.requests)
+
+-- the tenant's amount; nothing if the list is shorter
+abbrev pub amount_at : TenantId → List Amount → Amount
+amount_at t amounts = option_map_or (λ a. a) (slice_get amounts t.0) nothing
+
+-- each part has at most 64 bits
+pub record IsSmall (a : Amount) : Type 0 where
+  pub instances : a.instances < 2 ^ 64
+  pub cores : a.cores < 2 ^ 64
+  pub ram : a.ram < 2 ^ 64
+
+-- without what a request waited for
+abbrev pub without_rest : Option Rest → List Amount → List Amount
+without_rest before amounts = option_map_or (λ rest. change_at rest.tenant.0 (λ a. minus a rest.amount) amounts) before amounts
+
+-- with what a request waits for
+abbrev pub with_rest : Option Rest → List Amount → List Amount
+with_rest after amounts = option_map_or (λ rest. change_at rest.tenant.0 (λ a. plus a rest.amount) amounts) after amounts
+
+-- with what a request waits for now, in the place of what it waited for before
+abbrev pub moved : Option Rest → Option Rest → List Amount → List Amount
+moved before after amounts = with_rest after (without_rest before amounts)
+
+-- each amount is one that code can keep
+abbrev pub AreSmall : List Amount → Type 0
+AreSmall amounts = (t : TenantId) → IsSmall (amount_at t amounts)
+
+-- each tenant's amount is what its pending requests still wait for; the tenants are the one named `default` and those that are listed
+pub record AreAwaited (c : Configuration) (s : State) (amounts : List Amount) : Type 0 where
+  pub each : (t : TenantId) → amount_at t amounts ≡ awaited_by c s t
+  pub tenants : length amounts ≡ suc (length c.tenants)
