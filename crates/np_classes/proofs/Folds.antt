@@ -155,18 +155,25 @@ module _ {K : Type 0} (before same : K → K → Bool)
           ∙ here (is_among g (of i))
       by false other rest = rest
 
+    -- the ids that are listed leave some groups and are put in others
+    pub shifted : (old new : K → List (Option Group)) (ids : List K) (ms : List (Member K)) → Rises (is_member_before before) ms
+        → has (with_all before same (map (λ j. record { id = j; groups = new j }) ids) (without_all same (members_of (map (λ j. record { id = j; groups = old j }) ids)) ms))
+        ≡ ((list_any (λ j. same j i) ids && is_among g (new i)) || (not (list_any (λ j. same j i) ids && is_among g (old i)) && has ms))
+    shifted old new ids ms rises =
+        with-all _ (without_all same (members_of (map (λ j. record { id = j; groups = old j }) ids)) ms)
+        ∙ ap (λ (b : Bool). b || has (without_all same (members_of (map (λ j. record { id = j; groups = old j }) ids)) ms)) (placed-map new ids)
+        ∙ ap (λ (b : Bool). (list_any (λ j. same j i) ids && is_among g (new i)) || b)
+        (without-all (members_of (map (λ j. record { id = j; groups = old j }) ids)) ms rises
+        ∙ ap (λ (b : Bool). not b && has ms) (then-all (map (λ j. record { id = j; groups = old j }) ids) [] ∙ placed-map old ids))
+
     -- the ids that are listed leave their old groups and are put in the new ones; the others stay
     pub moved : (old new : K → List (Option Group)) (ids : List K) (ms : List (Member K)) → Rises (is_member_before before) ms
         → has ms ≡ is_among g (old i)
         → (list_any (λ j. same j i) ids ≡ false → is_among g (new i) ≡ is_among g (old i))
         → has (with_all before same (map (λ j. record { id = j; groups = new j }) ids) (without_all same (members_of (map (λ j. record { id = j; groups = old j }) ids)) ms)) ≡ is_among g (new i)
     moved old new ids ms rises was stays =
-        with-all _ (without_all same (members_of (map (λ j. record { id = j; groups = old j }) ids)) ms)
-        ∙ ap (λ (b : Bool). b || has (without_all same (members_of (map (λ j. record { id = j; groups = old j }) ids)) ms)) (placed-map new ids)
-        ∙ ap (λ (b : Bool). (list_any (λ j. same j i) ids && is_among g (new i)) || b)
-        (without-all (members_of (map (λ j. record { id = j; groups = old j }) ids)) ms rises
-        ∙ ap (λ (b : Bool). not b && has ms) (then-all (map (λ j. record { id = j; groups = old j }) ids) [] ∙ placed-map old ids)
-        ∙ ap (λ (b : Bool). not (list_any (λ j. same j i) ids && is_among g (old i)) && b) was)
+        shifted old new ids ms rises
+        ∙ ap (λ (b : Bool). (list_any (λ j. same j i) ids && is_among g (new i)) || (not (list_any (λ j. same j i) ids && is_among g (old i)) && b)) was
         ∙ by (list_any (λ j. same j i) ids) (is_among g (new i)) (is_among g (old i)) stays
       where
         by : (l a b : Bool) → (l ≡ false → a ≡ b) → ((l && a) || (not (l && b) && b)) ≡ a

@@ -1,5 +1,5 @@
 -- all that the changes of an event touch is listed before it
-use Rattle.std.proofs.Common.{◌≡◌, ◌∙◌, inl, inr, Bool, true, false, cond, List, [], ◌∷◌, ◌++◌, Option, None, Some, refl, sym, ap, subst}
+use Rattle.std.proofs.Common.{◌≡◌, ◌≤◌, ◌∙◌, ◌⊎◌, inl, inr, ℕ, Bool, true, false, cond, List, [], ◌∷◌, ◌++◌, Option, None, Some, length, refl, sym, ap, subst, arith}
 use Rattle.std.specs.Prelude.{◌==◌, ◌||◌, map, filter, find}
 use Rattle.std.specs.Option.{option_map_or}
 use Rattle.std.specs.List.{list_any}
@@ -12,13 +12,17 @@ use Rattle.np_record.specs.declared.record.NodeRecord.{NodeRecord}
 use Rattle.np_record.specs.declared.record.RequestRecord.{RequestRecord}
 use Rattle.np_site.specs.Configuration.{Configuration}
 use Rattle.np_keys.specs.Keys.{same_node, request_equal}
-use Rattle.np_machine.specs.Entries.{NodeEntry}
+use Rattle.np_machine.specs.Entries.{NodeEntry, RequestEntry}
 use Rattle.np_machine.specs.Kinds.{is_asked, is_new}
 use Rattle.np_machine.specs.State.{State}
-use Rattle.np_machine.specs.Tables.{is_queued, is_request, node_in, node_queue, request_in, same_request}
+use Rattle.np_machine.specs.Tenants.{tenant_of_request}
+use Rattle.np_machine.specs.Tables.{is_queued, is_request, node_in, request_in, same_request}
 use Rattle.np_changes.specs.declared.changes.Changes.{Changes}
 use Rattle.np_changes.specs.declared.changes.Growth.{Growth}
 use Rattle.np_changes.specs.declared.changes.Growth.TheVariants as grow
+use Rattle.np_changes.specs.declared.asked.Asked.{Asked}
+use Rattle.np_changes.specs.declared.changes.RequestEdit.{RequestEdit}
+use Rattle.np_changes.specs.declared.changes.RequestEdit.TheVariants as edit
 use Rattle.np_changes.specs.declared.changes.RequestsChange.{RequestsChange}
 use Rattle.np_changes.specs.declared.changes.RequestsChange.TheVariants as requests
 use Rattle.np_changes.specs.declared.changes.NodesChange.{NodesChange}
@@ -26,14 +30,15 @@ use Rattle.np_changes.specs.declared.changes.NodesChange.TheVariants as nodes
 use Rattle.np_changes.specs.declared.changes.SessionsChange.{SessionsChange}
 use Rattle.np_changes.specs.declared.changes.SessionsChange.TheVariants as sessions
 use Rattle.np_changes.specs.Planned.{IsReached, IsPlanned}
-use Rattle.np_changes.specs.Premises.{Premises, NodesPremise, RequestsPremise, GoesWithdrawn, EmptiesRequest}
+use Rattle.np_changes.specs.Premises.{Premises, NodesPremise, RequestsPremise, EditPremise, GoesWithdrawn, EmptiesRequest, IsTaken, IsMade}
+use Rattle.np_changes.specs.Plan.{new_node}
 use Rattle.np_changes.proofs.PremisesOf.{premises}
-use Rattle.np_look.specs.Readers.{queued_nodes}
+use Rattle.np_look.specs.Readers.{queued_nodes, queued_requests}
 use Rattle.np_safe.specs.Parts.{AllocationsListed, Invariant, IsAsking, JobIn, JobsStand}
 use Rattle.np_safe.proofs.Runs.{invariant-Runs}
-use Rattle.np_classes.specs.Touched.{grows_node, changes_node, ends_at_node, unclaims_node, touches_node, grows_request, changes_request, touches_request}
-use Rattle.np_classes.specs.Placed.{members_of, placed_node, placed_request}
-use Rattle.np_classes.specs.Prepared.{IsPrepared, TouchedOf, grown_nodes, changed_nodes, ended_nodes, unclaimed_nodes, touched_nodes, grown_requests, changed_requests, touched_requests}
+use Rattle.np_classes.specs.Touched.{grows_node, changes_node, ends_at_node, unclaims_node, touches_node, grows_request, changes_request, touches_request, grows_request_queue, leaves_request_queue, ends_at_request, touches_request_queue}
+use Rattle.np_classes.specs.Placed.{members_of, placed_node, placed_queue, placed_request}
+use Rattle.np_classes.specs.Prepared.{IsPrepared, TouchedOf, ended, first_rest, grown_nodes, changed_nodes, unclaimed_nodes, touched_nodes, grown_requests, changed_requests, touched_requests, grown_queues, left_queues, touched_queues}
 
 -- ## lists
 
@@ -138,38 +143,43 @@ unclaimed-listed c s ch n allocations stand given (requests.Remove r) this is =
     own-listed s r n allocations (removed-stands c s ch r stand (subst (λ (change : RequestsChange). RequestsPremise c s ch change) this given.requests)) is
 unclaimed-listed c s ch n allocations stand given (requests.Leave r) this is = is
 
--- the ids of the rows in whose queues the session is
-abbrev waiting : SessionId → List NodeEntry → List NodeId
-waiting session rows = map (λ e. e.id) (filter (λ e. is_queued session e.queue) rows)
+-- ## sessions that end
 
--- with one row more, if the session is in its queue
-abbrev waiting_with : SessionId → NodeEntry → List NodeEntry → Bool → List NodeId
-waiting_with session e rows b = map (λ e. e.id) (cond b (e ∷ filter (λ e. is_queued session e.queue) rows) (filter (λ e. is_queued session e.queue) rows))
+-- a row in whose queue the session is has its id among those of such rows
+module _ {K E : Type 0} (id : E → K) (queue : E → List SessionId) (session : SessionId) (is_it : K → Bool) where
+  abbrev among : List K → Bool
+  among ids = list_any is_it ids
+
+  abbrev waiting : List E → List K
+  waiting rows = map (λ e. id e) (filter (λ e. is_queued session (queue e)) rows)
+
+  -- with one row more, if the session is in its queue
+  abbrev waiting_with : E → List E → Bool → List K
+  waiting_with e rows b = map (λ e. id e) (cond b (e ∷ filter (λ e. is_queued session (queue e)) rows) (filter (λ e. is_queued session (queue e)) rows))
+
+  waiting-listed : (rows : List E) → is_queued session (option_map_or (λ e. queue e) (find (λ e. is_it (id e)) rows) []) ≡ true → among (waiting rows) ≡ true
+  waiting-listed [] is = is
+  waiting-listed (e ∷ rows) is = by (is_it (id e)) refl is (waiting-listed rows) where
+    here : (b : Bool) → is_queued session (queue e) ≡ b → is_it (id e) ≡ true → b ≡ true → among (waiting_with e rows b) ≡ true
+    here true there at has = ap (λ (b : Bool). b || among (waiting rows)) at
+    here false out at has = absurd cc
+
+    later : (b : Bool) → among (waiting rows) ≡ true → among (waiting_with e rows b) ≡ true
+    later true there = ap (λ (b : Bool). is_it (id e) || b) there ∙ or_true (is_it (id e))
+    later false there = there
+
+    by : (b : Bool) → is_it (id e) ≡ b → is_queued session (option_map_or (λ e. queue e) (cond b (Some e) (find (λ e. is_it (id e)) rows)) []) ≡ true
+        → (is_queued session (option_map_or (λ e. queue e) (find (λ e. is_it (id e)) rows) []) ≡ true → among (waiting rows) ≡ true)
+        → among (waiting_with e rows (is_queued session (queue e))) ≡ true
+    by true at is others = here (is_queued session (queue e)) refl at is
+    by false at is others = later (is_queued session (queue e)) (others is)
 
 -- a node in whose queue the session is
-queued-listed : (session : SessionId) (n : NodeId) (rows : List NodeEntry) → is_queued session (node_queue n rows) ≡ true
-    → listed n (waiting session rows) ≡ true
-queued-listed session n [] is = is
-queued-listed session n (e ∷ rows) is = by (e.id.0 == n.0) refl is (queued-listed session n rows) where
-  here : (b : Bool) → is_queued session e.queue ≡ b → (e.id.0 == n.0) ≡ true → b ≡ true → listed n (waiting_with session e rows b) ≡ true
-  here true there at has = ap (λ (b : Bool). b || listed n (waiting session rows)) at
-  here false out at has = absurd cc
-
-  later : (b : Bool) → listed n (waiting session rows) ≡ true → listed n (waiting_with session e rows b) ≡ true
-  later true there = ap (λ (b : Bool). (e.id.0 == n.0) || b) there ∙ or_true (e.id.0 == n.0)
-  later false there = there
-
-  by : (b : Bool) → (e.id.0 == n.0) ≡ b → is_queued session (option_map_or (λ e. e.queue) (cond b (Some e) (find (λ e. e.id.0 == n.0) rows)) []) ≡ true
-      → (is_queued session (node_queue n rows) ≡ true → listed n (waiting session rows) ≡ true)
-      → listed n (waiting_with session e rows (is_queued session e.queue)) ≡ true
-  by true at is others = here (is_queued session e.queue) refl at is
-  by false at is others = later (is_queued session e.queue) (others is)
-
 ended-listed : (s : State) (queued : List NodeId) (n : NodeId) (change : SessionsChange) → ((session : SessionId) → change ≡ sessions.End session → queued ≡ queued_nodes session s)
-    → ends_at_node change s n ≡ true → listed n (ended_nodes change queued) ≡ true
+    → ends_at_node change s n ≡ true → listed n (ended change queued) ≡ true
 ended-listed s queued n sessions.Same all is = is
 ended-listed s queued n (sessions.Mute session) all is = is
-ended-listed s queued n (sessions.End session) all is = ap (listed n) (all session refl) ∙ queued-listed session n s.nodes is
+ended-listed s queued n (sessions.End session) all is = ap (listed n) (all session refl) ∙ waiting-listed (λ (e : NodeEntry). e.id) (λ (e : NodeEntry). e.queue) session (λ m. same_node m n) s.nodes is
 
 -- ## requests
 
@@ -199,6 +209,105 @@ request-listed s ch r is =
     list_any-append (λ x. same_request x r) (grown_requests ch.grows s) (changed_requests ch.requests)
     ∙ rw (← grown_request-listed ch.grows s r, ← changed_request-listed ch.requests r) is
 
+-- ## queues of requests
+
+-- what is touched in one of two ways is in the list of that way
+either-queued : (r : RequestId) (a b : Bool) (xs ys : List RequestId) → (a ≡ true → listed_request r xs ≡ true) → (b ≡ true → listed_request r ys ≡ true) → (a || b) ≡ true → listed_request r (xs ++ ys) ≡ true
+either-queued r true b xs ys first second is = list_any-append (λ x. same_request x r) xs ys ∙ ap (λ (v : Bool). v || listed_request r ys) (first refl)
+either-queued r false b xs ys first second is =
+    list_any-append (λ x. same_request x r) xs ys ∙ ap (λ (v : Bool). listed_request r xs || v) (second is) ∙ or_true (listed_request r xs)
+
+grown_queue-listed : (g : Growth) (r : RequestId) → grows_request_queue g r ≡ true → listed_request r (grown_queues g) ≡ true
+grown_queue-listed (grow.JoinRequest x) r is = or_false (same_request x r) ∙ is
+grown_queue-listed grow.Nothing r is = is
+grown_queue-listed (grow.Session role) r is = is
+grown_queue-listed (grow.Registration p) r is = is
+grown_queue-listed (grow.Request priority asked) r is = is
+grown_queue-listed (grow.Node kept) r is = is
+grown_queue-listed (grow.JoinNode m) r is = is
+grown_queue-listed (grow.Allocate m x tenant) r is = is
+grown_queue-listed (grow.Handles j) r is = is
+grown_queue-listed (grow.Swept m x) r is = is
+
+left_queue-listed : (change : RequestsChange) (r : RequestId) → leaves_request_queue change r ≡ true → listed_request r (left_queues change) ≡ true
+left_queue-listed requests.Same r is = is
+left_queue-listed (requests.Edit x change) r is = is
+left_queue-listed (requests.Remove x) r is = is
+left_queue-listed (requests.Leave x) r is = or_false (same_request x r) ∙ is
+
+ended_queue-listed : (s : State) (queued : List RequestId) (r : RequestId) (change : SessionsChange) → ((session : SessionId) → change ≡ sessions.End session → queued ≡ queued_requests session s)
+    → ends_at_request change s r ≡ true → listed_request r (ended change queued) ≡ true
+ended_queue-listed s queued r sessions.Same all is = is
+ended_queue-listed s queued r (sessions.Mute session) all is = is
+ended_queue-listed s queued r (sessions.End session) all is =
+    ap (listed_request r) (all session refl) ∙ waiting-listed (λ (e : RequestEntry). e.id) (λ (e : RequestEntry). e.queue) session (λ x. same_request x r) s.requests is
+
+queue-listed : (s : State) (ch : Changes) (queued : List RequestId) → ((session : SessionId) → ch.sessions ≡ sessions.End session → queued ≡ queued_requests session s)
+    → (r : RequestId) → touches_request_queue ch s r ≡ true → listed_request r (touched_queues ch queued) ≡ true
+queue-listed s ch queued all r is =
+    either-queued r _ _ _ (ended ch.sessions queued)
+    (either-queued r _ _ (grown_queues ch.grows) (left_queues ch.requests) (grown_queue-listed ch.grows r) (left_queue-listed ch.requests r))
+    (ended_queue-listed s queued r ch.sessions all)
+    is
+
+-- ## one request at most
+
+-- no request grows beside an edit of one
+edit-alone : (c : Configuration) (s : State) (ch : Changes) (r : RequestId) (change : RequestEdit) → EditPremise c s ch r change → (priority : ℕ) (asked : Asked) → ch.grows ≡ grow.Request priority asked → ⊥
+edit-alone c s ch r (edit.Serve p) may priority asked is = let none : ch.grows ≡ grow.Nothing = may.same_size in cc
+edit-alone c s ch r (edit.AddNode n) may priority asked is = by may.0.from where
+  by : IsTaken c s ch may.0.pool r may.0.request may.0.label n ⊎ IsMade c s ch may.0.pool r may.0.request may.0.label n → ⊥
+  by (inl taken) = let other : ch.grows ≡ grow.Allocate n r (tenant_of_request c may.0.request) = taken.grows in cc
+  by (inr made) = let other : ch.grows ≡ grow.Node (new_node c s r may.0.pool may.0.request may.0.label) = made.grows in cc
+edit-alone c s ch r (edit.Decline p why failed) may priority asked is = let none : ch.grows ≡ grow.Nothing = may.same_size in cc
+edit-alone c s ch r edit.Fulfil may priority asked is = let none : ch.grows ≡ grow.Nothing = may.0.same_size in cc
+edit-alone c s ch r edit.GiveBack may priority asked is = let none : ch.grows ≡ grow.Nothing = may.same_size in cc
+edit-alone c s ch r edit.Fail may priority asked is = let none : ch.grows ≡ grow.Nothing = may.same_size in cc
+edit-alone c s ch r (edit.Revise relative) may priority asked is = let none : ch.grows ≡ grow.Nothing = may.same_size in cc
+
+-- nor beside one that goes away
+remove-alone : (c : Configuration) (s : State) (ch : Changes) (r : RequestId) → RequestsPremise c s ch (requests.Remove r) → ch.grows ≡ grow.Nothing
+remove-alone c s ch r (inl goes) = goes.fulfils.same_size
+remove-alone c s ch r (inr (inl takes)) = takes.same_size
+remove-alone c s ch r (inr (inr goes)) = goes.withdraws.same_size
+
+grown-one : (g : Growth) (s : State) → length (grown_requests g s ++ []) ≤ 1
+grown-one grow.Nothing s = omega arith
+grown-one (grow.Session role) s = omega arith
+grown-one (grow.Registration p) s = omega arith
+grown-one (grow.Request priority asked) s = omega arith
+grown-one (grow.Node kept) s = omega arith
+grown-one (grow.JoinRequest r) s = omega arith
+grown-one (grow.JoinNode m) s = omega arith
+grown-one (grow.Allocate m r tenant) s = omega arith
+grown-one (grow.Handles j) s = omega arith
+grown-one (grow.Swept m x) s = omega arith
+
+grown-none : (g : Growth) (s : State) → ((priority : ℕ) (asked : Asked) → g ≡ grow.Request priority asked → ⊥) → grown_requests g s ≡ []
+grown-none grow.Nothing s out = refl
+grown-none (grow.Session role) s out = refl
+grown-none (grow.Registration p) s out = refl
+grown-none (grow.Request priority asked) s out = absurd (out priority asked refl)
+grown-none (grow.Node kept) s out = refl
+grown-none (grow.JoinRequest r) s out = refl
+grown-none (grow.JoinNode m) s out = refl
+grown-none (grow.Allocate m r tenant) s out = refl
+grown-none (grow.Handles j) s out = refl
+grown-none (grow.Swept m x) s out = refl
+
+touched-once : (c : Configuration) (s : State) (ch : Changes) → Premises c s ch → length (touched_requests ch s) ≤ 1
+touched-once c s ch given = by ch.requests given.requests where
+  one : (r : RequestId) → grown_requests ch.grows s ≡ [] → length (grown_requests ch.grows s ++ r ∷ []) ≤ 1
+  one r none = let single : length (grown_requests ch.grows s ++ r ∷ []) ≡ 1 = ap (λ (rs : List RequestId). length (rs ++ r ∷ [])) none in omega (arith, single)
+
+  by : (change : RequestsChange) → RequestsPremise c s ch change → length (grown_requests ch.grows s ++ changed_requests change) ≤ 1
+  by requests.Same may = grown-one ch.grows s
+  by (requests.Edit r change) may = one r (grown-none ch.grows s (edit-alone c s ch r change may))
+  by (requests.Remove r) may = one r (ap (λ (g : Growth). grown_requests g s) (remove-alone c s ch r may))
+  by (requests.Leave r) may = grown-one ch.grows s
+
+-- ## all of it
+
 pub node-listed : (c : Configuration) (s : State) (ch : Changes) (queued : List NodeId) → IsReached c s → IsPlanned c s ch
     → ((session : SessionId) → ch.sessions ≡ sessions.End session → queued ≡ queued_nodes session s)
     → (n : NodeId) → touches_node ch s n ≡ true → listed n (touched_nodes ch queued s) ≡ true
@@ -206,7 +315,7 @@ node-listed c s ch queued reached planned all n is =
     let given : Premises c s ch = subst (Premises c s) (sym planned.plan) (premises c s planned.event planned.accepted) in
     let holds : Invariant c s = invariant-Runs c reached.journal s reached.runs in
     either-listed n _ _ _ (unclaimed_nodes ch.requests s)
-    (either-listed n _ _ _ (ended_nodes ch.sessions queued)
+    (either-listed n _ _ _ (ended ch.sessions queued)
     (either-listed n _ _ (grown_nodes ch.grows s) (changed_nodes ch.nodes s)
     (grown-listed ch.grows s n)
     (changed-listed c s ch n holds.owned.allocations holds.jobs given ch.nodes refl))
@@ -215,14 +324,22 @@ node-listed c s ch queued reached planned all n is =
     is
 
 -- what is listed, with the members of groups that it is, is prepared
-pub is-prepared : (c : Configuration) (s : State) (ch : Changes) (queued : List NodeId) (touched : TouchedOf) → IsReached c s → IsPlanned c s ch
-    → ((session : SessionId) → ch.sessions ≡ sessions.End session → queued ≡ queued_nodes session s)
-    → touched.nodes ≡ touched_nodes ch queued s → touched.requests ≡ touched_requests ch s
-    → touched.node_members ≡ members_of (map (placed_node c s) touched.nodes) → touched.request_members ≡ members_of (map (placed_request c s) touched.requests)
+pub is-prepared : (c : Configuration) (s : State) (ch : Changes) (nodes : List NodeId) (queued : List RequestId) (touched : TouchedOf) → IsReached c s → IsPlanned c s ch
+    → ((session : SessionId) → ch.sessions ≡ sessions.End session → nodes ≡ queued_nodes session s)
+    → ((session : SessionId) → ch.sessions ≡ sessions.End session → queued ≡ queued_requests session s)
+    → touched.nodes ≡ touched_nodes ch nodes s → touched.requests ≡ touched_requests ch s → touched.queues ≡ touched_queues ch queued
+    → touched.node_members ≡ members_of (map (placed_node c s) touched.nodes) → touched.request_members ≡ members_of (map (placed_request s) touched.requests)
+    → touched.queue_members ≡ members_of (map (placed_queue s) touched.queues) → touched.before ≡ first_rest c s touched.requests
     → IsPrepared c s ch touched
-is-prepared c s ch queued touched reached planned all nodes requests node_members request_members = record {
-  nodes = λ n is. ap (listed n) nodes ∙ node-listed c s ch queued reached planned all n is;
-  requests = λ r is. ap (listed_request r) requests ∙ request-listed s ch r is;
-  node_members = node_members;
-  request_members = request_members;
-}
+is-prepared c s ch nodes queued touched reached planned all_nodes all_requests nodes_are requests_are queues_are node_members request_members queue_members before =
+    let given : Premises c s ch = subst (Premises c s) (sym planned.plan) (premises c s planned.event planned.accepted) in
+    record {
+      nodes = λ n is. ap (listed n) nodes_are ∙ node-listed c s ch nodes reached planned all_nodes n is;
+      requests = λ r is. ap (listed_request r) requests_are ∙ request-listed s ch r is;
+      queues = λ r is. ap (listed_request r) queues_are ∙ queue-listed s ch queued all_requests r is;
+      node_members = node_members;
+      request_members = request_members;
+      queue_members = queue_members;
+      once = subst (λ (rs : List RequestId). length rs ≤ 1) (sym requests_are) (touched-once c s ch given);
+      before = before;
+    }

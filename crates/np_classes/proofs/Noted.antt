@@ -1,6 +1,6 @@
 -- the members of groups after a change, from those before it
-use Rattle.std.proofs.Common.{◌≡◌, ◌∙◌, Bool, true, false, List, Option, None, Some, refl, sym, ap, subst}
-use Rattle.std.specs.Prelude.{map, is_none}
+use Rattle.std.proofs.Common.{◌≡◌, ◌≤◌, ◌∙◌, Bool, true, false, List, [], ◌∷◌, length, Option, None, Some, refl, sym, ap, subst, arith}
+use Rattle.std.specs.Prelude.{◌&&◌, ◌||◌, not, map, is_none}
 use Rattle.std.specs.Option.{option_map_or}
 use Rattle.std.specs.List.{list_any}
 use Rattle.np_text.specs.declared.id.NodeId.{NodeId}
@@ -8,26 +8,35 @@ use Rattle.np_text.specs.declared.id.RequestId.{RequestId}
 use Rattle.np_text.specs.declared.id.SessionId.{SessionId}
 use Rattle.np_record.specs.declared.record.NodeRecord.{NodeRecord}
 use Rattle.np_record.specs.declared.record.RequestRecord.{RequestRecord}
+use Rattle.np_amount.specs.declared.amount.Amount.{Amount}
 use Rattle.np_site.specs.Configuration.{Configuration}
+use Rattle.np_site.specs.Sound.{IsSound}
 use Rattle.np_groups.specs.declared.groups.Group.{Group}
 use Rattle.np_groups.specs.declared.groups.Member.{Member}
+use Rattle.np_groups.specs.Groups.{has_member, is_member_before}
+use Rattle.np_lists.specs.Rising.{Rises}
 use Rattle.np_keys.specs.Keys.{is_node_before, same_node, node_transitive, node_one_way, node_some_way, node_equal, request_transitive, request_one_way, request_some_way, request_equal}
 use Rattle.np_machine.specs.Order.{is_id_before}
 use Rattle.np_machine.specs.State.{State}
-use Rattle.np_machine.specs.Tables.{holder, node_in, node_holder, request_in, same_request}
+use Rattle.np_machine.specs.Tables.{holder, node_in, node_holder, request_holder, request_in, same_request}
 use Rattle.np_changes.specs.Changes.{changed}
-use Rattle.np_changes.specs.Planned.{IsReached}
+use Rattle.np_changes.specs.Planned.{IsPlanned, IsReached}
 use Rattle.np_changes.specs.declared.changes.Changes.{Changes}
 use Rattle.np_look.specs.Readers.{is_unclaimed}
 use Rattle.np_safe.specs.Parts.{IsNumbered}
 use Rattle.np_safe.proofs.Numbered.{numbered}
 use Rattle.np_safe.proofs.Runs.{invariant-Runs}
+use Rattle.np_awaited.specs.declared.awaited.Rest.{Rest}
+use Rattle.np_awaited.specs.Awaited.{AreAwaited, AreSmall, moved as rest_moved}
+use Rattle.np_awaited.proofs.Moved.{awaited-noted, awaited-same, small-amounts}
 use Rattle.np_classes.specs.Classes.{ClassesOf, AreClasses, AreNodeGroups, AreRequestGroups, is_among, node_groups, node_is_in, request_groups, request_is_in}
-use Rattle.np_classes.specs.Placed.{Placed, groups_of_node, groups_of_request, members_of, no_node_groups, no_request_groups, placed_node, placed_request, with_all, without_all}
-use Rattle.np_classes.specs.Prepared.{IsPrepared, TouchedOf}
-use Rattle.np_classes.specs.Touched.{touches_node, touches_request}
-use Rattle.np_classes.proofs.Folds.{moved, rises-with_all, rises-without_all}
-use Rattle.np_classes.proofs.Untouched.{node-untouched, request-untouched, unclaimed-untouched}
+use Rattle.np_classes.specs.Placed.{Placed, groups_of_node, groups_of_request, members_of, no_node_groups, no_request_groups, placed_node, placed_queue, placed_request, unheld_group_of_request, with_all, without_all}
+use Rattle.np_classes.specs.Prepared.{IsPrepared, TouchedOf, first_rest}
+use Rattle.np_classes.specs.Touched.{touches_node, touches_request, touches_request_queue}
+use Rattle.np_classes.proofs.Folds.{moved, rises-with_all, rises-without_all, shifted}
+use Rattle.np_classes.proofs.Small.{small-after}
+use Rattle.np_classes.proofs.Untouched.{node-untouched, queue-untouched, request-untouched, unclaimed-untouched}
+use Rattle.np_classes.proofs.Unheld.{noted-both, others-stay, unheld-alone, unheld-among}
 
 -- the groups of a node that is not there are none
 pub node-among : (c : Configuration) (s : State) (g : Group) (n : NodeId) → is_among g (groups_of_node c s n) ≡ node_is_in c s g n
@@ -36,11 +45,16 @@ node-among c s g n = by (node_in n s.nodes) where
   by None = refl
   by (Some k) = refl
 
-pub request-among : (c : Configuration) (s : State) (g : Group) (r : RequestId) → is_among g (groups_of_request c s r) ≡ request_is_in c s g r
-request-among c s g r = by (request_in r s.requests) where
-  by : (o : Option RequestRecord) → is_among g (option_map_or (λ k. request_groups c k) o no_request_groups) ≡ option_map_or (λ k. is_among g (request_groups c k)) o false
+pub request-among : (s : State) (g : Group) (r : RequestId) → is_among g (groups_of_request s r) ≡ request_is_in s g r
+request-among s g r = by (request_in r s.requests) where
+  by : (o : Option RequestRecord) → is_among g (option_map_or (λ k. request_groups k (is_none (request_holder r s.requests))) o no_request_groups)
+      ≡ option_map_or (λ k. is_among g (request_groups k (is_none (request_holder r s.requests)))) o false
   by None = refl
   by (Some k) = refl
+
+or_false : (a : Bool) → (a || false) ≡ a
+or_false true = refl
+or_false false = refl
 
 -- what is not listed is not touched
 untouched : (a b : Bool) → (a ≡ true → b ≡ true) → b ≡ false → a ≡ false
@@ -79,27 +93,71 @@ module _ (c : Configuration) (s : State) (ch : Changes) (touched : TouchedOf) (r
           by none None at = refl
           by none (Some k) at = ap (node_groups c k (is_none (node_holder n s.nodes))) (unclaimed-untouched c ch s n k (invariant-Runs c reached.journal s reached.runs).owned.allocations at none)
 
-  requests-noted : (ms new : List (Member RequestId)) → AreRequestGroups c s ms
-      → new ≡ with_all is_id_before same_request (map (placed_request c (changed c ch s)) touched.requests) (without_all same_request touched.request_members ms)
-      → AreRequestGroups c (changed c ch s) new
-  requests-noted ms new old is = rw (is, prepared.request_members) (record {
-    rises =
-        rises-with_all is_id_before same_request request_transitive request_one_way request_some_way request_equal
-        (map (placed_request c (changed c ch s)) touched.requests) (without_all same_request (members_of (map (placed_request c s) touched.requests)) ms)
-        (rises-without_all is_id_before same_request request_transitive request_one_way request_some_way request_equal (members_of (map (placed_request c s) touched.requests)) ms old.rises);
-    each = λ g r.
-        moved is_id_before same_request request_transitive request_one_way request_some_way request_equal g r
-        (groups_of_request c s) (groups_of_request c (changed c ch s)) touched.requests ms old.rises
-        (old.each g r ∙ sym (request-among c s g r))
-        (λ out. ap (is_among g) (stays r out))
-        ∙ request-among c (changed c ch s) g r;
+  -- where its record is not touched
+  stays : (r : RequestId) → list_any (λ x. same_request x r) touched.requests ≡ false → request_in r (changed c ch s).requests ≡ request_in r s.requests
+  stays r out = request-untouched c ch s r (untouched (touches_request ch s r) (list_any (λ x. same_request x r) touched.requests) (prepared.requests r) out)
+
+  -- where its queue is not touched either
+  stays-all : (r : RequestId) → list_any (λ x. same_request x r) touched.requests ≡ false → list_any (λ x. same_request x r) touched.queues ≡ false
+      → groups_of_request (changed c ch s) r ≡ groups_of_request s r
+  stays-all r out calm =
+      let none : touches_request ch s r ≡ false = untouched (touches_request ch s r) (list_any (λ x. same_request x r) touched.requests) (prepared.requests r) out in
+      let none_queued : touches_request_queue ch s r ≡ false = untouched (touches_request_queue ch s r) (list_any (λ x. same_request x r) touched.queues) (prepared.queues r) calm in
+      ap (λ (o : Option RequestRecord). option_map_or (λ k. request_groups k (is_none (request_holder r (changed c ch s).requests))) o no_request_groups) (stays r out)
+      ∙ ap (λ (queue : List SessionId). option_map_or (λ k. request_groups k (is_none (holder queue))) (request_in r s.requests) no_request_groups) (queue-untouched c ch s r none none_queued)
+
+  -- the members after the requests' records are noted, and after their queues are
+  abbrev noted_records : List (Member RequestId) → List (Member RequestId)
+  noted_records ms = with_all is_id_before same_request (map (placed_request (changed c ch s)) touched.requests) (without_all same_request (members_of (map (placed_request s) touched.requests)) ms)
+
+  abbrev noted_queues : List (Member RequestId) → List (Member RequestId)
+  noted_queues ms = with_all is_id_before same_request (map (placed_queue (changed c ch s)) touched.queues) (without_all same_request (members_of (map (placed_queue s) touched.queues)) ms)
+
+  rises-records : (ms : List (Member RequestId)) → Rises (is_member_before is_id_before) ms → Rises (is_member_before is_id_before) (noted_records ms)
+  rises-records ms rises =
+      rises-with_all is_id_before same_request request_transitive request_one_way request_some_way request_equal
+      (map (placed_request (changed c ch s)) touched.requests) (without_all same_request (members_of (map (placed_request s) touched.requests)) ms)
+      (rises-without_all is_id_before same_request request_transitive request_one_way request_some_way request_equal (members_of (map (placed_request s) touched.requests)) ms rises)
+
+  rises-queues : (ms : List (Member RequestId)) → Rises (is_member_before is_id_before) ms → Rises (is_member_before is_id_before) (noted_queues ms)
+  rises-queues ms rises =
+      rises-with_all is_id_before same_request request_transitive request_one_way request_some_way request_equal
+      (map (placed_queue (changed c ch s)) touched.queues) (without_all same_request (members_of (map (placed_queue s) touched.queues)) ms)
+      (rises-without_all is_id_before same_request request_transitive request_one_way request_some_way request_equal (members_of (map (placed_queue s) touched.queues)) ms rises)
+
+  -- the groups that a request is in after both
+  each-noted : (ms : List (Member RequestId)) → AreRequestGroups s ms → (g : Group) (r : RequestId) → has_member same_request g r (noted_queues (noted_records ms)) ≡ request_is_in (changed c ch s) g r
+  each-noted ms old g r =
+      shifted is_id_before same_request request_transitive request_one_way request_some_way request_equal g r
+      (λ x. unheld_group_of_request s x ∷ []) (λ x. unheld_group_of_request (changed c ch s) x ∷ []) touched.queues (noted_records ms) (rises-records ms old.rises)
+      ∙ ap (λ (b : Bool). (is_queue && is_among g (unheld_group_of_request (changed c ch s) r ∷ [])) || (not (is_queue && is_among g (unheld_group_of_request s r ∷ [])) && b))
+      (shifted is_id_before same_request request_transitive request_one_way request_some_way request_equal g r
+      (groups_of_request s) (groups_of_request (changed c ch s)) touched.requests ms old.rises
+      ∙ ap (λ (b : Bool). (is_record && is_among g (groups_of_request (changed c ch s) r)) || (not (is_record && is_among g (groups_of_request s r)) && b)) (old.each g r ∙ sym (request-among s g r)))
+      ∙ noted-both is_queue is_record (is_among g (unheld_group_of_request (changed c ch s) r ∷ [])) (is_among g (unheld_group_of_request s r ∷ []))
+      (is_among g (groups_of_request (changed c ch s) r)) (is_among g (groups_of_request s r))
+      (unheld-among g (request_in r (changed c ch s).requests) (is_none (request_holder r (changed c ch s).requests)))
+      (unheld-alone g (request_in r s.requests) (request_in r (changed c ch s).requests) (is_none (request_holder r s.requests)) (is_none (request_holder r (changed c ch s).requests)))
+      (λ out calm. ap (is_among g) (stays-all r out calm))
+      (λ out before_not after_not.
+      others-stay g (request_in r s.requests) (request_in r (changed c ch s).requests) (is_none (request_holder r s.requests)) (is_none (request_holder r (changed c ch s).requests)) (stays r out) before_not after_not)
+      ∙ request-among (changed c ch s) g r
+    where
+      is_queue : Bool
+      is_queue = list_any (λ x. same_request x r) touched.queues
+
+      is_record : Bool
+      is_record = list_any (λ x. same_request x r) touched.requests
+
+  requests-noted : (ms new : List (Member RequestId)) → AreRequestGroups s ms
+      → new ≡ with_all is_id_before same_request (map (placed_queue (changed c ch s)) touched.queues) (without_all same_request touched.queue_members
+      (with_all is_id_before same_request (map (placed_request (changed c ch s)) touched.requests) (without_all same_request touched.request_members ms)))
+      → AreRequestGroups (changed c ch s) new
+  requests-noted ms new old is = rw (is, prepared.queue_members, prepared.request_members) (record {
+    rises = rises-queues (noted_records ms) (rises-records ms old.rises);
+    each = each-noted ms old;
     once = later.requests_rise;
   })
-    where
-      stays : (r : RequestId) → list_any (λ x. same_request x r) touched.requests ≡ false → groups_of_request c (changed c ch s) r ≡ groups_of_request c s r
-      stays r out =
-          let same = request-untouched c ch s r (untouched (touches_request ch s r) (list_any (λ x. same_request x r) touched.requests) (prepared.requests r) out) in
-          ap (λ (o : Option RequestRecord). option_map_or (λ k. request_groups c k) o no_request_groups) same
 
 -- members taken out and ids put in, as two calls do it with lists that are passed
 pub moved-by : {K : Type 0} (before same : K → K → Bool) (place : K → Placed K) (old was between new gone listed_gone : List (Member K)) (ids listed : List K)
@@ -112,21 +170,72 @@ moved-by before same place old was between new gone listed_gone ids listed given
     ∙ ap (λ (ms : List (Member _)). with_all before same (map place given) ms) (taken ∙ ap (λ (ms : List (Member _)). without_all same given_gone ms) was_is ∙ ap (λ (ms : List (Member _)). without_all same ms old) (passed_gone ∙ gone_is))
     ∙ ap (λ (some : List _). with_all before same (map place some) (without_all same listed_gone old)) (passed ∙ ids_is)
 
--- what is touched leaves its groups, and is put where it is after the change
-pub classes-noted : (c site : Configuration) (s t : State) (ch : Changes) (touched : TouchedOf) (old new : ClassesOf)
+-- ## what is awaited
+
+-- one request at most is among these
+one-at-most : (a b : RequestId) (rs : List RequestId) → length (a ∷ b ∷ rs) ≤ 1 → ⊥
+one-at-most a b rs few = omega (arith, few)
+
+module _ (c : Configuration) (s : State) (ch : Changes) (sound : IsSound c) (reached : IsReached c s) (planned : IsPlanned c s ch) (requests : List RequestId) (old new : List Amount)
+    (once : length requests ≤ 1) (all : (r : RequestId) → touches_request ch s r ≡ true → list_any (λ x. same_request x r) requests ≡ true) where
+  rises : Rises (λ a b. is_id_before a.id b.id) s.requests
+  rises = (invariant-Runs c reached.journal s reached.runs).numbered.requests_rise
+
+  rises_later : Rises (λ a b. is_id_before a.id b.id) (changed c ch s).requests
+  rises_later = (numbered c s ch (invariant-Runs c reached.journal s reached.runs).numbered).requests_rise
+
+  -- what is not listed stays
+  stays-out : (r : RequestId) → list_any (λ x. same_request x r) requests ≡ false → request_in r (changed c ch s).requests ≡ request_in r s.requests
+  stays-out r out = request-untouched c ch s r (untouched (touches_request ch s r) (list_any (λ x. same_request x r) requests) (all r) out)
+
+  pub amounts-noted : AreAwaited c s old → (AreSmall (rest_moved (first_rest c s requests) (first_rest c (changed c ch s) requests) old) → new ≡ rest_moved (first_rest c s requests) (first_rest c (changed c ch s) requests) old)
+      → AreAwaited c (changed c ch s) new
+  amounts-noted are noted = by requests refl noted where
+    by : (rs : List RequestId) → requests ≡ rs → (AreSmall (rest_moved (first_rest c s rs) (first_rest c (changed c ch s) rs) old) → new ≡ rest_moved (first_rest c s rs) (first_rest c (changed c ch s) rs) old)
+        → AreAwaited c (changed c ch s) new
+    by [] is noted =
+        let now : AreAwaited c (changed c ch s) old =
+        awaited-same c s (changed c ch s) old rises rises_later (λ r. stays-out r (ap (λ (rs : List RequestId). list_any (λ x. same_request x r) rs) is)) are in
+        subst (AreAwaited c (changed c ch s)) (sym (noted (small-amounts c (changed c ch s) old (small-after c s ch sound reached planned) now))) now
+    by (r ∷ []) is noted =
+        awaited-noted c s (changed c ch s) r old new sound rises rises_later
+        (λ x other. stays-out x (ap (λ (rs : List RequestId). list_any (λ y. same_request y x) rs) is ∙ or_false (same_request r x) ∙ other))
+        are (small-after c s ch sound reached planned) noted
+    by (a ∷ b ∷ rs) is noted = absurd (one-at-most a b rs (subst (λ (list : List RequestId). length list ≤ 1) is once))
+
+-- the same of what is kept under other names
+pub amounts-by : (rest before after : Option Rest) (amounts old new : List Amount) → rest ≡ before → amounts ≡ old
+    → (AreSmall (rest_moved rest after amounts) → new ≡ rest_moved rest after amounts) → AreSmall (rest_moved before after old) → new ≡ rest_moved before after old
+amounts-by rest before after amounts old new rest_is amounts_are noted =
+    subst (λ (x : Option Rest). AreSmall (rest_moved x after old) → new ≡ rest_moved x after old) rest_is
+    (subst (λ (list : List Amount). AreSmall (rest_moved rest after list) → new ≡ rest_moved rest after list) amounts_are noted)
+
+-- ## all of it
+
+-- what is touched leaves its groups, and is put where it is after the change; what is awaited follows
+pub classes-noted : (c site : Configuration) (s t : State) (ch : Changes) (touched : TouchedOf) (old new : ClassesOf) (after : Option Rest)
     → new.nodes ≡ with_all is_node_before same_node (map (placed_node site t) touched.nodes) (without_all same_node touched.node_members old.nodes)
-    → new.requests ≡ with_all is_id_before same_request (map (placed_request site t) touched.requests) (without_all same_request touched.request_members old.requests)
-    → IsReached c s → IsPrepared c s ch touched → site ≡ c → t ≡ changed c ch s → AreClasses c s old → AreClasses c (changed c ch s) new
-classes-noted c site s t ch touched old new nodes requests reached prepared same_site after was =
+    → new.requests ≡ with_all is_id_before same_request (map (placed_queue t) touched.queues) (without_all same_request touched.queue_members
+    (with_all is_id_before same_request (map (placed_request t) touched.requests) (without_all same_request touched.request_members old.requests)))
+    → after ≡ first_rest site t touched.requests
+    → (AreSmall (rest_moved touched.before after old.awaited) → new.awaited ≡ rest_moved touched.before after old.awaited)
+    → IsSound site → IsReached c s → IsPlanned c s ch → IsPrepared c s ch touched → site ≡ c → t ≡ changed c ch s → AreClasses c s old → AreClasses c (changed c ch s) new
+classes-noted c site s t ch touched old new after nodes requests after_is awaited sound reached planned prepared same_site later_is was =
     let later : IsNumbered (changed c ch s) = numbered c s ch (invariant-Runs c reached.journal s reached.runs).numbered in
+    let later_rest : after ≡ first_rest c (changed c ch s) touched.requests = rw (← later_is, ← same_site) after_is in
     record {
-      nodes = nodes-noted c s ch touched reached prepared later old.nodes new.nodes was.nodes (rw (← after, ← same_site) nodes);
-      requests = requests-noted c s ch touched reached prepared later old.requests new.requests was.requests (rw (← after, ← same_site) requests);
+      nodes = nodes-noted c s ch touched reached prepared later old.nodes new.nodes was.nodes (rw (← later_is, ← same_site) nodes);
+      requests = requests-noted c s ch touched reached prepared later old.requests new.requests was.requests (rw (← later_is) requests);
+      awaited =
+          amounts-noted c s ch (subst IsSound same_site sound) reached planned touched.requests old.awaited new.awaited prepared.once prepared.requests was.awaited
+          (subst (λ (rest : Option Rest). AreSmall (rest_moved (first_rest c s touched.requests) rest old.awaited) → new.awaited ≡ rest_moved (first_rest c s touched.requests) rest old.awaited) later_rest
+          (subst (λ (rest : Option Rest). AreSmall (rest_moved rest after old.awaited) → new.awaited ≡ rest_moved rest after old.awaited) prepared.before awaited));
     }
 
--- members that stay are those of the same states
-pub classes-same : (c : Configuration) (s : State) (old new : ClassesOf) → new.nodes ≡ old.nodes → new.requests ≡ old.requests → AreClasses c s old → AreClasses c s new
-classes-same c s old new nodes requests was = record {
+-- members and amounts that stay are those of the same states
+pub classes-same : (c : Configuration) (s : State) (old new : ClassesOf) → new.nodes ≡ old.nodes → new.requests ≡ old.requests → new.awaited ≡ old.awaited → AreClasses c s old → AreClasses c s new
+classes-same c s old new nodes requests awaited was = record {
   nodes = subst (AreNodeGroups c s) (sym nodes) was.nodes;
-  requests = subst (AreRequestGroups c s) (sym requests) was.requests;
+  requests = subst (AreRequestGroups s) (sym requests) was.requests;
+  awaited = subst (AreAwaited c s) (sym awaited) was.awaited;
 }

@@ -128,25 +128,25 @@ module _ (c : Configuration) (s : State) (reached : IsReached c s) where
   -- ## requests
 
   abbrev pub requests_made : ℕ → List (Member RequestId)
-  requests_made at = made is_id_before same_request request_view (placed_request_view c) s.requests at
+  requests_made at = made is_id_before same_request request_view placed_request_view s.requests at
 
-  request-is : (g : Group) (r : RequestId) → has_member same_request g r (with_all is_id_before same_request (map (λ e. placed_request_view c (request_view e)) s.requests) []) ≡ request_is_in c s g r
+  request-is : (g : Group) (r : RequestId) → has_member same_request g r (with_all is_id_before same_request (map (λ e. placed_request_view (request_view e)) s.requests) []) ≡ request_is_in s g r
   request-is g r =
-      with-all is_id_before same_request request_transitive request_one_way request_some_way request_equal g r (map (λ e. placed_request_view c (request_view e)) s.requests) []
+      with-all is_id_before same_request request_transitive request_one_way request_some_way request_equal g r (map (λ e. placed_request_view (request_view e)) s.requests) []
       ∙ or_false _
-      ∙ row-placed (λ (e : RequestEntry). e.id) (λ (e : RequestEntry). request_groups c e.kept) is_id_before same_request request_one_way request_equal g r s.requests numbers.requests_rise
+      ∙ row-placed (λ (e : RequestEntry). e.id) (λ (e : RequestEntry). request_groups e.kept (is_none (holder e.queue))) is_id_before same_request request_one_way request_equal g r s.requests numbers.requests_rise
       ∙ by (find (λ (e : RequestEntry). same_request e.id r) s.requests)
     where
-      by : (o : Option RequestEntry) → option_map_or (λ e. is_among g (request_groups c e.kept)) o false
-          ≡ option_map_or (λ k. is_among g (request_groups c k)) (option_map (λ e. e.kept) o) false
+      by : (o : Option RequestEntry) → option_map_or (λ e. is_among g (request_groups e.kept (is_none (holder e.queue)))) o false
+          ≡ option_map_or (λ k. is_among g (request_groups k (is_none (holder (option_map_or (λ e. e.queue) o []))))) (option_map (λ e. e.kept) o) false
       by None = refl
       by (Some e) = refl
 
-  pub requests-made : (at : ℕ) (ms : List (Member RequestId)) → at ≡ length s.requests → ms ≡ requests_made at → AreRequestGroups c s ms
-  requests-made at ms all is = rw (is, made-all is_id_before same_request request_view (placed_request_view c) s.requests at all) (record {
+  pub requests-made : (at : ℕ) (ms : List (Member RequestId)) → at ≡ length s.requests → ms ≡ requests_made at → AreRequestGroups s ms
+  requests-made at ms all is = rw (is, made-all is_id_before same_request request_view placed_request_view s.requests at all) (record {
     rises =
         rises-with_all is_id_before same_request request_transitive request_one_way request_some_way request_equal
-        (map (λ e. placed_request_view c (request_view e)) s.requests) [] tt;
+        (map (λ e. placed_request_view (request_view e)) s.requests) [] tt;
     each = request-is;
     once = numbers.requests_rise;
   })

@@ -14,7 +14,7 @@ use Rattle.np_lists.specs.Change.{change_first}
 use Rattle.np_lists.proofs.FilterLemmas.{none-list_any, filter-not_none}
 use Rattle.np_machine.specs.Entries.{RequestEntry, NodeEntry}
 use Rattle.np_machine.specs.State.{State}
-use Rattle.np_machine.specs.Tables.{is_queued, is_request, is_session, same_request, joined, left, request_in, node_in, node_queue, put_node_queue, freed}
+use Rattle.np_machine.specs.Tables.{is_queued, is_request, is_session, same_request, joined, left, request_in, request_queue, put_request_queue, node_in, node_queue, put_node_queue, freed}
 use Rattle.np_machine.specs.Node.{allocated, standing}
 use Rattle.np_keys.specs.Keys.{request_equal}
 use Rattle.np_changes.specs.declared.changes.Maker.{Maker}
@@ -27,12 +27,12 @@ use Rattle.np_changes.specs.declared.changes.NodesChange.{NodesChange}
 use Rattle.np_changes.specs.declared.changes.NodesChange.TheVariants as nodes
 use Rattle.np_changes.specs.declared.changes.SessionsChange.{SessionsChange}
 use Rattle.np_changes.specs.declared.changes.SessionsChange.TheVariants as sessions
-use Rattle.np_changes.specs.Changes.{grown, edited, requests_changed, nodes_changed, nodes_left, changed}
+use Rattle.np_changes.specs.Changes.{grown, edited, requests_changed, requests_left, nodes_changed, nodes_left, changed}
 use Rattle.np_look.specs.Readers.{is_unclaimed}
 use Rattle.np_safe.specs.Parts.{AllocationsListed}
-use Rattle.np_safe.proofs.Lookups.{request_in-edit, request_in-insert, request_in-remove, used_from, node_in-put, node_in-allocated, node_in-queue, node_in-left, node_in-freed, node_in-in_use, node_in-other, node_in-remove, node_queue-put, node_queue-freed, node_queue-in_use, node_queue-allocated, node_queue-queue, node_queue-nowhere, node_queue-left, node_queue-other, node_queue-remove}
+use Rattle.np_safe.proofs.Lookups.{request_in-edit, request_in-insert, request_in-queue, request_in-remove, request_queue-edit, request_queue-insert, request_queue-left, request_queue-nowhere, request_queue-queue, request_queue-remove, used_from, node_in-put, node_in-allocated, node_in-queue, node_in-left, node_in-freed, node_in-in_use, node_in-other, node_in-remove, node_queue-put, node_queue-freed, node_queue-in_use, node_queue-allocated, node_queue-queue, node_queue-nowhere, node_queue-left, node_queue-other, node_queue-remove}
 use Rattle.np_safe.proofs.After.{found-grown, grown-request, calm-request, left-request}
-use Rattle.np_classes.specs.Touched.{grows_node, changes_node, ends_at_node, unclaims_node, touches_node, grows_request, changes_request, touches_request}
+use Rattle.np_classes.specs.Touched.{grows_node, changes_node, ends_at_node, unclaims_node, touches_node, grows_request, changes_request, touches_request, grows_request_queue, leaves_request_queue, ends_at_request, touches_request_queue}
 
 -- none of two
 neither : (a b : Bool) → (a || b) ≡ false → (a ≡ false) × (b ≡ false)
@@ -144,6 +144,54 @@ request-untouched c ch s r out =
     left-request ch.sessions r (requests_changed ch.maker ch.requests more.requests)
     ∙ request-changed ch.maker ch.requests r more.requests both.1
     ∙ request-grown c ch.maker ch.grows s r both.0
+
+-- ## queues of requests
+
+-- the queue of another request is put
+request_queue-put : (r0 r : RequestId) (queue : List SessionId) (rows : List RequestEntry) → same_request r0 r ≡ false → request_queue r (put_request_queue r0 queue rows) ≡ request_queue r rows
+request_queue-put r0 r queue rows other = by (request_in r rows) refl where
+  by : (o : Option RequestRecord) → request_in r rows ≡ o → request_queue r (put_request_queue r0 queue rows) ≡ request_queue r rows
+  by None none = request_queue-nowhere r (put_request_queue r0 queue rows) (request_in-queue r0 r queue rows ∙ none) ∙ sym (request_queue-nowhere r rows none)
+  by (Some k) is = request_queue-queue r0 r queue k rows is ∙ ap (λ (b : Bool). cond b queue (request_queue r rows)) other
+
+-- a growth of something else
+queue-grown : (c : Configuration) (maker : Option Maker) (g : Growth) (s : State) (r : RequestId) → grows_request g s r ≡ false → grows_request_queue g r ≡ false
+    → request_queue r (grown c maker g s).requests ≡ request_queue r s.requests
+queue-grown c maker (grow.Request priority asked) s r other calm = request_queue-insert _ r s.requests other
+queue-grown c None (grow.JoinRequest r0) s r other calm = refl
+queue-grown c (Some by) (grow.JoinRequest r0) s r other calm = request_queue-put r0 r (joined by.session (request_queue r0 s.requests)) s.requests calm
+queue-grown c None (grow.Registration p) s r other calm = refl
+queue-grown c (Some by) (grow.Registration p) s r other calm = refl
+queue-grown c maker _ s r other calm = refl
+
+-- a change of another request or of its queue
+queue-changed : (maker : Option Maker) (change : RequestsChange) (r : RequestId) (rows : List RequestEntry) → changes_request change r ≡ false → leaves_request_queue change r ≡ false
+    → request_queue r (requests_changed maker change rows) ≡ request_queue r rows
+queue-changed maker requests.Same r rows other calm = refl
+queue-changed maker (requests.Edit r0 edit) r rows other calm = request_queue-edit r0 r (edited edit) rows
+queue-changed maker (requests.Remove r0) r rows other calm = request_queue-remove r0 r rows other
+queue-changed None (requests.Leave r0) r rows other calm = refl
+queue-changed (Some by) (requests.Leave r0) r rows other calm = request_queue-put r0 r (left by.session (request_queue r0 rows)) rows calm
+
+-- the end of a session that is not in the request's queue
+queue-left : (ended : SessionsChange) (s : State) (r : RequestId) (rows : List RequestEntry) → request_queue r rows ≡ request_queue r s.requests → ends_at_request ended s r ≡ false
+    → request_queue r (requests_left ended rows) ≡ request_queue r rows
+queue-left sessions.Same s r rows same out = refl
+queue-left (sessions.Mute session) s r rows same out = refl
+queue-left (sessions.End session) s r rows same out =
+    request_queue-left session r rows ∙ left-same session (request_queue r rows) (ap (λ (queue : List SessionId). is_queued session queue) same ∙ out)
+
+-- a request of which the changes touch neither the record nor the queue has the same queue after them
+pub queue-untouched : (c : Configuration) (ch : Changes) (s : State) (r : RequestId) → touches_request ch s r ≡ false → touches_request_queue ch s r ≡ false
+    → request_queue r (changed c ch s).requests ≡ request_queue r s.requests
+queue-untouched c ch s r out calm =
+    let both = neither (grows_request ch.grows s r) (changes_request ch.requests r) out in
+    let all = neither (grows_request_queue ch.grows r || leaves_request_queue ch.requests r) (ends_at_request ch.sessions s r) calm in
+    let first = neither (grows_request_queue ch.grows r) (leaves_request_queue ch.requests r) all.0 in
+    let more : State = grown c ch.maker ch.grows s in
+    let grew = queue-grown c ch.maker ch.grows s r both.0 first.0 in
+    let change = queue-changed ch.maker ch.requests r more.requests both.1 first.1 in
+    queue-left ch.sessions s r (requests_changed ch.maker ch.requests more.requests) (change ∙ grew) all.1 ∙ change ∙ grew
 
 -- ## whether a node is unclaimed
 

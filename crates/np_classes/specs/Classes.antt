@@ -2,6 +2,7 @@
 use Rattle.std.specs.Prelude.{◌≡◌, ℕ, zero, suc, ◌+◌, ◌*◌, List, [], ◌∷◌, Bool, false, ◌==◌, ◌&&◌, ◌||◌, not, if◌then◌else◌, Option, Some, None, is_none, is_some, length, slice_get, option_and_then, nat_lt}
 use Rattle.std.specs.Option.{option_map, option_map_or}
 use Rattle.std.specs.List.{list_any}
+use Rattle.np_amount.specs.declared.amount.Amount.{Amount}
 use Rattle.np_text.specs.declared.id.PoolId.{PoolId}
 use Rattle.np_text.specs.declared.id.LabelId.{LabelId}
 use Rattle.np_text.specs.declared.id.NodeId.{NodeId}
@@ -23,8 +24,8 @@ use Rattle.np_machine.specs.Kinds.{is_requested, is_pending, is_failed, is_ready
 use Rattle.np_machine.specs.Order.{is_declined_by, is_id_before}
 use Rattle.np_machine.specs.Reasons.{next_label}
 use Rattle.np_machine.specs.State.{State}
-use Rattle.np_machine.specs.Tables.{node_in, node_holder, request_in, same_request}
-use Rattle.np_machine.specs.Tenants.{tenant_of_request}
+use Rattle.np_machine.specs.Tables.{node_in, node_holder, request_holder, request_in, same_request}
+use Rattle.np_awaited.specs.Awaited.{AreAwaited}
 
 -- ## groups of nodes (own)
 
@@ -79,9 +80,9 @@ node_groups c k unlocked unclaimed =
 abbrev pub pending_group : PoolId → Group
 pending_group p = record { class = 0; first = p.0; second = 0; third = 0 }
 
--- the pending requests that still wait for nodes and whose job is of the tenant
-abbrev pub waiting_group : TenantId → Group
-waiting_group t = record { class = 1; first = t.0; second = 0; third = 0 }
+-- those of them that nobody holds
+abbrev pub unheld_pending_group : PoolId → Group
+unheld_pending_group p = record { class = 1; first = p.0; second = 0; third = 0 }
 
 -- the min-ready requests for the label that are requested or pending
 abbrev pub coming_group : LabelId → Group
@@ -120,8 +121,8 @@ decline_set declined = decline_digits declined 0 64
 abbrev pub pending_group_of : RequestRecord → Option Group
 pending_group_of k = if is_pending k.state then option_map pending_group k.pool else None
 
-abbrev pub waiting_group_of : Configuration → RequestRecord → Option Group
-waiting_group_of c k = if is_pending k.state && is_some (next_label k) then option_map waiting_group (tenant_of_request c k) else None
+abbrev pub unheld_pending_group_of : RequestRecord → Bool → Option Group
+unheld_pending_group_of k unlocked = if is_pending k.state && unlocked then option_map unheld_pending_group k.pool else None
 
 abbrev pub coming_group_of : RequestRecord → Option Group
 coming_group_of k = if (is_requested k.state || is_pending k.state) && is_some k.pinned then option_map coming_group (slice_get k.labels 0) else None
@@ -138,11 +139,11 @@ next_label_group_of k = if is_pending k.state && is_none k.pinned then option_an
 abbrev pub pinned_label_group_of : RequestRecord → Option Group
 pinned_label_group_of k = if is_pending k.state && is_some k.pinned then option_and_then (λ p. option_map (pinned_label_group p) (next_label k)) k.pool else None
 
--- the groups of a request with this record
-abbrev pub request_groups : Configuration → RequestRecord → List (Option Group)
-request_groups c k =
+-- the groups of a request with this record, by whether it is unlocked
+abbrev pub request_groups : RequestRecord → Bool → List (Option Group)
+request_groups k unlocked =
     pending_group_of k
-    ∷ waiting_group_of c k
+    ∷ unheld_pending_group_of k unlocked
     ∷ coming_group_of k
     ∷ spent_group_of k
     ∷ declined_group_of k
@@ -161,8 +162,8 @@ abbrev pub node_is_in : Configuration → State → Group → NodeId → Bool
 node_is_in c s g n = option_map_or (λ k. is_among g (node_groups c k (is_none (node_holder n s.nodes)) (is_unclaimed s k))) (node_in n s.nodes) false
 
 -- the request is there, and in the group
-abbrev pub request_is_in : Configuration → State → Group → RequestId → Bool
-request_is_in c s g r = option_map_or (λ k. is_among g (request_groups c k)) (request_in r s.requests) false
+abbrev pub request_is_in : State → Group → RequestId → Bool
+request_is_in s g r = option_map_or (λ k. is_among g (request_groups k (is_none (request_holder r s.requests)))) (request_in r s.requests) false
 
 -- the members of a group are the nodes that are in it; no two nodes have one number
 pub record AreNodeGroups (c : Configuration) (s : State) (members : List (Member NodeId)) : Type 0 where
@@ -171,19 +172,22 @@ pub record AreNodeGroups (c : Configuration) (s : State) (members : List (Member
   pub once : Rises (λ a b. nat_lt a.id.0 b.id.0) s.nodes
 
 -- the members of a group are the requests that are in it; no two requests have one id
-pub record AreRequestGroups (c : Configuration) (s : State) (members : List (Member RequestId)) : Type 0 where
+pub record AreRequestGroups (s : State) (members : List (Member RequestId)) : Type 0 where
   pub rises : Rises (is_member_before is_id_before) members
-  pub each : (g : Group) (r : RequestId) → has_member same_request g r members ≡ request_is_in c s g r
+  pub each : (g : Group) (r : RequestId) → has_member same_request g r members ≡ request_is_in s g r
   pub once : Rises (λ a b. is_id_before a.id b.id) s.requests
 
--- the members of all groups, and how many more can be put without taking memory
+-- the members of all groups, how many more can be put without taking memory, and what the pending
+-- requests of each tenant still wait for
 pub record ClassesOf : Type 0 where
   pub nodes : List (Member NodeId)
   pub requests : List (Member RequestId)
   pub node_room : ℕ
   pub request_room : ℕ
+  pub awaited : List Amount
 
 -- each part says what the state says
 pub record AreClasses (c : Configuration) (s : State) (classes : ClassesOf) : Type 0 where
   pub nodes : AreNodeGroups c s classes.nodes
-  pub requests : AreRequestGroups c s classes.requests
+  pub requests : AreRequestGroups s classes.requests
+  pub awaited : AreAwaited c s classes.awaited

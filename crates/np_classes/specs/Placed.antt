@@ -1,5 +1,5 @@
 -- ids with the groups that they are in, and what they make of the members of groups
-use Rattle.std.specs.Prelude.{Bool, List, [], ◌∷◌, ◌++◌, Option, None, is_none}
+use Rattle.std.specs.Prelude.{Bool, List, [], ◌∷◌, ◌++◌, Option, None, is_none, option_and_then}
 use Rattle.std.specs.Option.{option_map_or}
 use Rattle.np_text.specs.declared.id.NodeId.{NodeId}
 use Rattle.np_text.specs.declared.id.RequestId.{RequestId}
@@ -8,11 +8,11 @@ use Rattle.np_groups.specs.declared.groups.Group.{Group}
 use Rattle.np_groups.specs.declared.groups.Member.{Member}
 use Rattle.np_groups.specs.Groups.{member, with_member, without_member}
 use Rattle.np_machine.specs.State.{State}
-use Rattle.np_machine.specs.Tables.{node_in, node_holder, request_in}
+use Rattle.np_machine.specs.Tables.{node_in, node_holder, request_holder, request_in}
 use Rattle.np_look.specs.Readers.{is_unclaimed}
 use Rattle.np_look.specs.declared.asked.NodeView.{NodeView}
 use Rattle.np_look.specs.declared.asked.RequestView.{RequestView}
-use Rattle.np_classes.specs.Classes.{node_groups, request_groups}
+use Rattle.np_classes.specs.Classes.{node_groups, request_groups, unheld_pending_group_of}
 
 -- an id, with the groups that it is in (own)
 pub record Placed (K : Type 0) : Type 0 where
@@ -72,18 +72,26 @@ no_request_groups = None ∷ None ∷ None ∷ None ∷ None ∷ None ∷ None �
 abbrev pub groups_of_node : Configuration → State → NodeId → List (Option Group)
 groups_of_node c s n = option_map_or (λ k. node_groups c k (is_none (node_holder n s.nodes)) (is_unclaimed s k)) (node_in n s.nodes) no_node_groups
 
-abbrev pub groups_of_request : Configuration → State → RequestId → List (Option Group)
-groups_of_request c s r = option_map_or (λ k. request_groups c k) (request_in r s.requests) no_request_groups
+abbrev pub groups_of_request : State → RequestId → List (Option Group)
+groups_of_request s r = option_map_or (λ k. request_groups k (is_none (request_holder r s.requests))) (request_in r s.requests) no_request_groups
+
+-- its group among the pending ones that nobody holds, which alone its queue decides
+abbrev pub unheld_group_of_request : State → RequestId → Option Group
+unheld_group_of_request s r = option_and_then (λ k. unheld_pending_group_of k (is_none (request_holder r s.requests))) (request_in r s.requests)
 
 abbrev pub placed_node : Configuration → State → NodeId → Placed NodeId
 placed_node c s n = record { id = n; groups = groups_of_node c s n }
 
-abbrev pub placed_request : Configuration → State → RequestId → Placed RequestId
-placed_request c s r = record { id = r; groups = groups_of_request c s r }
+abbrev pub placed_request : State → RequestId → Placed RequestId
+placed_request s r = record { id = r; groups = groups_of_request s r }
+
+-- the request with that one group
+abbrev pub placed_queue : State → RequestId → Placed RequestId
+placed_queue s r = record { id = r; groups = unheld_group_of_request s r ∷ [] }
 
 -- as a walk sees them
 abbrev pub placed_node_view : Configuration → State → NodeView → Placed NodeId
 placed_node_view c s v = record { id = v.id; groups = node_groups c v.kept (is_none v.holder) (is_unclaimed s v.kept) }
 
-abbrev pub placed_request_view : Configuration → RequestView → Placed RequestId
-placed_request_view c v = record { id = v.id; groups = request_groups c v.kept }
+abbrev pub placed_request_view : RequestView → Placed RequestId
+placed_request_view v = record { id = v.id; groups = request_groups v.kept (is_none v.holder) }

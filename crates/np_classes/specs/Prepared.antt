@@ -1,5 +1,5 @@
 -- which nodes and requests are listed before a change, and what is prepared for it
-use Rattle.std.specs.Prelude.{◌≡◌, ◌≤◌, ◌*◌, List, [], ◌∷◌, ◌++◌, true, length, map}
+use Rattle.std.specs.Prelude.{◌≡◌, ◌≤◌, ◌+◌, ◌*◌, List, [], ◌∷◌, ◌++◌, true, Option, length, map, option_and_then, slice_get}
 use Rattle.std.specs.Option.{option_map_or}
 use Rattle.std.specs.List.{list_any}
 use Rattle.np_text.specs.declared.id.NodeId.{NodeId}
@@ -20,8 +20,16 @@ use Rattle.np_changes.specs.declared.changes.NodesChange.TheVariants as nodes
 use Rattle.np_changes.specs.declared.changes.SessionsChange.{SessionsChange}
 use Rattle.np_changes.specs.declared.changes.SessionsChange.TheVariants as sessions
 use Rattle.np_classes.specs.Classes.{ClassesOf}
-use Rattle.np_classes.specs.Placed.{members_of, placed_node, placed_request}
-use Rattle.np_classes.specs.Touched.{touches_node, touches_request}
+use Rattle.np_awaited.specs.Awaited.{rest_at}
+use Rattle.np_awaited.specs.declared.awaited.Rest.{Rest}
+use Rattle.np_classes.specs.Placed.{members_of, placed_node, placed_queue, placed_request}
+use Rattle.np_classes.specs.Touched.{touches_node, touches_request, touches_request_queue}
+
+-- those in whose queues the session is that ends, if one does
+abbrev pub ended : {K : Type 0} → SessionsChange → List K → List K
+ended sessions.Same queued = []
+ended (sessions.Mute session) queued = []
+ended (sessions.End session) queued = queued
 
 -- ## nodes
 
@@ -40,12 +48,6 @@ changed_nodes (nodes.Leave n) s = n ∷ []
 changed_nodes (nodes.FreeAll r) s = option_map_or (λ k. k.nodes) (request_in r s.requests) []
 changed_nodes (nodes.TakeOver numbers) s = numbers
 
--- the nodes in whose queues the session is that ends
-abbrev pub ended_nodes : SessionsChange → List NodeId → List NodeId
-ended_nodes sessions.Same queued = []
-ended_nodes (sessions.Mute session) queued = []
-ended_nodes (sessions.End session) queued = queued
-
 -- the nodes in the list of the request that goes away
 abbrev pub unclaimed_nodes : RequestsChange → State → List NodeId
 unclaimed_nodes requests.Same s = []
@@ -55,7 +57,7 @@ unclaimed_nodes (requests.Leave r) s = []
 
 -- a node that is freed by a request that goes away is listed twice
 abbrev pub touched_nodes : Changes → List NodeId → State → List NodeId
-touched_nodes ch queued s = ((grown_nodes ch.grows s ++ changed_nodes ch.nodes s) ++ ended_nodes ch.sessions queued) ++ unclaimed_nodes ch.requests s
+touched_nodes ch queued s = ((grown_nodes ch.grows s ++ changed_nodes ch.nodes s) ++ ended ch.sessions queued) ++ unclaimed_nodes ch.requests s
 
 -- ## requests
 
@@ -72,23 +74,52 @@ changed_requests (requests.Leave r) = []
 abbrev pub touched_requests : Changes → State → List RequestId
 touched_requests ch s = grown_requests ch.grows s ++ changed_requests ch.requests
 
+-- ## queues of requests
+
+abbrev pub grown_queues : Growth → List RequestId
+grown_queues (grow.JoinRequest r) = r ∷ []
+grown_queues growth = []
+
+abbrev pub left_queues : RequestsChange → List RequestId
+left_queues requests.Same = []
+left_queues (requests.Edit r edit) = []
+left_queues (requests.Remove r) = []
+left_queues (requests.Leave r) = r ∷ []
+
+abbrev pub touched_queues : Changes → List RequestId → List RequestId
+touched_queues ch queued = (grown_queues ch.grows ++ left_queues ch.requests) ++ ended ch.sessions queued
+
 -- ## what is prepared
 
--- the nodes and the requests that a change touches, and the members that they are before it (own)
+-- what the first of the requests still waits for
+abbrev pub first_rest : Configuration → State → List RequestId → Option Rest
+first_rest c s requests = option_and_then (rest_at c s) (slice_get requests 0)
+
+-- the nodes and the requests that a change touches, the requests of which it touches the queue alone,
+-- the members that they are before it, and what the first request waits for before it (own)
 pub record TouchedOf : Type 0 where
   pub nodes : List NodeId
   pub requests : List RequestId
+  pub queues : List RequestId
   pub node_members : List (Member NodeId)
   pub request_members : List (Member RequestId)
+  pub queue_members : List (Member RequestId)
+  pub before : Option Rest
 
--- all that the changes touch in the state is listed, with the members that it is there
+-- all that the changes touch in the state is listed, with the members that it is there; they touch
+-- one request at most
 pub record IsPrepared (c : Configuration) (s : State) (ch : Changes) (touched : TouchedOf) : Type 0 where
   pub nodes : (n : NodeId) → touches_node ch s n ≡ true → list_any (λ m. same_node m n) touched.nodes ≡ true
   pub requests : (r : RequestId) → touches_request ch s r ≡ true → list_any (λ x. same_request x r) touched.requests ≡ true
+  pub queues : (r : RequestId) → touches_request_queue ch s r ≡ true → list_any (λ x. same_request x r) touched.queues ≡ true
   pub node_members : touched.node_members ≡ members_of (map (placed_node c s) touched.nodes)
-  pub request_members : touched.request_members ≡ members_of (map (placed_request c s) touched.requests)
+  pub request_members : touched.request_members ≡ members_of (map (placed_request s) touched.requests)
+  pub queue_members : touched.queue_members ≡ members_of (map (placed_queue s) touched.queues)
+  pub once : length touched.requests ≤ 1
+  pub before : touched.before ≡ first_rest c s touched.requests
 
--- there is room for each node in the five groups that it may be in, and for each request in its seven
+-- there is room for each node in the five groups that it may be in, for each request in its seven, and
+-- for each queue in its one
 pub record HasRoom (touched : TouchedOf) (classes : ClassesOf) : Type 0 where
   pub nodes : 5 * length touched.nodes ≤ classes.node_room
-  pub requests : 7 * length touched.requests ≤ classes.request_room
+  pub requests : 7 * length touched.requests + length touched.queues ≤ classes.request_room

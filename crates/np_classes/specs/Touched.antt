@@ -5,7 +5,7 @@ use Rattle.std.specs.List.{list_any}
 use Rattle.np_text.specs.declared.id.NodeId.{NodeId}
 use Rattle.np_text.specs.declared.id.RequestId.{RequestId}
 use Rattle.np_machine.specs.State.{State}
-use Rattle.np_machine.specs.Tables.{is_queued, is_request, node_in, node_queue, same_request}
+use Rattle.np_machine.specs.Tables.{is_queued, is_request, node_in, node_queue, request_queue, same_request}
 use Rattle.np_machine.specs.Request.{next_id}
 use Rattle.np_changes.specs.declared.changes.Changes.{Changes}
 use Rattle.np_changes.specs.declared.changes.Growth.{Growth}
@@ -67,3 +67,26 @@ changes_request (requests.Leave x) r = false
 -- the record of the request may change
 abbrev pub touches_request : Changes → State → RequestId → Bool
 touches_request ch s r = grows_request ch.grows s r || changes_request ch.requests r
+
+-- ## queues of requests
+
+-- what grows is the queue of the request
+abbrev pub grows_request_queue : Growth → RequestId → Bool
+grows_request_queue (grow.JoinRequest x) r = same_request x r
+grows_request_queue growth r = false
+
+abbrev pub leaves_request_queue : RequestsChange → RequestId → Bool
+leaves_request_queue requests.Same r = false
+leaves_request_queue (requests.Edit x edit) r = false
+leaves_request_queue (requests.Remove x) r = false
+leaves_request_queue (requests.Leave x) r = same_request x r
+
+-- a session that ends leaves the request's queue
+abbrev pub ends_at_request : SessionsChange → State → RequestId → Bool
+ends_at_request sessions.Same s r = false
+ends_at_request (sessions.Mute session) s r = false
+ends_at_request (sessions.End session) s r = is_queued session (request_queue r s.requests)
+
+-- the queue of the request may change
+abbrev pub touches_request_queue : Changes → State → RequestId → Bool
+touches_request_queue ch s r = grows_request_queue ch.grows r || leaves_request_queue ch.requests r || ends_at_request ch.sessions s r

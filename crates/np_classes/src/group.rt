@@ -1,13 +1,14 @@
 //! Which groups nodes and requests are in, by their records.
 
-ghost use Rattle.std.specs.Prelude.{◌≡◌, ◌≤◌, None, if◌then◌else◌};
+ghost use Rattle.std.specs.Prelude.{◌≡◌, ◌≤◌, ◌&&◌, None, if◌then◌else◌};
 ghost use Rattle.std.specs.Option.{option_map};
+ghost use Rattle.np_machine.specs.Kinds.{is_pending};
 ghost use Rattle.np_machine.specs.Order.{is_declined_by};
-ghost use Rattle.np_classes.specs.Classes.{coming_group, coming_group_of, decline_set, declined_group, declined_group_of, free_group, group_if, kind_group, next_label_group, next_label_group_of, node_groups, pending_group, pending_group_of, pinned_label_group, pinned_label_group_of, request_groups, spare_group, spent_group, spent_group_of, tenant_group, unheld_class, unheld_group, unheld_group_of, waiting_group, waiting_group_of};
+ghost use Rattle.np_classes.specs.Classes.{coming_group, coming_group_of, decline_set, declined_group, declined_group_of, free_group, group_if, kind_group, next_label_group, next_label_group_of, node_groups, pending_group, pending_group_of, pinned_label_group, pinned_label_group_of, request_groups, spare_group, spent_group, spent_group_of, tenant_group, unheld_class, unheld_group, unheld_group_of, unheld_pending_group};
 
 use np_config::Config;
 use np_groups::Group;
-use np_look::{UnheldKind, due_of, is_declined_by, tenant_of_job, unheld_kind};
+use np_look::{UnheldKind, due_of, is_declined_by, unheld_kind};
 use np_record::{Declined, NodeRecord, RequestRecord};
 use np_text::{LabelId, NodeState, POOLS, PoolId, RequestState, TenantId};
 
@@ -94,13 +95,13 @@ pub fn pending_group(pool: PoolId) -> Group
     }
 }
 
-/// The pending requests that still wait for nodes and whose job is of the tenant.
-pub fn waiting_group(tenant: TenantId) -> Group
-    ensures { result ≡ waiting_group tenant }
+/// Those of them that nobody holds.
+pub fn unheld_pending_group(pool: PoolId) -> Group
+    ensures { result ≡ unheld_pending_group pool }
 {
     Group {
         class: 1,
-        first: tenant.0,
+        first: pool.0,
         second: 0,
         third: 0,
     }
@@ -226,13 +227,20 @@ fn pending_group_of(kept: &RequestRecord) -> Option<Group>
     Some(pending_group(kept.pool?))
 }
 
-fn waiting_group_of(config: &Config, kept: &RequestRecord) -> Option<Group>
-    ensures { result ≡ waiting_group_of config.now kept.now }
+/// The group of a request in this state among those that nobody holds, if it is pending and
+/// unlocked.
+pub(crate) fn unheld_pending_group_of(
+    state: RequestState,
+    pool: Option<PoolId>,
+    is_unlocked: bool,
+) -> Option<Group>
+    ensures { result ≡ (if is_pending state && is_unlocked
+        then option_map unheld_pending_group pool else None) }
 {
-    if kept.state != RequestState::Pending || kept.labels.at(kept.nodes.len()).is_none() {
+    if state != RequestState::Pending || !is_unlocked {
         return None;
     }
-    Some(waiting_group(tenant_of_job(config, kept.job)?))
+    Some(unheld_pending_group(pool?))
 }
 
 fn coming_group_of(kept: &RequestRecord) -> Option<Group>
@@ -306,13 +314,13 @@ fn pinned_label_group_of(kept: &RequestRecord) -> Option<Group>
     Some(pinned_label_group(pool, kept.labels.at(kept.nodes.len())?))
 }
 
-/// The groups of a request with this record.
-pub(crate) fn request_groups(config: &Config, kept: &RequestRecord) -> [Option<Group>; 7]
-    ensures { result ≡ request_groups config.now kept.now }
+/// The groups of a request with this record, by whether it is unlocked.
+pub(crate) fn request_groups(kept: &RequestRecord, is_unlocked: bool) -> [Option<Group>; 7]
+    ensures { result ≡ request_groups kept.now is_unlocked }
 {
     [
         pending_group_of(kept),
-        waiting_group_of(config, kept),
+        unheld_pending_group_of(kept.state, kept.pool, is_unlocked),
         coming_group_of(kept),
         spent_group_of(kept),
         declined_group_of(kept),

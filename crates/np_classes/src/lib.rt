@@ -1,11 +1,16 @@
-//! Groups of the nodes and of the requests of a state, for what is asked of all of one kind.
+//! Groups of the nodes and of the requests of a state, for what is asked of all of one kind, and
+//! what the pending requests of each tenant still wait for.
 //!
 //! `specs/Classes` says which groups a record is in, and when the members of all groups are those
 //! of a state. `Classes` keeps them as each event changes the state: `prepare` lists the nodes and
 //! requests that the event's changes touch, with the groups that they are in, and takes the memory;
 //! once the state has changed, `note` puts them where they are now, which can't fail. A node is
 //! touched too when the request that it is allocated to goes away, since it is unclaimed from then
-//! on.
+//! on. A request whose queue alone changes leaves one group only: that of the pending ones that
+//! nobody holds.
+//!
+//! An event changes the record of one request at most. `prepare` reads what it waits for before,
+//! and `note` puts what it waits for now in its place.
 #![tactic(auto)]
 
 mod classes;
@@ -16,6 +21,6 @@ mod touched;
 pub use classes::Classes;
 pub use group::{
     coming_group, declined_group, free_group, kind_group, next_label_group, pending_group,
-    pinned_label_group, spare_group, spent_group, tenant_group, unheld_group, waiting_group,
+    pinned_label_group, spare_group, spent_group, tenant_group, unheld_group, unheld_pending_group,
 };
 pub use touched::Touched;

@@ -6,11 +6,10 @@ ghost use Rattle.np_machine.specs.Order.{is_id_before};
 ghost use Rattle.np_machine.specs.Tables.{same_request};
 ghost use Rattle.np_changes.specs.Planned.{IsReached};
 ghost use Rattle.np_classes.specs.Classes.{AreNodeGroups, AreRequestGroups};
-ghost use Rattle.np_classes.specs.Placed.{placed_node, placed_node_view, placed_request, placed_request_view, with_all, with_group, with_groups, without_all};
+ghost use Rattle.np_classes.specs.Placed.{placed_node, placed_node_view, placed_queue, placed_request, placed_request_view, with_all, with_group, with_groups, without_all};
 
 use crate::group::{node_groups, request_groups};
-use crate::touched::{groups_of_node, groups_of_request};
-use np_config::Config;
+use crate::touched::{groups_of_node, groups_of_request, unheld_group_of_request};
 use np_groups::{Group, Groups, Member};
 use np_keys::{ByNode, ByRequest};
 use np_look::{Look, NodeView, RequestView};
@@ -71,13 +70,27 @@ pub(crate) fn put_requests<L: Look>(
     requests: &[RequestId],
 )
     requires { 7 * length requests.now ≤ groups.old.room }
-    ensures { groups.new.members
+    ensures members { groups.new.members
         ≡ with_all is_id_before same_request
-        (map (placed_request (L.site look.now) (L.state look.now)) requests.now)
+        (map (placed_request (L.state look.now)) requests.now)
         groups.old.members }
+    ensures room { groups.old.room ≤ groups.new.room + 7 * length requests.now }
 {
     for request in requests {
         put_in(groups, *request, &groups_of_request(look, *request));
+    }
+}
+
+/// Puts the requests among the pending ones that nobody holds, if the state has them there.
+pub(crate) fn put_queues<L: Look>(groups: &mut Groups<ByRequest>, look: &L, requests: &[RequestId])
+    requires { length requests.now ≤ groups.old.room }
+    ensures { groups.new.members
+        ≡ with_all is_id_before same_request
+        (map (placed_queue (L.state look.now)) requests.now)
+        groups.old.members }
+{
+    for request in requests {
+        put_one(groups, *request, unheld_group_of_request(look, *request));
     }
 }
 
@@ -116,17 +129,15 @@ pub(crate) fn all_nodes<L: Look>(alloc: Global, look: &L) -> Result<Groups<ByNod
 }
 
 /// Puts the request in its groups, and takes the memory.
-fn add_request(
-    groups: &mut Groups<ByRequest>,
-    config: &Config,
-    view: &RequestView,
-) -> Result<(), AllocError>
+fn add_request(groups: &mut Groups<ByRequest>, view: &RequestView) -> Result<(), AllocError>
     ensures { OnOk result (groups.new.members
         ≡ with_groups is_id_before same_request view.now.id
-        (placed_request_view config.now view.now).groups groups.old.members) }
+        (placed_request_view view.now).groups groups.old.members) }
 {
+    let is_unlocked = view.holder.is_none();
+    let places = request_groups(&view.kept, is_unlocked);
     groups.reserve(7)?;
-    put_in(groups, view.id, &request_groups(config, &view.kept));
+    put_in(groups, view.id, &places);
     Ok(())
 }
 
@@ -137,12 +148,12 @@ pub(crate) fn all_requests<L: Look>(
 ) -> Result<Groups<ByRequest>, AllocError>
     requires { IsReached (L.site look.now) (L.state look.now) }
     ensures { IfOk result (λ groups.
-        AreRequestGroups (L.site look.now) (L.state look.now) groups.members) }
+        AreRequestGroups (L.state look.now) groups.members) }
 {
     let mut groups = Groups::new(alloc);
     for at in 0..look.requests() {
         if let Some(view) = look.request_view(at) {
-            add_request(&mut groups, look.config(), &view)?;
+            add_request(&mut groups, &view)?;
         }
     }
     Ok(groups)

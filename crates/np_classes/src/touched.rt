@@ -1,14 +1,16 @@
-//! The nodes and the requests that the changes of an event touch, listed before it.
+//! The nodes, the requests and the queues of requests that the changes of an event touch, listed
+//! before it.
 
-ghost use Rattle.std.specs.Prelude.{◌≡◌, ◌++◌, IfOk, OnOk, map, option_to_list};
+ghost use Rattle.std.specs.Prelude.{◌≡◌, ◌≤◌, ◌++◌, IfOk, OnOk, length, map, option_to_list};
 ghost use Rattle.np_text.specs.declared.id.SessionId.{SessionId};
 ghost use Rattle.np_changes.specs.declared.changes.SessionsChange.TheVariants as sessions;
 ghost use Rattle.np_changes.specs.Planned.{IsPlanned, IsReached};
-ghost use Rattle.np_look.specs.Readers.{queued_nodes};
-ghost use Rattle.np_classes.specs.Placed.{groups_of_node, groups_of_request, members_of, placed_node, placed_request, then_member, then_members};
-ghost use Rattle.np_classes.specs.Prepared.{IsPrepared, changed_nodes, changed_requests, ended_nodes, grown_nodes, grown_requests, touched_nodes, touched_requests, unclaimed_nodes};
+ghost use Rattle.np_look.specs.Readers.{queued_nodes, queued_requests};
+ghost use Rattle.np_classes.specs.Placed.{groups_of_node, groups_of_request, members_of, placed_node, placed_queue, placed_request, then_member, then_members, unheld_group_of_request};
+ghost use Rattle.np_classes.specs.Prepared.{IsPrepared, changed_nodes, changed_requests, ended, first_rest, grown_nodes, grown_queues, grown_requests, left_queues, touched_nodes, touched_queues, touched_requests, unclaimed_nodes};
 
-use crate::group::{node_groups, request_groups};
+use crate::group::{node_groups, request_groups, unheld_pending_group_of};
+use np_awaited::{Rest, rest_at};
 use np_changes::{Changes, Growth, NodesChange, RequestsChange, SessionsChange};
 use np_groups::{Group, Member};
 use np_look::Look;
@@ -16,14 +18,18 @@ use np_text::{NodeId, RequestId};
 use std::alloc::{AllocError, Global};
 use std::marker::Model;
 
-/// The nodes and the requests that an event's changes touch, and the members of groups that they
-/// are before it.
+/// The nodes and the requests that an event's changes touch, with the members of groups that they
+/// are before it: the requests whose records may change, and those whose queues alone may. Beside
+/// them what the request whose record may change waits for before the event.
 #[derive(Drop)]
 pub struct Touched {
     pub(crate) nodes: Vec<NodeId>,
     pub(crate) requests: Vec<RequestId>,
+    pub(crate) queues: Vec<RequestId>,
     pub(crate) node_members: Vec<Member<NodeId>>,
     pub(crate) request_members: Vec<Member<RequestId>>,
+    pub(crate) queue_members: Vec<Member<RequestId>>,
+    pub(crate) before: Option<Rest>,
 }
 
 impl Model for Touched {
@@ -34,13 +40,17 @@ impl Model for Touched {
     ghost view = { λ touched. record {
       nodes = touched.nodes.items;
       requests = touched.requests.items;
+      queues = touched.queues.items;
       node_members = touched.node_members.items;
       request_members = touched.request_members.items;
+      queue_members = touched.queue_members.items;
+      before = touched.before;
     } };
 }
 
 impl Touched {
-    /// The requests that the changes touch, for whatever else is kept of them. It costs nothing.
+    /// The requests whose records may change, for whatever else is kept of them; one at most. It
+    /// costs nothing.
     pub fn requests(&self) -> &[RequestId]
         ensures { result.now ≡ self.now.requests }
     {
@@ -67,13 +77,33 @@ pub(crate) fn groups_of_node<L: Look>(look: &L, node: NodeId) -> [Option<Group>;
     node_groups(look.config(), &kept, is_unlocked, is_unclaimed)
 }
 
-/// The groups that the request is in, if it is there. One lookup.
+/// The groups that the request is in, if it is there. Two lookups: of the request and of its queue.
 pub(crate) fn groups_of_request<L: Look>(look: &L, request: RequestId) -> [Option<Group>; 7]
-    ensures { result ≡ groups_of_request (L.site look.now) (L.state look.now) request }
+    ensures { result ≡ groups_of_request (L.state look.now) request }
 {
-    match look.request(request) {
-        None => NO_REQUEST_GROUPS,
-        Some(kept) => request_groups(look.config(), &kept),
+    let Some(kept) = look.request(request) else {
+        return NO_REQUEST_GROUPS;
+    };
+    let is_unlocked = look.request_holder(request).is_none();
+    request_groups(&kept, is_unlocked)
+}
+
+/// Its group among the pending ones that nobody holds. The same two lookups, without its declines.
+pub(crate) fn unheld_group_of_request<L: Look>(look: &L, request: RequestId) -> Option<Group>
+    ensures { result ≡ unheld_group_of_request (L.state look.now) request }
+{
+    let asked = look.asked(request)?;
+    let is_unlocked = look.request_holder(request).is_none();
+    unheld_pending_group_of(asked.state, asked.pool, is_unlocked)
+}
+
+/// What the first of the requests still waits for.
+pub(crate) fn first_rest<L: Look>(look: &L, requests: &[RequestId]) -> Option<Rest>
+    ensures { result ≡ first_rest (L.site look.now) (L.state look.now) requests.now }
+{
+    match requests.first() {
+        None => None,
+        Some(request) => rest_at(look, *request),
     }
 }
 
@@ -121,13 +151,13 @@ fn list_changed_nodes<L: Look>(
     }
 }
 
-fn list_ended_nodes(
-    list: &mut Vec<NodeId>,
+/// The nodes or the requests in whose queues the session is that ends.
+fn list_ended<T: Copy>(
+    list: &mut Vec<T>,
     change: &SessionsChange,
-    queued: &[NodeId],
+    queued: &[T],
 ) -> Result<(), AllocError>
-    ensures { OnOk result
-        (list.new.items ≡ list.old.items ++ ended_nodes change.now queued.now) }
+    ensures { OnOk result (list.new.items ≡ list.old.items ++ ended change.now queued.now) }
 {
     match change {
         SessionsChange::End { .. } => list.extend_from_slice(queued),
@@ -156,15 +186,15 @@ fn touched_nodes<L: Look>(
     alloc: Global,
     look: &L,
     changes: &Changes,
-    queued: &[NodeId],
+    ended_nodes: &[NodeId],
 ) -> Result<Vec<NodeId>, AllocError>
     ensures { IfOk result
-        (λ list. list.items ≡ touched_nodes changes.now queued.now (L.state look.now)) }
+        (λ list. list.items ≡ touched_nodes changes.now ended_nodes.now (L.state look.now)) }
 {
     let mut list = Vec::new(alloc);
     list_if(&mut list, grown_node(look, &changes.grows))?;
     list_changed_nodes(&mut list, look, &changes.nodes)?;
-    list_ended_nodes(&mut list, &changes.sessions, queued)?;
+    list_ended(&mut list, &changes.sessions, ended_nodes)?;
     list_unclaimed_nodes(&mut list, look, &changes.requests)?;
     Ok(list)
 }
@@ -202,6 +232,38 @@ fn touched_requests<L: Look>(
     let mut list = Vec::new(alloc);
     list_if(&mut list, grown_request(look, &changes.grows))?;
     list_if(&mut list, changed_request(&changes.requests))?;
+    Ok(list)
+}
+
+fn grown_queue(growth: &Growth) -> Option<RequestId>
+    ensures { option_to_list result ≡ grown_queues growth.now }
+{
+    match growth {
+        Growth::JoinRequest { request } => Some(*request),
+        _ => None,
+    }
+}
+
+fn left_queue(change: &RequestsChange) -> Option<RequestId>
+    ensures { option_to_list result ≡ left_queues change.now }
+{
+    match change {
+        RequestsChange::Leave { request } => Some(*request),
+        _ => None,
+    }
+}
+
+fn touched_queues(
+    alloc: Global,
+    changes: &Changes,
+    ended_requests: &[RequestId],
+) -> Result<Vec<RequestId>, AllocError>
+    ensures { IfOk result (λ list. list.items ≡ touched_queues changes.now ended_requests.now) }
+{
+    let mut list = Vec::new(alloc);
+    list_if(&mut list, grown_queue(&changes.grows))?;
+    list_if(&mut list, left_queue(&changes.requests))?;
+    list_ended(&mut list, &changes.sessions, ended_requests)?;
     Ok(list)
 }
 
@@ -254,7 +316,7 @@ fn request_members<L: Look>(
     requests: &[RequestId],
 ) -> Result<Vec<Member<RequestId>>, AllocError>
     ensures { IfOk result (λ list. list.items
-        ≡ members_of (map (placed_request (L.site look.now) (L.state look.now)) requests.now)) }
+        ≡ members_of (map (placed_request (L.state look.now)) requests.now)) }
 {
     let mut list = Vec::new(alloc);
     for request in requests {
@@ -263,29 +325,53 @@ fn request_members<L: Look>(
     Ok(list)
 }
 
+fn queue_members<L: Look>(
+    alloc: Global,
+    look: &L,
+    requests: &[RequestId],
+) -> Result<Vec<Member<RequestId>>, AllocError>
+    ensures { IfOk result (λ list. list.items
+        ≡ members_of (map (placed_queue (L.state look.now)) requests.now)) }
+{
+    let mut list = Vec::new(alloc);
+    for request in requests {
+        list_member(&mut list, *request, unheld_group_of_request(look, *request))?;
+    }
+    Ok(list)
+}
+
 /// What the changes touch. The nodes that are freed or whose request goes away are read from that
-/// request, and those in whose queues a session is that ends are passed.
+/// request, and the nodes and the requests in whose queues a session is that ends are passed.
 pub(crate) fn touched_by<L: Look>(
     alloc: Global,
     look: &L,
     changes: &Changes,
-    queued: &[NodeId],
+    ended_nodes: &[NodeId],
+    ended_requests: &[RequestId],
 ) -> Result<Touched, AllocError>
     requires reached { IsReached (L.site look.now) (L.state look.now) }
     requires planned { IsPlanned (L.site look.now) (L.state look.now) changes.now }
-    requires queued { (session : SessionId) → changes.now.sessions ≡ sessions.End session
-        → queued.now ≡ queued_nodes session (L.state look.now) }
+    requires nodes { (session : SessionId) → changes.now.sessions ≡ sessions.End session
+        → ended_nodes.now ≡ queued_nodes session (L.state look.now) }
+    requires requests { (session : SessionId) → changes.now.sessions ≡ sessions.End session
+        → ended_requests.now ≡ queued_requests session (L.state look.now) }
     ensures { IfOk result (λ touched.
         IsPrepared (L.site look.now) (L.state look.now) changes.now touched) }
 {
-    let nodes = touched_nodes(alloc, look, changes, queued)?;
+    let nodes = touched_nodes(alloc, look, changes, ended_nodes)?;
     let requests = touched_requests(alloc, look, changes)?;
+    let queues = touched_queues(alloc, changes, ended_requests)?;
     let node_members = node_members(alloc, look, nodes.as_slice())?;
     let request_members = request_members(alloc, look, requests.as_slice())?;
+    let queue_members = queue_members(alloc, look, queues.as_slice())?;
+    let before = first_rest(look, requests.as_slice());
     Ok(Touched {
         nodes,
         requests,
+        queues,
         node_members,
         request_members,
+        queue_members,
+        before,
     })
 }

@@ -1,10 +1,9 @@
 use Rattle.std.proofs.Common.{◌∙◌, ◌<◌, length, sym, ap, arith}
-use Rattle.np_site.specs.Configuration.{Configuration}
 use Rattle.np_machine.specs.Order.{is_id_before}
 use Rattle.np_machine.specs.Tables.{same_request}
 use Rattle.np_look.specs.Views.{request_view}
 use Rattle.np_look.proofs.Walks.{none_there}
-use Rattle.np_classes.specs.Placed.{placed_request_view, with_groups}
+use Rattle.np_classes.specs.Placed.{placed_request_view}
 use Rattle.np_classes.proofs.Rebuilt.{made-more, requests-made}
 use Rattle.np_classes.proofs.members.all_requests.Goals as goal
 use Rattle.np_classes.proofs.members.all_requests.Goals.{in-Some+in_ok-add_request, in_default}
@@ -13,8 +12,8 @@ pub loop-at-preserved : goal.loop-at-preserved
 loop-at-preserved g c =
     elim c.match-request_view.branch [
       | in-Some+in_ok-add_request w ↦
-          made-more is_id_before same_request request_view (placed_request_view (g.L.Look.site c.args.look.now)) (g.L.Look.state c.args.look.now).requests c.loop-at.at w.in-Some.view _ _ w.in-Some.ensures c.loop-at.invariant
-          (ap (λ (m : _). m.members) w.groups-is ∙ w.in_ok-add_request.ensures ∙ ap (λ (site : Configuration). with_groups is_id_before same_request w.in-Some.view.id (placed_request_view site w.in-Some.view).groups c.loop-at.groups.members) w.config.ensures)
+          made-more is_id_before same_request request_view placed_request_view (g.L.Look.state c.args.look.now).requests c.loop-at.at w.in-Some.view _ _ w.in-Some.ensures c.loop-at.invariant
+          (ap (λ (m : _). m.members) w.groups-is ∙ w.in_ok-add_request.ensures)
       | in_default w ↦
           let within : c.loop-at.at < length (g.L.Look.state c.args.look.now).requests = omega (arith, c.requests-at-end.ensures) in
           absurd (none_there request_view _ c.loop-at.at within (sym w.in_default.ensures))
