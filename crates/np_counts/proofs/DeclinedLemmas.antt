@@ -189,7 +189,7 @@ module _ (c : Configuration) (s : State) (classes : ClassesOf) (are : AreClasses
   place-first : (group : Group) → group ≡ declined_group set → slice_get (ids_in group classes.requests) 0 ≡ option_map (λ (e : RequestEntry). e.id) found_first
   place-first group is =
       ap (λ (g : Group). slice_get (ids_in g classes.requests) 0) is
-      ∙ ap (λ (ids : List RequestId). slice_get ids 0) (requests-by c s classes.requests are.requests (declined_group set) (is_with s known set) (declined-test c set))
+      ∙ ap (λ (ids : List RequestId). slice_get ids 0) (requests-by s classes.requests are.requests (declined_group set) (is_with s known set) (declined-test set))
       ∙ first-passes (is_with s known set) (λ (e : RequestEntry). e.id) s.requests
 
   none-by : (o : Option RequestEntry) → found_first ≡ o → option_map (λ (e : RequestEntry). e.id) o ≡ None → None ≡ first_of_set set s
@@ -262,7 +262,7 @@ module _ (c : Configuration) (s : State) (classes : ClassesOf) (are : AreClasses
       let set = decline_set e.kept.declined in
       let g = declined_group set in
       let both : (is_still_requested e.kept && (set == set)) ≡ true = and-both (is_still_requested e.kept) (set == set) (still-requested s some e.kept passes) (eq-eqb set set refl) in
-      let is_in : request_is_in c s g e.id ≡ true = rw row (declined-test c set e ∙ both) in
+      let is_in : request_is_in s g e.id ≡ true = rw row (declined-test set e ∙ both) in
       any-weaker (λ (m : Member RequestId). same_member same_request m (member g e.id)) (λ m. same_group m.group g)
       (λ m same. and-first (same_group m.group g) (same_request m.id e.id) same) classes.requests (are.requests.each g e.id ∙ is_in)
 

@@ -7,7 +7,6 @@ use Rattle.std.proofs.lemmas.Bool.Decides.{nat_tests}
 use Rattle.np_text.specs.declared.id.PoolId.{PoolId}
 use Rattle.np_text.specs.declared.id.LabelId.{LabelId}
 use Rattle.np_text.specs.declared.id.RequestId.{RequestId}
-use Rattle.np_site.specs.Configuration.{Configuration}
 use Rattle.np_record.specs.declared.record.RequestRecord.{RequestRecord}
 use Rattle.np_lists.proofs.Each.{all-weaker}
 use Rattle.np_groups.specs.declared.groups.Group.{Group}
@@ -17,10 +16,9 @@ use Rattle.np_groups.proofs.Order.{group-itself}
 use Rattle.np_machine.specs.Kinds.{is_failed, is_requested, is_pending}
 use Rattle.np_machine.specs.Reasons.{next_label}
 use Rattle.np_machine.specs.State.{State}
-use Rattle.np_machine.specs.Tables.{request_in, same_request}
-use Rattle.np_machine.specs.Tenants.{tenant_of_request}
+use Rattle.np_machine.specs.Tables.{request_holder, request_in, same_request}
 use Rattle.np_safe.proofs.Lookups.{same_request-self}
-use Rattle.np_classes.specs.Classes.{pending_group, waiting_group, coming_group, spent_group, declined_group, decline_set, is_still_requested, next_label_group, pinned_label_group, request_groups, is_among, AreRequestGroups}
+use Rattle.np_classes.specs.Classes.{pending_group, unheld_pending_group, coming_group, spent_group, declined_group, decline_set, is_still_requested, next_label_group, pinned_label_group, request_groups, is_among, AreRequestGroups}
 use Rattle.np_counts.specs.Waiting.{is_beside}
 use Rattle.np_counts.proofs.Any.{or_true}
 use Rattle.np_counts.proofs.Labels.{first_group, AreFlat}
@@ -55,10 +53,10 @@ module _ (g : Group) where
   other-class true set other is = absurd (let clash : (g.class == 4) ≡ true = grind (arith, nat_tests) in cc)
   other-class false set other is = absurd cc
 
-  pub third-test : (c : Configuration) (k : RequestRecord) → (g.class == 4) ≡ false → is_among g (request_groups c k) ≡ true → g.third ≡ 0
-  third-test c k other =
+  pub third-test : (k : RequestRecord) (unlocked : Bool) → (g.class == 4) ≡ false → is_among g (request_groups k unlocked) ≡ true → g.third ≡ 0
+  third-test k unlocked other =
       either _ _ (flat-when (is_pending k.state) (option_map pending_group k.pool) (flat-map pending_group k.pool (λ p. refl)))
-      (either _ _ (flat-when (is_pending k.state && is_some (next_label k)) (option_map waiting_group (tenant_of_request c k)) (flat-map waiting_group (tenant_of_request c k) (λ t. refl)))
+      (either _ _ (flat-when (is_pending k.state && unlocked) (option_map unheld_pending_group k.pool) (flat-map unheld_pending_group k.pool (λ p. refl)))
       (either _ _ (flat-when ((is_requested k.state || is_pending k.state) && is_some k.pinned) (option_map coming_group (slice_get k.labels 0)) (flat-map coming_group (slice_get k.labels 0) (λ l. refl)))
       (either _ _ (flat-when (is_failed k.state) (option_and_then (λ p. option_map (spent_group p) (slice_get k.labels 0)) k.pinned) (flat-both spent_group (slice_get k.labels 0) k.pinned (λ p l. refl)))
       (either _ _ (other-class (is_still_requested k) (decline_set k.declined) other)
@@ -79,13 +77,13 @@ each-there {X = X} same self (x ∷ xs) = (
 member-itself : (m : Member RequestId) → same_member same_request m m ≡ true
 member-itself m = rw (group-itself m.group) (same_request-self m.id)
 
-module _ (c : Configuration) (s : State) (ms : List (Member RequestId)) (are : AreRequestGroups c s ms) (class first : ℕ) (other : (class == 4) ≡ false) where
-  flat-by : (g : Group) (o : Option RequestRecord) → option_map_or (λ k. is_among g (request_groups c k)) o false ≡ true → is_beside g (first_group class first) ≡ true → g.third ≡ 0
-  flat-by g None is beside = absurd cc
-  flat-by g (Some k) is beside = third-test g c k (grind (arith, nat_tests)) is
+module _ (s : State) (ms : List (Member RequestId)) (are : AreRequestGroups s ms) (class first : ℕ) (other : (class == 4) ≡ false) where
+  flat-by : (g : Group) (unlocked : Bool) (o : Option RequestRecord) → option_map_or (λ k. is_among g (request_groups k unlocked)) o false ≡ true → is_beside g (first_group class first) ≡ true → g.third ≡ 0
+  flat-by g unlocked None is beside = absurd cc
+  flat-by g unlocked (Some k) is beside = third-test g k unlocked (grind (arith, nat_tests)) is
 
   -- no member of such a class has a third number
   pub flat-requests : AreFlat class first ms
   flat-requests =
       all-weaker (λ (m : Member RequestId). has_member same_request m.group m.id ms ≡ true) (λ (m : Member RequestId). is_beside m.group (first_group class first) ≡ true → m.group.third ≡ 0)
-      (λ m is. flat-by m.group (request_in m.id s.requests) (sym (are.each m.group m.id) ∙ is)) ms (each-there (same_member same_request) member-itself ms)
+      (λ m is. flat-by m.group (is_none (request_holder m.id s.requests)) (request_in m.id s.requests) (sym (are.each m.group m.id) ∙ is)) ms (each-there (same_member same_request) member-itself ms)

@@ -19,7 +19,7 @@ use Rattle.np_look.specs.Readers.{is_unclaimed}
 use Rattle.np_safe.proofs.Lookups.{same_request-self}
 use Rattle.np_groups.proofs.Ids.{ids-rise, ids-has, same-list}
 use Rattle.np_counts.proofs.Rows.{filter-each, ids-in_order, row-passes}
-use Rattle.np_counts.proofs.Tests.{groups_of}
+use Rattle.np_counts.proofs.Tests.{groups_of, groups_of_request}
 use Rattle.std.proofs.lemmas.Bool.Decides.{nat_tests}
 
 -- ## ids
@@ -57,16 +57,16 @@ module _ (c : Configuration) (s : State) (ms : List (Member NodeId)) (are : AreN
 
 -- ## requests
 
-module _ (c : Configuration) (s : State) (ms : List (Member RequestId)) (are : AreRequestGroups c s ms) where
-  request-by : (g : Group) (o : Option RequestEntry) → option_map_or (λ (e : RequestEntry). is_among g (request_groups c e.kept)) o false
-      ≡ option_map_or (λ k. is_among g (request_groups c k)) (option_map (λ (e : RequestEntry). e.kept) o) false
+module _ (s : State) (ms : List (Member RequestId)) (are : AreRequestGroups s ms) where
+  request-by : (g : Group) (o : Option RequestEntry) → option_map_or (λ (e : RequestEntry). is_among g (groups_of_request e)) o false
+      ≡ option_map_or (λ k. is_among g (request_groups k (is_none (holder (option_map_or (λ (e : RequestEntry). e.queue) o []))))) (option_map (λ (e : RequestEntry). e.kept) o) false
   request-by g None = refl
   request-by g (Some e) = refl
 
   -- the ids of a group are those of the requests that are in it, by priority and then sequence
-  pub grouped-requests : (g : Group) → ids_in g ms ≡ map (λ e. e.id) (filter (λ e. is_among g (request_groups c e.kept)) s.requests)
+  pub grouped-requests : (g : Group) → ids_in g ms ≡ map (λ e. e.id) (filter (λ e. is_among g (groups_of_request e)) s.requests)
   grouped-requests g =
-      let test = λ (e : RequestEntry). is_among g (request_groups c e.kept) in
+      let test = λ (e : RequestEntry). is_among g (groups_of_request e) in
       let id = λ (e : RequestEntry). e.id in
       same-list is_id_before same_request request_one_way request_equal same_request-self (ids_in g ms) (map id (filter test s.requests))
       (ids-rise g is_id_before ms are.rises)
@@ -74,5 +74,5 @@ module _ (c : Configuration) (s : State) (ms : List (Member RequestId)) (are : A
       (λ r. ids-has same_request g r ms ∙ are.each g r ∙ sym (row-passes is_id_before same_request id request_equal request-apart test r s.requests are.once ∙ request-by g (request_entry r s.requests)))
 
   -- by another test that says the same
-  pub requests-by : (g : Group) (test : RequestEntry → Bool) → ((e : RequestEntry) → is_among g (request_groups c e.kept) ≡ test e) → ids_in g ms ≡ map (λ e. e.id) (filter test s.requests)
-  requests-by g test same = grouped-requests g ∙ ap (λ (es : List RequestEntry). map {A = RequestEntry} {B = RequestId} (λ e. e.id) es) (filter-each (λ (e : RequestEntry). is_among g (request_groups c e.kept)) test (λ e. sym (same e)) s.requests)
+  pub requests-by : (g : Group) (test : RequestEntry → Bool) → ((e : RequestEntry) → is_among g (groups_of_request e) ≡ test e) → ids_in g ms ≡ map (λ e. e.id) (filter test s.requests)
+  requests-by g test same = grouped-requests g ∙ ap (λ (es : List RequestEntry). map {A = RequestEntry} {B = RequestId} (λ e. e.id) es) (filter-each (λ (e : RequestEntry). is_among g (groups_of_request e)) test (λ e. sym (same e)) s.requests)

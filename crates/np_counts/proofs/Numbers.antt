@@ -20,10 +20,11 @@ use Rattle.np_machine.specs.Count.{is_kind, number_of}
 use Rattle.np_machine.specs.Reasons.{is_spare}
 use Rattle.np_machine.specs.Request.{is_spent_min_ready, is_coming, is_free_ready}
 use Rattle.np_machine.specs.State.{State}
-use Rattle.np_look.specs.Readers.{free_ready_of, pending_requests}
-use Rattle.np_classes.specs.Classes.{kind_group, spare_group, free_group, pending_group, coming_group, spent_group, request_groups, is_among, ClassesOf, AreClasses}
+use Rattle.np_look.specs.Readers.{first_unheld_pending, free_ready_of, is_unheld_pending, pending_requests}
+use Rattle.np_classes.specs.Classes.{kind_group, spare_group, free_group, pending_group, unheld_pending_group, coming_group, spent_group, is_among, ClassesOf, AreClasses}
+use Rattle.np_counts.proofs.DueLemmas.{first-passes}
 use Rattle.np_counts.proofs.Grouped.{grouped-nodes, grouped-requests, nodes-by, requests-by}
-use Rattle.np_counts.proofs.Tests.{groups_of, kind-test, spare-test, free-test, pending-test, coming-test, spent-test}
+use Rattle.np_counts.proofs.Tests.{groups_of, groups_of_request, kind-test, spare-test, free-test, pending-test, unheld_pending-test, coming-test, spent-test}
 
 -- ## of any rows
 
@@ -74,26 +75,32 @@ module _ (c : Configuration) (s : State) (classes : ClassesOf) (are : AreClasses
   -- no group has more members than there are requests
   pub few-requests : (g : Group) → length (ids_in g classes.requests) ≤ length s.requests
   few-requests g =
-      let test = λ (e : RequestEntry). is_among g (request_groups c e.kept) in
-      let all : length (ids_in g classes.requests) ≡ length (filter test s.requests) = ap (λ (ids : List RequestId). length ids) (grouped-requests c s classes.requests are.requests g) ∙ length-map (filter test s.requests) (λ (e : RequestEntry). e.id) in
+      let test = λ (e : RequestEntry). is_among g (groups_of_request e) in
+      let all : length (ids_in g classes.requests) ≡ length (filter test s.requests) = ap (λ (ids : List RequestId). length ids) (grouped-requests s classes.requests are.requests g) ∙ length-map (filter test s.requests) (λ (e : RequestEntry). e.id) in
       omega (arith, all, length-filter_at_most test s.requests)
 
   -- as many members as requests that pass
-  request-number : (g : Group) (test : RequestEntry → Bool) → ((e : RequestEntry) → is_among g (request_groups c e.kept) ≡ test e) → length (ids_in g classes.requests) ≡ length (filter test s.requests)
-  request-number g test same = ap (λ (ids : List RequestId). length ids) (requests-by c s classes.requests are.requests g test same) ∙ length-map (filter test s.requests) (λ (e : RequestEntry). e.id)
+  request-number : (g : Group) (test : RequestEntry → Bool) → ((e : RequestEntry) → is_among g (groups_of_request e) ≡ test e) → length (ids_in g classes.requests) ≡ length (filter test s.requests)
+  request-number g test same = ap (λ (ids : List RequestId). length ids) (requests-by s classes.requests are.requests g test same) ∙ length-map (filter test s.requests) (λ (e : RequestEntry). e.id)
 
   -- the number of requests that are coming
   pub coming-number : (l : LabelId) → length (ids_in (coming_group l) classes.requests) ≡ count_by (is_coming l) s.requests
-  coming-number l = request-number (coming_group l) (is_coming l) (coming-test c l) ∙ length-filter (is_coming l) s.requests
+  coming-number l = request-number (coming_group l) (is_coming l) (coming-test l) ∙ length-filter (is_coming l) s.requests
 
   -- whether a min-ready request has failed
   pub some-spent : (p : PoolId) (l : LabelId) → nat_lt 0 (length (ids_in (spent_group p l) classes.requests)) ≡ list_any (is_spent_min_ready p l) s.requests
-  some-spent p l = ap (λ (n : ℕ). nat_lt 0 n) (request-number (spent_group p l) (is_spent_min_ready p l) (spent-test c p l)) ∙ some-passes (is_spent_min_ready p l) s.requests
+  some-spent p l = ap (λ (n : ℕ). nat_lt 0 n) (request-number (spent_group p l) (is_spent_min_ready p l) (spent-test p l)) ∙ some-passes (is_spent_min_ready p l) s.requests
 
   -- the requests that are pending by a pool
   pub pending-ids : (p : PoolId) → ids_in (pending_group p) classes.requests ≡ pending_requests p s
-  pending-ids p = requests-by c s classes.requests are.requests (pending_group p) (λ (e : RequestEntry). is_pending_by p e.kept) (pending-test c p)
+  pending-ids p = requests-by s classes.requests are.requests (pending_group p) (λ (e : RequestEntry). is_pending_by p e.kept) (pending-test p)
 
   -- the one at a place
   pub pending-at : (p : PoolId) (at : ℕ) → slice_get (ids_in (pending_group p) classes.requests) at ≡ slice_get (pending_requests p s) at
   pending-at p at = ap (λ (ids : List RequestId). slice_get ids at) (pending-ids p)
+
+  -- the first of them that nobody holds
+  pub first-unheld : (p : PoolId) → slice_get (ids_in (unheld_pending_group p) classes.requests) 0 ≡ first_unheld_pending p s
+  first-unheld p =
+      ap (λ (ids : List RequestId). slice_get ids 0) (requests-by s classes.requests are.requests (unheld_pending_group p) (is_unheld_pending p) (unheld_pending-test p))
+      ∙ first-passes (is_unheld_pending p) (λ (e : RequestEntry). e.id) s.requests

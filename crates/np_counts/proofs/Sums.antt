@@ -1,51 +1,19 @@
--- what the walks over offers and members add up
-use Rattle.std.proofs.Common.{◌≡◌, ◌∙◌, ◌<◌, ◌≤◌, ◌+◌, ℕ, List, length, map, take, get_or, Some, sym, ap, arith}
-use Rattle.std.specs.Prelude.{slice_get}
-use Rattle.std.proofs.lemmas.List.{take_all}
-use Rattle.std.proofs.lemmas.Option.{slice_get_within, get_or_from_slice_get}
+-- what the walk over offers adds up
+use Rattle.std.proofs.Common.{◌≡◌, ◌∙◌, ◌<◌, ◌≤◌, ◌+◌, ℕ, List, length, map, take, get_or, sym, ap}
 use Rattle.np_amount.specs.declared.amount.Amount.{Amount}
 use Rattle.np_amount.specs.Amounts.{plus, times, total}
 use Rattle.np_text.specs.declared.id.PoolId.{PoolId}
 use Rattle.np_site.specs.Configuration.{Configuration}
 use Rattle.np_site.specs.declared.row.Offer.{Offer}
 use Rattle.np_groups.specs.declared.groups.Group.{Group}
-use Rattle.np_groups.specs.declared.groups.Member.{Member}
 use Rattle.np_groups.specs.Groups.{ids_in}
 use Rattle.np_machine.specs.Count.{offers_of, count_of, number_of}
 use Rattle.np_machine.specs.State.{State}
-use Rattle.np_fits.specs.Fits.{Fits, IsFew}
+use Rattle.np_fits.specs.Fits.{Fits}
 use Rattle.np_fits.proofs.Offered.{IsPart, part_bound, passed_total}
 use Rattle.np_look.proofs.CountLemmas.{total_more}
 use Rattle.np_classes.specs.Classes.{kind_group, ClassesOf, AreClasses}
 use Rattle.np_counts.proofs.Numbers.{kind-number}
-
--- ## one member more
-
--- what the members up to a place take together, one member more
-total-there : {X : Type 0} (f : X → Amount) (xs : List X) (i : ℕ) (x : X) → slice_get xs i ≡ Some x → total (map f (take (i + 1) xs)) ≡ plus (total (map f (take i xs))) (f x)
-total-there {X = X} f xs i x is = total_more f xs i x (slice_get_within xs i x is) ∙ ap (λ (y : X). plus (total (map f (take i xs))) (f y)) (get_or_from_slice_get xs i x x is)
-
--- what fewer can take, more can take
-pub few-more : (sum : Amount) (m n : ℕ) → m ≤ n → IsFew sum m → IsFew sum n
-few-more sum m n more few = record {
-  instances = omega (arith, more, few.instances);
-  cores = omega (arith, more, few.cores);
-  ram = omega (arith, more, few.ram);
-}
-
--- ## walks over the members of a group
-
-module _ {K : Type 0} (group wanted : Group) (is : group ≡ wanted) (ms : List (Member K)) (at : ℕ) where
-  module _ (read : K → Amount) (sum : Amount) (so_far : sum ≡ total (map read (take at (ids_in group ms)))) where
-    -- one member more
-    pub read-next : (k : K) → Some k ≡ slice_get (ids_in group ms) at → (one next : Amount) → one ≡ read k → next ≡ plus sum one → next ≡ total (map read (take (at + 1) (ids_in group ms)))
-    read-next k there one next this more = more ∙ rw (so_far, this) (sym (total-there read (ids_in group ms) at k (sym there)))
-
-    -- past all members
-    pub read-all : (all : Amount) → length (ids_in group ms) ≤ at → total (map read (ids_in wanted ms)) ≡ all → sum ≡ all
-    read-all all past same =
-        so_far ∙ ap (λ (ks : List K). total (map read ks)) (take_all at (ids_in group ms) past)
-        ∙ ap (λ (g : Group). total (map read (ids_in g ms))) is ∙ same
 
 module _ (c : Configuration) (s : State) (classes : ClassesOf) (are : AreClasses c s classes) (fits : Fits c s) (p : PoolId) where
   -- ## the part of an offer

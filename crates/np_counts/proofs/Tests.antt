@@ -13,7 +13,7 @@ use Rattle.np_groups.specs.declared.groups.Group.{Group}
 use Rattle.np_groups.specs.Groups.{same_group}
 use Rattle.np_look.specs.declared.asked.UnheldKind.{UnheldKind}
 use Rattle.np_look.specs.declared.asked.UnheldKind.TheVariants as kind
-use Rattle.np_look.specs.Readers.{due_of, is_unclaimed, is_unheld_as, same_kind, unheld_kind}
+use Rattle.np_look.specs.Readers.{due_of, is_unclaimed, is_unheld_as, is_unheld_pending, same_kind, unheld_kind}
 use Rattle.np_machine.specs.Entries.{RequestEntry, NodeEntry}
 use Rattle.np_machine.specs.Kinds.{is_ready, is_failed, is_requested, is_pending}
 use Rattle.np_machine.specs.State.{State}
@@ -22,8 +22,7 @@ use Rattle.np_machine.specs.Count.{is_kind}
 use Rattle.np_machine.specs.Order.{is_pool, is_pending_by}
 use Rattle.np_machine.specs.Reasons.{is_spare, next_label}
 use Rattle.np_machine.specs.Request.{is_min_ready_for, is_spent_min_ready, is_coming, is_free_ready}
-use Rattle.np_machine.specs.Tenants.{is_tenant, is_pending_of, tenant_of_request}
-use Rattle.np_classes.specs.Classes.{kind_group, spare_group, free_group, tenant_group, unheld_class, unheld_group, unheld_group_of, group_if, node_groups, pending_group, waiting_group, coming_group, spent_group, declined_group, decline_set, is_still_requested, next_label_group, pinned_label_group, pending_group_of, waiting_group_of, coming_group_of, spent_group_of, declined_group_of, next_label_group_of, pinned_label_group_of, request_groups, is_among}
+use Rattle.np_classes.specs.Classes.{kind_group, spare_group, free_group, tenant_group, unheld_class, unheld_group, unheld_group_of, group_if, node_groups, pending_group, unheld_pending_group, coming_group, spent_group, declined_group, decline_set, is_still_requested, next_label_group, pinned_label_group, pending_group_of, unheld_pending_group_of, coming_group_of, spent_group_of, declined_group_of, next_label_group_of, pinned_label_group_of, request_groups, is_among}
 use Rattle.np_counts.specs.TenantGroups.{is_in_tenant_group}
 use Rattle.np_counts.specs.Waiting.{label_group, is_pinned_as}
 
@@ -224,11 +223,15 @@ module _ (c : Configuration) (s : State) (e : NodeEntry) where
 
 -- ## requests
 
+-- the groups of a row
+abbrev pub groups_of_request : RequestEntry → List (Option Group)
+groups_of_request e = request_groups e.kept (is_none (holder e.queue))
+
 pending-no : (g : Group) (k : RequestRecord) → ((p : PoolId) → same_group (pending_group p) g ≡ false) → holds g (pending_group_of k) ≡ false
 pending-no g k other = no-when g (is_pending k.state) (option_map pending_group k.pool) (apart-map g pending_group k.pool other)
 
-waiting-no : (g : Group) (c : Configuration) (k : RequestRecord) → ((t : TenantId) → same_group (waiting_group t) g ≡ false) → holds g (waiting_group_of c k) ≡ false
-waiting-no g c k other = no-when g (is_pending k.state && is_some (next_label k)) (option_map waiting_group (tenant_of_request c k)) (apart-map g waiting_group (tenant_of_request c k) other)
+unheld_pending-no : (g : Group) (k : RequestRecord) (unlocked : Bool) → ((p : PoolId) → same_group (unheld_pending_group p) g ≡ false) → holds g (unheld_pending_group_of k unlocked) ≡ false
+unheld_pending-no g k unlocked other = no-when g (is_pending k.state && unlocked) (option_map unheld_pending_group k.pool) (apart-map g unheld_pending_group k.pool other)
 
 coming-no : (g : Group) (k : RequestRecord) → ((l : LabelId) → same_group (coming_group l) g ≡ false) → holds g (coming_group_of k) ≡ false
 coming-no g k other = no-when g ((is_requested k.state || is_pending k.state) && is_some k.pinned) (option_map coming_group (slice_get k.labels 0)) (apart-map g coming_group (slice_get k.labels 0) other)
@@ -260,15 +263,15 @@ pool-by p None = refl
 pool-by p (Some x) = and_true (x.0 == p.0)
 
 -- the requests that are pending by a pool
-pub pending-test : (c : Configuration) (p : PoolId) (e : RequestEntry) → is_among (pending_group p) (request_groups c e.kept) ≡ is_pending_by p e.kept
-pending-test c p e =
+pub pending-test : (p : PoolId) (e : RequestEntry) → is_among (pending_group p) (groups_of_request e) ≡ is_pending_by p e.kept
+pending-test p e =
     let g = pending_group p in
     here (holds-when g (is_pending e.kept.state) (option_map pending_group e.kept.pool) ∙ ap (λ (b : Bool). is_pending e.kept.state && b) (pool-by p e.kept.pool))
-    (past (waiting-no g c e.kept (λ t. refl)) (past (coming-no g e.kept (λ m. refl)) (past (spent-no g e.kept (λ q m. refl)) (past (declined-no g e.kept (λ set. refl)) (labels-no g e.kept (λ q m. refl) (λ q m. refl))))))
+    (past (unheld_pending-no g e.kept (is_none (holder e.queue)) (λ q. refl)) (past (coming-no g e.kept (λ m. refl)) (past (spent-no g e.kept (λ q m. refl)) (past (declined-no g e.kept (λ set. refl)) (labels-no g e.kept (λ q m. refl) (λ q m. refl))))))
 
-waiter-by : (t : TenantId) (o : Option TenantId) → holds (waiting_group t) (option_map waiting_group o) ≡ is_tenant t o
-waiter-by t None = refl
-waiter-by t (Some x) = and_true (x.0 == t.0)
+unheld_pool-by : (p : PoolId) (o : Option PoolId) → holds (unheld_pending_group p) (option_map unheld_pending_group o) ≡ is_pool p o
+unheld_pool-by p None = refl
+unheld_pool-by p (Some x) = and_true (x.0 == p.0)
 
 -- the later two answers the other way round
 and_turned : (a b d : Bool) → ((a && b) && d) ≡ ((a && d) && b)
@@ -276,14 +279,15 @@ and_turned true true d = sym (and_true d)
 and_turned true false d = sym (and_false d)
 and_turned false b d = refl
 
--- the pending requests of a tenant that still wait for nodes
-pub waiting-test : (c : Configuration) (t : TenantId) (e : RequestEntry) → is_among (waiting_group t) (request_groups c e.kept) ≡ (is_pending_of c t e && is_some (next_label e.kept))
-waiting-test c t e =
-    let g = waiting_group t in
+-- the requests that are pending by a pool and that nobody holds
+pub unheld_pending-test : (p : PoolId) (e : RequestEntry) → is_among (unheld_pending_group p) (groups_of_request e) ≡ is_unheld_pending p e
+unheld_pending-test p e =
+    let g = unheld_pending_group p in
+    let unlocked = is_none (holder e.queue) in
     past (pending-no g e.kept (λ q. refl))
-    (here (holds-when g (is_pending e.kept.state && is_some (next_label e.kept)) (option_map waiting_group (tenant_of_request c e.kept))
-    ∙ ap (λ (b : Bool). (is_pending e.kept.state && is_some (next_label e.kept)) && b) (waiter-by t (tenant_of_request c e.kept))
-    ∙ and_turned (is_pending e.kept.state) (is_some (next_label e.kept)) (is_tenant t (tenant_of_request c e.kept)))
+    (here (holds-when g (is_pending e.kept.state && unlocked) (option_map unheld_pending_group e.kept.pool)
+    ∙ ap (λ (b : Bool). (is_pending e.kept.state && unlocked) && b) (unheld_pool-by p e.kept.pool)
+    ∙ and_turned (is_pending e.kept.state) unlocked (is_pool p e.kept.pool))
     (past (coming-no g e.kept (λ m. refl)) (past (spent-no g e.kept (λ q m. refl)) (past (declined-no g e.kept (λ set. refl)) (labels-no g e.kept (λ q m. refl) (λ q m. refl))))))
 
 comer-by : (l : LabelId) (o : Option LabelId) → holds (coming_group l) (option_map coming_group o) ≡ option_map_or (λ other. other.0 == l.0) o false
@@ -291,11 +295,11 @@ comer-by l None = refl
 comer-by l (Some x) = and_true (x.0 == l.0)
 
 -- the min-ready requests for a label that are not over
-pub coming-test : (c : Configuration) (l : LabelId) (e : RequestEntry) → is_among (coming_group l) (request_groups c e.kept) ≡ is_coming l e
-coming-test c l e =
+pub coming-test : (l : LabelId) (e : RequestEntry) → is_among (coming_group l) (groups_of_request e) ≡ is_coming l e
+coming-test l e =
     let g = coming_group l in
     let able = is_requested e.kept.state || is_pending e.kept.state in
-    past (pending-no g e.kept (λ q. refl)) (past (waiting-no g c e.kept (λ t. refl))
+    past (pending-no g e.kept (λ q. refl)) (past (unheld_pending-no g e.kept (is_none (holder e.queue)) (λ q. refl))
     (here (holds-when g (able && is_some e.kept.pinned) (option_map coming_group (slice_get e.kept.labels 0))
     ∙ ap (λ (b : Bool). (able && is_some e.kept.pinned) && b) (comer-by l (slice_get e.kept.labels 0))
     ∙ and_assoc able (is_some e.kept.pinned) (option_map_or (λ other. other.0 == l.0) (slice_get e.kept.labels 0) false))
@@ -308,20 +312,20 @@ spender-by p l (Some q) None = sym (and_false (q.0 == p.0))
 spender-by p l (Some q) (Some m) = two-true (q.0 == p.0) (m.0 == l.0)
 
 -- the failed min-ready requests of a pool for a label
-pub spent-test : (c : Configuration) (p : PoolId) (l : LabelId) (e : RequestEntry) → is_among (spent_group p l) (request_groups c e.kept) ≡ is_spent_min_ready p l e
-spent-test c p l e =
+pub spent-test : (p : PoolId) (l : LabelId) (e : RequestEntry) → is_among (spent_group p l) (groups_of_request e) ≡ is_spent_min_ready p l e
+spent-test p l e =
     let g = spent_group p l in
-    past (pending-no g e.kept (λ q. refl)) (past (waiting-no g c e.kept (λ t. refl)) (past (coming-no g e.kept (λ m. refl))
+    past (pending-no g e.kept (λ q. refl)) (past (unheld_pending-no g e.kept (is_none (holder e.queue)) (λ q. refl)) (past (coming-no g e.kept (λ m. refl))
     (here (holds-when g (is_failed e.kept.state) (option_and_then (λ q. option_map (spent_group q) (slice_get e.kept.labels 0)) e.kept.pinned)
     ∙ ap (λ (b : Bool). is_failed e.kept.state && b) (spender-by p l e.kept.pinned (slice_get e.kept.labels 0))
     ∙ sym (and_assoc (is_failed e.kept.state) (is_pool p e.kept.pinned) (is_min_ready_for l e.kept)))
     (past (declined-no g e.kept (λ set. refl)) (labels-no g e.kept (λ q m. refl) (λ q m. refl))))))
 
 -- the requests that are requested, and that the pools of this set declined
-pub declined-test : (c : Configuration) (set : ℕ) (e : RequestEntry) → is_among (declined_group set) (request_groups c e.kept) ≡ (is_still_requested e.kept && (decline_set e.kept.declined == set))
-declined-test c set e =
+pub declined-test : (set : ℕ) (e : RequestEntry) → is_among (declined_group set) (groups_of_request e) ≡ (is_still_requested e.kept && (decline_set e.kept.declined == set))
+declined-test set e =
     let g = declined_group set in
-    past (pending-no g e.kept (λ q. refl)) (past (waiting-no g c e.kept (λ t. refl)) (past (coming-no g e.kept (λ m. refl)) (past (spent-no g e.kept (λ q m. refl))
+    past (pending-no g e.kept (λ q. refl)) (past (unheld_pending-no g e.kept (is_none (holder e.queue)) (λ q. refl)) (past (coming-no g e.kept (λ m. refl)) (past (spent-no g e.kept (λ q m. refl))
     (here (holds-if g (declined_group (decline_set e.kept.declined)) (is_still_requested e.kept)) (labels-no g e.kept (λ q m. refl) (λ q m. refl))))))
 
 -- ## requests by their next label
@@ -347,17 +351,17 @@ pinned-by p l (Some q) None = sym (and_false (q.0 == p.0))
 pinned-by p l (Some q) (Some m) = two-true (q.0 == p.0) (m.0 == l.0)
 
 -- the requests of a pool that wait for a label
-pub label-test : (c : Configuration) (pinned : Bool) (p : PoolId) (l : LabelId) (e : RequestEntry) → is_among (label_group pinned p l) (request_groups c e.kept) ≡ waits_for pinned p l e.kept
-label-test c false p l e =
+pub label-test : (pinned : Bool) (p : PoolId) (l : LabelId) (e : RequestEntry) → is_among (label_group pinned p l) (groups_of_request e) ≡ waits_for pinned p l e.kept
+label-test false p l e =
     let g = next_label_group p l in
-    past (pending-no g e.kept (λ q. refl)) (past (waiting-no g c e.kept (λ t. refl)) (past (coming-no g e.kept (λ m. refl)) (past (spent-no g e.kept (λ q m. refl)) (past (declined-no g e.kept (λ set. refl))
+    past (pending-no g e.kept (λ q. refl)) (past (unheld_pending-no g e.kept (is_none (holder e.queue)) (λ q. refl)) (past (coming-no g e.kept (λ m. refl)) (past (spent-no g e.kept (λ q m. refl)) (past (declined-no g e.kept (λ set. refl))
     (here (holds-when g (is_pending e.kept.state && is_none e.kept.pinned) (option_and_then (λ q. option_map (next_label_group q) (next_label e.kept)) e.kept.pool)
     ∙ ap (λ (b : Bool). (is_pending e.kept.state && is_none e.kept.pinned) && b) (next-by p l e.kept.pool (next_label e.kept))
     ∙ waiting-by (is_pending e.kept.state) (is_none e.kept.pinned) (is_pool p e.kept.pool) (option_map_or (λ other. other.0 == l.0) (next_label e.kept) false))
     (past (pinned-no g e.kept (λ q m. refl)) refl))))))
-label-test c true p l e =
+label-test true p l e =
     let g = pinned_label_group p l in
-    past (pending-no g e.kept (λ q. refl)) (past (waiting-no g c e.kept (λ t. refl)) (past (coming-no g e.kept (λ m. refl)) (past (spent-no g e.kept (λ q m. refl)) (past (declined-no g e.kept (λ set. refl))
+    past (pending-no g e.kept (λ q. refl)) (past (unheld_pending-no g e.kept (is_none (holder e.queue)) (λ q. refl)) (past (coming-no g e.kept (λ m. refl)) (past (spent-no g e.kept (λ q m. refl)) (past (declined-no g e.kept (λ set. refl))
     (past (next-no g e.kept (λ q m. refl))
     (here (holds-when g (is_pending e.kept.state && is_some e.kept.pinned) (option_and_then (λ q. option_map (pinned_label_group q) (next_label e.kept)) e.kept.pool)
     ∙ ap (λ (b : Bool). (is_pending e.kept.state && is_some e.kept.pinned) && b) (pinned-by p l e.kept.pool (next_label e.kept))

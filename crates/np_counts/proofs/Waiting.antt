@@ -1,5 +1,5 @@
--- the members of the groups by next label, and the requests that are stuck
-use Rattle.std.proofs.Common.{◌≡◌, ◌∙◌, ℕ, ◌-◌, ◌<◌, Bool, true, false, List, Option, Some, None, refl, sym, ap, subst, arith}
+-- the members of the groups by next label, and the requests that are stuck or under way
+use Rattle.std.proofs.Common.{◌≡◌, ◌∙◌, ℕ, ◌-◌, ◌<◌, Bool, true, false, List, [], Option, Some, None, refl, sym, ap, subst, arith}
 use Rattle.std.specs.Prelude.{◌==◌, ◌&&◌, ◌||◌, not, is_some, is_none, if◌then◌else◌}
 use Rattle.std.specs.Option.{option_map, option_map_or}
 use Rattle.std.specs.List.{list_any}
@@ -21,17 +21,17 @@ use Rattle.np_groups.proofs.Order.{group-equal, group-itself}
 use Rattle.np_machine.specs.Count.{count_of, amount_of, limit_of, is_short}
 use Rattle.np_machine.specs.Entries.{RequestEntry}
 use Rattle.np_machine.specs.Order.{is_id_before, is_pending_by}
-use Rattle.np_machine.specs.Reasons.{next_label, is_spare, is_stuck_at, is_stuck, is_paused}
+use Rattle.np_machine.specs.Reasons.{next_label, is_spare, is_stuck_at}
 use Rattle.np_machine.specs.State.{State}
-use Rattle.np_machine.specs.Tables.{request_entry, same_request}
+use Rattle.np_machine.specs.Tables.{holder, request_entry, same_request}
 use Rattle.np_safe.proofs.Lookups.{same_request-self}
 use Rattle.np_classes.specs.Classes.{request_groups, is_among, request_is_in, AreRequestGroups, ClassesOf, AreClasses}
-use Rattle.np_counts.specs.Waiting.{label_group, is_beside, label_if, is_pinned_as, is_stuck_label, is_stuck_as}
-use Rattle.np_counts.proofs.Any.{and-both, and-first, and-second, both, any-either, any-find, find-any, any-weaker}
+use Rattle.np_counts.specs.Waiting.{label_group, is_beside, label_if, is_pinned_as, is_stuck_label, is_stuck_as, is_under_way_as}
+use Rattle.np_counts.proofs.Any.{and-both, and-first, and-second, both, any-either, any-find, any-same, find-any, any-weaker}
 use Rattle.np_counts.proofs.ByIds.{requests-found}
 use Rattle.np_counts.proofs.Flat.{third-test, flat-requests}
 use Rattle.np_counts.proofs.Labels.{AreFlat, group_of, first_group, beside-is, beside-of, is_wanted, has_label, rest_from, start-rest, start-has, now-rest, after-rest, after-has, after-greater}
-use Rattle.np_counts.proofs.Tests.{waits_for, label-test}
+use Rattle.np_counts.proofs.Tests.{groups_of_request, waits_for, label-test}
 
 -- ## a request and its next label
 
@@ -60,95 +60,112 @@ class-apart class first g here other = grind (arith, nat_tests)
 label-itself : (l : LabelId) → (l.0 == l.0) ≡ true
 label-itself l = eq-eqb l.0 l.0 refl
 
-module _ (c : Configuration) (s : State) (p : PoolId) (pinned : Bool) where
-  -- a request of the pool, and a label that it waits for at which it is stuck
-  record IsStuckFor (k : RequestRecord) : Type 0 where
+other-class : (pinned : Bool) → (class_of pinned == 4) ≡ false
+other-class true = refl
+other-class false = refl
+
+module _ (p : PoolId) (pinned : Bool) (test : LabelId → Bool) where
+  -- pinned or not, pending by the pool, and its next label passes
+  abbrev pub waits_at : RequestEntry → Bool
+  waits_at e = is_pinned_as pinned e.kept && (is_pending_by p e.kept && option_map_or test (next_label e.kept) false)
+
+  -- a request of the pool, and a label that it waits for which passes
+  record WaitsFor (k : RequestRecord) : Type 0 where
     label : LabelId
     waits : waits_for pinned p label k ≡ true
-    stuck : is_stuck_label c s p pinned label ≡ true
+    passes : test label ≡ true
 
-  -- stuck at its next label, if it has one
-  for-next : (k : RequestRecord) (o : Option LabelId) → next_label k ≡ o → is_pinned_as pinned k ≡ true → is_pending_by p k ≡ true → option_map_or (is_stuck_at c s p k) o false ≡ true → IsStuckFor k
-  for-next k None next alike pending stuck = absurd cc
-  for-next k (Some l) next alike pending stuck = record {
+  -- its next label, if it has one
+  for-next : (k : RequestRecord) (o : Option LabelId) → next_label k ≡ o → is_pinned_as pinned k ≡ true → is_pending_by p k ≡ true → option_map_or test o false ≡ true → WaitsFor k
+  for-next k None next alike pending passes = absurd cc
+  for-next k (Some l) next alike pending passes = record {
     label = l;
     waits = and-both (is_pinned_as pinned k) _ alike (and-both (is_pending_by p k) _ pending (rw next (label-itself l)));
-    stuck = subst (λ (b : Bool). (is_short c s p l && (b || not (list_any (is_spare p l) s.nodes))) ≡ true) (pinned-by pinned k.pinned alike) stuck;
+    passes = passes;
   }
 
-  stuck-for : (e : RequestEntry) → is_stuck_as c s p pinned e ≡ true → IsStuckFor e.kept
-  stuck-for e is =
-      let stuck = and-second (is_pinned_as pinned e.kept) (is_stuck c s p e) is in
-      for-next e.kept (next_label e.kept) refl (and-first (is_pinned_as pinned e.kept) (is_stuck c s p e) is)
-      (and-first (is_pending_by p e.kept) (option_map_or (is_stuck_at c s p e.kept) (next_label e.kept) false) stuck)
-      (and-second (is_pending_by p e.kept) (option_map_or (is_stuck_at c s p e.kept) (next_label e.kept) false) stuck)
+  waits-for : (e : RequestEntry) → waits_at e ≡ true → WaitsFor e.kept
+  waits-for e is =
+      let next = option_map_or test (next_label e.kept) false in
+      let waits = and-second (is_pinned_as pinned e.kept) (is_pending_by p e.kept && next) is in
+      for-next e.kept (next_label e.kept) refl (and-first (is_pinned_as pinned e.kept) (is_pending_by p e.kept && next) is)
+      (and-first (is_pending_by p e.kept) next waits) (and-second (is_pending_by p e.kept) next waits)
 
   -- the other way round
-  at-next : (k : RequestRecord) (l : LabelId) (o : Option LabelId) → is_pinned_as pinned k ≡ true → option_map_or (λ other. other.0 == l.0) o false ≡ true → is_stuck_label c s p pinned l ≡ true
-      → option_map_or (is_stuck_at c s p k) o false ≡ true
-  at-next k l None alike waits stuck = absurd cc
-  at-next k l (Some m) alike waits stuck =
-      let here = subst (λ (b : Bool). (is_short c s p l && (b || not (list_any (is_spare p l) s.nodes))) ≡ true) (sym (pinned-by pinned k.pinned alike)) stuck in
-      subst (λ (label : LabelId). is_stuck_at c s p k label ≡ true) (sym (label-same m l waits)) here
+  at-next : (l : LabelId) (o : Option LabelId) → option_map_or (λ other. other.0 == l.0) o false ≡ true → test l ≡ true → option_map_or test o false ≡ true
+  at-next l None waits passes = absurd cc
+  at-next l (Some m) waits passes = ap test (label-same m l waits) ∙ passes
 
-  for-stuck : (e : RequestEntry) (l : LabelId) → waits_for pinned p l e.kept ≡ true → is_stuck_label c s p pinned l ≡ true → is_stuck_as c s p pinned e ≡ true
-  for-stuck e l waits stuck =
-      let test = option_map_or (λ (other : LabelId). other.0 == l.0) (next_label e.kept) false in
-      let alike = and-first (is_pinned_as pinned e.kept) (is_pending_by p e.kept && test) waits in
-      let rest = and-second (is_pinned_as pinned e.kept) (is_pending_by p e.kept && test) waits in
-      and-both (is_pinned_as pinned e.kept) (is_stuck c s p e) alike
-      (and-both (is_pending_by p e.kept) (option_map_or (is_stuck_at c s p e.kept) (next_label e.kept) false) (and-first (is_pending_by p e.kept) test rest)
-      (at-next e.kept l (next_label e.kept) alike (and-second (is_pending_by p e.kept) test rest) stuck))
+  for-waits : (e : RequestEntry) (l : LabelId) → waits_for pinned p l e.kept ≡ true → test l ≡ true → waits_at e ≡ true
+  for-waits e l waits passes =
+      let next = option_map_or (λ (other : LabelId). other.0 == l.0) (next_label e.kept) false in
+      let rest = and-second (is_pinned_as pinned e.kept) (is_pending_by p e.kept && next) waits in
+      and-both (is_pinned_as pinned e.kept) (is_pending_by p e.kept && option_map_or test (next_label e.kept) false) (and-first (is_pinned_as pinned e.kept) (is_pending_by p e.kept && next) waits)
+      (and-both (is_pending_by p e.kept) (option_map_or test (next_label e.kept) false) (and-first (is_pending_by p e.kept) next rest)
+      (at-next l (next_label e.kept) (and-second (is_pending_by p e.kept) next rest) passes))
 
-  other-class : (class_of pinned == 4) ≡ false
-  other-class = by pinned where
-    by : (b : Bool) → (class_of b == 4) ≡ false
-    by true = refl
-    by false = refl
-
-  -- a member of a group by next label, at whose label a request is stuck
+  -- a member of a group by next label, whose label passes
   abbrev pub is_wanted_member : Member RequestId → Bool
-  is_wanted_member m = is_wanted (class_of pinned) p.0 (is_stuck_label c s p pinned) m.group
+  is_wanted_member m = is_wanted (class_of pinned) p.0 test m.group
 
-  module _ (classes : ClassesOf) (are : AreClasses c s classes) where
+  module _ (c : Configuration) (s : State) (classes : ClassesOf) (are : AreClasses c s classes) where
     -- the request of a member, by the row that it has
-    row-stuck : (m : Member RequestId) (o : Option RequestEntry) → request_entry m.id s.requests ≡ o → is_wanted_member m ≡ true
-        → option_map_or (λ k. is_among m.group (request_groups c k)) (option_map (λ (e : RequestEntry). e.kept) o) false ≡ true → list_any (is_stuck_as c s p pinned) s.requests ≡ true
-    row-stuck m None found is among = absurd cc
-    row-stuck m (Some e) found is among =
+    row-waits : (m : Member RequestId) (o : Option RequestEntry) → request_entry m.id s.requests ≡ o → is_wanted_member m ≡ true
+        → option_map_or (λ k. is_among m.group (request_groups k (is_none (holder (option_map_or (λ (e : RequestEntry). e.queue) o []))))) (option_map (λ (e : RequestEntry). e.kept) o) false ≡ true
+        → list_any waits_at s.requests ≡ true
+    row-waits m None found is among = absurd cc
+    row-waits m (Some e) found is among =
         let l : LabelId = record { 0 = m.group.second } in
         let start = first_group (class_of pinned) p.0 in
-        let stuck = is_stuck_label c s p pinned l in
-        let here : is_beside m.group start ≡ true = and-first (is_beside m.group start) stuck is in
-        let group : m.group ≡ label_group pinned p l = beside-is (class_of pinned) p.0 m.group here (third-test m.group c e.kept (class-apart (class_of pinned) p.0 m.group here other-class) among) ∙ sym (label-group pinned p l) in
-        let waits : waits_for pinned p l e.kept ≡ true = sym (label-test c pinned p l e) ∙ subst (λ (g : Group). is_among g (request_groups c e.kept) ≡ true) group among in
-        find-any (λ (x : RequestEntry). same_request x.id m.id) (is_stuck_as c s p pinned) s.requests e found
-        (for-stuck e l waits (and-second (is_beside m.group start) stuck is))
+        let here : is_beside m.group start ≡ true = and-first (is_beside m.group start) (test l) is in
+        let third : m.group.third ≡ 0 = third-test m.group e.kept (is_none (holder e.queue)) (class-apart (class_of pinned) p.0 m.group here (other-class pinned)) among in
+        let group : m.group ≡ label_group pinned p l = beside-is (class_of pinned) p.0 m.group here third ∙ sym (label-group pinned p l) in
+        let waits : waits_for pinned p l e.kept ≡ true = sym (label-test pinned p l e) ∙ subst (λ (g : Group). is_among g (groups_of_request e) ≡ true) group among in
+        find-any (λ (x : RequestEntry). same_request x.id m.id) waits_at s.requests e found (for-waits e l waits (and-second (is_beside m.group start) (test l) is))
 
-    member-stuck : list_any is_wanted_member classes.requests ≡ true → list_any (is_stuck_as c s p pinned) s.requests ≡ true
-    member-stuck some =
+    member-waits : list_any is_wanted_member classes.requests ≡ true → list_any waits_at s.requests ≡ true
+    member-waits some =
         let found = any-find is_wanted_member classes.requests some in
         let m = found.0 in
         let here : same_member same_request m (member m.group m.id) ≡ true = and-both (same_group m.group m.group) (same_request m.id m.id) (group-itself m.group) (same_request-self m.id) in
         let there : has_member same_request m.group m.id classes.requests ≡ true = find-any is_wanted_member (λ x. same_member same_request x (member m.group m.id)) classes.requests m found.1 here in
-        row-stuck m (request_entry m.id s.requests) refl (find-passes is_wanted_member classes.requests m found.1) (sym (are.requests.each m.group m.id) ∙ there)
+        row-waits m (request_entry m.id s.requests) refl (find-passes is_wanted_member classes.requests m found.1) (sym (are.requests.each m.group m.id) ∙ there)
 
-    stuck-member : list_any (is_stuck_as c s p pinned) s.requests ≡ true → list_any is_wanted_member classes.requests ≡ true
-    stuck-member some =
-        let found = any-find (is_stuck_as c s p pinned) s.requests some in
+    waits-member : list_any waits_at s.requests ≡ true → list_any is_wanted_member classes.requests ≡ true
+    waits-member some =
+        let found = any-find waits_at s.requests some in
         let e = found.0 in
-        let for = stuck-for e (find-passes (is_stuck_as c s p pinned) s.requests e found.1) in
+        let for = waits-for e (find-passes waits_at s.requests e found.1) in
         let g = label_group pinned p for.label in
-        let row : request_entry e.id s.requests ≡ Some e = all-find (λ (x : RequestEntry). request_entry x.id s.requests ≡ Some x) (is_stuck_as c s p pinned) s.requests e (requests-found c s classes are) found.1 in
-        let is_in : request_is_in c s g e.id ≡ true = rw row (label-test c pinned p for.label e ∙ for.waits) in
+        let row : request_entry e.id s.requests ≡ Some e = all-find (λ (x : RequestEntry). request_entry x.id s.requests ≡ Some x) waits_at s.requests e (requests-found c s classes are) found.1 in
+        let is_in : request_is_in s g e.id ≡ true = rw row (label-test pinned p for.label e ∙ for.waits) in
         any-weaker (λ m. same_member same_request m (member g e.id)) is_wanted_member
-        (λ m same. subst (λ (h : Group). (is_beside h (first_group (class_of pinned) p.0) && is_stuck_label c s p pinned (record { 0 = h.second })) ≡ true)
+        (λ m same. subst (λ (h : Group). (is_beside h (first_group (class_of pinned) p.0) && test (record { 0 = h.second })) ≡ true)
         (sym (group-equal m.group g (and-first (same_group m.group g) (same_request m.id e.id) same) ∙ label-group pinned p for.label))
-        (and-both _ _ (beside-of (class_of pinned) p.0 for.label) for.stuck)) classes.requests (are.requests.each g e.id ∙ is_in)
+        (and-both _ _ (beside-of (class_of pinned) p.0 for.label) for.passes)) classes.requests (are.requests.each g e.id ∙ is_in)
 
-    -- a member of a group at whose label requests are stuck is a stuck request
-    pub members-stuck : list_any is_wanted_member classes.requests ≡ list_any (is_stuck_as c s p pinned) s.requests
-    members-stuck = both (list_any is_wanted_member classes.requests) (list_any (is_stuck_as c s p pinned) s.requests) member-stuck stuck-member
+    -- a member of a group whose label passes is a request that waits for such a label
+    pub members-wait : list_any is_wanted_member classes.requests ≡ list_any waits_at s.requests
+    members-wait = both (list_any is_wanted_member classes.requests) (list_any waits_at s.requests) member-waits waits-member
+
+-- ## the requests that are stuck
+
+module _ (c : Configuration) (s : State) (p : PoolId) (pinned : Bool) where
+  -- stuck at its next label
+  stuck-at : (e : RequestEntry) → waits_at p pinned (is_stuck_label c s p pinned) e ≡ is_stuck_as c s p pinned e
+  stuck-at e = by (is_pinned_as pinned e.kept) refl where
+    by : (b : Bool) → is_pinned_as pinned e.kept ≡ b
+        → (b && (is_pending_by p e.kept && option_map_or (is_stuck_label c s p pinned) (next_label e.kept) false)) ≡ (b && (is_pending_by p e.kept && option_map_or (is_stuck_at c s p e.kept) (next_label e.kept) false))
+    by true alike =
+        ap (λ (a : Bool). is_pending_by p e.kept && option_map_or (λ l. is_short c s p l && (a || not (list_any (is_spare p l) s.nodes))) (next_label e.kept) false)
+        (sym (pinned-by pinned e.kept.pinned alike))
+    by false other = refl
+
+  -- a member of a group at whose label requests are stuck is a stuck request
+  pub members-stuck : (classes : ClassesOf) → AreClasses c s classes → list_any (is_wanted_member p pinned (is_stuck_label c s p pinned)) classes.requests ≡ list_any (is_stuck_as c s p pinned) s.requests
+  members-stuck classes are =
+      members-wait p pinned (is_stuck_label c s p pinned) c s classes are
+      ∙ any-same (waits_at p pinned (is_stuck_label c s p pinned)) (is_stuck_as c s p pinned) stuck-at s.requests
 
 -- ## a label
 
@@ -168,6 +185,13 @@ module _ (c : Configuration) (s : State) (p : PoolId) (l : LabelId) where
 
 -- ## the walk over the labels
 
+-- by the first group's class and pool
+named-by : (p : PoolId) (pinned : Bool) (first : Group) → first ≡ label_group pinned p (record { 0 = 0 }) → (found : Option Group) (next : Option LabelId) → next ≡ label_if first found
+    → (there : Group → Option Group) (group mine : Group) → found ≡ there group → group ≡ mine → next ≡ label_if (first_group (class_of pinned) p.0) (there mine)
+named-by p pinned first first_is found next named there group mine is same =
+    named ∙ ap (λ (g : Group). label_if g found) (first_is ∙ label-group pinned p (record { 0 = 0 }))
+    ∙ ap (label_if (first_group (class_of pinned) p.0)) (is ∙ ap there same)
+
 module _ (c : Configuration) (s : State) (p : PoolId) (pinned : Bool) (ms : List (Member RequestId)) where
   -- the stuck requests are left from the next label on, and a request waits for it
   pub record IsLeft (next : Option LabelId) : Type 0 where
@@ -180,28 +204,22 @@ module _ (c : Configuration) (s : State) (p : PoolId) (pinned : Bool) (ms : List
       let here = subst IsLeft is left in
       sym (now-rest (class_of pinned) p.0 (is_stuck_label c s p pinned) ms l (sym stuck) here.has) ∙ here.rest
 
-  flat : AreRequestGroups c s ms → AreFlat (class_of pinned) p.0 ms
-  flat are = flat-requests c s ms are (class_of pinned) p.0 (other-class c s p pinned)
+  flat : AreRequestGroups s ms → AreFlat (class_of pinned) p.0 ms
+  flat are = flat-requests s ms are (class_of pinned) p.0 (other-class pinned)
 
   module _ (first : Group) (first_is : first ≡ label_group pinned p (record { 0 = 0 })) (found : Option Group) (next : Option LabelId) (named : next ≡ label_if first found) where
-    -- by the first group's class and pool
-    named-by : (there : Group → Option Group) (group mine : Group) → found ≡ there group → group ≡ mine → next ≡ label_if (first_group (class_of pinned) p.0) (there mine)
-    named-by there group mine is same =
-        named ∙ ap (λ (g : Group). label_if g found) (first_is ∙ label-group pinned p (record { 0 = 0 }))
-        ∙ ap (label_if (first_group (class_of pinned) p.0)) (is ∙ ap there same)
-
     -- before the walk
-    pub left-first : AreRequestGroups c s ms → found ≡ group_from first ms → list_any (is_wanted_member c s p pinned) ms ≡ list_any (is_stuck_as c s p pinned) s.requests → IsLeft next
+    pub left-first : AreRequestGroups s ms → found ≡ group_from first ms → list_any (is_wanted_member p pinned (is_stuck_label c s p pinned)) ms ≡ list_any (is_stuck_as c s p pinned) s.requests → IsLeft next
     left-first are is all =
-        let same = named-by (λ g. group_from g ms) first (first_group (class_of pinned) p.0) is (first_is ∙ label-group pinned p (record { 0 = 0 })) in
+        let same = named-by p pinned first first_is found next named (λ g. group_from g ms) first (first_group (class_of pinned) p.0) is (first_is ∙ label-group pinned p (record { 0 = 0 })) in
         subst IsLeft (sym same) (record {
           rest = start-rest (class_of pinned) p.0 (is_stuck_label c s p pinned) ms (flat are) is_id_before are.rises ∙ all;
           has = start-has (class_of pinned) p.0 (is_stuck_label c s p pinned) ms (flat are) is_id_before are.rises;
         })
 
-    module _ (are : AreRequestGroups c s ms) (l : LabelId) (group : Group) (group_is : group ≡ label_group pinned p l) (is : found ≡ group_after group ms) where
+    module _ (are : AreRequestGroups s ms) (l : LabelId) (group : Group) (group_is : group ≡ label_group pinned p l) (is : found ≡ group_after group ms) where
       same-after : next ≡ label_if (first_group (class_of pinned) p.0) (group_after (group_of (class_of pinned) p.0 l) ms)
-      same-after = named-by (λ g. group_after g ms) group (group_of (class_of pinned) p.0 l) is (group_is ∙ label-group pinned p l)
+      same-after = named-by p pinned first first_is found next named (λ g. group_after g ms) group (group_of (class_of pinned) p.0 l) is (group_is ∙ label-group pinned p l)
 
       -- after a label at which no request is stuck
       pub left-next : (now : Option LabelId) → now ≡ Some l → IsLeft now → false ≡ is_stuck_label c s p pinned l → IsLeft next
@@ -222,23 +240,59 @@ module _ (c : Configuration) (s : State) (p : PoolId) (pinned : Bool) (ms : List
       pub left-smaller : (now : Option LabelId) → now ≡ Some l → l.0 < 65536 → option_map_or (λ k. 65536 - k.0) next 0 < option_map_or (λ k. 65536 - k.0) now 0
       left-smaller now now_is within = rw (now_is, same-after) (smaller-by (label_if (first_group (class_of pinned) p.0) (group_after (group_of (class_of pinned) p.0 l) ms)) refl within)
 
+-- ## the requests that are under way
+
+module _ (p : PoolId) (pinned : Bool) where
+  -- any label passes
+  abbrev every : LabelId → Bool
+  every l = true
+
+  some-next : (o : Option LabelId) → option_map_or every o false ≡ is_some o
+  some-next None = refl
+  some-next (Some l) = refl
+
+  under_way-at : (e : RequestEntry) → waits_at p pinned every e ≡ is_under_way_as p pinned e
+  under_way-at e = ap (λ (b : Bool). is_pinned_as pinned e.kept && (is_pending_by p e.kept && b)) (some-next (next_label e.kept))
+
+  -- a label whose group has a member
+  some-rest : (ms : List (Member RequestId)) (o : Option LabelId) → has_label (class_of pinned) p.0 every ms o ≡ true → is_some o ≡ rest_from (class_of pinned) p.0 every ms o
+  some-rest ms None has = refl
+  some-rest ms (Some l) has = sym (now-rest (class_of pinned) p.0 every ms l refl has)
+
+  -- there is a request under way if a group by next label has a member
+  pub under-way : (first : Group) → first ≡ label_group pinned p (record { 0 = 0 }) → (found : Option Group) (next : Option LabelId) → next ≡ label_if first found
+      → (c : Configuration) (s : State) (classes : ClassesOf) → AreClasses c s classes → found ≡ group_from first classes.requests → is_some next ≡ list_any (is_under_way_as p pinned) s.requests
+  under-way first first_is found next named c s classes are is =
+      let ms = classes.requests in
+      let flat : AreFlat (class_of pinned) p.0 ms = flat-requests s ms are.requests (class_of pinned) p.0 (other-class pinned) in
+      let start = first_group (class_of pinned) p.0 in
+      ap (λ (o : Option LabelId). is_some o) (named-by p pinned first first_is found next named (λ g. group_from g ms) first start is (first_is ∙ label-group pinned p (record { 0 = 0 })))
+      ∙ some-rest ms (label_if start (group_from start ms)) (start-has (class_of pinned) p.0 every ms flat is_id_before are.requests.rises)
+      ∙ start-rest (class_of pinned) p.0 every ms flat is_id_before are.requests.rises
+      ∙ members-wait p pinned every c s classes are
+      ∙ any-same (waits_at p pinned every) (is_under_way_as p pinned) under_way-at s.requests
+
 -- ## the pool
 
-module _ (c : Configuration) (s : State) (p : PoolId) where
-  -- a request is stuck if one is that is not pinned, or one that is
-  paused-either : (list_any (is_stuck_as c s p false) s.requests || list_any (is_stuck_as c s p true) s.requests) ≡ is_paused c s p
-  paused-either = sym (any-either (is_stuck c s p) (is_stuck_as c s p false) (is_stuck_as c s p true) (λ e. by e.kept.pinned (is_stuck c s p e)) s.requests) where
+module _ (test : RequestEntry → Bool) (rows : List RequestEntry) where
+  -- pinned or not, and it passes
+  abbrev passes_as : Bool → RequestEntry → Bool
+  passes_as pinned e = is_pinned_as pinned e.kept && test e
+
+  -- a request passes if one does that is not pinned, or one that is
+  pub passes-either : (list_any (passes_as false) rows || list_any (passes_as true) rows) ≡ list_any test rows
+  passes-either = sym (any-either test (passes_as false) (passes_as true) (λ e. by e.kept.pinned (test e)) rows) where
     by : (o : Option PoolId) (b : Bool) → b ≡ ((is_none o && b) || (is_some o && b))
     by (Some q) b = refl
     by None true = refl
     by None false = refl
 
-  pub paused-first : (stuck : Bool) → stuck ≡ list_any (is_stuck_as c s p false) s.requests → stuck ≡ true → stuck ≡ is_paused c s p
-  paused-first stuck is some =
-      let first : list_any (is_stuck_as c s p false) s.requests ≡ true = sym is ∙ some in
-      some ∙ ap (λ (b : Bool). b || list_any (is_stuck_as c s p true) s.requests) (sym first) ∙ paused-either
+  pub either-first : (some : Bool) → some ≡ list_any (passes_as false) rows → some ≡ true → some ≡ list_any test rows
+  either-first some is found =
+      let first : list_any (passes_as false) rows ≡ true = sym is ∙ found in
+      found ∙ ap (λ (b : Bool). b || list_any (passes_as true) rows) (sym first) ∙ passes-either
 
-  pub paused-second : (stuck other : Bool) → stuck ≡ list_any (is_stuck_as c s p false) s.requests → stuck ≡ false → other ≡ list_any (is_stuck_as c s p true) s.requests → other ≡ is_paused c s p
-  paused-second stuck other is none other_is =
-      let first : list_any (is_stuck_as c s p false) s.requests ≡ false = sym is ∙ none in
-      other_is ∙ ap (λ (b : Bool). b || list_any (is_stuck_as c s p true) s.requests) (sym first) ∙ paused-either
+  pub either-second : (some other : Bool) → some ≡ list_any (passes_as false) rows → some ≡ false → other ≡ list_any (passes_as true) rows → other ≡ list_any test rows
+  either-second some other is none other_is =
+      let first : list_any (passes_as false) rows ≡ false = sym is ∙ none in
+      other_is ∙ ap (λ (b : Bool). b || list_any (passes_as true) rows) (sym first) ∙ passes-either

@@ -1,4 +1,4 @@
--- the labels that requests of a pool wait for, and when such a request is stuck (own)
+-- the labels that requests of a pool wait for, and when such a request is stuck or under way (own)
 use Rattle.std.specs.Prelude.{Bool, ◌==◌, ◌&&◌, ◌||◌, not, if◌then◌else◌, Option, Some, None, is_some, is_none}
 use Rattle.std.specs.List.{list_any}
 use Rattle.np_text.specs.declared.id.PoolId.{PoolId}
@@ -10,6 +10,7 @@ use Rattle.np_machine.specs.Count.{is_short}
 use Rattle.np_machine.specs.Entries.{RequestEntry}
 use Rattle.np_machine.specs.Reasons.{is_spare, is_stuck}
 use Rattle.np_machine.specs.State.{State}
+use Rattle.np_look.specs.Readers.{is_under_way_by}
 use Rattle.np_classes.specs.Classes.{next_label_group, pinned_label_group}
 
 -- the requests that are pending by the pool and whose next label is this one: those that are pinned, or the others
@@ -32,6 +33,10 @@ is_stuck_label c s p pinned l = is_short c s p l && (pinned || not (list_any (is
 -- pinned, or not
 abbrev pub is_pinned_as : Bool → RequestRecord → Bool
 is_pinned_as pinned k = if pinned then is_some k.pinned else is_none k.pinned
+
+-- under way by the pool, and pinned or not
+abbrev pub is_under_way_as : PoolId → Bool → RequestEntry → Bool
+is_under_way_as p pinned e = is_pinned_as pinned e.kept && is_under_way_by p e.kept
 
 -- stuck, and pinned or not
 abbrev pub is_stuck_as : Configuration → State → PoolId → Bool → RequestEntry → Bool

@@ -1,14 +1,14 @@
-//! The requests and the nodes of a kind: those that are pending by a pool, in order, and the node
-//! that is due first.
+//! The requests and the nodes of a kind: those that are pending by a pool, in order, the first of
+//! them that nobody holds, and the node that is due first.
 
 ghost use Rattle.std.specs.Prelude.{◌≡◌, length, slice_get};
 ghost use Rattle.np_site.specs.Configuration.{Configuration};
 ghost use Rattle.np_machine.specs.State.{State};
-ghost use Rattle.np_look.specs.Readers.{first_due, pending_requests};
+ghost use Rattle.np_look.specs.Readers.{first_due, first_unheld_pending, pending_requests};
 ghost use Rattle.np_classes.specs.Classes.{AreClasses};
 ghost use Rattle.np_counts.specs.Thirds.{third_if};
 
-use np_classes::{Classes, pending_group, unheld_group};
+use np_classes::{Classes, pending_group, unheld_group, unheld_pending_group};
 use np_groups::Group;
 use np_look::UnheldKind;
 use np_text::{NodeId, PoolId, RequestId};
@@ -28,6 +28,15 @@ pub fn pending_request_at(classes: &Classes, pool: PoolId, at: u32) -> Option<Re
         result ≡ slice_get (pending_requests pool s) at }
 {
     classes.request_at(pending_group(pool), at as usize)
+}
+
+/// The first request, by priority and then sequence, that is pending by the pool and that nobody
+/// holds; `None` if there is none. One binary search, however many requests there are.
+pub fn first_unheld_pending(classes: &Classes, pool: PoolId) -> Option<RequestId>
+    ensures { (c : Configuration) (s : State) → AreClasses c s classes.now →
+        result ≡ first_unheld_pending pool s }
+{
+    classes.request_at(unheld_pending_group(pool), 0)
 }
 
 /// The third number of a group that was found, if its class and its other numbers are those of the

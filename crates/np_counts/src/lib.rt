@@ -2,8 +2,7 @@
 //!
 //! Each answer is that of the reader of the same name in `np_look`, which walks all nodes or all
 //! requests. Here it costs a few binary searches, or a few for each label that requests wait for,
-//! for each set of pools that declined, or for each pool and label of which a tenant has nodes and
-//! each request of the tenant's that waits for nodes.
+//! for each set of pools that declined, or for each pool and label of which a tenant has nodes.
 #![tactic(auto)]
 
 mod amounts;
@@ -15,8 +14,8 @@ mod room;
 mod tenant;
 
 pub use declined::first_declined_by_all;
-pub use kinds::{first_due, pending_request_at, pending_requests};
+pub use kinds::{first_due, first_unheld_pending, pending_request_at, pending_requests};
 pub use label::{has_spent_min_ready, ready_count};
-pub use pool::{free_ready, has_spare, is_paused, used};
+pub use pool::{free_ready, has_request_under_way, has_spare, is_paused, used};
 pub use room::blocking;
 pub use tenant::used_by;

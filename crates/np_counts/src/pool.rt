@@ -1,4 +1,5 @@
-//! What a pool uses, its spare nodes, and whether it waits for room.
+//! What a pool uses, its spare nodes, whether a request is under way by it, and whether it waits
+//! for room.
 
 ghost use Rattle.std.specs.Prelude.{◌≡◌, ◌<◌, ◌^◌};
 ghost use Rattle.std.specs.List.{list_any};
@@ -7,9 +8,9 @@ ghost use Rattle.np_machine.specs.Count.{count_of};
 ghost use Rattle.np_machine.specs.Reasons.{is_paused, is_spare};
 ghost use Rattle.np_machine.specs.State.{State};
 ghost use Rattle.np_fits.specs.Fits.{Fits};
-ghost use Rattle.np_look.specs.Readers.{free_ready_of};
+ghost use Rattle.np_look.specs.Readers.{free_ready_of, has_request_under_way};
 ghost use Rattle.np_classes.specs.Classes.{AreClasses};
-ghost use Rattle.np_counts.specs.Waiting.{is_stuck_as, is_stuck_label, label_group, label_if};
+ghost use Rattle.np_counts.specs.Waiting.{is_stuck_as, is_stuck_label, is_under_way_as, label_group, label_if};
 
 use np_amount::Amount;
 use np_classes::{Classes, kind_group, next_label_group, pinned_label_group, spare_group};
@@ -74,6 +75,25 @@ fn label_if(other: Group, found: Option<Group>) -> Option<LabelId>
         return None;
     }
     Some(LabelId(found.second))
+}
+
+/// Whether a request that is pinned is under way by the pool, or one that is not. One binary
+/// search.
+fn has_under_way(classes: &Classes, pool: PoolId, is_pinned: bool) -> bool
+    ensures { (c : Configuration) (s : State) → AreClasses c s classes.now →
+        result ≡ list_any (is_under_way_as pool is_pinned) s.requests }
+{
+    let first = label_group(is_pinned, pool, LabelId(0));
+    label_if(first, classes.request_group_from(first)).is_some()
+}
+
+/// Whether a request is pending by the pool that lacks a node for one of its labels. Two binary
+/// searches, however many requests there are.
+pub fn has_request_under_way(classes: &Classes, pool: PoolId) -> bool
+    ensures { (c : Configuration) (s : State) → AreClasses c s classes.now →
+        result ≡ has_request_under_way pool s }
+{
+    has_under_way(classes, pool, false) || has_under_way(classes, pool, true)
 }
 
 /// Whether a request that waits for the label is stuck, where the pool uses `used`: the pool has no

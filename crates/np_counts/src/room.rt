@@ -14,8 +14,8 @@ use np_text::{PoolId, TenantId};
 
 /// The tenant that has no room now for a request that the pool may serve. What the tenant uses is
 /// read only if the tenant has a limit and the pool may serve the request: that costs a few binary
-/// searches and one lookup of a node for each pool and label of which it has nodes, and a lookup of
-/// each of its pending requests that still wait for nodes. Otherwise the cost grows with the
+/// searches and one lookup of a node for each pool and label of which it has nodes, and one lookup
+/// for what its pending requests wait for, however many they are. Otherwise the cost grows with the
 /// request's labels times the pool's offers.
 pub fn blocking<L: Look>(
     classes: &Classes,

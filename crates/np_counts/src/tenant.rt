@@ -7,9 +7,9 @@ ghost use Rattle.np_fits.specs.Fits.{Fits, IsFew};
 ghost use Rattle.np_classes.specs.Classes.{AreClasses};
 ghost use Rattle.np_counts.specs.TenantGroups.{beside_if, is_in_tenant_group, tenant_class};
 
-use crate::amounts::{awaited_by, taken_by};
+use crate::amounts::taken_by;
 use np_amount::Amount;
-use np_classes::{Classes, tenant_group, waiting_group};
+use np_classes::{Classes, tenant_group};
 use np_groups::Group;
 use np_look::{Look, NOTHING};
 use np_text::{LabelId, PoolId, TenantId};
@@ -61,8 +61,8 @@ fn taken<L: Look>(classes: &Classes, look: &L, tenant: TenantId) -> Amount
     sum
 }
 
-/// What the tenant's pending requests still wait for. It walks those that wait for nodes; the
-/// others wait for nothing.
+/// What the tenant's pending requests still wait for. One lookup by the tenant's number. Nothing is
+/// read of `look`, which says what the amounts are of.
 fn awaited<L: Look>(classes: &Classes, look: &L, tenant: TenantId) -> Amount
     requires fits { Fits (L.site look.now) (L.state look.now) }
     requires classes { AreClasses (L.site look.now) (L.state look.now) classes.now }
@@ -70,21 +70,13 @@ fn awaited<L: Look>(classes: &Classes, look: &L, tenant: TenantId) -> Amount
         (filter (is_pending_of (L.site look.now) tenant) (L.state look.now).requests)) }
     ensures few { IsFew result 8388608 }
 {
-    let mut sum = NOTHING;
-    let group = waiting_group(tenant);
-    for at in 0..classes.requests_in(group) {
-        let Some(request) = classes.request_at(group, at) else {
-            return NOTHING;
-        };
-        sum = sum.plus(awaited_by(look, request));
-    }
-    sum
+    classes.awaited(tenant)
 }
 
 /// What the tenant uses: its nodes, and what its pending requests still wait for. It costs a few
 /// binary searches and one lookup of a node for each pool and label of which the tenant has nodes,
-/// and a lookup of each of its pending requests that still wait for nodes. What each takes is
-/// looked up among its pool's offers.
+/// and one lookup for what its pending requests wait for, however many they are. What a node takes
+/// is looked up among its pool's offers.
 pub fn used_by<L: Look>(classes: &Classes, look: &L, tenant: TenantId) -> Amount
     requires fits { Fits (L.site look.now) (L.state look.now) }
     requires classes { AreClasses (L.site look.now) (L.state look.now) classes.now }

@@ -1,10 +1,14 @@
-use Rattle.np_counts.proofs.Waiting.{paused-first, paused-second}
+use Rattle.np_machine.specs.Reasons.{is_stuck}
+use Rattle.np_counts.proofs.Waiting.{either-first, either-second}
 use Rattle.np_counts.proofs.pool.is_paused.Goals as goal
 
 pub returns-then-has_stuck_request : goal.returns-then-has_stuck_request
-returns-then-has_stuck_request g c = paused-first (g.L.Look.site c.args.look.now) (g.L.Look.state c.args.look.now) c.args.pool c.has_stuck_request.result c.has_stuck_request.ensures c.if-has_stuck_request.true
+returns-then-has_stuck_request g c =
+    either-first (is_stuck (g.L.Look.site c.args.look.now) (g.L.Look.state c.args.look.now) c.args.pool) (g.L.Look.state c.args.look.now).requests
+    c.has_stuck_request.result c.has_stuck_request.ensures c.if-has_stuck_request.true
 
 pub returns-else-has_stuck_request : goal.returns-else-has_stuck_request
 returns-else-has_stuck_request g c =
-    paused-second (g.L.Look.site c.args.look.now) (g.L.Look.state c.args.look.now) c.args.pool c.has_stuck_request.result c.has_stuck_request-else-has_stuck_request.result
+    either-second (is_stuck (g.L.Look.site c.args.look.now) (g.L.Look.state c.args.look.now) c.args.pool) (g.L.Look.state c.args.look.now).requests
+    c.has_stuck_request.result c.has_stuck_request-else-has_stuck_request.result
     c.has_stuck_request.ensures c.if-has_stuck_request.false c.has_stuck_request-else-has_stuck_request.ensures

@@ -1,0 +1,10 @@
+use Rattle.std.proofs.Common.{◌∙◌, ap, slice_get}
+use Rattle.np_groups.specs.declared.groups.Group.{Group}
+use Rattle.np_groups.specs.Groups.{ids_in}
+use Rattle.np_counts.proofs.Numbers.{first-unheld}
+use Rattle.np_counts.proofs.kinds.first_unheld_pending.Goals as goal
+
+pub returns : goal.returns
+returns c site state are =
+    c.request_at.ensures ∙ ap (λ (g : Group). slice_get (ids_in g c.args.classes.now.requests) 0) c.unheld_pending_group.ensures
+    ∙ first-unheld site state c.args.classes.now are c.args.pool
