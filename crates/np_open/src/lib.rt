@@ -6,7 +6,7 @@
 //! and none is pinned. Whether the tenant has room for a request depends on nothing else of it, so
 //! if it has none for one of a line it has none for any (`line-blocks` in `proofs/LineLemmas`).
 //! Line 0 is the common one, whose requests have nothing in common: they are pinned, or without a
-//! job, or their tenant has no limit.
+//! job, or their tenant has no limit, or their labels are not those of their job.
 //!
 //! `specs/Lines` says in which line a record is, by a list of jobs that are alike. Nothing is
 //! assumed of that list, since a request is compared with the job that it names. `specs/Open` says
