@@ -60,8 +60,8 @@ fn step_of_active<L: Look>(
     None
 }
 
-/// The first useful event of these on the job, if it is new: acquire, submit. For any other job it
-/// costs one lookup.
+/// The first useful event of these on a job: acquire, submit. Only a new job has one. Of any other
+/// it costs one lookup.
 fn step_of_new<L: Look>(
     look: &L,
     rows: &RequesterRows,
