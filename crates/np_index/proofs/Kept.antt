@@ -1,9 +1,14 @@
 -- parts of an index that stay are those of the same state
 use Rattle.std.proofs.Common.{◌≡◌, subst, sym}
+use Rattle.np_text.specs.declared.id.SessionId.{SessionId}
 use Rattle.np_site.specs.Configuration.{Configuration}
 use Rattle.np_machine.specs.State.{State}
+use Rattle.np_changes.specs.declared.changes.Changes.{Changes}
+use Rattle.np_changes.specs.declared.changes.SessionsChange.TheVariants as sessions
 use Rattle.np_open.specs.Open.{AreOpen, OpenOf}
 use Rattle.np_active.specs.Active.{ActiveOf, AreActive, AreHandleGroups, AreJobGroups, AreSessionGroups}
+use Rattle.np_index.specs.Index.{IndexParts, IsIndexOf}
+use Rattle.np_index.specs.Prepared.{IsPreparedFor, PreparedOf}
 
 -- where the members and the lines stay, they are those of the same state
 pub open-same : (c : Configuration) (s : State) (old new : OpenOf) → new.members ≡ old.members → new.lines ≡ old.lines → AreOpen c s old → AreOpen c s new
@@ -17,4 +22,13 @@ active-same c s old new jobs handles sessions was = record {
   jobs = subst (AreJobGroups c s) (sym jobs) was.jobs;
   handles = subst (AreHandleGroups c s) (sym handles) was.handles;
   sessions = subst (AreSessionGroups s) (sym sessions) was.sessions;
+}
+
+-- where a session ends, an index that is prepared is still that of the state
+pub prepared-ends : (c : Configuration) (s : State) (ch : Changes) (prepared : PreparedOf) (index : IndexParts) (session : SessionId) → ch.sessions ≡ sessions.End session → IsPreparedFor c s ch prepared index → IsIndexOf c s index
+prepared-ends c s ch prepared index session ending is = record {
+  lookups = is.ends session ending;
+  classes = is.classes;
+  requested = is.requested;
+  active = is.active;
 }

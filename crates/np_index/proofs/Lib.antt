@@ -1,4 +1,3 @@
-pub mod Few
 pub mod Firsts
 pub mod CandidateLemmas
 pub mod WalkLemmas

@@ -15,7 +15,7 @@ ghost use Rattle.np_machine.specs.Semaphore.{has_live_session};
 ghost use Rattle.np_machine.specs.State.{State};
 ghost use Rattle.np_machine.specs.Tables.{handles_of, has_handle};
 ghost use Rattle.np_machine.specs.Tenants.{count_of_tenant};
-ghost use Rattle.np_look.specs.Readers.{active_of, current_of, first_declined_by_all, first_due, first_mute, free_ready_of, new_of, pending_requests, queued_nodes, queued_requests, unfinished_of};
+ghost use Rattle.np_look.specs.Readers.{active_of, current_of, first_declined_by_all, first_due, first_mute, first_unheld_pending, free_ready_of, has_request_under_way, new_of, pending_requests, queued_nodes, queued_requests, unfinished_of};
 ghost use Rattle.np_index.specs.Index.{IsIndexOf};
 
 use np_active::Active;
@@ -55,10 +55,11 @@ impl Model for Index {
 }
 
 impl Index {
-    /// The index of the state. It reads each session, job, request, node and handle once or twice,
-    /// and asks the keeper for what each session queues for and for the owner of each node that was
-    /// made. A keeper that scans reads all queues for each answer of the first kind, and all jobs for
-    /// each node and each handle.
+    /// The index of the state. It reads each session, job, request, node and handle a few times, looks
+    /// up the request that each node is allocated to, and compares each job with one job of each
+    /// line. It asks the keeper for what each session queues for and for the owner of each node that
+    /// was made. A keeper that scans reads all queues for each answer of the first kind, and all jobs
+    /// for each node and each handle.
     pub fn rebuild<L: Look>(alloc: Global, look: &L) -> Result<Index, NoMemory>
         requires reached { IsReached (L.site look.now) (L.state look.now) }
         requires fits { Fits (L.site look.now) (L.state look.now) }
@@ -179,7 +180,8 @@ impl Index {
     }
 
     /// The tenant that has no room now for a request that the pool may serve. It costs what `used_by`
-    /// does, if the tenant has a limit.
+    /// does, if the tenant has a limit and the pool may serve the request, and else grows with the
+    /// request's labels times the pool's offers.
     pub fn blocking<L: Look>(&self, look: &L, pool: PoolId, asked: &Asked) -> Option<TenantId>
         requires fits { Fits (L.site look.now) (L.state look.now) }
         requires index { IsIndexOf (L.site look.now) (L.state look.now) self.now }
@@ -202,8 +204,8 @@ impl Index {
     }
 
     /// What the tenant uses: its nodes, and what its pending requests still wait for. It costs a few
-    /// lookups for each pool and label of which the tenant has nodes, and one for each of its pending
-    /// requests that still wait for nodes.
+    /// lookups for each pool and label of which the tenant has nodes, and one for what its pending
+    /// requests wait for, however many they are.
     pub fn used_by<L: Look>(&self, look: &L, tenant: TenantId) -> Amount
         requires fits { Fits (L.site look.now) (L.state look.now) }
         requires index { IsIndexOf (L.site look.now) (L.state look.now) self.now }
@@ -275,6 +277,24 @@ impl Index {
             → result ≡ slice_get (pending_requests pool s) at }
     {
         np_counts::pending_request_at(&self.classes, pool, at)
+    }
+
+    /// The first request, by priority and then sequence, that is pending by the pool and that nobody
+    /// holds. It costs one binary search.
+    pub fn first_unheld_pending(&self, pool: PoolId) -> Option<RequestId>
+        ensures { (c : Configuration) (s : State) → IsIndexOf c s self.now
+            → result ≡ first_unheld_pending pool s }
+    {
+        np_counts::first_unheld_pending(&self.classes, pool)
+    }
+
+    /// Whether a request is pending by the pool that lacks a node for one of its labels. It costs two
+    /// binary searches.
+    pub fn has_request_under_way(&self, pool: PoolId) -> bool
+        ensures { (c : Configuration) (s : State) → IsIndexOf c s self.now
+            → result ≡ has_request_under_way pool s }
+    {
+        np_counts::has_request_under_way(&self.classes, pool)
     }
 
     /// The first request, by priority and then sequence, that is requested and that every registered

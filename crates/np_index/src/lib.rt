@@ -1,18 +1,21 @@
 //! An index of a state, so that its readers need not search it.
 //!
-//! `Index` has lookups of jobs, queues and owners (np_lookups), groups of nodes and requests
-//! (np_classes), the requested requests in lines of those that are alike, each in the order in which
-//! launchers take them up (np_open), and groups of active jobs, of handles and of sessions
-//! (np_active); `specs/Index` says when it is the index of a state. `Indexed` joins an index to
-//! anything that keeps a state: it answers what it can from the index, with what np_counts makes of
-//! the groups, and asks the keeper for the record of one request, node, job, session or role. It
-//! makes each change in both: first what may take memory, in the index and then in the keeper, and
-//! then the rest of the index, which can't fail.
+//! `Index` has lookups of jobs, queues and owners (np_lookups), groups of nodes and requests, with
+//! what the pending requests of each tenant still wait for (np_classes), the requested requests in
+//! lines of those that are alike, each in the order in which launchers take them up (np_open), and
+//! groups of active jobs, of new jobs, of handles and of sessions (np_active); `specs/Index` says
+//! when it is the index of a state. It answers readers from these, and with what np_counts makes of
+//! the groups.
+//!
+//! An event's changes are made in three steps: what may take memory before the state changes
+//! (`prepare`), the state's change, and then the rest, which can't fail (`note`). If the state could
+//! not change, `take_back` undoes the first. `specs/Prepared` says what holds between them, so who
+//! keeps an index need not know its parts (np_indexed).
 #![tactic(auto)]
 
 mod candidates;
+mod change;
 mod index;
-mod indexed;
 
+pub use change::{Prepared, ending};
 pub use index::Index;
-pub use indexed::Indexed;

@@ -14,7 +14,7 @@ use crate::script::Script;
 use np_config::Config;
 use np_decision::StateKeeper;
 use np_event::{Entry, Event, Reply};
-use np_index::Indexed;
+use np_indexed::Indexed;
 use np_rules::{JournalKeeper, Look, VecKeeper};
 use np_text::NoMemory;
 use std::alloc::{AllocError, Global};

@@ -1,6 +1,6 @@
 use Rattle.std.proofs.Common.{length, ap, arith}
 use Rattle.np_lookups.proofs.Few.{few-requests}
-use Rattle.np_index.proofs.indexed.look.IndexedLook.queued_requests.Goals as goal
+use Rattle.np_indexed.proofs.indexed.look.IndexedLook.queued_requests.Goals as goal
 
 pub number_of-requires : goal.number_of-requires
 number_of-requires g c =

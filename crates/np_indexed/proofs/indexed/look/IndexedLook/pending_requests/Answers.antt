@@ -1,6 +1,6 @@
 use Rattle.std.proofs.Common.{arith}
-use Rattle.np_index.proofs.Few.{few-pending}
-use Rattle.np_index.proofs.indexed.look.IndexedLook.pending_requests.Goals as goal
+use Rattle.np_indexed.proofs.Few.{few-pending}
+use Rattle.np_indexed.proofs.indexed.look.IndexedLook.pending_requests.Goals as goal
 
 pub number_of-requires : goal.number_of-requires
 number_of-requires g c =

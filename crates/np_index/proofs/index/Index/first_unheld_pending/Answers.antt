@@ -1,0 +1,6 @@
+use Rattle.std.proofs.Common.{subst, sym}
+use Rattle.np_classes.specs.Classes.{AreClasses}
+use Rattle.np_index.proofs.index.Index.first_unheld_pending.Goals as goal
+
+pub returns : goal.returns
+returns c config s is = c.first_unheld_pending.ensures config s (subst (λ index. AreClasses config s index.classes) (sym c.self.view_is) is.classes)

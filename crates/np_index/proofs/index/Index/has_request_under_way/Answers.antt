@@ -1,0 +1,6 @@
+use Rattle.std.proofs.Common.{subst, sym}
+use Rattle.np_classes.specs.Classes.{AreClasses}
+use Rattle.np_index.proofs.index.Index.has_request_under_way.Goals as goal
+
+pub returns : goal.returns
+returns c config s is = c.has_request_under_way.ensures config s (subst (λ index. AreClasses config s index.classes) (sym c.self.view_is) is.classes)

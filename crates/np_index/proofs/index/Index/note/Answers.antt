@@ -1,0 +1,16 @@
+use Rattle.std.proofs.Common.{◌∙◌, ap, subst, sym}
+use Rattle.np_lookups.specs.Lookups.{AreLookupsOf}
+use Rattle.np_lookups.specs.Prepared.{lookups_made}
+use Rattle.np_index.specs.Prepared.{IsPreparedFor}
+use Rattle.np_index.proofs.index.Index.note.Goals as goal
+
+pub returns : goal.returns
+returns g c config s reached planned is site state =
+    let kept = subst (λ p. IsPreparedFor config s c.args.changes.now p c.args.self.now) (sym c.prepared.view_is) is in
+    let prepared = subst (IsPreparedFor config s c.args.changes.now _) (sym c.self.view_is) kept in
+    record {
+      lookups = subst (AreLookupsOf _ _) (sym (c.settle.ensures ∙ ap (λ x. lookups_made x c.args.changes.now c.prepared.inside.lookups c.self.inside.lookups) (c.config.ensures ∙ site))) prepared.lookups.made;
+      classes = c.note.ensures _ _ c.args.changes.now reached planned prepared.touched site state prepared.classes;
+      requested = c.note-2.ensures _ _ c.args.changes.now reached prepared.moved site state prepared.requested;
+      active = c.note-3.ensures _ _ reached planned prepared.asker site state prepared.active;
+    }

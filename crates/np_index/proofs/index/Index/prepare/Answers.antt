@@ -1,0 +1,26 @@
+use Rattle.std.proofs.Common.{subst, sym}
+use Rattle.np_open.specs.Prepared.{AreListed}
+use Rattle.np_classes.proofs.Noted.{classes-same}
+use Rattle.np_index.specs.Index.{IsIndexOf}
+use Rattle.np_index.proofs.Kept.{active-same, open-same}
+use Rattle.np_index.proofs.index.Index.prepare.Goals as goal
+
+pub returns-clause-ok : goal.returns-clause-ok
+returns-clause-ok g c =
+    let are = subst (IsIndexOf (g.L.Look.site c.args.look.now) (g.L.Look.state c.args.look.now)) (sym c.self.view_is) c.requires.index in
+    let ready = c.in_ok-touched.ensures.prepared in
+    record {
+      lookups = c.in_ok-lookups.ensures.ok;
+      ends = c.in_ok-lookups.ensures.ends;
+      classes = classes-same _ _ _ _ c.prepare.ensures.nodes c.prepare.ensures.requests c.prepare.ensures.awaited are.classes;
+      touched = ready;
+      requested = open-same _ _ _ _ c.prepare-2.ensures.members c.prepare-2.ensures.lines are.requested;
+      moved = c.in_ok-moved.ensures.prepared c.args.changes.now (subst (AreListed c.args.changes.now (g.L.Look.state c.args.look.now)) (sym c.requests.ensures) ready.requests);
+      active = active-same _ _ _ _ c.prepare-3.ensures.jobs c.prepare-3.ensures.handles c.prepare-3.ensures.sessions are.active;
+      asker = c.in_ok-asker.ensures.asker;
+      room = record {
+        classes = c.in_ok-touched.ensures.room;
+        requested = c.in_ok-moved.ensures.room;
+        active = c.in_ok-asker.ensures.room;
+      };
+    }

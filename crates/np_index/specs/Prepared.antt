@@ -1,0 +1,47 @@
+-- what is prepared of an index before a state changes
+use Rattle.std.specs.Prelude.{◌≡◌, List, Option}
+use Rattle.np_text.specs.declared.id.JobId.{JobId}
+use Rattle.np_text.specs.declared.id.SessionId.{SessionId}
+use Rattle.np_site.specs.Configuration.{Configuration}
+use Rattle.np_machine.specs.State.{State}
+use Rattle.np_changes.specs.declared.changes.Changes.{Changes}
+use Rattle.np_changes.specs.declared.changes.SessionsChange.TheVariants as sessions
+use Rattle.np_lookups.specs.Lookups.{AreLookupsOf}
+use Rattle.np_lookups.specs.Prepared.{PreparedOf as LookupsPrepared, IsPrepared as AreLookupsPrepared}
+use Rattle.np_classes.specs.Classes.{AreClasses}
+use Rattle.np_classes.specs.Prepared.{TouchedOf, IsPrepared as AreTouchedOf, HasRoom as HasRoomForTouched}
+use Rattle.np_open.specs.Open.{AreOpen}
+use Rattle.np_open.specs.Prepared.{IsPrepared as AreMovedOf, HasRoom as HasRoomForMoved}
+use Rattle.np_open.specs.declared.moves.Past.{Past}
+use Rattle.np_active.specs.Active.{AreActive, asker_of, HasRoom as HasRoomForActive}
+use Rattle.np_index.specs.Index.{IndexParts}
+
+-- what was found of each part (own)
+pub record PreparedOf : Type 0 where
+  -- the nodes and the requests that the changes touch, with their groups
+  pub touched : TouchedOf
+  -- these requests, with their records
+  pub moved : List Past
+  -- the job that asks for the request that is answered or removed
+  pub asker : Option JobId
+  -- the rest of the lookups' changes
+  pub lookups : LookupsPrepared
+
+-- there is room in each part for what the changes put
+pub record HasRoomFor (c : Configuration) (ch : Changes) (prepared : PreparedOf) (index : IndexParts) : Type 0 where
+  pub classes : HasRoomForTouched prepared.touched index.classes
+  pub requested : HasRoomForMoved c prepared.moved index.requested
+  pub active : HasRoomForActive c ch index.active
+
+-- each part but the lookups still says what the state says, and all that the changes touch is found. What
+-- grows is in the lookups already: where a session ends nothing grows
+pub record IsPreparedFor (c : Configuration) (s : State) (ch : Changes) (prepared : PreparedOf) (index : IndexParts) : Type 0 where
+  pub lookups : AreLookupsPrepared c s ch index.lookups prepared.lookups
+  pub ends : (session : SessionId) → ch.sessions ≡ sessions.End session → AreLookupsOf c s index.lookups
+  pub classes : AreClasses c s index.classes
+  pub touched : AreTouchedOf c s ch prepared.touched
+  pub requested : AreOpen c s index.requested
+  pub moved : AreMovedOf s ch prepared.moved
+  pub active : AreActive c s index.active
+  pub asker : prepared.asker ≡ asker_of ch.requests s
+  pub room : HasRoomFor c ch prepared index

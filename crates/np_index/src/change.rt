@@ -1,0 +1,121 @@
+//! What the changes of an event make of an index.
+
+ghost use Rattle.std.specs.Prelude.{◌≡◌, IfOk, OnErr};
+ghost use Rattle.np_text.specs.declared.id.SessionId.{SessionId};
+ghost use Rattle.np_site.specs.Configuration.{Configuration};
+ghost use Rattle.np_machine.specs.State.{State};
+ghost use Rattle.np_changes.specs.Changes.{changed};
+ghost use Rattle.np_changes.specs.Planned.{IsPlanned, IsReached};
+ghost use Rattle.np_changes.specs.declared.changes.SessionsChange.TheVariants as sessions;
+ghost use Rattle.np_fits.specs.Fits.{Fits};
+ghost use Rattle.np_index.specs.Index.{IsIndexOf};
+ghost use Rattle.np_index.specs.Prepared.{HasRoomFor, IsPreparedFor};
+
+use crate::index::Index;
+use np_changes::{Changes, SessionsChange};
+use np_classes::Touched;
+use np_look::Look;
+use np_open::Moved;
+use np_text::{JobId, SessionId};
+use std::alloc::{AllocError, Global};
+use std::marker::Model;
+
+/// What `Index::prepare` found, for `note` and `take_back`.
+#[derive(Drop)]
+pub struct Prepared {
+    touched: Touched,
+    moved: Moved,
+    asker: Option<JobId>,
+    lookups: np_lookups::Prepared,
+}
+
+impl Model for Prepared {
+    ghost use Rattle.np_index.specs.Prepared.{PreparedOf};
+
+    ghost Value = { PreparedOf };
+
+    ghost view = { λ prepared. record {
+      touched = prepared.touched;
+      moved = prepared.moved;
+      asker = prepared.asker;
+      lookups = prepared.lookups;
+    } };
+}
+
+/// The session that ends, or else 0, which is the number of no session. An index that is prepared
+/// for the changes still has the queues of a session that ends.
+pub fn ending(change: &SessionsChange) -> SessionId
+    ensures { (session : SessionId) → change.now ≡ sessions.End session → result ≡ session }
+{
+    match change {
+        SessionsChange::End { session } => *session,
+        SessionsChange::Same | SessionsChange::Mute { .. } => SessionId(0),
+    }
+}
+
+impl Index {
+    /// Before the state changes: takes the memory that `note` needs, lists what the changes touch,
+    /// and adds what they let grow to the lookups. If memory runs out, this is still the index of
+    /// the state. So it is if a session ends, since nothing grows then: until `note` its queues can
+    /// be read.
+    ///
+    /// It costs a few lookups for each node that the changes touch and for a request whose record
+    /// they change, for one that pools declined a scan of its declines for each of the 64 pools, and
+    /// two lookups for each request whose queue alone changes. A session that ends touches the nodes
+    /// and the requests in whose queues it is.
+    pub fn prepare<L: Look>(
+        &mut self,
+        alloc: Global,
+        look: &L,
+        changes: &Changes,
+    ) -> Result<Prepared, AllocError>
+        requires reached { IsReached (L.site look.now) (L.state look.now) }
+        requires fits { Fits (L.site look.now) (L.state look.now) }
+        requires planned { IsPlanned (L.site look.now) (L.state look.now) changes.now }
+        requires index { IsIndexOf (L.site look.now) (L.state look.now) self.old }
+        ensures ok { IfOk result (λ prepared.
+            IsPreparedFor (L.site look.now) (L.state look.now) changes.now prepared self.new) }
+        ensures err { OnErr result (IsIndexOf (L.site look.now) (L.state look.now) self.new) }
+    {
+        let session = ending(&changes.sessions);
+        let nodes = self.lookups.nodes_of(session);
+        let requests = self.lookups.requests_of(session);
+        let touched = self.classes.prepare(alloc, look, changes, nodes, requests)?;
+        let moved = self.requested.prepare(alloc, look, touched.requests())?;
+        let asker = self.active.prepare(look, changes)?;
+        let lookups = self.lookups.prepare(look, changes)?;
+        Ok(Prepared {
+            touched,
+            moved,
+            asker,
+            lookups,
+        })
+    }
+
+    /// Undoes `prepare`, since the state could not change. It costs a lookup in the list that grew.
+    pub fn take_back(&mut self, changes: &Changes, prepared: &Prepared)
+        ensures { (c : Configuration) (s : State)
+            → IsPreparedFor c s changes.now prepared.now self.old → IsIndexOf c s self.new }
+    {
+        self.lookups.take_back(changes, &prepared.lookups);
+    }
+
+    /// After the state has changed: makes the index that of the changed state. It takes no memory.
+    ///
+    /// It costs a few lookups and binary searches for each node and request that was listed, and for
+    /// each job, handle and session that the changes name. For a request whose record changed the
+    /// declines are read a few times for each pool.
+    pub fn note<L: Look>(&mut self, look: &L, changes: &Changes, prepared: &Prepared)
+        requires room { HasRoomFor (L.site look.now) changes.now prepared.now self.old }
+        ensures { (c : Configuration) (s : State) → IsReached c s → IsPlanned c s changes.now
+            → IsPreparedFor c s changes.now prepared.now self.old
+            → L.site look.now ≡ c → L.state look.now ≡ changed c changes.now s
+            → IsIndexOf c (changed c changes.now s) self.new }
+    {
+        self.lookups
+            .settle(look.config(), changes, &prepared.lookups);
+        self.classes.note(look, &prepared.touched);
+        self.requested.note(look, &prepared.moved);
+        self.active.note(look, changes, prepared.asker);
+    }
+}
