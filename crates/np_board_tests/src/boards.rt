@@ -2,6 +2,8 @@
 //! of its server, and on one that is withdrawn.
 
 ghost use Rattle.std.specs.Prelude.{◌≡◌, true, IfOk};
+ghost use Rattle.np_fits.specs.Fits.{Fits};
+ghost use Rattle.np_index.specs.Index.{IsIndexOf};
 ghost use Rattle.np_board.specs.Legal.{is_legal};
 
 use np_board::{Ask, Board, Turn};
@@ -10,7 +12,9 @@ use np_desk::{Alone, Turns};
 use np_event::{Done, Entry, Event, Outcome, Reply};
 use np_index::Index;
 use np_look::{Look, UnheldKind};
-use np_text::{JobId, LabelId, NoMemory, NodeId, PoolId, RequesterId, Role, SessionId};
+use np_text::{
+    JobId, LabelId, NoMemory, NodeId, PoolId, RequesterId, Role, SemId, SessionId, TenantId,
+};
 use std::alloc::{AllocGlobal, Global};
 use std::process::Abort;
 use std::test::Fail;
@@ -19,9 +23,9 @@ use std::test::Fail;
 const SITE: &str =
     r#"{"labels":[{"name":"a"}],"providers":[{"name":"c","pools":[{"name":"m","labels":[{"name":"a"}]}]}],"requesters":[{"name":"z","jobs":[{"name":"j","labels":["a"]}]}]}"#;
 
-// The same, with two jobs.
+// The same, with two jobs of a tenant that may have one node; the second wants a semaphore.
 const SITE_OF_TWO: &str =
-    r#"{"labels":[{"name":"a"}],"providers":[{"name":"c","pools":[{"name":"m","labels":[{"name":"a"}]}]}],"requesters":[{"name":"z","jobs":[{"name":"j","labels":["a"]},{"name":"k","labels":["a"]}]}]}"#;
+    r#"{"labels":[{"name":"a"}],"providers":[{"name":"c","pools":[{"name":"m","labels":[{"name":"a"}]}]}],"semaphores":[{"name":"x"}],"tenants":[{"name":"t","max-servers":1}],"requesters":[{"name":"z","jobs":[{"name":"j","labels":["a"],"tenant":"t"},{"name":"k","labels":["a"],"semaphores":["x"],"tenant":"t"}]}]}"#;
 
 const LAUNCHER: Role = Role::Launcher(PoolId(0));
 
@@ -95,10 +99,22 @@ fn have_equal_groups(one: &Index, other: &Index) -> bool {
     one.has_spare(pool, label) == other.has_spare(pool, label)
         && one.free_ready(pool, label, 0) == other.free_ready(pool, label, 0)
         && one.has_spent_min_ready(pool, label) == other.has_spent_min_ready(pool, label)
+        && one.pending_requests(pool) == other.pending_requests(pool)
         && one.pending_request_at(pool, 0) == other.pending_request_at(pool, 0)
+        && one.first_unheld_pending(pool) == other.first_unheld_pending(pool)
+        && one.has_request_under_way(pool) == other.has_request_under_way(pool)
         && one.first_due(pool, UnheldKind::Free) == other.first_due(pool, UnheldKind::Free)
         && one.first_due(pool, UnheldKind::Abandoned)
             == other.first_due(pool, UnheldKind::Abandoned)
+}
+
+// Both indexes have the same of the one semaphore, which the second job wants.
+fn have_equal_handles(one: &Index, other: &Index) -> bool {
+    let semaphore = SemId(0);
+    let job = JobId(1);
+    one.handles(semaphore) == other.handles(semaphore)
+        && one.handle_at(semaphore, 0) == other.handle_at(semaphore, 0)
+        && one.has_handle(semaphore, job) == other.has_handle(semaphore, job)
 }
 
 // Both indexes have the same of the one pool's sessions and nodes, and of the requester's jobs.
@@ -106,6 +122,7 @@ fn have_equal_members(one: &Index, other: &Index) -> bool {
     let pool = PoolId(0);
     let requester = RequesterId(0);
     let left_over = UnheldKind::LeftOver;
+    let hold = UnheldKind::Hold;
     one.new_job(requester, 0) == other.new_job(requester, 0)
         && one.active(requester, 0) == other.active(requester, 0)
         && one.owner(NodeId(0)) == other.owner(NodeId(0))
@@ -115,14 +132,63 @@ fn have_equal_members(one: &Index, other: &Index) -> bool {
         && one.has_live_session(requester) == other.has_live_session(requester)
         && one.first_mute() == other.first_mute()
         && one.first_due(pool, left_over) == other.first_due(pool, left_over)
+        && one.first_due(pool, hold) == other.first_due(pool, hold)
 }
 
-// The lists of the board's index are those of a new one.
+// Both indexes count the same for the one pool, the one label and the jobs' tenant.
+fn have_equal_counts(board: &Board, one: &Index, other: &Index) -> bool
+    requires fits { Fits board.now.configuration board.now.state }
+    requires one { IsIndexOf board.now.configuration board.now.state one.now }
+    requires other { IsIndexOf board.now.configuration board.now.state other.now }
+{
+    let pool = PoolId(0);
+    let label = LabelId(0);
+    let tenant = TenantId(1);
+    one.used(board, pool) == other.used(board, pool)
+        && one.used_by(board, tenant) == other.used_by(board, tenant)
+        && one.ready_count(board, label) == other.ready_count(board, label)
+        && one.is_paused(board, pool) == other.is_paused(board, pool)
+        && one.first_of(board, pool) == other.first_of(board, pool)
+        && one.candidate_at(board, pool, 1) == other.candidate_at(board, pool, 1)
+        && one.first_declined_by_all(board) == other.first_declined_by_all(board)
+}
+
+// Both indexes find the same tenant without room for the request at this place.
+fn have_equal_room(board: &Board, one: &Index, other: &Index, at: u32) -> bool
+    requires fits { Fits board.now.configuration board.now.state }
+    requires one { IsIndexOf board.now.configuration board.now.state one.now }
+    requires other { IsIndexOf board.now.configuration board.now.state other.now }
+{
+    let Some(request) = board.request_at(at) else {
+        return true;
+    };
+    let Some(asked) = board.asked(request) else {
+        return true;
+    };
+    let pool = PoolId(0);
+    one.blocking(board, pool, &asked) == other.blocking(board, pool, &asked)
+}
+
+// Both indexes have the same of all kinds.
+fn are_equal(board: &Board, one: &Index, other: &Index) -> bool
+    requires fits { Fits board.now.configuration board.now.state }
+    requires one { IsIndexOf board.now.configuration board.now.state one.now }
+    requires other { IsIndexOf board.now.configuration board.now.state other.now }
+{
+    have_equal_groups(one, other)
+        && have_equal_handles(one, other)
+        && have_equal_members(one, other)
+        && have_equal_counts(board, one, other)
+        && have_equal_room(board, one, other, 0)
+        && have_equal_room(board, one, other, 1)
+}
+
+// The board's index answers as a new one does.
 fn is_rebuilt(alloc: Global, board: &Board) -> Result<bool, NoMemory> {
     board.soundness();
     let made = Index::rebuild(alloc, board)?;
     let kept = board.index();
-    if !have_equal_groups(&made, kept) || !have_equal_members(&made, kept) {
+    if !are_equal(board, &made, kept) {
         return Ok(false);
     }
     for number in 0..16 {
@@ -316,7 +382,7 @@ fn act(board: &mut Board, role: Role) -> Result<bool, NoMemory> {
 // The roles act by turns, and the session of this number ends in the fourth round; after each act the
 // index is that of the state.
 fn live_on<R: AllocGlobal + Abort>(rt: &R, board: &mut Board, ends: u32) -> Result<(), Fail> {
-    for round in 0..24 {
+    for round in 0..40 {
         for role in [LAUNCHER, REQUESTER, JANITOR] {
             let did = act(board, role)?;
             assert!(rt; !did || is_rebuilt(rt.alloc(), board)?, "{round}");

@@ -116,6 +116,14 @@ impl Look for Board {
         self.index().pending_request_at(pool, at)
     }
 
+    fn first_unheld_pending(&self, pool: PoolId) -> Option<RequestId> {
+        self.index().first_unheld_pending(pool)
+    }
+
+    fn has_request_under_way(&self, pool: PoolId) -> bool {
+        self.index().has_request_under_way(pool)
+    }
+
     fn first_declined_by_all(&self) -> Option<RequestId> {
         self.index().first_declined_by_all(self.tree())
     }

@@ -117,6 +117,14 @@ impl<K: StateKeeper + Drop> Look for JournalKeeper<K> {
         self.keeper.pending_request_at(pool, at)
     }
 
+    fn first_unheld_pending(&self, pool: PoolId) -> Option<RequestId> {
+        self.keeper.first_unheld_pending(pool)
+    }
+
+    fn has_request_under_way(&self, pool: PoolId) -> bool {
+        self.keeper.has_request_under_way(pool)
+    }
+
     fn first_declined_by_all(&self) -> Option<RequestId> {
         self.keeper.first_declined_by_all()
     }

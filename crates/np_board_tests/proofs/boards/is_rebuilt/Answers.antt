@@ -6,3 +6,6 @@ rebuild-requires-clause-reached c = record { journal = c.args.board.now.journal;
 
 pub rebuild-requires-clause-fits : goal.rebuild-requires-clause-fits
 rebuild-requires-clause-fits c = Fits-Runs _ _ _ c.soundness.ensures.site c.soundness.ensures.runs
+
+pub are_equal-requires-clause-fits : goal.are_equal-requires-clause-fits
+are_equal-requires-clause-fits c = Fits-Runs _ _ _ c.soundness.ensures.site c.soundness.ensures.runs
