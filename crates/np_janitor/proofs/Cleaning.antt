@@ -3,6 +3,7 @@ use Rattle.std.proofs.Common.{◌≡◌, ◌∙◌, ◌≤◌, ℕ, zero, suc, B
 use Rattle.std.specs.Prelude.{◌==◌, ◌&&◌, ◌||◌, filter, if◌then◌else◌, is_none, is_some}
 use Rattle.std.specs.Option.{option_map, option_map_or}
 use Rattle.std.specs.List.{AllByRecursion}
+use Rattle.std.proofs.lemmas.Bool.{and_from, and_parts, or_left, or_right}
 use Rattle.std.proofs.lemmas.Bool.Decides.{nat_tests}
 use Rattle.np_text.specs.declared.id.NodeId.{NodeId}
 use Rattle.np_text.specs.declared.id.PoolId.{PoolId}
@@ -32,23 +33,6 @@ use Rattle.np_janitor.proofs.Soonest.{due-first}
 or-cases : {P : Type 0} (t u : Bool) → (t || u) ≡ true → (t ≡ true → P) → (u ≡ true → P) → P
 or-cases true u is one other = one refl
 or-cases false u is one other = other is
-
-or-one : (t u : Bool) → t ≡ true → (t || u) ≡ true
-or-one true u is = refl
-or-one false u is = absurd cc
-
-or-other : (t u : Bool) → u ≡ true → (t || u) ≡ true
-or-other true u is = refl
-or-other false u is = is
-
-pub and-both : (t u : Bool) → t ≡ true → u ≡ true → (t && u) ≡ true
-and-both true u is other = other
-and-both false u is other = absurd cc
-
-pub and-parts : (t u : Bool) → (t && u) ≡ true → (t ≡ true) × (u ≡ true)
-and-parts true true is = (refl, refl)
-and-parts true false is = absurd cc
-and-parts false u is = absurd cc
 
 -- ## past an age, and the tick from which on
 
@@ -147,8 +131,8 @@ module _ (c : Configuration) (s : State) where
   ripe-still : s.tick ≤ most → (kind : UnheldKind) (k other : NodeRecord) → due_of c kind other ≤ due_of c kind k → other.pool ≡ k.pool → is_ripe kind k ≡ true → is_ripe kind other ≡ true
   ripe-still low unheld.Free k other no_later pool is =
       or-cases (is_old_ready c s k) (is_paused c s k.pool) is
-      (λ old. or-one (is_old_ready c s other) (is_paused c s other.pool) (past-still (ready_age c k.label) k.since (ready_age c other.label) other.since s.tick low no_later old))
-      (λ paused. or-other (is_old_ready c s other) (is_paused c s other.pool) (ap (is_paused c s) pool ∙ paused))
+      (λ old. or_left (is_old_ready c s other) (is_paused c s other.pool) (past-still (ready_age c k.label) k.since (ready_age c other.label) other.since s.tick low no_later old))
+      (λ paused. or_right (is_old_ready c s other) (is_paused c s other.pool) (ap (is_paused c s) pool ∙ paused))
   ripe-still low unheld.LeftOver k other no_later pool is = refl
   ripe-still low unheld.Hold k other no_later pool is = past-still c.max_hold_age k.since c.max_hold_age other.since s.tick low no_later is
   ripe-still low unheld.Abandoned k other no_later pool is = refl
@@ -178,12 +162,12 @@ module _ (c : Configuration) (s : State) where
     of_kind kind e = option_map_or (same_kind kind) (unheld_kind (is_unclaimed s e.kept) e.kept) false
 
     pool-of : (e : NodeEntry) → is_unheld p e ≡ true → e.kept.pool ≡ p
-    pool-of e free = same_pool e.kept.pool p (and-parts (e.kept.pool.0 == p.0) (is_none (holder e.queue)) free).0
+    pool-of e free = same_pool e.kept.pool p (and_parts (e.kept.pool.0 == p.0) (is_none (holder e.queue)) free).0
 
     module _ (low : s.tick ≤ most) where
       row-cleans : (kind : UnheldKind) (n : NodeId) (e row : NodeEntry) → unheld_kind (is_unclaimed s e.kept) e.kept ≡ Some kind → IsToClean n e → IsRow kind row → due_of c kind row.kept ≤ due_of c kind e.kept → IsToClean row.id row
       row-cleans kind n e row kind_is to_clean is no_later =
-          let parts = and-parts (is_unheld p row) (of_kind kind row) is.passes in
+          let parts = and_parts (is_unheld p row) (of_kind kind row) is.passes in
           let ripe : is_ripe kind e.kept ≡ true = sym (ripe-as e.kept kind e.kept.state kind_is) ∙ to_clean.clean in
           let also : unheld_kind (is_unclaimed s row.kept) row.kept ≡ Some kind = kind-of kind (unheld_kind (is_unclaimed s row.kept) row.kept) parts.1 in
           record {
@@ -195,7 +179,7 @@ module _ (c : Configuration) (s : State) where
       module _ (reached : IsReached c s) where
         first-of : (kind : UnheldKind) (n : NodeId) (e : NodeEntry) → unheld_kind (is_unclaimed s e.kept) e.kept ≡ Some kind → IsToClean n e → IsFirstToClean
         first-of kind n e kind_is to_clean =
-            let passes : is_unheld_as s p kind e ≡ true = and-both (is_unheld p e) (of_kind kind e) to_clean.free (ap (λ (o : Option UnheldKind). option_map_or (same_kind kind) o false) kind_is ∙ kind-self kind) in
+            let passes : is_unheld_as s p kind e ≡ true = and_from (is_unheld p e) (of_kind kind e) to_clean.free (ap (λ (o : Option UnheldKind). option_map_or (same_kind kind) o false) kind_is ∙ kind-self kind) in
             let rows : AllByRecursion (IsRow kind) (filter (is_unheld_as s p kind) s.nodes) =
             all-filter_to (λ (x : NodeEntry). node_entry x.id s.nodes ≡ Some x) (IsRow kind) (is_unheld_as s p kind) s.nodes (λ x is there. record { there = there; passes = is }) (each-node c s reached) in
             let first = due-first c kind (IsRow kind) (is_unheld_as s p kind) (λ x. x.id.0 == n.0) s.nodes e rows to_clean.there passes in

@@ -1,8 +1,8 @@
 -- if the jobs of the requesters that stopped were tried, no finish is useful
 use Rattle.std.proofs.Common.{◌≡◌, ◌<◌, ◌≤◌, ℕ, length, refl, subst, arith, Option, Some, None, true, false}
-use Rattle.std.specs.Prelude.{is_some, slice_get, get_or, ◌==◌, ◌&&◌, ◌||◌}
+use Rattle.std.specs.Prelude.{is_some, slice_get, get_or, ◌&&◌, ◌||◌}
 use Rattle.std.specs.Option.{option_map_or}
-use Rattle.std.proofs.lemmas.Bool.Decides.{nat_tests}
+use Rattle.std.proofs.lemmas.Bool.{eq-eqb}
 use Rattle.std.proofs.lemmas.List.Elements.{All-get_or}
 use Rattle.std.proofs.lemmas.Option.{slice_get_within, get_or_from_slice_get}
 use Rattle.np_text.specs.declared.limit.TheConstants.{REQUESTERS}
@@ -34,9 +34,6 @@ use Rattle.np_roles.proofs.Searches.{useful-passes}
 use Rattle.np_roles.proofs.Among.{among, finish-active}
 use Rattle.np_janitor.specs.Finishes.{NoneFinishes, ChoosesFinish}
 
-own_number : (n : ℕ) → (n == n) ≡ true
-own_number n = grind (arith, nat_tests)
-
 module _ (c : Configuration) (s : State) (p : PoolId) (session : SessionId) where
   -- the job exists, and its requester stopped
   record IsAlone (j : JobId) : Type 0 where
@@ -52,7 +49,7 @@ module _ (c : Configuration) (s : State) (p : PoolId) (session : SessionId) wher
   is_alone j is = alone-by j (slice_get c.jobs j.0) refl is
 
   is_active : (j : JobId) (job : Job) (kept : JobRecord) → slice_get c.jobs j.0 ≡ Some job → (is_using kept.phase || (is_asked kept.phase && option_map_or is_answered (request_state_of kept.request s) false)) ≡ true → is_active_job c s job.requester j kept ≡ true
-  is_active j job kept row active = rw (row, own_number job.requester.0, active) refl
+  is_active j job kept row active = rw (row, eq-eqb job.requester.0 job.requester.0 refl, active) refl
 
   few : (sound : IsSound c) (j : JobId) (job : Job) → slice_get c.jobs j.0 ≡ Some job → job.requester.0 < REQUESTERS
   few sound j job row =

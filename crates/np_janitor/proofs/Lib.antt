@@ -1,9 +1,12 @@
 pub mod Janitors
 pub mod Found
+pub mod Makers
 pub mod Soonest
 pub mod Cleaning
-pub mod Lists
+pub mod NodeLocks
+pub mod Deciding
 pub mod FailLemmas
+pub mod RequestLocks
 pub mod Strikes
 pub mod FinishLemmas
 pub mod Pools

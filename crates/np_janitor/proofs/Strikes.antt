@@ -1,7 +1,8 @@
 -- what the planned faults do now, and that the reaper has nothing else to do
-use Rattle.std.proofs.Common.{◌≡◌, ◌∙◌, ◌<◌, ◌+◌, ◌-◌, ℕ, zero, suc, Bool, true, false, List, [], ◌∷◌, Option, Some, None, Ok, refl, sym, ap, subst, arith}
+use Rattle.std.proofs.Common.{◌≡◌, ◌∙◌, ◌+◌, ◌-◌, ℕ, zero, suc, Bool, true, false, List, [], ◌∷◌, Option, Some, None, Ok, refl, sym, ap, subst, arith}
 use Rattle.std.specs.Prelude.{◌==◌, ◌&&◌, ◌||◌, if◌then◌else◌, filter, is_some, not, option_and_then, slice_get}
 use Rattle.std.specs.Option.{option_map, option_map_or}
+use Rattle.std.proofs.lemmas.Bool.{and_parts, and_right, or_left, or_right}
 use Rattle.std.proofs.lemmas.Bool.Decides.{nat_tests}
 use Rattle.np_text.specs.declared.id.SessionId.{SessionId}
 use Rattle.np_text.specs.declared.id.Role.{Role}
@@ -24,23 +25,11 @@ use Rattle.np_useful.specs.Reaper.{is_mute}
 use Rattle.np_useful.specs.Sessions.{is_current, has_current, strikes_of, next_fault, is_due, has_due, is_expire, is_struck_by}
 use Rattle.np_useful.specs.Useful.{IsUseful}
 use Rattle.np_roles.specs.Choices.{Chooses, NamesCurrent}
-use Rattle.np_roles.proofs.Currents.{current-speaks, current-has, current-names, session-at}
+use Rattle.np_roles.proofs.Currents.{current-has, current-names, session-at}
 use Rattle.np_roles.proofs.Openings.{same-role}
 use Rattle.np_roles.proofs.Places.{StandsIn}
 use Rattle.np_janitor.specs.Struck.{due_kind, strike_on, strike_of, strike_by, ChoosesStrike}
-
-and-parts : (t u : Bool) → (t && u) ≡ true → (t ≡ true) × (u ≡ true)
-and-parts true true is = (refl, refl)
-and-parts true false is = absurd cc
-and-parts false u is = absurd cc
-
-or-first : (a b : Bool) → a ≡ true → (a || b) ≡ true
-or-first true b is = refl
-or-first false b is = absurd cc
-
-or-last : (a b : Bool) → b ≡ true → (a || b) ≡ true
-or-last true b is = refl
-or-last false b is = is
+use Rattle.np_janitor.proofs.Makers.{IsOf, is-of}
 
 -- ## whether a fault of such a kind is due
 
@@ -48,17 +37,13 @@ and-true : (b : Bool) → (b && true) ≡ b
 and-true true = refl
 and-true false = refl
 
-and-false : (b : Bool) → (b && false) ≡ false
-and-false true = refl
-and-false false = refl
-
 module _ (such : FaultKind → Bool) (c : Configuration) (s : State) where
   due-by : (o : Option Fault) (due : Fault → Bool) → option_map_or (λ f. such f.kind && due f) o false ≡ option_map_or such (option_and_then (λ f. if due f then Some f.kind else None) o) false
   due-by None due = refl
   due-by (Some f) due = by (due f) where
     by : (u : Bool) → (such f.kind && u) ≡ option_map_or such (if u then Some f.kind else None) false
     by true = and-true (such f.kind)
-    by false = and-false (such f.kind)
+    by false = and_right (such f.kind) false refl
 
   due-such : (role : Role) → has_due such c role s ≡ option_map_or such (due_kind c role s) false
   due-such role = due-by (next_fault c role s) (is_due role s)
@@ -66,31 +51,7 @@ module _ (such : FaultKind → Bool) (c : Configuration) (s : State) where
 -- ## a strike is useful
 
 module _ (c : Configuration) (s : State) where
-  later : (n : ℕ) → 0 < n → (n == 0) ≡ false
-  later n is = grind (arith, nat_tests)
-
-  -- a session that is live and not mute, and of the role
-  record IsOf (role : Role) (session : SessionId) : Type 0 where
-    facts : SessionFacts
-    known : session_of session s ≡ Some facts
-    same : facts.role ≡ role
-    live : facts.live ≡ true
-    speaks : not facts.mute ≡ true
-
-  is-of : (role : Role) (session : SessionId) → is_current role session s ≡ true → IsOf role session
-  is-of role session current =
-      let who = current-speaks role s session current in
-      let parts = and-parts (same_role who.facts.role role && who.facts.live) (not who.facts.mute) who.speaks in
-      let first = and-parts (same_role who.facts.role role) who.facts.live parts.0 in
-      record {
-        facts = who.facts;
-        known = rw (later session.0 who.begun) who.there;
-        same = same-role who.facts.role role first.0;
-        live = first.1;
-        speaks = parts.1;
-      }
-
-  module _ (role : Role) (session : SessionId) (current : is_current role session s ≡ true) (who : IsOf role session) where
+  module _ (role : Role) (session : SessionId) (current : is_current role session s ≡ true) (who : IsOf s role session) where
     struck-by : (such : FaultKind → Bool) (o : Option SessionFacts) → o ≡ Some who.facts → has_due such c role s ≡ true → option_map_or (λ facts. is_current facts.role session s && has_due such c facts.role s) o false ≡ true
     struck-by such o known due = rw known (rw who.same (rw (current, due) refl))
 
@@ -101,7 +62,7 @@ module _ (c : Configuration) (s : State) where
     expires due = record {
       accepted = rw (who.known, who.live) refl;
       maker = refl;
-      row = or-last (is_mute session s) (is_struck_by is_expire c s session) (struck is_expire due);
+      row = or_right (is_mute session s) (is_struck_by is_expire c s session) (struck is_expire due);
     }
 
     crashes : has_due (λ kind. not (is_expire kind)) c role s ≡ true → IsUseful c s Reaper (ev.Crash session)
@@ -128,7 +89,7 @@ module _ (c : Configuration) (s : State) where
   strike-by role e (Some kind) (Some session) due names is =
       let same : strike_on kind session ≡ e = cc in
       let current = current-is role session names in
-      subst (λ (x : Event). IsUseful c s Reaper x) same (on-useful role session current (is-of role session current) kind due)
+      subst (λ (x : Event). IsUseful c s Reaper x) same (on-useful role session current (is-of s role session current) kind due)
 
   -- what the role's next fault does is useful
   pub strike-useful : (role : Role) (e : Event) → strike_of c s role ≡ Some e → IsUseful c s Reaper e
@@ -202,7 +163,7 @@ module _ (c : Configuration) (s : State) (none : (role : Role) → strike_of c s
   unstruck-by : (such : FaultKind → Bool) (session : SessionId) (o : Option SessionFacts) → option_map_or (λ facts. is_current facts.role session s && has_due such c facts.role s) o false ≡ true → ⊥
   unstruck-by such session None is = absurd cc
   unstruck-by such session (Some facts) is =
-      let parts = and-parts (is_current facts.role session s) (has_due such c facts.role s) is in
+      let parts = and_parts (is_current facts.role session s) (has_due such c facts.role s) is in
       no-due such facts.role session parts.0 (due_kind c facts.role s) refl (sym (due-such such c s facts.role) ∙ parts.1)
 
   unstruck : (such : FaultKind → Bool) (session : SessionId) → is_struck_by such c s session ≡ true → ⊥
@@ -252,11 +213,11 @@ module _ (c : Configuration) (s : State) where
       let begun : (session.0 == 0) ≡ false = grind (arith, nat_tests, found.named) in
       let at : session.0 - 1 ≡ found.at = omega (arith, found.named) in
       let known : session_of session s ≡ Some found.facts = rw (begun, at) found.there in
-      let parts = and-parts found.facts.live found.facts.mute found.mute in
+      let parts = and_parts found.facts.live found.facts.mute found.mute in
       record {
         accepted = rw (known, parts.0) refl;
         maker = refl;
-        row = or-first (is_mute session s) (is_struck_by is_expire c s session) (rw known parts.1);
+        row = or_left (is_mute session s) (is_struck_by is_expire c s session) (rw known parts.1);
       }
 
   -- ## the choice

@@ -1,9 +1,10 @@
 -- in a state that a run reaches, each request that has not failed has a pool of the configuration
 -- left that has not declined it
 use Rattle.std.proofs.Common.{◌≡◌, ◌∙◌, ◌<◌, ◌≤◌, ◌⊎◌, inl, inr, sym, ap, ℕ, List, [], ◌∷◌, length, refl, arith, subst, Option, Some, None, Ok, Bool, true, false, cond, eqb-true, true≢false}
-use Rattle.std.specs.Prelude.{◌==◌, ◌-◌, ◌&&◌, ◌||◌, if◌then◌else◌, find, is_ok, is_some, nat_lt, slice_get}
+use Rattle.std.specs.Prelude.{◌==◌, ◌-◌, ◌||◌, if◌then◌else◌, find, is_ok, is_some, nat_lt, slice_get}
 use Rattle.std.specs.Option.{option_map}
 use Rattle.std.specs.List.{AllByRecursion}
+use Rattle.std.proofs.lemmas.Bool.{and_parts, or_parts}
 use Rattle.std.proofs.lemmas.Bool.Decides.{nat_tests}
 use Rattle.std.proofs.lemmas.List.Folds.{list_any-append}
 use Rattle.std.proofs.lemmas.Option.{same_Some, slice_get_within}
@@ -144,14 +145,6 @@ goes-on : (b : Bool) → is_failed (if b then request_state.Failed else request_
 goes-on true alive = absurd cc
 goes-on false alive = refl
 
-neither : (t u : Bool) → (t || u) ≡ false → (t ≡ false) × (u ≡ false)
-neither true u is = absurd cc
-neither false u is = (refl, is)
-
-left-part : (t u : Bool) → (t && u) ≡ true → t ≡ true
-left-part true u is = refl
-left-part false u is = absurd cc
-
 -- the pool is not the one that declines
 undeclined-still : (p l : PoolId) (why : Reason) (request : RequestRecord) → is_declined_by l request.declined ≡ false → (p.0 == l.0) ≡ false → is_declined_by l (declined_with request p why) ≡ false
 undeclined-still p l why request before other =
@@ -170,10 +163,10 @@ module _ (c : Configuration) (s : State) (ch : Changes) (given : Premises c s ch
   declined-open : (r : RequestId) (q : RequestRecord) (p : PoolId) (why : Reason) (failed : Bool) → request_in r s.requests ≡ Some q → MayDecline c s ch r p why failed → failed ≡ false → HasPoolLeft c (edited (edit.Decline p why failed) q)
   declined-open r q p why failed stood premise alive =
       let same : premise.request ≡ q = same_Some premise.request q (sym premise.worked_on.stands ∙ stood) in
-      let others : is_last_pool s.registrations premise.request p ≡ false = (neither (is_some premise.request.pinned) (is_last_pool s.registrations premise.request p) (sym premise.fails ∙ alive)).1 in
+      let others : is_last_pool s.registrations premise.request p ≡ false = (or_parts (is_some premise.request.pinned) (is_last_pool s.registrations premise.request p) (sym premise.fails ∙ alive)).1 in
       let last : is_last_pool s.registrations q p ≡ false = subst (λ (x : RequestRecord). is_last_pool s.registrations x p ≡ false) same others in
       let found = some-fails (λ (g : Registration). g.pool.0 < length c.pools) (λ g. is_declined_by g.pool q.declined || (p.0 == g.pool.0)) s.registrations (pools-of_site c s kept) last in
-      let parts = neither (is_declined_by found.0.pool q.declined) (p.0 == found.0.pool.0) found.1.1 in
+      let parts = or_parts (is_declined_by found.0.pool q.declined) (p.0 == found.0.pool.0) found.1.1 in
       record { pool = found.0.pool; of_site = found.1.0; undeclined = undeclined-still p found.0.pool why q parts.0 parts.1 }
 
   edit-open : (r : RequestId) (q : RequestRecord) (how : RequestEdit) → request_in r s.requests ≡ Some q → EditPremise c s ch r how → IsUndeclined c q → IsUndeclined c (edited how q)
@@ -186,7 +179,7 @@ module _ (c : Configuration) (s : State) (ch : Changes) (given : Premises c s ch
   edit-open r q edit.Fulfil stood premise old = λ some alive.
       let fulfils = premise.0 in
       let same : fulfils.request ≡ q = same_Some fulfils.request q (sym fulfils.worked_on.stands ∙ stood) in
-      let pending : is_pending fulfils.request.state ≡ true = left-part (is_pending fulfils.request.state) (is_pool fulfils.pool fulfils.request.pool) fulfils.pending in
+      let pending : is_pending fulfils.request.state ≡ true = (and_parts (is_pending fulfils.request.state) (is_pool fulfils.pool fulfils.request.pool) fulfils.pending).0 in
       let left = old some (pending-open q.state (subst (λ (x : RequestRecord). is_pending x.state ≡ true) same pending)) in
       record { pool = left.pool; of_site = left.of_site; undeclined = left.undeclined }
   edit-open r q edit.GiveBack stood premise old = λ some alive.

@@ -1,4 +1,4 @@
--- which requests and nodes a janitor tries, by place
+-- which nodes a janitor tries, by place
 use Rattle.std.specs.Prelude.{ℕ, Bool, List, [], ◌∷◌, Option, length, nat_lt, option_and_then, slice_get}
 use Rattle.std.specs.Option.{option_map}
 use Rattle.np_text.specs.declared.id.NodeId.{NodeId}
@@ -8,13 +8,9 @@ use Rattle.np_site.specs.Configuration.{Configuration}
 use Rattle.np_event.specs.declared.event.Event.{Event}
 use Rattle.np_event.specs.declared.event.Event.TheVariants as ev
 use Rattle.np_machine.specs.State.{State}
-use Rattle.np_look.specs.Readers.{pending_requests, first_due}
+use Rattle.np_look.specs.Readers.{first_due}
 use Rattle.np_look.specs.declared.asked.UnheldKind.{UnheldKind}
 use Rattle.np_look.specs.declared.asked.UnheldKind.TheVariants as kind
-
--- the session's lock of the request at the place among those that are pending by the pool
-abbrev pub lock_pending_at : State → SessionId → PoolId → ℕ → Option Event
-lock_pending_at s session p at = option_map (λ r. ev.LockRequest session r) (slice_get (pending_requests p s) at)
 
 -- the kinds of nodes that nobody holds, in the order in which they are tried
 abbrev pub tried_kinds : List UnheldKind

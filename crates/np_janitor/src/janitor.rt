@@ -22,7 +22,7 @@ ghost use Rattle.np_janitor.specs.Order.{janitor_order};
 ghost use Rattle.np_janitor.specs.Finishes.{ChoosesFinish};
 
 use crate::cleanable::{PoolPause, is_cleanable};
-use crate::listed::{LocksOfDue, LocksOfPending};
+use crate::listed::LocksOfDue;
 use np_event::Event;
 use np_look::{Look, is_same_role};
 use np_roles::{
@@ -254,9 +254,12 @@ fn first_fail<L: Look>(look: &L, rows: &JanitorRows, session: SessionId) -> Opti
     }
 }
 
-/// The first useful lock of a request, by priority and then sequence, or `None` if and only if
-/// there is none. It tests the requests that are pending by the pool.
+/// A useful lock of a request, or `None` if and only if there is none. It looks up and tests one
+/// request, however many are pending by the pool: the first, by priority and then sequence, that
+/// nobody holds. The machine lets a janitor lock a pending request if and only if nobody holds it,
+/// so that if any lock is useful, this one is.
 fn first_request_lock<L: Look>(look: &L, rows: &JanitorRows, session: SessionId) -> Option<Event>
+    requires reached { IsReached (L.site look.now) (L.state look.now) }
     requires fits { Fits (L.site look.now) (L.state look.now) }
     requires known { rows.now.known.paused ≡
         is_paused (L.site look.now) (L.state look.now) rows.now.known.pool }
@@ -264,8 +267,13 @@ fn first_request_lock<L: Look>(look: &L, rows: &JanitorRows, session: SessionId)
     ensures { ChoosesOf (L.site look.now) (L.state look.now) (Janitor rows.now.known.pool)
         (Request of_request.Lock) result }
 {
-    let pool = rows.known.pool;
-    first_that_passes(look, rows, &LocksOfPending { session, pool })
+    let request = look.first_unheld_pending(rows.known.pool)?;
+    let lock = Event::LockRequest { session, request };
+    if passes(look, rows, lock) {
+        Some(lock)
+    } else {
+        None
+    }
 }
 
 /// A useful lock of a node, or `None` if and only if there is none. It looks up and tests four nodes
@@ -286,13 +294,13 @@ fn first_node_lock<L: Look>(look: &L, rows: &JanitorRows, session: SessionId) ->
 
 /// A useful event of the pool's janitor, the first in the order of the crate's table, or `None` if
 /// and only if there is none, in a state that a run reaches. Its cost grows with what its session
-/// queues for, with the requests that are pending by the pool, with the active jobs of the
-/// requesters that stopped for good, and with the handles that jobs have: each of these is found by
-/// a lookup if the state keeps an index, and so is the janitor's session. Lock-node costs four
-/// lookups, however many nodes the pool has: of those that nobody holds the one that is due first,
-/// by kind, abandoned, left over, on hold and free. Fail-declined costs one lookup, of the first
-/// request that every registered pool declined, only while a pool of the configuration has no
-/// registration.
+/// queues for, with the active jobs of the requesters that stopped for good, and with the handles
+/// that jobs have: each of these is found by a lookup if the state keeps an index, and so is the
+/// janitor's session. Lock-request costs one lookup, however many requests are pending by the pool.
+/// Lock-node costs a few lookups for each of four kinds, however many nodes the pool has: of those
+/// that nobody holds it looks up the one that is due first, by kind, abandoned, left over, on hold
+/// and free. Fail-declined costs a few lookups for each different set of pools that declined a
+/// request, and only while a pool of the configuration has no registration.
 pub fn choose_janitor<L: Look>(look: &L, pool: PoolId) -> Option<Event>
     requires reached { IsReached (L.site look.now) (L.state look.now) }
     requires fits { Fits (L.site look.now) (L.state look.now) }

@@ -32,22 +32,26 @@
 //! - while a pool of the configuration has no registration, the first request that is requested and
 //!   that every registered pool declined, for fail-declined: once each pool has its registration,
 //!   each request that is requested has a registered pool left that has not declined it,
-//! - the active jobs of each requester that stopped for good, which use their nodes or whose request
-//!   is fulfilled or failed, for finish,
+//! - the active jobs of each requester that stopped for good, which use their nodes or whose
+//!   request is fulfilled or failed, for finish,
 //! - the jobs that have a handle, semaphore by semaphore, for release,
-//! - the requests that are pending by the pool, for lock-request, and
+//! - for lock-request the first request that is pending by the pool and that nobody holds: the
+//!   machine lets a janitor lock only a request that nobody holds, and
 //! - for lock-node four nodes at most: of the pool's nodes that nobody holds the one that is due
 //!   first, by kind, first of the abandoned (building, in use, used, deleting or failed), then of
 //!   the ready ones whose request is gone, of those on hold, and of the free ones. If that one need
 //!   not be cleaned up, no other of its kind need be.
 //!
-//! Each of these is a reader of `Look`, and so is its session: if the state keeps an index, the
-//! reader is a lookup, and the choice costs nothing for the other requests, nodes, jobs and
-//! sessions. So its cost grows with the lengths of these lists, and with the limit of requesters
-//! and the configuration's faults and semaphores. Lock-node costs four lookups, however many nodes
-//! the pool has, and fail-declined one, only while a pool of the configuration has no registration.
-//! A test of a node determines whether another pool is paused only if the janitor waits at a node
-//! of that pool.
+//! Each of these is a reader of `Look`, and so is its session. If the state keeps an index, the
+//! reader is a lookup, or a few as said below, and the choice costs nothing for the other requests,
+//! nodes, jobs and sessions. So its cost grows with what the session queues for, with the active
+//! jobs of the requesters that stopped for good, with the handles that jobs have, and with the
+//! limit of requesters and the configuration's faults and semaphores. Lock-request costs one
+//! lookup, however many requests are pending by the pool. Lock-node costs a few lookups for each of
+//! four kinds, however many nodes the pool has. Fail-declined costs a few for each different set of
+//! pools that declined a request, and only while a pool of the configuration has no registration. A
+//! test of a node determines whether another pool is paused only if the janitor waits at a node of
+//! that pool.
 //!
 //! The oldest mute session and the current session of a role are such readers, too. So the cost of
 //! the reaper's choice grows with the configuration's faults and not with the sessions: a fault for

@@ -1,41 +1,12 @@
-//! What a janitor takes up as candidates: the requests that are pending by its pool, and of each
-//! kind of nodes the one that is due first.
+//! What a janitor takes up as candidates: of each kind of nodes the one that is due first.
 
 ghost use Rattle.std.specs.Prelude.{◌≡◌, length, slice_get};
-ghost use Rattle.np_look.specs.Readers.{pending_requests};
-ghost use Rattle.np_janitor.specs.Candidates.{tried_kinds, lock_pending_at, lock_due_at};
+ghost use Rattle.np_janitor.specs.Candidates.{tried_kinds, lock_due_at};
 
 use np_event::Event;
 use np_look::{Look, UnheldKind};
 use np_roles::Candidates;
 use np_text::{PoolId, SessionId};
-
-/// The session's locks of the requests that are pending by the pool, by priority and then sequence.
-#[derive(Clone, Copy)]
-pub(crate) struct LocksOfPending {
-    pub(crate) session: SessionId,
-    pub(crate) pool: PoolId,
-}
-
-impl Candidates for LocksOfPending {
-    ghost places = { λ of c s. length (pending_requests of.pool s) };
-
-    ghost candidate = { λ of c s at. lock_pending_at s of.session of.pool at };
-
-    fn places<L: Look>(&self, look: &L) -> u32 {
-        look.pending_requests(self.pool)
-    }
-
-    fn candidate<L: Look>(&self, look: &L, at: u32) -> Option<Event> {
-        match look.pending_request_at(self.pool, at) {
-            None => None,
-            Some(request) => Some(Event::LockRequest {
-                session: self.session,
-                request,
-            }),
-        }
-    }
-}
 
 /// The kinds of nodes that nobody holds, in the order in which they are tried.
 const TRIED: [UnheldKind; 4] = [

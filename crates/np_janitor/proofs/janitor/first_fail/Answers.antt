@@ -12,7 +12,7 @@ returns-then-not-lacks_registration g c =
 
 pub returns-in_default : goal.returns-in_default
 returns-in_default g c =
-    no-first (g.L.Look.site c.args.look.now) (g.L.Look.state c.args.look.now) c.args.session c.requires.reached c.args.rows.now.known.pool c.requires.current
+    no-first (g.L.Look.site c.args.look.now) (g.L.Look.state c.args.look.now) c.args.session c.args.rows.now.known.pool c.requires.current c.requires.reached
     (sym c.in_default.ensures)
 
 pub returns-then-passes : goal.returns-then-passes
@@ -22,5 +22,5 @@ returns-then-passes g c =
 
 pub returns-else-passes : goal.returns-else-passes
 returns-else-passes g c =
-    first-refused (g.L.Look.site c.args.look.now) (g.L.Look.state c.args.look.now) c.args.session c.requires.reached c.args.rows.now.known.pool c.requires.current
+    first-refused (g.L.Look.site c.args.look.now) (g.L.Look.state c.args.look.now) c.args.session c.args.rows.now.known.pool c.requires.current c.requires.reached
     c.in-Some.request (sym c.in-Some.ensures) (sym c.if-passes.ensures)
