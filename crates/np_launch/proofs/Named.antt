@@ -1,5 +1,5 @@
--- a request in hand is one of those in whose queues the session is, and one under way is one of those
--- that are pending by the pool
+-- a request in hand is one of those in whose queues the session is, and one whose nodes are to be
+-- launched is one of those that are pending by the pool
 use Rattle.std.proofs.Common.{◌≡◌, ℕ, Bool, true, Some, refl}
 use Rattle.std.specs.Prelude.{◌&&◌, not, slice_get}
 use Rattle.std.specs.List.{list_any}
@@ -17,11 +17,11 @@ use Rattle.np_machine.specs.Tables.{request_entry, is_queued, is_session_of, hol
 use Rattle.np_changes.specs.Planned.{IsReached}
 use Rattle.np_safe.proofs.Runs.{invariant-Runs}
 use Rattle.np_look.specs.Readers.{queued_requests, pending_requests}
-use Rattle.np_useful.specs.Launcher.{is_in_hand, is_under_way, is_to_launch}
-use Rattle.np_useful.specs.Rows.{is_listed, is_complete, has_failed_node}
+use Rattle.np_useful.specs.Launcher.{is_in_hand, is_to_launch}
+use Rattle.np_useful.specs.Rows.{is_listed, has_failed_node}
 use Rattle.np_roles.proofs.Queues.{holder-queued}
 use Rattle.np_launch.specs.Hands.{is_in_hand_at}
-use Rattle.np_launch.specs.Pending.{lists_unfailed, is_incomplete}
+use Rattle.np_launch.specs.Pending.{lists_unfailed}
 use Rattle.np_launch.proofs.Allocated.{entry-there}
 use Rattle.np_launch.proofs.Finds.{any-named}
 
@@ -46,26 +46,17 @@ module _ (c : Configuration) (s : State) (reached : IsReached c s) where
 
   -- ## pending by the pool
 
-  module _ (p : PoolId) where
-    way-there : (i : ℕ) (e : RequestEntry) → slice_get s.requests i ≡ Some e → is_pending_by p e.kept ≡ true → is_incomplete s e.id ≡ is_under_way p e
-    way-there i e there pending = rw (row-there i e there, pending) refl
+  module _ (p : PoolId) (n : NodeId) where
+    abbrev launches : RequestEntry → Bool
+    launches e = is_pending_by p e.kept && is_listed n e.kept && not (has_failed_node s e.kept)
 
-    pub any-under_way : list_any (is_incomplete s) (pending_requests p s) ≡ list_any (is_under_way p) s.requests
-    any-under_way =
-        any-named (λ (e : RequestEntry). e.id) (λ (e : RequestEntry). is_pending_by p e.kept) (is_under_way p) (is_incomplete s) s.requests
-        (all-from_at (λ (e : RequestEntry). is_pending_by p e.kept ≡ true → is_incomplete s e.id ≡ is_under_way p e) s.requests way-there) (λ e is. (and_parts (is_pending_by p e.kept) (not (is_complete e.kept)) is).0)
+    launch-there : (i : ℕ) (e : RequestEntry) → slice_get s.requests i ≡ Some e → is_pending_by p e.kept ≡ true → lists_unfailed n s e.id ≡ launches e
+    launch-there i e there pending = rw (row-there i e there, pending) refl
 
-    module _ (n : NodeId) where
-      abbrev launches : RequestEntry → Bool
-      launches e = is_pending_by p e.kept && is_listed n e.kept && not (has_failed_node s e.kept)
+    launch-pending : (e : RequestEntry) → launches e ≡ true → is_pending_by p e.kept ≡ true
+    launch-pending e is = (and_parts (is_pending_by p e.kept) (is_listed n e.kept) ((and_parts (is_pending_by p e.kept && is_listed n e.kept) (not (has_failed_node s e.kept)) is).0)).0
 
-      launch-there : (i : ℕ) (e : RequestEntry) → slice_get s.requests i ≡ Some e → is_pending_by p e.kept ≡ true → lists_unfailed n s e.id ≡ launches e
-      launch-there i e there pending = rw (row-there i e there, pending) refl
-
-      launch-pending : (e : RequestEntry) → launches e ≡ true → is_pending_by p e.kept ≡ true
-      launch-pending e is = (and_parts (is_pending_by p e.kept) (is_listed n e.kept) ((and_parts (is_pending_by p e.kept && is_listed n e.kept) (not (has_failed_node s e.kept)) is).0)).0
-
-      pub any-to_launch : list_any (lists_unfailed n s) (pending_requests p s) ≡ is_to_launch p s n
-      any-to_launch =
-          any-named (λ (e : RequestEntry). e.id) (λ (e : RequestEntry). is_pending_by p e.kept) launches (lists_unfailed n s) s.requests
-          (all-from_at (λ (e : RequestEntry). is_pending_by p e.kept ≡ true → lists_unfailed n s e.id ≡ launches e) s.requests launch-there) launch-pending
+    pub any-to_launch : list_any (lists_unfailed n s) (pending_requests p s) ≡ is_to_launch p s n
+    any-to_launch =
+        any-named (λ (e : RequestEntry). e.id) (λ (e : RequestEntry). is_pending_by p e.kept) launches (lists_unfailed n s) s.requests
+        (all-from_at (λ (e : RequestEntry). is_pending_by p e.kept ≡ true → lists_unfailed n s e.id ≡ launches e) s.requests launch-there) launch-pending

@@ -27,7 +27,7 @@ use Rattle.np_launch.specs.declared.computed.ComputedKind.TheVariants as compute
 
 -- ## what is computed
 
--- the first of these reasons: a label, the pool's limits, the tenant's, a failed node
+-- the first of these reasons: a label, the pool's limits, the tenant's, a failed node (own)
 abbrev pub reason_of : Option LabelId → Bool → Bool → Option NodeId → Option Reason
 reason_of (Some l) never tenant spent = Some (reason.NoLabel l)
 reason_of None true tenant spent = Some reason.NeverFits
@@ -35,12 +35,12 @@ reason_of None false true spent = Some reason.TenantNeverFits
 reason_of None false false None = None
 reason_of None false false (Some n) = Some (reason.Spent n)
 
--- the first reason why the pool would decline the request
+-- the first reason why the pool would decline the request (own)
 abbrev pub first_reason : Configuration → State → PoolId → RequestRecord → Option Reason
 first_reason c s p request =
     reason_of (first_unoffered c p request) (never_fits c p request) (tenant_never_fits c p request) (find (λ m. is_spent m s) request.nodes)
 
--- the same reason, of the same label or node
+-- the same reason, of the same label or node (own)
 abbrev pub same_reason : Reason → Reason → Bool
 same_reason (reason.NoLabel l) (reason.NoLabel of) = of.0 == l.0
 same_reason reason.NeverFits reason.NeverFits = true
@@ -48,31 +48,31 @@ same_reason reason.TenantNeverFits reason.TenantNeverFits = true
 same_reason (reason.Spent n) (reason.Spent of) = of.0 == n.0
 same_reason _ _ = false
 
--- the reason is the one that was found
+-- the reason is the one that was found (own)
 abbrev pub is_reason : Reason → Option Reason → Bool
 is_reason why None = false
 is_reason why (Some other) = same_reason why other
 
--- the pool of a launcher
+-- the pool of a launcher (own)
 abbrev pub pool_of_role : Role → Option PoolId
 pool_of_role (Launcher p) = Some p
 pool_of_role (Janitor p) = None
 pool_of_role (Requester q) = None
 pool_of_role Reaper = None
 
--- the pool of the launcher that the session belongs to
+-- the pool of the launcher that the session belongs to (own)
 abbrev pub pool_of : State → SessionId → Option PoolId
 pool_of s session = option_and_then (λ facts. pool_of_role facts.role) (session_of session s)
 
--- the first ready, free and unlocked node of the pool with the request's next label
+-- the first ready, free and unlocked node of the pool with the request's next label (own)
 abbrev pub first_free : State → RequestId → PoolId → Option NodeId
 first_free s r p = option_and_then (λ k. option_and_then (λ l. free_ready_of p l 0 s) (next_label k)) (request_in r s.requests)
 
--- the session may allocate the node to the request
+-- the session may allocate the node to the request (own)
 abbrev pub is_takable : Configuration → State → SessionId → RequestId → NodeId → Bool
 is_takable c s session r n = is_ok (judge c s (ev.TakeReady session r n))
 
--- the first node that the session may allocate to the request
+-- the first node that the session may allocate to the request (own)
 abbrev pub first_takable : Configuration → State → SessionId → RequestId → Option NodeId
 first_takable c s session r =
     option_and_then (λ n. if is_takable c s session r n then Some n else None) (option_and_then (first_free s r) (pool_of s session))
@@ -80,27 +80,27 @@ first_takable c s session r =
 -- ## the events, by place
 
 -- the simulated cloud's report on the last attempt of the node at a place, of those in whose queues
--- the session is
+-- the session is (own)
 abbrev pub done_at : Configuration → State → PoolId → SessionId → ℕ → Option Event
 done_at c s p session at =
     option_and_then (λ n. option_map (λ k. ev.Done session n k.attempts (outcome_of c p k.start)) (node_in n s.nodes)) (slice_get (queued_nodes session s) at)
 
 -- the request at a place, of those in whose queues the session is, with its first ready node, if the
--- pool serves it
+-- pool serves it (own)
 abbrev pub take_ready_at : Configuration → State → PoolId → SessionId → ℕ → Option Event
 take_ready_at c s p session at =
     option_and_then (λ r. option_and_then (λ k. if is_pending_by p k then option_map (λ n. ev.TakeReady session r n) (first_takable c s session r) else None) (request_in r s.requests)) (slice_get (queued_requests session s) at)
 
--- the request at a place, of those in whose queues the session is, with its first reason
+-- the request at a place, of those in whose queues the session is, with its first reason (own)
 abbrev pub decline_at : Configuration → State → PoolId → SessionId → ℕ → Option Event
 decline_at c s p session at =
     option_and_then (λ r. option_and_then (λ k. option_map (λ why. ev.Decline session r why) (first_reason c s p k)) (request_in r s.requests)) (slice_get (queued_requests session s) at)
 
--- the label at a place
+-- the label at a place (own)
 abbrev pub min_ready_at : Configuration → SessionId → ℕ → Option Event
 min_ready_at c session at = option_map (λ _. ev.MinReady session (record { 0 = at })) (slice_get c.labels at)
 
--- how many places the kind has
+-- how many places the kind has (own)
 abbrev pub computed_places : Configuration → State → SessionId → ComputedKind → ℕ
 computed_places c s session computed.Register = 1
 computed_places c s session computed.Done = length (queued_nodes session s)
@@ -108,7 +108,7 @@ computed_places c s session computed.TakeReady = length (queued_requests session
 computed_places c s session computed.Decline = length (queued_requests session s)
 computed_places c s session computed.MinReady = length c.labels
 
--- the session's event of the kind at a place
+-- the session's event of the kind at a place (own)
 abbrev pub computed_at : Configuration → State → PoolId → SessionId → ComputedKind → ℕ → Option Event
 computed_at c s p session computed.Register at = Some (ev.Register session)
 computed_at c s p session computed.Done at = done_at c s p session at

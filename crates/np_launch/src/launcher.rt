@@ -223,9 +223,10 @@ fn first_of_any<L: Look>(
 /// and only if there is none. Its cost grows with the number of requests and nodes in whose queues
 /// the launcher's session is, and with the number of labels; if the launcher has no session, with
 /// the number of sessions. It searches for the first open request, and tests the lock of that one.
-/// For a lock that the machine accepts it looks up the requests that are pending by the pool, and,
-/// if the provider limits how many its launchers work on, the pools of the configuration and the
-/// requests in whose queues the registered sessions of the provider's pools are.
+/// For a lock that the machine accepts it asks one question about the requests that are pending by
+/// the pool: whether one of them lacks a node. If the provider limits how many requests its
+/// launchers work on, it looks up the pools of the configuration and the requests in whose queues
+/// the registered sessions of the provider's pools are.
 pub fn choose_launcher<L: Look>(look: &L, pool: PoolId) -> Option<Event>
     requires reached { IsReached (L.site look.now) (L.state look.now) }
     requires fits { Fits (L.site look.now) (L.state look.now) }

@@ -32,13 +32,14 @@
 //! costs one search for the first that is free, and the test of that one. For a lock it searches
 //! once for the first open request, and tests that one alone, whose judge makes the search again;
 //! whether the session has a request in hand is asked of those in whose queues it is, and whether
-//! one is under way of those that are pending by the pool. If the provider limits how many requests
-//! its launchers work on, they are counted pool by pool: how many the pool serves, which is one
-//! number, and of those in whose queues the pool's registered session is, the ones that no pool of
-//! the provider serves. In a state that a run reaches, no other launcher of the pool is in the
-//! queue of a request. For min-ready it tests each label. What is left are the scans of the readers
-//! of `Look` for a search and for a label (the count of ready nodes, what the pool uses), where a
-//! representation keeps no index or number for it.
+//! one is under way is a single question, whether a request that is pending by the pool lacks a
+//! node. If the provider limits how many requests its launchers work on, they are counted pool by
+//! pool: how many the pool serves, which is one number, and of those in whose queues the pool's
+//! registered session is, the ones that no pool of the provider serves. In a state that a run
+//! reaches, no other launcher of the pool is in the queue of a request. For min-ready it tests each
+//! label. What is left are the scans of the readers of `Look` for a search, for a request under way
+//! and for a label (the count of ready nodes, what the pool uses), where a representation keeps no
+//! index or number for it.
 #![tactic(auto)]
 
 mod computed;
@@ -50,7 +51,7 @@ mod rows;
 
 pub use launcher::choose_launcher;
 pub use request::{
-    has_failed_node, is_as_planned, is_complete, is_done_with, is_listed, is_pending_by, is_spent,
+    has_failed_node, is_as_planned, is_done_with, is_listed, is_pending_by, is_spent,
 };
-pub use requests::{has_request_in_hand, has_request_under_way, has_turn_left, is_to_launch};
+pub use requests::{has_request_in_hand, has_turn_left, is_to_launch};
 pub use rows::{is_node_done_with, is_planned_report, is_registrant, is_unfailed, may_take_up};

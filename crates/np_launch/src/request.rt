@@ -8,10 +8,11 @@ ghost use Rattle.np_machine.specs.Plan.{fail_starts_of, outcome_of};
 ghost use Rattle.np_machine.specs.Reasons.{is_spent};
 ghost use Rattle.np_changes.specs.Asked.{new_record};
 ghost use Rattle.np_useful.specs.Launcher.{same_outcome, is_as_planned, is_done_with};
-ghost use Rattle.np_useful.specs.Rows.{request_is, is_listed, is_complete, has_failed_node};
+ghost use Rattle.np_useful.specs.Rows.{request_is, is_listed, has_failed_node};
 ghost use Rattle.np_fits.specs.Fits.{Fits};
 ghost use Rattle.np_launch.specs.Allocated.{served_request};
 ghost use Rattle.np_launch.specs.Hands.{is_in_hand_at};
+ghost use Rattle.np_launch.specs.Pending.{lists_unfailed};
 
 use np_changes::Asked;
 use np_config::Config;
@@ -45,8 +46,8 @@ fn is_pending_in(pool: PoolId, state: RequestState, server: Option<PoolId>) -> b
     state == RequestState::Pending && own
 }
 
-/// The request that the node is allocated to, if it is pending and this pool serves it. It costs one
-/// lookup.
+/// The request that the node is allocated to, if it is pending and this pool serves it. It costs
+/// one lookup.
 pub(crate) fn served_request<L: Look>(
     look: &L,
     pool: PoolId,
@@ -74,13 +75,6 @@ pub fn is_listed(node: NodeId, request: &RequestRecord) -> bool
     request.nodes.items().iter().any(|m| m.0 == node.0)
 }
 
-/// Whether the request has a node for each of its labels.
-pub fn is_complete(request: &RequestRecord) -> bool
-    ensures { result ≡ is_complete request.now }
-{
-    request.labels.at(request.nodes.len()).is_none()
-}
-
 /// Whether the node exists and failed.
 pub fn is_spent<L: Look>(look: &L, node: NodeId) -> bool
     ensures { result ≡ is_spent node (L.state look.now) }
@@ -96,6 +90,17 @@ pub fn has_failed_node<L: Look>(look: &L, request: &RequestRecord) -> bool
     ensures { result ≡ has_failed_node (L.state look.now) request.now }
 {
     request.nodes.items().iter().any(|n| is_spent(look, *n))
+}
+
+/// Whether the node is in the request's list, and no node of that list failed. It costs one lookup
+/// of the request, and one of each node of the list.
+pub(crate) fn lists_unfailed<L: Look>(look: &L, node: NodeId, request: RequestId) -> bool
+    ensures { result ≡ lists_unfailed node (L.state look.now) request }
+{
+    match look.request(request) {
+        None => false,
+        Some(kept) => is_listed(node, &kept) && !has_failed_node(look, &kept),
+    }
 }
 
 /// Whether the request is requested, the pool has not declined it, and the session holds it. It

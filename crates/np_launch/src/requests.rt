@@ -1,61 +1,33 @@
 //! Whether some request passes a test, and how many the launchers of a provider work on.
 
-ghost use Rattle.std.specs.Prelude.{◌≡◌, Bool};
+ghost use Rattle.std.specs.Prelude.{◌≡◌};
 ghost use Rattle.std.specs.List.{list_any};
-ghost use Rattle.np_text.specs.declared.id.RequestId.{RequestId};
-ghost use Rattle.np_machine.specs.State.{State};
 ghost use Rattle.np_changes.specs.Planned.{IsReached};
 ghost use Rattle.np_look.specs.Readers.{pending_requests};
 ghost use Rattle.np_fits.specs.Fits.{Fits};
-ghost use Rattle.np_useful.specs.Launcher.{is_to_launch, is_under_way, is_in_hand, requests_near, has_turn_left};
+ghost use Rattle.np_useful.specs.Launcher.{is_to_launch, is_in_hand, requests_near, has_turn_left};
+ghost use Rattle.np_launch.specs.Pending.{lists_unfailed};
 
 use crate::near::{concurrency_of, sister_requests};
-use crate::request::{has_failed_node, is_complete, is_in_hand, is_listed, served_request};
+use crate::request::{has_failed_node, is_in_hand, lists_unfailed, served_request};
 use np_look::Look;
-use np_text::{NodeId, PoolId, RequestId, SessionId};
+use np_text::{NodeId, PoolId, SessionId};
 
-/// A test of one request.
-trait RequestTest {
-    /// Whether the request passes the test.
-    ghost such: { Self → State → RequestId → Bool };
-
-    /// Whether the request passes the test.
-    fn is_such<L: Look>(&self, look: &L, request: RequestId) -> bool
-        ensures { result ≡ such self.now (L.state look.now) request };
-}
-
-/// Whether a request that is pending by the pool passes the test.
-fn is_any_pending<L: Look, T: RequestTest>(look: &L, pool: PoolId, test: &T) -> bool
-    ensures { result ≡ list_any (T.such test.now (L.state look.now))
+/// Whether a request that is pending by the pool has the node in its list, and no node of that list
+/// failed. It costs up to one lookup of each request that is pending by the pool.
+fn has_pending_with<L: Look>(look: &L, pool: PoolId, node: NodeId) -> bool
+    ensures { result ≡ list_any (lists_unfailed node (L.state look.now))
         (pending_requests pool (L.state look.now)) }
 {
     for at in 0..look.pending_requests(pool) {
         let Some(request) = look.pending_request_at(pool, at) else {
             return false;
         };
-        if test.is_such(look, request) {
+        if lists_unfailed(look, node, request) {
             return true;
         }
     }
     false
-}
-
-#[derive(Clone, Copy)]
-struct Lists {
-    node: NodeId,
-}
-
-impl RequestTest for Lists {
-    ghost use Rattle.np_launch.specs.Pending.{lists_unfailed};
-
-    ghost such = { λ t. lists_unfailed t.node };
-
-    fn is_such<L: Look>(&self, look: &L, request: RequestId) -> bool {
-        match look.request(request) {
-            None => false,
-            Some(kept) => is_listed(self.node, &kept) && !has_failed_node(look, &kept),
-        }
-    }
 }
 
 /// Whether the node is in the list of a request that the pool serves, and no node of that list
@@ -67,7 +39,7 @@ pub fn is_to_launch<L: Look>(look: &L, pool: PoolId, node: NodeId) -> bool
     ensures { result ≡ is_to_launch pool (L.state look.now) node }
 {
     let Some(kept) = look.node(node) else {
-        return is_any_pending(look, pool, &Lists { node });
+        return has_pending_with(look, pool, node);
     };
     match served_request(look, pool, &kept) {
         None => false,
@@ -75,33 +47,8 @@ pub fn is_to_launch<L: Look>(look: &L, pool: PoolId, node: NodeId) -> bool
     }
 }
 
-#[derive(Clone, Copy)]
-struct Incomplete;
-
-impl RequestTest for Incomplete {
-    ghost use Rattle.np_launch.specs.Pending.{is_incomplete};
-
-    ghost such = { λ t. is_incomplete };
-
-    fn is_such<L: Look>(&self, look: &L, request: RequestId) -> bool {
-        match look.request(request) {
-            None => false,
-            Some(kept) => !is_complete(&kept),
-        }
-    }
-}
-
-/// Whether a request is pending by the pool, and not complete. Only the requests that are pending
-/// by the pool are looked up.
-pub fn has_request_under_way<L: Look>(look: &L, pool: PoolId) -> bool
-    requires { IsReached (L.site look.now) (L.state look.now) }
-    ensures { result ≡ list_any (is_under_way pool) (L.state look.now).requests }
-{
-    is_any_pending(look, pool, &Incomplete)
-}
-
-/// Whether a request is requested, not declined by the pool, and held by the session. Such a request
-/// is one of those in whose queues the session is, so only these are looked up.
+/// Whether a request is requested, not declined by the pool, and held by the session. Such a
+/// request is one of those in whose queues the session is, so only these are looked up.
 pub fn has_request_in_hand<L: Look>(look: &L, pool: PoolId, session: SessionId) -> bool
     requires { IsReached (L.site look.now) (L.state look.now) }
     ensures { result ≡ list_any (is_in_hand pool session) (L.state look.now).requests }

@@ -9,7 +9,7 @@ ghost use Rattle.np_useful.specs.Launcher.{is_wanted_by, is_as_planned, is_under
 ghost use Rattle.np_useful.specs.Rows.{request_is, node_is, has_failed_node};
 
 use crate::request::{has_failed_node, is_as_planned, served_request};
-use crate::requests::{has_request_in_hand, has_request_under_way, has_turn_left};
+use crate::requests::{has_request_in_hand, has_turn_left};
 use np_event::Outcome;
 use np_look::Look;
 use np_text::{NodeId, PoolId, RequestId, SessionId};
@@ -71,10 +71,11 @@ pub fn is_planned_report<L: Look>(
 }
 
 /// Whether the launcher may take up another request: it has none under way and none in hand, and
-/// the launchers of its provider may work on one more. It looks up the requests that are pending by
-/// the pool and those in whose queues the session is. The last test is made only if the others
-/// pass; if the provider has a limit, it looks up the pools of the configuration and the requests
-/// in whose queues the registered sessions of the provider's pools are.
+/// the launchers of its provider may work on one more. It asks once whether a request that is
+/// pending by the pool lacks a node, and looks up the requests in whose queues the session is. The
+/// last test is made only if the others pass; if the provider has a limit, it looks up the pools of
+/// the configuration and the requests in whose queues the registered sessions of the provider's
+/// pools are.
 pub fn may_take_up<L: Look>(look: &L, pool: PoolId, session: SessionId) -> bool
     requires reached { IsReached (L.site look.now) (L.state look.now) }
     requires fits { Fits (L.site look.now) (L.state look.now) }
@@ -83,7 +84,7 @@ pub fn may_take_up<L: Look>(look: &L, pool: PoolId, session: SessionId) -> bool
         && not (list_any (is_in_hand pool session) (L.state look.now).requests)
         && has_turn_left (L.site look.now) (L.state look.now) pool) }
 {
-    !has_request_under_way(look, pool)
+    !look.has_request_under_way(pool)
         && !has_request_in_hand(look, pool, session)
         && has_turn_left(look, pool)
 }

@@ -8,7 +8,7 @@ use Rattle.np_launch.proofs.requests.is_to_launch.Goals as goal
 
 pub returns-in_default : goal.returns-in_default
 returns-in_default g c =
-    c.is_any_pending.ensures
+    c.has_pending_with.ensures
     ∙ any-to_launch (g.L.Look.site c.args.look.now) (g.L.Look.state c.args.look.now) c.requires c.args.pool c.args.node
 
 pub returns-in-None : goal.returns-in-None
