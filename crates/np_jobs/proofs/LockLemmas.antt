@@ -1,5 +1,5 @@
 -- if the nodes for each active job were tried, no lock of a node is useful
-use Rattle.std.proofs.Common.{◌≡◌, ◌∙◌, ◌<◌, ℕ, zero, suc, List, [], ◌∷◌, refl, sym, ap, subst, arith, Option, Some, None, Bool, true, false}
+use Rattle.std.proofs.Common.{◌≡◌, ◌∙◌, ℕ, zero, suc, List, [], ◌∷◌, refl, sym, ap, subst, arith, Option, Some, None, Bool, true, false}
 use Rattle.std.specs.Prelude.{slice_get, find, ◌==◌, not}
 use Rattle.std.specs.Option.{option_map_or}
 use Rattle.np_text.specs.declared.id.SessionId.{SessionId}
@@ -8,6 +8,7 @@ use Rattle.np_text.specs.declared.id.NodeId.{NodeId}
 use Rattle.np_text.specs.declared.id.RequesterId.{RequesterId}
 use Rattle.np_text.specs.declared.id.Role.TheVariants.{Requester}
 use Rattle.np_site.specs.Configuration.{Configuration}
+use Rattle.np_record.specs.declared.record.JobRecord.{JobRecord}
 use Rattle.np_lists.proofs.FoundLemmas.{find-passes}
 use Rattle.np_event.specs.declared.event.Event.TheVariants as ev
 use Rattle.np_changes.specs.Planned.{IsReached}
@@ -27,7 +28,7 @@ use Rattle.np_roles.specs.declared.kind.NodeKind.TheVariants as of_node
 use Rattle.np_roles.specs.Choices.{NoneOf}
 use Rattle.np_roles.proofs.Searches.{made-by, passes-useful, useful-passes}
 use Rattle.np_roles.proofs.Among.{among}
-use Rattle.np_jobs.specs.Locks.{lock_passes, nodes_for, first_to_lock}
+use Rattle.np_jobs.specs.Locks.{lock_passes, nodes_awaited}
 use Rattle.np_jobs.proofs.ForLemmas.{IsFound, found-for, ids-rise, all-own, and-first, and-second}
 use Rattle.np_jobs.proofs.Active.{IsActive, asked-active, fulfilled-answer}
 
@@ -53,7 +54,9 @@ module _ (c : Configuration) (s : State) (q : RequesterId) where
   record IsAwaiting (e : RequestEntry) : Type 0 where
     job : JobId
     active : IsActive c s q job
-    nodes : nodes_for s job ≡ e.kept.nodes
+    kept : JobRecord
+    there : slice_get s.jobs job.0 ≡ Some kept
+    nodes : nodes_awaited s kept ≡ e.kept.nodes
 
   module _ (reached : IsReached c s) (e : RequestEntry) (found : request_in e.id s.requests ≡ Some e.kept) (fulfilled : is_fulfilled e.kept.state ≡ true) where
     -- the request's job has asked, and names the request, since each request that names a job is its
@@ -68,7 +71,9 @@ module _ (c : Configuration) (s : State) (q : RequesterId) where
         record {
           job = j;
           active = (asked-active c s q j named.0 named.1.0 own asked (fulfilled-answer s named.0 given)).active;
-          nodes = rw (named.1.0, asked, named.1.1, found, fulfilled) refl;
+          kept = named.0;
+          there = named.1.0;
+          nodes = rw (asked, named.1.1, found, fulfilled) refl;
         }
 
     -- a fulfilled request of an asked job of the requester has such a job
@@ -80,10 +85,10 @@ module _ (c : Configuration) (s : State) (q : RequesterId) where
 
 module _ (c : Configuration) (s : State) (q : RequesterId) (session : SessionId) (current : is_current (Requester q) session s ≡ true) where
   -- a lock that was found is useful
-  pub lock-found : (j : JobId) (n : NodeId) → first_to_lock c s q session j ≡ Some n → IsUseful c s (Requester q) (ev.LockNode session n)
-  lock-found j n found = passes-useful c s (Requester q) (ev.LockNode session n) (find-passes (lock_passes c s q session) (nodes_for s j) n found) current
+  pub lock-found : (nodes : List NodeId) (n : NodeId) → find (lock_passes c s q session) nodes ≡ Some n → IsUseful c s (Requester q) (ev.LockNode session n)
+  lock-found nodes n found = passes-useful c s (Requester q) (ev.LockNode session n) (find-passes (lock_passes c s q session) nodes n found) current
 
-  module _ (reached : IsReached c s) (at : ℕ) (ends : (k : ℕ) (j : JobId) → active_of c q k s ≡ Some j → k < at) (passed : (k : ℕ) → k < at → (j : JobId) → active_of c q k s ≡ Some j → first_to_lock c s q session j ≡ None) where
+  module _ (reached : IsReached c s) (passed : (k : ℕ) (j : JobId) → active_of c q k s ≡ Some j → (kept : JobRecord) → slice_get s.jobs j.0 ≡ Some kept → find (lock_passes c s q session) (nodes_awaited s kept) ≡ None) where
     -- no lock of the session is useful
     none_of : (n : NodeId) → IsUseful c s (Requester q) (ev.LockNode session n) → ⊥
     none_of n useful =
@@ -95,7 +100,7 @@ module _ (c : Configuration) (s : State) (q : RequesterId) (session : SessionId)
         let asks : option_map_or (is_asked_by c s q) e.kept.job false ≡ true = and-second (is_fulfilled e.kept.state) (option_map_or (is_asked_by c s q) e.kept.job false) given.over in
         let is : IsAwaiting c s q e = awaiting c s q reached e given.handed_to.found fulfilled e.kept.job refl asks in
         let place = among (is_active_job c s q) 0 s.jobs is.job.0 is.active.kept is.job (omega arith) is.active.there is.active.active in
-        let none : find (lock_passes c s q session) e.kept.nodes ≡ None = ap (find (lock_passes c s q session)) (sym is.nodes) ∙ passed place.at (ends place.at is.job place.there) is.job place.there in
+        let none : find (lock_passes c s q session) e.kept.nodes ≡ None = ap (find (lock_passes c s q session)) (sym is.nodes) ∙ passed place.at is.job place.there is.kept is.there in
         let listed = node-place n e.kept.nodes given.listed in
         let fails : lock_passes c s q session n ≡ false = none-passes (lock_passes c s q session) e.kept.nodes listed.0 n none listed.1 in
         cc

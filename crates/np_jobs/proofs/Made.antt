@@ -14,12 +14,13 @@ use Rattle.np_machine.specs.State.{State}
 use Rattle.np_useful.specs.Useful.{IsUseful}
 use Rattle.np_useful.specs.Sessions.{is_current}
 use Rattle.np_roles.specs.declared.kind.EventKind.{EventKind}
-use Rattle.np_roles.specs.declared.kind.EventKind.TheVariants.{Node, Job}
-use Rattle.np_roles.specs.declared.kind.NodeKind.TheVariants as of_node
+use Rattle.np_roles.specs.declared.kind.EventKind.TheVariants.{Job}
 use Rattle.np_roles.specs.declared.kind.JobKind.TheVariants as of_job
 use Rattle.np_roles.specs.Choices.{Chooses, ChoosesOf, ChoosesOfAny, NoneOpens, NoneOf}
 use Rattle.np_roles.proofs.Wholes.{kinds-choose}
-use Rattle.np_jobs.specs.Steps.{steps, leaving, rest}
+use Rattle.np_changes.specs.Planned.{IsReached}
+use Rattle.np_jobs.specs.Steps.{steps, leaving, rest, ChoosesActive, ChoosesInWindow}
+use Rattle.np_jobs.proofs.StepLemmas.{steps-none}
 
 none : false ≡ true → ⊥
 none is = cc
@@ -35,11 +36,11 @@ module _ (c : Configuration) (s : State) (q : RequesterId) (opens : NoneOpens c 
   useless (ev.Take session j) useful = all.1.0 session j useful
   useless (ev.Acquire session j) useful = all.1.1.0 session j useful
   useless (ev.Submit session j) useful = all.1.1.1.0 session j useful
-  useless (ev.Release session j) useful = all.1.1.1.1.0 session j useful
-  useless (ev.EndNode session n end.Used) useful = all.1.1.1.1.1.0 session n useful
-  useless (ev.EndNode session n end.Hold) useful = all.1.1.1.1.1.1.0 session n useful
-  useless (ev.UnlockNode session n) useful = all.1.1.1.1.1.1.1.0 session n useful
-  useless (ev.LockNode session n) useful = all.1.1.1.1.1.1.1.1.0 session n useful
+  useless (ev.LockNode session n) useful = all.1.1.1.1.0 session n useful
+  useless (ev.Release session j) useful = all.1.1.1.1.1.0 session j useful
+  useless (ev.EndNode session n end.Used) useful = all.1.1.1.1.1.1.0 session n useful
+  useless (ev.EndNode session n end.Hold) useful = all.1.1.1.1.1.1.1.0 session n useful
+  useless (ev.UnlockNode session n) useful = all.1.1.1.1.1.1.1.1.0 session n useful
   useless (ev.Revise session j relative) useful = none useful.row
   useless (ev.MinReady session l) useful = none useful.row
   useless (ev.LockRequest session r) useful = none useful.row
@@ -68,12 +69,13 @@ all-kinds : (c : Configuration) (s : State) (role : Role) (one other : List Even
 all-kinds c s role [] other first second = second
 all-kinds c s role (kind ∷ one) other first second = (first.0, all-kinds c s role one other first.1 second)
 
--- if no step, no release and no leaving is useful, the lock of a node decides
-pub all-choose : (c : Configuration) (s : State) (q : RequesterId) (session : SessionId) → is_current (Requester q) session s ≡ true → (found : Option Event) → ChoosesOfAny c s (Requester q) steps found → is_some found ≡ false → (release : Option Event) → ChoosesOf c s (Requester q) (Job of_job.Release) release → is_some release ≡ false → (left : Option Event) → ChoosesOfAny c s (Requester q) leaving left → is_some left ≡ false → (o : Option Event) → ChoosesOf c s (Requester q) (Node of_node.Lock) o → Chooses c s (Requester q) o
-all-choose c s q session current None first is None second fails None third stays None fourth =
+-- if nothing is useful on an active job, no release, and nothing on a new job in the window, what is
+-- left decides
+pub all-choose : (c : Configuration) (s : State) (q : RequesterId) (session : SessionId) → is_current (Requester q) session s ≡ true → IsReached c s → (found : Option Event) → ChoosesActive c s q session found → is_some found ≡ false → (release : Option Event) → ChoosesOf c s (Requester q) (Job of_job.Release) release → is_some release ≡ false → (begun : Option Event) → ChoosesInWindow c s q session begun → is_some begun ≡ false → (o : Option Event) → ChoosesOfAny c s (Requester q) leaving o → Chooses c s (Requester q) o
+all-choose c s q session current reached None active is None releases fails None begins stays None leaves =
     kinds-choose c s (Requester q) (steps ++ rest) (requester-law c s q) session current None
-    (all-kinds c s (Requester q) steps rest first (second, all-kinds c s (Requester q) leaving (Node of_node.Lock ∷ []) third (fourth, tt)))
-all-choose c s q session current None first is None second fails None third stays (Some e) fourth = fourth
-all-choose c s q session current None first is None second fails (Some e) third stays o fourth = absurd cc
-all-choose c s q session current None first is (Some e) second fails left third stays o fourth = absurd cc
-all-choose c s q session current (Some e) first is release second fails left third stays o fourth = absurd cc
+    (all-kinds c s (Requester q) steps rest (steps-none c s q session current reached active begins) (releases, leaves))
+all-choose c s q session current reached None active is None releases fails None begins stays (Some e) leaves = leaves
+all-choose c s q session current reached None active is None releases fails (Some e) begins stays o leaves = absurd cc
+all-choose c s q session current reached None active is (Some e) releases fails begun begins stays o leaves = absurd cc
+all-choose c s q session current reached (Some e) active is release releases fails begun begins stays o leaves = absurd cc

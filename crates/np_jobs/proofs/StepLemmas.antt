@@ -1,6 +1,6 @@
 -- if the events of a session on the active jobs and in the window were tried, none is useful
 use Rattle.std.proofs.Common.{◌≡◌, ◌∙◌, ◌<◌, ℕ, refl, sym, ap, subst, arith, Option, Some, None, Ok, Bool, true, false}
-use Rattle.std.specs.Prelude.{is_some, ◌&&◌, ◌==◌, not}
+use Rattle.std.specs.Prelude.{is_some, ◌&&◌, ◌==◌, not, find, slice_get}
 use Rattle.std.specs.List.{AllByRecursion}
 use Rattle.std.proofs.lemmas.Bool.Decides.{nat_tests}
 use Rattle.np_text.specs.declared.id.SessionId.{SessionId}
@@ -13,7 +13,9 @@ use Rattle.np_event.specs.declared.event.Event.{Event}
 use Rattle.np_event.specs.declared.event.Event.TheVariants as ev
 use Rattle.np_event.specs.declared.reply.Done.{Done}
 use Rattle.np_machine.specs.declared.state.SessionFacts.{SessionFacts}
-use Rattle.np_machine.specs.Kinds.{is_new}
+use Rattle.np_changes.specs.Planned.{IsReached}
+use Rattle.np_record.specs.declared.record.JobRecord.{JobRecord}
+use Rattle.np_machine.specs.Kinds.{is_asked, is_new}
 use Rattle.np_machine.specs.Laws.{same_role, speaks_for}
 use Rattle.np_machine.specs.State.{State}
 use Rattle.np_machine.specs.Step.{judge}
@@ -22,7 +24,7 @@ use Rattle.np_look.specs.Readers.{is_active_job, active_of, new_of}
 use Rattle.np_useful.specs.Sessions.{is_current}
 use Rattle.np_useful.specs.Useful.{IsUseful, row_holds}
 use Rattle.np_useful.specs.Window.{is_in_window}
-use Rattle.np_roles.specs.Choices.{NoneOf, ChoosesOfAny}
+use Rattle.np_roles.specs.Choices.{NoneOf}
 use Rattle.np_roles.specs.Passing.{passes}
 use Rattle.np_roles.specs.Kinds.{job_event}
 use Rattle.np_roles.specs.declared.kind.EventKind.TheVariants as kind_of
@@ -34,9 +36,11 @@ use Rattle.np_changes.proofs.Tested.{ok-is}
 use Rattle.np_roles.proofs.Searches.{made-by, useful-passes}
 use Rattle.np_roles.proofs.Openings.{same-role}
 use Rattle.np_roles.proofs.Among.{among}
-use Rattle.np_jobs.specs.Steps.{phase_is, steps, NoActiveStep, NoNewStep, ChoosesOfActive, ChoosesOfNew, ChoosesActive, ChoosesInWindow}
-use Rattle.np_jobs.proofs.Active.{IsActive}
+use Rattle.np_jobs.specs.Locks.{lock_passes, nodes_awaited}
+use Rattle.np_jobs.specs.Steps.{phase_is, steps, NoAskedStep, NoStepOf, NoActiveStep, NoNewStep, ChoosesOfActive, ChoosesOfNew}
+use Rattle.np_jobs.proofs.Active.{IsActive, IsAsked}
 use Rattle.np_jobs.proofs.Accepted.{IsToBegin, submit-begins, acquire-either, take-asked, finish-active}
+use Rattle.np_jobs.proofs.LockLemmas.{locks-none}
 use Rattle.np_jobs.proofs.WindowLemmas.{new-place}
 
 later : (n : ℕ) → 0 < n → (n == 0) ≡ false
@@ -62,11 +66,14 @@ module _ (c : Configuration) (s : State) (q : RequesterId) (session : SessionId)
       let is = spoken speaks.facts speaks.speaks in
       rw (begun, speaks.there, is.0, is.1.0) (ap (λ (role : Role). Ok role) is.1.1)
 
-  module _ (active : (k : ℕ) (j : JobId) → active_of c q k s ≡ Some j → NoActiveStep c s q session j) (begins : (j : JobId) → is_in_window c s q j ≡ true → NoNewStep c s q session j) where
-    no_active_step : (j : JobId) → IsActive c s q j → NoActiveStep c s q session j
+  module _ (reached : IsReached c s) (active : (k : ℕ) (j : JobId) → active_of c q k s ≡ Some j → NoActiveStep c s q session j) (begins : (j : JobId) → is_in_window c s q j ≡ true → NoNewStep c s q session j) where
+    no_active_step : (j : JobId) (is : IsActive c s q j) → NoStepOf c s q session j is.kept
     no_active_step j is =
         let place = among (is_active_job c s q) 0 s.jobs j.0 is.kept j (omega arith) is.there is.active in
-        active place.at j place.there
+        active place.at j place.there is.kept is.there
+
+    no_asked_step : (j : JobId) (is : IsAsked c s q j) → NoAskedStep c s q session j is.active.kept
+    no_asked_step j is = let asked : is_asked is.active.kept.phase ≡ true = rw is.active.there at is.asked in (no_active_step j is.active).asked asked
 
     no_new_step : (j : JobId) → IsToBegin c s q j → NoNewStep c s q session j
     no_new_step j is = begins j is.within
@@ -85,21 +92,31 @@ module _ (c : Configuration) (s : State) (q : RequesterId) (session : SessionId)
     finish_fails j what is = (no_active_step j (finish-active c s session q who j what is)).finish
 
     take_fails : (j : JobId) (what : Done) → judge c s (ev.Take session j) ≡ Ok what → passes c s (Requester q) (ev.Take session j) ≡ false
-    take_fails j what is = let asks = take-asked c s session q who j what is in (no_active_step j asks.active).take asks.asked
+    take_fails j what is = (no_asked_step j (take-asked c s session q who j what is)).take
 
     acquire_fails : (j : JobId) (what : Done) → judge c s (ev.Acquire session j) ≡ Ok what → row_holds c s (Requester q) (ev.Acquire session j) ≡ true → passes c s (Requester q) (ev.Acquire session j) ≡ false
     acquire_fails j what is holds =
         acquire-either c s session q who j what is holds
-        (λ asks. (no_active_step j asks.active).acquire asks.asked)
+        (λ asks. (no_asked_step j asks).acquire)
         (λ begin. (no_new_step j begin).acquire begin.new)
 
     submit_fails : (j : JobId) (what : Done) → judge c s (ev.Submit session j) ≡ Ok what → row_holds c s (Requester q) (ev.Submit session j) ≡ true → passes c s (Requester q) (ev.Submit session j) ≡ false
     submit_fails j what is holds = let begin = submit-begins c s session q who j what is holds in (no_new_step j begin).submit begin.new
 
-    steps-none : AllByRecursion (NoneOf c s (Requester q)) steps
+    lock_fails : (k : ℕ) (j : JobId) → active_of c q k s ≡ Some j → (kept : JobRecord) → slice_get s.jobs j.0 ≡ Some kept → find (lock_passes c s q session) (nodes_awaited s kept) ≡ None
+    lock_fails k j found kept there =
+        by_phase (is_asked kept.phase) refl where
+          by_phase : (b : Bool) → is_asked kept.phase ≡ b → find (lock_passes c s q session) (nodes_awaited s kept) ≡ None
+          by_phase true asked = ((active k j found kept there).asked asked).lock
+          by_phase false other = rw other refl
+
+    pub steps-none : AllByRecursion (NoneOf c s (Requester q)) steps
     steps-none = (
       none_of of_job.Finish (λ j what is holds. finish_fails j what is),
-      (none_of of_job.Take (λ j what is holds. take_fails j what is), (none_of of_job.Acquire acquire_fails, (none_of of_job.Submit submit_fails, tt))),
+      (
+        none_of of_job.Take (λ j what is holds. take_fails j what is),
+        (none_of of_job.Acquire acquire_fails, (none_of of_job.Submit submit_fails, (locks-none c s q session current reached lock_fails, tt))),
+      ),
     )
 
 -- ## the walks
@@ -126,9 +143,3 @@ module _ (c : Configuration) (s : State) (q : RequesterId) (session : SessionId)
   window-passed at ends passed j within = if_new j (λ new.
       let place = new-place c s q j new within in
       passed place.at (ends place.at j place.there within) j place.there)
-
--- if nothing was found on the active jobs, the window decides
-pub steps-choose : (c : Configuration) (s : State) (q : RequesterId) (session : SessionId) → is_current (Requester q) session s ≡ true → (found : Option Event) → is_some found ≡ false → ChoosesActive c s q session found → (o : Option Event) → ChoosesInWindow c s q session o → ChoosesOfAny c s (Requester q) steps o
-steps-choose c s q session current None is active None begins = steps-none c s q session current active begins
-steps-choose c s q session current None is active (Some e) useful = useful
-steps-choose c s q session current (Some found) is active o begins = absurd cc

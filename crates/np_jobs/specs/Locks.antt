@@ -1,10 +1,9 @@
 -- the nodes whose locks a requester tries
-use Rattle.std.specs.Prelude.{Bool, if◌then◌else◌, List, [], Option, find, slice_get}
+use Rattle.std.specs.Prelude.{Bool, if◌then◌else◌, List, []}
 use Rattle.std.specs.Option.{option_map_or}
 use Rattle.np_text.specs.declared.id.SessionId.{SessionId}
 use Rattle.np_text.specs.declared.id.RequesterId.{RequesterId}
 use Rattle.np_text.specs.declared.id.RequestId.{RequestId}
-use Rattle.np_text.specs.declared.id.JobId.{JobId}
 use Rattle.np_text.specs.declared.id.NodeId.{NodeId}
 use Rattle.np_text.specs.declared.id.Role.TheVariants.{Requester}
 use Rattle.np_site.specs.Configuration.{Configuration}
@@ -31,11 +30,3 @@ nodes_of_request s r = option_map_or nodes_given (request_in r s.requests) []
 -- the nodes that the job's request has given, if the job does not use them yet (own)
 abbrev pub nodes_awaited : State → JobRecord → List NodeId
 nodes_awaited s kept = if is_asked kept.phase then option_map_or (nodes_of_request s) kept.request [] else []
-
--- the nodes that are for the job with this number (own)
-abbrev pub nodes_for : State → JobId → List NodeId
-nodes_for s j = option_map_or (nodes_awaited s) (slice_get s.jobs j.0) []
-
--- the first node for the job whose lock passes (own)
-abbrev pub first_to_lock : Configuration → State → RequesterId → SessionId → JobId → Option NodeId
-first_to_lock c s q session j = find (lock_passes c s q session) (nodes_for s j)

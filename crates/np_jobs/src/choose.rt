@@ -7,9 +7,8 @@ ghost use Rattle.np_fits.specs.Fits.{Fits};
 ghost use Rattle.np_machine.specs.Session.{is_role};
 ghost use Rattle.np_roles.specs.Choices.{Chooses};
 
-use crate::lock::first_lock;
 use crate::rows::RequesterRows;
-use crate::step::first_step;
+use crate::step::{first_active_step, first_step_in_window};
 use np_event::Event;
 use np_look::Look;
 use np_roles::{
@@ -19,17 +18,18 @@ use np_text::{EndAs, RequesterId, Role};
 
 /// A useful event of the requester, or `None` if and only if there is none. It takes no memory. A
 /// job is active if it uses its nodes, or has asked for them and its request is fulfilled or
-/// failed. The choice judges at most three events for each of the requester's active jobs. Then
-/// each of its new jobs in the window costs two lookups, two more for the window test, and at most
-/// two judged events. Then it judges one event for each handle that a job has, and three for each
-/// node in whose queue its session is. Last it looks up the active jobs again, and the request of
-/// each that has asked for its nodes, and judges one event for each node of such a request that is
-/// fulfilled. It stops at the first event that is useful. An event on a node costs a few lookups,
-/// however many requests there are, if the readers `active`, `new_job`, `unfinished` and `owner`
-/// are lookups, as with an index. So the cost grows with the requester's active jobs, the nodes
-/// that their requests have, and its new jobs in the window, and not with its other jobs or all
-/// nodes. A job that waits for its nodes costs one judged event for each handle that it has, and
-/// else nothing.
+/// failed. The choice goes through the requester's active jobs up to the first on which, or on
+/// whose nodes, it finds a useful event: so it passes those that wait for a handle or for the lock
+/// of a node. For each it judges at most three events, and one or two for each node of the job.
+/// Then it judges one event for each handle that a job has. Then each of the requester's new jobs
+/// in the window costs two lookups, two more for the window test, and at most two judged events.
+/// Last it judges three events for each node in whose queue its session is. It stops at the first
+/// event that is useful. An event on a node costs a few lookups, however many requests there are,
+/// if the readers `active`, `new_job`, `unfinished` and `owner` are lookups, as with an index. So
+/// what grows the cost is the active jobs that wait for others, the nodes that they have, the
+/// handles, and the new jobs in the window that wait for semaphores, and not the requester's other
+/// jobs or all nodes. A job that waits for its nodes costs one judged event for each handle that it
+/// has, and else nothing.
 pub fn choose_requester<L: Look>(look: &L, requester: RequesterId) -> Option<Event>
     requires there { is_role (L.site look.now) (Requester requester) ≡ true }
     requires reached { IsReached (L.site look.now) (L.state look.now) }
@@ -40,7 +40,7 @@ pub fn choose_requester<L: Look>(look: &L, requester: RequesterId) -> Option<Eve
     let Some(session) = current_session(look, Role::Requester(requester)) else {
         return choose_opening(look, Role::Requester(requester));
     };
-    let found = first_step(look, &rows, session);
+    let found = first_active_step(look, &rows, session);
     if found.is_some() {
         return found;
     }
@@ -48,7 +48,11 @@ pub fn choose_requester<L: Look>(look: &L, requester: RequesterId) -> Option<Eve
     if release.is_some() {
         return release;
     }
-    let leaving = first_of_kinds(
+    let begun = first_step_in_window(look, &rows, session);
+    if begun.is_some() {
+        return begun;
+    }
+    first_of_kinds(
         look,
         &rows,
         session,
@@ -57,9 +61,5 @@ pub fn choose_requester<L: Look>(look: &L, requester: RequesterId) -> Option<Eve
             EventKind::Node(NodeKind::End(EndAs::Hold)),
             EventKind::Node(NodeKind::Unlock),
         ],
-    );
-    if leaving.is_some() {
-        return leaving;
-    }
-    first_lock(look, &rows, session)
+    )
 }

@@ -1,4 +1,4 @@
-//! What a requester does next with its jobs: it finishes, takes, acquires or submits.
+//! What a requester does next with its jobs.
 
 ghost use Rattle.std.specs.Prelude.{◌≡◌, true};
 ghost use Rattle.np_text.specs.declared.id.Role.TheVariants.{Requester};
@@ -6,9 +6,10 @@ ghost use Rattle.np_changes.specs.Planned.{IsReached};
 ghost use Rattle.np_fits.specs.Fits.{Fits};
 ghost use Rattle.np_machine.specs.Kinds.{is_asked};
 ghost use Rattle.np_useful.specs.Sessions.{is_current};
-ghost use Rattle.np_roles.specs.Choices.{ChoosesOfAny};
-ghost use Rattle.np_jobs.specs.Steps.{steps, ChoosesOfActive, ChoosesOfNew, ChoosesActive, ChoosesInWindow};
+ghost use Rattle.np_jobs.specs.Steps.{ChoosesOfAsked, ChoosesBeforeFinish, ChoosesOfActive, ChoosesOfNew, ChoosesActive, ChoosesInWindow};
 
+use crate::leave::first_to_leave;
+use crate::lock::first_to_lock;
 use crate::rows::RequesterRows;
 use crate::window::is_in_window;
 use np_event::Event;
@@ -24,9 +25,60 @@ pub(crate) fn is_asked(kept: &JobRecord) -> bool
     kept.phase == Phase::Asked
 }
 
-/// The first useful event of these on an active job: finish, take, acquire. It judges all three for
-/// a job that has asked for its nodes, whose request is fulfilled or failed, and only the finish
-/// for one that uses them.
+/// The first useful event of these on a job that has asked for its nodes and does not use them:
+/// take, acquire, and the lock of a node of its request.
+fn step_of_asked<L: Look>(
+    look: &L,
+    rows: &RequesterRows,
+    session: SessionId,
+    job: JobId,
+    kept: &JobRecord,
+) -> Option<Event>
+    requires reached { IsReached (L.site look.now) (L.state look.now) }
+    requires fits { Fits (L.site look.now) (L.state look.now) }
+    requires current { is_current (Requester rows.now.requester) session (L.state look.now) ≡ true }
+    ensures { ChoosesOfAsked (L.site look.now) (L.state look.now) rows.now.requester session job
+        kept.now result }
+{
+    let take = Event::Take { session, job };
+    if passes(look, rows, take) {
+        return Some(take);
+    }
+    let acquire = Event::Acquire { session, job };
+    if passes(look, rows, acquire) {
+        return Some(acquire);
+    }
+    match first_to_lock(look, rows, session, kept) {
+        None => None,
+        Some(node) => Some(Event::LockNode { session, node }),
+    }
+}
+
+/// The first useful event of these on an active job, before it is finished: take, acquire and
+/// lock-node if it has asked for its nodes, and end-node and unlock-node if it uses them.
+fn step_before_finish<L: Look>(
+    look: &L,
+    rows: &RequesterRows,
+    session: SessionId,
+    job: JobId,
+    kept: &JobRecord,
+) -> Option<Event>
+    requires reached { IsReached (L.site look.now) (L.state look.now) }
+    requires fits { Fits (L.site look.now) (L.state look.now) }
+    requires current { is_current (Requester rows.now.requester) session (L.state look.now) ≡ true }
+    ensures { ChoosesBeforeFinish (L.site look.now) (L.state look.now) rows.now.requester session
+        job kept.now result }
+{
+    if is_asked(kept) {
+        step_of_asked(look, rows, session, job, kept)
+    } else {
+        first_to_leave(look, rows, session, job, kept)
+    }
+}
+
+/// The first useful event of the requester on an active job: take, acquire and lock-node if it has
+/// asked for its nodes, end-node and unlock-node if it uses them, and then finish. It judges at
+/// most three events, and one or two more for each of the job's nodes.
 fn step_of_active<L: Look>(
     look: &L,
     rows: &RequesterRows,
@@ -39,25 +91,19 @@ fn step_of_active<L: Look>(
     ensures { ChoosesOfActive (L.site look.now) (L.state look.now) rows.now.requester session job
         result }
 {
-    let finish = Event::Finish { session, job };
-    if passes(look, rows, finish) {
-        return Some(finish);
-    }
     let Some(kept) = look.job(job) else {
         return None;
     };
-    if !is_asked(&kept) {
-        return None;
+    let found = step_before_finish(look, rows, session, job, &kept);
+    if found.is_some() {
+        return found;
     }
-    let take = Event::Take { session, job };
-    if passes(look, rows, take) {
-        return Some(take);
+    let finish = Event::Finish { session, job };
+    if passes(look, rows, finish) {
+        Some(finish)
+    } else {
+        None
     }
-    let acquire = Event::Acquire { session, job };
-    if passes(look, rows, acquire) {
-        return Some(acquire);
-    }
-    None
 }
 
 /// The first useful event of these on a job: acquire, submit. Only a new job has one. Of any other
@@ -91,11 +137,15 @@ fn step_of_new<L: Look>(
     None
 }
 
-/// The first useful finish, take or acquire of the requester's active jobs, the first job first.
+/// The first useful event on the requester's active jobs and their nodes, the first job first.
 /// These jobs use their nodes, or have asked for them and their request is fulfilled or failed. It
-/// judges at most three events for each of them, up to the first that is useful, and nothing for a
-/// job that waits for its nodes.
-fn first_active_step<L: Look>(look: &L, rows: &RequesterRows, session: SessionId) -> Option<Event>
+/// stops at the first job that has one, so it costs nothing for a job that waits for its nodes, and
+/// passes only active jobs that wait for others: for a handle, or for the lock of a node.
+pub(crate) fn first_active_step<L: Look>(
+    look: &L,
+    rows: &RequesterRows,
+    session: SessionId,
+) -> Option<Event>
     requires reached { IsReached (L.site look.now) (L.state look.now) }
     requires fits { Fits (L.site look.now) (L.state look.now) }
     requires current { is_current (Requester rows.now.requester) session (L.state look.now) ≡ true }
@@ -117,7 +167,7 @@ fn first_active_step<L: Look>(look: &L, rows: &RequesterRows, session: SessionId
 /// first. Each of them costs two lookups, the window test, which is two more, and at most two judged
 /// events, up to the first that is useful. The walk stops at the first new job past the window. A
 /// job that is not new costs nothing.
-fn first_step_in_window<L: Look>(
+pub(crate) fn first_step_in_window<L: Look>(
     look: &L,
     rows: &RequesterRows,
     session: SessionId,
@@ -141,25 +191,4 @@ fn first_step_in_window<L: Look>(
         }
     }
     None
-}
-
-/// A useful finish, take, acquire or submit, or `None` if and only if there is none. The active
-/// jobs come first, and then the new jobs in the window. So the cost grows with these jobs alone:
-/// one that waits for its nodes costs nothing, wherever the window ends.
-pub(crate) fn first_step<L: Look>(
-    look: &L,
-    rows: &RequesterRows,
-    session: SessionId,
-) -> Option<Event>
-    requires reached { IsReached (L.site look.now) (L.state look.now) }
-    requires fits { Fits (L.site look.now) (L.state look.now) }
-    requires current { is_current (Requester rows.now.requester) session (L.state look.now) ≡ true }
-    ensures { ChoosesOfAny (L.site look.now) (L.state look.now) (Requester rows.now.requester)
-        steps result }
-{
-    let found = first_active_step(look, rows, session);
-    if found.is_some() {
-        return found;
-    }
-    first_step_in_window(look, rows, session)
 }

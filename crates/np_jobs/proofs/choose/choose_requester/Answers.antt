@@ -13,7 +13,8 @@ returns-in_default g c =
 
 pub returns : goal.returns
 returns g c =
-    all-choose (g.L.Look.site c.args.look.now) (g.L.Look.state c.args.look.now) c.args.requester c.in-Some.session c.in-Some.ensures
-    c.first_step-found.result c.first_step-found.ensures (sym c.if-is_some.ensures)
+    all-choose (g.L.Look.site c.args.look.now) (g.L.Look.state c.args.look.now) c.args.requester c.in-Some.session c.in-Some.ensures c.requires.reached
+    c.first_active_step-found.result c.first_active_step-found.ensures (sym c.if-is_some.ensures)
     c.first_release-release.result c.first_release-release.ensures (sym c.if-is_some-2.ensures)
-    c.first_of_kinds-leaving.result c.first_of_kinds-leaving.ensures (sym c.if-is_some-3.ensures) c.first_lock.result c.first_lock.ensures
+    c.first_step_in_window-begun.result c.first_step_in_window-begun.ensures (sym c.if-is_some-3.ensures)
+    c.first_of_kinds.result c.first_of_kinds.ensures
