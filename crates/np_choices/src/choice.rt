@@ -26,9 +26,9 @@ pub fn takes_part<L: Look>(look: &L, role: Role) -> bool
 }
 
 /// A useful event of the role, or `None` if and only if there is none; a role that is not in the
-/// configuration has none. It takes no memory. The cost is that of the role's own choice: it grows
-/// with the number of requests, nodes, jobs, labels and sessions. For a node that a launcher may
-/// start it may scan all requests, and for a request all nodes.
+/// configuration has none. It takes no memory. The cost is that of the role's own choice. Over an
+/// index it grows with what the party is at work on, and not with the number of all requests, nodes
+/// or jobs.
 pub fn choose<L: Look>(look: &L, role: Role) -> Option<Event>
     requires reached { IsReached (L.site look.now) (L.state look.now) }
     requires fits { Fits (L.site look.now) (L.state look.now) }
