@@ -24,13 +24,14 @@ module _ {E : Type 0} where
   nothing_added log = ap (places (length log)) (ap (drop (length log)) (sym (append-nil log)) ∙ drop-all log [])
 
 module _ {M F E : Type 0} (history : M → List E) (fixed : M → F) (legal : F → List E → Bool) where
-  starts : (x : M) → legal (fixed x) (history x) ≡ true → Kept history fixed legal (origin_of fixed history x) (opening (0 ∷ 0 ∷ []) (x ∷ []) (first_view (origin_of fixed history x)))
-  starts x lawful = let log : List E = history x in let o : Origin F E = origin_of fixed history x in let first : SeatView F E = first_view o in record {
+  starts : (bells : List ℕ) (x : M) → legal (fixed x) (history x) ≡ true → Kept history fixed legal (origin_of fixed history x) (opening (0 ∷ 0 ∷ bells) (x ∷ []) (first_view (origin_of fixed history x)))
+  starts bells x lawful = let log : List E = history x in let o : Origin F E = origin_of fixed history x in let first : SeatView F E = first_view o in record {
     log = log;
     next = 0;
     now = 0;
     drawer = λ _. 0;
     home = some x;
+    bells = bells;
     words = refl;
     homes = refl;
     order = omega arith;
@@ -52,8 +53,8 @@ module _ {M F E : Type 0} (history : M → List E) (fixed : M → F) (legal : F 
     };
   }
 
-  pub starts_at : (x y : M) (xs : List M) → y ≡ x → xs ≡ x ∷ [] → legal (fixed x) (history x) ≡ true → Kept history fixed legal (origin_of fixed history y) (opening (0 ∷ 0 ∷ []) xs (first_view (origin_of fixed history y)))
-  starts_at x y xs same is lawful = subst (λ (z : M × List M). Kept history fixed legal (origin_of fixed history z.0) (opening (0 ∷ 0 ∷ []) z.1 (first_view (origin_of fixed history z.0)))) (λ i. (sym same i, sym is i)) (starts x lawful)
+  pub starts_at : (bells : List ℕ) (x y : M) (xs : List M) → y ≡ x → xs ≡ x ∷ [] → legal (fixed x) (history x) ≡ true → Kept history fixed legal (origin_of fixed history y) (opening (0 ∷ 0 ∷ bells) xs (first_view (origin_of fixed history y)))
+  starts_at bells x y xs same is lawful = subst (λ (z : M × List M). Kept history fixed legal (origin_of fixed history z.0) (opening (0 ∷ 0 ∷ bells) z.1 (first_view (origin_of fixed history z.0)))) (λ i. (sym same i, sym is i)) (starts bells x lawful)
 
   -- the first pass
   pub first_pass : (x y : M) (me : Me M (SeatView F E)) → y ≡ x → legal (fixed x) (history x) ≡ true → me ≡ (first_view (origin_of fixed history y), []) → IsPass legal me

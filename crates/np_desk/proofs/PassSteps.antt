@@ -47,6 +47,7 @@ module _ {M F E : Type 0} (history : M → List E) (fixed : M → F) (legal : F 
           now = r.now;
           drawer = r.drawer;
           home = r.home;
+          bells = r.bells;
           words = set-get_or s.words 0 0 ∙ r.words;
           homes = r.homes;
           order = r.order;
@@ -76,6 +77,7 @@ module _ {M F E : Type 0} (history : M → List E) (fixed : M → F) (legal : F 
     now = r.now;
     drawer = r.drawer;
     home = r.home;
+    bells = r.bells;
     words = r.words;
     homes = r.homes;
     order = r.order;
@@ -100,6 +102,7 @@ module _ {M F E : Type 0} (history : M → List E) (fixed : M → F) (legal : F 
         now = r.now;
         drawer = r.drawer;
         home = r.home;
+        bells = r.bells;
         words = r.words;
         homes = r.homes;
         order = r.order;

@@ -11,7 +11,7 @@ use Rattle.atomic_table.specs.Table.{State, Me, step, Act, keeps, takes, gives, 
 use Rattle.atomic_table.proofs.Lists.{at_set, set_here, set_else, set_again, exchanged}
 use Rattle.np_desk.specs.History.{StartsWith, places}
 use Rattle.np_desk.specs.Rule.{Stands, Fits, Kept, IsHome, IsOut}
-use Rattle.np_desk.specs.Step.{seat_view, at_stage, after_turn, looked, drew, posted, KnowsMine}
+use Rattle.np_desk.specs.Step.{seat_view, at_stage, after_turn, looked, drew, posted, rung, KnowsMine}
 use Rattle.np_desk.specs.declared.view.Origin.{Origin}
 use Rattle.np_desk.specs.declared.view.SeatView.{SeatView}
 use Rattle.np_desk.specs.declared.view.Stage.{Stage}
@@ -58,6 +58,33 @@ module _ {M F E : Type 0} (history : M → List E) (fixed : M → F) (legal : F 
   unmoved : (s : St) (r : Rule s) (i id : ℕ) (m : Sat) → get_elem? s.views id ≡ some m.0 → Rule (stepped s i (get_or s.words i 0) id m.1 m.0 keeps)
   unmoved s r i id m at = subst (λ (z : List ℕ × List (SeatView F E)). Rule record { words = z.0; homes = s.homes; views = z.1 }) (λ k. (sym (set-get_or s.words i 0) k, sym (set_again s.views id m.0 at) k)) r
 
+  -- a bell rings
+  bell : (s : St) → Rule s → (i new : ℕ) → Rule record { words = set s.words (suc (suc i)) new; homes = s.homes; views = s.views }
+  bell s r i new = record {
+    log = r.log;
+    next = r.next;
+    now = r.now;
+    drawer = r.drawer;
+    home = r.home;
+    bells = set r.bells i new;
+    words = ap (λ (ws : List ℕ). set ws (suc (suc i)) new) r.words;
+    homes = r.homes;
+    order = r.order;
+    lawful = r.lawful;
+    object = r.object;
+    each_seat = r.each_seat;
+    shared = r.shared;
+  }
+
+  pub rings : (slots id : ℕ) (m : Sat) (word i new : ℕ) → word ≡ suc (suc i) → Allows Rule slots id m word (λ _. new) (rung (step slots word new 0 none) m)
+  rings slots id m word i new is s r deep at small = (
+    m.0,
+    keeps,
+    tt,
+    subst (λ (z : ℕ × List (SeatView F E)). Rule record { words = set s.words z.0 new; homes = s.homes; views = z.1 }) (λ k. (sym is k, sym (set_again s.views id m.0 at) k)) (bell s r i new),
+    refl,
+  )
+
   pub draws : (slots id : ℕ) (m : Sat) (old new : ℕ) → new ≡ suc old → m.0.stage ≡ Idle → 0 < length m.0.part
       → Allows Rule slots id m 0 (λ x. either (eqb x old) new x) (drew (step slots 0 old new none) m)
   draws slots id m old new up idle some_part s r deep at small = exchanged (get_or s.words 0 0) old new
@@ -76,7 +103,8 @@ module _ {M F E : Type 0} (history : M → List E) (fixed : M → F) (legal : F 
           now = r.now;
           drawer = drawer;
           home = r.home;
-          words = ap (λ (ws : List ℕ). set ws 0 new) r.words ∙ ap (λ (k : ℕ). k ∷ r.now ∷ []) (omega (arith, up, found));
+          bells = r.bells;
+          words = ap (λ (ws : List ℕ). set ws 0 new) r.words ∙ ap (λ (k : ℕ). k ∷ r.now ∷ r.bells) (omega (arith, up, found));
           homes = r.homes;
           order = omega (arith, r.order);
           lawful = r.lawful;
@@ -116,6 +144,7 @@ module _ {M F E : Type 0} (history : M → List E) (fixed : M → F) (legal : F 
           now = r.now;
           drawer = r.drawer;
           home = none;
+          bells = r.bells;
           words = set-get_or s.words 1 0 ∙ r.words;
           homes = ap (λ (hs : List (Option M)). set hs 0 none) home;
           order = r.order;
@@ -159,7 +188,8 @@ module _ {M F E : Type 0} (history : M → List E) (fixed : M → F) (legal : F 
           now = suc r.now;
           drawer = r.drawer;
           home = some x;
-          words = ap (λ (ws : List ℕ). set ws 1 new) r.words ∙ ap (λ (k : ℕ). r.next ∷ k ∷ []) (up ∙ ap suc (sym mine.0));
+          bells = r.bells;
+          words = ap (λ (ws : List ℕ). set ws 1 new) r.words ∙ ap (λ (k : ℕ). r.next ∷ k ∷ r.bells) (up ∙ ap suc (sym mine.0));
           homes = ap (λ (hs : List (Option M)). set hs 0 (some x)) r.homes;
           order = omega (arith, mine.0, mine.1);
           lawful = ap (legal o.fixed) (sym now_all) ∙ lawful;

@@ -1,6 +1,7 @@
 -- The desk's rule, which holds between any two steps on its table.
 --
--- Word 0 is the next ticket, word 1 the ticket that is served, and the one slot holds the object.
+-- Word 0 is the next ticket, word 1 the ticket that is served, and the one slot holds the object. The
+-- other words are bells, which may have any number.
 -- There is one legal history, of which each seat has seen a beginning.
 -- Each ticket below the next was drawn by one seat. The object is at home and has that history, or
 -- it is out with the one seat that drew the ticket that is served.
@@ -62,7 +63,8 @@ module _ {M F E : Type 0} (history : M → List E) (fixed : M → F) (legal : F 
     pub now : ℕ
     pub drawer : ℕ → ℕ
     pub home : Option M
-    pub words : s.words ≡ next ∷ now ∷ []
+    pub bells : List ℕ
+    pub words : s.words ≡ next ∷ now ∷ bells
     pub homes : s.homes ≡ home ∷ []
     pub order : now ≤ next
     pub lawful : legal o.fixed log ≡ true

@@ -11,9 +11,9 @@ use Rattle.np_desk.specs.declared.view.SeatView.{SeatView}
 use Rattle.np_desk.specs.declared.view.Stage.{Stage}
 use Rattle.np_desk.specs.declared.view.Stage.TheVariants.{Idle, Waits, Has}
 
--- a desk's table has two words and one slot
+-- a desk's table has two words for tickets, 64 bells and one slot
 abbrev pub IsDesk : TableId → Type 0
-IsDesk z = (z.words ≡ 2) × (z.slots ≡ 1)
+IsDesk z = (z.words ≡ 66) × (z.slots ≡ 1)
 
 module _ {F E : Type 0} where
   abbrev pub seat_view : std.Option (Origin F E) → List E → List ℕ → List (List Bool) → List E
@@ -96,6 +96,10 @@ module _ {M F E : Type 0} where
   -- if the number that was found is the one expected, the seat drew it as its ticket
   abbrev pub drew : Step M → Me M (SeatView F E) → ℕ → Me M (SeatView F E) → Type 0
   drew st m r n = (r ≡ st.first → n ≡ (at_stage m.0 (Waits r), m.1)) × (r ≢ st.first → n ≡ m)
+
+  -- a bell was rung, of which the seat learns nothing
+  abbrev pub rung : Step M → Me M (SeatView F E) → ℕ → Me M (SeatView F E) → Type 0
+  rung st m r n = n ≡ m
 
 module _ {M F E : Type 0} (history : M → List E) (fixed : M → F) (legal : F → List E → Bool) where
   abbrev pub IsLawful : F → M → Type 0

@@ -6,6 +6,7 @@ ghost use Rattle.np_desk.specs.Part.{IsWhole};
 ghost use Rattle.np_desk.specs.Pass.{DeskView, IsOf, origin_of};
 ghost use Rattle.np_desk.specs.Step.{IsDesk, desk_view};
 
+use crate::bell::WORDS;
 use crate::object::SeqObject;
 use crate::pass::Pass;
 use crate::rule::Law;
@@ -51,7 +52,7 @@ impl<M: SeqObject> Desk<M> {
             return Err(SetUpFailed { object });
         };
         slots.push_reserved(object);
-        match Table::new(alloc, &[0, 0], slots, &about) {
+        match Table::new(alloc, &[0; WORDS], slots, &about) {
             Ok((table, seat)) => Ok((Desk { table }, Pass { seat })),
             Err(Refused { mut slots }) => {
                 let object = slots.pop().unwrap();

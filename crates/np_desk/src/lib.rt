@@ -9,6 +9,7 @@
 #![tactic(auto)]
 
 mod alone;
+mod bell;
 mod desk;
 mod object;
 mod on_desk;

@@ -46,7 +46,8 @@ impl<M: SeqObject> Pass<M> {
     }
 
     /// Takes a turn at the object: draws a ticket, waits until it is served, asks, and calls the
-    /// next ticket, even if memory ran out. Wakes all threads that wait at the desk.
+    /// next ticket, even if memory ran out. Wakes the threads that wait at the next ticket's bell: one
+    /// at most, if no more than 64 wait at the desk.
     pub fn turn<R: Wait>(
         &mut self,
         rt: &R,

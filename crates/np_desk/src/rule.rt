@@ -2,7 +2,7 @@
 
 ghost use Rattle.np_desk.specs.Rule.{Kept};
 ghost use Rattle.np_desk.specs.Pass.{origin_of};
-ghost use Rattle.np_desk.specs.Step.{first_view, spent, drew, looked, posted, learned, left_half, right_half, both_views};
+ghost use Rattle.np_desk.specs.Step.{first_view, spent, drew, looked, posted, rung, learned, left_half, right_half, both_views};
 
 use crate::object::SeqObject;
 use crate::view::SeatView;
@@ -10,7 +10,8 @@ use atomic_table::{Join, Play, Split, TableRule};
 use std::marker::PhantomData;
 use std::snapshot::Snapshot;
 
-/// Word 0 is the next ticket, word 1 the one that is served, and slot 0 holds the object.
+/// Word 0 is the next ticket, word 1 the one that is served, the other words are bells, and slot 0
+/// holds the object.
 pub struct Law<M> {
     object: PhantomData<M>,
 }
@@ -44,6 +45,13 @@ pub struct Post<M> {
 
 impl<M: SeqObject> Play<M, SeatView<M::Fixed, M::Entry>> for Post<M> {
     ghost then = { posted M.history };
+}
+
+/// A bell is rung.
+pub struct Ring;
+
+impl<M, F, E> Play<M, SeatView<F, E>> for Ring {
+    ghost then = { rung };
 }
 
 /// All of the history so far is seen.

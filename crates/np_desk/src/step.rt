@@ -7,8 +7,9 @@ ghost use Rattle.np_desk.specs.Pass.{origin_of};
 ghost use Rattle.np_desk.specs.Step.{IsDesk, IsAt, IsServed, at_stage, after_turn, KnowsMine, HasObject};
 ghost use Rattle.np_desk.specs.Turned.{entries_of};
 
+use crate::bell::bell;
 use crate::object::SeqObject;
-use crate::rule::{Draw, Law, Look, Post};
+use crate::rule::{Draw, Law, Look, Post, Ring};
 use crate::view::SeatView;
 use atomic_table::{Seat, Shared};
 use np_text::NoMemory;
@@ -41,7 +42,8 @@ pub fn draw<M: SeqObject, R: Wait>(
     unreachable!()
 }
 
-/// Waits until the ticket is served, and takes the object.
+/// Waits until the ticket is served, and takes the object. It reads the ticket's bell before it looks
+/// which ticket is served, and sleeps only if the bell was not rung since: so it can't miss the ring.
 pub fn take<M: SeqObject, R: Wait>(
     rt: &R,
     table: &Shared<M, SeatView<M::Fixed, M::Entry>, Snapshot<M>, Law<M>>,
@@ -58,11 +60,12 @@ pub fn take<M: SeqObject, R: Wait>(
         (λ h. h ≡ seat.new.me.0.seen) }
 {
     for _ in rt.forever() {
+        let rung = table.peek(bell(ticket));
         let found = table.load::<Look<M>>(seat, 1);
         if found == ticket {
             return;
         }
-        table.park(rt, 1, (found % (1 << 32)) as u32);
+        table.park(rt, bell(ticket), (rung % (1 << 32)) as u32);
     }
     unreachable!()
 }
@@ -87,7 +90,8 @@ pub fn ask<M: SeqObject>(
     seat.slot_mut(table, 0).turn(ask)
 }
 
-/// Puts the object back, and calls the next ticket.
+/// Puts the object back, calls the next ticket and rings its bell, which wakes the threads that wait
+/// at it. Each ticket is another number, so a bell that was rung has changed.
 pub fn post<M: SeqObject>(
     table: &Shared<M, SeatView<M::Fixed, M::Entry>, Snapshot<M>, Law<M>>,
     seat: &mut Seat<M, SeatView<M::Fixed, M::Entry>>,
@@ -104,6 +108,8 @@ pub fn post<M: SeqObject>(
         (λ h. (seat.new.me ≡ (after_turn seat.old.me.0 h, []))
         × KnowsMine (after_turn seat.old.me.0 h)) }
 {
-    table.store::<Post<M>>(seat, 1, ticket + 1);
-    table.wake_all(1);
+    let next = ticket + 1;
+    table.store::<Post<M>>(seat, 1, next);
+    table.store::<Ring>(seat, bell(next), next);
+    table.wake_all(bell(next));
 }
