@@ -16,9 +16,9 @@ use Rattle.np_useful.specs.Sessions.{is_current, has_current}
 use Rattle.np_roles.proofs.Places.{StandsIn}
 use Rattle.np_roles.proofs.Queues.{holder-queued, queued-node}
 use Rattle.np_roles.proofs.Currents.{one-current, current-has}
-use Rattle.np_board.specs.Answers.{IsDue}
+use Rattle.np_answers.specs.Answers.{IsDue}
 use Rattle.np_board.specs.Due.{is_due}
-use Rattle.np_board.proofs.LegalLemmas.{both-true, and-true}
+use Rattle.np_answers.proofs.LegalLemmas.{both-true, and-true}
 
 same-number : (a : ℕ) → (a == a) ≡ true
 same-number a = grind (arith, nat_tests)

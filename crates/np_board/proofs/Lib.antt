@@ -1,5 +1,2 @@
-pub mod ReplyLemmas
-pub mod LegalLemmas
-pub mod SweepLemmas
 pub mod DueLemmas
 pub mod TurnLemmas

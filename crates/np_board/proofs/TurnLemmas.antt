@@ -20,30 +20,16 @@ use Rattle.np_rules.specs.Ran.{Ran, answer_of, applied, has_room}
 use Rattle.np_desk.specs.Turned.{entries_of}
 use Rattle.np_useful.specs.Sessions.{is_current}
 use Rattle.np_useful.specs.Useful.{IsUseful}
-use Rattle.np_board.specs.declared.ask.Ask.{Ask}
-use Rattle.np_board.specs.declared.ask.Ask.TheVariants as asks
-use Rattle.np_board.specs.declared.ask.Turn.{Turn}
-use Rattle.np_board.specs.declared.ask.Turn.TheVariants as turn
-use Rattle.np_board.specs.Answers.{IsReplied, IsKept, IsNotKept, answers, answers_act, answers_do, answers_due, answers_sweep}
-use Rattle.np_board.specs.Asks.{recorded}
-use Rattle.np_board.specs.Legal.{is_legal}
+use Rattle.np_answers.specs.declared.ask.Ask.{Ask}
+use Rattle.np_answers.specs.declared.ask.Ask.TheVariants as asks
+use Rattle.np_answers.specs.declared.ask.Turn.{Turn}
+use Rattle.np_answers.specs.declared.ask.Turn.TheVariants as turn
+use Rattle.np_answers.specs.Answers.{IsKept, IsNotKept, answers, answers_act, answers_do, answers_due, answers_sweep}
+use Rattle.np_answers.specs.Asks.{recorded}
+use Rattle.np_answers.specs.Legal.{is_legal}
 use Rattle.np_board.specs.Taken.{IsTaken}
-use Rattle.np_board.proofs.LegalLemmas.{legal-next}
-
--- ## an entry that was recorded
-
-replied-as : (c : Configuration) (journal : List Entry) (d e : Entry) → Some d ≡ Some e → IsReplied c journal d → IsReplied c journal e
-replied-as c journal d e is replied = let same : d ≡ e = cc in subst (λ (x : Entry). IsReplied c journal x) same replied
-
-pub turn-replied : (c : Configuration) (journal : List Entry) (ask : Ask) (t : Turn) (e : Entry) → answers c journal ask t → recorded ask t ≡ Some e → IsReplied c journal e
-turn-replied c journal (asks.Act role) (turn.Did d) e answer is = replied-as c journal d e is answer.1
-turn-replied c journal (asks.Do event) (turn.Did d) e answer is = replied-as c journal d e is answer.1
-turn-replied c journal (asks.Due p) (turn.Did d) e answer is = absurd answer
-turn-replied c journal (asks.Sweep p n x) (turn.Did d) e answer is = replied-as c journal d e is answer.3
-turn-replied c journal ask (turn.DueNode n x) e answer is = absurd cc
-turn-replied c journal ask turn.Swept e answer is = absurd cc
-turn-replied c journal ask turn.Idle e answer is = absurd cc
-turn-replied c journal ask turn.Full e answer is = absurd cc
+use Rattle.np_answers.proofs.LegalLemmas.{legal-next}
+use Rattle.np_answers.proofs.Recorded.{turn-replied}
 
 -- ## a turn that records nothing
 

@@ -7,15 +7,15 @@ ghost use Rattle.np_fits.specs.Fits.{IsFitSite};
 ghost use Rattle.np_index.specs.Index.{IsIndexOf};
 ghost use Rattle.np_rules.specs.Ran.{answer_of, applied};
 ghost use Rattle.np_useful.specs.Settled.{IsSettled};
-ghost use Rattle.np_board.specs.Answers.{answers_due};
+ghost use Rattle.np_answers.specs.Answers.{answers_due};
 ghost use Rattle.np_board.specs.Taken.{IsTaken};
-ghost use Rattle.np_board.specs.declared.ask.Ask.TheVariants as asks;
+ghost use Rattle.np_answers.specs.declared.ask.Ask.TheVariants as asks;
 
 mod look;
 mod object;
 
-use crate::ask::{Ask, Turn};
 use crate::due::{due_node, is_wanted};
+use np_answers::{Ask, Turn};
 use np_choices::{choose, is_settled};
 use np_config::Config;
 use np_event::{Entry, Event, Reply};

@@ -4,9 +4,10 @@
 ghost use Rattle.std.specs.Prelude.{◌≡◌, true, IfOk};
 ghost use Rattle.np_fits.specs.Fits.{Fits};
 ghost use Rattle.np_index.specs.Index.{IsIndexOf};
-ghost use Rattle.np_board.specs.Legal.{is_legal};
+ghost use Rattle.np_answers.specs.Legal.{is_legal};
 
-use np_board::{Ask, Board, Turn};
+use np_answers::{Ask, Turn};
+use np_board::Board;
 use np_config::Config;
 use np_desk::{Alone, Turns};
 use np_event::{Done, Entry, Event, Outcome, Reply};
@@ -169,6 +170,26 @@ fn have_equal_room(board: &Board, one: &Index, other: &Index, at: u32) -> bool
     one.blocking(board, pool, &asked) == other.blocking(board, pool, &asked)
 }
 
+// Both indexes have the same queues for each of the first sessions.
+fn have_equal_queues(one: &Index, other: &Index) -> bool {
+    for number in 0..16 {
+        let session = SessionId(number);
+        if one.requests_of(session) != other.requests_of(session)
+            || one.nodes_of(session) != other.nodes_of(session)
+        {
+            return false;
+        }
+    }
+    true
+}
+
+// Both indexes have the same first and second of the requester's jobs that are not over.
+fn have_equal_unfinished(one: &Index, other: &Index) -> bool {
+    let requester = RequesterId(0);
+    one.unfinished(requester, 0) == other.unfinished(requester, 0)
+        && one.unfinished(requester, 1) == other.unfinished(requester, 1)
+}
+
 // Both indexes have the same of all kinds.
 fn are_equal(board: &Board, one: &Index, other: &Index) -> bool
     requires fits { Fits board.now.configuration board.now.state }
@@ -178,6 +199,8 @@ fn are_equal(board: &Board, one: &Index, other: &Index) -> bool
     have_equal_groups(one, other)
         && have_equal_handles(one, other)
         && have_equal_members(one, other)
+        && have_equal_unfinished(one, other)
+        && have_equal_queues(one, other)
         && have_equal_counts(board, one, other)
         && have_equal_room(board, one, other, 0)
         && have_equal_room(board, one, other, 1)
@@ -187,24 +210,7 @@ fn are_equal(board: &Board, one: &Index, other: &Index) -> bool
 fn is_rebuilt(alloc: Global, board: &Board) -> Result<bool, NoMemory> {
     board.soundness();
     let made = Index::rebuild(alloc, board)?;
-    let kept = board.index();
-    if !are_equal(board, &made, kept) {
-        return Ok(false);
-    }
-    for number in 0..16 {
-        let session = SessionId(number);
-        if made.requests_of(session) != kept.requests_of(session)
-            || made.nodes_of(session) != kept.nodes_of(session)
-        {
-            return Ok(false);
-        }
-    }
-    let requester = RequesterId(0);
-    Ok(has_unfinished(
-        board,
-        made.unfinished(requester, 0),
-        made.unfinished(requester, 1),
-    ))
+    Ok(are_equal(board, &made, board.index()))
 }
 
 // The end of the launch, if the entry is a start: the server of its number.

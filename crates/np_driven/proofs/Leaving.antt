@@ -17,12 +17,12 @@ use Rattle.np_desk.specs.Pass.{Sight}
 use Rattle.np_desk.specs.Turned.{Answered, Records}
 use Rattle.np_machine.specs.History.{after}
 use Rattle.np_machine.specs.Node.{is_swept}
-use Rattle.np_board.specs.declared.ask.Ask.{Ask}
-use Rattle.np_board.specs.declared.ask.Ask.TheVariants as ask
-use Rattle.np_board.specs.declared.ask.Turn.{Turn}
-use Rattle.np_board.specs.declared.ask.Turn.TheVariants as turn
-use Rattle.np_board.specs.Answers.{IsDue, answers, answers_sweep}
-use Rattle.np_board.specs.Asks.{recorded}
+use Rattle.np_answers.specs.declared.ask.Ask.{Ask}
+use Rattle.np_answers.specs.declared.ask.Ask.TheVariants as ask
+use Rattle.np_answers.specs.declared.ask.Turn.{Turn}
+use Rattle.np_answers.specs.declared.ask.Turn.TheVariants as turn
+use Rattle.np_answers.specs.Answers.{IsDue, answers, answers_sweep}
+use Rattle.np_answers.specs.Asks.{recorded}
 use Rattle.np_trace.specs.Drive.{IsOfServer, SweepsServers, servers_after}
 use Rattle.np_trace.specs.Move.{Move, asked, launched, removed, launches_of}
 use Rattle.np_trace.specs.Phase.{of_pool, is_unwanted}

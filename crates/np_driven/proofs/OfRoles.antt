@@ -24,12 +24,12 @@ use Rattle.np_useful.specs.Useful.{IsUseful, is_maker_of, row_holds}
 use Rattle.np_desk.specs.History.{StartsWith}
 use Rattle.np_desk.specs.Pass.{Sight}
 use Rattle.np_desk.specs.Turned.{Records}
-use Rattle.np_board.specs.declared.ask.Ask.{Ask}
-use Rattle.np_board.specs.declared.ask.Ask.TheVariants as ask
-use Rattle.np_board.specs.declared.ask.Turn.{Turn}
-use Rattle.np_board.specs.declared.ask.Turn.TheVariants as turn
-use Rattle.np_board.specs.Asks.{recorded}
-use Rattle.np_board.specs.Answers.{answers, answers_act, answers_do, answers_due, answers_sweep}
+use Rattle.np_answers.specs.declared.ask.Ask.{Ask}
+use Rattle.np_answers.specs.declared.ask.Ask.TheVariants as ask
+use Rattle.np_answers.specs.declared.ask.Turn.{Turn}
+use Rattle.np_answers.specs.declared.ask.Turn.TheVariants as turn
+use Rattle.np_answers.specs.Asks.{recorded}
+use Rattle.np_answers.specs.Answers.{answers, answers_act, answers_do, answers_due, answers_sweep}
 use Rattle.np_trace.specs.declared.start.Start.{Start}
 use Rattle.np_trace.specs.Move.{Move, asked, launched, removed}
 use Rattle.np_trace.specs.Phase.{Work, of_pool, of_requester, of_reaper, Phase, owes_launch, owes_report, acting, first_phase, after_turn, after_launch, after_removal, start_of, report_of, Leads}

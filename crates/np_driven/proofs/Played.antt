@@ -7,7 +7,7 @@ use Rattle.np_cloud.specs.declared.driver.Launch.{Launch}
 use Rattle.np_cloud.specs.declared.driver.Server.{Server}
 use Rattle.np_desk.specs.History.{StartsWith, AreRising}
 use Rattle.np_desk.specs.Pass.{Sight}
-use Rattle.np_board.specs.Answers.{answers}
+use Rattle.np_answers.specs.Answers.{answers}
 use Rattle.np_trace.specs.Drive.{Driving, Drives, Drove, servers_after}
 use Rattle.np_trace.specs.Move.{launches_of}
 use Rattle.np_trace.specs.Phase.{Work, Phase, acts, owes_launch, owes_report, looks, owes_due, sweeps, owes_swept, rests, ended, first_phase}

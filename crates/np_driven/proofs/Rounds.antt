@@ -21,7 +21,7 @@ use Rattle.np_driven.specs.Round.{PlayerEnd, IsRound}
 use Rattle.np_driven.proofs.Made.{IsActed, IsSwept, IsReported, Follows}
 use Rattle.np_driven.proofs.Splits.{split-outer, length-split, none-between}
 use Rattle.np_driven.proofs.Places.{turn_after, some-from, each-from, driven-at, driven-from, turn-more}
-use Rattle.np_board.proofs.SweepLemmas.{sweep-removes}
+use Rattle.np_answers.proofs.SweepLemmas.{sweep-removes}
 use Rattle.np_driven.proofs.Played.{places_rise, places_new}
 use Rattle.np_driven.proofs.Roles.{useful-tickless}
 use Rattle.np_driven.proofs.Ends.{player_of, player-there, numbered-now, one-end}

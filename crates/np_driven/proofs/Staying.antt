@@ -13,11 +13,11 @@ use Rattle.np_cloud.specs.declared.driver.Server.{Server}
 use Rattle.np_desk.specs.History.{StartsWith}
 use Rattle.np_desk.specs.Pass.{Sight}
 use Rattle.np_desk.specs.Turned.{Answered, Records}
-use Rattle.np_board.specs.declared.ask.Ask.TheVariants as ask
-use Rattle.np_board.specs.declared.ask.Turn.{Turn}
-use Rattle.np_board.specs.declared.ask.Turn.TheVariants as turn
-use Rattle.np_board.specs.Answers.{answers, answers_sweep}
-use Rattle.np_board.specs.Asks.{recorded}
+use Rattle.np_answers.specs.declared.ask.Ask.TheVariants as ask
+use Rattle.np_answers.specs.declared.ask.Turn.{Turn}
+use Rattle.np_answers.specs.declared.ask.Turn.TheVariants as turn
+use Rattle.np_answers.specs.Answers.{answers, answers_sweep}
+use Rattle.np_answers.specs.Asks.{recorded}
 use Rattle.np_trace.specs.Move.{Move, asked, launched, removed}
 use Rattle.np_trace.specs.Phase.{is_remove, is_unwanted}
 use Rattle.np_trace.specs.Trace.{AreInOrder, WasFull, stage_of}

@@ -15,12 +15,12 @@ use Rattle.np_cloud.specs.Calls.{with_launched}
 use Rattle.np_desk.specs.History.{StartsWith}
 use Rattle.np_desk.specs.Pass.{Sight}
 use Rattle.np_desk.specs.Turned.{Answered, Unturned}
-use Rattle.np_board.specs.declared.ask.Ask.{Ask}
-use Rattle.np_board.specs.declared.ask.Ask.TheVariants as ask
-use Rattle.np_board.specs.declared.ask.Turn.{Turn}
-use Rattle.np_board.specs.declared.ask.Turn.TheVariants as turn
-use Rattle.np_board.specs.Asks.{recorded}
-use Rattle.np_board.specs.Answers.{IsFull, answers, answers_act, answers_sweep}
+use Rattle.np_answers.specs.declared.ask.Ask.{Ask}
+use Rattle.np_answers.specs.declared.ask.Ask.TheVariants as ask
+use Rattle.np_answers.specs.declared.ask.Turn.{Turn}
+use Rattle.np_answers.specs.declared.ask.Turn.TheVariants as turn
+use Rattle.np_answers.specs.Asks.{recorded}
+use Rattle.np_answers.specs.Answers.{IsFull, answers, answers_act, answers_sweep}
 use Rattle.np_trace.specs.declared.start.Start.{Start}
 use Rattle.np_trace.specs.Drive.{IsOfServer}
 use Rattle.np_trace.specs.Phase.{Work, of_pool, Phase, acts, owes_launch, owes_report, looks, owes_due, sweeps, owes_swept, rests, ended, after_start, after_entry, after_act, after_report, after_look, after_sweep, after_turn, is_remove, start_of, report_of, MayAsk}

@@ -12,7 +12,7 @@ use Rattle.np_cloud.specs.declared.driver.Server.{Server}
 use Rattle.np_cloud.specs.Calls.{with_launched, without_number}
 use Rattle.np_desk.specs.Pass.{Sight}
 use Rattle.np_desk.specs.Turned.{Unturned}
-use Rattle.np_board.specs.Answers.{answers}
+use Rattle.np_answers.specs.Answers.{answers}
 use Rattle.np_trace.specs.Drive.{servers_after, SweepsServers}
 use Rattle.np_trace.specs.Move.{Move, asked, launched, removed, launches_of}
 use Rattle.np_trace.specs.Phase.{Work, of_pool, Phase, acts, owes_launch, owes_report, looks, owes_due, sweeps, owes_swept, rests, ended, after_turn, after_launch, after_removal, MayLaunch, MayRemove, Leads}

@@ -8,7 +8,7 @@ use Rattle.np_site.specs.Configuration.{Configuration}
 use Rattle.np_event.specs.declared.entry.Entry.{Entry}
 use Rattle.np_cloud.specs.declared.driver.Server.{Server}
 use Rattle.np_desk.specs.Pass.{Sight}
-use Rattle.np_board.specs.Answers.{answers}
+use Rattle.np_answers.specs.Answers.{answers}
 use Rattle.np_trace.specs.Drive.{Driving, Drives, Drove, SweepsServers, servers_after}
 use Rattle.np_trace.specs.Move.{Move}
 use Rattle.np_trace.specs.Phase.{Work, of_pool, Phase, Leads, ended, first_phase}
@@ -24,7 +24,7 @@ use Rattle.np_driven.specs.Servers.{HasServers, IsOfRound, IsOnlyOfItsNumber, Is
 use Rattle.np_desk.proofs.HistoryLemmas.{starts_same}
 use Rattle.np_driven.proofs.Leaving.{round-server_leaves, removed-cause}
 use Rattle.np_driven.proofs.Staying.{kept-stays}
-use Rattle.np_board.proofs.SweepLemmas.{sweep-removes}
+use Rattle.np_answers.proofs.SweepLemmas.{sweep-removes}
 
 -- ## leaving
 

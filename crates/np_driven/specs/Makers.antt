@@ -12,7 +12,7 @@ use Rattle.np_machine.specs.Step.{maker_of}
 use Rattle.np_machine.specs.Tables.{role_of}
 use Rattle.np_machine.specs.History.{after}
 use Rattle.np_desk.specs.History.{StartsWith}
-use Rattle.np_board.specs.declared.ask.Ask.TheVariants as ask
+use Rattle.np_answers.specs.declared.ask.Ask.TheVariants as ask
 use Rattle.np_trace.specs.Phase.{Work}
 use Rattle.np_trace.specs.Trace.{IsAskOf}
 

@@ -4,7 +4,7 @@ use Rattle.np_site.specs.Configuration.{Configuration}
 use Rattle.np_event.specs.declared.entry.Entry.{Entry}
 use Rattle.np_desk.specs.History.{StartsWith}
 use Rattle.np_desk.specs.Pass.{Sight}
-use Rattle.np_board.specs.Answers.{answers}
+use Rattle.np_answers.specs.Answers.{answers}
 use Rattle.np_trace.specs.Drive.{Drove}
 use Rattle.np_trace.specs.Move.{Move}
 use Rattle.np_trace.specs.Phase.{Phase, Leads, first_phase, owes_report, ended}

@@ -11,12 +11,12 @@ use Rattle.np_desk.specs.History.{StartsWith}
 use Rattle.np_desk.specs.Pass.{Sight}
 use Rattle.np_desk.specs.Turned.{Answered}
 use Rattle.np_desk.proofs.HistoryLemmas.{starts_more, starts_on}
-use Rattle.np_board.specs.declared.ask.Ask.{Ask}
-use Rattle.np_board.specs.declared.ask.Ask.TheVariants as ask
-use Rattle.np_board.specs.declared.ask.Turn.{Turn}
-use Rattle.np_board.specs.declared.ask.Turn.TheVariants as turn
-use Rattle.np_board.specs.Answers.{answers, IsFull}
-use Rattle.np_board.specs.Asks.{recorded}
+use Rattle.np_answers.specs.declared.ask.Ask.{Ask}
+use Rattle.np_answers.specs.declared.ask.Ask.TheVariants as ask
+use Rattle.np_answers.specs.declared.ask.Turn.{Turn}
+use Rattle.np_answers.specs.declared.ask.Turn.TheVariants as turn
+use Rattle.np_answers.specs.Answers.{answers, IsFull}
+use Rattle.np_answers.specs.Asks.{recorded}
 use Rattle.np_trace.specs.declared.start.Start.{Start}
 use Rattle.np_trace.specs.Move.{Move, asked, launched, removed}
 use Rattle.np_trace.specs.Phase.{Work, of_pool, of_requester, of_reaper, Phase, acts, owes_launch, owes_report, looks, owes_due, sweeps, owes_swept, rests, ended, Leads, first_phase, acting, after_role, after_start, after_entry, after_turn, after_launch, after_removal, start_of, is_unwanted}

@@ -11,7 +11,7 @@ use Rattle.np_desk.specs.Pass.{PassView, DeskView, IsOf, Sight, sight_of}
 use Rattle.np_desk.specs.Share.{times}
 use Rattle.np_desk.specs.declared.view.Origin.{Origin}
 use Rattle.np_desk.proofs.HistoryLemmas.{starts_on}
-use Rattle.np_board.specs.Answers.{answers}
+use Rattle.np_answers.specs.Answers.{answers}
 use Rattle.np_trace.specs.Drive.{Driving}
 use Rattle.np_trace.specs.Move.{Move}
 use Rattle.np_trace.specs.Phase.{Work, of_pool, of_requester, of_reaper, Phase, acts, owes_launch, owes_report, looks, owes_due, sweeps, owes_swept, rests, ended, OwesRemoval}

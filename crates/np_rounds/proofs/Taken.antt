@@ -10,7 +10,7 @@ use Rattle.np_cloud.specs.Facts.{DriverFacts}
 use Rattle.np_desk.specs.History.{StartsWith, merged}
 use Rattle.np_desk.specs.Pass.{PassView, DeskView}
 use Rattle.np_desk.proofs.HistoryLemmas.{starts_same, starts_on}
-use Rattle.np_board.specs.Answers.{IsFull}
+use Rattle.np_answers.specs.Answers.{IsFull}
 use Rattle.np_driven.specs.Players.{Player}
 use Rattle.np_worker.specs.declared.worker.Worker.{Worker}
 use Rattle.np_worker.specs.declared.worker.RoundEnd.{RoundEnd}

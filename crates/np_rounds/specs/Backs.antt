@@ -6,7 +6,7 @@ use Rattle.np_site.specs.Configuration.{Configuration}
 use Rattle.np_desk.specs.History.{StartsWith, merged}
 use Rattle.np_desk.specs.Part.{second_half}
 use Rattle.np_desk.specs.Pass.{PassView, DeskView, IsOf}
-use Rattle.np_board.specs.Answers.{IsFull}
+use Rattle.np_answers.specs.Answers.{IsFull}
 use Rattle.np_driven.specs.Players.{Player}
 use Rattle.np_worker.specs.declared.worker.RoundEnd.{RoundEnd}
 use Rattle.np_worker.specs.declared.worker.Worker.{Worker}

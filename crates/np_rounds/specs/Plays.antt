@@ -4,7 +4,7 @@ use Rattle.np_event.specs.declared.entry.Entry.{Entry}
 use Rattle.np_cloud.specs.Facts.{DriverFacts}
 use Rattle.np_site.specs.Configuration.{Configuration}
 use Rattle.np_desk.specs.Pass.{DeskView, IsOf, sight_of}
-use Rattle.np_board.specs.Answers.{answers}
+use Rattle.np_answers.specs.Answers.{answers}
 use Rattle.np_worker.specs.Part.{Part}
 use Rattle.np_trace.specs.Phase.{first_phase}
 use Rattle.np_worker.specs.Round.{EndsAs, work_of, driving_of}

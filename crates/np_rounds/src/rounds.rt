@@ -20,7 +20,8 @@ ghost use Rattle.np_rounds.specs.Played.{
 
 use crate::crew::{drivers_of, workers_of};
 use crate::round::play_round;
-use np_board::{Ask, Board, Turn};
+use np_answers::{Ask, Turn};
+use np_board::Board;
 use np_cloud::{Driver, Gate};
 use np_config::Config;
 use np_desk::{Desk, Pass};

@@ -1,10 +1,11 @@
 //! What no clause says: that rounds find memory, and what failed launches and removals come to.
 
 ghost use Rattle.std.specs.Prelude.{◌≡◌, true, IfOk};
-ghost use Rattle.np_board.specs.Asks.{recorded};
-ghost use Rattle.np_board.specs.Legal.{is_legal};
+ghost use Rattle.np_answers.specs.Asks.{recorded};
+ghost use Rattle.np_answers.specs.Legal.{is_legal};
 
-use np_board::{Ask, Board, Turn};
+use np_answers::{Ask, Turn};
+use np_board::Board;
 use np_cloud::{Driver, OpenGate, ScriptDriver, Tag};
 use np_config::Config;
 use np_desk::{Alone, Turns};

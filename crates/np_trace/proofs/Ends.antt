@@ -2,9 +2,9 @@
 use Rattle.std.proofs.Common.{◌≡◌, ℕ, ◌⊎◌, inl, inr, List, [], ◌∷◌, refl, ap, ◌∙◌, subst}
 use Rattle.np_text.specs.declared.id.Role.{Role}
 use Rattle.np_text.specs.declared.id.Role.TheVariants as role
-use Rattle.np_board.specs.declared.ask.Ask.{Ask}
-use Rattle.np_board.specs.declared.ask.Turn.{Turn}
-use Rattle.np_board.specs.declared.ask.Turn.TheVariants as turn
+use Rattle.np_answers.specs.declared.ask.Ask.{Ask}
+use Rattle.np_answers.specs.declared.ask.Turn.{Turn}
+use Rattle.np_answers.specs.declared.ask.Turn.TheVariants as turn
 use Rattle.np_trace.specs.Move.{Move, asked, launched, removed}
 use Rattle.np_trace.specs.Phase.{Phase, acts, owes_report, looks, sweeps, ended, acting, after_turn, after_launch, after_removal, MayAsk, Leads}
 use Rattle.np_trace.specs.Trace.{WasFull, EndsWhereFull}

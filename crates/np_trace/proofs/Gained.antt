@@ -7,9 +7,9 @@ use Rattle.np_desk.specs.Turned as turned
 use Rattle.np_desk.specs.History.{StartsWith}
 use Rattle.np_desk.proofs.HistoryLemmas.{starts_on, starts_more}
 use Rattle.np_event.specs.declared.entry.Entry.{Entry}
-use Rattle.np_board.specs.declared.ask.Ask.{Ask}
-use Rattle.np_board.specs.declared.ask.Turn.{Turn}
-use Rattle.np_board.specs.Asks.{recorded}
+use Rattle.np_answers.specs.declared.ask.Ask.{Ask}
+use Rattle.np_answers.specs.declared.ask.Turn.{Turn}
+use Rattle.np_answers.specs.Asks.{recorded}
 use Rattle.np_trace.specs.Move.{Move, asked, launched, removed, entries_of}
 use Rattle.np_trace.specs.Walk.{Walk}
 use Rattle.np_trace.specs.Trace.{Gains, StandAt}

@@ -7,10 +7,10 @@ use Rattle.np_text.specs.declared.id.Role.TheVariants as role
 use Rattle.np_event.specs.declared.event.Outcome.{Outcome}
 use Rattle.np_cloud.specs.declared.driver.Tag.{Tag}
 use Rattle.np_cloud.specs.declared.driver.Launch.{Launch}
-use Rattle.np_board.specs.declared.ask.Ask.{Ask}
-use Rattle.np_board.specs.declared.ask.Ask.TheVariants as ask
-use Rattle.np_board.specs.declared.ask.Turn.{Turn}
-use Rattle.np_board.specs.declared.ask.Turn.TheVariants as turn
+use Rattle.np_answers.specs.declared.ask.Ask.{Ask}
+use Rattle.np_answers.specs.declared.ask.Ask.TheVariants as ask
+use Rattle.np_answers.specs.declared.ask.Turn.{Turn}
+use Rattle.np_answers.specs.declared.ask.Turn.TheVariants as turn
 use Rattle.np_trace.specs.declared.start.Start.{Start}
 use Rattle.np_trace.specs.Move.{Move, asked, launched, removed, launches_of}
 use Rattle.np_trace.specs.Phase.{Phase, owes_launch, owes_report, acting, after_turn, after_launch, after_removal, MayAsk, Leads}

@@ -7,9 +7,9 @@ use Rattle.np_text.specs.declared.id.RequesterId.{RequesterId}
 use Rattle.np_text.specs.declared.id.Role.{Role}
 use Rattle.np_text.specs.declared.id.Role.TheVariants as role
 use Rattle.np_event.specs.declared.event.Event.{Event}
-use Rattle.np_board.specs.declared.ask.Ask.{Ask}
-use Rattle.np_board.specs.declared.ask.Ask.TheVariants as ask
-use Rattle.np_board.specs.declared.ask.Turn.{Turn}
+use Rattle.np_answers.specs.declared.ask.Ask.{Ask}
+use Rattle.np_answers.specs.declared.ask.Ask.TheVariants as ask
+use Rattle.np_answers.specs.declared.ask.Turn.{Turn}
 use Rattle.np_trace.specs.Move.{Move, asked, launched, removed}
 use Rattle.np_trace.specs.Phase.{Phase, acts, owes_launch, owes_report, looks, owes_due, sweeps, owes_swept, rests, ended, acting, first_phase, of_pool, of_requester, of_reaper, after_turn, after_launch, after_removal, Leads, report_of}
 use Rattle.np_trace.specs.Trace.{is_did, is_idle, is_launcher_act, is_janitor_act, is_lone_act, did_count, WasIdle, TookAll, IsPastLauncher, IsPastJanitor}

@@ -10,9 +10,9 @@ use Rattle.np_cloud.specs.declared.driver.Tag.{Tag}
 use Rattle.np_cloud.specs.declared.driver.Server.{Server}
 use Rattle.np_cloud.specs.declared.driver.Launch.{Launch}
 use Rattle.np_cloud.specs.Calls.{with_launched, without_number}
-use Rattle.np_board.specs.declared.ask.Ask.{Ask}
-use Rattle.np_board.specs.declared.ask.Turn.{Turn}
-use Rattle.np_board.specs.Asks.{recorded}
+use Rattle.np_answers.specs.declared.ask.Ask.{Ask}
+use Rattle.np_answers.specs.declared.ask.Turn.{Turn}
+use Rattle.np_answers.specs.Asks.{recorded}
 use Rattle.np_trace.specs.Move.{Move, asked, launched, removed, launches_of}
 use Rattle.np_trace.specs.Phase.{Phase, Leads}
 use Rattle.np_trace.specs.Drive.{servers_after, SweepsServers, FollowsPlan}

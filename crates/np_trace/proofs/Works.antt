@@ -2,9 +2,9 @@
 use Rattle.std.proofs.Common.{◌≡◌, ℕ, zero, suc, inl, inr, List, [], ◌∷◌, sym, refl, subst}
 use Rattle.np_text.specs.declared.id.Role.{Role}
 use Rattle.np_text.specs.declared.id.Role.TheVariants as role
-use Rattle.np_board.specs.declared.ask.Ask.{Ask}
-use Rattle.np_board.specs.declared.ask.Ask.TheVariants as ask
-use Rattle.np_board.specs.declared.ask.Turn.{Turn}
+use Rattle.np_answers.specs.declared.ask.Ask.{Ask}
+use Rattle.np_answers.specs.declared.ask.Ask.TheVariants as ask
+use Rattle.np_answers.specs.declared.ask.Turn.{Turn}
 use Rattle.np_trace.specs.Move.{Move, asked, launched, removed}
 use Rattle.np_trace.specs.Phase.{Work, of_pool, of_requester, of_reaper, Phase, acts, owes_launch, owes_report, looks, owes_due, sweeps, owes_swept, acting, first_phase, after_turn, after_launch, after_removal, MayAsk, Leads}
 use Rattle.np_trace.specs.Trace.{IsAskOf, AreAsksOf}

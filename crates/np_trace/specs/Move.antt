@@ -5,9 +5,9 @@ use Rattle.np_event.specs.declared.entry.Entry.{Entry}
 use Rattle.np_event.specs.declared.event.Outcome.{Outcome}
 use Rattle.np_cloud.specs.declared.driver.Tag.{Tag}
 use Rattle.np_cloud.specs.declared.driver.Launch.{Launch}
-use Rattle.np_board.specs.declared.ask.Ask.{Ask}
-use Rattle.np_board.specs.declared.ask.Turn.{Turn}
-use Rattle.np_board.specs.Asks.{recorded}
+use Rattle.np_answers.specs.declared.ask.Ask.{Ask}
+use Rattle.np_answers.specs.declared.ask.Turn.{Turn}
+use Rattle.np_answers.specs.Asks.{recorded}
 
 -- a turn, with its answer; a launch that was answered; a removal that did not fail (own)
 pub data Move : Type 0 where

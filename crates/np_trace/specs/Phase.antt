@@ -18,10 +18,10 @@ use Rattle.np_event.specs.declared.reply.Reply.{Reply}
 use Rattle.np_event.specs.declared.reply.Reply.TheVariants as reply
 use Rattle.np_event.specs.declared.reply.Done.TheVariants as done
 use Rattle.np_cloud.specs.declared.driver.Tag.{Tag}
-use Rattle.np_board.specs.declared.ask.Ask.{Ask}
-use Rattle.np_board.specs.declared.ask.Ask.TheVariants as ask
-use Rattle.np_board.specs.declared.ask.Turn.{Turn}
-use Rattle.np_board.specs.declared.ask.Turn.TheVariants as turn
+use Rattle.np_answers.specs.declared.ask.Ask.{Ask}
+use Rattle.np_answers.specs.declared.ask.Ask.TheVariants as ask
+use Rattle.np_answers.specs.declared.ask.Turn.{Turn}
+use Rattle.np_answers.specs.declared.ask.Turn.TheVariants as turn
 use Rattle.np_trace.specs.declared.start.Start.{Start}
 use Rattle.np_trace.specs.Move.{Move, asked, launched, removed}
 

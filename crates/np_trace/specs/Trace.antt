@@ -7,10 +7,10 @@ use Rattle.np_event.specs.declared.entry.Entry.{Entry}
 use Rattle.np_event.specs.declared.event.Outcome.{Outcome}
 use Rattle.np_cloud.specs.declared.driver.Tag.{Tag}
 use Rattle.np_cloud.specs.declared.driver.Server.{Server}
-use Rattle.np_board.specs.declared.ask.Ask.{Ask}
-use Rattle.np_board.specs.declared.ask.Ask.TheVariants as ask
-use Rattle.np_board.specs.declared.ask.Turn.{Turn}
-use Rattle.np_board.specs.declared.ask.Turn.TheVariants as turn
+use Rattle.np_answers.specs.declared.ask.Ask.{Ask}
+use Rattle.np_answers.specs.declared.ask.Ask.TheVariants as ask
+use Rattle.np_answers.specs.declared.ask.Turn.{Turn}
+use Rattle.np_answers.specs.declared.ask.Turn.TheVariants as turn
 use Rattle.np_trace.specs.declared.start.Start.{Start}
 use Rattle.np_trace.specs.Move.{Move, asked, launched, removed}
 use Rattle.np_trace.specs.Phase.{Work, of_pool, of_requester, of_reaper, Phase, acts, owes_launch, owes_report, looks, owes_due, sweeps, owes_swept, report_of, start_of, is_unwanted}

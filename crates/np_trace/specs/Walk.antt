@@ -3,9 +3,9 @@ use Rattle.std.specs.Prelude.{List, [], ◌∷◌}
 use Rattle.np_desk.specs.Pass.{Sight}
 use Rattle.np_desk.specs.Turned.{Answered, Unturned}
 use Rattle.np_event.specs.declared.entry.Entry.{Entry}
-use Rattle.np_board.specs.declared.ask.Ask.{Ask}
-use Rattle.np_board.specs.declared.ask.Turn.{Turn}
-use Rattle.np_board.specs.Asks.{recorded}
+use Rattle.np_answers.specs.declared.ask.Ask.{Ask}
+use Rattle.np_answers.specs.declared.ask.Turn.{Turn}
+use Rattle.np_answers.specs.Asks.{recorded}
 use Rattle.np_trace.specs.Move.{Move, asked, launched, removed}
 
 -- each turn is answered after what the one before saw; at the end more may be seen (own)

@@ -13,7 +13,7 @@ ghost use Rattle.np_text.specs.declared.id.RequesterId.{RequesterId};
 ghost use Rattle.np_trace.specs.Trace.{AreAsksOf, AreInOrder, AreNamed, AreReported, EndsWhereFull, Gains, IsPastJanitor, IsPastLauncher, TookAll, WasFull, WasRemoved, is_janitor_act, is_launcher_act, is_lone_act, owed_tags, starts_of, tags_launched};
 ghost use Rattle.np_trace.specs.Walk.{Walk};
 
-use np_board::{Ask, Turn};
+use np_answers::{Ask, Turn};
 use np_desk::Turns;
 use np_event::Entry;
 

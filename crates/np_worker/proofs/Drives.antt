@@ -11,8 +11,8 @@ use Rattle.np_cloud.specs.declared.driver.LaunchFault.TheVariants as fault
 use Rattle.np_cloud.specs.Facts.{DriverFacts}
 use Rattle.np_cloud.specs.declared.driver.Launch.{Launch}
 use Rattle.np_cloud.specs.Calls.{Answers, IsAsPlanned, without_number, KeepsCounts}
-use Rattle.np_board.specs.declared.ask.Ask.{Ask}
-use Rattle.np_board.specs.declared.ask.Turn.{Turn}
+use Rattle.np_answers.specs.declared.ask.Ask.{Ask}
+use Rattle.np_answers.specs.declared.ask.Turn.{Turn}
 use Rattle.np_trace.specs.Move.{Move, asked, launched, removed, launches_of}
 use Rattle.np_trace.specs.Drive.{Driving, servers_after, IsOfServer, SweepsServers, FollowsPlan, Drives, Drove}
 use Rattle.np_worker.specs.Part.{IsOfDriver, RemovalFailed}

@@ -6,10 +6,10 @@ use Rattle.np_desk.specs.Pass.{Sight}
 use Rattle.np_desk.specs.Turned.{Answered, Unturned, Records, Turned}
 use Rattle.np_desk.proofs.HistoryLemmas.{starts_same}
 use Rattle.np_event.specs.declared.entry.Entry.{Entry}
-use Rattle.np_board.specs.declared.ask.Ask.{Ask}
-use Rattle.np_board.specs.declared.ask.Turn.{Turn}
-use Rattle.np_board.specs.declared.ask.Turn.TheVariants as turn
-use Rattle.np_board.specs.Asks.{recorded}
+use Rattle.np_answers.specs.declared.ask.Ask.{Ask}
+use Rattle.np_answers.specs.declared.ask.Turn.{Turn}
+use Rattle.np_answers.specs.declared.ask.Turn.TheVariants as turn
+use Rattle.np_answers.specs.Asks.{recorded}
 use Rattle.np_event.specs.declared.event.Outcome.{Outcome}
 use Rattle.np_cloud.specs.declared.driver.Tag.{Tag}
 use Rattle.np_trace.specs.Move.{Move, asked, launched, removed}
@@ -27,7 +27,7 @@ use Rattle.np_worker.specs.Round.{EndsAs, Rests}
 use Rattle.np_worker.proofs.Sweeps.{are_kept_after}
 use Rattle.std.specs.Prelude.{Contains, false}
 use Rattle.std.proofs.lemmas.List.Elements.{Contains-push}
-use Rattle.np_board.specs.declared.ask.Ask.TheVariants as ask
+use Rattle.np_answers.specs.declared.ask.Ask.TheVariants as ask
 use Rattle.np_text.specs.declared.id.NodeId.{NodeId}
 use Rattle.np_trace.proofs.Traces.{leads-append, walk-append}
 use Rattle.np_worker.proofs.Drives.{drove-append, drove_none, drove_ask, failed_before}

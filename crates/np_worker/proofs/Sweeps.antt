@@ -7,7 +7,7 @@ use Rattle.std.proofs.lemmas.List.Elements.{All-from_recursion, Contains-append_
 use Rattle.np_text.specs.declared.id.PoolId.{PoolId}
 use Rattle.np_cloud.specs.declared.driver.Server.{Server}
 use Rattle.np_cloud.specs.Calls.{without_number}
-use Rattle.np_board.specs.declared.ask.Ask.TheVariants as ask
+use Rattle.np_answers.specs.declared.ask.Ask.TheVariants as ask
 use Rattle.np_trace.specs.Move.{Move, asked}
 use Rattle.np_trace.specs.Drive.{Driving}
 use Rattle.np_trace.specs.Trace.{WasKept}

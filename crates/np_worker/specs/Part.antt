@@ -8,9 +8,9 @@ use Rattle.np_event.specs.declared.entry.Entry.{Entry}
 use Rattle.np_cloud.specs.declared.driver.Server.{Server}
 use Rattle.np_cloud.specs.Calls.{without_number}
 use Rattle.np_text.specs.declared.id.PoolId.{PoolId}
-use Rattle.np_board.specs.declared.ask.Ask.{Ask}
-use Rattle.np_board.specs.declared.ask.Turn.{Turn}
-use Rattle.np_board.specs.declared.ask.Turn.TheVariants as turn
+use Rattle.np_answers.specs.declared.ask.Ask.{Ask}
+use Rattle.np_answers.specs.declared.ask.Turn.{Turn}
+use Rattle.np_answers.specs.declared.ask.Turn.TheVariants as turn
 use Rattle.np_worker.specs.declared.next.Next.{Next}
 use Rattle.np_worker.specs.declared.next.Next.TheVariants as next
 use Rattle.np_trace.specs.Drive.{Driving, Drives, Drove, IsOfServer}

@@ -3,7 +3,7 @@
 ghost use Rattle.std.specs.Prelude.{◌≡◌, ℕ, [], ◌∷◌, IfOk, Some, MatchResult};
 ghost use Rattle.np_text.specs.declared.id.PoolId.{PoolId};
 ghost use Rattle.np_text.specs.declared.id.Role.TheVariants.{Launcher};
-ghost use Rattle.np_board.specs.Asks.{recorded};
+ghost use Rattle.np_answers.specs.Asks.{recorded};
 ghost use Rattle.np_trace.specs.Drive.{Drives, driving};
 ghost use Rattle.np_trace.specs.Move.{launched};
 ghost use Rattle.np_worker.specs.Part.{Counts, Part, Goes};
@@ -11,7 +11,7 @@ ghost use Rattle.np_trace.specs.Phase.{Phase, acts, acting, looks, owes_launch, 
 
 use crate::act::{ACTS, take_turn};
 use crate::next::Next;
-use np_board::{Ask, Turn};
+use np_answers::{Ask, Turn};
 use np_cloud::{Driver, Gate, LaunchFault, Tag};
 use np_desk::Turns;
 use np_event::{Done, Entry, Event, Outcome, Reply};

@@ -1,7 +1,7 @@
 //! The sweep of a driver's servers.
 
 ghost use Rattle.std.specs.Prelude.{◌≡◌, ◌≤◌, length, Contains, IfOk, IfSome, Some};
-ghost use Rattle.np_board.specs.Asks.{recorded};
+ghost use Rattle.np_answers.specs.Asks.{recorded};
 ghost use Rattle.np_trace.specs.Drive.{driving};
 ghost use Rattle.np_worker.specs.Part.{Counts, Part, SweepsOne, SweepsAll};
 ghost use Rattle.np_trace.specs.Phase.{sweeps, is_unwanted};
@@ -9,7 +9,7 @@ ghost use Rattle.np_trace.specs.Phase.{sweeps, is_unwanted};
 use crate::act::take_turn;
 use crate::janitor::remove_server;
 use crate::next::Next;
-use np_board::{Ask, Turn};
+use np_answers::{Ask, Turn};
 use np_cloud::{Driver, Server};
 use np_desk::Turns;
 use np_event::{Done, Entry, Reply};

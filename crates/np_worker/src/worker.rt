@@ -2,7 +2,7 @@
 
 ghost use Rattle.std.specs.Prelude.{◌≡◌, ℕ, ◌+◌, length, IfOk, Some};
 ghost use Rattle.np_text.specs.declared.id.Role.TheVariants.{Launcher};
-ghost use Rattle.np_board.specs.Asks.{recorded};
+ghost use Rattle.np_answers.specs.Asks.{recorded};
 ghost use Rattle.np_trace.specs.Drive.{driving};
 ghost use Rattle.np_worker.specs.Part.{Counts, Part, SweepsAll, is_full};
 ghost use Rattle.np_trace.specs.Phase.{acting, first_phase};
@@ -13,7 +13,7 @@ use crate::janitor::janitor;
 use crate::launch::launcher;
 use crate::next::Next;
 use crate::sweep::sweep;
-use np_board::{Ask, Turn};
+use np_answers::{Ask, Turn};
 use np_cloud::{Driver, Gate};
 use np_desk::Turns;
 use np_event::Entry;

@@ -1,4 +1,4 @@
-use Rattle.np_board.proofs.LegalLemmas.{Runs-legal}
+use Rattle.np_answers.proofs.LegalLemmas.{Runs-legal}
 use Rattle.np_board_tests.proofs.boards.new_board.Goals as goal
 
 pub returns : goal.returns

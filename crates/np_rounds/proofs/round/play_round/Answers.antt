@@ -1,7 +1,7 @@
 use Rattle.std.proofs.Common.{◌≡◌, ◌<◌, ℕ, true, [], ◌∷◌, length, ap, ◌∙◌, sym, subst}
 use Rattle.np_event.specs.declared.entry.Entry.{Entry}
 use Rattle.np_site.specs.Configuration.{Configuration}
-use Rattle.np_board.specs.Legal.{is_legal}
+use Rattle.np_answers.specs.Legal.{is_legal}
 use Rattle.np_desk.specs.Pass.{PassView}
 use Rattle.np_rounds.specs.Crews.{zeros}
 use Rattle.np_rounds.specs.Plays.{Plays}

@@ -1,5 +1,5 @@
 use Rattle.std.proofs.Common.{◌∙◌, true, false, subst}
-use Rattle.np_board.proofs.LegalLemmas.{legal-Runs}
+use Rattle.np_answers.proofs.LegalLemmas.{legal-Runs}
 use Rattle.np_rounds.specs.Crews.{players_of}
 use Rattle.np_rounds.specs.Played.{IsDriven, Stops, Ticks}
 use Rattle.np_rounds.proofs.Driven.{driven_round, driven_whole, driven_tick, not_false}

@@ -1,7 +1,7 @@
 use Rattle.std.proofs.Common.{List, ap, subst, sym}
 use Rattle.np_event.specs.declared.entry.Entry.{Entry}
 use Rattle.np_site.specs.Configuration.{Configuration}
-use Rattle.np_board.proofs.LegalLemmas.{Runs-legal}
+use Rattle.np_answers.proofs.LegalLemmas.{Runs-legal}
 use Rattle.np_driven.specs.Players.{HaveDriven}
 use Rattle.np_rounds.specs.Crews.{players_of}
 use Rattle.np_rounds.specs.Played.{IsDriven, Stops}

@@ -1,7 +1,7 @@
 use Rattle.std.proofs.Common.{◌∙◌, subst, sym}
 use Rattle.np_event.specs.declared.event.Event.TheVariants as ev
 use Rattle.np_desk.specs.Pass.{sight_of}
-use Rattle.np_board.specs.declared.ask.Ask.TheVariants as ask
+use Rattle.np_answers.specs.declared.ask.Ask.TheVariants as ask
 use Rattle.np_rounds.specs.Played.{Stops, Ticks}
 use Rattle.np_rounds.proofs.Fulls.{grows_turn}
 use Rattle.np_rounds.proofs.OneRound.{knows}

@@ -1,5 +1,5 @@
 use Rattle.std.proofs.Common.{◌≡◌, true}
-use Rattle.np_board.specs.Legal.{is_legal}
+use Rattle.np_answers.specs.Legal.{is_legal}
 use Rattle.np_rounds_tests.proofs.workers.make_good.Given as goal
 
 abbrev pub invariant-loop-server : goal.invariant-loop-server

@@ -1,4 +1,4 @@
-use Rattle.np_board.proofs.LegalLemmas.{Runs-legal}
+use Rattle.np_answers.proofs.LegalLemmas.{Runs-legal}
 use Rattle.np_rounds_tests.proofs.workers.new_board.Goals as goal
 
 pub returns : goal.returns

@@ -2,7 +2,7 @@ use Rattle.std.proofs.Common.{refl, ap, ◌∙◌, ◌≡◌, [], ◌++◌}
 use Rattle.std.specs.Prelude.{Some}
 use Rattle.std.proofs.lemmas.Result.{err_from_is_err_and}
 use Rattle.np_text.specs.declared.id.Role.TheVariants as role
-use Rattle.np_board.specs.declared.ask.Ask.TheVariants as ask
+use Rattle.np_answers.specs.declared.ask.Ask.TheVariants as ask
 use Rattle.np_trace.specs.Drive.{driving}
 use Rattle.np_trace.specs.Phase.{owes_launch, owes_report, acting, report_of, after_report}
 use Rattle.np_worker.specs.Part.{Goes, Part}

@@ -1,6 +1,6 @@
 use Rattle.std.proofs.Common.{refl, sym, subst}
 use Rattle.np_machine.specs.State.{State}
-use Rattle.np_board.specs.Answers.{IsDue}
+use Rattle.np_answers.specs.Answers.{IsDue}
 use Rattle.np_board.proofs.DueLemmas.{due-is, none-due, no-node, no-janitor}
 use Rattle.np_board.proofs.board.Board.due.Goals as goal
 

@@ -18,10 +18,10 @@ use Rattle.np_machine.specs.Tables.{node_in, node_holder}
 use Rattle.np_machine.specs.Node.{is_wanted, is_swept}
 use Rattle.np_useful.specs.Sessions.{is_current, has_current}
 use Rattle.np_useful.specs.Useful.{IsUseful}
-use Rattle.np_board.specs.declared.ask.Ask.{Ask}
-use Rattle.np_board.specs.declared.ask.Ask.TheVariants as ask
-use Rattle.np_board.specs.declared.ask.Turn.{Turn}
-use Rattle.np_board.specs.declared.ask.Turn.TheVariants as turn
+use Rattle.np_answers.specs.declared.ask.Ask.{Ask}
+use Rattle.np_answers.specs.declared.ask.Ask.TheVariants as ask
+use Rattle.np_answers.specs.declared.ask.Turn.{Turn}
+use Rattle.np_answers.specs.declared.ask.Turn.TheVariants as turn
 
 -- ## what is recorded
 

@@ -11,10 +11,10 @@ use Rattle.np_machine.specs.History.{state_after, replayed, after, Runs}
 use Rattle.np_machine.proofs.Runs.{Runs-prefix}
 use Rattle.np_safe.proofs.Replies.{head-reply, tail-replies}
 use Rattle.np_rules.proofs.StepLemmas.{Runs-next}
-use Rattle.np_board.specs.Answers.{IsReplied}
-use Rattle.np_board.specs.Legal.{has_replies, is_legal}
-use Rattle.np_board.specs.Replies.{is_same_reply}
-use Rattle.np_board.proofs.ReplyLemmas.{same-reply, reply-same}
+use Rattle.np_answers.specs.Answers.{IsReplied}
+use Rattle.np_answers.specs.Legal.{has_replies, is_legal}
+use Rattle.np_answers.specs.Replies.{is_same_reply}
+use Rattle.np_answers.proofs.ReplyLemmas.{same-reply, reply-same}
 
 pub both-true : (a b : Bool) → (a && b) ≡ true → (a ≡ true) × (b ≡ true)
 both-true true b is = (refl, is)

@@ -1,9 +1,9 @@
 -- what a turn records
 use Rattle.std.specs.Prelude.{Option, Some, None}
 use Rattle.np_event.specs.declared.entry.Entry.{Entry}
-use Rattle.np_board.specs.declared.ask.Ask.{Ask}
-use Rattle.np_board.specs.declared.ask.Turn.{Turn}
-use Rattle.np_board.specs.declared.ask.Turn.TheVariants as turn
+use Rattle.np_answers.specs.declared.ask.Ask.{Ask}
+use Rattle.np_answers.specs.declared.ask.Turn.{Turn}
+use Rattle.np_answers.specs.declared.ask.Turn.TheVariants as turn
 
 -- the entry that a turn recorded, if any (own)
 abbrev pub recorded : Ask → Turn → Option Entry

@@ -17,7 +17,7 @@ use Rattle.np_event.specs.declared.reply.Refusal.{Refusal}
 use Rattle.np_event.specs.declared.reply.Refusal.TheVariants as no
 use Rattle.np_event.specs.declared.reply.Reply.{Reply}
 use Rattle.np_event.specs.declared.reply.Reply.TheVariants as reply
-use Rattle.np_board.specs.Replies.{ending_number, request_state_number, node_state_number, phase_number, found_numbers, done_numbers, refusal_numbers, reply_numbers, is_same_reply}
+use Rattle.np_answers.specs.Replies.{ending_number, request_state_number, node_state_number, phase_number, found_numbers, done_numbers, refusal_numbers, reply_numbers, is_same_reply}
 
 -- ## what the numbers determine
 

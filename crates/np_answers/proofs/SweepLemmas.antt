@@ -23,9 +23,9 @@ use Rattle.np_machine.specs.Tests.{janitor}
 use Rattle.np_machine.specs.Node.{is_wanted}
 use Rattle.np_useful.specs.Sessions.{is_current}
 use Rattle.np_roles.proofs.Currents.{current-speaks}
-use Rattle.np_board.specs.declared.ask.Turn.TheVariants as turn
-use Rattle.np_board.specs.Answers.{answers_sweep}
-use Rattle.np_board.proofs.LegalLemmas.{both-true}
+use Rattle.np_answers.specs.declared.ask.Turn.TheVariants as turn
+use Rattle.np_answers.specs.Answers.{answers_sweep}
+use Rattle.np_answers.proofs.LegalLemmas.{both-true}
 
 module _ (s : State) (p : PoolId) (session : SessionId) where
   janitor-role : (role : Role) → same_role role (Janitor p) ≡ true → role ≡ Janitor p

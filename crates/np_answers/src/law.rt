@@ -15,12 +15,12 @@ ghost use Rattle.np_machine.specs.Step.{judge};
 ghost use Rattle.np_machine.specs.Node.{is_wanted};
 ghost use Rattle.np_machine.specs.History.{Runs, after};
 ghost use Rattle.np_useful.specs.Sessions.{is_current};
-ghost use Rattle.np_board.specs.declared.ask.Ask.{Ask};
-ghost use Rattle.np_board.specs.declared.ask.Turn.{Turn};
-ghost use Rattle.np_board.specs.declared.ask.Turn.TheVariants as turn;
-ghost use Rattle.np_board.specs.Answers.{IsReplied, answers, answers_sweep};
-ghost use Rattle.np_board.specs.Asks.{recorded};
-ghost use Rattle.np_board.specs.Legal.{is_legal};
+ghost use Rattle.np_answers.specs.declared.ask.Ask.{Ask};
+ghost use Rattle.np_answers.specs.declared.ask.Turn.{Turn};
+ghost use Rattle.np_answers.specs.declared.ask.Turn.TheVariants as turn;
+ghost use Rattle.np_answers.specs.Answers.{IsReplied, answers, answers_sweep};
+ghost use Rattle.np_answers.specs.Asks.{recorded};
+ghost use Rattle.np_answers.specs.Legal.{is_legal};
 
 /// A legal journal is one that the machine makes.
 pub fn a_legal_journal_runs()

@@ -4,7 +4,7 @@ use Rattle.np_site.specs.Configuration.{Configuration}
 use Rattle.np_event.specs.declared.entry.Entry.{Entry}
 use Rattle.np_machine.specs.State.{State, start}
 use Rattle.np_machine.specs.Step.{judge, next, reply_of}
-use Rattle.np_board.specs.Replies.{is_same_reply}
+use Rattle.np_answers.specs.Replies.{is_same_reply}
 
 -- from this state on, the machine gives the journal's replies, one by one (own)
 abbrev pub has_replies : Configuration → State → List Entry → Bool

@@ -1,0 +1,4 @@
+pub mod ReplyLemmas
+pub mod LegalLemmas
+pub mod SweepLemmas
+pub mod Recorded

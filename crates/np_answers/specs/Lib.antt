@@ -1,0 +1,4 @@
+pub mod Asks
+pub mod Answers
+pub mod Replies
+pub mod Legal
