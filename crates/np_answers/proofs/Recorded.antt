@@ -1,5 +1,5 @@
 -- an entry that a turn recorded
-use Rattle.std.proofs.Common.{◌≡◌, List, Option, Some, None, subst}
+use Rattle.std.proofs.Common.{◌≡◌, List, Some, subst}
 use Rattle.np_site.specs.Configuration.{Configuration}
 use Rattle.np_event.specs.declared.entry.Entry.{Entry}
 use Rattle.np_answers.specs.declared.ask.Ask.{Ask}
