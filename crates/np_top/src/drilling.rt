@@ -1,12 +1,18 @@
 //! The command `drill`.
 
 ghost use Rattle.std.specs.Prelude.{◌≤◌, IfOk};
+ghost use Rattle.std.specs.List.{AllByRecursion};
+ghost use Rattle.np_site.specs.Sound.{IsSound};
+ghost use Rattle.np_event.specs.Line.{HasEventLine};
+ghost use Rattle.np_useful.specs.Driven.{Driven};
 ghost use Rattle.np_gen.specs.Site.{drill_site};
+ghost use Rattle.np_top.specs.Run.{HasEnded};
 ghost use Rattle.np_top.specs.Drill.{Drills, EndsDrill};
 
 use crate::ending::Ending;
 use crate::playing::play_site;
 use crate::telling::tell;
+use np_board::Board;
 use np_cloud::Gate;
 use np_io::Sink;
 use np_report::summary;
@@ -14,6 +20,22 @@ use np_text::NoMemory;
 use std::alloc::Global;
 use std::sync::Wait;
 use std::thread::Threads;
+
+/// How a drill that ended with this board ends: with the summary of its jobs' fates.
+fn ending_at(alloc: Global, board: &Board, full: bool) -> Result<Ending, NoMemory>
+    requires sound { IsSound board.now.configuration }
+    requires lines { AllByRecursion (λ e. HasEventLine e.event) board.now.journal }
+    requires driven { Driven board.now.configuration board.now.journal }
+    requires ended { HasEnded board.now.configuration board.now.journal full }
+    ensures { IfOk result (EndsDrill board.now.configuration) }
+{
+    board.soundness();
+    let text = summary(alloc, board)?;
+    if full {
+        return Ok(Ending::Full { text });
+    }
+    Ok(Ending::Prints { text, status: 0 })
+}
 
 /// Plays the generated site to its end, and returns how the drill ends then.
 fn play_drill<R: Threads + Wait + Sync, G: Gate + Sync>(
@@ -28,12 +50,7 @@ fn play_drill<R: Threads + Wait + Sync, G: Gate + Sync>(
     let config = np_gen::drill(alloc, jobs)?;
     config.soundness();
     let (board, full) = play_site(rt, alloc, config, gate)?;
-    board.soundness();
-    let text = summary(alloc, &board)?;
-    if full {
-        return Ok(Ending::Full { text });
-    }
-    Ok(Ending::Prints { text, status: 0 })
+    ending_at(alloc, &board, full)
 }
 
 /// The same, whichever way it came.

@@ -1,10 +1,14 @@
 //! The command `run`.
 
 ghost use Rattle.std.specs.Prelude.{◌≡◌, length, IfOk, IfErr};
+ghost use Rattle.std.specs.List.{AllByRecursion};
+ghost use Rattle.np_event.specs.Line.{HasEventLine};
 ghost use Rattle.np_machine.specs.Fates.{fate_of, fates};
+ghost use Rattle.np_useful.specs.Driven.{Driven};
 ghost use Rattle.np_top.specs.Run.{
   EndsRun,
   HasCome,
+  HasEnded,
   IsPlayed,
   RunsSite,
   is_waiting,
@@ -16,6 +20,7 @@ use crate::input::input;
 use crate::lines::line_of_config;
 use crate::playing::play_site;
 use crate::telling::tell;
+use np_board::Board;
 use np_cloud::Gate;
 use np_config::Config;
 use np_io::{Sink, Source};
@@ -68,6 +73,25 @@ fn status_of<L: Look>(look: &L) -> u8
     0
 }
 
+/// How a run that ended with this board ends: with its Text, and with the status of its jobs' fates
+/// unless its journal was full.
+fn ending_at(alloc: Global, board: &Board, full: bool) -> Result<Ending, NoMemory>
+    requires lines { AllByRecursion (λ e. HasEventLine e.event) board.now.journal }
+    requires driven { Driven board.now.configuration board.now.journal }
+    requires ended { HasEnded board.now.configuration board.now.journal full }
+    ensures { IfOk result (IsPlayed board.now.configuration) }
+{
+    board.soundness();
+    let text = text(alloc, board, board.journal())?;
+    if full {
+        return Ok(Ending::Full { text });
+    }
+    Ok(Ending::Prints {
+        text,
+        status: status_of(board),
+    })
+}
+
 /// Plays the site to its end, and returns how the run ends then.
 fn played<R: Threads + Wait + Sync, G: Gate + Sync>(
     rt: &R,
@@ -78,15 +102,7 @@ fn played<R: Threads + Wait + Sync, G: Gate + Sync>(
     ensures { IfOk result (IsPlayed config) }
 {
     let (board, full) = play_site(rt, alloc, config, gate)?;
-    board.soundness();
-    let text = text(alloc, &board, board.journal())?;
-    if full {
-        return Ok(Ending::Full { text });
-    }
-    Ok(Ending::Prints {
-        text,
-        status: status_of(&board),
-    })
+    ending_at(alloc, &board, full)
 }
 
 /// How a run of what the source has left ends.

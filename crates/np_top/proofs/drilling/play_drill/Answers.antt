@@ -1,29 +1,25 @@
-use Rattle.std.proofs.Common.{refl, sym, subst, true, false}
+use Rattle.std.proofs.Common.{◌∙◌, sym, subst}
+use Rattle.std.specs.Prelude.{IfOk}
 use Rattle.np_site.specs.Configuration.{Configuration}
 use Rattle.np_site.specs.Sound.{IsSound}
-use Rattle.np_told.proofs.ToldRuns.{jobs-Runs}
-use Rattle.np_top.specs.Drill.{IsDrill}
-use Rattle.np_top.proofs.Drills.{drill_shown}
-use Rattle.np_top.proofs.Sites.{ended_is}
+use Rattle.np_useful.specs.Driven.{Driven}
+use Rattle.np_top.specs.Drill.{EndsDrill}
+use Rattle.np_top.specs.Run.{HasEnded}
 use Rattle.np_top.proofs.drilling.play_drill.Goals as goal
 
-pub summary-requires : goal.summary-requires
-summary-requires g c =
-    let board = c.in_ok-board.board in
-    record { jobs = jobs-Runs board.configuration board.journal board.state (subst IsSound (sym c.in_ok-board.ensures.configuration) c.soundness.ensures) c.soundness-2.ensures.runs }
+pub ending_at-requires-clause-sound : goal.ending_at-requires-clause-sound
+ending_at-requires-clause-sound g c = subst IsSound (sym c.in_ok-board.ensures.configuration) c.soundness.ensures
 
-pub returns-then-full : goal.returns-then-full
-returns-then-full g c =
-    let config = c.in_ok-config.config in let board = c.in_ok-board.board in let told = c.in_ok-board.ensures in let text = c.in_ok-text.text.items in
-    subst (λ (x : Configuration). IsDrill x text true) c.in_ok-config.ensures
-    (drill_shown config board.configuration board.journal board.state text true told.configuration c.soundness.ensures c.soundness-2.ensures.runs
-    told.lines told.driven (ended_is config board.journal c.in_ok-board.full true c.if-full.true told.ended) c.in_ok-text.ensures)
+pub ending_at-requires-clause-driven : goal.ending_at-requires-clause-driven
+ending_at-requires-clause-driven g c =
+    let board = c.in_ok-board.board in let told = c.in_ok-board.ensures in
+    subst (λ (x : Configuration). Driven x board.journal) (sym told.configuration) told.driven
+
+pub ending_at-requires-clause-ended : goal.ending_at-requires-clause-ended
+ending_at-requires-clause-ended g c =
+    let board = c.in_ok-board.board in let told = c.in_ok-board.ensures in
+    subst (λ (x : Configuration). HasEnded x board.journal c.in_ok-board.full) (sym told.configuration) told.ended
 
 pub returns : goal.returns
 returns g c =
-    let config = c.in_ok-config.config in let board = c.in_ok-board.board in let told = c.in_ok-board.ensures in let text = c.in_ok-text.text.items in (
-      refl,
-      subst (λ (x : Configuration). IsDrill x text false) c.in_ok-config.ensures
-          (drill_shown config board.configuration board.journal board.state text false told.configuration c.soundness.ensures c.soundness-2.ensures.runs
-          told.lines told.driven (ended_is config board.journal c.in_ok-board.full false c.if-full.false told.ended) c.in_ok-text.ensures),
-    )
+    subst (λ (x : Configuration). IfOk c.ending_at.result (EndsDrill x)) (c.in_ok-board.ensures.configuration ∙ c.in_ok-config.ensures) c.ending_at.ensures
