@@ -4,7 +4,7 @@
 //!
 //! | What | Tried on |
 //! |---|---|
-//! | take, acquire, lock-node, or end-node, unlock-node; then finish | each of its active jobs, in order |
+//! | take, acquire, lock-node, end-node, unlock-node, finish | each of its active jobs, in order |
 //! | release | each job that has a handle |
 //! | acquire, submit | each of its new jobs in the window, in order |
 //! | end-node, unlock-node | each node in whose queue its session is, by number |
@@ -14,14 +14,14 @@
 //! failed. For each job only the events that its phase allows are judged: take, acquire and the
 //! locks of the nodes of its request if it has asked, and the ends and unlocks of its nodes if it
 //! uses them. So a job goes on until it has to wait for another party, and the next one is looked at
-//! only then. A job whose request is requested or pending waits for its nodes. It has no useful event
-//! of the first and the third row, nor has one that is over, or that is new and past the window, so none is
-//! judged. So what a choice costs grows with the requester's active jobs that wait for a handle or
-//! for the lock of a node, and its new jobs in the window that wait for semaphores, and not with its
-//! other jobs or all nodes. A job that waits for its nodes costs one judged event for each handle
-//! that it has, and else nothing. A new job in the window costs two lookups, two more for the window
-//! test, and at most two judged events: the window test reads only the job and the last one in the
-//! window.
+//! only then. A job whose request is requested or pending waits for its nodes. It has no useful
+//! event of the first and the third row, nor has one that is over, or that is new and past the
+//! window, so none is judged. So what a choice costs grows with the requester's active jobs that
+//! wait for a handle or for the lock of a node, with handles, and with its new jobs in the window
+//! that wait for semaphores, and not with its other jobs or all nodes. A job that waits for its nodes
+//! costs one judged event for each handle that it has, and else nothing. A new job in the window
+//! costs two lookups, two more for the window test, and at most two judged events: the window test
+//! reads only the job and the last one in the window.
 //!
 //! A job that is under way comes before one that begins, and what is no longer needed is given back
 //! first: a node before its job is finished, and handles before a new job is looked at, which may
