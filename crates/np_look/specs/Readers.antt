@@ -26,7 +26,7 @@ use Rattle.np_machine.specs.State.{State}
 use Rattle.np_machine.specs.Tables.{request_in, is_queued, holder}
 use Rattle.np_machine.specs.Count.{amount_of, amount_of_all, limit_of}
 use Rattle.np_machine.specs.Tenants.{limit_of_tenant, tenant_of_request, is_tenant, amount_of_node, rest_of_request, is_pending_of}
-use Rattle.np_machine.specs.Kinds.{is_asked, is_new, is_using, is_over, is_requested, is_fulfilled, is_failed}
+use Rattle.np_machine.specs.Kinds.{is_asked, is_using, is_over, is_requested, is_fulfilled, is_failed}
 use Rattle.np_machine.specs.Laws.{speaks_for}
 use Rattle.np_machine.specs.declared.state.SessionFacts.{SessionFacts}
 use Rattle.np_machine.specs.Reasons.{next_label, is_spare, ready_age, due_tick}
@@ -136,14 +136,6 @@ active_jobs c q s = jobs_from (is_active_job c s q) 0 s.jobs
 -- the one at this place
 abbrev pub active_of : Configuration → RequesterId → ℕ → State → Option JobId
 active_of c q at s = slice_get (active_jobs c q s) at
-
--- a job of the requester that is new
-abbrev pub is_new_job : Configuration → RequesterId → JobId → JobRecord → Bool
-is_new_job c q j kept = option_map_or (λ row. row.requester.0 == q.0) (slice_get c.jobs j.0) false && is_new kept.phase
-
--- the new jobs of the requester, in order: the one at this place
-abbrev pub new_of : Configuration → RequesterId → ℕ → State → Option JobId
-new_of c q at s = slice_get (jobs_from (is_new_job c q) 0 s.jobs) at
 
 -- ## sessions
 

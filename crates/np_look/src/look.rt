@@ -12,30 +12,32 @@ ghost use Rattle.np_machine.specs.Reasons.{is_spare, is_paused};
 ghost use Rattle.np_machine.specs.First.{blocking, first_of};
 ghost use Rattle.np_machine.specs.Request.{is_spent_min_ready, ready_count, undeclined};
 ghost use Rattle.np_machine.specs.Node.{is_swept};
-ghost use Rattle.np_machine.specs.Semaphore.{has_live_session};
+ghost use Rattle.np_machine.specs.Semaphore.{is_full, first_full, has_live_session};
 ghost use Rattle.np_fits.specs.Fits.{Fits};
 ghost use Rattle.np_changes.specs.Asked.{asked_of, new_record};
 ghost use Rattle.np_look.specs.Views.{request_view, node_view};
 ghost use Rattle.np_changes.specs.Readers.{owner_of};
-ghost use Rattle.np_look.specs.Readers.{is_declined, undeclined_of, is_last_pool_of, free_ready_of, unfinished_of, active_of, new_of, request_state_of, first_mute, current_of, queued_requests, queued_nodes, pending_requests, first_unheld_pending, has_request_under_way, is_declined_by_all, first_declined_by_all, is_unclaimed, first_due};
+ghost use Rattle.np_look.specs.Jobs.{is_job_to_begin, is_job_to_release, job_to_begin, job_to_finish, job_to_release};
+ghost use Rattle.np_look.specs.Readers.{is_declined, undeclined_of, is_last_pool_of, free_ready_of, unfinished_of, active_of, request_state_of, first_mute, current_of, queued_requests, queued_nodes, pending_requests, first_unheld_pending, has_request_under_way, is_declined_by_all, first_declined_by_all, is_unclaimed, first_due};
 
 use crate::asked::{NodeView, RequestView, UnheldKind};
 use crate::count::{NOTHING, amount_at};
 use crate::tenant::{amount_for, is_short_of, limited_tenant, rest_for};
 use crate::walk::{
     asked_of, declines_or_is, is_active_job, is_better, is_coming, is_declined_by, is_free_ready,
-    is_live_of, is_marked, is_mute, is_new_job, is_pending_by, is_requested, is_sooner_unheld,
-    is_spare, is_spent_min_ready, is_under_way_by, is_unfinished_job, is_unheld_pending, one_if,
-    short_label, speaks_for,
+    is_job_to_finish, is_live_of, is_marked, is_mute, is_pending_by, is_requested,
+    is_sooner_unheld, is_spare, is_spent_min_ready, is_under_way_by, is_unfinished_job,
+    is_unheld_pending, one_if, short_label, speaks_for,
 };
 use np_amount::Amount;
 use np_changes::Asked;
 use np_config::Config;
 use np_machine::{Registration, SessionFacts};
 use np_record::{JobRecord, NodeRecord, RequestRecord, RoleRecord};
+use np_site::Job;
 use np_text::{
-    JobId, LabelId, NodeId, PoolId, RequestId, RequestState, RequesterId, Role, SemId, SessionId,
-    TenantId,
+    JobId, LabelId, NodeId, Phase, PoolId, RequestId, RequestState, RequesterId, Role, SemId,
+    SessionId, TenantId,
 };
 
 /// Reads a state. No call takes memory.
@@ -182,6 +184,69 @@ pub trait Look {
         match self.request(request) {
             None => None,
             Some(kept) => Some(asked_of(&kept)),
+        }
+    }
+
+    /// Whether as many jobs have a handle of the semaphore as may.
+    fn is_full(&self, semaphore: SemId) -> bool
+        ensures { result ≡ is_full (site self.now) (state self.now) semaphore }
+    {
+        let max = match self.config().semaphore(semaphore) {
+            None => 0,
+            Some(row) => row.max,
+        };
+        max <= self.handles(semaphore)
+    }
+
+    /// The first of the job's semaphores that is full and of which it has no handle.
+    fn first_full(&self, id: JobId, job: &Job) -> Option<SemId>
+        ensures { result ≡ first_full (site self.now) (state self.now) id job.now }
+    {
+        for semaphore in job.semaphores.items() {
+            if !self.has_handle(*semaphore, id) && self.is_full(*semaphore) {
+                return Some(*semaphore);
+            }
+        }
+        None
+    }
+
+    /// Whether the job has a handle of one of its semaphores. It asks `has_handle` for each.
+    fn has_handles(&self, id: JobId, job: &Job) -> bool
+        ensures { result ≡ list_any (has_handle id (state self.now).handles) job.now.semaphores }
+    {
+        job.semaphores
+            .items()
+            .iter()
+            .any(|x| self.has_handle(*x, id))
+    }
+
+    /// Whether the job is the requester's and new, and need not wait for semaphores.
+    fn is_job_to_begin(&self, requester: RequesterId, id: JobId, kept: &JobRecord) -> bool
+        ensures { result ≡
+            is_job_to_begin (site self.now) (state self.now) requester id kept.now }
+    {
+        match self.config().job(id) {
+            None => false,
+            Some(row) => {
+                row.requester.0 == requester.0
+                    && (row.resources_first || self.first_full(id, row).is_none())
+                    && kept.phase == Phase::New
+            }
+        }
+    }
+
+    /// Whether the job is the requester's and over, and has a handle.
+    fn is_job_to_release(&self, requester: RequesterId, id: JobId, kept: &JobRecord) -> bool
+        ensures { result ≡
+            is_job_to_release (site self.now) (state self.now) requester id kept.now }
+    {
+        match self.config().job(id) {
+            None => false,
+            Some(row) => {
+                row.requester.0 == requester.0
+                    && self.has_handles(id, row)
+                    && kept.phase == Phase::Over
+            }
         }
     }
 
@@ -516,17 +581,53 @@ pub trait Look {
         None
     }
 
-    /// The job at a place among the requester's new jobs, in order of their numbers. This body scans
-    /// every job up to that one.
-    fn new_job(&self, requester: RequesterId, at: u32) -> Option<JobId>
-        ensures { result ≡ new_of (site self.now) requester at (state self.now) }
+    /// The first of the requester's jobs that is new and need not wait for semaphores: it asks for its
+    /// nodes first, or none of those that it lacks is full. This body scans every job up to that one.
+    fn job_to_begin(&self, requester: RequesterId) -> Option<JobId>
+        ensures { result ≡ job_to_begin (site self.now) requester (state self.now) }
+    {
+        for number in 0..self.jobs() {
+            let kept = self.job(JobId(number))?;
+            if self.is_job_to_begin(requester, JobId(number), &kept) {
+                return Some(JobId(number));
+            }
+        }
+        None
+    }
+
+    /// The job at a place among those of the requester that use their nodes, or have asked for them
+    /// and whose request failed, in order of their numbers. This body scans every job up to that one.
+    fn job_to_finish(&self, requester: RequesterId, at: u32) -> Option<JobId>
+        ensures { result ≡ job_to_finish (site self.now) requester at (state self.now) }
     {
         let mut left = at;
         for number in 0..self.jobs() {
             let Some(kept) = self.job(JobId(number)) else {
                 return None;
             };
-            if !is_new_job(self.config(), requester, JobId(number), &kept) {
+            let state = self.request_state(kept.request);
+            if !is_job_to_finish(self.config(), requester, JobId(number), &kept, state) {
+                continue;
+            }
+            if left == 0 {
+                return Some(JobId(number));
+            }
+            left -= 1;
+        }
+        None
+    }
+
+    /// The job at a place among those of the requester that are over and have a handle, in order of
+    /// their numbers. This body scans every job up to that one.
+    fn job_to_release(&self, requester: RequesterId, at: u32) -> Option<JobId>
+        ensures { result ≡ job_to_release (site self.now) requester at (state self.now) }
+    {
+        let mut left = at;
+        for number in 0..self.jobs() {
+            let Some(kept) = self.job(JobId(number)) else {
+                return None;
+            };
+            if !self.is_job_to_release(requester, JobId(number), &kept) {
                 continue;
             }
             if left == 0 {
@@ -612,25 +713,6 @@ pub trait Look {
             count += one_if(is_pending_by(pool, &view.kept));
         }
         count
-    }
-
-    /// The request at a place among those that are pending by the pool, by priority and then
-    /// sequence. This body scans every request up to that one.
-    fn pending_request_at(&self, pool: PoolId, at: u32) -> Option<RequestId>
-        ensures { result ≡ slice_get (pending_requests pool (state self.now)) at }
-    {
-        let mut left = at;
-        for place in 0..self.requests() {
-            let view = self.request_view(place)?;
-            if !is_pending_by(pool, &view.kept) {
-                continue;
-            }
-            if left == 0 {
-                return Some(view.id);
-            }
-            left -= 1;
-        }
-        None
     }
 
     /// The first request, by priority and then sequence, that is pending by the pool and that nobody

@@ -1,4 +1,4 @@
-use Rattle.std.proofs.Common.{◌≡◌, sym}
+use Rattle.std.proofs.Common.{sym}
 use Rattle.np_look.proofs.Due.{soonest-stays, soonest-found}
 use Rattle.np_look.proofs.look.Look.first_due.Goals as goal
 

@@ -1,8 +1,0 @@
-use Rattle.std.proofs.Common.{◌≡◌, drop}
-use Rattle.std.specs.Prelude.{filter, slice_get}
-use Rattle.np_machine.specs.Entries.{RequestEntry}
-use Rattle.np_machine.specs.Order.{is_pending_by}
-use Rattle.np_look.proofs.look.Look.pending_request_at.Given as goal
-
-abbrev pub invariant-loop-place : goal.invariant-loop-place
-invariant-loop-place g l = slice_get (filter (λ (e : RequestEntry). is_pending_by l.pool e.kept) (drop l.place (g.Self.Look.state l.self).requests)) l.left ≡ slice_get (filter (λ (e : RequestEntry). is_pending_by l.pool e.kept) (g.Self.Look.state l.self).requests) l.at

@@ -1,0 +1,60 @@
+-- a requester's next jobs: those that can begin, that can be finished, and whose handles can be given back
+use Rattle.std.specs.Prelude.{ℕ, Bool, false, ◌==◌, ◌&&◌, ◌||◌, Option, is_none, slice_get}
+use Rattle.std.specs.Option.{option_map_or}
+use Rattle.std.specs.List.{list_any}
+use Rattle.np_text.specs.declared.id.JobId.{JobId}
+use Rattle.np_text.specs.declared.id.RequesterId.{RequesterId}
+use Rattle.np_text.specs.declared.word.RequestState.{RequestState}
+use Rattle.np_record.specs.declared.record.JobRecord.{JobRecord}
+use Rattle.np_site.specs.Configuration.{Configuration}
+use Rattle.np_site.specs.declared.row.Job.{Job}
+use Rattle.np_machine.specs.Kinds.{is_asked, is_failed, is_new, is_over, is_using}
+use Rattle.np_machine.specs.Semaphore.{first_full}
+use Rattle.np_machine.specs.State.{State}
+use Rattle.np_machine.specs.Tables.{has_handle}
+use Rattle.np_look.specs.Readers.{jobs_from, request_state_of}
+
+-- the configuration has the job, the job is the requester's, and its row passes
+abbrev pub is_own : Configuration → RequesterId → JobId → (Job → Bool) → Bool
+is_own c q j such = option_map_or (λ row. (row.requester.0 == q.0) && such row) (slice_get c.jobs j.0) false
+
+-- ## to begin
+
+-- the job need not wait for semaphores: it asks for its nodes first, or none of those that it lacks is
+-- full (Zuul: resources-first, semaphores)
+abbrev pub may_begin : Configuration → State → JobId → Job → Bool
+may_begin c s j row = row.resources_first || is_none (first_full c s j row)
+
+-- a new job of the requester that need not wait
+abbrev pub is_job_to_begin : Configuration → State → RequesterId → JobId → JobRecord → Bool
+is_job_to_begin c s q j kept = is_own c q j (may_begin c s j) && is_new kept.phase
+
+-- the first of them
+abbrev pub job_to_begin : Configuration → RequesterId → State → Option JobId
+job_to_begin c q s = slice_get (jobs_from (is_job_to_begin c s q) 0 s.jobs) 0
+
+-- ## to finish
+
+-- a job of the requester that uses its nodes, or has asked for them and whose request failed, by the
+-- request's state
+abbrev pub is_job_to_finish_by : Configuration → RequesterId → JobId → JobRecord → Option RequestState → Bool
+is_job_to_finish_by c q j kept state =
+    option_map_or (λ row. row.requester.0 == q.0) (slice_get c.jobs j.0) false
+    && (is_using kept.phase || (is_asked kept.phase && option_map_or is_failed state false))
+
+abbrev pub is_job_to_finish : Configuration → State → RequesterId → JobId → JobRecord → Bool
+is_job_to_finish c s q j kept = is_job_to_finish_by c q j kept (request_state_of kept.request s)
+
+-- these jobs in order: the one at this place
+abbrev pub job_to_finish : Configuration → RequesterId → ℕ → State → Option JobId
+job_to_finish c q at s = slice_get (jobs_from (is_job_to_finish c s q) 0 s.jobs) at
+
+-- ## to release
+
+-- a job of the requester that is over and has a handle (Zuul: semaphores are released when the job is over)
+abbrev pub is_job_to_release : Configuration → State → RequesterId → JobId → JobRecord → Bool
+is_job_to_release c s q j kept = is_own c q j (λ row. list_any (has_handle j s.handles) row.semaphores) && is_over kept.phase
+
+-- these jobs in order: the one at this place
+abbrev pub job_to_release : Configuration → RequesterId → ℕ → State → Option JobId
+job_to_release c q at s = slice_get (jobs_from (is_job_to_release c s q) 0 s.jobs) at
