@@ -4,7 +4,7 @@ ghost use Rattle.std.specs.Prelude.{◌≡◌, ◌<◌, ◌≤◌, ◌^◌, leng
 ghost use Rattle.std.specs.List.{list_any, list_all};
 ghost use Rattle.np_text.specs.declared.id.SemId.{SemId};
 ghost use Rattle.np_machine.specs.Tables.{role_of};
-ghost use Rattle.np_machine.specs.Semaphore.{is_full, first_full, judge_acquire, unheld, unended, judge_take, is_busy_with, has_failed_request, is_finishable, ending_of, may_finish, requester_or_janitor, judge_finish, judge_withdraw, may_release, judge_release};
+ghost use Rattle.np_machine.specs.Semaphore.{judge_acquire, unheld, unended, judge_take, is_busy_with, has_failed_request, is_finishable, ending_of, may_finish, requester_or_janitor, judge_finish, judge_withdraw, may_release, judge_release};
 ghost use Rattle.np_fits.specs.Fits.{Fits};
 ghost use Rattle.np_changes.specs.Plan.{plan_acquire, plan_take, plan_finish, request_after_withdraw, plan_withdraw, plan_release};
 ghost use Rattle.np_decision.specs.Verdicts.{answer_of};
@@ -20,32 +20,8 @@ use np_look::{Look, is_requester};
 use np_record::{JobRecord, MarkRow, Marked, NodeRow};
 use np_site::Job;
 use np_text::{
-    Ending, JobId, NodeId, NodeState, Phase, RequestId, RequestState, RequesterId, Role, SemId,
-    SessionId,
+    Ending, JobId, NodeId, NodeState, Phase, RequestId, RequestState, RequesterId, Role, SessionId,
 };
-
-/// Whether as many jobs have a handle as may.
-fn is_full<L: Look>(look: &L, semaphore: SemId) -> bool
-    ensures { result ≡ is_full (L.site look.now) (L.state look.now) semaphore }
-{
-    let max = match look.config().semaphore(semaphore) {
-        None => 0,
-        Some(row) => row.max,
-    };
-    max <= look.handles(semaphore)
-}
-
-/// The first of the job's semaphores that is full and of which it has no handle.
-fn first_full<L: Look>(look: &L, id: JobId, job: &Job) -> Option<SemId>
-    ensures { result ≡ first_full (L.site look.now) (L.state look.now) id job.now }
-{
-    for semaphore in job.semaphores.items() {
-        if !look.has_handle(*semaphore, id) && is_full(look, *semaphore) {
-            return Some(*semaphore);
-        }
-    }
-    None
-}
 
 /// The job takes all its semaphores, or none.
 pub fn decide_acquire<L: Look>(look: &L, session: SessionId, job: JobId) -> Result<Verdict, Refusal>
@@ -60,7 +36,7 @@ pub fn decide_acquire<L: Look>(look: &L, session: SessionId, job: JobId) -> Resu
     if kept.phase == Phase::Over {
         return Err(wrong_job(&kept));
     }
-    if let Some(full) = first_full(look, job, row) {
+    if let Some(full) = look.first_full(job, row) {
         return Err(Refusal::SemaphoreFull(full));
     }
     Ok(Verdict {
