@@ -113,10 +113,6 @@ impl<K: StateKeeper + Drop> Look for JournalKeeper<K> {
         self.keeper.pending_requests(pool)
     }
 
-    fn pending_request_at(&self, pool: PoolId, at: u32) -> Option<RequestId> {
-        self.keeper.pending_request_at(pool, at)
-    }
-
     fn first_unheld_pending(&self, pool: PoolId) -> Option<RequestId> {
         self.keeper.first_unheld_pending(pool)
     }
@@ -245,8 +241,16 @@ impl<K: StateKeeper + Drop> Look for JournalKeeper<K> {
         self.keeper.active(requester, at)
     }
 
-    fn new_job(&self, requester: RequesterId, at: u32) -> Option<JobId> {
-        self.keeper.new_job(requester, at)
+    fn job_to_begin(&self, requester: RequesterId) -> Option<JobId> {
+        self.keeper.job_to_begin(requester)
+    }
+
+    fn job_to_finish(&self, requester: RequesterId, at: u32) -> Option<JobId> {
+        self.keeper.job_to_finish(requester, at)
+    }
+
+    fn job_to_release(&self, requester: RequesterId, at: u32) -> Option<JobId> {
+        self.keeper.job_to_release(requester, at)
     }
 
     fn owner(&self, node: NodeId) -> Option<JobId> {
