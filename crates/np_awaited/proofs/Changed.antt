@@ -11,7 +11,7 @@ use Rattle.np_text.specs.declared.id.TenantId.{TenantId}
 use Rattle.np_lists.specs.Change.{change_at}
 use Rattle.np_lists.proofs.ChangeLemmas.{change_at-set, length-change_at, slice_get-change_at}
 use Rattle.np_awaited.specs.declared.awaited.Rest.{Rest}
-use Rattle.np_awaited.specs.Awaited.{amount_at, with_rest, without_rest, moved}
+use Rattle.np_awaited.specs.Awaited.{amount_at, with_rest, without_rest, exchange}
 
 -- ## as code changes it
 
@@ -87,11 +87,11 @@ length-with None amounts = refl
 length-with (Some rest) amounts = length-change_at rest.tenant.0 (λ a. plus a rest.amount) amounts
 
 -- with both
-pub amount-moved : (t : TenantId) (before after : Option Rest) (amounts : List Amount) → ((rest : Rest) → after ≡ Some rest → rest.tenant.0 < length amounts)
-    → amount_at t (moved before after amounts) ≡ plus (minus (amount_at t amounts) (share t before)) (share t after)
-amount-moved t before after amounts within =
+pub amount-exchange : (t : TenantId) (before after : Option Rest) (amounts : List Amount) → ((rest : Rest) → after ≡ Some rest → rest.tenant.0 < length amounts)
+    → amount_at t (exchange before after amounts) ≡ plus (minus (amount_at t amounts) (share t before)) (share t after)
+amount-exchange t before after amounts within =
     amount-with t after (without_rest before amounts) (λ rest is. subst (λ (n : ℕ). rest.tenant.0 < n) (sym (length-without before amounts)) (within rest is))
     ∙ ap (λ (a : Amount). plus a (share t after)) (amount-without t before amounts)
 
-pub length-moved : (before after : Option Rest) (amounts : List Amount) → length (moved before after amounts) ≡ length amounts
-length-moved before after amounts = length-with after (without_rest before amounts) ∙ length-without before amounts
+pub length-exchange : (before after : Option Rest) (amounts : List Amount) → length (exchange before after amounts) ≡ length amounts
+length-exchange before after amounts = length-with after (without_rest before amounts) ∙ length-without before amounts

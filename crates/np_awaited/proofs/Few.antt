@@ -82,11 +82,19 @@ module _ (c : Configuration) (s : State) (fits : Fits c s) (t : TenantId) where
         ram = omega (arith, few.ram, length-take n s.requests, fits.requests);
       }
 
-  pub all-small : IsSmall (total (map (rest_of_request c) (filter (is_pending_of c t) s.requests)))
-  all-small =
+  -- what all of them wait for
+  pub awaited-few : IsFew (total (map (rest_of_request c) (filter (is_pending_of c t) s.requests))) 8388608
+  awaited-few =
       let few = rows-few (rest_of_request c) (is_pending_of c t) s.requests each-few in
       record {
         instances = omega (arith, few.instances, fits.requests);
         cores = omega (arith, few.cores, fits.requests);
         ram = omega (arith, few.ram, fits.requests);
       }
+
+  pub all-small : IsSmall (total (map (rest_of_request c) (filter (is_pending_of c t) s.requests)))
+  all-small = record {
+    instances = omega (arith, awaited-few.instances);
+    cores = omega (arith, awaited-few.cores);
+    ram = omega (arith, awaited-few.ram);
+  }

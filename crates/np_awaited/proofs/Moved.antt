@@ -16,13 +16,10 @@ use Rattle.np_machine.specs.Order.{is_id_before}
 use Rattle.np_machine.specs.State.{State}
 use Rattle.np_machine.specs.Tables.{request_in, same_request}
 use Rattle.np_keys.specs.Keys.{request_equal, request_one_way}
-use Rattle.np_changes.specs.Planned.{IsReached}
 use Rattle.np_fits.specs.Fits.{Fits}
-use Rattle.np_fits.proofs.FitsRuns.{Fits-Runs}
-use Rattle.np_fits.proofs.Sites.{sound_fits}
-use Rattle.np_awaited.specs.Awaited.{AreAwaited, AreSmall, IsSmall, awaited_by, moved, rest_at}
+use Rattle.np_awaited.specs.Awaited.{AreAwaited, AreSmall, IsSmall, awaited_by, exchange, rest_at}
 use Rattle.np_awaited.proofs.Rows.{moved-total, same-kept}
-use Rattle.np_awaited.proofs.Changed.{amount-moved, length-moved, share}
+use Rattle.np_awaited.proofs.Changed.{amount-exchange, length-exchange, share}
 use Rattle.np_awaited.proofs.Shares.{by-records, rest-at-within, share-at, waits_for}
 use Rattle.np_awaited.proofs.Few.{all-small}
 
@@ -52,13 +49,13 @@ module _ (c : Configuration) (s t : State) (r : RequestId)
 pub awaited-moved : (c : Configuration) (s t : State) (r : RequestId) (amounts : List Amount) → IsSound c
     → Rises (λ a b. is_id_before a.id b.id) s.requests → Rises (λ a b. is_id_before a.id b.id) t.requests
     → ((x : RequestId) → same_request r x ≡ false → request_in x t.requests ≡ request_in x s.requests)
-    → AreAwaited c s amounts → AreAwaited c t (moved (rest_at c s r) (rest_at c t r) amounts)
+    → AreAwaited c s amounts → AreAwaited c t (exchange (rest_at c s r) (rest_at c t r) amounts)
 awaited-moved c s t r amounts sound rises_s rises_t alike are = record {
   each = λ x.
-      amount-moved x (rest_at c s r) (rest_at c t r) amounts (λ rest is. subst (λ (n : ℕ). rest.tenant.0 < n) (sym are.tenants) (rest-at-within c sound t r rest is))
+      amount-exchange x (rest_at c s r) (rest_at c t r) amounts (λ rest is. subst (λ (n : ℕ). rest.tenant.0 < n) (sym are.tenants) (rest-at-within c sound t r rest is))
       ∙ ap (λ (a : Amount). plus (minus a (share x (rest_at c s r))) (share x (rest_at c t r))) (are.each x)
       ∙ tenant-moved c s t r rises_s rises_t alike x;
-  tenants = length-moved (rest_at c s r) (rest_at c t r) amounts ∙ are.tenants;
+  tenants = length-exchange (rest_at c s r) (rest_at c t r) amounts ∙ are.tenants;
 }
 
 -- ## if no request changes
@@ -83,10 +80,6 @@ awaited-same c s t amounts rises_s rises_t alike are = record {
 pub small-awaited : (c : Configuration) (s : State) → Fits c s → (t : TenantId) → IsSmall (awaited_by c s t)
 small-awaited c s fits t = all-small c s fits t
 
--- so it is in each state that a run reaches
-pub small-reached : (c : Configuration) (s : State) → IsSound c → IsReached c s → (t : TenantId) → IsSmall (awaited_by c s t)
-small-reached c s sound reached t = all-small c s (Fits-Runs c reached.journal s (sound_fits c sound) reached.runs) t
-
 -- the amounts are small if what they stand for is
 pub small-amounts : (c : Configuration) (s : State) (amounts : List Amount) → ((t : TenantId) → IsSmall (awaited_by c s t)) → AreAwaited c s amounts → AreSmall amounts
 small-amounts c s amounts small are = λ t. subst IsSmall (sym (are.each t)) (small t)
@@ -96,8 +89,8 @@ pub awaited-noted : (c : Configuration) (s t : State) (r : RequestId) (amounts a
     → Rises (λ a b. is_id_before a.id b.id) s.requests → Rises (λ a b. is_id_before a.id b.id) t.requests
     → ((x : RequestId) → same_request r x ≡ false → request_in x t.requests ≡ request_in x s.requests)
     → AreAwaited c s amounts → ((x : TenantId) → IsSmall (awaited_by c t x))
-    → (AreSmall (moved (rest_at c s r) (rest_at c t r) amounts) → after ≡ moved (rest_at c s r) (rest_at c t r) amounts)
+    → (AreSmall (exchange (rest_at c s r) (rest_at c t r) amounts) → after ≡ exchange (rest_at c s r) (rest_at c t r) amounts)
     → AreAwaited c t after
 awaited-noted c s t r amounts after sound rises_s rises_t alike are small noted =
     let now = awaited-moved c s t r amounts sound rises_s rises_t alike are in
-    subst (λ (list : List Amount). AreAwaited c t list) (sym (noted (small-amounts c t (moved (rest_at c s r) (rest_at c t r) amounts) small now))) now
+    subst (λ (list : List Amount). AreAwaited c t list) (sym (noted (small-amounts c t (exchange (rest_at c s r) (rest_at c t r) amounts) small now))) now

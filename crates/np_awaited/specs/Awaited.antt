@@ -46,8 +46,8 @@ abbrev pub with_rest : Option Rest → List Amount → List Amount
 with_rest after amounts = option_map_or (λ rest. change_at rest.tenant.0 (λ a. plus a rest.amount) amounts) after amounts
 
 -- with what a request waits for now, in the place of what it waited for before
-abbrev pub moved : Option Rest → Option Rest → List Amount → List Amount
-moved before after amounts = with_rest after (without_rest before amounts)
+abbrev pub exchange : Option Rest → Option Rest → List Amount → List Amount
+exchange before after amounts = with_rest after (without_rest before amounts)
 
 -- each amount is one that code can keep
 abbrev pub AreSmall : List Amount → Type 0

@@ -4,7 +4,7 @@ ghost use Rattle.std.specs.Prelude.{◌≡◌, ◌≤◌, IfOk, length, replicat
 ghost use Rattle.np_amount.specs.declared.amount.Amount.{Amount};
 ghost use Rattle.np_amount.specs.Amounts.{minus, nothing, plus};
 ghost use Rattle.np_fits.specs.Fits.{Fits};
-ghost use Rattle.np_awaited.specs.Awaited.{AreAwaited, AreSmall, IsSmall, amount_at, moved, rest_at, rest_by, with_rest, without_rest};
+ghost use Rattle.np_awaited.specs.Awaited.{AreAwaited, AreSmall, IsSmall, amount_at, exchange, rest_at, rest_by, with_rest, without_rest};
 
 use np_amount::Amount;
 use np_config::Config;
@@ -156,7 +156,8 @@ impl Awaited {
     /// Takes off what a request waited for before it changed, and adds what it waits for now. It
     /// takes no memory. An amount that 64 bits can't have becomes the largest that they can.
     pub fn note(&mut self, before: Option<Rest>, after: Option<Rest>)
-        ensures { AreSmall (moved before after self.old) → self.new ≡ moved before after self.old }
+        ensures { AreSmall (exchange before after self.old) →
+            self.new ≡ exchange before after self.old }
     {
         take_off(&mut self.amounts, before);
         add(&mut self.amounts, after);

@@ -27,7 +27,7 @@ use Rattle.np_safe.specs.Parts.{IsNumbered}
 use Rattle.np_safe.proofs.Numbered.{numbered}
 use Rattle.np_safe.proofs.Runs.{invariant-Runs}
 use Rattle.np_awaited.specs.declared.awaited.Rest.{Rest}
-use Rattle.np_awaited.specs.Awaited.{AreAwaited, AreSmall, moved as rest_moved}
+use Rattle.np_awaited.specs.Awaited.{AreAwaited, AreSmall, exchange}
 use Rattle.np_awaited.proofs.Moved.{awaited-noted, awaited-same, small-amounts}
 use Rattle.np_classes.specs.Classes.{ClassesOf, AreClasses, AreNodeGroups, AreRequestGroups, is_among, node_groups, node_is_in, request_groups, request_is_in}
 use Rattle.np_classes.specs.Placed.{Placed, groups_of_node, groups_of_request, members_of, no_node_groups, no_request_groups, placed_node, placed_queue, placed_request, unheld_group_of_request, with_all, without_all}
@@ -188,10 +188,10 @@ module _ (c : Configuration) (s : State) (ch : Changes) (sound : IsSound c) (rea
   stays-out : (r : RequestId) → list_any (λ x. same_request x r) requests ≡ false → request_in r (changed c ch s).requests ≡ request_in r s.requests
   stays-out r out = request-untouched c ch s r (untouched (touches_request ch s r) (list_any (λ x. same_request x r) requests) (all r) out)
 
-  pub amounts-noted : AreAwaited c s old → (AreSmall (rest_moved (first_rest c s requests) (first_rest c (changed c ch s) requests) old) → new ≡ rest_moved (first_rest c s requests) (first_rest c (changed c ch s) requests) old)
+  pub amounts-noted : AreAwaited c s old → (AreSmall (exchange (first_rest c s requests) (first_rest c (changed c ch s) requests) old) → new ≡ exchange (first_rest c s requests) (first_rest c (changed c ch s) requests) old)
       → AreAwaited c (changed c ch s) new
   amounts-noted are noted = by requests refl noted where
-    by : (rs : List RequestId) → requests ≡ rs → (AreSmall (rest_moved (first_rest c s rs) (first_rest c (changed c ch s) rs) old) → new ≡ rest_moved (first_rest c s rs) (first_rest c (changed c ch s) rs) old)
+    by : (rs : List RequestId) → requests ≡ rs → (AreSmall (exchange (first_rest c s rs) (first_rest c (changed c ch s) rs) old) → new ≡ exchange (first_rest c s rs) (first_rest c (changed c ch s) rs) old)
         → AreAwaited c (changed c ch s) new
     by [] is noted =
         let now : AreAwaited c (changed c ch s) old =
@@ -205,10 +205,10 @@ module _ (c : Configuration) (s : State) (ch : Changes) (sound : IsSound c) (rea
 
 -- the same of what is kept under other names
 pub amounts-by : (rest before after : Option Rest) (amounts old new : List Amount) → rest ≡ before → amounts ≡ old
-    → (AreSmall (rest_moved rest after amounts) → new ≡ rest_moved rest after amounts) → AreSmall (rest_moved before after old) → new ≡ rest_moved before after old
+    → (AreSmall (exchange rest after amounts) → new ≡ exchange rest after amounts) → AreSmall (exchange before after old) → new ≡ exchange before after old
 amounts-by rest before after amounts old new rest_is amounts_are noted =
-    subst (λ (x : Option Rest). AreSmall (rest_moved x after old) → new ≡ rest_moved x after old) rest_is
-    (subst (λ (list : List Amount). AreSmall (rest_moved rest after list) → new ≡ rest_moved rest after list) amounts_are noted)
+    subst (λ (x : Option Rest). AreSmall (exchange x after old) → new ≡ exchange x after old) rest_is
+    (subst (λ (list : List Amount). AreSmall (exchange rest after list) → new ≡ exchange rest after list) amounts_are noted)
 
 -- ## all of it
 
@@ -218,7 +218,7 @@ pub classes-noted : (c site : Configuration) (s t : State) (ch : Changes) (touch
     → new.requests ≡ with_all is_id_before same_request (map (placed_queue t) touched.queues) (without_all same_request touched.queue_members
     (with_all is_id_before same_request (map (placed_request t) touched.requests) (without_all same_request touched.request_members old.requests)))
     → after ≡ first_rest site t touched.requests
-    → (AreSmall (rest_moved touched.before after old.awaited) → new.awaited ≡ rest_moved touched.before after old.awaited)
+    → (AreSmall (exchange touched.before after old.awaited) → new.awaited ≡ exchange touched.before after old.awaited)
     → IsSound site → IsReached c s → IsPlanned c s ch → IsPrepared c s ch touched → site ≡ c → t ≡ changed c ch s → AreClasses c s old → AreClasses c (changed c ch s) new
 classes-noted c site s t ch touched old new after nodes requests after_is awaited sound reached planned prepared same_site later_is was =
     let later : IsNumbered (changed c ch s) = numbered c s ch (invariant-Runs c reached.journal s reached.runs).numbered in
@@ -228,8 +228,8 @@ classes-noted c site s t ch touched old new after nodes requests after_is awaite
       requests = requests-noted c s ch touched reached prepared later old.requests new.requests was.requests (rw (← later_is) requests);
       awaited =
           amounts-noted c s ch (subst IsSound same_site sound) reached planned touched.requests old.awaited new.awaited prepared.once prepared.requests was.awaited
-          (subst (λ (rest : Option Rest). AreSmall (rest_moved (first_rest c s touched.requests) rest old.awaited) → new.awaited ≡ rest_moved (first_rest c s touched.requests) rest old.awaited) later_rest
-          (subst (λ (rest : Option Rest). AreSmall (rest_moved rest after old.awaited) → new.awaited ≡ rest_moved rest after old.awaited) prepared.before awaited));
+          (subst (λ (rest : Option Rest). AreSmall (exchange (first_rest c s touched.requests) rest old.awaited) → new.awaited ≡ exchange (first_rest c s touched.requests) rest old.awaited) later_rest
+          (subst (λ (rest : Option Rest). AreSmall (exchange rest after old.awaited) → new.awaited ≡ exchange rest after old.awaited) prepared.before awaited));
     }
 
 -- members and amounts that stay are those of the same states
