@@ -37,7 +37,7 @@ AreHandlesBy passes ms = AreGroups is_job_before same_job handle_group passes ms
 handles-by : (was now : SemId → JobId → Bool) (ms : List (Member JobId)) → ((x : SemId) (i : JobId) → was x i ≡ now x i) → AreHandlesBy was ms → AreHandlesBy now ms
 handles-by was now ms alike are = groups-by is_job_before same_job handle_group was now ms alike are
 
-same-id : (x y : SemId) → (x.0 == y.0) ≡ true → x ≡ y
+pub same-id : (x y : SemId) → (x.0 == y.0) ≡ true → x ≡ y
 same-id x y is = let number : x.0 ≡ y.0 = grind (arith, nat_tests) in same_semaphore x y number
 
 -- ## a job at some semaphores

@@ -1,33 +1,46 @@
 -- what the changes of an event leave of the jobs that they do not name, and that do not ask for the request that they answer or remove
-use Rattle.std.proofs.Common.{◌≡◌, ◌≢◌, ◌∙◌, ℕ, zero, suc, Bool, false, List, [], ◌∷◌, Option, None, Some, refl, sym, ap, arith}
+use Rattle.std.proofs.Common.{◌≡◌, ◌≢◌, ◌∙◌, ℕ, zero, suc, Bool, false, List, [], ◌∷◌, length, not, Option, None, Some, refl, sym, ap, arith}
 use Rattle.std.specs.Prelude.{◌==◌, ◌||◌, ◌&&◌, slice_get, slice_set}
+use Rattle.std.specs.List.{list_any}
 use Rattle.std.specs.Option.{option_map_or}
 use Rattle.std.proofs.lemmas.Bool.Decides.{nat_tests}
 use Rattle.np_text.specs.declared.id.JobId.{JobId}
 use Rattle.np_text.specs.declared.id.NodeId.{NodeId}
 use Rattle.np_text.specs.declared.id.RequestId.{RequestId}
 use Rattle.np_text.specs.declared.id.RequesterId.{RequesterId}
+use Rattle.np_text.specs.declared.id.SemId.{SemId}
 use Rattle.np_text.specs.declared.word.Phase.{Phase}
 use Rattle.np_text.specs.declared.word.Phase.TheVariants as phase
+use Rattle.np_text.specs.declared.word.RequestState.{RequestState}
 use Rattle.np_record.specs.declared.record.JobRecord.{JobRecord}
 use Rattle.np_site.specs.Configuration.{Configuration}
+use Rattle.np_site.specs.declared.row.Job.{Job}
 use Rattle.np_lists.proofs.ChangeLemmas.{kept-change_at}
-use Rattle.np_keys.specs.Keys.{same_job}
-use Rattle.np_machine.specs.Kinds.{is_asked, is_using}
+use Rattle.np_machine.specs.Kinds.{is_asked, is_failed, is_new, is_over, is_using}
 use Rattle.np_machine.specs.Node.{with_mark}
 use Rattle.np_machine.specs.State.{State}
-use Rattle.np_changes.specs.Changes.{changed, grown, jobs_changed}
+use Rattle.np_machine.specs.Tables.{has_handle}
+use Rattle.np_changes.specs.Changes.{changed, grown, jobs_changed, semaphores_of}
 use Rattle.np_changes.specs.Planned.{IsPlanned, IsReached}
 use Rattle.np_changes.specs.declared.changes.Changes.{Changes}
+use Rattle.np_changes.specs.declared.changes.Growth.{Growth}
+use Rattle.np_changes.specs.declared.changes.Growth.TheVariants as grow
+use Rattle.np_changes.specs.declared.changes.HandlesChange.{HandlesChange}
+use Rattle.np_changes.specs.declared.changes.HandlesChange.TheVariants as handles
 use Rattle.np_changes.specs.declared.changes.JobsChange.{JobsChange}
 use Rattle.np_changes.specs.declared.changes.JobsChange.TheVariants as jobs
 use Rattle.np_safe.specs.Parts.{Invariant, JobIn}
 use Rattle.np_safe.proofs.JobsLater.{jobs-grown}
 use Rattle.np_safe.proofs.Lookups.{request_in-below}
 use Rattle.np_safe.proofs.Runs.{invariant-Runs}
-use Rattle.np_look.specs.Readers.{is_active_job, is_answered, request_state_of}
-use Rattle.np_active.specs.Active.{JobKind, active_ones, asker_of, is_job_in, is_job_of, new_ones}
-use Rattle.np_active.proofs.RequestsUntouched.{asks, request-untouched}
+use Rattle.np_look.specs.Jobs.{is_own}
+use Rattle.np_look.specs.Readers.{is_answered, request_state_of}
+use Rattle.np_active.specs.Active.{JobKind, active_ones, asker_of, ending_ones, is_job_in, is_job_of, is_prompt, prompt_ones, releasing_ones, waiting_ones}
+use Rattle.np_active.specs.Lines.{line_of}
+use Rattle.np_active.specs.Members.{job_put, job_releasing, job_taking}
+use Rattle.np_active.proofs.HandlesUntouched.{handle-untouched, is_of, releases, takes}
+use Rattle.np_active.proofs.RequestsUntouched.{OfAnswered, is_named, of-answered, of-failed, request-untouched}
+use Rattle.np_active.proofs.Roles.{and_false}
 
 -- a put at another place
 set-other : {X : Type 0} (xs : List X) (i j : ℕ) (x : X) → i ≢ j → slice_get (slice_set xs i x) j ≡ slice_get xs j
@@ -37,57 +50,113 @@ set-other (z ∷ xs) zero (suc j) x other = refl
 set-other (z ∷ xs) (suc i) zero x other = refl
 set-other (z ∷ xs) (suc i) (suc j) x other = set-other xs i j x (λ same. other (ap suc same))
 
--- the record of the job is put
-abbrev pub puts_job : JobsChange → JobId → Bool
-puts_job jobs.Same i = false
-puts_job (jobs.Put j kept) i = same_job j i
-puts_job (jobs.EndNode j n) i = false
-
 -- whether by this row the job is of the kind
-abbrev kind_in_row : Configuration → State → JobKind → JobId → Option JobRecord → Bool
-kind_in_row c s kind i row = option_map_or (λ kept. is_job_of c s kind i kept) row false
+abbrev kind_in_row : Configuration → State → List JobId → JobKind → JobId → Option JobRecord → Bool
+kind_in_row c s lines kind i row = option_map_or (λ kept. is_job_of c s lines kind i kept) row false
 
 -- a mark leaves the phase and the request of a job
-mark-untouched : (c : Configuration) (t : State) (kind : JobKind) (i : JobId) (n : NodeId) (kept : JobRecord) → is_job_of c t kind i (with_mark n kept) ≡ is_job_of c t kind i kept
-mark-untouched c t (active_ones q) i n kept = refl
-mark-untouched c t (new_ones q) i n kept = refl
+mark-untouched : (c : Configuration) (t : State) (lines : List JobId) (kind : JobKind) (i : JobId) (n : NodeId) (kept : JobRecord) → is_job_of c t lines kind i (with_mark n kept) ≡ is_job_of c t lines kind i kept
+mark-untouched c t lines (active_ones q) i n kept = refl
+mark-untouched c t lines (prompt_ones q) i n kept = refl
+mark-untouched c t lines (waiting_ones q line) i n kept = refl
+mark-untouched c t lines (ending_ones q) i n kept = refl
+mark-untouched c t lines (releasing_ones q) i n kept = refl
 
-rows-untouched : (c : Configuration) (t : State) (change : JobsChange) (kind : JobKind) (i : JobId) (rows : List JobRecord) → puts_job change i ≡ false
-    → kind_in_row c t kind i (slice_get (jobs_changed change rows) i.0) ≡ kind_in_row c t kind i (slice_get rows i.0)
-rows-untouched c t jobs.Same kind i rows out = refl
-rows-untouched c t (jobs.Put j kept) kind i rows out = ap (kind_in_row c t kind i) (set-other rows j.0 i.0 kept (λ same. absurd (grind (arith, nat_tests))))
-rows-untouched c t (jobs.EndNode j n) kind i rows out = kept-change_at (kind_in_row c t kind i) j.0 i.0 (with_mark n) rows (λ kept. mark-untouched c t kind i n kept)
+rows-untouched : (c : Configuration) (t : State) (lines : List JobId) (change : JobsChange) (kind : JobKind) (i : JobId) (rows : List JobRecord) → is_named (job_put change) i ≡ false
+    → kind_in_row c t lines kind i (slice_get (jobs_changed change rows) i.0) ≡ kind_in_row c t lines kind i (slice_get rows i.0)
+rows-untouched c t lines jobs.Same kind i rows out = refl
+rows-untouched c t lines (jobs.Put j kept) kind i rows out = ap (kind_in_row c t lines kind i) (set-other rows j.0 i.0 kept (λ same. absurd (grind (arith, nat_tests))))
+rows-untouched c t lines (jobs.EndNode j n) kind i rows out = kept-change_at (kind_in_row c t lines kind i) j.0 i.0 (with_mark n) rows (λ kept. mark-untouched c t lines kind i n kept)
+
+-- ## handles
+
+-- tests of a list that are alike
+pub any-alike : {X : Type 0} (p q : X → Bool) → ((x : X) → p x ≡ q x) → (xs : List X) → list_any p xs ≡ list_any q xs
+any-alike p q alike [] = refl
+any-alike p q alike (x ∷ xs) = rw (alike x, any-alike p q alike xs) refl
+
+-- tests of its own jobs that are alike
+own-alike : (c : Configuration) (q : RequesterId) (i : JobId) (such also : Job → Bool) → ((row : Job) → such row ≡ also row) → is_own c q i such ≡ is_own c q i also
+own-alike c q i such also alike = by (slice_get c.jobs i.0) where
+  by : (o : Option Job) → option_map_or (λ row. (row.requester.0 == q.0) && such row) o false ≡ option_map_or (λ row. (row.requester.0 == q.0) && also row) o false
+  by None = refl
+  by (Some row) = ap (λ (b : Bool). (row.requester.0 == q.0) && b) (alike row)
+
+-- a job has the handles that it had, unless it takes them or gives them back
+module _ (c : Configuration) (ch : Changes) (s : State) (i : JobId) (old : is_named (job_taking ch.grows) i ≡ false) (kept : is_named (job_releasing ch.handles) i ≡ false) where
+  not-taken : (g : Growth) (x : SemId) → is_named (job_taking g) i ≡ false → takes c g x i ≡ false
+  not-taken (grow.Handles j) x out = ap (λ (b : Bool). is_of x (semaphores_of c j) && b) out ∙ and_false (is_of x (semaphores_of c j))
+  not-taken _ x out = refl
+
+  not-released : (change : HandlesChange) (x : SemId) → is_named (job_releasing change) i ≡ false → releases c change x i ≡ false
+  not-released handles.Same x out = refl
+  not-released (handles.Release j) x out = ap (λ (b : Bool). is_of x (semaphores_of c j) && b) out ∙ and_false (is_of x (semaphores_of c j))
+
+  handles-untouched : (semaphores : List SemId) → list_any (has_handle i (changed c ch s).handles) semaphores ≡ list_any (has_handle i s.handles) semaphores
+  handles-untouched semaphores =
+      any-alike (has_handle i (changed c ch s).handles) (has_handle i s.handles) (λ x. handle-untouched c x i ch s (not-taken ch.grows x old) (not-released ch.handles x kept)) semaphores
+
+  prompt-untouched : (row : Job) → is_prompt (changed c ch s) i row ≡ is_prompt s i row
+  prompt-untouched row = ap (λ (b : Bool). row.resources_first || (length row.semaphores == 0) || b) (handles-untouched row.semaphores)
+
+-- ## requests
 
 module _ (c : Configuration) (ch : Changes) (s : State) (invariant : Invariant c s) (planned : IsPlanned c s ch) (i : JobId) where
-  -- the request of an asked job that does not ask for one that is answered or removed is answered as before
-  answer-untouched : (kept : JobRecord) → asks (asker_of ch.requests s) i ≡ false → JobIn s i kept phase.Asked
-      → option_map_or is_answered (request_state_of kept.request (changed c ch s)) false ≡ option_map_or is_answered (request_state_of kept.request s) false
-  answer-untouched kept out is =
-      let low = request_in-below is.0.id s.next_request is.0.request s.requests invariant.numbered.requests_below is.0.stands in
-      ap (λ (r : Option RequestId). option_map_or is_answered (request_state_of r (changed c ch s)) false) is.0.asks
-      ∙ request-untouched c ch s planned is.0.id is.0.request i is.0.stands is.0.names low out
-      ∙ sym (ap (λ (r : Option RequestId). option_map_or is_answered (request_state_of r s) false) is.0.asks)
+  module _ (test : RequestState → Bool) (of : OfAnswered test) where
+    -- the request of an asked job that does not ask for one that is answered or removed passes or not, as before
+    answer-untouched : (kept : JobRecord) → is_named (asker_of ch.requests s) i ≡ false → JobIn s i kept phase.Asked
+        → option_map_or test (request_state_of kept.request (changed c ch s)) false ≡ option_map_or test (request_state_of kept.request s) false
+    answer-untouched kept out is =
+        let low = request_in-below is.0.id s.next_request is.0.request s.requests invariant.numbered.requests_below is.0.stands in
+        ap (λ (r : Option RequestId). option_map_or test (request_state_of r (changed c ch s)) false) is.0.asks
+        ∙ request-untouched test of c ch s planned is.0.id is.0.request i is.0.stands is.0.names low out
+        ∙ sym (ap (λ (r : Option RequestId). option_map_or test (request_state_of r s) false) is.0.asks)
 
-  -- whether its request is answered matters for an asked job only
-  kept-untouched : (q : RequesterId) (kept : JobRecord) → slice_get s.jobs i.0 ≡ Some kept → asks (asker_of ch.requests s) i ≡ false → is_active_job c (changed c ch s) q i kept ≡ is_active_job c s q i kept
-  kept-untouched q kept stands out = by kept.phase refl (invariant.jobs.each i kept stands) where
-    by : (p : Phase) → kept.phase ≡ p → JobIn s i kept p → is_active_job c (changed c ch s) q i kept ≡ is_active_job c s q i kept
-    by phase.New at is = rw at refl
-    by phase.Asked at is =
-        ap (λ (b : Bool). option_map_or (λ row. row.requester.0 == q.0) (slice_get c.jobs i.0) false && (is_using kept.phase || (is_asked kept.phase && b))) (answer-untouched kept out is)
-    by phase.Using at is = rw at refl
-    by phase.Over at is = rw at refl
+    -- by a state: a job of the requester that uses its nodes, or has asked for them and whose request passes
+    abbrev is_so : RequesterId → JobRecord → State → Bool
+    is_so q kept t = option_map_or (λ row. row.requester.0 == q.0) (slice_get c.jobs i.0) false && (is_using kept.phase || (is_asked kept.phase && option_map_or test (request_state_of kept.request t) false))
 
-  -- and whether a job is new depends on its record alone
-  row-untouched : (kind : JobKind) (o : Option JobRecord) → slice_get s.jobs i.0 ≡ o → asks (asker_of ch.requests s) i ≡ false → kind_in_row c (changed c ch s) kind i o ≡ kind_in_row c s kind i o
-  row-untouched kind None none out = refl
-  row-untouched (active_ones q) (Some kept) stands out = kept-untouched q kept stands out
-  row-untouched (new_ones q) (Some kept) stands out = refl
+    -- what its request is matters for an asked job only
+    kept-untouched : (q : RequesterId) (kept : JobRecord) → slice_get s.jobs i.0 ≡ Some kept → is_named (asker_of ch.requests s) i ≡ false → is_so q kept (changed c ch s) ≡ is_so q kept s
+    kept-untouched q kept stands out = by kept.phase refl (invariant.jobs.each i kept stands) where
+      by : (p : Phase) → kept.phase ≡ p → JobIn s i kept p → is_so q kept (changed c ch s) ≡ is_so q kept s
+      by phase.New at is = rw at refl
+      by phase.Asked at is =
+          ap (λ (b : Bool). option_map_or (λ row. row.requester.0 == q.0) (slice_get c.jobs i.0) false && (is_using kept.phase || (is_asked kept.phase && b))) (answer-untouched kept out is)
+      by phase.Using at is = rw at refl
+      by phase.Over at is = rw at refl
 
--- a job whose record is not put, and that does not ask for a request that is answered or removed, is of the kinds that it was of
-pub job-untouched : (c : Configuration) (ch : Changes) (s : State) → IsReached c s → IsPlanned c s ch → (kind : JobKind) (i : JobId) → puts_job ch.jobs i ≡ false → asks (asker_of ch.requests s) i ≡ false
-    → is_job_in c (changed c ch s) kind i ≡ is_job_in c s kind i
-job-untouched c ch s reached planned kind i out not_asking =
-    rows-untouched c (changed c ch s) ch.jobs kind i (grown c ch.maker ch.grows s).jobs out
-    ∙ ap (λ (rows : List JobRecord). kind_in_row c (changed c ch s) kind i (slice_get rows i.0)) (jobs-grown c ch.maker ch.grows s)
-    ∙ row-untouched c ch s (invariant-Runs c reached.journal s reached.runs) planned i kind (slice_get s.jobs i.0) refl not_asking
+-- ## all of it
+
+-- a job that none of these names
+pub record IsUnnamed (asks : Option JobId) (ch : Changes) (i : JobId) : Type 0 where
+  pub asker : is_named asks i ≡ false
+  pub put : is_named (job_put ch.jobs) i ≡ false
+  pub taking : is_named (job_taking ch.grows) i ≡ false
+  pub releasing : is_named (job_releasing ch.handles) i ≡ false
+
+module _ (c : Configuration) (ch : Changes) (s : State) (lines : List JobId) (reached : IsReached c s) (planned : IsPlanned c s ch) (i : JobId) (unnamed : IsUnnamed (asker_of ch.requests s) ch i) where
+  invariant : Invariant c s
+  invariant = invariant-Runs c reached.journal s reached.runs
+
+  row-untouched : (kind : JobKind) (o : Option JobRecord) → slice_get s.jobs i.0 ≡ o → kind_in_row c (changed c ch s) lines kind i o ≡ kind_in_row c s lines kind i o
+  row-untouched kind None none = refl
+  row-untouched (active_ones q) (Some kept) stands = kept-untouched c ch s invariant planned i is_answered of-answered q kept stands unnamed.asker
+  row-untouched (prompt_ones q) (Some kept) stands =
+      ap (λ (b : Bool). is_new kept.phase && b) (own-alike c q i (is_prompt (changed c ch s) i) (is_prompt s i) (prompt-untouched c ch s i unnamed.taking unnamed.releasing))
+  row-untouched (waiting_ones q line) (Some kept) stands =
+      ap (λ (b : Bool). is_new kept.phase && b)
+      (own-alike c q i (λ row. not (is_prompt (changed c ch s) i row) && (line_of c lines i row == line)) (λ row. not (is_prompt s i row) && (line_of c lines i row == line))
+      (λ row. ap (λ (b : Bool). not b && (line_of c lines i row == line)) (prompt-untouched c ch s i unnamed.taking unnamed.releasing row)))
+  row-untouched (ending_ones q) (Some kept) stands = kept-untouched c ch s invariant planned i is_failed of-failed q kept stands unnamed.asker
+  row-untouched (releasing_ones q) (Some kept) stands =
+      ap (λ (b : Bool). b && is_over kept.phase)
+      (own-alike c q i (λ row. list_any (has_handle i (changed c ch s).handles) row.semaphores) (λ row. list_any (has_handle i s.handles) row.semaphores)
+      (λ row. handles-untouched c ch s i unnamed.taking unnamed.releasing row.semaphores))
+
+  -- it is of the kinds that it was of
+  pub job-untouched : (kind : JobKind) → is_job_in c (changed c ch s) lines kind i ≡ is_job_in c s lines kind i
+  job-untouched kind =
+      rows-untouched c (changed c ch s) lines ch.jobs kind i (grown c ch.maker ch.grows s).jobs unnamed.put
+      ∙ ap (λ (rows : List JobRecord). kind_in_row c (changed c ch s) lines kind i (slice_get rows i.0)) (jobs-grown c ch.maker ch.grows s)
+      ∙ row-untouched kind (slice_get s.jobs i.0) refl

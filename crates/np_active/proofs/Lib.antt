@@ -1,8 +1,12 @@
 pub mod Own
 pub mod Rows
 pub mod Roles
+pub mod JobKinds
 pub mod Rebuilt
 pub mod Readers
+pub mod PromptLemmas
+pub mod Firsts
+pub mod WaitingLemmas
 pub mod Begun
 pub mod RequestsUntouched
 pub mod JobsUntouched
@@ -11,3 +15,5 @@ pub mod Noted
 pub mod HandleOrder
 pub mod HandlesUntouched
 pub mod Holders
+pub mod MayBegin
+pub mod BestLemmas

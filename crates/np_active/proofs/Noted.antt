@@ -1,5 +1,6 @@
 -- the members of groups after the changes of an event, from those before it
-use Rattle.std.proofs.Common.{◌≡◌, ◌∙◌, Bool, true, false, cond, List, [], length, Option, None, Some, refl, sym, ap, subst}
+use Rattle.std.proofs.Common.{◌≡◌, ◌∙◌, Bool, true, false, cond, List, [], ◌∷◌, length, Option, None, Some, refl, sym, ap, subst}
+use Rattle.std.specs.Prelude.{fold}
 use Rattle.std.specs.Option.{option_map_or}
 use Rattle.np_text.specs.declared.id.JobId.{JobId}
 use Rattle.np_text.specs.declared.id.SessionId.{SessionId}
@@ -14,18 +15,17 @@ use Rattle.np_changes.specs.Planned.{IsPlanned, IsReached}
 use Rattle.np_changes.specs.declared.changes.Changes.{Changes}
 use Rattle.np_changes.specs.declared.changes.Growth.{Growth}
 use Rattle.np_changes.specs.declared.changes.Growth.TheVariants as grow
-use Rattle.np_changes.specs.declared.changes.JobsChange.{JobsChange}
-use Rattle.np_changes.specs.declared.changes.JobsChange.TheVariants as jobs
 use Rattle.np_changes.specs.declared.changes.SessionsChange.{SessionsChange}
 use Rattle.np_changes.specs.declared.changes.SessionsChange.TheVariants as sessions
 use Rattle.np_active.specs.Active.{ActiveOf, AreActive, AreGroups, AreHandleGroups, AreJobGroups, AreSessionGroups, JobKind, SessionKind, asker_of, is_job_in, is_kind_in, is_of_kind, job_group, session_group}
-use Rattle.np_active.specs.Members.{kinds_of, kinds_of_job, with_asker, with_changed_job, with_changed_session, with_job, with_new_handles, with_new_session, with_session, without_handles}
+use Rattle.np_active.specs.Members.{job_put, job_releasing, job_taking, kinds_of, kinds_of_job, with_changed_session, with_if_any, with_job, with_named, with_new_handles, with_new_session, with_session, without_handles}
 use Rattle.np_active.proofs.Own.{groups-by, put-own}
-use Rattle.np_active.proofs.Roles.{same_job_kind, job-groups, job_kind-equal, is_among_job_kinds, job-own, same_kind, session-groups, kind-equal, is_among_kinds, session-own, session-own_now}
+use Rattle.np_active.proofs.JobKinds.{same_job_kind, job-groups, job_kind-equal, is_among_job_kinds, job-own}
+use Rattle.np_active.proofs.Roles.{same_kind, session-groups, kind-equal, is_among_kinds, session-own, session-own_now}
 use Rattle.np_active.proofs.Begun.{planned-begun}
 use Rattle.np_active.proofs.Holders.{handles-noted}
-use Rattle.np_active.proofs.RequestsUntouched.{asks}
-use Rattle.np_active.proofs.JobsUntouched.{puts_job, job-untouched}
+use Rattle.np_active.proofs.RequestsUntouched.{is_named}
+use Rattle.np_active.proofs.JobsUntouched.{IsUnnamed, job-untouched}
 use Rattle.np_active.proofs.SessionsUntouched.{begins, stops, session-untouched, role-stays}
 
 -- ## jobs
@@ -38,45 +38,52 @@ pub jobs-by : (was now : JobKind → JobId → Bool) (ms : List (Member JobId)) 
 jobs-by was now ms alike are = groups-by is_job_before same_job job_group was now ms alike are
 
 -- one job is where the state has it, and all others are where they were
-pub job-put : (c : Configuration) (t : State) (was : JobKind → JobId → Bool) (j : JobId) (ms : List (Member JobId)) → AreJobsBy was ms
-    → ((q : JobKind) → is_among_job_kinds q (kinds_of_job c j) ≡ false → was q j ≡ false)
-    → AreJobsBy (λ q i. cond (same_job j i) (is_job_in c t q i) (was q i)) (with_job c t j ms)
-job-put c t was j ms are out =
+pub job-put : (c : Configuration) (t : State) (lines : List JobId) (was : JobKind → JobId → Bool) (j : JobId) (ms : List (Member JobId)) → AreJobsBy was ms
+    → ((q : JobKind) → is_among_job_kinds q (kinds_of_job c lines j) ≡ false → was q j ≡ false)
+    → AreJobsBy (λ q i. cond (same_job j i) (is_job_in c t lines q i) (was q i)) (with_job c t lines j ms)
+job-put c t lines was j ms are out =
     put-own is_job_before same_job job_transitive job_one_way job_some_way job_equal job_group same_job_kind job-groups job_kind-equal
-    was (is_job_in c t) j (kinds_of_job c j) ms are out (λ q other. job-own c t j q other)
+    was (is_job_in c t lines) j (kinds_of_job c lines j) ms are out (λ q other. job-own c t lines j q other)
 
-module _ (c : Configuration) (s t : State) where
-  -- after the job that asks is put
-  abbrev with_asking : Option JobId → JobKind → JobId → Bool
-  with_asking asker q i = cond (asks asker i) (is_job_in c t q i) (is_job_in c s q i)
+module _ (c : Configuration) (s t : State) (lines : List JobId) where
+  -- after these jobs are put one after another
+  abbrev after : List (Option JobId) → (JobKind → JobId → Bool) → JobKind → JobId → Bool
+  after [] was q i = was q i
+  after (o ∷ named) was q i = after named (λ r k. cond (is_named o k) (is_job_in c t lines r k) (was r k)) q i
 
-  -- it is of no other kind than one of its requester's
-  asking-own : (asker : Option JobId) (j : JobId) (q : JobKind) → is_among_job_kinds q (kinds_of_job c j) ≡ false → with_asking asker q j ≡ false
-  asking-own asker j q other = by (asks asker j) where
-    by : (b : Bool) → cond b (is_job_in c t q j) (is_job_in c s q j) ≡ false
-    by true = job-own c t j q other
-    by false = job-own c s j q other
+  -- each is of no other kind than one of its requester's
+  abbrev AreOwn : (JobKind → JobId → Bool) → Type 0
+  AreOwn was = (j : JobId) (q : JobKind) → is_among_job_kinds q (kinds_of_job c lines j) ≡ false → was q j ≡ false
 
-  job-asks : (asker : Option JobId) (ms : List (Member JobId)) → AreJobGroups c s ms → AreJobsBy (with_asking asker) (with_asker c t asker ms)
-  job-asks None ms are = are
-  job-asks (Some j) ms are = job-put c t (is_job_in c s) j ms are (λ q other. job-own c s j q other)
+  own-after : (o : Option JobId) (was : JobKind → JobId → Bool) → AreOwn was → AreOwn (λ q i. cond (is_named o i) (is_job_in c t lines q i) (was q i))
+  own-after o was own j q other = by (is_named o j) where
+    by : (b : Bool) → cond b (is_job_in c t lines q j) (was q j) ≡ false
+    by true = job-own c t lines j q other
+    by false = own j q other
 
-  job-changed : (asker : Option JobId) (change : JobsChange) (ms : List (Member JobId)) → AreJobsBy (with_asking asker) ms
-      → AreJobsBy (λ q i. cond (puts_job change i) (is_job_in c t q i) (with_asking asker q i)) (with_changed_job c t change ms)
-  job-changed asker jobs.Same ms are = are
-  job-changed asker (jobs.Put j kept) ms are = job-put c t (with_asking asker) j ms are (λ q other. asking-own asker j q other)
-  job-changed asker (jobs.EndNode j n) ms are = are
+  one-put : (o : Option JobId) (was : JobKind → JobId → Bool) (ms : List (Member JobId)) → AreOwn was → AreJobsBy was ms
+      → AreJobsBy (λ q i. cond (is_named o i) (is_job_in c t lines q i) (was q i)) (with_if_any c t lines ms o)
+  one-put None was ms own are = are
+  one-put (Some j) was ms own are = job-put c t lines was j ms are (own j)
 
-  jobs-noted : (asker : Option JobId) (change : JobsChange) (ms : List (Member JobId)) → ((q : JobKind) (i : JobId) → puts_job change i ≡ false → asks asker i ≡ false → is_job_in c t q i ≡ is_job_in c s q i)
-      → AreJobGroups c s ms → AreJobGroups c t (with_changed_job c t change (with_asker c t asker ms))
-  jobs-noted asker change ms same are =
-      jobs-by _ _ _ (λ q i. by q i (puts_job change i) (asks asker i) refl refl) (job-changed asker change (with_asker c t asker ms) (job-asks asker ms are))
+  all-put : (named : List (Option JobId)) (was : JobKind → JobId → Bool) (ms : List (Member JobId)) → AreOwn was → AreJobsBy was ms → AreJobsBy (after named was) (fold (with_if_any c t lines) ms named)
+  all-put [] was ms own are = are
+  all-put (o ∷ named) was ms own are =
+      all-put named (λ q i. cond (is_named o i) (is_job_in c t lines q i) (was q i)) (with_if_any c t lines ms o) (own-after o was own) (one-put o was ms own are)
+
+  jobs-noted : (asker : Option JobId) (ch : Changes) (ms : List (Member JobId)) → ((q : JobKind) (i : JobId) → IsUnnamed asker ch i → is_job_in c t lines q i ≡ is_job_in c s lines q i)
+      → AreJobGroups c s lines ms → AreJobGroups c t lines (with_named c t lines asker ch ms)
+  jobs-noted asker ch ms same are =
+      jobs-by _ _ _ (λ q i. by q i (is_named (job_releasing ch.handles) i) (is_named (job_taking ch.grows) i) (is_named (job_put ch.jobs) i) (is_named asker i) refl refl refl refl)
+      (all-put (asker ∷ job_put ch.jobs ∷ job_taking ch.grows ∷ job_releasing ch.handles ∷ []) (is_job_in c s lines) ms (λ j q other. job-own c s lines j q other) are)
     where
-      by : (q : JobKind) (i : JobId) (a b : Bool) → puts_job change i ≡ a → asks asker i ≡ b
-          → cond a (is_job_in c t q i) (cond b (is_job_in c t q i) (is_job_in c s q i)) ≡ is_job_in c t q i
-      by q i true b is asking = refl
-      by q i false true out asking = refl
-      by q i false false out quiet = sym (same q i out quiet)
+      by : (q : JobKind) (i : JobId) (r k p a : Bool) → is_named (job_releasing ch.handles) i ≡ r → is_named (job_taking ch.grows) i ≡ k → is_named (job_put ch.jobs) i ≡ p → is_named asker i ≡ a
+          → cond r (is_job_in c t lines q i) (cond k (is_job_in c t lines q i) (cond p (is_job_in c t lines q i) (cond a (is_job_in c t lines q i) (is_job_in c s lines q i)))) ≡ is_job_in c t lines q i
+      by q i true k p a releasing taking put asking = refl
+      by q i false true p a releasing taking put asking = refl
+      by q i false false true a releasing taking put asking = refl
+      by q i false false false true releasing taking put asking = refl
+      by q i false false false false releasing taking put asking = sym (same q i (record { asker = asking; put = put; taking = taking; releasing = releasing }))
 
 -- ## sessions
 
@@ -129,15 +136,16 @@ module _ (s t : State) (stays : (x : SessionId) (facts : SessionFacts) → sessi
 
 -- ## all groups
 
-pub active-noted : (c site : Configuration) (s t : State) (ch : Changes) (asker : Option JobId) (old new : ActiveOf) (asking handles : List (Member JobId)) (more : List (Member SessionId))
-    → asking ≡ with_asker site t asker old.jobs → new.jobs ≡ with_changed_job site t ch.jobs asking
+pub active-noted : (c site : Configuration) (s t : State) (ch : Changes) (asker : Option JobId) (old new : ActiveOf) (handles : List (Member JobId)) (more : List (Member SessionId))
+    → new.lines ≡ old.lines → new.jobs ≡ with_named site t old.lines asker ch old.jobs
     → handles ≡ with_new_handles site t ch.grows old.handles → new.handles ≡ without_handles site ch.handles handles
     → more ≡ with_new_session t ch.grows old.sessions → new.sessions ≡ with_changed_session t ch.sessions more
     → IsReached c s → IsPlanned c s ch → asker ≡ asker_of ch.requests s → site ≡ c → t ≡ changed c ch s → AreActive c s old → AreActive c (changed c ch s) new
-active-noted c site s t ch asker old new asking handles more asking_are jobs_are taken_are handles_are more_are sessions_are reached planned asks_are site_is after was = record {
+active-noted c site s t ch asker old new handles more lines_are jobs_are taken_are handles_are more_are sessions_are reached planned asks_are site_is after was = record {
   jobs =
-      subst (AreJobGroups c (changed c ch s)) (sym (jobs_are ∙ rw (asking_are, asks_are, site_is, after) refl))
-      (jobs-noted c s (changed c ch s) (asker_of ch.requests s) ch.jobs old.jobs (λ q i out quiet. job-untouched c ch s reached planned q i out quiet) was.jobs);
+      subst (λ (lines : List JobId). AreJobGroups c (changed c ch s) lines new.jobs) (sym lines_are)
+      (subst (AreJobGroups c (changed c ch s) old.lines) (sym (jobs_are ∙ rw (asks_are, site_is, after) refl))
+      (jobs-noted c s (changed c ch s) old.lines (asker_of ch.requests s) ch old.jobs (λ q i unnamed. job-untouched c ch s old.lines reached planned i unnamed q) was.jobs));
   handles = subst (AreHandleGroups c (changed c ch s)) (sym (handles_are ∙ rw (taken_are, site_is, after) refl)) (handles-noted c s ch old.handles reached planned was.handles);
   sessions =
       subst (AreSessionGroups (changed c ch s)) (sym (sessions_are ∙ rw (more_are, after) refl))

@@ -1,5 +1,5 @@
 -- the members of a group are the jobs or the sessions of a kind, in order
-use Rattle.std.proofs.Common.{◌≡◌, ◌∙◌, ◌<◌, ◌+◌, ◌-◌, ℕ, suc, Bool, true, false, cond, List, [], ◌∷◌, length, Option, Some, None, refl, sym, ap, arith}
+use Rattle.std.proofs.Common.{◌≡◌, ◌∙◌, ◌<◌, ◌+◌, ◌-◌, ℕ, suc, Bool, true, false, cond, List, [], ◌∷◌, length, Option, Some, None, refl, sym, ap, subst, arith}
 use Rattle.std.specs.Prelude.{◌==◌, ◌&&◌, ◌||◌, is_some, slice_get}
 use Rattle.std.specs.Option.{option_map_or, option_or}
 use Rattle.std.specs.List.{list_any}
@@ -11,6 +11,7 @@ use Rattle.np_text.specs.declared.id.Role.{Role}
 use Rattle.np_text.specs.declared.id.SessionId.{SessionId}
 use Rattle.np_record.specs.declared.record.JobRecord.{JobRecord}
 use Rattle.np_site.specs.Configuration.{Configuration}
+use Rattle.np_lists.specs.Rising.{Rises}
 use Rattle.np_groups.specs.declared.groups.Group.{Group}
 use Rattle.np_groups.specs.declared.groups.Member.{Member}
 use Rattle.np_groups.specs.Groups.{ids_in}
@@ -20,8 +21,8 @@ use Rattle.np_machine.specs.Laws.{speaks_for}
 use Rattle.np_machine.specs.Semaphore.{has_live_session}
 use Rattle.np_machine.specs.State.{State}
 use Rattle.np_machine.specs.declared.state.SessionFacts.{SessionFacts}
-use Rattle.np_look.specs.Readers.{active_of, current_of, first_mute, jobs_from, mute_from, new_of, speaker_from}
-use Rattle.np_active.specs.Active.{ActiveOf, AreActive, JobKind, SessionKind, active_group, active_ones, is_job_of, is_kind_in, is_of_kind, job_group, live_group, live_ones, mute_group, mute_ones, new_group, new_ones, role_group, session_group, speakers}
+use Rattle.np_look.specs.Readers.{current_of, first_mute, jobs_from, mute_from, speaker_from}
+use Rattle.np_active.specs.Active.{ActiveOf, AreActive, JobKind, SessionKind, is_job_of, is_kind_in, is_of_kind, job_group, live_group, live_ones, mute_group, mute_ones, role_group, session_group, speakers}
 use Rattle.np_active.proofs.Rows.{has-at, ids_from, last-at, last_of, none-before, numbers-rise}
 
 -- ## jobs
@@ -33,22 +34,29 @@ jobs-are : (passes : JobId → JobRecord → Bool) (n : ℕ) (rows : List JobRec
 jobs-are passes n [] = refl
 jobs-are passes n (kept ∷ rows) = rw (jobs-are passes (suc n) rows) refl
 
+-- those that pass are there, in order
+pub jobs-rise : (passes : JobId → JobRecord → Bool) (rows : List JobRecord) → Rises is_job_before (jobs_from passes 0 rows)
+jobs-rise passes rows =
+    subst (Rises is_job_before) (sym (jobs-are passes 0 rows)) (numbers-rise (λ (j : JobId). j.0) (λ n. record { 0 = n }) (λ n. refl) (λ j. refl) passes 0 rows)
+
+pub jobs-have : (passes : JobId → JobRecord → Bool) (rows : List JobRecord) (j : JobId) → list_any (λ k. same_job k j) (jobs_from passes 0 rows) ≡ option_map_or (passes j) (slice_get rows j.0) false
+jobs-have passes rows j =
+    ap (λ (ids : List JobId). list_any (λ k. same_job k j) ids) (jobs-are passes 0 rows)
+    ∙ has-at (λ (i : JobId). i.0) (λ n. record { 0 = n }) (λ n. refl) (λ i. refl) passes j j.0 0 rows (omega arith)
+
 module _ (c : Configuration) (s : State) (active : ActiveOf) (are : AreActive c s active) where
-  jobs-grouped : (kind : JobKind) → ids_in (job_group kind) active.jobs ≡ jobs_from (is_job_of c s kind) 0 s.jobs
+  pub jobs-grouped : (kind : JobKind) → ids_in (job_group kind) active.jobs ≡ jobs_from (is_job_of c s active.lines kind) 0 s.jobs
   jobs-grouped kind =
       same-list is_job_before same_job job_one_way job_equal (same-itself is_job_before same_job job_one_way job_some_way)
-      (ids_in (job_group kind) active.jobs) (job_ids (is_job_of c s kind) 0 s.jobs)
-      (ids-rise (job_group kind) is_job_before active.jobs are.jobs.rises)
-      (numbers-rise (λ (j : JobId). j.0) (λ n. record { 0 = n }) (λ n. refl) (λ j. refl) (is_job_of c s kind) 0 s.jobs)
-      (λ i. ids-has same_job (job_group kind) i active.jobs ∙ are.jobs.each kind i
-      ∙ sym (has-at (λ (j : JobId). j.0) (λ n. record { 0 = n }) (λ n. refl) (λ j. refl) (is_job_of c s kind) i i.0 0 s.jobs (omega arith)))
-      ∙ sym (jobs-are (is_job_of c s kind) 0 s.jobs)
+      (ids_in (job_group kind) active.jobs) (jobs_from (is_job_of c s active.lines kind) 0 s.jobs)
+      (ids-rise (job_group kind) is_job_before active.jobs are.jobs.rises) (jobs-rise (is_job_of c s active.lines kind) s.jobs)
+      (λ i. ids-has same_job (job_group kind) i active.jobs ∙ are.jobs.each kind i ∙ sym (jobs-have (is_job_of c s active.lines kind) s.jobs i))
 
-  pub active-job_at : (q : RequesterId) (at : ℕ) → slice_get (ids_in (active_group q) active.jobs) at ≡ active_of c q at s
-  active-job_at q at = ap (λ (ids : List JobId). slice_get ids at) (jobs-grouped (active_ones q))
-
-  pub new-job_at : (q : RequesterId) (at : ℕ) → slice_get (ids_in (new_group q) active.jobs) at ≡ new_of c q at s
-  new-job_at q at = ap (λ (ids : List JobId). slice_get ids at) (jobs-grouped (new_ones q))
+  -- by a group and members that are the same
+  pub job-at : (kind : JobKind) (g : Group) → g ≡ job_group kind → (ms : List (Member JobId)) → ms ≡ active.jobs → (at : ℕ) → slice_get (ids_in g ms) at ≡ slice_get (jobs_from (is_job_of c s active.lines kind) 0 s.jobs) at
+  job-at kind g is_group ms is at =
+      ap (λ (h : Group). slice_get (ids_in h ms) at) is_group ∙ ap (λ (xs : List (Member JobId)). slice_get (ids_in (job_group kind) xs) at) is
+      ∙ ap (λ (ids : List JobId). slice_get ids at) (jobs-grouped kind)
 
 -- ## sessions
 

@@ -30,24 +30,24 @@ past-end i n is = grind (arith, nat_tests)
 -- ## jobs
 
 -- the jobs of a kind with a number below this one
-abbrev pub is_job_below : Configuration → State → ℕ → JobKind → JobId → Bool
-is_job_below c s n q i = nat_lt i.0 n && is_job_in c s q i
+abbrev pub is_job_below : Configuration → State → List JobId → ℕ → JobKind → JobId → Bool
+is_job_below c s lines n q i = nat_lt i.0 n && is_job_in c s lines q i
 
 -- with the next one
-pub jobs-more : (c : Configuration) (s : State) (n : ℕ) (ms between later : List (Member JobId)) → AreJobsBy (is_job_below c s n) ms
-    → between ≡ ms → later ≡ with_job c s (record { 0 = n }) between → AreJobsBy (is_job_below c s (n + 1)) later
-jobs-more c s n ms between later are same put =
-    subst (AreJobsBy (is_job_below c s (n + 1))) (sym (put ∙ ap (λ (xs : List (Member JobId)). with_job c s (record { 0 = n }) xs) same))
-    (jobs-by _ _ _ (λ q i. below_more n i.0 (is_job_in c s q i))
-    (job-put c s (is_job_below c s n) (record { 0 = n }) ms are (λ q other. ap (λ (b : Bool). b && is_job_in c s q (record { 0 = n })) (below_it n))))
+pub jobs-more : (c : Configuration) (s : State) (lines : List JobId) (n : ℕ) (ms between later : List (Member JobId)) → AreJobsBy (is_job_below c s lines n) ms
+    → between ≡ ms → later ≡ with_job c s lines (record { 0 = n }) between → AreJobsBy (is_job_below c s lines (n + 1)) later
+jobs-more c s lines n ms between later are same put =
+    subst (AreJobsBy (is_job_below c s lines (n + 1))) (sym (put ∙ ap (λ (xs : List (Member JobId)). with_job c s lines (record { 0 = n }) xs) same))
+    (jobs-by _ _ _ (λ q i. below_more n i.0 (is_job_in c s lines q i))
+    (job-put c s lines (is_job_below c s lines n) (record { 0 = n }) ms are (λ q other. ap (λ (b : Bool). b && is_job_in c s lines q (record { 0 = n })) (below_it n))))
 
-pub jobs-all : (c : Configuration) (s : State) (n : ℕ) (ms : List (Member JobId)) → length s.jobs ≤ n → AreJobsBy (is_job_below c s n) ms → AreJobGroups c s ms
-jobs-all c s n ms all are = jobs-by _ _ _ (λ q i. by q i (nat_lt i.0 n) refl) are where
-  by : (q : JobKind) (i : JobId) (b : Bool) → nat_lt i.0 n ≡ b → (b && is_job_in c s q i) ≡ is_job_in c s q i
+pub jobs-all : (c : Configuration) (s : State) (lines : List JobId) (n : ℕ) (ms : List (Member JobId)) → length s.jobs ≤ n → AreJobsBy (is_job_below c s lines n) ms → AreJobGroups c s lines ms
+jobs-all c s lines n ms all are = jobs-by _ _ _ (λ q i. by q i (nat_lt i.0 n) refl) are where
+  by : (q : JobKind) (i : JobId) (b : Bool) → nat_lt i.0 n ≡ b → (b && is_job_in c s lines q i) ≡ is_job_in c s lines q i
   by q i true is = refl
   by q i false out =
       let past : length s.jobs ≤ i.0 = omega (arith, all, past-end i.0 n out) in
-      sym (ap (λ (o : Option JobRecord). option_map_or (λ kept. is_job_of c s q i kept) o false) (slice_get_past s.jobs i.0 past))
+      sym (ap (λ (o : Option JobRecord). option_map_or (λ kept. is_job_of c s lines q i kept) o false) (slice_get_past s.jobs i.0 past))
 
 -- ## sessions
 

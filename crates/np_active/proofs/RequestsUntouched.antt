@@ -1,4 +1,4 @@
--- what the changes of an event leave of the requests that they do not answer or remove: whether they are answered
+-- what the changes of an event leave of the requests that they do not answer or remove: whether they pass a test that only answered ones pass
 use Rattle.std.proofs.Common.{◌≡◌, ◌∙◌, ◌<◌, Bool, true, false, cond, List, Option, None, Some, refl, sym, ap, subst, arith}
 use Rattle.std.specs.Prelude.{◌||◌, ◌&&◌, option_and_then}
 use Rattle.std.specs.Option.{option_map, option_map_or}
@@ -11,7 +11,7 @@ use Rattle.np_record.specs.declared.record.RequestRecord.{RequestRecord}
 use Rattle.np_site.specs.Configuration.{Configuration}
 use Rattle.np_keys.specs.Keys.{same_job}
 use Rattle.np_machine.specs.Entries.{RequestEntry}
-use Rattle.np_machine.specs.Kinds.{is_pending, is_requested}
+use Rattle.np_machine.specs.Kinds.{is_failed, is_pending, is_requested}
 use Rattle.np_machine.specs.State.{State}
 use Rattle.np_machine.specs.Tables.{request_in, same_request}
 use Rattle.np_changes.specs.Changes.{changed, edited, grown, requests_changed}
@@ -29,108 +29,121 @@ use Rattle.np_safe.proofs.Lookups.{request_in-edit, request_in-remove, same_requ
 use Rattle.np_look.specs.Readers.{is_answered}
 use Rattle.np_active.specs.Active.{answers, asker_of, asker_of_request}
 
--- ## edits that answer nothing
-
-requested-unanswered : (state : RequestState) → is_requested state ≡ true → is_answered state ≡ false
-requested-unanswered request_state.Requested is = refl
-requested-unanswered request_state.Pending is = refl
-requested-unanswered request_state.Fulfilled is = absurd cc
-requested-unanswered request_state.Failed is = absurd cc
-
-pending-unanswered : (state : RequestState) → is_pending state ≡ true → is_answered state ≡ false
-pending-unanswered request_state.Requested is = refl
-pending-unanswered request_state.Pending is = refl
-pending-unanswered request_state.Fulfilled is = absurd cc
-pending-unanswered request_state.Failed is = absurd cc
-
-undecided-unanswered : (state : RequestState) (b : Bool) → (is_requested state || (is_pending state && b)) ≡ true → is_answered state ≡ false
-undecided-unanswered request_state.Requested b is = refl
-undecided-unanswered request_state.Pending b is = refl
-undecided-unanswered request_state.Fulfilled b is = absurd cc
-undecided-unanswered request_state.Failed b is = absurd cc
-
--- one request has one record
-one-record : (o : Option RequestRecord) (j k : RequestRecord) → o ≡ Some j → o ≡ Some k → j ≡ k
-one-record o j k is also = cc
-
--- a request of which the tests have shown that it is not answered
-module _ (o : Option RequestRecord) (shown k : RequestRecord) (shows : o ≡ Some shown) (stands : o ≡ Some k) where
-  unanswered : is_answered shown.state ≡ false → false ≡ is_answered k.state
-  unanswered out = sym (subst (λ (request : RequestRecord). is_answered request.state ≡ false) (one-record o shown k shows stands) out)
-
--- an edit that does not answer the request leaves it answered or not, as it was
-edit-answers : (c : Configuration) (s : State) (ch : Changes) (r : RequestId) (change : RequestEdit) (k : RequestRecord) → EditPremise c s ch r change → request_in r s.requests ≡ Some k → answers change ≡ false
-    → is_answered (edited change k).state ≡ is_answered k.state
-edit-answers c s ch r (edit.Serve p) k premise stands out =
-    unanswered (request_in r s.requests) premise.request k premise.worked_on.stands stands (requested-unanswered premise.request.state premise.requested)
-edit-answers c s ch r (edit.AddNode n) k premise stands out = refl
-edit-answers c s ch r (edit.Decline p why true) k premise stands out = absurd cc
-edit-answers c s ch r (edit.Decline p why false) k premise stands out =
-    unanswered (request_in r s.requests) premise.request k premise.worked_on.stands stands (undecided-unanswered premise.request.state _ premise.undecided)
-edit-answers c s ch r edit.Fulfil k premise stands out = absurd cc
-edit-answers c s ch r edit.GiveBack k premise stands out =
-    unanswered (request_in r s.requests) premise.request k premise.stands stands (pending-unanswered premise.request.state premise.pending)
-edit-answers c s ch r edit.Fail k premise stands out = absurd cc
-edit-answers c s ch r (edit.Revise relative) k premise stands out = refl
-
 -- ## who asks for a request that is answered or removed
 
--- the job is the one that asks
-abbrev pub asks : Option JobId → JobId → Bool
-asks None i = false
-asks (Some j) i = same_job j i
+-- the job is this one
+abbrev pub is_named : Option JobId → JobId → Bool
+is_named None i = false
+is_named (Some j) i = same_job j i
 
 same-itself : (i : JobId) → same_job i i ≡ true
 same-itself i = grind (arith, nat_tests)
 
--- the request is there, and its record says whether it is answered
-abbrev pub answered : Option RequestRecord → Bool
-answered o = option_map_or is_answered (option_map (λ request. request.state) o) false
-
-module _ (c : Configuration) (s : State) (ch : Changes) (r : RequestId) (request : RequestRecord) (i : JobId) (stands : request_in r s.requests ≡ Some request) (names : request.job ≡ Some i) where
-  asker-is : (x : RequestId) → same_request x r ≡ true → asks (asker_of_request x s) i ≡ true
+module _ (s : State) (r : RequestId) (request : RequestRecord) (i : JobId) (stands : request_in r s.requests ≡ Some request) (names : request.job ≡ Some i) where
+  asker-is : (x : RequestId) → same_request x r ≡ true → is_named (asker_of_request x s) i ≡ true
   asker-is x same =
-      ap (λ (y : RequestId). asks (asker_of_request y s) i) (same_request-is x r same)
-      ∙ ap (λ (o : Option RequestRecord). asks (option_and_then (λ q. q.job) o) i) stands
-      ∙ ap (λ (o : Option JobId). asks o i) names ∙ same-itself i
+      ap (λ (y : RequestId). is_named (asker_of_request y s) i) (same_request-is x r same)
+      ∙ ap (λ (o : Option RequestRecord). is_named (option_and_then (λ q. q.job) o) i) stands
+      ∙ ap (λ (o : Option JobId). is_named o i) names ∙ same-itself i
 
-  not-asker : (x : RequestId) → asks (asker_of_request x s) i ≡ false → same_request x r ≡ false
+  not-asker : (x : RequestId) → is_named (asker_of_request x s) i ≡ false → same_request x r ≡ false
   not-asker x out = by (same_request x r) refl where
     by : (b : Bool) → same_request x r ≡ b → b ≡ false
     by true same = sym (asker-is x same) ∙ out
     by false other = refl
 
-  -- another record of it, answered or not as this one
-  module _ (x : RequestId) (change : RequestEdit) (premise : EditPremise c s ch x change) (b : Bool) (answer : answers change ≡ b) (out : asks (cond b (asker_of_request x s) None) i ≡ false) where
-    edit-untouched : (same : Bool) → same_request x r ≡ same → is_answered (cond same (edited change request) request).state ≡ is_answered request.state
-    edit-untouched false other = refl
-    edit-untouched true same = by b answer out where
-      here : request_in x s.requests ≡ Some request
-      here = subst (λ (y : RequestId). request_in y s.requests ≡ Some request) (sym (same_request-is x r same)) stands
+-- ## a test of what a request is answered
 
-      by : (d : Bool) → answers change ≡ d → asks (cond d (asker_of_request x s) None) i ≡ false → is_answered (edited change request).state ≡ is_answered request.state
-      by true answering not_asking = absurd (let asking = asker-is x same in cc)
-      by false quiet not_asking = edit-answers c s ch x change request premise here quiet
+-- neither a requested nor a pending request passes the test
+pub record OfAnswered (test : RequestState → Bool) : Type 0 where
+  pub requested : test request_state.Requested ≡ false
+  pub pending : test request_state.Pending ≡ false
 
-  -- a request of a job that is not the one that asks
-  request-changed : (maker : Option Maker) (change : RequestsChange) (rows : List RequestEntry) → request_in r rows ≡ Some request → RequestsPremise c s ch change → asks (asker_of change s) i ≡ false
-      → answered (request_in r (requests_changed maker change rows)) ≡ is_answered request.state
-  request-changed maker requests.Same rows there premise out = ap answered there
-  request-changed maker (requests.Edit x change) rows there premise out =
-      ap answered (request_in-edit x r (edited change) rows)
-      ∙ ap (λ (o : Option RequestRecord). answered (option_map (λ q. cond (same_request x r) (edited change q) q) o)) there
-      ∙ edit-untouched x change premise (answers change) refl out (same_request x r) refl
-  request-changed maker (requests.Remove x) rows there premise out = ap answered (request_in-remove x r rows (not-asker x out) ∙ there)
-  request-changed maker (requests.Leave x) rows there premise out = ap answered (calm-request maker (requests.Leave x) r rows tt ∙ there)
+pub of-answered : OfAnswered is_answered
+of-answered = record { requested = refl; pending = refl }
+
+pub of-failed : OfAnswered is_failed
+of-failed = record { requested = refl; pending = refl }
+
+-- one request has one record
+one-record : (o : Option RequestRecord) (j k : RequestRecord) → o ≡ Some j → o ≡ Some k → j ≡ k
+one-record o j k is also = cc
 
 premises-of : (c : Configuration) (s : State) (ch : Changes) → IsPlanned c s ch → Premises c s ch
 premises-of c s ch planned = subst (Premises c s) (sym planned.plan) (premises c s planned.event planned.accepted)
 
--- a request of a job that does not ask for one that is answered or removed is answered as before
-pub request-untouched : (c : Configuration) (ch : Changes) (s : State) → IsPlanned c s ch → (r : RequestId) (request : RequestRecord) (i : JobId) → request_in r s.requests ≡ Some request → request.job ≡ Some i → r.seq < s.next_request
-    → asks (asker_of ch.requests s) i ≡ false → answered (request_in r (changed c ch s).requests) ≡ answered (request_in r s.requests)
-request-untouched c ch s planned r request i stands names low out =
-    let more : State = grown c ch.maker ch.grows s in
-    ap answered (left-request ch.sessions r (requests_changed ch.maker ch.requests more.requests))
-    ∙ request-changed c s ch r request i stands names ch.maker ch.requests more.requests (found-grown c s ch.maker ch.grows r low ∙ stands) (premises-of c s ch planned).requests out
-    ∙ sym (ap answered stands)
+module _ (test : RequestState → Bool) (of : OfAnswered test) where
+  requested-fails : (state : RequestState) → is_requested state ≡ true → test state ≡ false
+  requested-fails request_state.Requested is = of.requested
+  requested-fails request_state.Pending is = absurd cc
+  requested-fails request_state.Fulfilled is = absurd cc
+  requested-fails request_state.Failed is = absurd cc
+
+  pending-fails : (state : RequestState) → is_pending state ≡ true → test state ≡ false
+  pending-fails request_state.Requested is = absurd cc
+  pending-fails request_state.Pending is = of.pending
+  pending-fails request_state.Fulfilled is = absurd cc
+  pending-fails request_state.Failed is = absurd cc
+
+  undecided-fails : (state : RequestState) (b : Bool) → (is_requested state || (is_pending state && b)) ≡ true → test state ≡ false
+  undecided-fails request_state.Requested b is = of.requested
+  undecided-fails request_state.Pending b is = of.pending
+  undecided-fails request_state.Fulfilled b is = absurd cc
+  undecided-fails request_state.Failed b is = absurd cc
+
+  -- a request of which the tests of the event have shown that it fails
+  module _ (o : Option RequestRecord) (shown k : RequestRecord) (shows : o ≡ Some shown) (stands : o ≡ Some k) where
+    fails : test shown.state ≡ false → false ≡ test k.state
+    fails out = sym (subst (λ (request : RequestRecord). test request.state ≡ false) (one-record o shown k shows stands) out)
+
+  -- after an edit that does not answer the request it passes or not, as before
+  edit-passes : (c : Configuration) (s : State) (ch : Changes) (r : RequestId) (change : RequestEdit) (k : RequestRecord) → EditPremise c s ch r change → request_in r s.requests ≡ Some k → answers change ≡ false
+      → test (edited change k).state ≡ test k.state
+  edit-passes c s ch r (edit.Serve p) k premise stands out =
+      of.pending ∙ fails (request_in r s.requests) premise.request k premise.worked_on.stands stands (requested-fails premise.request.state premise.requested)
+  edit-passes c s ch r (edit.AddNode n) k premise stands out = refl
+  edit-passes c s ch r (edit.Decline p why true) k premise stands out = absurd cc
+  edit-passes c s ch r (edit.Decline p why false) k premise stands out =
+      of.requested ∙ fails (request_in r s.requests) premise.request k premise.worked_on.stands stands (undecided-fails premise.request.state _ premise.undecided)
+  edit-passes c s ch r edit.Fulfil k premise stands out = absurd cc
+  edit-passes c s ch r edit.GiveBack k premise stands out =
+      of.requested ∙ fails (request_in r s.requests) premise.request k premise.stands stands (pending-fails premise.request.state premise.pending)
+  edit-passes c s ch r edit.Fail k premise stands out = absurd cc
+  edit-passes c s ch r (edit.Revise relative) k premise stands out = refl
+
+  -- the request is there, and passes
+  abbrev pub passes : Option RequestRecord → Bool
+  passes o = option_map_or test (option_map (λ request. request.state) o) false
+
+  module _ (c : Configuration) (s : State) (ch : Changes) (r : RequestId) (request : RequestRecord) (i : JobId) (stands : request_in r s.requests ≡ Some request) (names : request.job ≡ Some i) where
+    -- another record of it passes or not, as this one
+    module _ (x : RequestId) (change : RequestEdit) (premise : EditPremise c s ch x change) (b : Bool) (answer : answers change ≡ b) (out : is_named (cond b (asker_of_request x s) None) i ≡ false) where
+      edit-untouched : (same : Bool) → same_request x r ≡ same → test (cond same (edited change request) request).state ≡ test request.state
+      edit-untouched false other = refl
+      edit-untouched true same = by b answer out where
+        here : request_in x s.requests ≡ Some request
+        here = subst (λ (y : RequestId). request_in y s.requests ≡ Some request) (sym (same_request-is x r same)) stands
+
+        by : (d : Bool) → answers change ≡ d → is_named (cond d (asker_of_request x s) None) i ≡ false → test (edited change request).state ≡ test request.state
+        by true answering not_asking = absurd (let asking = asker-is s r request i stands names x same in cc)
+        by false quiet not_asking = edit-passes c s ch x change request premise here quiet
+
+    -- a request of a job that is not the one that asks
+    request-changed : (maker : Option Maker) (change : RequestsChange) (rows : List RequestEntry) → request_in r rows ≡ Some request → RequestsPremise c s ch change → is_named (asker_of change s) i ≡ false
+        → passes (request_in r (requests_changed maker change rows)) ≡ test request.state
+    request-changed maker requests.Same rows there premise out = ap passes there
+    request-changed maker (requests.Edit x change) rows there premise out =
+        ap passes (request_in-edit x r (edited change) rows)
+        ∙ ap (λ (o : Option RequestRecord). passes (option_map (λ q. cond (same_request x r) (edited change q) q) o)) there
+        ∙ edit-untouched x change premise (answers change) refl out (same_request x r) refl
+    request-changed maker (requests.Remove x) rows there premise out = ap passes (request_in-remove x r rows (not-asker s r request i stands names x out) ∙ there)
+    request-changed maker (requests.Leave x) rows there premise out = ap passes (calm-request maker (requests.Leave x) r rows tt ∙ there)
+
+  -- a request of a job that does not ask for one that is answered or removed passes or not, as before
+  pub request-untouched : (c : Configuration) (ch : Changes) (s : State) → IsPlanned c s ch → (r : RequestId) (request : RequestRecord) (i : JobId) → request_in r s.requests ≡ Some request → request.job ≡ Some i → r.seq < s.next_request
+      → is_named (asker_of ch.requests s) i ≡ false → passes (request_in r (changed c ch s).requests) ≡ passes (request_in r s.requests)
+  request-untouched c ch s planned r request i stands names low out =
+      let more : State = grown c ch.maker ch.grows s in
+      ap passes (left-request ch.sessions r (requests_changed ch.maker ch.requests more.requests))
+      ∙ request-changed c s ch r request i stands names ch.maker ch.requests more.requests (found-grown c s ch.maker ch.grows r low ∙ stands) (premises-of c s ch planned).requests out
+      ∙ sym (ap passes stands)

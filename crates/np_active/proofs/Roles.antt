@@ -1,27 +1,21 @@
--- to whom jobs and sessions belong: the groups of two kinds of jobs and of two kinds of sessions, and what passes for one only
+-- to whom sessions belong: the groups of two kinds of sessions, and what passes for one only
 use Rattle.std.proofs.Common.{◌≡◌, ◌≢◌, ◌∙◌, ℕ, Bool, true, false, List, [], Option, None, Some, refl, sym, ap, arith}
-use Rattle.std.specs.Prelude.{◌&&◌, ◌||◌, ◌==◌, slice_get}
+use Rattle.std.specs.Prelude.{◌&&◌, ◌||◌, ◌==◌}
 use Rattle.std.specs.Option.{option_map, option_map_or}
 use Rattle.std.specs.List.{list_any}
 use Rattle.std.proofs.lemmas.Bool.Decides.{nat_tests}
-use Rattle.np_text.specs.declared.id.JobId.{JobId}
 use Rattle.np_text.specs.declared.id.PoolId.{PoolId}
 use Rattle.np_text.specs.declared.id.RequesterId.{RequesterId}
 use Rattle.np_text.specs.declared.id.Role.{Role}
 use Rattle.np_text.specs.declared.id.Role.TheVariants.{Launcher, Janitor, Requester, Reaper}
 use Rattle.np_text.specs.declared.id.SessionId.{SessionId}
-use Rattle.np_record.specs.declared.record.JobRecord.{JobRecord}
-use Rattle.np_site.specs.Configuration.{Configuration}
-use Rattle.np_site.specs.declared.row.Job.{Job}
 use Rattle.np_groups.specs.Groups.{same_group}
-use Rattle.np_machine.specs.Kinds.{is_asked, is_new, is_using}
 use Rattle.np_machine.specs.Laws.{same_role}
 use Rattle.np_machine.specs.State.{State}
 use Rattle.np_machine.specs.Tables.{role_of, session_of}
 use Rattle.np_machine.specs.declared.state.SessionFacts.{SessionFacts}
-use Rattle.np_look.specs.Readers.{is_answered, request_state_of}
-use Rattle.np_active.specs.Active.{JobKind, SessionKind, active_ones, is_job_in, is_kind_in, is_of_kind, job_group, live_group, live_ones, mute_group, mute_ones, new_ones, role_group, session_group, speakers}
-use Rattle.np_active.specs.Members.{job_kinds_of, kinds_of, kinds_of_job}
+use Rattle.np_active.specs.Active.{SessionKind, is_kind_in, is_of_kind, live_group, live_ones, mute_group, mute_ones, role_group, session_group, speakers}
+use Rattle.np_active.specs.Members.{kinds_of}
 
 pub and_true : (b : Bool) → (b && true) ≡ b
 and_true true = refl
@@ -32,59 +26,12 @@ and_true false = refl
 abbrev pub same_requester : RequesterId → RequesterId → Bool
 same_requester r q = r.0 == q.0
 
-requester-equal : (r q : RequesterId) → same_requester r q ≡ true → r ≡ q
+pub requester-equal : (r q : RequesterId) → same_requester r q ≡ true → r ≡ q
 requester-equal r q is = let number : r.0 ≡ q.0 = grind (arith, nat_tests) in ap (λ (n : ℕ). record { 0 = n }) number
 
 pub or_false : (b : Bool) → (b || false) ≡ b
 or_false true = refl
 or_false false = refl
-
--- ## kinds of jobs
-
-abbrev pub same_job_kind : JobKind → JobKind → Bool
-same_job_kind (active_ones r) (active_ones q) = same_requester r q
-same_job_kind (new_ones r) (new_ones q) = same_requester r q
-same_job_kind _ _ = false
-
-pub job-groups : (r q : JobKind) → same_group (job_group r) (job_group q) ≡ same_job_kind r q
-job-groups (active_ones r) (active_ones q) = and_true (r.0 == q.0)
-job-groups (active_ones r) (new_ones q) = refl
-job-groups (new_ones r) (active_ones q) = refl
-job-groups (new_ones r) (new_ones q) = and_true (r.0 == q.0)
-
-pub job_kind-equal : (r q : JobKind) → same_job_kind r q ≡ true → r ≡ q
-job_kind-equal (active_ones r) (active_ones q) is = ap (λ (x : RequesterId). active_ones x) (requester-equal r q is)
-job_kind-equal (active_ones r) (new_ones q) is = absurd cc
-job_kind-equal (new_ones r) (active_ones q) is = absurd cc
-job_kind-equal (new_ones r) (new_ones q) is = ap (λ (x : RequesterId). new_ones x) (requester-equal r q is)
-
--- whose jobs are of the kind
-abbrev requester_of : JobKind → RequesterId
-requester_of (active_ones q) = q
-requester_of (new_ones q) = q
-
--- the kind is one of these
-abbrev pub is_among_job_kinds : JobKind → List JobKind → Bool
-is_among_job_kinds kind kinds = list_any (λ r. same_job_kind r kind) kinds
-
--- a job that is not the requester's passes no test of its jobs
-passes-own : (q : RequesterId) (test : JobRecord → Bool) (o : Option Job) (kept : Option JobRecord) → option_map_or (λ row. row.requester.0 == q.0) o false ≡ false
-    → option_map_or (λ k. option_map_or (λ row. row.requester.0 == q.0) o false && test k) kept false ≡ false
-passes-own q test o None apart = refl
-passes-own q test o (Some k) apart = rw apart refl
-
--- and it is not, if the kind is none of those of which its own requester's jobs can be
-row-apart : (kind : JobKind) (o : Option Job) → is_among_job_kinds kind (option_map_or (λ row. job_kinds_of row.requester) o []) ≡ false → option_map_or (λ row. row.requester.0 == (requester_of kind).0) o false ≡ false
-row-apart kind None other = refl
-row-apart (active_ones q) (Some row) other = sym (or_false (row.requester.0 == q.0)) ∙ other
-row-apart (new_ones q) (Some row) other = sym (or_false (row.requester.0 == q.0)) ∙ other
-
--- a job is of no other kind than one of its requester's
-pub job-own : (c : Configuration) (s : State) (j : JobId) (kind : JobKind) → is_among_job_kinds kind (kinds_of_job c j) ≡ false → is_job_in c s kind j ≡ false
-job-own c s j (active_ones q) other =
-    passes-own q (λ k. is_using k.phase || (is_asked k.phase && option_map_or is_answered (request_state_of k.request s) false)) (slice_get c.jobs j.0) (slice_get s.jobs j.0)
-    (row-apart (active_ones q) (slice_get c.jobs j.0) other)
-job-own c s j (new_ones q) other = passes-own q (λ k. is_new k.phase) (slice_get c.jobs j.0) (slice_get s.jobs j.0) (row-apart (new_ones q) (slice_get c.jobs j.0) other)
 
 -- ## roles
 
@@ -174,7 +121,7 @@ kind-equal (live_ones r) (live_ones q) is = ap (λ (x : RequesterId). live_ones 
 abbrev pub is_among_kinds : SessionKind → List SessionKind → Bool
 is_among_kinds kind kinds = list_any (λ r. same_kind r kind) kinds
 
-and_false : (b : Bool) → (b && false) ≡ false
+pub and_false : (b : Bool) → (b && false) ≡ false
 and_false true = refl
 and_false false = refl
 

@@ -1,6 +1,6 @@
 -- the groups of jobs and of sessions, and what a state says of them
-use Rattle.std.specs.Prelude.{◌≡◌, ◌≤◌, ◌&&◌, ℕ, List, [], Bool, true, false, if◌then◌else◌, Option, Some, None, option_and_then, length, slice_get}
-use Rattle.std.specs.List.{AllByRecursion}
+use Rattle.std.specs.Prelude.{◌≡◌, ◌≤◌, ◌==◌, ◌&&◌, ◌||◌, ℕ, List, [], Bool, true, false, not, if◌then◌else◌, Option, Some, None, option_and_then, length, slice_get}
+use Rattle.std.specs.List.{AllByRecursion, list_any}
 use Rattle.std.specs.Option.{option_map_or}
 use Rattle.np_text.specs.declared.id.JobId.{JobId}
 use Rattle.np_text.specs.declared.id.RequestId.{RequestId}
@@ -11,11 +11,13 @@ use Rattle.np_text.specs.declared.id.SemId.{SemId}
 use Rattle.np_text.specs.declared.id.SessionId.{SessionId}
 use Rattle.np_record.specs.declared.record.JobRecord.{JobRecord}
 use Rattle.np_site.specs.Configuration.{Configuration}
+use Rattle.np_site.specs.declared.row.Job.{Job}
 use Rattle.np_lists.specs.Rising.{Rises}
 use Rattle.np_groups.specs.declared.groups.Group.{Group}
 use Rattle.np_groups.specs.declared.groups.Member.{Member}
 use Rattle.np_groups.specs.Groups.{has_member, is_member_before}
 use Rattle.np_keys.specs.Keys.{is_job_before, is_session_before, same_job, same_session}
+use Rattle.np_machine.specs.Kinds.{is_new}
 use Rattle.np_machine.specs.Laws.{speaks_for}
 use Rattle.np_machine.specs.Semaphore.{is_requesters, max_of}
 use Rattle.np_machine.specs.State.{State}
@@ -29,7 +31,9 @@ use Rattle.np_changes.specs.declared.changes.RequestEdit.{RequestEdit}
 use Rattle.np_changes.specs.declared.changes.RequestEdit.TheVariants as edit
 use Rattle.np_changes.specs.declared.changes.RequestsChange.{RequestsChange}
 use Rattle.np_changes.specs.declared.changes.RequestsChange.TheVariants as requests
-use Rattle.np_look.specs.Readers.{is_active_job, is_new_job}
+use Rattle.np_look.specs.Jobs.{is_job_to_finish, is_job_to_release, is_own}
+use Rattle.np_look.specs.Readers.{is_active_job}
+use Rattle.np_active.specs.Lines.{line_of}
 
 -- ## groups (own)
 
@@ -37,21 +41,42 @@ use Rattle.np_look.specs.Readers.{is_active_job, is_new_job}
 abbrev pub active_group : RequesterId → Group
 active_group q = record { class = 0; first = q.0; second = 0; third = 0 }
 
--- the new jobs of the requester
-abbrev pub new_group : RequesterId → Group
-new_group q = record { class = 1; first = q.0; second = 0; third = 0 }
+-- its new jobs that wait for no semaphore
+abbrev pub prompt_group : RequesterId → Group
+prompt_group q = record { class = 1; first = q.0; second = 0; third = 0 }
 
--- a kind of jobs: a job is of one at most
+-- its new jobs that wait for semaphores in this line
+abbrev pub waiting_group : RequesterId → ℕ → Group
+waiting_group q line = record { class = 2; first = q.0; second = 0; third = line }
+
+-- its jobs to finish
+abbrev pub ending_group : RequesterId → Group
+ending_group q = record { class = 3; first = q.0; second = 0; third = 0 }
+
+-- its jobs that are over and have handles
+abbrev pub releasing_group : RequesterId → Group
+releasing_group q = record { class = 4; first = q.0; second = 0; third = 0 }
+
+-- a kind of jobs: a job can be of several
 pub data JobKind : Type 0 where
   -- the active ones of the requester
   active_ones : RequesterId → JobKind
-  -- the new ones of the requester
-  new_ones : RequesterId → JobKind
+  -- its new ones that wait for no semaphore
+  prompt_ones : RequesterId → JobKind
+  -- its new ones that wait for semaphores in this line
+  waiting_ones : RequesterId → ℕ → JobKind
+  -- its active ones to finish
+  ending_ones : RequesterId → JobKind
+  -- its ones that are over and have handles
+  releasing_ones : RequesterId → JobKind
 
 -- the group of each kind
 abbrev pub job_group : JobKind → Group
 job_group (active_ones q) = active_group q
-job_group (new_ones q) = new_group q
+job_group (prompt_ones q) = prompt_group q
+job_group (waiting_ones q line) = waiting_group q line
+job_group (ending_ones q) = ending_group q
+job_group (releasing_ones q) = releasing_group q
 
 -- the jobs that have a handle of the semaphore
 abbrev pub handle_group : SemId → Group
@@ -89,14 +114,29 @@ session_group (live_ones q) = live_group q
 
 -- ## what a state says
 
+-- the job waits for no semaphore: it asks for its nodes first, has no semaphores, or has a handle already
+abbrev pub is_prompt : State → JobId → Job → Bool
+is_prompt s j row = row.resources_first || (length row.semaphores == 0) || list_any (has_handle j s.handles) row.semaphores
+
+-- a new job of the requester that waits for no semaphore
+abbrev pub is_prompt_job : Configuration → State → RequesterId → JobId → JobRecord → Bool
+is_prompt_job c s q j kept = is_new kept.phase && is_own c q j (is_prompt s j)
+
+-- a new job of the requester that waits for semaphores in this line
+abbrev pub is_waiting_job : Configuration → State → List JobId → RequesterId → ℕ → JobId → JobRecord → Bool
+is_waiting_job c s lines q line j kept = is_new kept.phase && is_own c q j (λ row. not (is_prompt s j row) && (line_of c lines j row == line))
+
 -- the job with this record is of the kind
-abbrev pub is_job_of : Configuration → State → JobKind → JobId → JobRecord → Bool
-is_job_of c s (active_ones q) j kept = is_active_job c s q j kept
-is_job_of c s (new_ones q) j kept = is_new_job c q j kept
+abbrev pub is_job_of : Configuration → State → List JobId → JobKind → JobId → JobRecord → Bool
+is_job_of c s lines (active_ones q) j kept = is_active_job c s q j kept
+is_job_of c s lines (prompt_ones q) j kept = is_prompt_job c s q j kept
+is_job_of c s lines (waiting_ones q line) j kept = is_waiting_job c s lines q line j kept
+is_job_of c s lines (ending_ones q) j kept = is_job_to_finish c s q j kept
+is_job_of c s lines (releasing_ones q) j kept = is_job_to_release c s q j kept
 
 -- the job is there, and of the kind
-abbrev pub is_job_in : Configuration → State → JobKind → JobId → Bool
-is_job_in c s kind j = option_map_or (λ kept. is_job_of c s kind j kept) (slice_get s.jobs j.0) false
+abbrev pub is_job_in : Configuration → State → List JobId → JobKind → JobId → Bool
+is_job_in c s lines kind j = option_map_or (λ kept. is_job_of c s lines kind j kept) (slice_get s.jobs j.0) false
 
 -- the session is of the kind
 abbrev pub is_of_kind : SessionKind → SessionFacts → Bool
@@ -114,8 +154,8 @@ pub record AreGroups {K Q : Type 0} (before same : K → K → Bool) (group : Q 
   pub each : (q : Q) (i : K) → has_member same (group q) i members ≡ passes q i
 
 -- the members of the group of each kind are the jobs of the kind
-abbrev pub AreJobGroups : Configuration → State → List (Member JobId) → Type 0
-AreJobGroups c s members = AreGroups is_job_before same_job job_group (is_job_in c s) members
+abbrev pub AreJobGroups : Configuration → State → List JobId → List (Member JobId) → Type 0
+AreJobGroups c s lines members = AreGroups is_job_before same_job job_group (is_job_in c s lines) members
 
 -- the members of a semaphore's group are the jobs that have a handle of it, which a state has in order
 -- and which are no more than may
@@ -128,8 +168,10 @@ pub record AreHandleGroups (c : Configuration) (s : State) (members : List (Memb
 abbrev pub AreSessionGroups : State → List (Member SessionId) → Type 0
 AreSessionGroups s members = AreGroups is_session_before same_session session_group (is_kind_in s) members
 
--- the members of all groups, and how many more can be put without taking memory
+-- for each job one that may have the same semaphores, the members of all groups, and how many more can be
+-- put without taking memory
 pub record ActiveOf : Type 0 where
+  pub lines : List JobId
   pub jobs : List (Member JobId)
   pub handles : List (Member JobId)
   pub sessions : List (Member SessionId)
@@ -139,7 +181,7 @@ pub record ActiveOf : Type 0 where
 
 -- each part says what the state says
 pub record AreActive (c : Configuration) (s : State) (active : ActiveOf) : Type 0 where
-  pub jobs : AreJobGroups c s active.jobs
+  pub jobs : AreJobGroups c s active.lines active.jobs
   pub handles : AreHandleGroups c s active.handles
   pub sessions : AreSessionGroups s active.sessions
 
@@ -170,9 +212,10 @@ abbrev pub new_semaphores : Configuration → Growth → List SemId
 new_semaphores c (grow.Handles j) = semaphores_of c j
 new_semaphores c growth = []
 
--- there is room in two groups each for a job that asks and for one whose record is put, for a job's
--- handles, and in three groups each for a session that begins and for one that is mute or over
+-- there is room in five groups each for a job that asks, one whose record is put, one that takes handles and
+-- one that gives them back, for a job's handles, and in three groups each for a session that begins and for
+-- one that is mute or over
 pub record HasRoom (c : Configuration) (changes : Changes) (active : ActiveOf) : Type 0 where
-  pub jobs : 4 ≤ active.job_room
+  pub jobs : 20 ≤ active.job_room
   pub handles : length (new_semaphores c changes.grows) ≤ active.handle_room
   pub sessions : 6 ≤ active.session_room

@@ -1,2 +1,4 @@
+pub mod Lines
 pub mod Active
+pub mod Begin
 pub mod Members

@@ -1,5 +1,5 @@
 -- what a job or a session makes of the members of groups, and what the changes of an event do (own)
-use Rattle.std.specs.Prelude.{Bool, false, List, [], ◌∷◌, if◌then◌else◌, Option, Some, None, fold, slice_get, length}
+use Rattle.std.specs.Prelude.{ℕ, Bool, false, List, [], ◌∷◌, if◌then◌else◌, Option, Some, None, fold, slice_get, length}
 use Rattle.std.specs.Option.{option_map_or}
 use Rattle.np_text.specs.declared.id.JobId.{JobId}
 use Rattle.np_text.specs.declared.id.RequesterId.{RequesterId}
@@ -15,6 +15,7 @@ use Rattle.np_keys.specs.Keys.{is_job_before, is_session_before, same_job, same_
 use Rattle.np_machine.specs.State.{State}
 use Rattle.np_machine.specs.Tables.{has_handle, role_of}
 use Rattle.np_changes.specs.Changes.{semaphores_of}
+use Rattle.np_changes.specs.declared.changes.Changes.{Changes}
 use Rattle.np_changes.specs.declared.changes.Growth.{Growth}
 use Rattle.np_changes.specs.declared.changes.Growth.TheVariants as grow
 use Rattle.np_changes.specs.declared.changes.HandlesChange.{HandlesChange}
@@ -23,7 +24,8 @@ use Rattle.np_changes.specs.declared.changes.JobsChange.{JobsChange}
 use Rattle.np_changes.specs.declared.changes.JobsChange.TheVariants as jobs
 use Rattle.np_changes.specs.declared.changes.SessionsChange.{SessionsChange}
 use Rattle.np_changes.specs.declared.changes.SessionsChange.TheVariants as sessions
-use Rattle.np_active.specs.Active.{JobKind, SessionKind, active_ones, handle_group, is_job_in, is_kind_in, job_group, live_ones, mute_ones, new_ones, session_group, speakers}
+use Rattle.np_active.specs.Active.{JobKind, SessionKind, active_ones, ending_ones, handle_group, is_job_in, is_kind_in, job_group, live_ones, mute_ones, prompt_ones, releasing_ones, session_group, speakers, waiting_ones}
+use Rattle.np_active.specs.Lines.{line_of}
 
 -- ## one id
 
@@ -35,17 +37,22 @@ with_member_if before same g i is_in ms = if is_in then with_member before same 
 abbrev pub with_each : {K Q : Type 0} → (K → K → Bool) → (K → K → Bool) → (Q → Group) → (Q → Bool) → K → List Q → List (Member K) → List (Member K)
 with_each before same group passes i these ms = fold (λ xs q. with_member_if before same (group q) i (passes q) xs) ms these
 
--- of which kinds a job of the requester can be
-abbrev pub job_kinds_of : RequesterId → List JobKind
-job_kinds_of q = active_ones q ∷ new_ones q ∷ []
+-- of which kinds a job of the requester and of this line can be
+abbrev pub job_kinds_of : RequesterId → ℕ → List JobKind
+job_kinds_of q line = active_ones q ∷ prompt_ones q ∷ waiting_ones q line ∷ ending_ones q ∷ releasing_ones q ∷ []
 
 -- of which kinds the job can be, if it is one
-abbrev pub kinds_of_job : Configuration → JobId → List JobKind
-kinds_of_job c j = option_map_or (λ row. job_kinds_of row.requester) (slice_get c.jobs j.0) []
+abbrev pub kinds_of_job : Configuration → List JobId → JobId → List JobKind
+kinds_of_job c lines j = option_map_or (λ row. job_kinds_of row.requester (line_of c lines j row)) (slice_get c.jobs j.0) []
 
 -- the job where the state has it
-abbrev pub with_job : Configuration → State → JobId → List (Member JobId) → List (Member JobId)
-with_job c s j ms = with_each is_job_before same_job job_group (λ kind. is_job_in c s kind j) j (kinds_of_job c j) ms
+abbrev pub with_job : Configuration → State → List JobId → JobId → List (Member JobId) → List (Member JobId)
+with_job c s lines j ms = with_each is_job_before same_job job_group (λ kind. is_job_in c s lines kind j) j (kinds_of_job c lines j) ms
+
+-- the same of a job that may be none
+abbrev pub with_if_any : Configuration → State → List JobId → List (Member JobId) → Option JobId → List (Member JobId)
+with_if_any c s lines ms None = ms
+with_if_any c s lines ms (Some j) = with_job c s lines j ms
 
 -- of which kinds a session of the role can be
 abbrev pub kinds_of : Role → List SessionKind
@@ -67,16 +74,25 @@ with_holders x jobs ms = fold (λ xs j. with_member is_job_before same_job (hand
 
 -- ## the changes of an event, by the state after them
 
--- the job that asks for the request that was answered or removed
-abbrev pub with_asker : Configuration → State → Option JobId → List (Member JobId) → List (Member JobId)
-with_asker c s None ms = ms
-with_asker c s (Some j) ms = with_job c s j ms
+-- the job whose record was put; a mark at one of its nodes leaves a job where it is
+abbrev pub job_put : JobsChange → Option JobId
+job_put jobs.Same = None
+job_put (jobs.Put j kept) = Some j
+job_put (jobs.EndNode j n) = None
 
--- the job whose record was put
-abbrev pub with_changed_job : Configuration → State → JobsChange → List (Member JobId) → List (Member JobId)
-with_changed_job c s jobs.Same ms = ms
-with_changed_job c s (jobs.Put j kept) ms = with_job c s j ms
-with_changed_job c s (jobs.EndNode j n) ms = ms
+-- the job that took handles
+abbrev pub job_taking : Growth → Option JobId
+job_taking (grow.Handles j) = Some j
+job_taking growth = None
+
+-- the job that gave its handles back
+abbrev pub job_releasing : HandlesChange → Option JobId
+job_releasing handles.Same = None
+job_releasing (handles.Release j) = Some j
+
+-- these jobs, and the one that asks for the request that was answered or removed, where the state has them
+abbrev pub with_named : Configuration → State → List JobId → Option JobId → Changes → List (Member JobId) → List (Member JobId)
+with_named c s lines asker ch ms = fold (with_if_any c s lines) ms (asker ∷ job_put ch.jobs ∷ job_taking ch.grows ∷ job_releasing ch.handles ∷ [])
 
 -- the job that takes handles, where the state has it
 abbrev pub with_new_handles : Configuration → State → Growth → List (Member JobId) → List (Member JobId)

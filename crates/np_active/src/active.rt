@@ -1,5 +1,4 @@
-//! The groups of a state's active and new jobs, of its handles and of its sessions, kept as events
-//! change it.
+//! The groups of a state's jobs, of its handles and of its sessions, kept as events change it.
 
 ghost use Rattle.std.specs.Prelude.{◌≡◌, IfOk, OnOk, length, slice_get};
 ghost use Rattle.np_site.specs.Configuration.{Configuration};
@@ -8,13 +7,15 @@ ghost use Rattle.np_machine.specs.State.{State};
 ghost use Rattle.np_machine.specs.Tables.{handles_of, has_handle};
 ghost use Rattle.np_changes.specs.Changes.{changed};
 ghost use Rattle.np_changes.specs.Planned.{IsPlanned, IsReached};
-ghost use Rattle.np_look.specs.Readers.{active_of, current_of, first_mute, new_of};
+ghost use Rattle.np_look.specs.Jobs.{job_to_finish, job_to_release};
+ghost use Rattle.np_look.specs.Readers.{active_of, current_of, first_mute};
 ghost use Rattle.np_active.specs.Active.{AreActive, HasRoom, asker_of};
 
 use crate::handles::{all_handles, handle_group, new_handles, put_new_handles, take_handles};
+use crate::jobs::{active_group, all_jobs, asker_of, ending_group, put_named, releasing_group};
+use crate::lines::lines_of;
 use crate::members::{
-    active_group, all_jobs, all_sessions, asker_of, live_group, mute_group, new_group, put_asker,
-    put_changed_job, put_changed_session, put_new_session, role_group,
+    all_sessions, live_group, mute_group, put_changed_session, put_new_session, role_group,
 };
 use np_changes::Changes;
 use np_groups::Groups;
@@ -24,13 +25,16 @@ use np_text::{JobId, RequesterId, Role, SemId, SessionId};
 use std::alloc::{AllocError, Global};
 use std::marker::Model;
 
-/// Which jobs of each requester are active and which are new, which jobs have a handle of each
+/// Which jobs of each requester are active, which are new and wait for semaphores or for none,
+/// which are to finish, which are over and have handles, which jobs have a handle of each
 /// semaphore, which sessions speak for each role, which live ones are mute, and which live ones
 /// each requester has.
 #[derive(Drop)]
 pub struct Active {
-    jobs: Groups<ByJob>,
-    handles: Groups<ByJob>,
+    /// For each job the first of its requester that has the same semaphores.
+    lines: Vec<JobId>,
+    pub(crate) jobs: Groups<ByJob>,
+    pub(crate) handles: Groups<ByJob>,
     sessions: Groups<BySession>,
 }
 
@@ -40,6 +44,7 @@ impl Model for Active {
     ghost Value = { ActiveOf };
 
     ghost view = { λ active. record {
+      lines = active.lines.items;
       jobs = active.jobs.members;
       handles = active.handles.members;
       sessions = active.sessions.members;
@@ -50,16 +55,20 @@ impl Model for Active {
 }
 
 impl Active {
-    /// The groups of the state. It reads each job, each handle and each session once, with two
-    /// binary searches for each job, one for each handle, and up to three for each session.
+    /// The groups of the state. For each job it finds the first of its requester that has the same
+    /// semaphores, which costs the number of jobs times that of the different lists of semaphores
+    /// of a requester. Then it reads each job, each handle and each session once, with five binary
+    /// searches for each job, one for each handle, and up to three for each session.
     pub fn rebuild<L: Look>(alloc: Global, look: &L) -> Result<Active, AllocError>
         requires { IsReached (L.site look.now) (L.state look.now) }
         ensures { IfOk result (λ x. AreActive (L.site look.now) (L.state look.now) x) }
     {
-        let jobs = all_jobs(alloc, look)?;
+        let lines = lines_of(alloc, look.config())?;
+        let jobs = all_jobs(alloc, look, lines.as_slice())?;
         let handles = all_handles(alloc, look)?;
         let sessions = all_sessions(alloc, look)?;
         Ok(Active {
+            lines,
             jobs,
             handles,
             sessions,
@@ -75,13 +84,23 @@ impl Active {
         self.jobs.at(active_group(requester), at as usize)
     }
 
-    /// The job at a place among the requester's new jobs, in order of their numbers, counted from
-    /// 0; `None` if there are no more. One binary search.
-    pub fn new_job_at(&self, requester: RequesterId, at: u32) -> Option<JobId>
+    /// The job at a place among those of the requester that use their nodes, or have asked for them
+    /// and whose request failed, in order of their numbers, counted from 0; `None` if there are no
+    /// more. One binary search.
+    pub fn job_to_finish(&self, requester: RequesterId, at: u32) -> Option<JobId>
         ensures { (c : Configuration) (s : State) → AreActive c s self.now
-            → result ≡ new_of c requester at s }
+            → result ≡ job_to_finish c requester at s }
     {
-        self.jobs.at(new_group(requester), at as usize)
+        self.jobs.at(ending_group(requester), at as usize)
+    }
+
+    /// The job at a place among those of the requester that are over and have a handle, in order of
+    /// their numbers, counted from 0; `None` if there are no more. One binary search.
+    pub fn job_to_release(&self, requester: RequesterId, at: u32) -> Option<JobId>
+        ensures { (c : Configuration) (s : State) → AreActive c s self.now
+            → result ≡ job_to_release c requester at s }
+    {
+        self.jobs.at(releasing_group(requester), at as usize)
     }
 
     /// How many jobs have a handle of the semaphore. Two binary searches.
@@ -147,6 +166,7 @@ impl Active {
         look: &L,
         changes: &Changes,
     ) -> Result<Option<JobId>, AllocError>
+        ensures lines { self.new.lines ≡ self.old.lines }
         ensures jobs { self.new.jobs ≡ self.old.jobs }
         ensures handles { self.new.handles ≡ self.old.handles }
         ensures sessions { self.new.sessions ≡ self.old.sessions }
@@ -154,7 +174,7 @@ impl Active {
             asker ≡ asker_of changes.now.requests (L.state look.now)) }
         ensures room { OnOk result (HasRoom (L.site look.now) changes.now self.new) }
     {
-        self.jobs.reserve(4)?;
+        self.jobs.reserve(20)?;
         self.handles
             .reserve(new_handles(look.config(), &changes.grows))?;
         self.sessions.reserve(6)?;
@@ -162,10 +182,11 @@ impl Active {
     }
 
     /// Puts the jobs and the sessions that the changes name, and the job that `prepare` returned,
-    /// where they are now, after the state has changed. It takes no memory, and costs up to five
-    /// lookups and two binary searches for the job whose record is put and for the one that
-    /// `prepare` returned, if there is one, a lookup and a binary search for each handle that is
-    /// taken or given back, and a lookup and up to three binary searches for a session.
+    /// where they are now, after the state has changed. It takes no memory. It costs two lookups
+    /// and five binary searches for a job whose record is put, for one that takes handles or gives
+    /// them back, and for the one that `prepare` returned, if there is one; a lookup more for each
+    /// semaphore of such a job that is new or over; a lookup and a binary search for each handle
+    /// that is taken or given back; and a lookup and up to three binary searches for a session.
     pub fn note<L: Look>(&mut self, look: &L, changes: &Changes, asker: Option<JobId>)
         requires { HasRoom (L.site look.now) changes.now self.old }
         ensures { (c : Configuration) (s : State) → IsReached c s → IsPlanned c s changes.now
@@ -173,8 +194,7 @@ impl Active {
             → L.site look.now ≡ c → L.state look.now ≡ changed c changes.now s
             → AreActive c s self.old → AreActive c (changed c changes.now s) self.new }
     {
-        put_asker(&mut self.jobs, look, asker);
-        put_changed_job(&mut self.jobs, look, &changes.jobs);
+        put_named(&mut self.jobs, look, self.lines.as_slice(), asker, changes);
         put_new_handles(&mut self.handles, look, &changes.grows);
         take_handles(&mut self.handles, look.config(), &changes.handles);
         put_new_session(&mut self.sessions, look, &changes.grows);

@@ -1,21 +1,31 @@
-//! The active jobs and the new jobs of each requester, the jobs that have a handle of each
+//! The jobs of each requester by what is next for them, the jobs that have a handle of each
 //! semaphore, the sessions that speak for each role, the live sessions that are mute, and the live
 //! sessions of each requester. A job is active if it uses its nodes, or has asked for them and its
-//! request is fulfilled or failed. It is new as long as it has not asked and is not over.
+//! request is fulfilled or failed. A job to finish uses its nodes, or has asked for them and its
+//! request failed.
+//!
+//! A new job waits for its semaphores unless it asks for its nodes first, has no semaphores or has
+//! its handles already. The jobs of a requester that wait for the same semaphores are in one line.
+//! They have no handles, so all of them may begin or none: only the first of a line is tested. The
+//! line of a job is the number of a job with the same semaphores, which is found once, from the
+//! configuration.
 //!
 //! `specs/Active` says which groups a job and a session are in, and when the members of all groups
-//! are those of a state. `Active` keeps them as each event changes the state: `prepare` takes the
-//! memory, and once the state has changed, `note` puts the jobs and the session that the changes
-//! name where they are now, which can't fail. The requester and the semaphores of a job and the
-//! role of a session never change, so one thing only is read of the state before: which job asks
-//! for the request that is answered or removed. A request is answered once it is fulfilled or
-//! failed. Any other edit leaves the request's job where it is: it keeps the request's state, or
-//! the request was requested or pending before it and is so after it.
+//! are those of a state; `specs/Lines` says which line a job is in. `Active` keeps them as each
+//! event changes the state: `prepare` takes the memory, and once the state has changed, `note` puts
+//! the jobs and the session that the changes name where they are now, which can't fail. The
+//! requester and the semaphores of a job and the role of a session never change, so one thing only
+//! is read of the state before: which job asks for the request that is answered or removed. A
+//! request is answered once it is fulfilled or failed. Any other edit leaves the request's job
+//! where it is: it keeps the request's state, or the request was requested or pending before it and
+//! is so after it.
 //!
 //! | reader | members of which group | binary searches |
 //! |---|---|---|
+//! | `job_to_begin` | the requester's new jobs that wait for no semaphore, and those that wait in each line | 4, 2 for each line, and up to 3 for each semaphore of a job that is tested |
 //! | `job_at` | the requester's active jobs | 1 |
-//! | `new_job_at` | the requester's new jobs | 1 |
+//! | `job_to_finish` | the requester's jobs to finish | 1 |
+//! | `job_to_release` | the requester's jobs that are over and have handles | 1 |
 //! | `handles` | the jobs that have a handle of the semaphore | 2 |
 //! | `handle_at`, `has_handle` | the same | 1 |
 //! | `current_session` | the sessions that speak for the role | 3 |
@@ -24,7 +34,10 @@
 #![tactic(auto)]
 
 mod active;
+mod begin;
 mod handles;
+mod jobs;
+mod lines;
 mod members;
 
 pub use active::Active;

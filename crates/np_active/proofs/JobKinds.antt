@@ -1,0 +1,124 @@
+-- to whom jobs belong: the groups of two kinds of jobs, and what passes for one only
+use Rattle.std.proofs.Common.{◌≡◌, ◌∙◌, ℕ, Bool, true, false, List, [], Option, None, Some, refl, sym, ap, arith}
+use Rattle.std.specs.Prelude.{◌&&◌, ◌||◌, ◌==◌, not, slice_get}
+use Rattle.std.specs.Option.{option_map_or}
+use Rattle.std.specs.List.{list_any}
+use Rattle.std.proofs.lemmas.Bool.{and_parts}
+use Rattle.std.proofs.lemmas.Bool.Decides.{nat_tests}
+use Rattle.np_text.specs.declared.id.JobId.{JobId}
+use Rattle.np_text.specs.declared.id.RequesterId.{RequesterId}
+use Rattle.np_record.specs.declared.record.JobRecord.{JobRecord}
+use Rattle.np_site.specs.Configuration.{Configuration}
+use Rattle.np_site.specs.declared.row.Job.{Job}
+use Rattle.np_groups.specs.Groups.{same_group}
+use Rattle.np_machine.specs.Kinds.{is_asked, is_failed, is_new, is_over, is_using}
+use Rattle.np_machine.specs.State.{State}
+use Rattle.np_machine.specs.Tables.{has_handle}
+use Rattle.np_look.specs.Readers.{is_answered, request_state_of}
+use Rattle.np_active.specs.Active.{JobKind, active_ones, ending_ones, is_job_in, is_prompt, job_group, prompt_ones, releasing_ones, waiting_ones}
+use Rattle.np_active.specs.Lines.{line_of}
+use Rattle.np_active.specs.Members.{job_kinds_of, kinds_of_job}
+use Rattle.np_active.proofs.Roles.{and_false, and_true, or_false, requester-equal, same_requester}
+
+-- ## groups
+
+abbrev pub same_job_kind : JobKind → JobKind → Bool
+same_job_kind (active_ones r) (active_ones q) = same_requester r q
+same_job_kind (prompt_ones r) (prompt_ones q) = same_requester r q
+same_job_kind (waiting_ones r l) (waiting_ones q m) = same_requester r q && (l == m)
+same_job_kind (ending_ones r) (ending_ones q) = same_requester r q
+same_job_kind (releasing_ones r) (releasing_ones q) = same_requester r q
+same_job_kind _ _ = false
+
+pub job-groups : (r q : JobKind) → same_group (job_group r) (job_group q) ≡ same_job_kind r q
+job-groups (active_ones r) (active_ones q) = and_true (r.0 == q.0)
+job-groups (prompt_ones r) (prompt_ones q) = and_true (r.0 == q.0)
+job-groups (waiting_ones r l) (waiting_ones q m) = refl
+job-groups (ending_ones r) (ending_ones q) = and_true (r.0 == q.0)
+job-groups (releasing_ones r) (releasing_ones q) = and_true (r.0 == q.0)
+job-groups _ _ = refl
+
+pub number-equal : (a b : ℕ) → (a == b) ≡ true → a ≡ b
+number-equal a b is = grind (arith, nat_tests)
+
+line-equal : (r q : RequesterId) (l m : ℕ) → (same_requester r q && (l == m)) ≡ true → waiting_ones r l ≡ waiting_ones q m
+line-equal r q l m is =
+    let parts = and_parts (same_requester r q) (l == m) is in
+    let line : l ≡ m = number-equal l m parts.1 in
+    ap (λ (x : RequesterId). waiting_ones x l) (requester-equal r q parts.0) ∙ ap (λ (n : ℕ). waiting_ones q n) line
+
+pub job_kind-equal : (r q : JobKind) → same_job_kind r q ≡ true → r ≡ q
+job_kind-equal (active_ones r) (active_ones q) is = ap (λ (x : RequesterId). active_ones x) (requester-equal r q is)
+job_kind-equal (prompt_ones r) (prompt_ones q) is = ap (λ (x : RequesterId). prompt_ones x) (requester-equal r q is)
+job_kind-equal (waiting_ones r l) (waiting_ones q m) is = line-equal r q l m is
+job_kind-equal (ending_ones r) (ending_ones q) is = ap (λ (x : RequesterId). ending_ones x) (requester-equal r q is)
+job_kind-equal (releasing_ones r) (releasing_ones q) is = ap (λ (x : RequesterId). releasing_ones x) (requester-equal r q is)
+job_kind-equal _ _ is = absurd cc
+
+-- the kind is one of these
+abbrev pub is_among_job_kinds : JobKind → List JobKind → Bool
+is_among_job_kinds kind kinds = list_any (λ r. same_job_kind r kind) kinds
+
+-- ## a job is of no other kind than one of its requester's and its line's
+
+-- no job of another requester passes a test of this one's
+own-fails : (q : RequesterId) (such : Job → Bool) (o : Option Job) → option_map_or (λ row. row.requester.0 == q.0) o false ≡ false → option_map_or (λ row. (row.requester.0 == q.0) && such row) o false ≡ false
+own-fails q such None apart = refl
+own-fails q such (Some row) apart = rw apart refl
+
+none-passes : (passes : JobRecord → Bool) (o : Option JobRecord) → ((kept : JobRecord) → passes kept ≡ false) → option_map_or passes o false ≡ false
+none-passes passes None fails = refl
+none-passes passes (Some kept) fails = fails kept
+
+module _ (c : Configuration) (s : State) (lines : List JobId) (j : JobId) where
+  -- of which kinds the job can be, by its row
+  abbrev kinds_by : Option Job → List JobKind
+  kinds_by o = option_map_or (λ row. job_kinds_of row.requester (line_of c lines j row)) o []
+
+  -- whose jobs are of the kind
+  abbrev requester_of : JobKind → RequesterId
+  requester_of (active_ones q) = q
+  requester_of (prompt_ones q) = q
+  requester_of (waiting_ones q line) = q
+  requester_of (ending_ones q) = q
+  requester_of (releasing_ones q) = q
+
+  -- the job is another requester's, or it is in another line
+  abbrev IsApart : JobKind → Option Job → Type 0
+  IsApart (waiting_ones q line) o = option_map_or (λ row. (row.requester.0 == q.0) && (not (is_prompt s j row) && (line_of c lines j row == line))) o false ≡ false
+  IsApart kind o = option_map_or (λ row. row.requester.0 == (requester_of kind).0) o false ≡ false
+
+  line-apart : (b e w : Bool) → ((b && e) || false) ≡ false → (b && (w && e)) ≡ false
+  line-apart true true w other = absurd cc
+  line-apart true false w other = and_false w
+  line-apart false e w other = refl
+
+  row-apart : (kind : JobKind) (o : Option Job) → is_among_job_kinds kind (kinds_by o) ≡ false → IsApart kind o
+  row-apart (active_ones q) None other = refl
+  row-apart (active_ones q) (Some row) other = sym (or_false (row.requester.0 == q.0)) ∙ other
+  row-apart (prompt_ones q) None other = refl
+  row-apart (prompt_ones q) (Some row) other = sym (or_false (row.requester.0 == q.0)) ∙ other
+  row-apart (waiting_ones q line) None other = refl
+  row-apart (waiting_ones q line) (Some row) other = line-apart (row.requester.0 == q.0) (line_of c lines j row == line) (not (is_prompt s j row)) other
+  row-apart (ending_ones q) None other = refl
+  row-apart (ending_ones q) (Some row) other = sym (or_false (row.requester.0 == q.0)) ∙ other
+  row-apart (releasing_ones q) None other = refl
+  row-apart (releasing_ones q) (Some row) other = sym (or_false (row.requester.0 == q.0)) ∙ other
+
+  -- a new job that fails a test of its row
+  new-fails : (b : Bool) → b ≡ false → (o : Option JobRecord) → option_map_or (λ kept. is_new kept.phase && b) o false ≡ false
+  new-fails b fails o = none-passes (λ kept. is_new kept.phase && b) o (λ kept. ap (λ (a : Bool). is_new kept.phase && a) fails ∙ and_false (is_new kept.phase))
+
+  pub job-own : (kind : JobKind) → is_among_job_kinds kind (kinds_of_job c lines j) ≡ false → is_job_in c s lines kind j ≡ false
+  job-own (active_ones q) other =
+      none-passes _ (slice_get s.jobs j.0)
+      (λ kept. ap (λ (b : Bool). b && (is_using kept.phase || (is_asked kept.phase && option_map_or is_answered (request_state_of kept.request s) false))) (row-apart (active_ones q) (slice_get c.jobs j.0) other))
+  job-own (prompt_ones q) other = new-fails _ (own-fails q (is_prompt s j) (slice_get c.jobs j.0) (row-apart (prompt_ones q) (slice_get c.jobs j.0) other)) (slice_get s.jobs j.0)
+  job-own (waiting_ones q line) other = new-fails _ (row-apart (waiting_ones q line) (slice_get c.jobs j.0) other) (slice_get s.jobs j.0)
+  job-own (ending_ones q) other =
+      none-passes _ (slice_get s.jobs j.0)
+      (λ kept. ap (λ (b : Bool). b && (is_using kept.phase || (is_asked kept.phase && option_map_or is_failed (request_state_of kept.request s) false))) (row-apart (ending_ones q) (slice_get c.jobs j.0) other))
+  job-own (releasing_ones q) other =
+      none-passes _ (slice_get s.jobs j.0)
+      (λ kept. ap (λ (b : Bool). b && is_over kept.phase)
+      (own-fails q (λ row. list_any (has_handle j s.handles) row.semaphores) (slice_get c.jobs j.0) (row-apart (releasing_ones q) (slice_get c.jobs j.0) other)))
