@@ -95,10 +95,6 @@ module _ (c : Configuration) (s : State) (classes : ClassesOf) (are : AreClasses
   pub pending-ids : (p : PoolId) → ids_in (pending_group p) classes.requests ≡ pending_requests p s
   pending-ids p = requests-by s classes.requests are.requests (pending_group p) (λ (e : RequestEntry). is_pending_by p e.kept) (pending-test p)
 
-  -- the one at a place
-  pub pending-at : (p : PoolId) (at : ℕ) → slice_get (ids_in (pending_group p) classes.requests) at ≡ slice_get (pending_requests p s) at
-  pending-at p at = ap (λ (ids : List RequestId). slice_get ids at) (pending-ids p)
-
   -- the first of them that nobody holds
   pub first-unheld : (p : PoolId) → slice_get (ids_in (unheld_pending_group p) classes.requests) 0 ≡ first_unheld_pending p s
   first-unheld p =

@@ -1,23 +1,11 @@
 -- totals over the members of a list that pass a test
-use Rattle.std.proofs.Common.{◌≡◌, ◌∙◌, ◌≤◌, ◌*◌, ℕ, Bool, true, false, cond, List, [], ◌∷◌, length, drop, map, Option, Some, None, refl, sym, ap, arith}
+use Rattle.std.proofs.Common.{◌≡◌, ◌∙◌, ◌≤◌, ℕ, Bool, true, false, cond, List, [], ◌∷◌, length, map, refl, sym, ap, arith}
 use Rattle.std.specs.Prelude.{◌&&◌, ◌||◌, filter}
-use Rattle.std.specs.Option.{option_map_or}
 use Rattle.std.specs.List.{AllByRecursion}
-use Rattle.std.proofs.lemmas.List.{length-drop}
 use Rattle.np_amount.specs.declared.amount.Amount.{Amount}
 use Rattle.np_amount.specs.Amounts.{nothing, plus, times, total}
 use Rattle.np_amount.proofs.Sums.{same_amount, plus-assoc, plus-comm, nothing-plus, times-suc, total-filter_at_most}
-use Rattle.np_text.specs.declared.id.PoolId.{PoolId}
-use Rattle.np_text.specs.declared.id.LabelId.{LabelId}
-use Rattle.np_text.specs.declared.id.TenantId.{TenantId}
-use Rattle.np_site.specs.Configuration.{Configuration}
-use Rattle.np_lists.proofs.Each.{all-weaker}
-use Rattle.np_machine.specs.Count.{amount_of, amount_of_all}
-use Rattle.np_machine.specs.Entries.{RequestEntry}
-use Rattle.np_machine.specs.State.{State}
-use Rattle.np_machine.specs.Tenants.{is_pending_of, rest_of_request}
-use Rattle.np_fits.specs.Fits.{AmountFits, Fits, IsFew, RequestFits}
-use Rattle.np_look.proofs.Used.{few-plus}
+use Rattle.np_fits.specs.Fits.{AmountFits, IsFew}
 
 -- one of two tests is passed, and never both
 pub record IsParted {X : Type 0} (p q r : X → Bool) (x : X) : Type 0 where
@@ -61,46 +49,3 @@ total-few f small test xs n few =
       cores = omega (arith, bound.cores, few);
       ram = omega (arith, bound.ram, few);
     }
-
--- ## what requests wait for
-
--- what fewer can take, more can take
-few-more : (sum : Amount) (m n : ℕ) → m ≤ n → IsFew sum m → IsFew sum n
-few-more sum m n more few = record {
-  instances = omega (arith, more, few.instances);
-  cores = omega (arith, more, few.cores);
-  ram = omega (arith, more, few.ram);
-}
-
--- if each member takes no more than 32 offers can, together they take no more than 32 for each can
-total-each : {X : Type 0} (f : X → Amount) (test : X → Bool) (xs : List X) → AllByRecursion (λ x. IsFew (f x) 32) xs → IsFew (total (map f (filter test xs))) (length xs * 32)
-total-each f test [] all = record { instances = omega arith; cores = omega arith; ram = omega arith }
-total-each f test (x ∷ xs) all = by (test x) (total-each f test xs all.1) where
-  by : (b : Bool) → IsFew (total (map f (filter test xs))) (length xs * 32) → IsFew (total (map f (cond b (x ∷ filter test xs) (filter test xs)))) (length (x ∷ xs) * 32)
-  by true rest = few-plus (f x) (total (map f (filter test xs))) 32 (length xs * 32) (length (x ∷ xs) * 32) (omega arith) all.0 rest
-  by false rest = few-more (total (map f (filter test xs))) (length xs * 32) (length (x ∷ xs) * 32) (omega arith) rest
-
-module _ (c : Configuration) (small : (p : PoolId) (l : LabelId) → AmountFits (amount_of c p l)) where
-  -- what labels take together
-  labels-few : (p : PoolId) (labels : List LabelId) → IsFew (amount_of_all c p labels) (length labels)
-  labels-few p [] = record { instances = omega arith; cores = omega arith; ram = omega arith }
-  labels-few p (l ∷ labels) =
-      let one : AmountFits (amount_of c p l) = small p l in
-      let rest : IsFew (amount_of_all c p labels) (length labels) = labels-few p labels in
-      record { instances = omega (arith, one.instances, rest.instances); cores = omega (arith, one.cores, rest.cores); ram = omega (arith, one.ram, rest.ram) }
-
-  -- what a request still waits for
-  rest-few : (e : RequestEntry) → length e.kept.labels ≤ 32 → IsFew (rest_of_request c e) 32
-  rest-few e few = by e.kept.pool where
-    by : (o : Option PoolId) → IsFew (option_map_or (λ p. amount_of_all c p (drop (length e.kept.nodes) e.kept.labels)) o nothing) 32
-    by None = record { instances = omega arith; cores = omega arith; ram = omega arith }
-    by (Some p) =
-        let labels = drop (length e.kept.nodes) e.kept.labels in
-        few-more (amount_of_all c p labels) (length labels) 32 (omega (arith, length-drop (length e.kept.nodes) e.kept.labels, few)) (labels-few p labels)
-
--- what a tenant's pending requests still wait for
-pub awaited-few : (c : Configuration) (s : State) → Fits c s → (t : TenantId) → IsFew (total (map (rest_of_request c) (filter (is_pending_of c t) s.requests))) 8388608
-awaited-few c s fits t =
-    few-more (total (map (rest_of_request c) (filter (is_pending_of c t) s.requests))) (length s.requests * 32) 8388608 (omega (arith, fits.requests))
-    (total-each (rest_of_request c) (is_pending_of c t) s.requests
-    (all-weaker (RequestFits c s) (λ (e : RequestEntry). IsFew (rest_of_request c e) 32) (λ e row. rest-few c fits.amounts e row.labels) s.requests fits.each_request))

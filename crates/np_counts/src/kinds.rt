@@ -1,7 +1,7 @@
-//! The requests and the nodes of a kind: those that are pending by a pool, in order, the first of
-//! them that nobody holds, and the node that is due first.
+//! The requests and the nodes of a kind: how many requests are pending by a pool, the first of them
+//! that nobody holds, and the node that is due first.
 
-ghost use Rattle.std.specs.Prelude.{◌≡◌, length, slice_get};
+ghost use Rattle.std.specs.Prelude.{◌≡◌, length};
 ghost use Rattle.np_site.specs.Configuration.{Configuration};
 ghost use Rattle.np_machine.specs.State.{State};
 ghost use Rattle.np_look.specs.Readers.{first_due, first_unheld_pending, pending_requests};
@@ -19,15 +19,6 @@ pub fn pending_requests(classes: &Classes, pool: PoolId) -> usize
         result ≡ length (pending_requests pool s) }
 {
     classes.requests_in(pending_group(pool))
-}
-
-/// The request at a place among those that are pending by the pool, by priority and then sequence,
-/// counted from 0; `None` if there are no more. One binary search.
-pub fn pending_request_at(classes: &Classes, pool: PoolId, at: u32) -> Option<RequestId>
-    ensures { (c : Configuration) (s : State) → AreClasses c s classes.now →
-        result ≡ slice_get (pending_requests pool s) at }
-{
-    classes.request_at(pending_group(pool), at as usize)
 }
 
 /// The first request, by priority and then sequence, that is pending by the pool and that nobody

@@ -14,7 +14,7 @@ mod room;
 mod tenant;
 
 pub use declined::first_declined_by_all;
-pub use kinds::{first_due, first_unheld_pending, pending_request_at, pending_requests};
+pub use kinds::{first_due, first_unheld_pending, pending_requests};
 pub use label::{has_spent_min_ready, ready_count};
 pub use pool::{free_ready, has_request_under_way, has_spare, is_paused, used};
 pub use room::blocking;

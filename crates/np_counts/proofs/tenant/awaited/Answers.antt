@@ -1,7 +1,7 @@
 use Rattle.std.proofs.Common.{◌∙◌, sym, subst}
 use Rattle.np_amount.specs.declared.amount.Amount.{Amount}
 use Rattle.np_fits.specs.Fits.{IsFew}
-use Rattle.np_counts.proofs.Totals.{awaited-few}
+use Rattle.np_awaited.proofs.Few.{awaited-few}
 use Rattle.np_counts.proofs.tenant.awaited.Goals as goal
 
 pub returns-clause-awaited : goal.returns-clause-awaited
