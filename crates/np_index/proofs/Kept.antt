@@ -17,9 +17,9 @@ open-same c s old new members lines was =
     (subst (λ list. AreOpen c s (record { members = old.members; room = new.room; lines = list })) (sym lines)
     (record { rises = was.rises; each = was.each; once = was.once }))
 
-pub active-same : (c : Configuration) (s : State) (old new : ActiveOf) → new.jobs ≡ old.jobs → new.handles ≡ old.handles → new.sessions ≡ old.sessions → AreActive c s old → AreActive c s new
-active-same c s old new jobs handles sessions was = record {
-  jobs = subst (AreJobGroups c s) (sym jobs) was.jobs;
+pub active-same : (c : Configuration) (s : State) (old new : ActiveOf) → new.lines ≡ old.lines → new.jobs ≡ old.jobs → new.handles ≡ old.handles → new.sessions ≡ old.sessions → AreActive c s old → AreActive c s new
+active-same c s old new lines jobs handles sessions was = record {
+  jobs = subst (λ list. AreJobGroups c s list new.jobs) (sym lines) (subst (AreJobGroups c s old.lines) (sym jobs) was.jobs);
   handles = subst (AreHandleGroups c s) (sym handles) was.handles;
   sessions = subst (AreSessionGroups s) (sym sessions) was.sessions;
 }

@@ -15,13 +15,15 @@ ghost use Rattle.np_machine.specs.Semaphore.{has_live_session};
 ghost use Rattle.np_machine.specs.State.{State};
 ghost use Rattle.np_machine.specs.Tables.{handles_of, has_handle};
 ghost use Rattle.np_machine.specs.Tenants.{count_of_tenant};
-ghost use Rattle.np_look.specs.Readers.{active_of, current_of, first_declined_by_all, first_due, first_mute, first_unheld_pending, free_ready_of, has_request_under_way, new_of, pending_requests, queued_nodes, queued_requests, unfinished_of};
+ghost use Rattle.np_look.specs.Jobs.{job_to_begin, job_to_finish, job_to_release};
+ghost use Rattle.np_look.specs.Readers.{active_of, current_of, first_declined_by_all, first_due, first_mute, first_unheld_pending, free_ready_of, has_request_under_way, pending_requests, queued_nodes, queued_requests, unfinished_of};
 ghost use Rattle.np_index.specs.Index.{IsIndexOf};
 
 use np_active::Active;
 use np_amount::Amount;
 use np_changes::Asked;
 use np_classes::Classes;
+use np_config::Config;
 use np_look::{Look, UnheldKind};
 use np_lookups::Lookups;
 use np_open::Open;
@@ -95,13 +97,32 @@ impl Index {
         self.active.job_at(requester, at)
     }
 
-    /// The job at a place among the requester's new jobs, in order of their numbers. It costs one
-    /// lookup.
-    pub fn new_job(&self, requester: RequesterId, at: u32) -> Option<JobId>
-        ensures { (c : Configuration) (s : State) → IsIndexOf c s self.now
-            → result ≡ new_of c requester at s }
+    /// The first of the requester's jobs that is new and need not wait for semaphores: it asks for its
+    /// nodes first, or none of those that it lacks is full. It costs a lookup for each different list
+    /// of semaphores for which new jobs of the requester wait, and for each semaphore of such a list.
+    pub fn job_to_begin(&self, config: &Config, requester: RequesterId) -> Option<JobId>
+        ensures { (s : State) → IsIndexOf config.now s self.now
+            → result ≡ job_to_begin config.now requester s }
     {
-        self.active.new_job_at(requester, at)
+        self.active.job_to_begin(config, requester)
+    }
+
+    /// The job at a place among those of the requester that use their nodes, or have asked for them
+    /// and whose request failed, in order of their numbers. It costs one lookup.
+    pub fn job_to_finish(&self, requester: RequesterId, at: u32) -> Option<JobId>
+        ensures { (c : Configuration) (s : State) → IsIndexOf c s self.now
+            → result ≡ job_to_finish c requester at s }
+    {
+        self.active.job_to_finish(requester, at)
+    }
+
+    /// The job at a place among those of the requester that are over and have a handle, in order of
+    /// their numbers. It costs one lookup.
+    pub fn job_to_release(&self, requester: RequesterId, at: u32) -> Option<JobId>
+        ensures { (c : Configuration) (s : State) → IsIndexOf c s self.now
+            → result ≡ job_to_release c requester at s }
+    {
+        self.active.job_to_release(requester, at)
     }
 
     /// How many jobs have a handle of the semaphore. It costs two lookups.
@@ -268,15 +289,6 @@ impl Index {
             → result ≡ length (pending_requests pool s) }
     {
         np_counts::pending_requests(&self.classes, pool)
-    }
-
-    /// The request at a place among those that are pending by the pool, by priority and then
-    /// sequence. It costs one lookup.
-    pub fn pending_request_at(&self, pool: PoolId, at: u32) -> Option<RequestId>
-        ensures { (c : Configuration) (s : State) → IsIndexOf c s self.now
-            → result ≡ slice_get (pending_requests pool s) at }
-    {
-        np_counts::pending_request_at(&self.classes, pool, at)
     }
 
     /// The first request, by priority and then sequence, that is pending by the pool and that nobody

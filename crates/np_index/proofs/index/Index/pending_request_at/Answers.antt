@@ -1,6 +1,0 @@
-use Rattle.std.proofs.Common.{subst, sym}
-use Rattle.np_classes.specs.Classes.{AreClasses}
-use Rattle.np_index.proofs.index.Index.pending_request_at.Goals as goal
-
-pub returns : goal.returns
-returns c config s is = c.pending_request_at.ensures config s (subst (λ index. AreClasses config s index.classes) (sym c.self.view_is) is.classes)
