@@ -1,28 +1,11 @@
 -- the jobs that pass, by their place among them
-use Rattle.std.proofs.Common.{◌≡◌, ◌<◌, ◌≤◌, ℕ, zero, suc, ◌+◌, List, [], ◌∷◌, length, sym, ap, subst, arith, Some, None, Ok, Bool, true, false, refl}
-use Rattle.std.specs.Prelude.{slice_get, option_and_then, Option, ◌&&◌, ◌||◌}
-use Rattle.std.specs.Option.{option_map, option_map_or}
+use Rattle.std.proofs.Common.{◌≡◌, ◌<◌, ◌≤◌, ℕ, zero, suc, ◌+◌, List, [], ◌∷◌, length, sym, ap, subst, arith, Some, None, Bool, true, false, refl}
+use Rattle.std.specs.Prelude.{slice_get, Option}
 use Rattle.std.proofs.lemmas.Option.{slice_get_within}
-use Rattle.np_text.specs.declared.id.SessionId.{SessionId}
 use Rattle.np_text.specs.declared.id.JobId.{JobId}
-use Rattle.np_text.specs.declared.word.Phase.{Phase}
-use Rattle.np_text.specs.declared.word.Phase.TheVariants as phase
-use Rattle.np_site.specs.Configuration.{Configuration}
 use Rattle.np_record.specs.declared.record.JobRecord.{JobRecord}
-use Rattle.np_record.specs.declared.record.RequestRecord.{RequestRecord}
-use Rattle.np_event.specs.declared.event.Event.TheVariants as ev
-use Rattle.np_event.specs.declared.reply.Done.{Done}
-use Rattle.np_machine.specs.Kinds.{is_asked, is_using, is_failed, is_fulfilled}
-use Rattle.np_machine.specs.Semaphore.{is_finishable, requester_or_janitor, may_finish}
-use Rattle.np_machine.specs.State.{State}
-use Rattle.np_machine.specs.Step.{judge}
-use Rattle.np_machine.specs.Tables.{request_in}
-use Rattle.np_machine.specs.Tests.{maker}
-use Rattle.np_look.specs.Readers.{jobs_from, is_answered, request_state_of}
-use Rattle.np_changes.proofs.Tested.{on-given, on-check, on-found, on-need}
+use Rattle.np_look.specs.Readers.{jobs_from}
 use Rattle.np_roles.proofs.Places.{past-end}
-
--- ## the place of a job
 
 module _ (passes : JobId → JobRecord → Bool) where
   -- a job that passes has a place among those that do
@@ -61,29 +44,6 @@ module _ (passes : JobId → JobRecord → Bool) where
 pub before-end : {X : Type 0} (xs : List X) (at k : ℕ) (x : X) → slice_get xs at ≡ None → slice_get xs k ≡ Some x → k < at
 before-end xs at k x none some = omega (arith, past-end xs at none, slice_get_within xs k x some)
 
--- ## a job that can be finished
-
--- a job that can be finished uses its nodes, or its request is answered
-pub finishable_answered : (p : Phase) (o : Option RequestRecord) (busy : Bool) → ((is_asked p && option_map_or (λ request. is_failed request.state) o false) || (is_using p && busy)) ≡ true
-    → (is_using p || (is_asked p && option_map_or is_answered (option_map (λ request. request.state) o) false)) ≡ true
-finishable_answered phase.New o busy is = absurd cc
-finishable_answered phase.Asked None busy is = absurd cc
-finishable_answered phase.Asked (Some request) busy is = by (is_fulfilled request.state) (is_failed request.state) is where
-  by : (b d : Bool) → (d || false) ≡ true → (b || d) ≡ true
-  by true d failed = refl
-  by false true failed = refl
-  by false false failed = failed
-finishable_answered phase.Using o busy is = refl
-finishable_answered phase.Over o busy is = absurd cc
-
--- a job whose finish is accepted, whoever makes it, uses its nodes, or its request is answered
-pub finish-active : (c : Configuration) (s : State) (by : SessionId) (j : JobId) (what : Done) → judge c s (ev.Finish by j) ≡ Ok what
-    → (kept : JobRecord) × ((slice_get s.jobs j.0 ≡ Some kept) × ((is_using kept.phase || (is_asked kept.phase && option_map_or is_answered (request_state_of kept.request s) false)) ≡ true))
-finish-active c s by j what is =
-    on-given (maker s by) _ what is (λ role made rest.
-    on-check (requester_or_janitor role) _ what rest (λ such rest.
-    on-found (slice_get c.jobs j.0) _ _ what rest (λ job row rest.
-    on-found (slice_get s.jobs j.0) _ _ what rest (λ kept there rest.
-    on-check (may_finish s job role) _ what rest (λ may rest.
-    on-need (is_finishable s job kept) _ _ what rest (λ ready rest.
-    (kept, (there, finishable_answered kept.phase (option_and_then (λ r. request_in r s.requests) kept.request) _ ready))))))))
+-- what holds of a member at a place holds of any member there
+pub same-there : {X : Type 0} (P : X → Type 0) (one other : X) (o : Option X) → o ≡ Some one → o ≡ Some other → P one → P other
+same-there {X} P one other o first second holds = let same : one ≡ other = cc in subst P same holds

@@ -2,13 +2,10 @@
 use Rattle.std.specs.Prelude.{ℕ, Bool, true, false, if◌then◌else◌, Option, length, slice_get}
 use Rattle.std.specs.Option.{option_map}
 use Rattle.np_text.specs.declared.id.SessionId.{SessionId}
-use Rattle.np_text.specs.declared.id.SemId.{SemId}
 use Rattle.np_text.specs.declared.id.NodeId.{NodeId}
 use Rattle.np_text.specs.declared.id.RequestId.{RequestId}
 use Rattle.np_event.specs.declared.event.Event.{Event}
-use Rattle.np_event.specs.declared.event.Event.TheVariants as ev
 use Rattle.np_machine.specs.State.{State}
-use Rattle.np_machine.specs.Tables.{handles_of}
 use Rattle.np_look.specs.Readers.{queued_requests, queued_nodes}
 use Rattle.np_roles.specs.declared.kind.EventKind.{EventKind}
 use Rattle.np_roles.specs.declared.kind.EventKind.TheVariants as kind_of
@@ -17,8 +14,6 @@ use Rattle.np_roles.specs.declared.kind.RequestKind.TheVariants as of_request
 use Rattle.np_roles.specs.declared.kind.NodeKind.{NodeKind}
 use Rattle.np_roles.specs.declared.kind.NodeKind.TheVariants as of_node
 use Rattle.np_roles.specs.Kinds.{request_event, node_event, job_event}
-
--- ## what the events of a kind may name
 
 -- whether the machine accepts the event only from a session in the request's queue
 abbrev pub is_from_request_queue : RequestKind → Bool
@@ -51,13 +46,3 @@ abbrev pub candidate : State → SessionId → EventKind → ℕ → Option Even
 candidate s session (kind_of.Request kind) at = option_map (request_event kind session) (request_named s session kind at)
 candidate s session (kind_of.Node kind) at = option_map (node_event kind session) (node_named s session kind at)
 candidate s session (kind_of.Job kind) at = option_map (λ _. job_event kind session (record { 0 = at })) (slice_get s.jobs at)
-
--- ## releases
-
--- how many jobs have a handle of the semaphore
-abbrev pub handles_at : State → SemId → ℕ
-handles_at s x = length (handles_of x s.handles)
-
--- the session's release of the job at the place among those that have a handle of the semaphore
-abbrev pub release_at : State → SessionId → SemId → ℕ → Option Event
-release_at s session x at = option_map (λ j. ev.Release session j) (slice_get (handles_of x s.handles) at)

@@ -1,15 +1,17 @@
 -- what a choice returns
-use Rattle.std.specs.Prelude.{◌≡◌, List, true, false, Option, Some, None}
+use Rattle.std.specs.Prelude.{◌≡◌, ◌==◌, List, true, false, Option, Some, None}
 use Rattle.std.specs.List.{AllByRecursion}
 use Rattle.np_text.specs.declared.id.SessionId.{SessionId}
 use Rattle.np_text.specs.declared.id.NodeId.{NodeId}
 use Rattle.np_text.specs.declared.id.JobId.{JobId}
 use Rattle.np_text.specs.declared.id.RequestId.{RequestId}
+use Rattle.np_text.specs.declared.id.RequesterId.{RequesterId}
 use Rattle.np_text.specs.declared.id.Role.{Role}
 use Rattle.np_site.specs.Configuration.{Configuration}
 use Rattle.np_event.specs.declared.event.Event.{Event}
 use Rattle.np_event.specs.declared.event.Event.TheVariants as ev
 use Rattle.np_machine.specs.State.{State}
+use Rattle.np_useful.specs.Rows.{job_is}
 use Rattle.np_useful.specs.Sessions.{is_current, has_current}
 use Rattle.np_useful.specs.Useful.{IsUseful}
 use Rattle.np_roles.specs.declared.kind.EventKind.{EventKind}
@@ -54,3 +56,12 @@ ChoosesOf c s role kind (Some e) = IsUseful c s role e
 abbrev pub ChoosesOfAny : Configuration → State → Role → List EventKind → Option Event → Type 0
 ChoosesOfAny c s role kinds None = AllByRecursion (NoneOf c s role) kinds
 ChoosesOfAny c s role kinds (Some e) = IsUseful c s role e
+
+-- no release of a job of the requester is useful, whoever makes it (own)
+abbrev pub NoneReleased : Configuration → State → Role → RequesterId → Type 0
+NoneReleased c s role q = (session : SessionId) (j : JobId) → job_is j c (λ row. row.requester.0 == q.0) ≡ true → IsUseful c s role (ev.Release session j) → ⊥
+
+-- a useful event, or none if no such release is useful (own)
+abbrev pub ChoosesRelease : Configuration → State → Role → RequesterId → Option Event → Type 0
+ChoosesRelease c s role q None = NoneReleased c s role q
+ChoosesRelease c s role q (Some e) = IsUseful c s role e

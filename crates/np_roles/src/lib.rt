@@ -6,14 +6,13 @@
 //! what is in the kind's table, place by place; where the machine accepts an event only from a
 //! session in the queue of what it names, they name only what the session queues for. A candidate
 //! is tested by the machine's judge and then by its row, and the first that passes is chosen.
-//! Releases have a search of their own (`first_release`), which tests only the jobs that have a
-//! handle. Other searches are of one role, and stand with its choice: they have candidates of their
-//! own (`Candidates`) for `first_that_passes`. `specs/Choices` says what a choice returns: a useful
-//! event (np_useful), or none if and only if there is none.
+//! Releases have a search of their own (`first_release`), among the jobs of one requester: it tests
+//! only those that are over and have a handle. Other searches are of one role, and stand with its
+//! choice: some have candidates of their own (`Candidates`) for `first_that_passes`. `specs/Choices`
+//! says what a choice returns: a useful event (np_useful), or none if and only if there is none.
 #![tactic(auto)]
 
 mod first;
-mod handles;
 mod kind;
 mod of_kind;
 mod release;
@@ -21,7 +20,6 @@ mod rows;
 mod session;
 
 pub use first::{Candidates, first_that_passes};
-pub use handles::has_some_handle;
 pub use kind::{EventKind, JobKind, NodeKind, RequestKind, job_event, node_event, request_event};
 pub use of_kind::{first_of_kind, first_of_kinds};
 pub use release::first_release;

@@ -1,67 +1,40 @@
-//! The releases of handles as candidates: only a job that has a handle is to be released.
+//! The release of the handles of a requester's jobs.
 
 ghost use Rattle.std.specs.Prelude.{◌≡◌, true};
 ghost use Rattle.np_fits.specs.Fits.{Fits};
 ghost use Rattle.np_useful.specs.Sessions.{is_current};
-ghost use Rattle.np_roles.specs.declared.kind.EventKind.TheVariants as kind_of;
-ghost use Rattle.np_roles.specs.declared.kind.JobKind.TheVariants as of_job;
-ghost use Rattle.np_roles.specs.Candidates.{handles_at, release_at};
-ghost use Rattle.np_roles.specs.Choices.{ChoosesOf};
+ghost use Rattle.np_roles.specs.Choices.{ChoosesRelease};
 
-use crate::first::{Candidates, first_that_passes};
-use crate::rows::Rows;
+use crate::rows::{Rows, passes};
 use np_event::Event;
 use np_look::Look;
-use np_text::{SemId, SessionId};
+use np_text::{RequesterId, SessionId};
 
-/// The session's releases of the jobs that have a handle of the semaphore, by their places.
-#[derive(Clone, Copy)]
-struct OfHandles {
+/// The first useful release of a job of the requester that the current session may make, by job, or
+/// `None` if and only if no release of a job of the requester is useful. The machine accepts the
+/// release of a job only when the job is over, and no role releases a job that has no handle, so it
+/// tests only the requester's jobs that are over and have a handle, up to the first whose release
+/// passes. For a janitor and for the requester itself that is the first of them: a choice costs one
+/// lookup and one judged event, or the lookup alone if there is no such job.
+pub fn first_release<L: Look, R: Rows>(
+    look: &L,
+    rows: &R,
     session: SessionId,
-    semaphore: SemId,
-}
-
-impl Candidates for OfHandles {
-    ghost places = { λ of c s. handles_at s of.semaphore };
-
-    ghost candidate = { λ of c s at. release_at s of.session of.semaphore at };
-
-    fn places<L: Look>(&self, look: &L) -> u32 {
-        look.handles(self.semaphore)
-    }
-
-    fn candidate<L: Look>(&self, look: &L, at: u32) -> Option<Event> {
-        match look.handle_at(self.semaphore, at) {
-            None => None,
-            Some(job) => Some(Event::Release {
-                session: self.session,
-                job,
-            }),
-        }
-    }
-}
-
-/// The first useful release that the current session may make, by semaphore and then by job, or
-/// `None` if and only if no release is useful. No role releases a job that has no handle, so it
-/// tests only the jobs that have one: its cost grows with the number of semaphores and of their
-/// handles, and not with the number of jobs.
-pub fn first_release<L: Look, R: Rows>(look: &L, rows: &R, session: SessionId) -> Option<Event>
+    requester: RequesterId,
+) -> Option<Event>
     requires fits { Fits (L.site look.now) (L.state look.now) }
     requires knows { R.knows rows.now (L.site look.now) (L.state look.now) }
     requires current { is_current (R.role rows.now) session (L.state look.now) ≡ true }
-    ensures { ChoosesOf (L.site look.now) (L.state look.now) (R.role rows.now)
-        (kind_of.Job of_job.Release) result }
+    ensures { ChoosesRelease (L.site look.now) (L.state look.now) (R.role rows.now) requester result }
 {
-    let config = look.config();
-    config.soundness();
-    let mut at = 0;
-    while let Some(_) = config.semaphore(SemId(at)) {
-        let semaphore = SemId(at);
-        let found = first_that_passes(look, rows, &OfHandles { session, semaphore });
-        if found.is_some() {
-            return found;
+    for at in 0..look.jobs() {
+        let Some(job) = look.job_to_release(requester, at) else {
+            return None;
+        };
+        let release = Event::Release { session, job };
+        if passes(look, rows, release) {
+            return Some(release);
         }
-        at += 1;
     }
     None
 }

@@ -1,31 +1,24 @@
-use Rattle.std.proofs.Common.{◌≡◌, length, Some, None, sym, ap, subst, arith}
-use Rattle.std.specs.Prelude.{slice_get}
-use Rattle.np_site.specs.Configuration.{Configuration}
-use Rattle.np_site.specs.Sound.{IsSound}
-use Rattle.np_roles.proofs.Places.{past-end, within}
-use Rattle.np_roles.proofs.Releases.{found-chooses, no-release}
+use Rattle.std.proofs.Common.{◌≡◌, sym, arith, Some, false, below_more}
+use Rattle.np_text.specs.declared.id.JobId.{JobId}
+use Rattle.np_event.specs.declared.event.Event.TheVariants as ev
+use Rattle.np_look.specs.Readers.{jobs_from}
+use Rattle.np_look.specs.Jobs.{is_job_to_release, job_to_release}
+use Rattle.np_roles.specs.Passing.{passes}
+use Rattle.np_roles.proofs.Among.{below-jobs, before-end, same-there}
+use Rattle.np_roles.proofs.Releases.{none-released}
 use Rattle.np_roles.proofs.release.first_release.Goals as goal
 
-pub returns-then-is_some : goal.returns-then-is_some
-returns-then-is_some g c =
-    found-chooses (g.L.Look.site c.args.look.now) (g.L.Look.state c.args.look.now) (g.R.Rows.role c.args.rows.now) c.args.session c.requires.current (record { 0 = c.loop-semaphore.at }) c.first_that_passes-found.result c.first_that_passes-found.ensures (sym c.if-is_some.ensures)
+pub returns-in_default : goal.returns-in_default
+returns-in_default g c =
+    none-released (g.L.Look.site c.args.look.now) (g.L.Look.state c.args.look.now) (g.R.Rows.role c.args.rows.now) c.args.session c.requires.current c.args.requester
+    (λ k j found. c.loop-at.invariant k (before-end (jobs_from (is_job_to_release (g.L.Look.site c.args.look.now) (g.L.Look.state c.args.look.now) c.args.requester) 0 (g.L.Look.state c.args.look.now).jobs) c.loop-at.at k j (sym c.in_default.ensures) found) j found)
 
-pub overflow_add-at : goal.overflow_add-at
-overflow_add-at g c =
-    let there : slice_get c.config-config.result.now.semaphores c.loop-semaphore.at ≡ Some c.in-Some.field-0.now = sym c.in-Some.ensures in
-    let few = c.soundness.ensures.few_semaphores in
-    omega (arith, few, within c.config-config.result.now.semaphores c.loop-semaphore.at c.in-Some.field-0.now there)
-
-pub loop-semaphore-smaller : goal.loop-semaphore-smaller
-loop-semaphore-smaller g c =
-    let there : slice_get c.config-config.result.now.semaphores c.loop-semaphore.at ≡ Some c.in-Some.field-0.now = sym c.in-Some.ensures in
-    omega (arith, within c.config-config.result.now.semaphores c.loop-semaphore.at c.in-Some.field-0.now there)
+pub loop-at-preserved : goal.loop-at-preserved
+loop-at-preserved g c =
+    below_more (λ k. (j : JobId) → job_to_release (g.L.Look.site c.args.look.now) c.args.requester k (g.L.Look.state c.args.look.now) ≡ Some j → passes (g.L.Look.site c.args.look.now) (g.L.Look.state c.args.look.now) (g.R.Rows.role c.args.rows.now) (ev.Release c.args.session j) ≡ false) c.loop-at.at c.loop-at.invariant
+    (λ j found. same-there (λ (x : JobId). passes (g.L.Look.site c.args.look.now) (g.L.Look.state c.args.look.now) (g.R.Rows.role c.args.rows.now) (ev.Release c.args.session x) ≡ false) c.in-Some.job j _ (sym c.in-Some.ensures) found (sym c.if-passes.ensures))
 
 pub returns : goal.returns
 returns g c =
-    let none : slice_get c.config-config.result.now.semaphores c.loop-semaphore.at ≡ None = sym c.in_default.ensures in
-    let past = past-end c.config-config.result.now.semaphores c.loop-semaphore.at none in
-    let all : length c.config-config.result.now.semaphores ≡ length (g.L.Look.site c.args.look.now).semaphores = ap (λ (x : Configuration). length x.semaphores) c.config-config.ensures in
-    no-release (g.L.Look.site c.args.look.now) (g.L.Look.state c.args.look.now) (g.R.Rows.role c.args.rows.now) c.args.session c.requires.current
-    (subst IsSound c.config-config.ensures c.soundness.ensures)
-    (λ k low. c.loop-semaphore.invariant k (omega (arith, low, past, all)))
+    none-released (g.L.Look.site c.args.look.now) (g.L.Look.state c.args.look.now) (g.R.Rows.role c.args.rows.now) c.args.session c.requires.current c.args.requester
+    (λ k j found. c.loop-at.invariant k (omega (arith, below-jobs (is_job_to_release (g.L.Look.site c.args.look.now) (g.L.Look.state c.args.look.now) c.args.requester) (g.L.Look.state c.args.look.now).jobs k j found, c.loop-at-test.false, c.jobs-at-end.ensures)) j found)

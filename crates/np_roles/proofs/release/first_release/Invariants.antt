@@ -1,10 +1,10 @@
-use Rattle.std.proofs.Common.{ℕ, ◌-◌, ◌<◌, length}
-use Rattle.np_roles.proofs.Releases.{NoneReleased}
+use Rattle.std.proofs.Common.{◌≡◌, ◌<◌, ℕ, Some, false}
+use Rattle.np_text.specs.declared.id.JobId.{JobId}
+use Rattle.np_event.specs.declared.event.Event.TheVariants as ev
+use Rattle.np_look.specs.Jobs.{job_to_release}
+use Rattle.np_roles.specs.Passing.{passes}
 use Rattle.np_roles.proofs.release.first_release.Given as goal
 
-abbrev pub invariant-loop-semaphore : goal.invariant-loop-semaphore
-invariant-loop-semaphore g l =
-    (k : ℕ) → k < l.at → NoneReleased (g.L.Look.site l.look) (g.L.Look.state l.look) (g.R.Rows.role l.rows) l.session (record { 0 = k })
-
-abbrev pub decreases-loop-semaphore : goal.decreases-loop-semaphore
-decreases-loop-semaphore g l = length l.config.semaphores - l.at
+abbrev pub invariant-loop-at : goal.invariant-loop-at
+invariant-loop-at g l =
+    (k : ℕ) → k < l.at → (j : JobId) → job_to_release (g.L.Look.site l.look) l.requester k (g.L.Look.state l.look) ≡ Some j → passes (g.L.Look.site l.look) (g.L.Look.state l.look) (g.R.Rows.role l.rows) (ev.Release l.session j) ≡ false
