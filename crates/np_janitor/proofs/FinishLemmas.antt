@@ -1,84 +1,88 @@
--- if the jobs of the requesters that stopped were tried, no finish is useful
-use Rattle.std.proofs.Common.{◌≡◌, ◌<◌, ◌≤◌, ℕ, length, refl, subst, arith, Option, Some, None, true, false}
-use Rattle.std.specs.Prelude.{is_some, slice_get, get_or, ◌&&◌, ◌||◌}
-use Rattle.std.specs.Option.{option_map_or}
-use Rattle.std.proofs.lemmas.Bool.{eq-eqb}
-use Rattle.std.proofs.lemmas.List.Elements.{All-get_or}
-use Rattle.std.proofs.lemmas.Option.{slice_get_within, get_or_from_slice_get}
+-- if the jobs that are to be finished were tried, no finish is useful
+use Rattle.std.proofs.Common.{◌≡◌, ◌<◌, ℕ, refl, subst, arith, Bool, true, false, Option, Some, None, Ok}
+use Rattle.std.specs.Prelude.{◌==◌, ◌&&◌, ◌||◌, is_some, option_and_then, slice_get}
+use Rattle.std.specs.Option.{option_map, option_map_or}
+use Rattle.std.proofs.lemmas.Bool.{and_from}
 use Rattle.np_text.specs.declared.limit.TheConstants.{REQUESTERS}
 use Rattle.np_text.specs.declared.id.PoolId.{PoolId}
 use Rattle.np_text.specs.declared.id.JobId.{JobId}
 use Rattle.np_text.specs.declared.id.RequesterId.{RequesterId}
 use Rattle.np_text.specs.declared.id.SessionId.{SessionId}
 use Rattle.np_text.specs.declared.id.Role.TheVariants.{Janitor, Requester}
+use Rattle.np_text.specs.declared.word.Phase.{Phase}
+use Rattle.np_text.specs.declared.word.Phase.TheVariants as phase
 use Rattle.np_site.specs.Configuration.{Configuration}
 use Rattle.np_site.specs.Sound.{IsSound}
-use Rattle.np_site.specs.declared.row.Job.{Job}
 use Rattle.np_record.specs.declared.record.JobRecord.{JobRecord}
+use Rattle.np_record.specs.declared.record.RequestRecord.{RequestRecord}
 use Rattle.np_event.specs.declared.event.Event.{Event}
 use Rattle.np_event.specs.declared.event.Event.TheVariants as ev
-use Rattle.np_machine.specs.Kinds.{is_asked, is_using}
+use Rattle.np_event.specs.declared.reply.Done.{Done}
+use Rattle.np_machine.specs.Kinds.{is_asked, is_failed, is_using}
+use Rattle.np_machine.specs.Semaphore.{is_finishable, may_finish, requester_or_janitor}
 use Rattle.np_machine.specs.State.{State}
 use Rattle.np_machine.specs.Step.{judge}
-use Rattle.np_changes.proofs.Tested.{ok-is}
-use Rattle.np_look.specs.Readers.{is_active_job, is_answered, request_state_of}
-use Rattle.np_useful.specs.Sessions.{is_current, is_stopped}
+use Rattle.np_machine.specs.Tables.{request_in}
+use Rattle.np_machine.specs.Tests.{maker}
+use Rattle.np_changes.proofs.Tested.{ok-is, on-given, on-check, on-found, on-need}
+use Rattle.np_look.specs.Readers.{request_state_of}
+use Rattle.np_look.specs.Jobs.{is_job_to_finish, job_to_finish}
 use Rattle.np_useful.specs.Rows.{job_is}
+use Rattle.np_useful.specs.Sessions.{is_current, is_stopped}
 use Rattle.np_useful.specs.Useful.{IsUseful}
 use Rattle.np_roles.specs.declared.kind.EventKind.TheVariants as kind_of
 use Rattle.np_roles.specs.declared.kind.JobKind.TheVariants as of_job
 use Rattle.np_roles.specs.Choices.{NoneOf}
 use Rattle.np_roles.specs.Passing.{passes}
-use Rattle.np_roles.proofs.Currents.{one-current}
-use Rattle.np_roles.proofs.Searches.{useful-passes}
-use Rattle.np_roles.proofs.Among.{among, finish-active}
-use Rattle.np_janitor.specs.Finishes.{NoneFinishes, ChoosesFinish}
+use Rattle.np_roles.proofs.Searches.{made-by, useful-passes}
+use Rattle.np_roles.proofs.Among.{among}
+use Rattle.np_janitor.specs.Finishes.{NoneFinished, ChoosesFinish}
+use Rattle.np_janitor.proofs.OwnJobs.{none-of}
 
-module _ (c : Configuration) (s : State) (p : PoolId) (session : SessionId) where
-  -- the job exists, and its requester stopped
-  record IsAlone (j : JobId) : Type 0 where
-    job : Job
-    row : slice_get c.jobs j.0 ≡ Some job
-    stopped : is_stopped c (Requester job.requester) s ≡ true
+-- a job that can be finished uses its nodes, or its request failed
+finishable-by : (p : Phase) (o : Option RequestRecord) (busy : Bool) → ((is_asked p && option_map_or (λ request. is_failed request.state) o false) || (is_using p && busy)) ≡ true
+    → (is_using p || (is_asked p && option_map_or is_failed (option_map (λ request. request.state) o) false)) ≡ true
+finishable-by phase.New o busy is = absurd cc
+finishable-by phase.Asked None busy is = absurd cc
+finishable-by phase.Asked (Some request) busy is = by (is_failed request.state) is where
+  by : (b : Bool) → (b || false) ≡ true → b ≡ true
+  by true failed = refl
+  by false failed = failed
+finishable-by phase.Using o busy is = refl
+finishable-by phase.Over o busy is = absurd cc
 
-  alone-by : (j : JobId) (o : Option Job) → slice_get c.jobs j.0 ≡ o → option_map_or (λ (job : Job). is_stopped c (Requester job.requester) s) o false ≡ true → IsAlone j
-  alone-by j None row is = absurd cc
-  alone-by j (Some job) row is = record { job = job; row = row; stopped = is }
+-- a job whose finish is accepted, whoever makes it, uses its nodes, or its request failed
+finish-ready : (c : Configuration) (s : State) (by : SessionId) (j : JobId) (what : Done) → judge c s (ev.Finish by j) ≡ Ok what
+    → (kept : JobRecord) × ((slice_get s.jobs j.0 ≡ Some kept) × ((is_using kept.phase || (is_asked kept.phase && option_map_or is_failed (request_state_of kept.request s) false)) ≡ true))
+finish-ready c s by j what is =
+    on-given (maker s by) _ what is (λ role made rest.
+    on-check (requester_or_janitor role) _ what rest (λ such rest.
+    on-found (slice_get c.jobs j.0) _ _ what rest (λ job row rest.
+    on-found (slice_get s.jobs j.0) _ _ what rest (λ kept there rest.
+    on-check (may_finish s job role) _ what rest (λ may rest.
+    on-need (is_finishable s job kept) _ _ what rest (λ ready rest.
+    (kept, (there, finishable-by kept.phase (option_and_then (λ r. request_in r s.requests) kept.request) _ ready))))))))
 
-  is_alone : (j : JobId) → job_is j c (λ job. is_stopped c (Requester job.requester) s) ≡ true → IsAlone j
-  is_alone j is = alone-by j (slice_get c.jobs j.0) refl is
-
-  is_active : (j : JobId) (job : Job) (kept : JobRecord) → slice_get c.jobs j.0 ≡ Some job → (is_using kept.phase || (is_asked kept.phase && option_map_or is_answered (request_state_of kept.request s) false)) ≡ true → is_active_job c s job.requester j kept ≡ true
-  is_active j job kept row active = rw (row, eq-eqb job.requester.0 job.requester.0 refl, active) refl
-
-  few : (sound : IsSound c) (j : JobId) (job : Job) → slice_get c.jobs j.0 ≡ Some job → job.requester.0 < REQUESTERS
-  few sound j job row =
-      let at : j.0 < length c.jobs = slice_get_within c.jobs j.0 job row in
-      let owned : (get_or c.jobs j.0 job).requester.0 < length c.requesters = All-get_or (λ (x : Job). x.requester.0 < length c.requesters) c.jobs j.0 job at sound.demand.owned in
-      let low : job.requester.0 < length c.requesters = subst (λ (x : Job). x.requester.0 < length c.requesters) (get_or_from_slice_get c.jobs j.0 job job row) owned in
-      let most : length c.requesters ≤ REQUESTERS = sound.few_requesters in
-      omega (arith, low, most)
-
-  module _ (current : is_current (Janitor p) session s ≡ true) (sound : IsSound c) (none : (k : ℕ) → k < REQUESTERS → NoneFinishes c s p session (record { 0 = k })) where
-    never : (j : JobId) → IsUseful c s (Janitor p) (ev.Finish session j) → ⊥
-    never j useful =
-        let answer = ok-is (judge c s (ev.Finish session j)) useful.accepted in
-        let kept = finish-active c s session j answer.0 answer.1 in
-        let alone = is_alone j useful.row in
-        let place = among (is_active_job c s alone.job.requester) 0 s.jobs j.0 kept.0 j (omega arith) kept.1.0 (is_active j alone.job kept.0 alone.row kept.1.1) in
-        let fails : passes c s (Janitor p) (ev.Finish session j) ≡ false = none alone.job.requester.0 (few sound j alone.job alone.row) alone.stopped place.at j place.there in
-        let is : passes c s (Janitor p) (ev.Finish session j) ≡ true = useful-passes c s (Janitor p) (ev.Finish session j) useful in
-        cc
-
-    pub finish-none : NoneOf c s (Janitor p) (kind_of.Job of_job.Finish)
-    finish-none by j useful =
-        let same : by ≡ session = one-current (Janitor p) s by session useful.maker current in
-        never j (subst (λ (x : SessionId). IsUseful c s (Janitor p) (ev.Finish x j)) same useful)
+module _ (c : Configuration) (s : State) (p : PoolId) where
+  -- if the finish of none of the requester's jobs that are to be finished passes, no finish of a job of
+  -- the requester is useful
+  pub none-finished : (session : SessionId) → is_current (Janitor p) session s ≡ true → (q : RequesterId) → ((k : ℕ) (j : JobId) → job_to_finish c q k s ≡ Some j → passes c s (Janitor p) (ev.Finish session j) ≡ false) → NoneFinished c s p q
+  none-finished session current q none = λ by j own useful.
+      let same : by ≡ session = made-by c s (Janitor p) session current by (ev.Finish by j) refl useful in
+      let mine : IsUseful c s (Janitor p) (ev.Finish session j) = subst (λ (x : SessionId). IsUseful c s (Janitor p) (ev.Finish x j)) same useful in
+      let answer = ok-is (judge c s (ev.Finish session j)) mine.accepted in
+      let kept = finish-ready c s session j answer.0 answer.1 in
+      let is : is_job_to_finish c s q j kept.0 ≡ true = and_from (job_is j c (λ row. row.requester.0 == q.0)) (is_using kept.0.phase || (is_asked kept.0.phase && option_map_or is_failed (request_state_of kept.0.request s) false)) own kept.1.1 in
+      let place = among (is_job_to_finish c s q) 0 s.jobs j.0 kept.0 j (omega arith) kept.1.0 is in
+      let fails : passes c s (Janitor p) (ev.Finish session j) ≡ false = none place.at j place.there in
+      let holds : passes c s (Janitor p) (ev.Finish session j) ≡ true = useful-passes c s (Janitor p) (ev.Finish session j) mine in
+      cc
 
   -- a requester for which nothing was found has no such finish
-  pub found-none : (q : RequesterId) (o : Option Event) → is_some o ≡ false → ChoosesFinish c s p session q o → NoneFinishes c s p session q
+  pub found-none : (q : RequesterId) (o : Option Event) → is_some o ≡ false → ChoosesFinish c s p q o → NoneFinished c s p q
   found-none q None is none = none
   found-none q (Some e) is useful = absurd cc
 
-  pub same-job : (one other : JobId) (o : Option JobId) → o ≡ Some one → o ≡ Some other → passes c s (Janitor p) (ev.Finish session one) ≡ false → passes c s (Janitor p) (ev.Finish session other) ≡ false
-  same-job one other o first second fails = let same : one ≡ other = cc in subst (λ (j : JobId). passes c s (Janitor p) (ev.Finish session j) ≡ false) same fails
+  -- if for no requester a finish of its jobs is useful, none is
+  pub finish-none : IsSound c → ((k : ℕ) → k < REQUESTERS → NoneFinished c s p (record { 0 = k })) → NoneOf c s (Janitor p) (kind_of.Job of_job.Finish)
+  finish-none sound none = none-of c s p of_job.Finish (λ j job. is_stopped c (Requester job.requester) s) sound (λ by j useful. useful.row) none

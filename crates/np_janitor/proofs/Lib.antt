@@ -8,6 +8,8 @@ pub mod Deciding
 pub mod FailLemmas
 pub mod RequestLocks
 pub mod Strikes
+pub mod OwnJobs
 pub mod FinishLemmas
+pub mod ReleaseLemmas
 pub mod Pools
 pub mod Undeclined

@@ -18,7 +18,6 @@ ghost use Rattle.np_roles.specs.declared.kind.NodeKind.TheVariants as of_node;
 ghost use Rattle.np_roles.specs.declared.kind.JobKind.TheVariants as of_job;
 ghost use Rattle.np_roles.specs.Choices.{Chooses, ChoosesOf};
 ghost use Rattle.np_janitor.specs.Candidates.{lacks_registration};
-ghost use Rattle.np_janitor.specs.Order.{janitor_order};
 ghost use Rattle.np_janitor.specs.Finishes.{ChoosesFinish};
 
 use crate::cleanable::{PoolPause, is_cleanable};
@@ -27,7 +26,7 @@ use np_event::Event;
 use np_look::{Look, is_same_role};
 use np_roles::{
     EventKind, NodeKind, RequestKind, Rows, choose_opening, current_session, first_of_kinds,
-    first_release, first_that_passes, has_some_handle, is_stopped, may_open, passes,
+    first_release, first_that_passes, is_stopped, may_open, passes,
 };
 use np_text::{
     JobId, NodeId, POOLS, PoolId, REQUESTERS, RequestId, RequestState, RequesterId, Role, SessionId,
@@ -126,7 +125,7 @@ fn has_handle_left<L: Look>(look: &L, job: JobId) -> bool
 {
     match look.config().job(job) {
         None => false,
-        Some(row) => has_some_handle(look, job, row),
+        Some(row) => look.has_handles(job, row),
     }
 }
 
@@ -163,9 +162,12 @@ impl Rows for JanitorRows {
     }
 }
 
-/// The first useful finish of the requester's active jobs, which use their nodes or whose request is
-/// fulfilled or failed, or `None` if the requester goes on or there is none. It tests each such job
-/// up to that one, and none of a requester that goes on.
+/// The first useful finish of a job of the requester, by job, or `None` if and only if there is
+/// none. There is none if a session of the requester is live, which costs one lookup, or if the
+/// requester goes on. Else it tests the jobs that use their nodes, or have asked for them and whose
+/// request failed, up to the first whose finish passes. In a state that a run reaches that is the
+/// first of them, since the machine lets a janitor finish each of them if no session of the
+/// requester is live: the cost is one lookup and one judged event, however many jobs there are.
 fn finish_for<L: Look>(
     look: &L,
     rows: &JanitorRows,
@@ -176,14 +178,14 @@ fn finish_for<L: Look>(
     requires known { rows.now.known.paused ≡
         is_paused (L.site look.now) (L.state look.now) rows.now.known.pool }
     requires current { is_current (Janitor rows.now.known.pool) session (L.state look.now) ≡ true }
-    ensures { ChoosesFinish (L.site look.now) (L.state look.now) rows.now.known.pool session
-        requester result }
+    ensures { ChoosesFinish (L.site look.now) (L.state look.now) rows.now.known.pool requester
+        result }
 {
-    if !is_stopped(look, Role::Requester(requester)) {
+    if look.has_live_session(requester) || !is_stopped(look, Role::Requester(requester)) {
         return None;
     }
     for at in 0..look.jobs() {
-        let Some(job) = look.active(requester, at) else {
+        let Some(job) = look.job_to_finish(requester, at) else {
             return None;
         };
         let finish = Event::Finish { session, job };
@@ -195,8 +197,8 @@ fn finish_for<L: Look>(
 }
 
 /// The first useful finish, by requester and then by job, or `None` if and only if there is none.
-/// It scans the requesters, with the configuration's faults for each that lost a session, and tests
-/// the active jobs of those that stopped for good.
+/// It costs one lookup for each requester, one judged event, and a walk of the configuration's
+/// faults for each requester that lost a session and has none.
 fn first_finish<L: Look>(look: &L, rows: &JanitorRows, session: SessionId) -> Option<Event>
     requires fits { Fits (L.site look.now) (L.state look.now) }
     requires known { rows.now.known.paused ≡
@@ -208,6 +210,27 @@ fn first_finish<L: Look>(look: &L, rows: &JanitorRows, session: SessionId) -> Op
     look.config().soundness();
     for at in 0..REQUESTERS as u16 {
         let found = finish_for(look, rows, session, RequesterId(at));
+        if found.is_some() {
+            return found;
+        }
+    }
+    None
+}
+
+/// The first useful release, by requester and then by job, or `None` if and only if there is none.
+/// It costs one lookup for each requester up to the first that has a job to release, and one judged
+/// event, whatever the number of jobs and handles.
+fn first_release_of_all<L: Look>(look: &L, rows: &JanitorRows, session: SessionId) -> Option<Event>
+    requires fits { Fits (L.site look.now) (L.state look.now) }
+    requires known { rows.now.known.paused ≡
+        is_paused (L.site look.now) (L.state look.now) rows.now.known.pool }
+    requires current { is_current (Janitor rows.now.known.pool) session (L.state look.now) ≡ true }
+    ensures { ChoosesOf (L.site look.now) (L.state look.now) (Janitor rows.now.known.pool)
+        (Job of_job.Release) result }
+{
+    look.config().soundness();
+    for at in 0..REQUESTERS as u16 {
+        let found = first_release(look, rows, session, RequesterId(at));
         if found.is_some() {
             return found;
         }
@@ -294,13 +317,15 @@ fn first_node_lock<L: Look>(look: &L, rows: &JanitorRows, session: SessionId) ->
 
 /// A useful event of the pool's janitor, the first in the order of the crate's table, or `None` if
 /// and only if there is none, in a state that a run reaches. Its cost grows with what its session
-/// queues for, with the active jobs of the requesters that stopped for good, and with the handles
-/// that jobs have: each of these is found by a lookup if the state keeps an index, and so is the
-/// janitor's session. Lock-request costs one lookup, however many requests are pending by the pool.
-/// Lock-node costs a few lookups for each of four kinds, however many nodes the pool has: of those
-/// that nobody holds it looks up the one that is due first, by kind, abandoned, left over, on hold
-/// and free. Fail-declined costs a few lookups for each different set of pools that declined a
-/// request, and only while a pool of the configuration has no registration.
+/// queues for: each of these is found by a lookup if the state keeps an index, and so is the
+/// janitor's session. Finish and release each cost one lookup for each requester and one judged
+/// event, whatever the number of jobs and handles, and finish also a walk of the configuration's
+/// faults for each requester that lost a session and has none. Lock-request costs one lookup,
+/// however many requests are pending by the pool. Lock-node costs a few lookups for each of four
+/// kinds, however many nodes the pool has: of those that nobody holds it looks up the one that is
+/// due first, by kind, abandoned, left over, on hold and free. Fail-declined costs a few lookups for
+/// each different set of pools that declined a request, and only while a pool of the configuration
+/// has no registration.
 pub fn choose_janitor<L: Look>(look: &L, pool: PoolId) -> Option<Event>
     requires reached { IsReached (L.site look.now) (L.state look.now) }
     requires fits { Fits (L.site look.now) (L.state look.now) }
@@ -328,7 +353,7 @@ pub fn choose_janitor<L: Look>(look: &L, pool: PoolId) -> Option<Event>
     if found.is_some() {
         return found;
     }
-    let found = first_release(look, &rows, session);
+    let found = first_release_of_all(look, &rows, session);
     if found.is_some() {
         return found;
     }

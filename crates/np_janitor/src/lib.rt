@@ -32,9 +32,9 @@
 //! - while a pool of the configuration has no registration, the first request that is requested and
 //!   that every registered pool declined, for fail-declined: once each pool has its registration,
 //!   each request that is requested has a registered pool left that has not declined it,
-//! - the active jobs of each requester that stopped for good, which use their nodes or whose
-//!   request is fulfilled or failed, for finish,
-//! - the jobs that have a handle, semaphore by semaphore, for release,
+//! - of each requester that stopped for good and has no live session the jobs that use their nodes,
+//!   or have asked for them and whose request failed, for finish,
+//! - of each requester the jobs that are over and have a handle, for release,
 //! - for lock-request the first request that is pending by the pool and that nobody holds: the
 //!   machine lets a janitor lock only a request that nobody holds, and
 //! - for lock-node four nodes at most: of the pool's nodes that nobody holds the one that is due
@@ -44,13 +44,16 @@
 //!
 //! Each of these is a reader of `Look`, and so is its session. If the state keeps an index, the
 //! reader is a lookup, or a few as said below, and the choice costs nothing for the other requests,
-//! nodes, jobs and sessions. So its cost grows with what the session queues for, with the active
-//! jobs of the requesters that stopped for good, with the handles that jobs have, and with the
-//! limit of requesters and the configuration's faults and semaphores. Lock-request costs one
-//! lookup, however many requests are pending by the pool. Lock-node costs a few lookups for each of
-//! four kinds, however many nodes the pool has. Fail-declined costs a few for each different set of
-//! pools that declined a request, and only while a pool of the configuration has no registration. A
-//! test of a node determines whether another pool is paused only if the janitor waits at a node of
+//! nodes, jobs and sessions. So its cost grows with what the session queues for, and with the limit
+//! of requesters and the configuration's faults. Release costs one lookup for each requester and
+//! one judged event, whatever the number of handles and of jobs, since the first job that it looks
+//! up can be released. Finish costs the same, whatever the number of jobs, and a walk of the
+//! configuration's faults for each requester that lost a session and has none: in a state that a
+//! run reaches, the machine lets a janitor finish the first job that it looks up. Lock-request costs
+//! one lookup, however many requests are pending by the pool. Lock-node costs a few lookups for each
+//! of four kinds, however many nodes the pool has. Fail-declined costs a few for each different set
+//! of pools that declined a request, and only while a pool of the configuration has no registration.
+//! A test of a node determines whether another pool is paused only if the janitor waits at a node of
 //! that pool.
 //!
 //! The oldest mute session and the current session of a role are such readers, too. So the cost of

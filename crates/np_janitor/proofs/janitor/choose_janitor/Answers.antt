@@ -17,6 +17,6 @@ returns g c =
     c.first_of_kinds-found.result c.first_of_kinds-found.ensures (sym c.if-is_some.ensures)
     c.first_fail-found.result c.first_fail-found.ensures (sym c.if-is_some-2.ensures)
     c.first_finish-found.result c.first_finish-found.ensures (sym c.if-is_some-3.ensures)
-    c.first_release-found.result c.first_release-found.ensures (sym c.if-is_some-4.ensures)
+    c.first_release_of_all-found.result c.first_release_of_all-found.ensures (sym c.if-is_some-4.ensures)
     c.first_request_lock-found.result c.first_request_lock-found.ensures (sym c.if-is_some-5.ensures)
     c.first_node_lock.result c.first_node_lock.ensures

@@ -2,9 +2,9 @@ use Rattle.std.proofs.Common.{◌≡◌, ◌<◌, ℕ, Some, false}
 use Rattle.np_text.specs.declared.id.JobId.{JobId}
 use Rattle.np_text.specs.declared.id.Role.TheVariants.{Janitor}
 use Rattle.np_event.specs.declared.event.Event.TheVariants as ev
-use Rattle.np_look.specs.Readers.{active_of}
+use Rattle.np_look.specs.Jobs.{job_to_finish}
 use Rattle.np_roles.specs.Passing.{passes}
 use Rattle.np_janitor.proofs.janitor.finish_for.Given as goal
 
 abbrev pub invariant-loop-at : goal.invariant-loop-at
-invariant-loop-at g l = (k : ℕ) → k < l.at → (j : JobId) → active_of (g.L.Look.site l.look) l.requester k (g.L.Look.state l.look) ≡ Some j → passes (g.L.Look.site l.look) (g.L.Look.state l.look) (Janitor l.rows.known.pool) (ev.Finish l.session j) ≡ false
+invariant-loop-at g l = (k : ℕ) → k < l.at → (j : JobId) → job_to_finish (g.L.Look.site l.look) l.requester k (g.L.Look.state l.look) ≡ Some j → passes (g.L.Look.site l.look) (g.L.Look.state l.look) (Janitor l.rows.known.pool) (ev.Finish l.session j) ≡ false

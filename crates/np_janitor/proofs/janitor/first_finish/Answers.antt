@@ -1,17 +1,17 @@
 use Rattle.std.proofs.Common.{ℕ, sym, subst, arith, below_more}
 use Rattle.np_site.specs.Configuration.{Configuration}
 use Rattle.np_site.specs.Sound.{IsSound}
-use Rattle.np_janitor.specs.Finishes.{NoneFinishes}
+use Rattle.np_janitor.specs.Finishes.{NoneFinished}
 use Rattle.np_janitor.proofs.FinishLemmas.{finish-none, found-none}
 use Rattle.np_janitor.proofs.janitor.first_finish.Goals as goal
 
 pub loop-at-preserved : goal.loop-at-preserved
 loop-at-preserved g c =
-    below_more (λ (k : ℕ). NoneFinishes (g.L.Look.site c.args.look.now) (g.L.Look.state c.args.look.now) c.args.rows.now.known.pool c.args.session (record { 0 = k })) c.loop-at.at c.loop-at.invariant
-    (found-none (g.L.Look.site c.args.look.now) (g.L.Look.state c.args.look.now) c.args.rows.now.known.pool c.args.session (record { 0 = c.loop-at.at }) c.finish_for-found.result (sym c.if-is_some.ensures) c.finish_for-found.ensures)
+    below_more (λ (k : ℕ). NoneFinished (g.L.Look.site c.args.look.now) (g.L.Look.state c.args.look.now) c.args.rows.now.known.pool (record { 0 = k })) c.loop-at.at c.loop-at.invariant
+    (found-none (g.L.Look.site c.args.look.now) (g.L.Look.state c.args.look.now) c.args.rows.now.known.pool (record { 0 = c.loop-at.at }) c.finish_for-found.result (sym c.if-is_some.ensures) c.finish_for-found.ensures)
 
 pub returns : goal.returns
 returns g c =
     let sound : IsSound (g.L.Look.site c.args.look.now) = subst (λ (site : Configuration). IsSound site) c.config.ensures c.soundness.ensures in
-    finish-none (g.L.Look.site c.args.look.now) (g.L.Look.state c.args.look.now) c.args.rows.now.known.pool c.args.session c.requires.current sound
+    finish-none (g.L.Look.site c.args.look.now) (g.L.Look.state c.args.look.now) c.args.rows.now.known.pool sound
     (λ k less. c.loop-at.invariant k (omega (arith, less, c.loop-at-test.false)))
