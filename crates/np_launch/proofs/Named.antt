@@ -1,27 +1,23 @@
--- a request in hand is one of those in whose queues the session is, and one whose nodes are to be
--- launched is one of those that are pending by the pool
-use Rattle.std.proofs.Common.{◌≡◌, ℕ, Bool, true, Some, refl}
+-- a request in hand is one of those in whose queues the session is
+use Rattle.std.proofs.Common.{◌≡◌, ℕ, true, Some, refl}
 use Rattle.std.specs.Prelude.{◌&&◌, not, slice_get}
 use Rattle.std.specs.List.{list_any}
 use Rattle.std.proofs.lemmas.Bool.{and_parts}
 use Rattle.np_text.specs.declared.id.SessionId.{SessionId}
 use Rattle.np_text.specs.declared.id.PoolId.{PoolId}
-use Rattle.np_text.specs.declared.id.NodeId.{NodeId}
 use Rattle.np_site.specs.Configuration.{Configuration}
 use Rattle.np_lists.proofs.Each.{all-from_at}
 use Rattle.np_machine.specs.Entries.{RequestEntry}
 use Rattle.np_machine.specs.Kinds.{is_requested}
-use Rattle.np_machine.specs.Order.{is_declined_by, is_pending_by}
+use Rattle.np_machine.specs.Order.{is_declined_by}
 use Rattle.np_machine.specs.State.{State}
 use Rattle.np_machine.specs.Tables.{request_entry, is_queued, is_session_of, holder}
 use Rattle.np_changes.specs.Planned.{IsReached}
 use Rattle.np_safe.proofs.Runs.{invariant-Runs}
-use Rattle.np_look.specs.Readers.{queued_requests, pending_requests}
-use Rattle.np_useful.specs.Launcher.{is_in_hand, is_to_launch}
-use Rattle.np_useful.specs.Rows.{is_listed, has_failed_node}
+use Rattle.np_look.specs.Readers.{queued_requests}
+use Rattle.np_useful.specs.Launcher.{is_in_hand}
 use Rattle.np_roles.proofs.Queues.{holder-queued}
 use Rattle.np_launch.specs.Hands.{is_in_hand_at}
-use Rattle.np_launch.specs.Pending.{lists_unfailed}
 use Rattle.np_launch.proofs.Allocated.{entry-there}
 use Rattle.np_launch.proofs.Finds.{any-named}
 
@@ -43,20 +39,3 @@ module _ (c : Configuration) (s : State) (reached : IsReached c s) where
     any-in_hand =
         any-named (λ (e : RequestEntry). e.id) (λ (e : RequestEntry). is_queued session e.queue) (is_in_hand p session) (is_in_hand_at p session s) s.requests
         (all-from_at (λ (e : RequestEntry). is_queued session e.queue ≡ true → is_in_hand_at p session s e.id ≡ is_in_hand p session e) s.requests hand-there) hand-queued
-
-  -- ## pending by the pool
-
-  module _ (p : PoolId) (n : NodeId) where
-    abbrev launches : RequestEntry → Bool
-    launches e = is_pending_by p e.kept && is_listed n e.kept && not (has_failed_node s e.kept)
-
-    launch-there : (i : ℕ) (e : RequestEntry) → slice_get s.requests i ≡ Some e → is_pending_by p e.kept ≡ true → lists_unfailed n s e.id ≡ launches e
-    launch-there i e there pending = rw (row-there i e there, pending) refl
-
-    launch-pending : (e : RequestEntry) → launches e ≡ true → is_pending_by p e.kept ≡ true
-    launch-pending e is = (and_parts (is_pending_by p e.kept) (is_listed n e.kept) ((and_parts (is_pending_by p e.kept && is_listed n e.kept) (not (has_failed_node s e.kept)) is).0)).0
-
-    pub any-to_launch : list_any (lists_unfailed n s) (pending_requests p s) ≡ is_to_launch p s n
-    any-to_launch =
-        any-named (λ (e : RequestEntry). e.id) (λ (e : RequestEntry). is_pending_by p e.kept) launches (lists_unfailed n s) s.requests
-        (all-from_at (λ (e : RequestEntry). is_pending_by p e.kept ≡ true → lists_unfailed n s e.id ≡ launches e) s.requests launch-there) launch-pending

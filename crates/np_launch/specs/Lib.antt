@@ -1,6 +1,5 @@
 pub mod Allocated
 pub mod Hands
 pub mod Sisters
-pub mod Pending
 pub mod Computed
 pub mod Choices

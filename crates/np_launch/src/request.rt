@@ -1,6 +1,6 @@
 //! What a launcher tests of one request or node.
 
-ghost use Rattle.std.specs.Prelude.{◌≡◌, ◌==◌, ◌&&◌};
+ghost use Rattle.std.specs.Prelude.{◌≡◌, ◌==◌, ◌&&◌, not};
 ghost use Rattle.std.specs.List.{list_any};
 ghost use Rattle.np_machine.specs.Kinds.{is_pending};
 ghost use Rattle.np_machine.specs.Order.{is_pool, is_pending_by};
@@ -12,7 +12,6 @@ ghost use Rattle.np_useful.specs.Rows.{request_is, is_listed, has_failed_node};
 ghost use Rattle.np_fits.specs.Fits.{Fits};
 ghost use Rattle.np_launch.specs.Allocated.{served_request};
 ghost use Rattle.np_launch.specs.Hands.{is_in_hand_at};
-ghost use Rattle.np_launch.specs.Pending.{lists_unfailed};
 
 use np_changes::Asked;
 use np_config::Config;
@@ -92,15 +91,18 @@ pub fn has_failed_node<L: Look>(look: &L, request: &RequestRecord) -> bool
     request.nodes.items().iter().any(|n| is_spent(look, *n))
 }
 
-/// Whether the node is in the request's list, and no node of that list failed. It costs one lookup
-/// of the request, and one of each node of the list.
-pub(crate) fn lists_unfailed<L: Look>(look: &L, node: NodeId, request: RequestId) -> bool
-    ensures { result ≡ lists_unfailed node (L.state look.now) request }
+/// Whether the request needs a launch of the node by the pool: the pool serves it, the node is in
+/// its list, and no node of that list failed. It costs up to one lookup of each node of the list.
+pub(crate) fn needs_launch<L: Look>(
+    look: &L,
+    pool: PoolId,
+    node: NodeId,
+    request: &RequestRecord,
+) -> bool
+    ensures { result ≡ (is_pending_by pool request.now && is_listed node request.now
+        && not (has_failed_node (L.state look.now) request.now)) }
 {
-    match look.request(request) {
-        None => false,
-        Some(kept) => is_listed(node, &kept) && !has_failed_node(look, &kept),
-    }
+    is_pending_by(pool, request) && is_listed(node, request) && !has_failed_node(look, request)
 }
 
 /// Whether the request is requested, the pool has not declined it, and the session holds it. It

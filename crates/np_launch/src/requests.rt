@@ -3,27 +3,24 @@
 ghost use Rattle.std.specs.Prelude.{◌≡◌};
 ghost use Rattle.std.specs.List.{list_any};
 ghost use Rattle.np_changes.specs.Planned.{IsReached};
-ghost use Rattle.np_look.specs.Readers.{pending_requests};
 ghost use Rattle.np_fits.specs.Fits.{Fits};
 ghost use Rattle.np_useful.specs.Launcher.{is_to_launch, is_in_hand, requests_near, has_turn_left};
-ghost use Rattle.np_launch.specs.Pending.{lists_unfailed};
 
 use crate::near::{concurrency_of, sister_requests};
-use crate::request::{has_failed_node, is_in_hand, lists_unfailed, served_request};
+use crate::request::{has_failed_node, is_in_hand, needs_launch, served_request};
 use np_look::Look;
 use np_text::{NodeId, PoolId, SessionId};
 
-/// Whether a request that is pending by the pool has the node in its list, and no node of that list
-/// failed. It costs up to one lookup of each request that is pending by the pool.
+/// Whether some request needs a launch of the node by the pool. This scans the requests up to the
+/// first one that does.
 fn has_pending_with<L: Look>(look: &L, pool: PoolId, node: NodeId) -> bool
-    ensures { result ≡ list_any (lists_unfailed node (L.state look.now))
-        (pending_requests pool (L.state look.now)) }
+    ensures { result ≡ is_to_launch pool (L.state look.now) node }
 {
-    for at in 0..look.pending_requests(pool) {
-        let Some(request) = look.pending_request_at(pool, at) else {
+    for at in 0..look.requests() {
+        let Some(view) = look.request_view(at) else {
             return false;
         };
-        if lists_unfailed(look, node, request) {
+        if needs_launch(look, pool, node, &view.kept) {
             return true;
         }
     }
@@ -32,8 +29,9 @@ fn has_pending_with<L: Look>(look: &L, pool: PoolId, node: NodeId) -> bool
 
 /// Whether the node is in the list of a request that the pool serves, and no node of that list
 /// failed. Such a request is the one that the node is allocated to, so this costs one lookup of
-/// each, and one of each node of the list. Only for a node that does not exist, which no event that
-/// the machine accepts names, the requests that are pending by the pool are searched.
+/// each, and one of each node of the list. Only for a node that does not exist are the requests
+/// scanned, since a pending request may list a node that was removed. The machine accepts no start
+/// of such a node.
 pub fn is_to_launch<L: Look>(look: &L, pool: PoolId, node: NodeId) -> bool
     requires { IsReached (L.site look.now) (L.state look.now) }
     ensures { result ≡ is_to_launch pool (L.state look.now) node }

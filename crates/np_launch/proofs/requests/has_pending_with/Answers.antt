@@ -1,27 +1,23 @@
-use Rattle.std.proofs.Common.{◌∙◌, ◌<◌, ◌≤◌, length, sym, arith}
-use Rattle.np_look.specs.Readers.{pending_requests}
-use Rattle.np_roles.proofs.Places.{some-there}
-use Rattle.np_launch.specs.Pending.{lists_unfailed}
-use Rattle.np_launch.proofs.Finds.{any-found, any-later, any-past}
+use Rattle.std.proofs.Common.{◌≡◌, ◌∙◌, true, false, add-one, refl, sym}
+use Rattle.std.specs.Prelude.{◌&&◌, not}
+use Rattle.np_record.specs.declared.record.RequestRecord.{RequestRecord}
+use Rattle.np_machine.specs.Entries.{RequestEntry}
+use Rattle.np_machine.specs.Order.{is_pending_by}
+use Rattle.np_look.specs.Views.{request_view}
+use Rattle.np_look.specs.declared.asked.RequestView.{RequestView}
+use Rattle.np_look.proofs.Walks.{any_found, any_later}
+use Rattle.np_useful.specs.Rows.{is_listed, has_failed_node}
 use Rattle.np_launch.proofs.requests.has_pending_with.Goals as goal
 
-pub returns-in_default : goal.returns-in_default
-returns-in_default g c =
-    let low : c.loop-at.at < length (pending_requests c.args.pool (g.L.Look.state c.args.look.now)) = omega (arith, c.pending_requests-at-end.ensures, c.loop-at-test.true) in
-    absurd (some-there (pending_requests c.args.pool (g.L.Look.state c.args.look.now)) c.loop-at.at low (sym c.in_default.ensures))
-
-pub returns-then-lists_unfailed : goal.returns-then-lists_unfailed
-returns-then-lists_unfailed g c =
-    sym (any-found (lists_unfailed c.args.node (g.L.Look.state c.args.look.now)) (pending_requests c.args.pool (g.L.Look.state c.args.look.now)) c.loop-at.at c.in-Some.request (sym c.in-Some.ensures) (sym c.if-lists_unfailed.ensures))
+pub returns-then-needs_launch : goal.returns-then-needs_launch
+returns-then-needs_launch g c =
+    let needs = λ (q : RequestRecord). is_pending_by c.args.pool q && is_listed c.args.node q && not (has_failed_node (g.L.Look.state c.args.look.now) q) in
+    let passes : needs c.in-Some.view.kept ≡ true = cc in
+    sym (any_found (λ (v : RequestView). needs v.kept) request_view (λ (e : RequestEntry). needs e.kept) (λ e. refl) (g.L.Look.state c.args.look.now).requests c.loop-at.at c.in-Some.view (sym c.in-Some.ensures) passes)
     ∙ c.loop-at.invariant
 
 pub loop-at-preserved : goal.loop-at-preserved
 loop-at-preserved g c =
-    any-later (lists_unfailed c.args.node (g.L.Look.state c.args.look.now)) (pending_requests c.args.pool (g.L.Look.state c.args.look.now)) c.loop-at.at c.in-Some.request (sym c.in-Some.ensures) (sym c.if-lists_unfailed.ensures)
-    ∙ c.loop-at.invariant
-
-pub returns : goal.returns
-returns g c =
-    let past : length (pending_requests c.args.pool (g.L.Look.state c.args.look.now)) ≤ c.loop-at.at = omega (arith, c.pending_requests-at-end.ensures, c.loop-at-test.false) in
-    sym (any-past (lists_unfailed c.args.node (g.L.Look.state c.args.look.now)) (pending_requests c.args.pool (g.L.Look.state c.args.look.now)) c.loop-at.at past)
-    ∙ c.loop-at.invariant
+    let needs = λ (q : RequestRecord). is_pending_by c.args.pool q && is_listed c.args.node q && not (has_failed_node (g.L.Look.state c.args.look.now) q) in
+    let fails : needs c.in-Some.view.kept ≡ false = cc in
+    rw add-one (sym (any_later (λ (v : RequestView). needs v.kept) request_view (λ (e : RequestEntry). needs e.kept) (λ e. refl) (g.L.Look.state c.args.look.now).requests c.loop-at.at c.in-Some.view (sym c.in-Some.ensures) fails) ∙ c.loop-at.invariant)

@@ -1,9 +1,12 @@
 use Rattle.std.proofs.Common.{◌≡◌, drop}
+use Rattle.std.specs.Prelude.{◌&&◌, not}
 use Rattle.std.specs.List.{list_any}
-use Rattle.np_look.specs.Readers.{pending_requests}
-use Rattle.np_launch.specs.Pending.{lists_unfailed}
+use Rattle.np_machine.specs.Entries.{RequestEntry}
+use Rattle.np_machine.specs.Order.{is_pending_by}
+use Rattle.np_useful.specs.Launcher.{is_to_launch}
+use Rattle.np_useful.specs.Rows.{is_listed, has_failed_node}
 use Rattle.np_launch.proofs.requests.has_pending_with.Given as goal
 
 abbrev pub invariant-loop-at : goal.invariant-loop-at
 invariant-loop-at g l =
-    list_any (lists_unfailed l.node (g.L.Look.state l.look)) (drop l.at (pending_requests l.pool (g.L.Look.state l.look))) ≡ list_any (lists_unfailed l.node (g.L.Look.state l.look)) (pending_requests l.pool (g.L.Look.state l.look))
+    list_any (λ (e : RequestEntry). is_pending_by l.pool e.kept && is_listed l.node e.kept && not (has_failed_node (g.L.Look.state l.look) e.kept)) (drop l.at (g.L.Look.state l.look).requests) ≡ is_to_launch l.pool (g.L.Look.state l.look) l.node

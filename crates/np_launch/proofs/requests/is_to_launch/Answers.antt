@@ -3,13 +3,7 @@ use Rattle.std.specs.Option.{option_map_or}
 use Rattle.np_record.specs.declared.record.RequestRecord.{RequestRecord}
 use Rattle.np_useful.specs.Rows.{has_failed_node}
 use Rattle.np_launch.proofs.Allocated.{launch-is}
-use Rattle.np_launch.proofs.Named.{any-to_launch}
 use Rattle.np_launch.proofs.requests.is_to_launch.Goals as goal
-
-pub returns-in_default : goal.returns-in_default
-returns-in_default g c =
-    c.has_pending_with.ensures
-    ∙ any-to_launch (g.L.Look.site c.args.look.now) (g.L.Look.state c.args.look.now) c.requires c.args.pool c.args.node
 
 pub returns-in-None : goal.returns-in-None
 returns-in-None g c =
