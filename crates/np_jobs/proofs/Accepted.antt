@@ -1,5 +1,6 @@
--- an accepted event of a requester's session on a job: the job is active, or new and in the window
-use Rattle.std.proofs.Common.{◌≡◌, refl, Option, Some, None, Result, Ok, Err, Bool, true, false}
+-- an accepted event of a requester's session on a job: the job is active, or new and in the window,
+-- and to begin if the event is its acquire or its submit
+use Rattle.std.proofs.Common.{◌≡◌, ◌∙◌, refl, sym, Option, Some, None, Result, Ok, Err, Bool, true, false}
 use Rattle.std.specs.Prelude.{◌==◌, ◌&&◌, ◌||◌, not, slice_get}
 use Rattle.np_text.specs.declared.id.SessionId.{SessionId}
 use Rattle.np_text.specs.declared.id.JobId.{JobId}
@@ -13,10 +14,10 @@ use Rattle.np_event.specs.declared.reply.Done.{Done}
 use Rattle.np_event.specs.declared.reply.Refusal.{Refusal}
 use Rattle.np_event.specs.declared.reply.Refusal.TheVariants as no
 use Rattle.np_lists.specs.Refusals.{◌>>=◌}
-use Rattle.np_lists.proofs.RefusalLemmas.{need-ok, then-ok}
-use Rattle.np_changes.proofs.Tested.{on-need, on-found}
-use Rattle.np_machine.specs.Kinds.{is_new, is_asked, is_using, is_fulfilled}
-use Rattle.np_machine.specs.Semaphore.{is_finishable, may_take, has_failed_request}
+use Rattle.np_lists.proofs.RefusalLemmas.{then-ok}
+use Rattle.np_changes.proofs.Tested.{on-given, on-check, on-need, on-found, on-vacant, needed}
+use Rattle.np_machine.specs.Kinds.{is_new, is_asked, is_using, is_over, is_fulfilled}
+use Rattle.np_machine.specs.Semaphore.{first_full, is_finishable, may_take, may_release, requester_or_janitor, has_failed_request}
 use Rattle.np_machine.specs.State.{State}
 use Rattle.np_machine.specs.Step.{judge}
 use Rattle.np_machine.specs.Tables.{request_in}
@@ -28,6 +29,7 @@ use Rattle.np_useful.specs.Window.{is_in_window}
 use Rattle.np_jobs.specs.Steps.{phase_is}
 use Rattle.np_jobs.proofs.ForLemmas.{and-first, and-second}
 use Rattle.np_jobs.proofs.Active.{IsActive, IsAsked, fulfilled-answer, failed-answer, using-active, asked-active}
+use Rattle.np_jobs.proofs.ToBegin.{IsToBegin, ready-may, room-may}
 
 -- a job waits for its semaphores if it is new and in the window, or has asked and its request is
 -- fulfilled
@@ -44,7 +46,7 @@ ends true false uses done is fails stops = stops (and-first uses done is)
 ends false failed uses done is fails stops = stops (and-first uses done is)
 
 -- new, and in the window
-pub record IsToBegin (c : Configuration) (s : State) (q : RequesterId) (j : JobId) : Type 0 where
+pub record IsNewInWindow (c : Configuration) (s : State) (q : RequesterId) (j : JobId) : Type 0 where
   pub new : phase_is j s is_new ≡ true
   pub within : is_in_window c s q j ≡ true
 
@@ -71,13 +73,52 @@ module _ (c : Configuration) (s : State) (by : SessionId) (q : RequesterId) (who
   own_by : (job : Job) → slice_get c.jobs j.0 ≡ Some job → (job.requester.0 == q.0) ≡ true → job_is j c (λ row. row.requester.0 == q.0) ≡ true
   own_by job row own = rw (row, own) refl
 
-  pub submit-begins : (what : Done) → judge c s (ev.Submit by j) ≡ Ok what → row_holds c s (Requester q) (ev.Submit by j) ≡ true → IsToBegin c s q j
-  submit-begins what is within =
+  -- a job is to begin if its submit is accepted, or if it is new and its acquire is accepted
+  pub submit-begins : (what : Done) → judge c s (ev.Submit by j) ≡ Ok what → IsToBegin c s q j
+  submit-begins what is =
       let found = found_own _ what is in
-      let new : is_new found.kept.phase ≡ true = (need-ok _ _ _ what found.goes).0 in
-      record { new = rw (found.there, new) refl; within = within }
+      on-need (is_new found.kept.phase) _ _ what found.goes (λ new rest.
+      on-need (found.job.resources_first || (missing_handles s j found.job == 0)) _ _ what rest (λ ready _.
+      record {
+        row = found.job;
+        stands = found.row;
+        own = found.own;
+        may = ready-may c s j found.job ready;
+        kept = found.kept;
+        there = found.there;
+        new = new;
+      }))
 
-  pub acquire-either : {P : Type 0} (what : Done) → judge c s (ev.Acquire by j) ≡ Ok what → row_holds c s (Requester q) (ev.Acquire by j) ≡ true → (IsAsked c s q j → P) → (IsToBegin c s q j → P) → P
+  pub acquire-begins : (what : Done) → judge c s (ev.Acquire by j) ≡ Ok what → phase_is j s is_new ≡ true → IsToBegin c s q j
+  acquire-begins what is new =
+      let found = found_own _ what is in
+      on-need (not (is_over found.kept.phase)) _ _ what found.goes (λ _ rest.
+      on-vacant (first_full c s j found.job) _ _ what rest (λ room _.
+      record {
+        row = found.job;
+        stands = found.row;
+        own = found.own;
+        may = room-may c s j found.job room;
+        kept = found.kept;
+        there = found.there;
+        new = rw found.there at new;
+      }))
+
+  pub submit-new : (what : Done) → judge c s (ev.Submit by j) ≡ Ok what → row_holds c s (Requester q) (ev.Submit by j) ≡ true → IsNewInWindow c s q j
+  submit-new what is within = let begin = submit-begins what is in record { new = rw (begin.there, begin.new) refl; within = within }
+
+  -- a job whose release is accepted is the requester's
+  pub release-own : (what : Done) → judge c s (ev.Release by j) ≡ Ok what → job_is j c (λ row. row.requester.0 == q.0) ≡ true
+  release-own what is =
+      on-given (maker s by) _ what is (λ role made rest.
+      on-check (requester_or_janitor role) _ what rest (λ _ rest.
+      on-found (slice_get c.jobs j.0) _ _ what rest (λ job row rest.
+      on-found (slice_get s.jobs j.0) _ _ what rest (λ _ _ rest.
+      on-check (may_release job role) _ what rest (λ may _.
+      let same : role ≡ Requester q = (let told : Ok role ≡ Ok (Requester q) = sym made ∙ who in cc) in
+      own_by job row (needed (job.requester.0 == q.0) _ (rw same at may)))))))
+
+  pub acquire-either : {P : Type 0} (what : Done) → judge c s (ev.Acquire by j) ≡ Ok what → row_holds c s (Requester q) (ev.Acquire by j) ≡ true → (IsAsked c s q j → P) → (IsNewInWindow c s q j → P) → P
   acquire-either what is holds goes_on begins =
       let found = found_own _ what is in
       let both : (not (missing_handles s j found.job == 0) && waits_for_handles c s q j found.job found.kept) ≡ true = rw (found.row, found.there) at holds in

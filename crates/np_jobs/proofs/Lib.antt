@@ -2,7 +2,9 @@ pub mod Rising
 pub mod WindowLemmas
 pub mod ForLemmas
 pub mod Active
+pub mod ToBegin
 pub mod Accepted
 pub mod StepLemmas
+pub mod BeginLemmas
 pub mod Made
 pub mod LockLemmas

@@ -14,13 +14,11 @@ use Rattle.np_machine.specs.State.{State}
 use Rattle.np_useful.specs.Useful.{IsUseful}
 use Rattle.np_useful.specs.Sessions.{is_current}
 use Rattle.np_roles.specs.declared.kind.EventKind.{EventKind}
-use Rattle.np_roles.specs.declared.kind.EventKind.TheVariants.{Job}
-use Rattle.np_roles.specs.declared.kind.JobKind.TheVariants as of_job
-use Rattle.np_roles.specs.Choices.{Chooses, ChoosesOf, ChoosesOfAny, NoneOpens, NoneOf}
+use Rattle.np_roles.specs.Choices.{Chooses, ChoosesOfAny, ChoosesRelease, NoneOpens, NoneOf}
 use Rattle.np_roles.proofs.Wholes.{kinds-choose}
 use Rattle.np_changes.specs.Planned.{IsReached}
 use Rattle.np_jobs.specs.Steps.{steps, leaving, rest, ChoosesActive, ChoosesInWindow}
-use Rattle.np_jobs.proofs.StepLemmas.{steps-none}
+use Rattle.np_jobs.proofs.StepLemmas.{steps-none, releases-none}
 
 none : false ≡ true → ⊥
 none is = cc
@@ -71,10 +69,10 @@ all-kinds c s role (kind ∷ one) other first second = (first.0, all-kinds c s r
 
 -- if nothing is useful on an active job, no release, and nothing on a new job in the window, what is
 -- left decides
-pub all-choose : (c : Configuration) (s : State) (q : RequesterId) (session : SessionId) → is_current (Requester q) session s ≡ true → IsReached c s → (found : Option Event) → ChoosesActive c s q session found → is_some found ≡ false → (release : Option Event) → ChoosesOf c s (Requester q) (Job of_job.Release) release → is_some release ≡ false → (begun : Option Event) → ChoosesInWindow c s q session begun → is_some begun ≡ false → (o : Option Event) → ChoosesOfAny c s (Requester q) leaving o → Chooses c s (Requester q) o
+pub all-choose : (c : Configuration) (s : State) (q : RequesterId) (session : SessionId) → is_current (Requester q) session s ≡ true → IsReached c s → (found : Option Event) → ChoosesActive c s q session found → is_some found ≡ false → (release : Option Event) → ChoosesRelease c s (Requester q) q release → is_some release ≡ false → (begun : Option Event) → ChoosesInWindow c s q session begun → is_some begun ≡ false → (o : Option Event) → ChoosesOfAny c s (Requester q) leaving o → Chooses c s (Requester q) o
 all-choose c s q session current reached None active is None releases fails None begins stays None leaves =
     kinds-choose c s (Requester q) (steps ++ rest) (requester-law c s q) session current None
-    (all-kinds c s (Requester q) steps rest (steps-none c s q session current reached active begins) (releases, leaves))
+    (all-kinds c s (Requester q) steps rest (steps-none c s q session current reached active begins) (releases-none c s q session current releases, leaves))
 all-choose c s q session current reached None active is None releases fails None begins stays (Some e) leaves = leaves
 all-choose c s q session current reached None active is None releases fails (Some e) begins stays o leaves = absurd cc
 all-choose c s q session current reached None active is (Some e) releases fails begun begins stays o leaves = absurd cc

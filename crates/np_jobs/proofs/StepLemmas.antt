@@ -20,11 +20,11 @@ use Rattle.np_machine.specs.Laws.{same_role, speaks_for}
 use Rattle.np_machine.specs.State.{State}
 use Rattle.np_machine.specs.Step.{judge}
 use Rattle.np_machine.specs.Tests.{maker}
-use Rattle.np_look.specs.Readers.{is_active_job, active_of, new_of}
+use Rattle.np_look.specs.Readers.{is_active_job, active_of}
 use Rattle.np_useful.specs.Sessions.{is_current}
 use Rattle.np_useful.specs.Useful.{IsUseful, row_holds}
 use Rattle.np_useful.specs.Window.{is_in_window}
-use Rattle.np_roles.specs.Choices.{NoneOf}
+use Rattle.np_roles.specs.Choices.{NoneOf, NoneReleased}
 use Rattle.np_roles.specs.Passing.{passes}
 use Rattle.np_roles.specs.Kinds.{job_event}
 use Rattle.np_roles.specs.declared.kind.EventKind.TheVariants as kind_of
@@ -37,11 +37,10 @@ use Rattle.np_roles.proofs.Searches.{made-by, useful-passes}
 use Rattle.np_roles.proofs.Openings.{same-role}
 use Rattle.np_roles.proofs.Among.{among}
 use Rattle.np_jobs.specs.Locks.{lock_passes, nodes_awaited}
-use Rattle.np_jobs.specs.Steps.{phase_is, steps, NoAskedStep, NoStepOf, NoActiveStep, NoNewStep, ChoosesOfActive, ChoosesOfNew}
+use Rattle.np_jobs.specs.Steps.{phase_is, steps, NoAskedStep, NoStepOf, NoActiveStep, NoNewStep, ChoosesOfActive}
 use Rattle.np_jobs.proofs.Active.{IsActive, IsAsked}
-use Rattle.np_jobs.proofs.Accepted.{IsToBegin, submit-begins, acquire-either, take-asked, finish-active}
+use Rattle.np_jobs.proofs.Accepted.{IsNewInWindow, submit-new, acquire-either, take-asked, finish-active, release-own}
 use Rattle.np_jobs.proofs.LockLemmas.{locks-none}
-use Rattle.np_jobs.proofs.WindowLemmas.{new-place}
 
 later : (n : ℕ) → 0 < n → (n == 0) ≡ false
 later n is = grind (arith, nat_tests)
@@ -59,14 +58,23 @@ spoken {q} facts is =
     (parts.1.0, (parts.1.1, same-role facts.role (Requester q) parts.0))
 
 module _ (c : Configuration) (s : State) (q : RequesterId) (session : SessionId) (current : is_current (Requester q) session s ≡ true) where
-  who : maker s session ≡ Ok (Requester q)
-  who =
+  -- the requester makes the session's events
+  pub current-maker : maker s session ≡ Ok (Requester q)
+  current-maker =
       let speaks = current-speaks (Requester q) s session current in
       let begun : (session.0 == 0) ≡ false = later session.0 speaks.begun in
       let is = spoken speaks.facts speaks.speaks in
       rw (begun, speaks.there, is.0, is.1.0) (ap (λ (role : Role). Ok role) is.1.1)
 
-  module _ (reached : IsReached c s) (active : (k : ℕ) (j : JobId) → active_of c q k s ≡ Some j → NoActiveStep c s q session j) (begins : (j : JobId) → is_in_window c s q j ≡ true → NoNewStep c s q session j) where
+  -- a requester's useful release is of a job of its own
+  pub releases-none : NoneReleased c s (Requester q) q → NoneOf c s (Requester q) (kind_of.Job of_job.Release)
+  releases-none none = λ by j useful.
+      let same : by ≡ session = made-by c s (Requester q) session current by (ev.Release by j) refl useful in
+      let mine : IsUseful c s (Requester q) (ev.Release session j) = subst (λ (x : SessionId). IsUseful c s (Requester q) (ev.Release x j)) same useful in
+      let answer = ok-is (judge c s (ev.Release session j)) mine.accepted in
+      none session j (release-own c s session q current-maker j answer.0 answer.1) mine
+
+  module _ (reached : IsReached c s) (active : (k : ℕ) (j : JobId) → active_of c q k s ≡ Some j → NoActiveStep c s q session j) (begins : (j : JobId) → phase_is j s is_new ≡ true → is_in_window c s q j ≡ true → NoNewStep c s q session j) where
     no_active_step : (j : JobId) (is : IsActive c s q j) → NoStepOf c s q session j is.kept
     no_active_step j is =
         let place = among (is_active_job c s q) 0 s.jobs j.0 is.kept j (omega arith) is.there is.active in
@@ -75,8 +83,8 @@ module _ (c : Configuration) (s : State) (q : RequesterId) (session : SessionId)
     no_asked_step : (j : JobId) (is : IsAsked c s q j) → NoAskedStep c s q session j is.active.kept
     no_asked_step j is = let asked : is_asked is.active.kept.phase ≡ true = rw is.active.there at is.asked in (no_active_step j is.active).asked asked
 
-    no_new_step : (j : JobId) → IsToBegin c s q j → NoNewStep c s q session j
-    no_new_step j is = begins j is.within
+    no_new_step : (j : JobId) → IsNewInWindow c s q j → NoNewStep c s q session j
+    no_new_step j is = begins j is.new is.within
 
     -- no event of the kind is useful, if none that is accepted and whose row is true passes
     none_of : (kind : JobKind) → ((j : JobId) (what : Done) → judge c s (job_event kind session j) ≡ Ok what → row_holds c s (Requester q) (job_event kind session j) ≡ true → passes c s (Requester q) (job_event kind session j) ≡ false) → NoneOf c s (Requester q) (kind_of.Job kind)
@@ -89,19 +97,19 @@ module _ (c : Configuration) (s : State) (q : RequesterId) (session : SessionId)
         cc
 
     finish_fails : (j : JobId) (what : Done) → judge c s (ev.Finish session j) ≡ Ok what → passes c s (Requester q) (ev.Finish session j) ≡ false
-    finish_fails j what is = (no_active_step j (finish-active c s session q who j what is)).finish
+    finish_fails j what is = (no_active_step j (finish-active c s session q current-maker j what is)).finish
 
     take_fails : (j : JobId) (what : Done) → judge c s (ev.Take session j) ≡ Ok what → passes c s (Requester q) (ev.Take session j) ≡ false
-    take_fails j what is = (no_asked_step j (take-asked c s session q who j what is)).take
+    take_fails j what is = (no_asked_step j (take-asked c s session q current-maker j what is)).take
 
     acquire_fails : (j : JobId) (what : Done) → judge c s (ev.Acquire session j) ≡ Ok what → row_holds c s (Requester q) (ev.Acquire session j) ≡ true → passes c s (Requester q) (ev.Acquire session j) ≡ false
     acquire_fails j what is holds =
-        acquire-either c s session q who j what is holds
+        acquire-either c s session q current-maker j what is holds
         (λ asks. (no_asked_step j asks).acquire)
-        (λ begin. (no_new_step j begin).acquire begin.new)
+        (λ new. (no_new_step j new).acquire)
 
     submit_fails : (j : JobId) (what : Done) → judge c s (ev.Submit session j) ≡ Ok what → row_holds c s (Requester q) (ev.Submit session j) ≡ true → passes c s (Requester q) (ev.Submit session j) ≡ false
-    submit_fails j what is holds = let begin = submit-begins c s session q who j what is holds in (no_new_step j begin).submit begin.new
+    submit_fails j what is holds = (no_new_step j (submit-new c s session q current-maker j what is holds)).submit
 
     lock_fails : (k : ℕ) (j : JobId) → active_of c q k s ≡ Some j → (kept : JobRecord) → slice_get s.jobs j.0 ≡ Some kept → find (lock_passes c s q session) (nodes_awaited s kept) ≡ None
     lock_fails k j found kept there =
@@ -119,27 +127,13 @@ module _ (c : Configuration) (s : State) (q : RequesterId) (session : SessionId)
       ),
     )
 
--- ## the walks
+-- ## the walk over active jobs
 
 -- a job on which nothing was found has no such event
 pub no-step : (c : Configuration) (s : State) (q : RequesterId) (session : SessionId) (j : JobId) (o : Option Event) → is_some o ≡ false → ChoosesOfActive c s q session j o → NoActiveStep c s q session j
 no-step c s q session j None is none = none
 no-step c s q session j (Some e) is none = absurd cc
 
-pub no-new-step : (c : Configuration) (s : State) (q : RequesterId) (session : SessionId) (j : JobId) (o : Option Event) → is_some o ≡ false → ChoosesOfNew c s q session j o → NoNewStep c s q session j
-no-new-step c s q session j None is none = none
-no-new-step c s q session j (Some e) is none = absurd cc
-
 -- what holds of the job at a place holds of each job at that place
 pub same-job : (P : JobId → Type 0) (one other : JobId) (o : Option JobId) → o ≡ Some one → o ≡ Some other → P one → P other
 same-job P one other o first second is = let same : one ≡ other = (let told : Some one ≡ Some other = sym first ∙ second in cc) in subst P same is
-
-module _ (c : Configuration) (s : State) (q : RequesterId) (session : SessionId) where
-  if_new : (j : JobId) → (phase_is j s is_new ≡ true → NoNewStep c s q session j) → NoNewStep c s q session j
-  if_new j step = record { acquire = λ new. (step new).acquire new; submit = λ new. (step new).submit new }
-
-  -- if the walk has passed each new job in the window, no such job has such an event
-  pub window-passed : (at : ℕ) → ((k : ℕ) (j : JobId) → new_of c q k s ≡ Some j → is_in_window c s q j ≡ true → k < at) → ((k : ℕ) → k < at → (j : JobId) → new_of c q k s ≡ Some j → NoNewStep c s q session j) → (j : JobId) → is_in_window c s q j ≡ true → NoNewStep c s q session j
-  window-passed at ends passed j within = if_new j (λ new.
-      let place = new-place c s q j new within in
-      passed place.at (ends place.at j place.there within) j place.there)

@@ -1,6 +1,6 @@
 -- the jobs of a requester that are not over, by their place among them
 use Rattle.std.proofs.Common.{◌≡◌, ◌<◌, ◌≤◌, ℕ, zero, suc, ◌+◌, List, [], ◌∷◌, take, drop, refl, sym, ap, ◌∙◌, arith, Option, Some, None, Bool, true, false, cond}
-use Rattle.std.specs.Prelude.{slice_get, count_by, nat_lt, nat_le, if◌then◌else◌, ◌&&◌, ◌==◌, not}
+use Rattle.std.specs.Prelude.{slice_get, count_by, nat_lt, nat_le, if◌then◌else◌, not}
 use Rattle.std.specs.List.{zip}
 use Rattle.std.specs.Option.{option_map_or}
 use Rattle.std.proofs.lemmas.List.Sums.{sum_by-cons}
@@ -14,13 +14,11 @@ use Rattle.np_site.specs.declared.row.Job.{Job}
 use Rattle.np_record.specs.declared.record.JobRecord.{JobRecord}
 use Rattle.np_machine.specs.Kinds.{is_new, is_over}
 use Rattle.np_machine.specs.State.{State}
-use Rattle.np_look.specs.Readers.{is_unfinished_job, unfinished_from, is_new_job, new_of}
+use Rattle.np_look.specs.Readers.{is_unfinished_job, unfinished_from}
 use Rattle.np_roles.proofs.Among.{IsAmong, among, before-end}
-use Rattle.np_useful.specs.Rows.{job_is}
 use Rattle.np_useful.specs.Window.{is_unfinished, jobs_of, window_of, is_in_window}
-use Rattle.np_jobs.specs.Steps.{phase_is}
 use Rattle.np_jobs.proofs.ForLemmas.{and-first}
-use Rattle.np_jobs.proofs.Rising.{listed, apart, in-order}
+use Rattle.np_jobs.proofs.Rising.{apart, in-order}
 
 -- ## the configuration's rows from a number on
 
@@ -63,7 +61,8 @@ nothing_placed : {X : Type 0} (q : RequesterId) (i at : ℕ) → IsPlaced q [] i
 nothing_placed q zero at is = absurd (let no : false ≡ true = is.passes in cc)
 nothing_placed q (suc i) at is = absurd (let no : false ≡ true = is.passes in cc)
 
-counted : {X : Type 0} (p : X → Bool) (x : X) (xs : List X) (b : Bool) → p x ≡ b → count_by p (x ∷ xs) ≡ (if b then suc (count_by p xs) else count_by p xs)
+-- a list counts one more than what follows its first member, if that one passes
+pub counted : {X : Type 0} (p : X → Bool) (x : X) (xs : List X) (b : Bool) → p x ≡ b → count_by p (x ∷ xs) ≡ (if b then suc (count_by p xs) else count_by p xs)
 counted p x xs true is =
     let step : count_by p (x ∷ xs) ≡ cond (p x) 1 0 + count_by p xs = sum_by-cons (λ z. cond (p z) 1 0) x xs in
     let one : cond {A = ℕ} (p x) 1 0 ≡ 1 = rw is refl in
@@ -140,7 +139,7 @@ module _ (c : Configuration) (s : State) (q : RequesterId) where
       (pair.1, (rows.1, rw rows.0 passes))
 
   -- a job in the window is at a place of it
-  pub window-place : (j : JobId) → is_in_window c s q j ≡ true → (at : ℕ) × ((at < window_of c q) × (slice_get (unfinished_from c q 0 s.jobs) at ≡ Some j))
+  window-place : (j : JobId) → is_in_window c s q j ≡ true → (at : ℕ) × ((at < window_of c q) × (slice_get (unfinished_from c q 0 s.jobs) at ≡ Some j))
   window-place j is =
       let row = window_row j (slice_get (jobs_of c s) j.0) refl is in
       let place = among (is_unfinished_job c q) 0 s.jobs j.0 row.0 j (omega arith) row.1.0 row.1.1 in
@@ -193,41 +192,19 @@ module _ (c : Configuration) (s : State) (q : RequesterId) where
         let place = unfinished_place j (slice_get s.jobs j.0) refl own in
         in-window place.at j place.there ∙ by_place end found place.at place.there (nat_lt place.at (window_of c q)) refl
 
-  -- ## new jobs in the window
-
-  new_unfinished : (own : Bool) (p : Phase) → (own && is_new p) ≡ true → (own && not (is_over p)) ≡ true
-  new_unfinished true phase.New is = refl
-  new_unfinished true phase.Asked is = absurd cc
-  new_unfinished true phase.Using is = absurd cc
-  new_unfinished true phase.Over is = absurd cc
-  new_unfinished false p is = absurd cc
-
-  -- a job that comes before one in the window is in the window, if it is new
-  earlier-within : (at : ℕ) (x j : JobId) → new_of c q at s ≡ Some x → x.0 ≤ j.0 → is_in_window c s q j ≡ true → is_in_window c s q x ≡ true
-  earlier-within at x j found order within =
-      let is = listed (is_new_job c q) 0 s.jobs at x found in
-      let place = among (is_unfinished_job c q) 0 s.jobs is.place is.kept x is.number_is is.there (new_unfinished _ is.kept.phase is.passed) in
+  -- a job that is not over and comes before one in the window is in the window
+  pub earlier-within : (x j : JobId) → IsOpen x → x.0 ≤ j.0 → is_in_window c s q j ≡ true → is_in_window c s q x ≡ true
+  earlier-within x j stays order within =
+      let place = unfinished_place x (slice_get s.jobs x.0) refl stays in
       let later = window-place j within in
       let low : place.at ≤ later.0 = in-order (is_unfinished_job c q) 0 s.jobs place.at later.0 x j place.there later.1.1 order in
       let first : place.at < window_of c q = omega (arith, low, later.1.0) in
       let test : nat_lt place.at (window_of c q) ≡ true = grind (arith, nat_tests) in
       in-window place.at x place.there ∙ test
 
-  -- past a new job that is not in the window, no new job is in it
-  pub before-outside : (at k : ℕ) (x j : JobId) → new_of c q at s ≡ Some x → is_in_window c s q x ≡ false → new_of c q k s ≡ Some j → is_in_window c s q j ≡ true → k < at
-  before-outside at k x j here outside there within = by (nat_lt k at) refl where
-    by : (b : Bool) → nat_lt k at ≡ b → k < at
-    by true test = grind (arith, nat_tests)
-    by false test =
-        let past : at ≤ k = grind (arith, nat_tests) in
-        let order : x.0 + k ≤ j.0 + at = apart (is_new_job c q) 0 s.jobs at k x j past here there in
-        let inside : is_in_window c s q x ≡ true = earlier-within at x j here (omega (arith, past, order)) within in
-        absurd (let no : true ≡ false = sym inside ∙ outside in cc)
-
-  -- a new job in the window has a place among the new ones
-  pub new-place : (j : JobId) → phase_is j s is_new ≡ true → is_in_window c s q j ≡ true → IsAmong (is_new_job c q) 0 s.jobs j
-  new-place j new within =
-      let row = window_row j (slice_get (jobs_of c s) j.0) refl within in
-      let own : job_is j c (λ job. job.requester.0 == q.0) ≡ true = and-first _ (not (is_over row.0.phase)) row.1.1 in
-      let is : is_new row.0.phase ≡ true = rw row.1.0 at new in
-      among (is_new_job c q) 0 s.jobs j.0 row.0 j (omega arith) row.1.0 (rw (own, is) refl)
+-- a new job is not over
+pub new-open : (p : Phase) → is_new p ≡ true → not (is_over p) ≡ true
+new-open phase.New is = refl
+new-open phase.Asked is = absurd cc
+new-open phase.Using is = absurd cc
+new-open phase.Over is = absurd cc

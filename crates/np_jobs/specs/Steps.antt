@@ -57,10 +57,10 @@ pub record NoStepOf (c : Configuration) (s : State) (q : RequesterId) (session :
 abbrev pub NoActiveStep : Configuration → State → RequesterId → SessionId → JobId → Type 0
 NoActiveStep c s q session j = (kept : JobRecord) → slice_get s.jobs j.0 ≡ Some kept → NoStepOf c s q session j kept
 
--- if the job is new, the session's acquire and submit of it fail (own)
+-- the session's acquire and submit of the job fail (own)
 pub record NoNewStep (c : Configuration) (s : State) (q : RequesterId) (session : SessionId) (j : JobId) : Type 0 where
-  pub acquire : phase_is j s is_new ≡ true → passes c s (Requester q) (ev.Acquire session j) ≡ false
-  pub submit : phase_is j s is_new ≡ true → passes c s (Requester q) (ev.Submit session j) ≡ false
+  pub acquire : passes c s (Requester q) (ev.Acquire session j) ≡ false
+  pub submit : passes c s (Requester q) (ev.Submit session j) ≡ false
 
 -- a useful event, or no take, acquire and lock for the job with this record passes (own)
 abbrev pub ChoosesOfAsked : Configuration → State → RequesterId → SessionId → JobId → JobRecord → Option Event → Type 0
@@ -77,7 +77,7 @@ abbrev pub ChoosesOfActive : Configuration → State → RequesterId → Session
 ChoosesOfActive c s q session j None = NoActiveStep c s q session j
 ChoosesOfActive c s q session j (Some e) = IsUseful c s (Requester q) e
 
--- a useful event, or no acquire and submit of the new job passes (own)
+-- a useful event, or no acquire and submit of the job passes (own)
 abbrev pub ChoosesOfNew : Configuration → State → RequesterId → SessionId → JobId → Option Event → Type 0
 ChoosesOfNew c s q session j None = NoNewStep c s q session j
 ChoosesOfNew c s q session j (Some e) = IsUseful c s (Requester q) e
@@ -91,5 +91,5 @@ ChoosesActive c s q session (Some e) = IsUseful c s (Requester q) e
 
 -- a useful event, or no acquire and submit of a new job in the window passes (own)
 abbrev pub ChoosesInWindow : Configuration → State → RequesterId → SessionId → Option Event → Type 0
-ChoosesInWindow c s q session None = (j : JobId) → is_in_window c s q j ≡ true → NoNewStep c s q session j
+ChoosesInWindow c s q session None = (j : JobId) → phase_is j s is_new ≡ true → is_in_window c s q j ≡ true → NoNewStep c s q session j
 ChoosesInWindow c s q session (Some e) = IsUseful c s (Requester q) e

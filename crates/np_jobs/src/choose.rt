@@ -21,15 +21,17 @@ use np_text::{EndAs, RequesterId, Role};
 /// failed. The choice goes through the requester's active jobs up to the first on which, or on
 /// whose nodes, it finds a useful event: so it passes those that wait for a handle or for the lock
 /// of a node. For each it judges at most three events, and one or two for each node of the job.
-/// Then it judges one event for each handle that a job has. Then each of the requester's new jobs
-/// in the window costs two lookups, two more for the window test, and at most two judged events.
-/// Last it judges three events for each node in whose queue its session is. It stops at the first
-/// event that is useful. An event on a node costs a few lookups, however many requests there are,
-/// if the readers `active`, `new_job`, `unfinished` and `owner` are lookups, as with an index. So
-/// what grows the cost is the active jobs that wait for others, the nodes that they have, the
-/// handles, and the new jobs in the window that wait for semaphores, and not the requester's other
-/// jobs or all nodes. A job that waits for its nodes costs one judged event for each handle that it
-/// has, and else nothing.
+/// Then the release of a job's handles costs one lookup and at most one judged event. Then the
+/// reader `job_to_begin` names the first new job that need not wait for semaphores, and this job
+/// costs the window test, which is two lookups, and at most two judged events. Last it judges three
+/// events for each node in whose queue its session is. It stops at the first event that is useful.
+/// An event on a node costs a few lookups, however many requests there are, if the readers
+/// `active`, `job_to_release`, `unfinished` and `owner` are lookups, as with an index. With an
+/// index, `job_to_begin` costs a few lookups for each different list of semaphores that new jobs
+/// wait for. So what grows the cost is the active jobs that wait for others, the nodes that they
+/// have, the nodes in whose queues the session is, and these lists of semaphores, and not the
+/// requester's other jobs, the handles or all nodes. Jobs that wait for their nodes and new jobs
+/// that wait for semaphores cost nothing, whatever their number.
 pub fn choose_requester<L: Look>(look: &L, requester: RequesterId) -> Option<Event>
     requires there { is_role (L.site look.now) (Requester requester) ≡ true }
     requires reached { IsReached (L.site look.now) (L.state look.now) }
@@ -44,7 +46,7 @@ pub fn choose_requester<L: Look>(look: &L, requester: RequesterId) -> Option<Eve
     if found.is_some() {
         return found;
     }
-    let release = first_release(look, &rows, session);
+    let release = first_release(look, &rows, session, requester);
     if release.is_some() {
         return release;
     }

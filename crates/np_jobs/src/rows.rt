@@ -10,7 +10,7 @@ use crate::node::{is_for, is_idle, is_left_as};
 use crate::window::{is_in_window, is_to_acquire};
 use np_event::Event;
 use np_look::{Look, is_same_role};
-use np_roles::{Rows, has_some_handle, may_open};
+use np_roles::{Rows, may_open};
 use np_text::{JobId, RequesterId, Role};
 
 /// The rows of this requester.
@@ -25,7 +25,7 @@ fn has_handles<L: Look>(look: &L, id: JobId) -> bool
 {
     match look.config().job(id) {
         None => false,
-        Some(job) => has_some_handle(look, id, job),
+        Some(job) => look.has_handles(id, job),
     }
 }
 

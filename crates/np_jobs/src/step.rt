@@ -106,8 +106,7 @@ fn step_of_active<L: Look>(
     }
 }
 
-/// The first useful event of these on a job: acquire, submit. Only a new job has one. Of any other
-/// it costs one lookup.
+/// The first useful event of these on a job: acquire, submit. It judges at most two events.
 fn step_of_new<L: Look>(
     look: &L,
     rows: &RequesterRows,
@@ -120,21 +119,16 @@ fn step_of_new<L: Look>(
     ensures { ChoosesOfNew (L.site look.now) (L.state look.now) rows.now.requester session job
         result }
 {
-    let Some(kept) = look.job(job) else {
-        return None;
-    };
-    if kept.phase != Phase::New {
-        return None;
-    }
     let acquire = Event::Acquire { session, job };
     if passes(look, rows, acquire) {
         return Some(acquire);
     }
     let submit = Event::Submit { session, job };
     if passes(look, rows, submit) {
-        return Some(submit);
+        Some(submit)
+    } else {
+        None
     }
-    None
 }
 
 /// The first useful event on the requester's active jobs and their nodes, the first job first.
@@ -163,10 +157,12 @@ pub(crate) fn first_active_step<L: Look>(
     None
 }
 
-/// The first useful acquire or submit of the new jobs in the requester's window, the first job
-/// first. Each of them costs two lookups, the window test, which is two more, and at most two judged
-/// events, up to the first that is useful. The walk stops at the first new job past the window. A
-/// job that is not new costs nothing.
+/// A useful acquire or submit of a new job in the requester's window. Only a job that need not wait
+/// for semaphores has one, and the first of these jobs has one if it is in the window. So no other
+/// job is looked at: the cost is one call of the reader `job_to_begin`, the window test, which is
+/// two lookups, and at most two judged events. With an index, that reader costs a few lookups for
+/// each different list of semaphores that new jobs wait for, and these jobs cost nothing, whatever
+/// their number.
 pub(crate) fn first_step_in_window<L: Look>(
     look: &L,
     rows: &RequesterRows,
@@ -178,17 +174,11 @@ pub(crate) fn first_step_in_window<L: Look>(
     ensures { ChoosesInWindow (L.site look.now) (L.state look.now) rows.now.requester session
         result }
 {
-    for at in 0..look.jobs() {
-        let Some(job) = look.new_job(rows.requester, at) else {
-            return None;
-        };
-        if !is_in_window(look, rows.requester, job) {
-            return None;
-        }
-        let found = step_of_new(look, rows, session, job);
-        if found.is_some() {
-            return found;
-        }
+    let Some(job) = look.job_to_begin(rows.requester) else {
+        return None;
+    };
+    if !is_in_window(look, rows.requester, job) {
+        return None;
     }
-    None
+    step_of_new(look, rows, session, job)
 }
