@@ -112,10 +112,6 @@ impl Look for Board {
         self.machine.pending_requests(pool)
     }
 
-    fn pending_request_at(&self, pool: PoolId, at: u32) -> Option<RequestId> {
-        self.index().pending_request_at(pool, at)
-    }
-
     fn first_unheld_pending(&self, pool: PoolId) -> Option<RequestId> {
         self.index().first_unheld_pending(pool)
     }
@@ -244,8 +240,16 @@ impl Look for Board {
         self.index().active(requester, at)
     }
 
-    fn new_job(&self, requester: RequesterId, at: u32) -> Option<JobId> {
-        self.index().new_job(requester, at)
+    fn job_to_begin(&self, requester: RequesterId) -> Option<JobId> {
+        self.index().job_to_begin(self.config(), requester)
+    }
+
+    fn job_to_finish(&self, requester: RequesterId, at: u32) -> Option<JobId> {
+        self.index().job_to_finish(requester, at)
+    }
+
+    fn job_to_release(&self, requester: RequesterId, at: u32) -> Option<JobId> {
+        self.index().job_to_release(requester, at)
     }
 
     fn owner(&self, node: NodeId) -> Option<JobId> {
