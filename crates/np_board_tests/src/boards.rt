@@ -101,7 +101,6 @@ fn have_equal_groups(one: &Index, other: &Index) -> bool {
         && one.free_ready(pool, label, 0) == other.free_ready(pool, label, 0)
         && one.has_spent_min_ready(pool, label) == other.has_spent_min_ready(pool, label)
         && one.pending_requests(pool) == other.pending_requests(pool)
-        && one.pending_request_at(pool, 0) == other.pending_request_at(pool, 0)
         && one.first_unheld_pending(pool) == other.first_unheld_pending(pool)
         && one.has_request_under_way(pool) == other.has_request_under_way(pool)
         && one.first_due(pool, UnheldKind::Free) == other.first_due(pool, UnheldKind::Free)
@@ -118,15 +117,22 @@ fn have_equal_handles(one: &Index, other: &Index) -> bool {
         && one.has_handle(semaphore, job) == other.has_handle(semaphore, job)
 }
 
-// Both indexes have the same of the one pool's sessions and nodes, and of the requester's jobs.
+// Both indexes have the same next jobs of the requester.
+fn have_equal_jobs(config: &Config, one: &Index, other: &Index) -> bool {
+    let requester = RequesterId(0);
+    one.active(requester, 0) == other.active(requester, 0)
+        && one.job_to_begin(config, requester) == other.job_to_begin(config, requester)
+        && one.job_to_finish(requester, 0) == other.job_to_finish(requester, 0)
+        && one.job_to_release(requester, 0) == other.job_to_release(requester, 0)
+}
+
+// Both indexes have the same of the one pool's nodes, and of the sessions.
 fn have_equal_members(one: &Index, other: &Index) -> bool {
     let pool = PoolId(0);
     let requester = RequesterId(0);
     let left_over = UnheldKind::LeftOver;
     let hold = UnheldKind::Hold;
-    one.new_job(requester, 0) == other.new_job(requester, 0)
-        && one.active(requester, 0) == other.active(requester, 0)
-        && one.owner(NodeId(0)) == other.owner(NodeId(0))
+    one.owner(NodeId(0)) == other.owner(NodeId(0))
         && one.current_session(LAUNCHER) == other.current_session(LAUNCHER)
         && one.current_session(JANITOR) == other.current_session(JANITOR)
         && one.current_session(REQUESTER) == other.current_session(REQUESTER)
@@ -199,6 +205,7 @@ fn are_equal(board: &Board, one: &Index, other: &Index) -> bool
     have_equal_groups(one, other)
         && have_equal_handles(one, other)
         && have_equal_members(one, other)
+        && have_equal_jobs(board.config(), one, other)
         && have_equal_unfinished(one, other)
         && have_equal_queues(one, other)
         && have_equal_counts(board, one, other)
