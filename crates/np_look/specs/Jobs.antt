@@ -1,14 +1,16 @@
--- a requester's next jobs: those that can begin, that can be finished, and whose handles can be given back
-use Rattle.std.specs.Prelude.{ℕ, Bool, false, ◌==◌, ◌&&◌, ◌||◌, Option, is_none, slice_get}
+-- a requester's next jobs: those that can begin, that can take their nodes or acquire handles, that can be
+-- finished, and whose handles can be given back
+use Rattle.std.specs.Prelude.{ℕ, Bool, false, ◌==◌, ◌&&◌, ◌||◌, not, Option, is_none, length, slice_get}
 use Rattle.std.specs.Option.{option_map_or}
 use Rattle.std.specs.List.{list_any}
 use Rattle.np_text.specs.declared.id.JobId.{JobId}
 use Rattle.np_text.specs.declared.id.RequesterId.{RequesterId}
+use Rattle.np_text.specs.declared.word.Phase.{Phase}
 use Rattle.np_text.specs.declared.word.RequestState.{RequestState}
 use Rattle.np_record.specs.declared.record.JobRecord.{JobRecord}
 use Rattle.np_site.specs.Configuration.{Configuration}
 use Rattle.np_site.specs.declared.row.Job.{Job}
-use Rattle.np_machine.specs.Kinds.{is_asked, is_failed, is_new, is_over, is_using}
+use Rattle.np_machine.specs.Kinds.{is_asked, is_failed, is_fulfilled, is_new, is_over, is_using}
 use Rattle.np_machine.specs.Semaphore.{first_full}
 use Rattle.np_machine.specs.State.{State}
 use Rattle.np_machine.specs.Tables.{has_handle}
@@ -32,6 +34,37 @@ is_job_to_begin c s q j kept = is_own c q j (may_begin c s j) && is_new kept.pha
 -- the first of them
 abbrev pub job_to_begin : Configuration → RequesterId → State → Option JobId
 job_to_begin c q s = slice_get (jobs_from (is_job_to_begin c s q) 0 s.jobs) 0
+
+-- ## to take and to acquire
+
+-- a job in this phase was given its nodes: it has asked for them, and its request, which is in this state, is
+-- fulfilled (Nodepool: fulfilled)
+abbrev pub was_given : Phase → Option RequestState → Bool
+was_given phase state = is_asked phase && option_map_or is_fulfilled state false
+
+-- the job need not wait for handles: it has one, or no semaphores (Zuul: a job gets all its semaphores at once)
+abbrev pub is_supplied : State → JobId → Job → Bool
+is_supplied s j row = (length row.semaphores == 0) || list_any (has_handle j s.handles) row.semaphores
+
+-- a job of the requester that was given its nodes and need not wait for handles
+abbrev pub is_job_to_take : Configuration → State → RequesterId → JobId → JobRecord → Bool
+is_job_to_take c s q j kept = is_own c q j (is_supplied s j) && was_given kept.phase (request_state_of kept.request s)
+
+-- these jobs in order: the one at this place
+abbrev pub job_to_take : Configuration → RequesterId → ℕ → State → Option JobId
+job_to_take c q at s = slice_get (jobs_from (is_job_to_take c s q) 0 s.jobs) at
+
+-- the job waits for handles, and none of its semaphores is full
+abbrev pub may_acquire : Configuration → State → JobId → Job → Bool
+may_acquire c s j row = not (is_supplied s j row) && is_none (first_full c s j row)
+
+-- a job of the requester that was given its nodes, waits for handles and finds room in all its semaphores
+abbrev pub is_job_to_acquire : Configuration → State → RequesterId → JobId → JobRecord → Bool
+is_job_to_acquire c s q j kept = is_own c q j (may_acquire c s j) && was_given kept.phase (request_state_of kept.request s)
+
+-- the first of them
+abbrev pub job_to_acquire : Configuration → RequesterId → State → Option JobId
+job_to_acquire c q s = slice_get (jobs_from (is_job_to_acquire c s q) 0 s.jobs) 0
 
 -- ## to finish
 

@@ -1,3 +1,4 @@
 pub mod Views
 pub mod Readers
 pub mod Jobs
+pub mod Given

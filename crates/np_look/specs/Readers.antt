@@ -26,7 +26,7 @@ use Rattle.np_machine.specs.State.{State}
 use Rattle.np_machine.specs.Tables.{request_in, is_queued, holder}
 use Rattle.np_machine.specs.Count.{amount_of, amount_of_all, limit_of}
 use Rattle.np_machine.specs.Tenants.{limit_of_tenant, tenant_of_request, is_tenant, amount_of_node, rest_of_request, is_pending_of}
-use Rattle.np_machine.specs.Kinds.{is_asked, is_using, is_over, is_requested, is_fulfilled, is_failed}
+use Rattle.np_machine.specs.Kinds.{is_over, is_requested}
 use Rattle.np_machine.specs.Laws.{speaks_for}
 use Rattle.np_machine.specs.declared.state.SessionFacts.{SessionFacts}
 use Rattle.np_machine.specs.Reasons.{next_label, is_spare, ready_age, due_tick}
@@ -101,18 +101,6 @@ is_unfinished_job c q j kept = option_map_or (λ row. row.requester.0 == q.0) (s
 abbrev pub request_state_of : Option RequestId → State → Option RequestState
 request_state_of r s = option_map (λ request. request.state) (option_and_then (λ id. request_in id s.requests) r)
 
--- fulfilled or failed
-abbrev pub is_answered : RequestState → Bool
-is_answered state = is_fulfilled state || is_failed state
-
--- a job of the requester that uses its nodes, or has asked for them and whose request is answered,
--- by the request's state
-abbrev pub is_active_by : Configuration → RequesterId → JobId → JobRecord → Option RequestState → Bool
-is_active_by c q j kept state = option_map_or (λ row. row.requester.0 == q.0) (slice_get c.jobs j.0) false && (is_using kept.phase || (is_asked kept.phase && option_map_or is_answered state false))
-
-abbrev pub is_active_job : Configuration → State → RequesterId → JobId → JobRecord → Bool
-is_active_job c s q j kept = is_active_by c q j kept (request_state_of kept.request s)
-
 -- the jobs that pass among these, the first of which has this number
 abbrev pub jobs_from : (JobId → JobRecord → Bool) → ℕ → List JobRecord → List JobId
 jobs_from passes number [] = []
@@ -127,15 +115,6 @@ unfinished_from c q number jobs = jobs_from (is_unfinished_job c q) number jobs
 -- the jobs of the requester that are not over, in order: the one at this place
 abbrev pub unfinished_of : Configuration → RequesterId → ℕ → State → Option JobId
 unfinished_of c q at s = slice_get (unfinished_from c q 0 s.jobs) at
-
--- the jobs of the requester that use their nodes, or have asked for them and whose requests are
--- answered, in order
-abbrev pub active_jobs : Configuration → RequesterId → State → List JobId
-active_jobs c q s = jobs_from (is_active_job c s q) 0 s.jobs
-
--- the one at this place
-abbrev pub active_of : Configuration → RequesterId → ℕ → State → Option JobId
-active_of c q at s = slice_get (active_jobs c q s) at
 
 -- ## sessions
 

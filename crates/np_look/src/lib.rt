@@ -19,7 +19,7 @@ pub use count::{
 pub use look::Look;
 pub use tenant::{is_short_of, limited_tenant, rest_of, tenant_never_fits, tenant_of_job};
 pub use walk::{
-    asked_of, comes_before, declines_or_is, due_of, is_active_job, is_coming, is_declined_by,
-    is_free_ready, is_job_to_finish, is_live_of, is_marked, is_mute, is_open_to, is_requester,
-    is_same_role, is_spent_min_ready, speaks_for, unheld_kind,
+    asked_of, comes_before, declines_or_is, due_of, is_coming, is_declined_by, is_free_ready,
+    is_job_to_finish, is_live_of, is_marked, is_mute, is_open_to, is_requester, is_same_role,
+    is_spent_min_ready, speaks_for, unheld_kind, was_given,
 };

@@ -17,17 +17,18 @@ ghost use Rattle.np_fits.specs.Fits.{Fits};
 ghost use Rattle.np_changes.specs.Asked.{asked_of, new_record};
 ghost use Rattle.np_look.specs.Views.{request_view, node_view};
 ghost use Rattle.np_changes.specs.Readers.{owner_of};
-ghost use Rattle.np_look.specs.Jobs.{is_job_to_begin, is_job_to_release, job_to_begin, job_to_finish, job_to_release};
-ghost use Rattle.np_look.specs.Readers.{is_declined, undeclined_of, is_last_pool_of, free_ready_of, unfinished_of, active_of, request_state_of, first_mute, current_of, queued_requests, queued_nodes, pending_requests, first_unheld_pending, has_request_under_way, is_declined_by_all, first_declined_by_all, is_unclaimed, first_due};
+ghost use Rattle.np_look.specs.Jobs.{is_job_to_acquire, is_job_to_begin, is_job_to_release, is_job_to_take, is_supplied, job_to_acquire, job_to_begin, job_to_finish, job_to_release, job_to_take};
+ghost use Rattle.np_look.specs.Given.{given_to, is_given_to, node_to_leave, node_to_lock};
+ghost use Rattle.np_look.specs.Readers.{is_declined, undeclined_of, is_last_pool_of, free_ready_of, unfinished_of, request_state_of, first_mute, current_of, queued_requests, queued_nodes, pending_requests, first_unheld_pending, has_request_under_way, is_declined_by_all, first_declined_by_all, is_unclaimed, first_due};
 
 use crate::asked::{NodeView, RequestView, UnheldKind};
 use crate::count::{NOTHING, amount_at};
 use crate::tenant::{amount_for, is_short_of, limited_tenant, rest_for};
 use crate::walk::{
-    asked_of, declines_or_is, is_active_job, is_better, is_coming, is_declined_by, is_free_ready,
+    asked_of, declines_or_is, is_better, is_coming, is_declined_by, is_free_ready,
     is_job_to_finish, is_live_of, is_marked, is_mute, is_pending_by, is_requested,
     is_sooner_unheld, is_spare, is_spent_min_ready, is_under_way_by, is_unfinished_job,
-    is_unheld_pending, one_if, short_label, speaks_for,
+    is_unheld_pending, one_if, short_label, speaks_for, was_given,
 };
 use np_amount::Amount;
 use np_changes::Asked;
@@ -232,6 +233,73 @@ pub trait Look {
                     && (row.resources_first || self.first_full(id, row).is_none())
                     && kept.phase == Phase::New
             }
+        }
+    }
+
+    /// Whether the job need not wait for handles: it has one, or no semaphores. It asks `has_handle`
+    /// for each.
+    fn is_supplied(&self, id: JobId, job: &Job) -> bool
+        ensures { result ≡ is_supplied (state self.now) id job.now }
+    {
+        job.semaphores.items().is_empty() || self.has_handles(id, job)
+    }
+
+    /// Whether the job is the requester's, was given its nodes and need not wait for handles.
+    fn is_job_to_take(&self, requester: RequesterId, id: JobId, kept: &JobRecord) -> bool
+        ensures { result ≡
+            is_job_to_take (site self.now) (state self.now) requester id kept.now }
+    {
+        match self.config().job(id) {
+            None => false,
+            Some(row) => {
+                row.requester.0 == requester.0
+                    && self.is_supplied(id, row)
+                    && was_given(kept.phase, self.request_state(kept.request))
+            }
+        }
+    }
+
+    /// Whether the job is the requester's, was given its nodes, waits for handles and finds room in
+    /// all its semaphores.
+    fn is_job_to_acquire(&self, requester: RequesterId, id: JobId, kept: &JobRecord) -> bool
+        ensures { result ≡
+            is_job_to_acquire (site self.now) (state self.now) requester id kept.now }
+    {
+        match self.config().job(id) {
+            None => false,
+            Some(row) => {
+                row.requester.0 == requester.0
+                    && (!self.is_supplied(id, row) && self.first_full(id, row).is_none())
+                    && was_given(kept.phase, self.request_state(kept.request))
+            }
+        }
+    }
+
+    /// The requester to which the node with this record was given: the request that it is allocated
+    /// to is fulfilled, and its job, which is the requester's, has asked for it.
+    fn given_to(&self, kept: &NodeRecord) -> Option<RequesterId>
+        ensures { result ≡ given_to (site self.now) (state self.now) kept.now }
+    {
+        let asked = self.asked(kept.allocated_to?)?;
+        if asked.state != RequestState::Fulfilled {
+            return None;
+        }
+        let id = asked.job?;
+        let job = self.job(id)?;
+        if job.phase != Phase::Asked {
+            return None;
+        }
+        let row = self.config().job(id)?;
+        Some(row.requester)
+    }
+
+    /// Whether the node with this record was given to the requester.
+    fn is_given_to(&self, requester: RequesterId, kept: &NodeRecord) -> bool
+        ensures { result ≡ is_given_to (site self.now) (state self.now) requester kept.now }
+    {
+        match self.given_to(kept) {
+            None => false,
+            Some(other) => other.0 == requester.0,
         }
     }
 
@@ -558,25 +626,37 @@ pub trait Look {
         None
     }
 
-    /// The job at a place among those of the requester that use their nodes, or have asked for them
-    /// and whose request is fulfilled or failed, in order of their numbers. This body scans every job
-    /// up to that one.
-    fn active(&self, requester: RequesterId, at: u32) -> Option<JobId>
-        ensures { result ≡ active_of (site self.now) requester at (state self.now) }
+    /// The job at a place among those of the requester that were given their nodes and need not wait
+    /// for handles, in order of their numbers. This body scans every job up to that one.
+    fn job_to_take(&self, requester: RequesterId, at: u32) -> Option<JobId>
+        ensures { result ≡ job_to_take (site self.now) requester at (state self.now) }
     {
         let mut left = at;
         for number in 0..self.jobs() {
             let Some(kept) = self.job(JobId(number)) else {
                 return None;
             };
-            let state = self.request_state(kept.request);
-            if !is_active_job(self.config(), requester, JobId(number), &kept, state) {
+            if !self.is_job_to_take(requester, JobId(number), &kept) {
                 continue;
             }
             if left == 0 {
                 return Some(JobId(number));
             }
             left -= 1;
+        }
+        None
+    }
+
+    /// The first of the requester's jobs that was given its nodes, waits for handles and finds room
+    /// in all its semaphores. This body scans every job up to that one.
+    fn job_to_acquire(&self, requester: RequesterId) -> Option<JobId>
+        ensures { result ≡ job_to_acquire (site self.now) requester (state self.now) }
+    {
+        for number in 0..self.jobs() {
+            let kept = self.job(JobId(number))?;
+            if self.is_job_to_acquire(requester, JobId(number), &kept) {
+                return Some(JobId(number));
+            }
         }
         None
     }
@@ -632,6 +712,41 @@ pub trait Look {
             }
             if left == 0 {
                 return Some(JobId(number));
+            }
+            left -= 1;
+        }
+        None
+    }
+
+    /// The first node, by number, that was given to the requester and in whose queue the session is
+    /// not. This body scans the nodes up to that one.
+    fn node_to_lock(&self, requester: RequesterId, session: SessionId) -> Option<NodeId>
+        requires { Fits (site self.now) (state self.now) }
+        ensures { result ≡ node_to_lock (site self.now) requester session (state self.now) }
+    {
+        for at in 0..self.nodes() {
+            let view = self.node_view(at)?;
+            if self.is_given_to(requester, &view.kept) && !self.waits_at_node(session, view.id) {
+                return Some(view.id);
+            }
+        }
+        None
+    }
+
+    /// The node at a place among those in whose queues the session is and that were not given to the
+    /// requester, in order of their numbers. This body scans every node up to that one.
+    fn node_to_leave(&self, requester: RequesterId, session: SessionId, at: u32) -> Option<NodeId>
+        requires { Fits (site self.now) (state self.now) }
+        ensures { result ≡ node_to_leave (site self.now) requester session at (state self.now) }
+    {
+        let mut left = at;
+        for place in 0..self.nodes() {
+            let view = self.node_view(place)?;
+            if !self.waits_at_node(session, view.id) || self.is_given_to(requester, &view.kept) {
+                continue;
+            }
+            if left == 0 {
+                return Some(view.id);
             }
             left -= 1;
         }

@@ -6,8 +6,8 @@ ghost use Rattle.std.specs.Option.{option_map_or};
 ghost use Rattle.np_text.specs.declared.id.LabelId.{LabelId};
 ghost use Rattle.np_machine.specs.Count.{amount_of};
 ghost use Rattle.np_fits.specs.Fits.{AmountFits};
-ghost use Rattle.np_look.specs.Readers.{short_label, is_unfinished_job, is_answered, is_active_by, is_unheld, is_unheld_pending, is_under_way_by, unheld_kind, same_kind, is_unheld_by, due_after, due_of};
-ghost use Rattle.np_look.specs.Jobs.{is_job_to_finish_by};
+ghost use Rattle.np_look.specs.Readers.{short_label, is_unfinished_job, is_unheld, is_unheld_pending, is_under_way_by, unheld_kind, same_kind, is_unheld_by, due_after, due_of};
+ghost use Rattle.np_look.specs.Jobs.{is_job_to_finish_by, was_given};
 ghost use Rattle.np_machine.specs.Laws.{same_role, speaks_for};
 ghost use Rattle.np_machine.specs.Kinds.{is_requested, is_pending, is_failed, is_ready};
 ghost use Rattle.np_machine.specs.Tables.{is_marked};
@@ -363,32 +363,12 @@ pub fn is_unfinished_job(
     }
 }
 
-/// Whether the request's state is fulfilled or failed.
-fn is_answered(state: Option<RequestState>) -> bool
-    ensures { result ≡ option_map_or is_answered state false }
+/// Whether a job in this phase was given its nodes: it has asked for them, and its request, which
+/// is in this state, is fulfilled.
+pub fn was_given(phase: Phase, state: Option<RequestState>) -> bool
+    ensures { result ≡ was_given phase state }
 {
-    state == Some(RequestState::Fulfilled) || state == Some(RequestState::Failed)
-}
-
-/// Whether the job is the requester's and uses its nodes, or has asked for them and its request,
-/// which is in this state, is fulfilled or failed.
-pub fn is_active_job(
-    config: &Config,
-    requester: RequesterId,
-    job: JobId,
-    kept: &JobRecord,
-    state: Option<RequestState>,
-) -> bool
-    ensures { result ≡ is_active_by config.now requester job kept.now state }
-{
-    match config.job(job) {
-        None => false,
-        Some(row) => {
-            row.requester.0 == requester.0
-                && (kept.phase == Phase::Using
-                    || (kept.phase == Phase::Asked && is_answered(state)))
-        }
-    }
+    phase == Phase::Asked && state == Some(RequestState::Fulfilled)
 }
 
 /// Whether the job is the requester's and uses its nodes, or has asked for them and its request,
