@@ -237,8 +237,12 @@ impl<K: StateKeeper + Drop> Look for JournalKeeper<K> {
         self.keeper.unfinished(requester, at)
     }
 
-    fn active(&self, requester: RequesterId, at: u32) -> Option<JobId> {
-        self.keeper.active(requester, at)
+    fn job_to_take(&self, requester: RequesterId, at: u32) -> Option<JobId> {
+        self.keeper.job_to_take(requester, at)
+    }
+
+    fn job_to_acquire(&self, requester: RequesterId) -> Option<JobId> {
+        self.keeper.job_to_acquire(requester)
     }
 
     fn job_to_begin(&self, requester: RequesterId) -> Option<JobId> {
@@ -251,6 +255,14 @@ impl<K: StateKeeper + Drop> Look for JournalKeeper<K> {
 
     fn job_to_release(&self, requester: RequesterId, at: u32) -> Option<JobId> {
         self.keeper.job_to_release(requester, at)
+    }
+
+    fn node_to_lock(&self, requester: RequesterId, session: SessionId) -> Option<NodeId> {
+        self.keeper.node_to_lock(requester, session)
+    }
+
+    fn node_to_leave(&self, requester: RequesterId, session: SessionId, at: u32) -> Option<NodeId> {
+        self.keeper.node_to_leave(requester, session, at)
     }
 
     fn owner(&self, node: NodeId) -> Option<JobId> {
