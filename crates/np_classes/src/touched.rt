@@ -56,6 +56,14 @@ impl Touched {
     {
         self.requests.as_slice()
     }
+
+    /// The nodes whose records or queues may change, and those whose request goes away, for whatever
+    /// else is kept of them. It costs nothing.
+    pub fn nodes(&self) -> &[NodeId]
+        ensures { result.now ≡ self.now.nodes }
+    {
+        self.nodes.as_slice()
+    }
 }
 
 /// A node in no group.
