@@ -16,7 +16,7 @@ use Rattle.np_record.specs.declared.record.JobRecord.{JobRecord}
 use Rattle.np_site.specs.Configuration.{Configuration}
 use Rattle.np_site.specs.declared.row.Job.{Job}
 use Rattle.np_lists.proofs.ChangeLemmas.{kept-change_at}
-use Rattle.np_machine.specs.Kinds.{is_asked, is_failed, is_new, is_over, is_using}
+use Rattle.np_machine.specs.Kinds.{is_asked, is_failed, is_fulfilled, is_new, is_over, is_using}
 use Rattle.np_machine.specs.Node.{with_mark}
 use Rattle.np_machine.specs.State.{State}
 use Rattle.np_machine.specs.Tables.{has_handle}
@@ -33,13 +33,14 @@ use Rattle.np_safe.specs.Parts.{Invariant, JobIn}
 use Rattle.np_safe.proofs.JobsLater.{jobs-grown}
 use Rattle.np_safe.proofs.Lookups.{request_in-below}
 use Rattle.np_safe.proofs.Runs.{invariant-Runs}
-use Rattle.np_look.specs.Jobs.{is_own}
-use Rattle.np_look.specs.Readers.{is_answered, request_state_of}
-use Rattle.np_active.specs.Active.{JobKind, active_ones, asker_of, ending_ones, is_job_in, is_job_of, is_prompt, prompt_ones, releasing_ones, waiting_ones}
+use Rattle.np_look.specs.Jobs.{is_own, is_supplied, was_given}
+use Rattle.np_look.specs.Readers.{request_state_of}
+use Rattle.np_active.specs.Active.{JobKind, asker_of, ending_ones, is_job_in, is_job_of, is_prompt, lacking_ones, prompt_ones, releasing_ones, supplied_ones, waiting_ones}
 use Rattle.np_active.specs.Lines.{line_of}
 use Rattle.np_active.specs.Members.{job_put, job_releasing, job_taking}
 use Rattle.np_active.proofs.HandlesUntouched.{handle-untouched, is_of, releases, takes}
-use Rattle.np_active.proofs.RequestsUntouched.{OfAnswered, is_named, of-answered, of-failed, request-untouched}
+use Rattle.np_active.proofs.OwnJobs.{waits_in}
+use Rattle.np_active.proofs.RequestsUntouched.{OfAnswered, is_named, of-failed, of-fulfilled, request-untouched}
 use Rattle.np_active.proofs.Roles.{and_false}
 
 -- a put at another place
@@ -56,11 +57,12 @@ kind_in_row c s lines kind i row = option_map_or (λ kept. is_job_of c s lines k
 
 -- a mark leaves the phase and the request of a job
 mark-untouched : (c : Configuration) (t : State) (lines : List JobId) (kind : JobKind) (i : JobId) (n : NodeId) (kept : JobRecord) → is_job_of c t lines kind i (with_mark n kept) ≡ is_job_of c t lines kind i kept
-mark-untouched c t lines (active_ones q) i n kept = refl
+mark-untouched c t lines (supplied_ones q) i n kept = refl
 mark-untouched c t lines (prompt_ones q) i n kept = refl
 mark-untouched c t lines (waiting_ones q line) i n kept = refl
 mark-untouched c t lines (ending_ones q) i n kept = refl
 mark-untouched c t lines (releasing_ones q) i n kept = refl
+mark-untouched c t lines (lacking_ones q line) i n kept = refl
 
 rows-untouched : (c : Configuration) (t : State) (lines : List JobId) (change : JobsChange) (kind : JobKind) (i : JobId) (rows : List JobRecord) → is_named (job_put change) i ≡ false
     → kind_in_row c t lines kind i (slice_get (jobs_changed change rows) i.0) ≡ kind_in_row c t lines kind i (slice_get rows i.0)
@@ -96,8 +98,11 @@ module _ (c : Configuration) (ch : Changes) (s : State) (i : JobId) (old : is_na
   handles-untouched semaphores =
       any-alike (has_handle i (changed c ch s).handles) (has_handle i s.handles) (λ x. handle-untouched c x i ch s (not-taken ch.grows x old) (not-released ch.handles x kept)) semaphores
 
+  supplied-untouched : (row : Job) → is_supplied (changed c ch s) i row ≡ is_supplied s i row
+  supplied-untouched row = ap (λ (b : Bool). (length row.semaphores == 0) || b) (handles-untouched row.semaphores)
+
   prompt-untouched : (row : Job) → is_prompt (changed c ch s) i row ≡ is_prompt s i row
-  prompt-untouched row = ap (λ (b : Bool). row.resources_first || (length row.semaphores == 0) || b) (handles-untouched row.semaphores)
+  prompt-untouched row = ap (λ (b : Bool). row.resources_first || b) (supplied-untouched row)
 
 -- ## requests
 
@@ -112,17 +117,16 @@ module _ (c : Configuration) (ch : Changes) (s : State) (invariant : Invariant c
         ∙ request-untouched test of c ch s planned is.0.id is.0.request i is.0.stands is.0.names low out
         ∙ sym (ap (λ (r : Option RequestId). option_map_or test (request_state_of r s) false) is.0.asks)
 
-    -- by a state: a job of the requester that uses its nodes, or has asked for them and whose request passes
-    abbrev is_so : RequesterId → JobRecord → State → Bool
-    is_so q kept t = option_map_or (λ row. row.requester.0 == q.0) (slice_get c.jobs i.0) false && (is_using kept.phase || (is_asked kept.phase && option_map_or test (request_state_of kept.request t) false))
+    -- by a state: the job has asked for its nodes, and its request passes
+    abbrev is_asked_and : JobRecord → State → Bool
+    is_asked_and kept t = is_asked kept.phase && option_map_or test (request_state_of kept.request t) false
 
     -- what its request is matters for an asked job only
-    kept-untouched : (q : RequesterId) (kept : JobRecord) → slice_get s.jobs i.0 ≡ Some kept → is_named (asker_of ch.requests s) i ≡ false → is_so q kept (changed c ch s) ≡ is_so q kept s
-    kept-untouched q kept stands out = by kept.phase refl (invariant.jobs.each i kept stands) where
-      by : (p : Phase) → kept.phase ≡ p → JobIn s i kept p → is_so q kept (changed c ch s) ≡ is_so q kept s
+    asked-untouched : (kept : JobRecord) → slice_get s.jobs i.0 ≡ Some kept → is_named (asker_of ch.requests s) i ≡ false → is_asked_and kept (changed c ch s) ≡ is_asked_and kept s
+    asked-untouched kept stands out = by kept.phase refl (invariant.jobs.each i kept stands) where
+      by : (p : Phase) → kept.phase ≡ p → JobIn s i kept p → is_asked_and kept (changed c ch s) ≡ is_asked_and kept s
       by phase.New at is = rw at refl
-      by phase.Asked at is =
-          ap (λ (b : Bool). option_map_or (λ row. row.requester.0 == q.0) (slice_get c.jobs i.0) false && (is_using kept.phase || (is_asked kept.phase && b))) (answer-untouched kept out is)
+      by phase.Asked at is = ap (λ (b : Bool). is_asked kept.phase && b) (answer-untouched kept out is)
       by phase.Using at is = rw at refl
       by phase.Over at is = rw at refl
 
@@ -139,20 +143,36 @@ module _ (c : Configuration) (ch : Changes) (s : State) (lines : List JobId) (re
   invariant : Invariant c s
   invariant = invariant-Runs c reached.journal s reached.runs
 
+  -- a job that was given its nodes is one as before, by a test of its row that says the same
+  given-untouched : (q : RequesterId) (such also : Job → Bool) (kept : JobRecord) → slice_get s.jobs i.0 ≡ Some kept → ((row : Job) → such row ≡ also row)
+      → (is_own c q i such && was_given kept.phase (request_state_of kept.request (changed c ch s))) ≡ (is_own c q i also && was_given kept.phase (request_state_of kept.request s))
+  given-untouched q such also kept stands alike =
+      ap (λ (b : Bool). b && was_given kept.phase (request_state_of kept.request (changed c ch s))) (own-alike c q i such also alike)
+      ∙ ap (λ (b : Bool). is_own c q i also && b) (asked-untouched c ch s invariant planned i is_fulfilled of-fulfilled kept stands unnamed.asker)
+
+  waits-alike : (prompt also : JobId → Job → Bool) → ((row : Job) → prompt i row ≡ also i row) → (line : ℕ) (row : Job) → waits_in c lines prompt line i row ≡ waits_in c lines also line i row
+  waits-alike prompt also alike line row = ap (λ (b : Bool). not b && (line_of c lines i row == line)) (alike row)
+
   row-untouched : (kind : JobKind) (o : Option JobRecord) → slice_get s.jobs i.0 ≡ o → kind_in_row c (changed c ch s) lines kind i o ≡ kind_in_row c s lines kind i o
   row-untouched kind None none = refl
-  row-untouched (active_ones q) (Some kept) stands = kept-untouched c ch s invariant planned i is_answered of-answered q kept stands unnamed.asker
+  row-untouched (supplied_ones q) (Some kept) stands =
+      given-untouched q (is_supplied (changed c ch s) i) (is_supplied s i) kept stands (supplied-untouched c ch s i unnamed.taking unnamed.releasing)
   row-untouched (prompt_ones q) (Some kept) stands =
       ap (λ (b : Bool). is_new kept.phase && b) (own-alike c q i (is_prompt (changed c ch s) i) (is_prompt s i) (prompt-untouched c ch s i unnamed.taking unnamed.releasing))
   row-untouched (waiting_ones q line) (Some kept) stands =
       ap (λ (b : Bool). is_new kept.phase && b)
-      (own-alike c q i (λ row. not (is_prompt (changed c ch s) i row) && (line_of c lines i row == line)) (λ row. not (is_prompt s i row) && (line_of c lines i row == line))
-      (λ row. ap (λ (b : Bool). not b && (line_of c lines i row == line)) (prompt-untouched c ch s i unnamed.taking unnamed.releasing row)))
-  row-untouched (ending_ones q) (Some kept) stands = kept-untouched c ch s invariant planned i is_failed of-failed q kept stands unnamed.asker
+      (own-alike c q i (waits_in c lines (is_prompt (changed c ch s)) line i) (waits_in c lines (is_prompt s) line i)
+      (waits-alike (is_prompt (changed c ch s)) (is_prompt s) (prompt-untouched c ch s i unnamed.taking unnamed.releasing) line))
+  row-untouched (ending_ones q) (Some kept) stands =
+      ap (λ (b : Bool). option_map_or (λ row. row.requester.0 == q.0) (slice_get c.jobs i.0) false && (is_using kept.phase || b))
+      (asked-untouched c ch s invariant planned i is_failed of-failed kept stands unnamed.asker)
   row-untouched (releasing_ones q) (Some kept) stands =
       ap (λ (b : Bool). b && is_over kept.phase)
       (own-alike c q i (λ row. list_any (has_handle i (changed c ch s).handles) row.semaphores) (λ row. list_any (has_handle i s.handles) row.semaphores)
       (λ row. handles-untouched c ch s i unnamed.taking unnamed.releasing row.semaphores))
+  row-untouched (lacking_ones q line) (Some kept) stands =
+      given-untouched q (waits_in c lines (is_supplied (changed c ch s)) line i) (waits_in c lines (is_supplied s) line i) kept stands
+      (waits-alike (is_supplied (changed c ch s)) (is_supplied s) (supplied-untouched c ch s i unnamed.taking unnamed.releasing) line)
 
   -- it is of the kinds that it was of
   pub job-untouched : (kind : JobKind) → is_job_in c (changed c ch s) lines kind i ≡ is_job_in c s lines kind i

@@ -15,5 +15,10 @@ pub mod Noted
 pub mod HandleOrder
 pub mod HandlesUntouched
 pub mod Holders
-pub mod MayBegin
+pub mod OwnJobs
+pub mod Blocked
 pub mod BestLemmas
+pub mod Lined
+pub mod FirstFound
+pub mod BeginLemmas
+pub mod AcquireLemmas

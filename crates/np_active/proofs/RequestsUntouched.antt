@@ -11,7 +11,7 @@ use Rattle.np_record.specs.declared.record.RequestRecord.{RequestRecord}
 use Rattle.np_site.specs.Configuration.{Configuration}
 use Rattle.np_keys.specs.Keys.{same_job}
 use Rattle.np_machine.specs.Entries.{RequestEntry}
-use Rattle.np_machine.specs.Kinds.{is_failed, is_pending, is_requested}
+use Rattle.np_machine.specs.Kinds.{is_failed, is_fulfilled, is_pending, is_requested}
 use Rattle.np_machine.specs.State.{State}
 use Rattle.np_machine.specs.Tables.{request_in, same_request}
 use Rattle.np_changes.specs.Changes.{changed, edited, grown, requests_changed}
@@ -26,7 +26,6 @@ use Rattle.np_changes.specs.declared.changes.RequestsChange.TheVariants as reque
 use Rattle.np_changes.proofs.PremisesOf.{premises}
 use Rattle.np_safe.proofs.After.{calm-request, found-grown, left-request}
 use Rattle.np_safe.proofs.Lookups.{request_in-edit, request_in-remove, same_request-is}
-use Rattle.np_look.specs.Readers.{is_answered}
 use Rattle.np_active.specs.Active.{answers, asker_of, asker_of_request}
 
 -- ## who asks for a request that is answered or removed
@@ -59,8 +58,8 @@ pub record OfAnswered (test : RequestState → Bool) : Type 0 where
   pub requested : test request_state.Requested ≡ false
   pub pending : test request_state.Pending ≡ false
 
-pub of-answered : OfAnswered is_answered
-of-answered = record { requested = refl; pending = refl }
+pub of-fulfilled : OfAnswered is_fulfilled
+of-fulfilled = record { requested = refl; pending = refl }
 
 pub of-failed : OfAnswered is_failed
 of-failed = record { requested = refl; pending = refl }

@@ -1,24 +1,22 @@
--- the lines in which a requester's jobs wait, one after another
+-- lines in which jobs wait, one after another
 use Rattle.std.proofs.Common.{◌≡◌, ℕ, suc, ◌-◌, ◌^◌, ◌<◌, ◌≤◌, Bool, true, false, cond, List, [], ◌∷◌, Option, Some, None, not, refl, sym, ap, subst, arith}
-use Rattle.std.specs.Prelude.{◌==◌, ◌||◌, ◌&&◌, find, nat_lt}
+use Rattle.std.specs.Prelude.{◌==◌, ◌||◌, find, map, nat_lt, slice_get}
 use Rattle.std.specs.List.{AllByRecursion}
 use Rattle.std.specs.Option.{option_map, option_map_or}
 use Rattle.std.proofs.lemmas.Bool.Decides.{nat_tests}
 use Rattle.np_text.specs.declared.id.JobId.{JobId}
-use Rattle.np_text.specs.declared.id.RequesterId.{RequesterId}
 use Rattle.np_lists.specs.Rising.{NonePass, Rises}
 use Rattle.np_lists.proofs.Each.{all-weaker}
-use Rattle.np_lists.proofs.FilterLemmas.{list_any-none}
+use Rattle.np_lists.proofs.FilterLemmas.{filter-nothing}
 use Rattle.np_lists.proofs.FoundLemmas.{find-passes}
 use Rattle.np_lists.proofs.Halves.{none-find}
 use Rattle.np_groups.specs.declared.groups.Group.{Group}
 use Rattle.np_groups.specs.declared.groups.Member.{Member}
-use Rattle.np_groups.specs.Groups.{group_after, has_member, is_group_before, is_member_before, member, same_group, same_member}
+use Rattle.np_groups.specs.Groups.{group_after, is_group_before, is_member_before, same_group}
 use Rattle.np_groups.proofs.Order.{group-equal}
 use Rattle.np_groups.proofs.Walk.{IsLeast, least-found}
-use Rattle.np_keys.specs.Keys.{is_job_before, same_job}
-use Rattle.np_active.specs.Active.{waiting_group}
-use Rattle.np_active.specs.Begin.{first_line, line_after, line_if}
+use Rattle.np_keys.specs.Keys.{is_job_before}
+use Rattle.np_active.specs.Begin.{at_line, first_line, first_of_line, line_after, line_if}
 
 -- how far the next line is from the greatest number of a line; 0 if there is no next
 abbrev pub lines_left : Option ℕ → ℕ
@@ -28,12 +26,12 @@ find-alike : {X : Type 0} (p r : X → Bool) (xs : List X) → ((x : X) → p x 
 find-alike p r [] alike = refl
 find-alike p r (x ∷ xs) alike = rw (alike x, find-alike p r xs alike) refl
 
-module _ (q : RequesterId) where
+module _ (lines : Group) where
   -- ## groups of lines
 
   -- what is not before the group of a line
   abbrev is_from : ℕ → Group → Bool
-  is_from start g = not (is_group_before g (waiting_group q start))
+  is_from start g = not (is_group_before g (at_line lines start))
 
   -- an order by a number
   next-number : (x y : ℕ) (a b : Bool) → a ≡ not b → cond (y == x) a (nat_lt y x) ≡ not (cond (x == y) b (nat_lt x y))
@@ -43,27 +41,27 @@ module _ (q : RequesterId) where
   last-number line x = grind (arith, nat_tests)
 
   -- what comes after the group of a line is what is not before that of the next
-  after-is : (line : ℕ) (g : Group) → is_group_before (waiting_group q line) g ≡ is_from (suc line) g
-  after-is line g = next-number g.class 2 _ _ (next-number g.first q.0 _ _ (next-number g.second 0 _ _ (last-number line g.third)))
+  after-is : (line : ℕ) (g : Group) → is_group_before (at_line lines line) g ≡ is_from (suc line) g
+  after-is line g = next-number g.class lines.class _ _ (next-number g.first lines.first _ _ (next-number g.second lines.second _ _ (last-number line g.third)))
 
-  later-from : (start n : ℕ) → start ≤ n → is_from start (waiting_group q n) ≡ true
+  later-from : (start n : ℕ) → start ≤ n → is_from start (at_line lines n) ≡ true
   later-from start n low = grind (arith, nat_tests)
 
-  lower : (n m : ℕ) → n < m → is_group_before (waiting_group q n) (waiting_group q m) ≡ true
+  lower : (n m : ℕ) → n < m → is_group_before (at_line lines n) (at_line lines m) ≡ true
   lower n m less = grind (arith, nat_tests)
 
-  higher : (n m : ℕ) → is_group_before (waiting_group q n) (waiting_group q m) ≡ true → n < m
+  higher : (n m : ℕ) → is_group_before (at_line lines n) (at_line lines m) ≡ true → n < m
   higher n m first = grind (arith, nat_tests)
 
   -- what is not before the group of a line, and not that of a line, is after those of all later lines
-  beyond : (start n : ℕ) (g : Group) → is_from start g ≡ true → same_group (waiting_group q g.third) g ≡ false → start ≤ n → is_group_before (waiting_group q n) g ≡ true
+  beyond : (start n : ℕ) (g : Group) → is_from start g ≡ true → same_group (at_line lines g.third) g ≡ false → start ≤ n → is_group_before (at_line lines n) g ≡ true
   beyond start n g from out low = grind (arith, nat_tests)
 
   -- ## the first line from one on
 
   -- no job waits in the line
   abbrev pub IsEmpty : List (Member JobId) → ℕ → Type 0
-  IsEmpty ms line = (j : JobId) → has_member same_job (waiting_group q line) j ms ≡ false
+  IsEmpty ms line = first_of_line lines line ms ≡ None
 
   -- the least line from this one on in which a job waits, or none if none does
   abbrev pub IsLineFrom : List (Member JobId) → ℕ → Option ℕ → Type 0
@@ -71,19 +69,16 @@ module _ (q : RequesterId) where
   IsLineFrom ms start (Some line) = (n : ℕ) → start ≤ n → n < line → IsEmpty ms n
 
   -- a line is empty if no member is in its group
-  empty : (ms : List (Member JobId)) (n : ℕ) → AllByRecursion (λ m. same_group m.group (waiting_group q n) ≡ false) ms → IsEmpty ms n
-  empty ms n none j =
-      list_any-none (λ m. same_member same_job m (member (waiting_group q n) j)) ms
-      (all-weaker (λ (m : Member JobId). same_group m.group (waiting_group q n) ≡ false) (λ (m : Member JobId). same_member same_job m (member (waiting_group q n) j) ≡ false)
-      (λ m out. ap (λ (b : Bool). b && same_job m.id j) out) ms none)
+  empty : (ms : List (Member JobId)) (n : ℕ) → AllByRecursion (λ m. same_group m.group (at_line lines n) ≡ false) ms → IsEmpty ms n
+  empty ms n none = ap (λ (found : List (Member JobId)). slice_get (map (λ m. m.id) found) 0) (filter-nothing (λ m. same_group m.group (at_line lines n)) ms none)
 
   module _ (ms : List (Member JobId)) (start : ℕ) where
     -- a member of the line's group is one from the start on
-    outside : (n : ℕ) → start ≤ n → (g : Group) → (is_from start g ≡ true → g ≡ waiting_group q n → ⊥) → same_group g (waiting_group q n) ≡ false
-    outside n low g out = by (same_group g (waiting_group q n)) refl where
-      by : (b : Bool) → same_group g (waiting_group q n) ≡ b → b ≡ false
+    outside : (n : ℕ) → start ≤ n → (g : Group) → (is_from start g ≡ true → g ≡ at_line lines n → ⊥) → same_group g (at_line lines n) ≡ false
+    outside n low g out = by (same_group g (at_line lines n)) refl where
+      by : (b : Bool) → same_group g (at_line lines n) ≡ b → b ≡ false
       by true is =
-          let it : g ≡ waiting_group q n = group-equal g (waiting_group q n) is in
+          let it : g ≡ at_line lines n = group-equal g (at_line lines n) is in
           absurd (out (subst (λ (h : Group). is_from start h ≡ true) (sym it) (later-from start n low)) it)
       by false other = refl
 
@@ -91,69 +86,69 @@ module _ (q : RequesterId) where
     none-from : NonePass (λ (m : Member JobId). is_from start m.group) ms → (n : ℕ) → start ≤ n → IsEmpty ms n
     none-from none n low =
         empty ms n
-        (all-weaker (λ (m : Member JobId). is_from start m.group ≡ false) (λ (m : Member JobId). same_group m.group (waiting_group q n) ≡ false)
+        (all-weaker (λ (m : Member JobId). is_from start m.group ≡ false) (λ (m : Member JobId). same_group m.group (at_line lines n) ≡ false)
         (λ m fails. outside n low m.group (λ from is. absurd cc)) ms none)
 
     -- a line before the group of the first member from the start on is empty
     module _ (g : Group) (is : IsLeast (is_from start) ms g) where
-      none-before : (n : ℕ) → start ≤ n → is_group_before (waiting_group q n) g ≡ true → IsEmpty ms n
+      none-before : (n : ℕ) → start ≤ n → is_group_before (at_line lines n) g ≡ true → IsEmpty ms n
       none-before n low first =
           empty ms n
-          (all-weaker (λ (m : Member JobId). (not (is_from start m.group) || not (is_group_before m.group g)) ≡ true) (λ (m : Member JobId). same_group m.group (waiting_group q n) ≡ false)
+          (all-weaker (λ (m : Member JobId). (not (is_from start m.group) || not (is_group_before m.group g)) ≡ true) (λ (m : Member JobId). same_group m.group (at_line lines n) ≡ false)
           (λ m least. outside n low m.group (λ from it. by m.group least from (subst (λ (h : Group). is_group_before h g ≡ true) (sym it) first))) ms is.least)
         where
           by : (h : Group) → (not (is_from start h) || not (is_group_before h g)) ≡ true → is_from start h ≡ true → is_group_before h g ≡ true → ⊥
           by h least from before = absurd (let no : (not true || not true) ≡ true = rw (from, before) at least in cc)
 
-      first-there : IsLineFrom ms start (line_if q (Some g))
-      first-there = by (same_group (waiting_group q g.third) g) refl where
-        by : (b : Bool) → same_group (waiting_group q g.third) g ≡ b → IsLineFrom ms start (cond b (Some g.third) None)
-        by true here = λ n low high. none-before n low (subst (λ (h : Group). is_group_before (waiting_group q n) h ≡ true) (group-equal (waiting_group q g.third) g here) (lower n g.third high))
+      first-there : IsLineFrom ms start (line_if lines (Some g))
+      first-there = by (same_group (at_line lines g.third) g) refl where
+        by : (b : Bool) → same_group (at_line lines g.third) g ≡ b → IsLineFrom ms start (cond b (Some g.third) None)
+        by true here = λ n low high. none-before n low (subst (λ (h : Group). is_group_before (at_line lines n) h ≡ true) (group-equal (at_line lines g.third) g here) (lower n g.third high))
         by false out = λ n low. none-before n low (beyond start n g is.passes out low)
 
     -- by the first member from the start on
-    line-from : Rises (is_member_before is_job_before) ms → IsLineFrom ms start (line_if q (option_map (λ (m : Member JobId). m.group) (find (λ (m : Member JobId). is_from start m.group) ms)))
+    line-from : Rises (is_member_before is_job_before) ms → IsLineFrom ms start (line_if lines (option_map (λ (m : Member JobId). m.group) (find (λ (m : Member JobId). is_from start m.group) ms)))
     line-from rises = by (find (λ (m : Member JobId). is_from start m.group) ms) refl where
-      by : (o : Option (Member JobId)) → find (λ (m : Member JobId). is_from start m.group) ms ≡ o → IsLineFrom ms start (line_if q (option_map (λ (m : Member JobId). m.group) o))
+      by : (o : Option (Member JobId)) → find (λ (m : Member JobId). is_from start m.group) ms ≡ o → IsLineFrom ms start (line_if lines (option_map (λ (m : Member JobId). m.group) o))
       by None none = none-from (none-find (λ (m : Member JobId). is_from start m.group) ms none)
       by (Some m) found = first-there m.group (least-found is_job_before (is_from start) ms rises m.group (ap (option_map (λ (m : Member JobId). m.group)) found))
 
   module _ (ms : List (Member JobId)) (rises : Rises (is_member_before is_job_before) ms) where
     -- the first line is the least in which a job waits
-    pub first-line : IsLineFrom ms 0 (first_line q ms)
+    pub first-line : IsLineFrom ms 0 (first_line lines ms)
     first-line = line-from ms 0 rises
 
     -- and each next one is the least above
-    pub next-line : (line : ℕ) → IsLineFrom ms (suc line) (line_after q line ms)
+    pub next-line : (line : ℕ) → IsLineFrom ms (suc line) (line_after lines line ms)
     next-line line =
         subst (IsLineFrom ms (suc line))
-        (ap (λ (o : Option (Member JobId)). line_if q (option_map (λ (m : Member JobId). m.group) o))
-        (sym (find-alike (λ (m : Member JobId). is_group_before (waiting_group q line) m.group) (λ (m : Member JobId). is_from (suc line) m.group) ms (λ m. after-is line m.group))))
+        (ap (λ (o : Option (Member JobId)). line_if lines (option_map (λ (m : Member JobId). m.group) o))
+        (sym (find-alike (λ (m : Member JobId). is_group_before (at_line lines line) m.group) (λ (m : Member JobId). is_from (suc line) m.group) ms (λ m. after-is line m.group))))
         (line-from ms (suc line) rises)
 
   -- ## each next line is above, whatever the members
 
-  above : (line next : ℕ) (o : Option Group) → ((g : Group) → o ≡ Some g → is_group_before (waiting_group q line) g ≡ true) → line_if q o ≡ Some next → line < next
+  above : (line next : ℕ) (o : Option Group) → ((g : Group) → o ≡ Some g → is_group_before (at_line lines line) g ≡ true) → line_if lines o ≡ Some next → line < next
   above line next None after is = absurd cc
-  above line next (Some g) after is = by (same_group (waiting_group q g.third) g) refl is where
-    by : (b : Bool) → same_group (waiting_group q g.third) g ≡ b → cond b (Some g.third) None ≡ Some next → line < next
+  above line next (Some g) after is = by (same_group (at_line lines g.third) g) refl is where
+    by : (b : Bool) → same_group (at_line lines g.third) g ≡ b → cond b (Some g.third) None ≡ Some next → line < next
     by true here is =
         let number : g.third ≡ next = cc in
-        subst (λ (n : ℕ). line < n) number (higher line g.third (subst (λ (h : Group). is_group_before (waiting_group q line) h ≡ true) (sym (group-equal (waiting_group q g.third) g here)) (after g refl)))
+        subst (λ (n : ℕ). line < n) number (higher line g.third (subst (λ (h : Group). is_group_before (at_line lines line) h ≡ true) (sym (group-equal (at_line lines g.third) g here)) (after g refl)))
     by false out is = absurd cc
 
-  group-found : (line : ℕ) (o : Option (Member JobId)) (g : Group) → ((m : Member JobId) → o ≡ Some m → is_group_before (waiting_group q line) m.group ≡ true) → option_map (λ (m : Member JobId). m.group) o ≡ Some g → is_group_before (waiting_group q line) g ≡ true
+  group-found : (line : ℕ) (o : Option (Member JobId)) (g : Group) → ((m : Member JobId) → o ≡ Some m → is_group_before (at_line lines line) m.group ≡ true) → option_map (λ (m : Member JobId). m.group) o ≡ Some g → is_group_before (at_line lines line) g ≡ true
   group-found line None g after is = absurd cc
-  group-found line (Some m) g after is = let it : m.group ≡ g = cc in subst (λ (h : Group). is_group_before (waiting_group q line) h ≡ true) it (after m refl)
+  group-found line (Some m) g after is = let it : m.group ≡ g = cc in subst (λ (h : Group). is_group_before (at_line lines line) h ≡ true) it (after m refl)
 
-  next-above : (line next : ℕ) (ms : List (Member JobId)) → line_after q line ms ≡ Some next → line < next
+  next-above : (line next : ℕ) (ms : List (Member JobId)) → line_after lines line ms ≡ Some next → line < next
   next-above line next ms is =
-      above line next (group_after (waiting_group q line) ms)
-      (λ g found. group-found line (find (λ m. is_group_before (waiting_group q line) m.group) ms) g (λ m it. find-passes (λ (m : Member JobId). is_group_before (waiting_group q line) m.group) ms m it) found) is
+      above line next (group_after (at_line lines line) ms)
+      (λ g found. group-found line (find (λ m. is_group_before (at_line lines line) m.group) ms) g (λ m it. find-passes (λ (m : Member JobId). is_group_before (at_line lines line) m.group) ms m it) found) is
 
   -- so it is nearer to the greatest number of a line
-  pub lines-fall : (line : ℕ) (next now : Option ℕ) (ms : List (Member JobId)) → now ≡ Some line → next ≡ line_after q line ms → line < 2 ^ 64 → lines_left next < lines_left now
+  pub lines-fall : (line : ℕ) (next now : Option ℕ) (ms : List (Member JobId)) → now ≡ Some line → next ≡ line_after lines line ms → line < 2 ^ 64 → lines_left next < lines_left now
   lines-fall line next now ms here is small = rw here (by next is) where
-    by : (o : Option ℕ) → o ≡ line_after q line ms → lines_left o < 2 ^ 64 - line
+    by : (o : Option ℕ) → o ≡ line_after lines line ms → lines_left o < 2 ^ 64 - line
     by None none = omega arith
     by (Some other) found = let more : line < other = next-above line other ms (sym found) in omega arith

@@ -1,6 +1,6 @@
 -- the groups of jobs and of sessions, and what a state says of them
 use Rattle.std.specs.Prelude.{◌≡◌, ◌≤◌, ◌==◌, ◌&&◌, ◌||◌, ℕ, List, [], Bool, true, false, not, if◌then◌else◌, Option, Some, None, option_and_then, length, slice_get}
-use Rattle.std.specs.List.{AllByRecursion, list_any}
+use Rattle.std.specs.List.{AllByRecursion}
 use Rattle.std.specs.Option.{option_map_or}
 use Rattle.np_text.specs.declared.id.JobId.{JobId}
 use Rattle.np_text.specs.declared.id.RequestId.{RequestId}
@@ -31,15 +31,15 @@ use Rattle.np_changes.specs.declared.changes.RequestEdit.{RequestEdit}
 use Rattle.np_changes.specs.declared.changes.RequestEdit.TheVariants as edit
 use Rattle.np_changes.specs.declared.changes.RequestsChange.{RequestsChange}
 use Rattle.np_changes.specs.declared.changes.RequestsChange.TheVariants as requests
-use Rattle.np_look.specs.Jobs.{is_job_to_finish, is_job_to_release, is_own}
-use Rattle.np_look.specs.Readers.{is_active_job}
+use Rattle.np_look.specs.Jobs.{is_job_to_finish, is_job_to_release, is_job_to_take, is_own, is_supplied, was_given}
+use Rattle.np_look.specs.Readers.{request_state_of}
 use Rattle.np_active.specs.Lines.{line_of}
 
 -- ## groups (own)
 
--- the active jobs of the requester
-abbrev pub active_group : RequesterId → Group
-active_group q = record { class = 0; first = q.0; second = 0; third = 0 }
+-- the jobs of the requester to take: they were given their nodes and need not wait for handles
+abbrev pub supplied_group : RequesterId → Group
+supplied_group q = record { class = 0; first = q.0; second = 0; third = 0 }
 
 -- its new jobs that wait for no semaphore
 abbrev pub prompt_group : RequesterId → Group
@@ -57,26 +57,33 @@ ending_group q = record { class = 3; first = q.0; second = 0; third = 0 }
 abbrev pub releasing_group : RequesterId → Group
 releasing_group q = record { class = 4; first = q.0; second = 0; third = 0 }
 
+-- its jobs that were given their nodes and wait for handles in this line
+abbrev pub lacking_group : RequesterId → ℕ → Group
+lacking_group q line = record { class = 5; first = q.0; second = 0; third = line }
+
 -- a kind of jobs: a job can be of several
 pub data JobKind : Type 0 where
-  -- the active ones of the requester
-  active_ones : RequesterId → JobKind
+  -- the requester's ones to take
+  supplied_ones : RequesterId → JobKind
   -- its new ones that wait for no semaphore
   prompt_ones : RequesterId → JobKind
   -- its new ones that wait for semaphores in this line
   waiting_ones : RequesterId → ℕ → JobKind
-  -- its active ones to finish
+  -- its ones to finish
   ending_ones : RequesterId → JobKind
   -- its ones that are over and have handles
   releasing_ones : RequesterId → JobKind
+  -- its ones that were given their nodes and wait for handles in this line
+  lacking_ones : RequesterId → ℕ → JobKind
 
 -- the group of each kind
 abbrev pub job_group : JobKind → Group
-job_group (active_ones q) = active_group q
+job_group (supplied_ones q) = supplied_group q
 job_group (prompt_ones q) = prompt_group q
 job_group (waiting_ones q line) = waiting_group q line
 job_group (ending_ones q) = ending_group q
 job_group (releasing_ones q) = releasing_group q
+job_group (lacking_ones q line) = lacking_group q line
 
 -- the jobs that have a handle of the semaphore
 abbrev pub handle_group : SemId → Group
@@ -114,9 +121,10 @@ session_group (live_ones q) = live_group q
 
 -- ## what a state says
 
--- the job waits for no semaphore: it asks for its nodes first, has no semaphores, or has a handle already
+-- the job asks for its nodes without waiting for a semaphore: it asks for them first, has no semaphores, or
+-- has a handle already
 abbrev pub is_prompt : State → JobId → Job → Bool
-is_prompt s j row = row.resources_first || (length row.semaphores == 0) || list_any (has_handle j s.handles) row.semaphores
+is_prompt s j row = row.resources_first || is_supplied s j row
 
 -- a new job of the requester that waits for no semaphore
 abbrev pub is_prompt_job : Configuration → State → RequesterId → JobId → JobRecord → Bool
@@ -126,13 +134,19 @@ is_prompt_job c s q j kept = is_new kept.phase && is_own c q j (is_prompt s j)
 abbrev pub is_waiting_job : Configuration → State → List JobId → RequesterId → ℕ → JobId → JobRecord → Bool
 is_waiting_job c s lines q line j kept = is_new kept.phase && is_own c q j (λ row. not (is_prompt s j row) && (line_of c lines j row == line))
 
+-- a job of the requester that was given its nodes and waits for handles in this line
+abbrev pub is_lacking_job : Configuration → State → List JobId → RequesterId → ℕ → JobId → JobRecord → Bool
+is_lacking_job c s lines q line j kept =
+    is_own c q j (λ row. not (is_supplied s j row) && (line_of c lines j row == line)) && was_given kept.phase (request_state_of kept.request s)
+
 -- the job with this record is of the kind
 abbrev pub is_job_of : Configuration → State → List JobId → JobKind → JobId → JobRecord → Bool
-is_job_of c s lines (active_ones q) j kept = is_active_job c s q j kept
+is_job_of c s lines (supplied_ones q) j kept = is_job_to_take c s q j kept
 is_job_of c s lines (prompt_ones q) j kept = is_prompt_job c s q j kept
 is_job_of c s lines (waiting_ones q line) j kept = is_waiting_job c s lines q line j kept
 is_job_of c s lines (ending_ones q) j kept = is_job_to_finish c s q j kept
 is_job_of c s lines (releasing_ones q) j kept = is_job_to_release c s q j kept
+is_job_of c s lines (lacking_ones q line) j kept = is_lacking_job c s lines q line j kept
 
 -- the job is there, and of the kind
 abbrev pub is_job_in : Configuration → State → List JobId → JobKind → JobId → Bool
@@ -212,10 +226,10 @@ abbrev pub new_semaphores : Configuration → Growth → List SemId
 new_semaphores c (grow.Handles j) = semaphores_of c j
 new_semaphores c growth = []
 
--- there is room in five groups each for a job that asks, one whose record is put, one that takes handles and
+-- there is room in six groups each for a job that asks, one whose record is put, one that takes handles and
 -- one that gives them back, for a job's handles, and in three groups each for a session that begins and for
 -- one that is mute or over
 pub record HasRoom (c : Configuration) (changes : Changes) (active : ActiveOf) : Type 0 where
-  pub jobs : 20 ≤ active.job_room
+  pub jobs : 24 ≤ active.job_room
   pub handles : length (new_semaphores c changes.grows) ≤ active.handle_room
   pub sessions : 6 ≤ active.session_room

@@ -1,9 +1,9 @@
--- the first of a requester's jobs that may begin, by the groups
-use Rattle.std.specs.Prelude.{ℕ, List, Bool, true, false, ◌&&◌, ◌||◌, not, if◌then◌else◌, Option, Some, None, length, nat_le, option_and_then, slice_get}
+-- the first of a requester's jobs that may begin, and the first that may acquire its handles, by the groups: the
+-- search through lines is for both
+use Rattle.std.specs.Prelude.{◌≡◌, ◌<◌, ◌⊎◌, ℕ, List, Bool, true, false, ◌&&◌, ◌||◌, not, if◌then◌else◌, Option, Some, None, length, nat_le, option_and_then, slice_get}
 use Rattle.std.specs.List.{list_any}
 use Rattle.std.specs.Option.{option_map_or}
 use Rattle.np_text.specs.declared.id.JobId.{JobId}
-use Rattle.np_text.specs.declared.id.RequesterId.{RequesterId}
 use Rattle.np_text.specs.declared.id.SemId.{SemId}
 use Rattle.np_site.specs.Configuration.{Configuration}
 use Rattle.np_groups.specs.declared.groups.Group.{Group}
@@ -11,7 +11,7 @@ use Rattle.np_groups.specs.declared.groups.Member.{Member}
 use Rattle.np_groups.specs.Groups.{group_after, group_from, has_member, ids_in, same_group}
 use Rattle.np_keys.specs.Keys.{is_job_before, same_job}
 use Rattle.np_machine.specs.Semaphore.{max_of}
-use Rattle.np_active.specs.Active.{handle_group, waiting_group}
+use Rattle.np_active.specs.Active.{handle_group}
 
 -- ## one job
 
@@ -23,30 +23,60 @@ is_full_by c handles x = nat_le (max_of c x) (length (ids_in (handle_group x) ha
 abbrev pub blocks : Configuration → List (Member JobId) → JobId → SemId → Bool
 blocks c handles j x = is_full_by c handles x && not (has_member same_job (handle_group x) j handles)
 
+-- the job is there, and none of its semaphores blocks it
+abbrev pub is_free_by : Configuration → List (Member JobId) → JobId → Bool
+is_free_by c handles j = option_map_or (λ row. not (list_any (blocks c handles j) row.semaphores)) (slice_get c.jobs j.0) false
+
 -- the job asks for its nodes first, or none of its semaphores blocks it
 abbrev pub may_begin_by : Configuration → List (Member JobId) → JobId → Bool
 may_begin_by c handles j = option_map_or (λ row. row.resources_first || not (list_any (blocks c handles j) row.semaphores)) (slice_get c.jobs j.0) false
+
+-- ## lines, one after another
+
+-- the group of this line, where `lines` is the group of one of the same requester's, for the same purpose
+abbrev pub at_line : Group → ℕ → Group
+at_line lines line = record { class = lines.class; first = lines.first; second = lines.second; third = line }
+
+-- the line of the group, if it is one of these
+abbrev pub line_if : Group → Option Group → Option ℕ
+line_if lines found = option_and_then (λ g. if same_group (at_line lines g.third) g then Some g.third else None) found
+
+-- the first line in which a job waits
+abbrev pub first_line : Group → List (Member JobId) → Option ℕ
+first_line lines members = line_if lines (group_from (at_line lines 0) members)
+
+-- the first line after this one in which a job waits
+abbrev pub line_after : Group → ℕ → List (Member JobId) → Option ℕ
+line_after lines line members = line_if lines (group_after (at_line lines line) members)
+
+-- the first job that waits in the line
+abbrev pub first_of_line : Group → ℕ → List (Member JobId) → Option JobId
+first_of_line lines line members = slice_get (ids_in (at_line lines line) members) 0
+
+-- ## the earliest job of some lines
 
 -- the job comes before the best so far
 abbrev pub comes_first : Option JobId → JobId → Bool
 comes_first None j = true
 comes_first (Some best) j = is_job_before j best
 
--- the first job of a line, if it comes before the best so far and may begin, and otherwise the best so far
+-- the first job of a line, if it comes before the best so far and none of its semaphores blocks it, and
+-- otherwise the best so far
 abbrev pub earlier_job : Configuration → List (Member JobId) → Option JobId → Option JobId → Option JobId
 earlier_job c handles best None = best
-earlier_job c handles best (Some first) = if comes_first best first && may_begin_by c handles first then Some first else best
+earlier_job c handles best (Some first) = if comes_first best first && is_free_by c handles first then Some first else best
 
--- ## the lines in which a requester's jobs wait, one after another
+-- the search is past the line, where this one is the next; if there is none, it is past all
+abbrev pub IsPast : Option ℕ → ℕ → Type 0
+IsPast None line = Unit {0}
+IsPast (Some next) line = line < next
 
--- the line of the group, if it is one of the requester's jobs that wait
-abbrev pub line_if : RequesterId → Option Group → Option ℕ
-line_if q found = option_and_then (λ g. if same_group (waiting_group q g.third) g then Some g.third else None) found
-
--- the first line in which a job waits
-abbrev pub first_line : RequesterId → List (Member JobId) → Option ℕ
-first_line q members = line_if q (group_from (waiting_group q 0) members)
-
--- the first line after this one in which a job waits
-abbrev pub line_after : RequesterId → ℕ → List (Member JobId) → Option ℕ
-line_after q line members = line_if q (group_after (waiting_group q line) members)
+-- the best of these: the one that the search began with, if there is one, and of each line that it is past the
+-- first job, if none of its semaphores blocks it
+pub record IsBest (c : Configuration) (handles members : List (Member JobId)) (lines : Group) (old : Option JobId) (next : Option ℕ) (best : Option JobId) : Type 0 where
+  -- it is one of them
+  pub one : (b : JobId) → best ≡ Some b → (old ≡ Some b) ⊎ ((line : ℕ) × (first_of_line lines line members ≡ Some b) × (is_free_by c handles b ≡ true))
+  -- a job that does not come before the old one does not come before it
+  pub keeps : (i : JobId) → comes_first old i ≡ false → comes_first best i ≡ false
+  -- nor does the first job of one of these lines
+  pub leads : (line : ℕ) (i : JobId) → IsPast next line → first_of_line lines line members ≡ Some i → is_free_by c handles i ≡ true → comes_first best i ≡ false

@@ -1,5 +1,5 @@
--- in which line a job waits for its semaphores: the jobs of a line have the same semaphores, so either all
--- of them may begin or none
+-- in which line a job waits for its semaphores: the jobs of a line have the same semaphores and no handles,
+-- so a semaphore that is full blocks all of them
 use Rattle.std.specs.Prelude.{ℕ, List, Bool, false, ◌==◌, if◌then◌else◌, slice_get}
 use Rattle.std.specs.Cmp.Lexicographic.{pointwise}
 use Rattle.std.specs.Option.{option_map_or}

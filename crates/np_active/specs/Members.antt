@@ -24,7 +24,7 @@ use Rattle.np_changes.specs.declared.changes.JobsChange.{JobsChange}
 use Rattle.np_changes.specs.declared.changes.JobsChange.TheVariants as jobs
 use Rattle.np_changes.specs.declared.changes.SessionsChange.{SessionsChange}
 use Rattle.np_changes.specs.declared.changes.SessionsChange.TheVariants as sessions
-use Rattle.np_active.specs.Active.{JobKind, SessionKind, active_ones, ending_ones, handle_group, is_job_in, is_kind_in, job_group, live_ones, mute_ones, prompt_ones, releasing_ones, session_group, speakers, waiting_ones}
+use Rattle.np_active.specs.Active.{JobKind, SessionKind, ending_ones, handle_group, is_job_in, is_kind_in, job_group, lacking_ones, live_ones, mute_ones, prompt_ones, releasing_ones, session_group, speakers, supplied_ones, waiting_ones}
 use Rattle.np_active.specs.Lines.{line_of}
 
 -- ## one id
@@ -39,7 +39,7 @@ with_each before same group passes i these ms = fold (λ xs q. with_member_if be
 
 -- of which kinds a job of the requester and of this line can be
 abbrev pub job_kinds_of : RequesterId → ℕ → List JobKind
-job_kinds_of q line = active_ones q ∷ prompt_ones q ∷ waiting_ones q line ∷ ending_ones q ∷ releasing_ones q ∷ []
+job_kinds_of q line = supplied_ones q ∷ prompt_ones q ∷ waiting_ones q line ∷ ending_ones q ∷ releasing_ones q ∷ lacking_ones q line ∷ []
 
 -- of which kinds the job can be, if it is one
 abbrev pub kinds_of_job : Configuration → List JobId → JobId → List JobKind

@@ -7,12 +7,12 @@ ghost use Rattle.np_machine.specs.State.{State};
 ghost use Rattle.np_machine.specs.Tables.{handles_of, has_handle};
 ghost use Rattle.np_changes.specs.Changes.{changed};
 ghost use Rattle.np_changes.specs.Planned.{IsPlanned, IsReached};
-ghost use Rattle.np_look.specs.Jobs.{job_to_finish, job_to_release};
-ghost use Rattle.np_look.specs.Readers.{active_of, current_of, first_mute};
+ghost use Rattle.np_look.specs.Jobs.{job_to_finish, job_to_release, job_to_take};
+ghost use Rattle.np_look.specs.Readers.{current_of, first_mute};
 ghost use Rattle.np_active.specs.Active.{AreActive, HasRoom, asker_of};
 
 use crate::handles::{all_handles, handle_group, new_handles, put_new_handles, take_handles};
-use crate::jobs::{active_group, all_jobs, asker_of, ending_group, put_named, releasing_group};
+use crate::jobs::{all_jobs, asker_of, ending_group, put_named, releasing_group, supplied_group};
 use crate::lines::lines_of;
 use crate::members::{
     all_sessions, live_group, mute_group, put_changed_session, put_new_session, role_group,
@@ -25,10 +25,10 @@ use np_text::{JobId, RequesterId, Role, SemId, SessionId};
 use std::alloc::{AllocError, Global};
 use std::marker::Model;
 
-/// Which jobs of each requester are active, which are new and wait for semaphores or for none,
-/// which are to finish, which are over and have handles, which jobs have a handle of each
-/// semaphore, which sessions speak for each role, which live ones are mute, and which live ones
-/// each requester has.
+/// Which jobs of each requester are new and wait for semaphores or for none, which were given their
+/// nodes and wait for handles or for none, which are to finish, which are over and have handles,
+/// which jobs have a handle of each semaphore, which sessions speak for each role, which live ones
+/// are mute, and which live ones each requester has.
 #[derive(Drop)]
 pub struct Active {
     /// For each job the first of its requester that has the same semaphores.
@@ -57,7 +57,7 @@ impl Model for Active {
 impl Active {
     /// The groups of the state. For each job it finds the first of its requester that has the same
     /// semaphores, which costs the number of jobs times that of the different lists of semaphores
-    /// of a requester. Then it reads each job, each handle and each session once, with five binary
+    /// of a requester. Then it reads each job, each handle and each session once, with six binary
     /// searches for each job, one for each handle, and up to three for each session.
     pub fn rebuild<L: Look>(alloc: Global, look: &L) -> Result<Active, AllocError>
         requires { IsReached (L.site look.now) (L.state look.now) }
@@ -75,13 +75,14 @@ impl Active {
         })
     }
 
-    /// The job at a place among the requester's active jobs, in order of their numbers, counted
-    /// from 0; `None` if there are no more. One binary search.
-    pub fn job_at(&self, requester: RequesterId, at: u32) -> Option<JobId>
+    /// The job at a place among those of the requester that were given their nodes and need not
+    /// wait for handles, in order of their numbers, counted from 0; `None` if there are no more.
+    /// One binary search.
+    pub fn job_to_take(&self, requester: RequesterId, at: u32) -> Option<JobId>
         ensures { (c : Configuration) (s : State) → AreActive c s self.now
-            → result ≡ active_of c requester at s }
+            → result ≡ job_to_take c requester at s }
     {
-        self.jobs.at(active_group(requester), at as usize)
+        self.jobs.at(supplied_group(requester), at as usize)
     }
 
     /// The job at a place among those of the requester that use their nodes, or have asked for them
@@ -174,7 +175,7 @@ impl Active {
             asker ≡ asker_of changes.now.requests (L.state look.now)) }
         ensures room { OnOk result (HasRoom (L.site look.now) changes.now self.new) }
     {
-        self.jobs.reserve(20)?;
+        self.jobs.reserve(24)?;
         self.handles
             .reserve(new_handles(look.config(), &changes.grows))?;
         self.sessions.reserve(6)?;
@@ -183,10 +184,11 @@ impl Active {
 
     /// Puts the jobs and the sessions that the changes name, and the job that `prepare` returned,
     /// where they are now, after the state has changed. It takes no memory. It costs two lookups
-    /// and five binary searches for a job whose record is put, for one that takes handles or gives
+    /// and six binary searches for a job whose record is put, for one that takes handles or gives
     /// them back, and for the one that `prepare` returned, if there is one; a lookup more for each
-    /// semaphore of such a job that is new or over; a lookup and a binary search for each handle
-    /// that is taken or given back; and a lookup and up to three binary searches for a session.
+    /// semaphore of such a job that is new or over, or was given its nodes; a lookup and a binary
+    /// search for each handle that is taken or given back; and a lookup and up to three binary
+    /// searches for a session.
     pub fn note<L: Look>(&mut self, look: &L, changes: &Changes, asker: Option<JobId>)
         requires { HasRoom (L.site look.now) changes.now self.old }
         ensures { (c : Configuration) (s : State) → IsReached c s → IsPlanned c s changes.now

@@ -1,21 +1,26 @@
-//! The first of a requester's jobs that may begin, found by the groups.
+//! The first of a requester's jobs that may begin, and the first that may acquire its handles,
+//! found by the groups.
 
-ghost use Rattle.std.specs.Prelude.{◌≡◌, find, slice_get};
+ghost use Rattle.std.specs.Prelude.{◌≡◌, None, find};
 ghost use Rattle.std.specs.List.{list_any};
-ghost use Rattle.np_groups.specs.Groups.{ids_in};
+ghost use Rattle.np_lists.specs.Rising.{Rises};
+ghost use Rattle.np_groups.specs.Groups.{ids_in, is_member_before};
+ghost use Rattle.np_keys.specs.Keys.{is_job_before};
 ghost use Rattle.np_machine.specs.State.{State};
-ghost use Rattle.np_look.specs.Jobs.{job_to_begin};
-ghost use Rattle.np_active.specs.Active.{AreActive, prompt_group, waiting_group};
-ghost use Rattle.np_active.specs.Begin.{blocks, earlier_job, first_line, is_full_by, line_after, line_if, may_begin_by};
+ghost use Rattle.np_look.specs.Jobs.{job_to_acquire, job_to_begin};
+ghost use Rattle.np_active.specs.Active.{AreActive, prompt_group};
+ghost use Rattle.np_active.specs.Begin.{IsBest, at_line, blocks, earlier_job, first_line, first_of_line, is_free_by, is_full_by, line_after, line_if, may_begin_by};
 
 use crate::active::Active;
 use crate::handles::handle_group;
-use crate::jobs::{prompt_group, waiting_group};
+use crate::jobs::{lacking_group, prompt_group, waiting_group};
 use np_config::Config;
 use np_groups::{Group, Groups};
 use np_keys::ByJob;
 use np_site::Job;
 use np_text::{JobId, RequesterId, SemId};
+
+// ## one job
 
 /// Whether as many jobs have a handle of the semaphore as may. Two binary searches.
 fn is_full(config: &Config, handles: &Groups<ByJob>, semaphore: SemId) -> bool
@@ -44,6 +49,17 @@ fn is_blocked(config: &Config, handles: &Groups<ByJob>, job: JobId, row: &Job) -
         .items()
         .iter()
         .any(|x| blocks(config, handles, job, *x))
+}
+
+/// Whether there is such a job and none of its semaphores blocks it. Two binary searches for each
+/// semaphore, and a third for one that is full.
+fn is_free(config: &Config, handles: &Groups<ByJob>, job: JobId) -> bool
+    ensures { result ≡ is_free_by config.now handles.now.members job }
+{
+    match config.job(job) {
+        None => false,
+        Some(row) => !is_blocked(config, handles, job, row),
+    }
 }
 
 /// Whether the job asks for its nodes first, or none of its semaphores blocks it. Two binary
@@ -79,54 +95,92 @@ fn first_prompt(
     None
 }
 
-/// The line of the group, if it is one of the requester's jobs that wait.
-fn line_if(requester: RequesterId, found: Option<Group>) -> Option<u64>
-    ensures { result ≡ line_if requester found }
+// ## lines
+
+/// The group of this line, where `lines` is the group of one of the same requester's, for the same
+/// purpose.
+fn at_line(lines: Group, line: u64) -> Group
+    ensures { result ≡ at_line lines line }
+{
+    Group {
+        class: lines.class,
+        first: lines.first,
+        second: lines.second,
+        third: line,
+    }
+}
+
+/// The line of the group, if it is one of these.
+fn line_if(lines: Group, found: Option<Group>) -> Option<u64>
+    ensures { result ≡ line_if lines found }
 {
     let group = found?;
-    if group.class != 2 || group.first != requester.0 || group.second != 0 {
+    if at_line(lines, group.third) != group {
         return None;
     }
     Some(group.third)
 }
 
-/// The first line in which a job of the requester waits. One binary search.
-fn first_line(jobs: &Groups<ByJob>, requester: RequesterId) -> Option<u64>
-    ensures { result ≡ first_line requester jobs.now.members }
+/// The first line in which a job waits. One binary search.
+fn first_line(jobs: &Groups<ByJob>, lines: Group) -> Option<u64>
+    ensures { result ≡ first_line lines jobs.now.members }
 {
-    line_if(requester, jobs.group_from(waiting_group(requester, 0)))
+    line_if(lines, jobs.group_from(at_line(lines, 0)))
 }
 
-/// The first line after this one in which a job of the requester waits. One binary search.
-fn line_after(jobs: &Groups<ByJob>, requester: RequesterId, line: u64) -> Option<u64>
-    ensures { result ≡ line_after requester line jobs.now.members }
+/// The first line after this one in which a job waits. One binary search.
+fn line_after(jobs: &Groups<ByJob>, lines: Group, line: u64) -> Option<u64>
+    ensures { result ≡ line_after lines line jobs.now.members }
 {
-    line_if(requester, jobs.group_after(waiting_group(requester, line)))
+    line_if(lines, jobs.group_after(at_line(lines, line)))
 }
 
-/// The first job that waits in the line, if it comes before the best so far and may begin;
-/// otherwise the best so far. Those after it have the same semaphores, so they may begin only if it
-/// may. One binary search, and what `may_begin` costs if the job comes before the best so far.
+/// The first job that waits in the line, if it comes before the best so far and none of its
+/// semaphores blocks it; otherwise the best so far. Those after it have the same semaphores and no
+/// handles, so it speaks for all of them. One binary search, and what `is_free` costs if the job
+/// comes before the best so far.
 fn earlier_in_line(
     config: &Config,
     jobs: &Groups<ByJob>,
     handles: &Groups<ByJob>,
-    requester: RequesterId,
+    lines: Group,
     line: u64,
     best: Option<JobId>,
 ) -> Option<JobId>
     ensures { result ≡ earlier_job config.now handles.now.members best
-        (slice_get (ids_in (waiting_group requester line) jobs.now.members) 0) }
+        (first_of_line lines line jobs.now.members) }
 {
-    let Some(first) = jobs.at(waiting_group(requester, line), 0) else {
+    let Some(first) = jobs.at(at_line(lines, line), 0) else {
         return best;
     };
     let comes_first = match best {
         None => true,
         Some(other) => first.0 < other.0,
     };
-    if comes_first && may_begin(config, handles, first) {
+    if comes_first && is_free(config, handles, first) {
         return Some(first);
+    }
+    best
+}
+
+/// The earliest of these jobs: `old`, if it is one, and the first job of each line, if none of its
+/// semaphores blocks it. One binary search, two for each line in which a job waits, and what
+/// `is_free` costs for each first job that comes before the earliest so far.
+fn earliest(
+    config: &Config,
+    jobs: &Groups<ByJob>,
+    handles: &Groups<ByJob>,
+    lines: Group,
+    old: Option<JobId>,
+) -> Option<JobId>
+    ensures { Rises (is_member_before is_job_before) jobs.now.members
+        → IsBest config.now handles.now.members jobs.now.members lines old None result }
+{
+    let mut best = old;
+    let mut next = first_line(jobs, lines);
+    while let Some(line) = next {
+        best = earlier_in_line(config, jobs, handles, lines, line, best);
+        next = line_after(jobs, lines, line);
     }
     best
 }
@@ -141,14 +195,20 @@ impl Active {
         ensures { (s : State) → AreActive config.now s self.now
             → result ≡ job_to_begin config.now requester s }
     {
-        let jobs = &self.jobs;
-        let handles = &self.handles;
-        let mut best = first_prompt(config, jobs, handles, requester);
-        let mut next = first_line(jobs, requester);
-        while let Some(line) = next {
-            best = earlier_in_line(config, jobs, handles, requester, line, best);
-            next = line_after(jobs, requester, line);
-        }
-        best
+        let first = first_prompt(config, &self.jobs, &self.handles, requester);
+        let lines = waiting_group(requester, 0);
+        earliest(config, &self.jobs, &self.handles, lines, first)
+    }
+
+    /// The first of the requester's jobs that was given its nodes, waits for handles and finds room
+    /// in all its semaphores. It costs a few binary searches for each different list of semaphores
+    /// for which such jobs of the requester wait, and for each semaphore of such a list. It does
+    /// not grow with the number of jobs, except that binary searches do.
+    pub fn job_to_acquire(&self, config: &Config, requester: RequesterId) -> Option<JobId>
+        ensures { (s : State) → AreActive config.now s self.now
+            → result ≡ job_to_acquire config.now requester s }
+    {
+        let lines = lacking_group(requester, 0);
+        earliest(config, &self.jobs, &self.handles, lines, None)
     }
 }

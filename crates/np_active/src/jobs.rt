@@ -1,7 +1,7 @@
 //! Jobs put in their groups and taken out of them. Only making groups anew takes memory.
 
 ghost use Rattle.std.specs.Prelude.{◌≡◌, ◌+◌, ◌≤◌, IfOk, Some, slice_get};
-ghost use Rattle.np_active.specs.Active.{AreJobGroups, active_group, active_ones, answers, asker_of, ending_group, ending_ones, is_job_in, is_prompt, prompt_group, prompt_ones, releasing_group, releasing_ones, waiting_group, waiting_ones};
+ghost use Rattle.np_active.specs.Active.{AreJobGroups, answers, asker_of, ending_group, ending_ones, is_job_in, is_prompt, lacking_group, lacking_ones, prompt_group, prompt_ones, releasing_group, releasing_ones, supplied_group, supplied_ones, waiting_group, waiting_ones};
 ghost use Rattle.np_active.specs.Lines.{line_of};
 ghost use Rattle.np_active.specs.Members.{job_put, job_releasing, job_taking, with_if_any, with_job, with_named};
 
@@ -10,16 +10,16 @@ use crate::members::put_if;
 use np_changes::{Changes, Growth, HandlesChange, JobsChange, RequestEdit, RequestsChange};
 use np_groups::{Group, Groups};
 use np_keys::ByJob;
-use np_look::{Look, is_active_job, is_job_to_finish};
+use np_look::{Look, is_job_to_finish, was_given};
 use np_site::Job;
 use np_text::{JobId, Phase, RequesterId};
 use std::alloc::{AllocError, Global};
 
 // ## groups
 
-/// The active jobs of the requester.
-pub(crate) fn active_group(requester: RequesterId) -> Group
-    ensures { result ≡ active_group requester }
+/// The jobs of the requester to take: they were given their nodes and need not wait for handles.
+pub(crate) fn supplied_group(requester: RequesterId) -> Group
+    ensures { result ≡ supplied_group requester }
 {
     Group {
         class: 0,
@@ -77,32 +77,47 @@ pub(crate) fn releasing_group(requester: RequesterId) -> Group
     }
 }
 
+/// The jobs of the requester that were given their nodes and wait for handles in this line.
+pub(crate) fn lacking_group(requester: RequesterId, line: u64) -> Group
+    ensures { result ≡ lacking_group requester line }
+{
+    Group {
+        class: 5,
+        first: requester.0,
+        second: 0,
+        third: line,
+    }
+}
+
 // ## one job
 
-/// Whether the job waits for no semaphore: it asks for its nodes first, has no semaphores, or has a
-/// handle already. A lookup for each of its semaphores, and none if it asks for its nodes first.
+/// Whether the job asks for its nodes without waiting for a semaphore: it asks for them first, has
+/// no semaphores, or has a handle already. A lookup for each of its semaphores, and none if it asks
+/// for its nodes first.
 fn is_prompt<L: Look>(look: &L, job: JobId, row: &Job) -> bool
     ensures { result ≡ is_prompt (L.state look.now) job row.now }
 {
-    row.resources_first || row.semaphores.items().is_empty() || look.has_handles(job, row)
+    row.resources_first || look.is_supplied(job, row)
 }
 
 /// Of which kinds of its requester's jobs a job is; a job that is not there is of none.
 #[derive(Clone, Copy)]
 struct Kinds {
-    is_active: bool,
+    is_supplied: bool,
     is_prompt: bool,
     is_waiting: bool,
     is_ending: bool,
     is_releasing: bool,
+    is_lacking: bool,
 }
 
 /// Of which kinds of its requester's jobs the job with this row is. A lookup of the job and one of
-/// its request; if the job is new or over, also one for each of its semaphores.
+/// its request; if the job is new or over, or was given its nodes, also one for each of its
+/// semaphores.
 fn kinds_of<L: Look>(look: &L, lines: &[JobId], job: JobId, row: &Job) -> Kinds
     requires { slice_get (L.site look.now).jobs job.0 ≡ Some row.now }
-    ensures active { result.is_active ≡ is_job_in (L.site look.now) (L.state look.now) lines.now
-        (active_ones row.now.requester) job }
+    ensures supplied { result.is_supplied ≡ is_job_in (L.site look.now) (L.state look.now)
+        lines.now (supplied_ones row.now.requester) job }
     ensures prompt { result.is_prompt ≡ is_job_in (L.site look.now) (L.state look.now) lines.now
         (prompt_ones row.now.requester) job }
     ensures waiting { result.is_waiting ≡ is_job_in (L.site look.now) (L.state look.now) lines.now
@@ -111,14 +126,17 @@ fn kinds_of<L: Look>(look: &L, lines: &[JobId], job: JobId, row: &Job) -> Kinds
         (ending_ones row.now.requester) job }
     ensures releasing { result.is_releasing ≡ is_job_in (L.site look.now) (L.state look.now)
         lines.now (releasing_ones row.now.requester) job }
+    ensures lacking { result.is_lacking ≡ is_job_in (L.site look.now) (L.state look.now) lines.now
+        (lacking_ones row.now.requester (line_of (L.site look.now) lines.now job row.now)) job }
 {
     let Some(kept) = look.job(job) else {
         return Kinds {
-            is_active: false,
+            is_supplied: false,
             is_prompt: false,
             is_waiting: false,
             is_ending: false,
             is_releasing: false,
+            is_lacking: false,
         };
     };
     let config = look.config();
@@ -126,28 +144,31 @@ fn kinds_of<L: Look>(look: &L, lines: &[JobId], job: JobId, row: &Job) -> Kinds
     let state = look.request_state(kept.request);
     let is_new = kept.phase == Phase::New;
     let waits_for_none = is_new && is_prompt(look, job, row);
+    let was_given = was_given(kept.phase, state);
+    let is_supplied = was_given && look.is_supplied(job, row);
     Kinds {
-        is_active: is_active_job(config, requester, job, &kept, state),
+        is_supplied,
         is_prompt: waits_for_none,
         is_waiting: is_new && !waits_for_none,
         is_ending: is_job_to_finish(config, requester, job, &kept, state),
         is_releasing: kept.phase == Phase::Over && look.has_handles(job, row),
+        is_lacking: was_given && !is_supplied,
     }
 }
 
-/// Puts the job where the state has it. It costs what `kinds_of` does, and five binary searches.
+/// Puts the job where the state has it. It costs what `kinds_of` does, and six binary searches.
 fn put_job<L: Look>(groups: &mut Groups<ByJob>, look: &L, lines: &[JobId], job: JobId)
-    requires { 5 ≤ groups.old.room }
+    requires { 6 ≤ groups.old.room }
     ensures members { groups.new.members
         ≡ with_job (L.site look.now) (L.state look.now) lines.now job groups.old.members }
-    ensures room { groups.old.room ≤ groups.new.room + 5 }
+    ensures room { groups.old.room ≤ groups.new.room + 6 }
 {
     let config = look.config();
     if let Some(row) = config.job(job) {
         let requester = row.requester;
         let line = line_of(config, lines, job, row);
         let kinds = kinds_of(look, lines, job, row);
-        put_if(groups, active_group(requester), job, kinds.is_active);
+        put_if(groups, supplied_group(requester), job, kinds.is_supplied);
         put_if(groups, prompt_group(requester), job, kinds.is_prompt);
         put_if(
             groups,
@@ -157,6 +178,12 @@ fn put_job<L: Look>(groups: &mut Groups<ByJob>, look: &L, lines: &[JobId], job: 
         );
         put_if(groups, ending_group(requester), job, kinds.is_ending);
         put_if(groups, releasing_group(requester), job, kinds.is_releasing);
+        put_if(
+            groups,
+            lacking_group(requester, line),
+            job,
+            kinds.is_lacking,
+        );
     }
 }
 
@@ -171,7 +198,7 @@ pub(crate) fn all_jobs<L: Look>(
 {
     let mut groups = Groups::new(alloc);
     for number in 0..look.jobs() {
-        groups.reserve(5)?;
+        groups.reserve(6)?;
         put_job(&mut groups, look, lines, JobId(number));
     }
     Ok(groups)
@@ -207,10 +234,10 @@ pub(crate) fn asker_of<L: Look>(look: &L, change: &RequestsChange) -> Option<Job
 
 /// Puts the job, if there is one.
 fn put_if_any<L: Look>(groups: &mut Groups<ByJob>, look: &L, lines: &[JobId], job: Option<JobId>)
-    requires { 5 ≤ groups.old.room }
+    requires { 6 ≤ groups.old.room }
     ensures members { groups.new.members
         ≡ with_if_any (L.site look.now) (L.state look.now) lines.now groups.old.members job }
-    ensures room { groups.old.room ≤ groups.new.room + 5 }
+    ensures room { groups.old.room ≤ groups.new.room + 6 }
 {
     if let Some(job) = job {
         put_job(groups, look, lines, job);
@@ -256,7 +283,7 @@ pub(crate) fn put_named<L: Look>(
     asker: Option<JobId>,
     changes: &Changes,
 )
-    requires { 20 ≤ groups.old.room }
+    requires { 24 ≤ groups.old.room }
     ensures { groups.new.members ≡ with_named (L.site look.now) (L.state look.now) lines.now
         asker changes.now groups.old.members }
 {

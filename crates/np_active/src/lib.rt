@@ -1,14 +1,15 @@
 //! The jobs of each requester by what is next for them, the jobs that have a handle of each
 //! semaphore, the sessions that speak for each role, the live sessions that are mute, and the live
-//! sessions of each requester. A job is active if it uses its nodes, or has asked for them and its
-//! request is fulfilled or failed. A job to finish uses its nodes, or has asked for them and its
-//! request failed.
+//! sessions of each requester. A job was given its nodes if it has asked for them and its request
+//! is fulfilled. A job to take was given its nodes and need not wait for handles: it has one, or no
+//! semaphores. A job to finish uses its nodes, or has asked for them and its request failed.
 //!
 //! A new job waits for its semaphores unless it asks for its nodes first, has no semaphores or has
-//! its handles already. The jobs of a requester that wait for the same semaphores are in one line.
-//! They have no handles, so all of them may begin or none: only the first of a line is tested. The
-//! line of a job is the number of a job with the same semaphores, which is found once, from the
-//! configuration.
+//! its handles already. A job that was given its nodes waits for them unless it is one to take. The
+//! new jobs of a requester that wait for the same semaphores are in one line, and so are those that
+//! were given their nodes. They have no handles, so a semaphore that is full blocks all of a line:
+//! only the first is tested. The line of a job is the number of a job with the same semaphores,
+//! which is found once, from the configuration.
 //!
 //! `specs/Active` says which groups a job and a session are in, and when the members of all groups
 //! are those of a state; `specs/Lines` says which line a job is in. `Active` keeps them as each
@@ -23,7 +24,8 @@
 //! | reader | members of which group | binary searches |
 //! |---|---|---|
 //! | `job_to_begin` | the requester's new jobs that wait for no semaphore, and those that wait in each line | 4, 2 for each line, and up to 3 for each semaphore of a job that is tested |
-//! | `job_at` | the requester's active jobs | 1 |
+//! | `job_to_acquire` | the requester's jobs that were given their nodes and wait in each line | 1, 2 for each line, and up to 3 for each semaphore of a job that is tested |
+//! | `job_to_take` | the requester's jobs to take | 1 |
 //! | `job_to_finish` | the requester's jobs to finish | 1 |
 //! | `job_to_release` | the requester's jobs that are over and have handles | 1 |
 //! | `handles` | the jobs that have a handle of the semaphore | 2 |

@@ -1,0 +1,123 @@
+-- which jobs a full semaphore blocks: by the groups, by the state, and that of a line it blocks all
+use Rattle.std.proofs.Common.{◌≡◌, ◌∙◌, ℕ, Bool, true, false, cond, List, [], ◌∷◌, length, not, Option, Some, None, refl, sym, ap, subst, arith}
+use Rattle.std.specs.Prelude.{◌==◌, ◌&&◌, ◌||◌, find, is_none, nat_le, slice_get}
+use Rattle.std.specs.Bool.{Decides}
+use Rattle.std.specs.List.{list_any}
+use Rattle.std.specs.Option.{option_map_or}
+use Rattle.std.proofs.lemmas.Bool.{or_parts}
+use Rattle.std.proofs.lemmas.Bool.Decides.{nat_tests}
+use Rattle.std.proofs.lemmas.Slice.Eq.{slice_eq-Decides}
+use Rattle.np_text.specs.declared.id.JobId.{JobId}
+use Rattle.np_text.specs.declared.id.SemId.{SemId}
+use Rattle.np_site.specs.Configuration.{Configuration}
+use Rattle.np_site.specs.declared.row.Job.{Job}
+use Rattle.np_groups.specs.Groups.{has_member}
+use Rattle.np_keys.specs.Keys.{same_job}
+use Rattle.np_machine.specs.Semaphore.{first_full, is_full, max_of}
+use Rattle.np_machine.specs.State.{State}
+use Rattle.np_machine.specs.Tables.{has_handle}
+use Rattle.np_look.specs.Jobs.{is_supplied, may_begin}
+use Rattle.np_active.specs.Active.{ActiveOf, AreActive, handle_group}
+use Rattle.np_active.specs.Begin.{blocks, is_free_by, is_full_by, may_begin_by}
+use Rattle.np_active.specs.Lines.{is_like, line_of, same_semaphores}
+use Rattle.np_active.proofs.Holders.{handles-grouped, same-id}
+use Rattle.np_active.proofs.JobsUntouched.{any-alike}
+use Rattle.np_active.proofs.OwnJobs.{and_turned}
+
+-- none is found if none passes
+none-any : {X : Type 0} (p : X → Bool) (xs : List X) → is_none (find p xs) ≡ not (list_any p xs)
+none-any p [] = refl
+none-any p (x ∷ xs) = by (p x) (none-any p xs) where
+  by : (b : Bool) → is_none (find p xs) ≡ not (list_any p xs) → is_none (cond b (Some x) (find p xs)) ≡ not (b || list_any p xs)
+  by true later = refl
+  by false later = later
+
+-- ## by the groups and by the state
+
+module _ (c : Configuration) (s : State) (active : ActiveOf) (are : AreActive c s active) where
+  full-is : (x : SemId) → is_full_by c active.handles x ≡ is_full c s x
+  full-is x = ap (λ (jobs : List JobId). nat_le (max_of c x) (length jobs)) (handles-grouped c s x active.handles are.handles)
+
+  blocks-is : (j : JobId) (x : SemId) → blocks c active.handles j x ≡ (not (has_handle j s.handles x) && is_full c s x)
+  blocks-is j x =
+      ap (λ (b : Bool). b && not (has_member same_job (handle_group x) j active.handles)) (full-is x)
+      ∙ ap (λ (b : Bool). is_full c s x && not b) (are.handles.groups.each x j)
+      ∙ and_turned (is_full c s x) (not (has_handle j s.handles x))
+
+  unblocked-is : (j : JobId) (row : Job) → not (list_any (blocks c active.handles j) row.semaphores) ≡ is_none (first_full c s j row)
+  unblocked-is j row =
+      ap not (any-alike (blocks c active.handles j) (λ x. not (has_handle j s.handles x) && is_full c s x) (blocks-is j) row.semaphores)
+      ∙ sym (none-any (λ x. not (has_handle j s.handles x) && is_full c s x) row.semaphores)
+
+  module _ (j : JobId) (row : Job) (is : slice_get c.jobs j.0 ≡ Some row) where
+    pub free-is : is_free_by c active.handles j ≡ is_none (first_full c s j row)
+    free-is = ap (λ (o : Option Job). option_map_or (λ r. not (list_any (blocks c active.handles j) r.semaphores)) o false) is ∙ unblocked-is j row
+
+    pub may-is : may_begin_by c active.handles j ≡ may_begin c s j row
+    may-is =
+        ap (λ (o : Option Job). option_map_or (λ r. r.resources_first || not (list_any (blocks c active.handles j) r.semaphores)) o false) is
+        ∙ ap (λ (b : Bool). row.resources_first || b) (unblocked-is j row)
+
+-- ## the jobs of a line
+
+module _ (c : Configuration) (s : State) (j : JobId) (row : Job) (lacks : is_supplied s j row ≡ false) where
+  -- of the semaphores of a job that has no handle, none is found if none is full
+  free-any : (xs : List SemId) → list_any (has_handle j s.handles) xs ≡ false → is_none (find (λ x. not (has_handle j s.handles x) && is_full c s x) xs) ≡ not (list_any (is_full c s) xs)
+  free-any [] none = refl
+  free-any (x ∷ xs) none =
+      let parts = or_parts (has_handle j s.handles x) (list_any (has_handle j s.handles) xs) none in
+      by (has_handle j s.handles x) parts.0 (is_full c s x) (free-any xs parts.1)
+    where
+      by : (h : Bool) → h ≡ false → (f : Bool) → is_none (find (λ y. not (has_handle j s.handles y) && is_full c s y) xs) ≡ not (list_any (is_full c s) xs)
+          → is_none (cond (not h && f) (Some x) (find (λ y. not (has_handle j s.handles y) && is_full c s y) xs)) ≡ not (f || list_any (is_full c s) xs)
+      by true is f later = absurd cc
+      by false is true later = refl
+      by false is false later = later
+
+  lacks-any : is_none (first_full c s j row) ≡ not (list_any (is_full c s) row.semaphores)
+  lacks-any = let parts = or_parts (length row.semaphores == 0) (list_any (has_handle j s.handles) row.semaphores) lacks in free-any row.semaphores parts.1
+
+semaphore-decides : (a b : SemId) → Decides (a.0 == b.0) (a ≡ b)
+semaphore-decides a b = (λ is. same-id a b is, λ is. same (ap (λ (x : SemId). x.0) is)) where
+  same : a.0 ≡ b.0 → (a.0 == b.0) ≡ true
+  same is = grind (arith, nat_tests)
+
+-- the job with the number of a line has the semaphores of those that wait there
+line-row : (c : Configuration) (lines : List JobId) (j : JobId) (row : Job) (line : ℕ) → slice_get c.jobs j.0 ≡ Some row → line_of c lines j row ≡ line → (other : Job) × (slice_get c.jobs line ≡ Some other) × (other.semaphores ≡ row.semaphores)
+line-row c lines j row line is of = by (slice_get lines j.0) of where
+  itself : j.0 ≡ line → (other : Job) × (slice_get c.jobs line ≡ Some other) × (other.semaphores ≡ row.semaphores)
+  itself number = (row, subst (λ (n : ℕ). slice_get c.jobs n ≡ Some row) number is, refl)
+
+  by_first : (first : JobId) → (o : Option Job) → slice_get c.jobs first.0 ≡ o → (b : Bool) → option_map_or (λ other. same_semaphores other.semaphores row.semaphores) o false ≡ b → cond b first.0 j.0 ≡ line
+      → (other : Job) × (slice_get c.jobs line ≡ Some other) × (other.semaphores ≡ row.semaphores)
+  by_first first None there true like number = absurd cc
+  by_first first (Some other) there true like number =
+      (other, subst (λ (n : ℕ). slice_get c.jobs n ≡ Some other) number there, (slice_eq-Decides semaphore-decides other.semaphores row.semaphores (same_semaphores other.semaphores row.semaphores) refl).0 like)
+  by_first first o there false like number = itself number
+
+  by : (o : Option JobId) → option_map_or (λ first. cond (is_like c row first) first.0 j.0) o j.0 ≡ line → (other : Job) × (slice_get c.jobs line ≡ Some other) × (other.semaphores ≡ row.semaphores)
+  by None number = itself number
+  by (Some first) number = by_first first (slice_get c.jobs first.0) refl (is_like c row first) refl number
+
+-- the job waits for handles in this line, by its row
+pub record IsInLine (c : Configuration) (s : State) (lines : List JobId) (line : ℕ) (j : JobId) : Type 0 where
+  pub row : Job
+  pub of_site : slice_get c.jobs j.0 ≡ Some row
+  pub lacks : is_supplied s j row ≡ false
+  pub number : line_of c lines j row ≡ line
+
+module _ (c : Configuration) (s : State) (active : ActiveOf) (are : AreActive c s active) (line : ℕ) where
+  -- none of its semaphores blocks it if none of those of the job with the number of the line is full
+  line-free : (j : JobId) → IsInLine c s active.lines line j → (other : Job) × (slice_get c.jobs line ≡ Some other) × (is_free_by c active.handles j ≡ not (list_any (is_full c s) other.semaphores))
+  line-free j is =
+      let of = line-row c active.lines j is.row line is.of_site is.number in
+      (of.0, of.1, free-is c s active are j is.row is.of_site ∙ lacks-any c s j is.row is.lacks ∙ ap (λ (xs : List SemId). not (list_any (is_full c s) xs)) (sym of.2))
+
+  -- so a semaphore that is full blocks all jobs of a line
+  pub line-alike : (j i : JobId) → IsInLine c s active.lines line j → IsInLine c s active.lines line i → is_free_by c active.handles j ≡ is_free_by c active.handles i
+  line-alike j i is also =
+      let one = line-free j is in
+      let two = line-free i also in
+      let found : Some one.0 ≡ Some two.0 = sym one.1 ∙ two.1 in
+      let same : one.0 ≡ two.0 = cc in
+      one.2 ∙ ap (λ (row : Job). not (list_any (is_full c s) row.semaphores)) same ∙ sym two.2

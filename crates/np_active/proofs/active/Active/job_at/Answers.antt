@@ -1,8 +1,0 @@
-use Rattle.std.proofs.Common.{◌∙◌, ap}
-use Rattle.np_active.specs.Active.{active_ones}
-use Rattle.np_active.proofs.Readers.{job-at}
-use Rattle.np_active.proofs.active.Active.job_at.Goals as goal
-
-pub returns : goal.returns
-returns c site state are =
-    c.at.ensures ∙ job-at site state c.args.self.now are (active_ones c.args.requester) c.active_group.result c.active_group.ensures _ (ap (λ (x : _). x.jobs) c.self.view_is) c.args.at

@@ -1,0 +1,12 @@
+use Rattle.np_lists.specs.Rising.{Rises}
+use Rattle.np_groups.specs.Groups.{is_member_before}
+use Rattle.np_keys.specs.Keys.{is_job_before}
+use Rattle.np_active.specs.Begin.{IsBest}
+use Rattle.np_active.proofs.WaitingLemmas.{lines_left}
+use Rattle.np_active.proofs.begin.earliest.Given as goal
+
+abbrev pub invariant-loop-next : goal.invariant-loop-next
+invariant-loop-next l = Rises (is_member_before is_job_before) l.jobs.members → IsBest l.config l.handles.members l.jobs.members l.lines l.fn.old l.next l.best
+
+abbrev pub decreases-loop-next : goal.decreases-loop-next
+decreases-loop-next l = lines_left l.next
