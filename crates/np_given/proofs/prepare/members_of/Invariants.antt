@@ -1,0 +1,9 @@
+use Rattle.std.proofs.Common.{◌≡◌, drop, map}
+use Rattle.np_classes.specs.Placed.{members_of, then_all}
+use Rattle.np_given.specs.Prepared.{placed_node}
+use Rattle.np_given.proofs.prepare.members_of.Given as goal
+
+abbrev pub invariant-loop-node : goal.invariant-loop-node
+invariant-loop-node g l =
+    then_all (map (placed_node (g.L.Look.site l.look) (g.L.Look.state l.look)) (drop l.node-index l.nodes)) l.list.items
+    ≡ members_of (map (placed_node (g.L.Look.site l.look) (g.L.Look.state l.look)) l.nodes)

@@ -1,0 +1,7 @@
+use Rattle.std.proofs.Common.{◌≤◌, suc, length, take}
+use Rattle.std.specs.List.{AllByRecursion}
+use Rattle.np_machine.specs.Tables.{node_queue}
+use Rattle.np_given.proofs.prepare.most_queued.Given as goal
+
+abbrev pub invariant-loop-node : goal.invariant-loop-node
+invariant-loop-node g l = AllByRecursion (λ n. suc (length (node_queue n (g.L.Look.state l.look).nodes)) ≤ l.most) (take l.node-index l.nodes)
