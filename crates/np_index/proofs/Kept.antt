@@ -31,4 +31,5 @@ prepared-ends c s ch prepared index session ending is = record {
   classes = is.classes;
   requested = is.requested;
   active = is.active;
+  given = is.given;
 }

@@ -5,6 +5,7 @@ use Rattle.np_lookups.specs.Lookups.{AreLookupsOf, LookupsOf}
 use Rattle.np_classes.specs.Classes.{AreClasses, ClassesOf}
 use Rattle.np_open.specs.Open.{AreOpen, OpenOf}
 use Rattle.np_active.specs.Active.{ActiveOf, AreActive}
+use Rattle.np_given.specs.Given.{AreGiven, GivenOf}
 
 -- the parts of an index (own)
 pub record IndexParts : Type 0 where
@@ -12,6 +13,7 @@ pub record IndexParts : Type 0 where
   pub classes : ClassesOf
   pub requested : OpenOf
   pub active : ActiveOf
+  pub given : GivenOf
 
 -- each part says what the state says
 pub record IsIndexOf (c : Configuration) (s : State) (index : IndexParts) : Type 0 where
@@ -19,3 +21,4 @@ pub record IsIndexOf (c : Configuration) (s : State) (index : IndexParts) : Type
   pub classes : AreClasses c s index.classes
   pub requested : AreOpen c s index.requested
   pub active : AreActive c s index.active
+  pub given : AreGiven c s index.given

@@ -14,6 +14,8 @@ use Rattle.np_open.specs.Open.{AreOpen}
 use Rattle.np_open.specs.Prepared.{IsPrepared as AreMovedOf, HasRoom as HasRoomForMoved}
 use Rattle.np_open.specs.declared.moves.Past.{Past}
 use Rattle.np_active.specs.Active.{AreActive, asker_of, HasRoom as HasRoomForActive}
+use Rattle.np_given.specs.Given.{AreGiven}
+use Rattle.np_given.specs.Prepared.{PreparedOf as GivenPrepared, IsPrepared as AreGivenPrepared, HasRoom as HasRoomForGiven}
 use Rattle.np_index.specs.Index.{IndexParts}
 
 -- what was found of each part (own)
@@ -24,6 +26,8 @@ pub record PreparedOf : Type 0 where
   pub moved : List Past
   -- the job that asks for the request that is answered or removed
   pub asker : Option JobId
+  -- the nodes to put anew of those that were given, with their groups
+  pub given : GivenPrepared
   -- the rest of the lookups' changes
   pub lookups : LookupsPrepared
 
@@ -32,6 +36,7 @@ pub record HasRoomFor (c : Configuration) (ch : Changes) (prepared : PreparedOf)
   pub classes : HasRoomForTouched prepared.touched index.classes
   pub requested : HasRoomForMoved c prepared.moved index.requested
   pub active : HasRoomForActive c ch index.active
+  pub given : HasRoomForGiven prepared.given index.given
 
 -- each part but the lookups still says what the state says, and all that the changes touch is found. What
 -- grows is in the lookups already: where a session ends nothing grows
@@ -44,4 +49,6 @@ pub record IsPreparedFor (c : Configuration) (s : State) (ch : Changes) (prepare
   pub moved : AreMovedOf s ch prepared.moved
   pub active : AreActive c s index.active
   pub asker : prepared.asker ≡ asker_of ch.requests s
+  pub given : AreGiven c s index.given
+  pub listed : AreGivenPrepared c s ch prepared.given
   pub room : HasRoomFor c ch prepared index

@@ -26,6 +26,7 @@ pub struct Prepared {
     touched: Touched,
     moved: Moved,
     asker: Option<JobId>,
+    given: np_given::Prepared,
     lookups: np_lookups::Prepared,
 }
 
@@ -38,6 +39,7 @@ impl Model for Prepared {
       touched = prepared.touched;
       moved = prepared.moved;
       asker = prepared.asker;
+      given = prepared.given;
       lookups = prepared.lookups;
     } };
 }
@@ -83,11 +85,13 @@ impl Index {
         let touched = self.classes.prepare(alloc, look, changes, nodes, requests)?;
         let moved = self.requested.prepare(alloc, look, touched.requests())?;
         let asker = self.active.prepare(look, changes)?;
+        let given = self.given.prepare(alloc, look, changes, touched.nodes())?;
         let lookups = self.lookups.prepare(look, changes)?;
         Ok(Prepared {
             touched,
             moved,
             asker,
+            given,
             lookups,
         })
     }
@@ -117,5 +121,6 @@ impl Index {
         self.classes.note(look, &prepared.touched);
         self.requested.note(look, &prepared.moved);
         self.active.note(look, changes, prepared.asker);
+        self.given.note(look, &prepared.given);
     }
 }

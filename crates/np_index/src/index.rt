@@ -15,8 +15,9 @@ ghost use Rattle.np_machine.specs.Semaphore.{has_live_session};
 ghost use Rattle.np_machine.specs.State.{State};
 ghost use Rattle.np_machine.specs.Tables.{handles_of, has_handle};
 ghost use Rattle.np_machine.specs.Tenants.{count_of_tenant};
-ghost use Rattle.np_look.specs.Jobs.{job_to_begin, job_to_finish, job_to_release};
-ghost use Rattle.np_look.specs.Readers.{active_of, current_of, first_declined_by_all, first_due, first_mute, first_unheld_pending, free_ready_of, has_request_under_way, pending_requests, queued_nodes, queued_requests, unfinished_of};
+ghost use Rattle.np_look.specs.Jobs.{job_to_acquire, job_to_begin, job_to_finish, job_to_release, job_to_take};
+ghost use Rattle.np_look.specs.Given.{node_to_leave, node_to_lock};
+ghost use Rattle.np_look.specs.Readers.{current_of, first_declined_by_all, first_due, first_mute, first_unheld_pending, free_ready_of, has_request_under_way, pending_requests, queued_nodes, queued_requests, unfinished_of};
 ghost use Rattle.np_index.specs.Index.{IsIndexOf};
 
 use np_active::Active;
@@ -24,6 +25,7 @@ use np_amount::Amount;
 use np_changes::Asked;
 use np_classes::Classes;
 use np_config::Config;
+use np_given::Given;
 use np_look::{Look, UnheldKind};
 use np_lookups::Lookups;
 use np_open::Open;
@@ -41,6 +43,7 @@ pub struct Index {
     pub(crate) classes: Classes,
     pub(crate) requested: Open,
     pub(crate) active: Active,
+    pub(crate) given: Given,
 }
 
 impl Model for Index {
@@ -53,6 +56,7 @@ impl Model for Index {
       classes = index.classes;
       requested = index.requested;
       active = index.active;
+      given = index.given;
     } };
 }
 
@@ -71,11 +75,13 @@ impl Index {
         let classes = Classes::rebuild(alloc, look)?;
         let requested = Open::rebuild(alloc, look)?;
         let active = Active::rebuild(alloc, look)?;
+        let given = Given::rebuild(alloc, look)?;
         Ok(Index {
             lookups,
             classes,
             requested,
             active,
+            given,
         })
     }
 
@@ -88,13 +94,23 @@ impl Index {
         self.lookups.unfinished(requester, at)
     }
 
-    /// The job at a place among those of the requester that use their nodes, or have asked for them
-    /// and whose request is fulfilled or failed, in order of their numbers. It costs one lookup.
-    pub fn active(&self, requester: RequesterId, at: u32) -> Option<JobId>
+    /// The job at a place among those of the requester that were given their nodes and need not wait
+    /// for handles, in order of their numbers. It costs one lookup.
+    pub fn job_to_take(&self, requester: RequesterId, at: u32) -> Option<JobId>
         ensures { (c : Configuration) (s : State) → IsIndexOf c s self.now
-            → result ≡ active_of c requester at s }
+            → result ≡ job_to_take c requester at s }
     {
-        self.active.job_at(requester, at)
+        self.active.job_to_take(requester, at)
+    }
+
+    /// The first of the requester's jobs that was given its nodes, waits for handles and finds room
+    /// in all its semaphores. It costs a lookup for each different list of semaphores for which such
+    /// jobs of the requester wait, and for each semaphore of such a list.
+    pub fn job_to_acquire(&self, config: &Config, requester: RequesterId) -> Option<JobId>
+        ensures { (s : State) → IsIndexOf config.now s self.now
+            → result ≡ job_to_acquire config.now requester s }
+    {
+        self.active.job_to_acquire(config, requester)
     }
 
     /// The first of the requester's jobs that is new and need not wait for semaphores: it asks for its
@@ -190,6 +206,32 @@ impl Index {
             → result.now ≡ queued_nodes session s }
     {
         self.lookups.nodes_of(session)
+    }
+
+    /// The first node, by number, that was given to the requester and in whose queue the session is
+    /// not. It costs a few lookups for each step of a binary search among the nodes that were given
+    /// to the requester.
+    pub fn node_to_lock(&self, requester: RequesterId, session: SessionId) -> Option<NodeId>
+        ensures { (c : Configuration) (s : State) → IsIndexOf c s self.now
+            → result ≡ node_to_lock c requester session s }
+    {
+        self.given.node_to_lock(requester, session)
+    }
+
+    /// The node at a place among those in whose queues the session is and that were not given to the
+    /// requester, in order of their numbers. It costs a lookup for each step of a binary search among
+    /// the nodes in whose queues the session is.
+    pub fn node_to_leave(
+        &self,
+        requester: RequesterId,
+        session: SessionId,
+        at: u32,
+    ) -> Option<NodeId>
+        ensures { (c : Configuration) (s : State) → IsIndexOf c s self.now
+            → result ≡ node_to_leave c requester session at s }
+    {
+        let queued = self.lookups.nodes_of(session);
+        self.given.node_to_leave(queued, requester, session, at)
     }
 
     /// The job that has the node. It costs one lookup.

@@ -13,4 +13,5 @@ returns g c config s reached planned is site state =
       classes = c.note.ensures _ _ c.args.changes.now reached planned prepared.touched site state prepared.classes;
       requested = c.note-2.ensures _ _ c.args.changes.now reached prepared.moved site state prepared.requested;
       active = c.note-3.ensures _ _ reached planned prepared.asker site state prepared.active;
+      given = c.note-4.ensures _ _ c.args.changes.now reached planned prepared.listed site state prepared.given;
     }

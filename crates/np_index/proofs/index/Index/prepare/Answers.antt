@@ -1,6 +1,7 @@
 use Rattle.std.proofs.Common.{subst, sym}
 use Rattle.np_open.specs.Prepared.{AreListed}
 use Rattle.np_classes.proofs.Noted.{classes-same}
+use Rattle.np_given.specs.Given.{AreGivenGroups}
 use Rattle.np_index.specs.Index.{IsIndexOf}
 use Rattle.np_index.proofs.Kept.{active-same, open-same}
 use Rattle.np_index.proofs.index.Index.prepare.Goals as goal
@@ -17,10 +18,13 @@ returns-clause-ok g c =
       requested = open-same _ _ _ _ c.prepare-2.ensures.members c.prepare-2.ensures.lines are.requested;
       moved = c.in_ok-moved.ensures.prepared c.args.changes.now (subst (AreListed c.args.changes.now (g.L.Look.state c.args.look.now)) (sym c.requests.ensures) ready.requests);
       active = active-same _ _ _ _ c.prepare-3.ensures.lines c.prepare-3.ensures.jobs c.prepare-3.ensures.handles c.prepare-3.ensures.sessions are.active;
+      given = subst (AreGivenGroups (g.L.Look.site c.args.look.now) (g.L.Look.state c.args.look.now)) (sym c.prepare-4.ensures.members) are.given;
+      listed = c.in_ok-given.ensures.prepared;
       asker = c.in_ok-asker.ensures.asker;
       room = record {
         classes = c.in_ok-touched.ensures.room;
         requested = c.in_ok-moved.ensures.room;
         active = c.in_ok-asker.ensures.room;
+        given = c.in_ok-given.ensures.room;
       };
     }
