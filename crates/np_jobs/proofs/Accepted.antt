@@ -1,14 +1,18 @@
--- an accepted event of a requester's session on a job: the job is active, or new and in the window,
--- and to begin if the event is its acquire or its submit
+-- an accepted event of a requester's session on a job: which jobs it can be of
 use Rattle.std.proofs.Common.{◌≡◌, ◌∙◌, refl, sym, Option, Some, None, Result, Ok, Err, Bool, true, false}
-use Rattle.std.specs.Prelude.{◌==◌, ◌&&◌, ◌||◌, not, slice_get}
+use Rattle.std.specs.Prelude.{◌==◌, ◌&&◌, ◌||◌, not, slice_get, option_and_then}
+use Rattle.std.specs.Option.{option_map, option_map_or}
+use Rattle.std.proofs.lemmas.Bool.{eqb-true}
 use Rattle.np_text.specs.declared.id.SessionId.{SessionId}
 use Rattle.np_text.specs.declared.id.JobId.{JobId}
 use Rattle.np_text.specs.declared.id.RequesterId.{RequesterId}
 use Rattle.np_text.specs.declared.id.Role.TheVariants.{Requester}
 use Rattle.np_site.specs.Configuration.{Configuration}
 use Rattle.np_site.specs.declared.row.Job.{Job}
+use Rattle.np_text.specs.declared.word.Phase.{Phase}
+use Rattle.np_text.specs.declared.word.Phase.TheVariants as phase
 use Rattle.np_record.specs.declared.record.JobRecord.{JobRecord}
+use Rattle.np_record.specs.declared.record.RequestRecord.{RequestRecord}
 use Rattle.np_event.specs.declared.event.Event.TheVariants as ev
 use Rattle.np_event.specs.declared.reply.Done.{Done}
 use Rattle.np_event.specs.declared.reply.Refusal.{Refusal}
@@ -16,19 +20,20 @@ use Rattle.np_event.specs.declared.reply.Refusal.TheVariants as no
 use Rattle.np_lists.specs.Refusals.{◌>>=◌}
 use Rattle.np_lists.proofs.RefusalLemmas.{then-ok}
 use Rattle.np_changes.proofs.Tested.{on-given, on-check, on-need, on-found, on-vacant, needed}
-use Rattle.np_machine.specs.Kinds.{is_new, is_asked, is_using, is_over, is_fulfilled}
-use Rattle.np_machine.specs.Semaphore.{first_full, is_finishable, may_take, may_release, requester_or_janitor, has_failed_request}
+use Rattle.np_machine.specs.Kinds.{is_new, is_asked, is_using, is_over, is_fulfilled, is_failed}
+use Rattle.np_machine.specs.Semaphore.{first_full, is_finishable, may_take, may_finish, may_release, requester_or_janitor, unheld}
 use Rattle.np_machine.specs.State.{State}
 use Rattle.np_machine.specs.Step.{judge}
 use Rattle.np_machine.specs.Tables.{request_in}
-use Rattle.np_machine.specs.Tests.{maker, own_job, wrong_job, missing_handles}
+use Rattle.np_machine.specs.Tests.{maker, own_job, missing_handles, none_missing}
+use Rattle.np_look.specs.Jobs.{is_job_to_finish}
 use Rattle.np_useful.specs.Requester.{has_fulfilled_request, waits_for_handles}
 use Rattle.np_useful.specs.Rows.{job_is}
 use Rattle.np_useful.specs.Useful.{row_holds}
 use Rattle.np_useful.specs.Window.{is_in_window}
 use Rattle.np_jobs.specs.Steps.{phase_is}
-use Rattle.np_jobs.proofs.ForLemmas.{and-first, and-second}
-use Rattle.np_jobs.proofs.Active.{IsActive, IsAsked, fulfilled-answer, failed-answer, using-active, asked-active}
+use Rattle.np_jobs.proofs.Tests.{and-first, and-second}
+use Rattle.np_jobs.proofs.Given.{WasGiven}
 use Rattle.np_jobs.proofs.ToBegin.{IsToBegin, ready-may, room-may}
 
 -- a job waits for its semaphores if it is new and in the window, or has asked and its request is
@@ -39,11 +44,17 @@ waits true true false asked given is begins goes_on = goes_on (and-first asked g
 waits true false within asked given is begins goes_on = goes_on (and-first asked given is) (and-second asked given is)
 waits false first within asked given is begins goes_on = goes_on (and-first asked given is) (and-second asked given is)
 
--- a job can be finished if it has asked and its request failed, or it uses its nodes
-ends : {P : Type 0} (asked failed uses done : Bool) → ((asked && failed) || (uses && done)) ≡ true → (asked ≡ true → failed ≡ true → P) → (uses ≡ true → P) → P
-ends true true uses done is fails stops = fails refl refl
-ends true false uses done is fails stops = stops (and-first uses done is)
-ends false failed uses done is fails stops = stops (and-first uses done is)
+-- a job that can be finished uses its nodes, or has asked for them and its request failed
+finishable-by : (p : Phase) (o : Option RequestRecord) (busy : Bool) → ((is_asked p && option_map_or (λ (request : RequestRecord). is_failed request.state) o false) || (is_using p && busy)) ≡ true
+    → (is_using p || (is_asked p && option_map_or is_failed (option_map (λ (request : RequestRecord). request.state) o) false)) ≡ true
+finishable-by phase.New o busy is = absurd cc
+finishable-by phase.Asked None busy is = absurd cc
+finishable-by phase.Asked (Some request) busy is = by (is_failed request.state) is where
+  by : (b : Bool) → (b || false) ≡ true → b ≡ true
+  by true failed = refl
+  by false failed = failed
+finishable-by phase.Using o busy is = refl
+finishable-by phase.Over o busy is = absurd cc
 
 -- new, and in the window
 pub record IsNewInWindow (c : Configuration) (s : State) (q : RequesterId) (j : JobId) : Type 0 where
@@ -118,36 +129,41 @@ module _ (c : Configuration) (s : State) (by : SessionId) (q : RequesterId) (who
       let same : role ≡ Requester q = (let told : Ok role ≡ Ok (Requester q) = sym made ∙ who in cc) in
       own_by job row (needed (job.requester.0 == q.0) _ (rw same at may)))))))
 
-  pub acquire-either : {P : Type 0} (what : Done) → judge c s (ev.Acquire by j) ≡ Ok what → row_holds c s (Requester q) (ev.Acquire by j) ≡ true → (IsAsked c s q j → P) → (IsNewInWindow c s q j → P) → P
+  -- an acquire is of a new job, or of one that was given its nodes and whose semaphores have room
+  pub acquire-either : {P : Type 0} (what : Done) → judge c s (ev.Acquire by j) ≡ Ok what → row_holds c s (Requester q) (ev.Acquire by j) ≡ true → ((is : WasGiven c s q j) → first_full c s j is.row ≡ None → P) → (IsNewInWindow c s q j → P) → P
   acquire-either what is holds goes_on begins =
       let found = found_own _ what is in
+      on-need (not (is_over found.kept.phase)) _ _ what found.goes (λ _ rest.
+      on-vacant (first_full c s j found.job) _ _ what rest (λ room _.
       let both : (not (missing_handles s j found.job == 0) && waits_for_handles c s q j found.job found.kept) ≡ true = rw (found.row, found.there) at holds in
       let waiting : waits_for_handles c s q j found.job found.kept ≡ true = and-second (not (missing_handles s j found.job == 0)) _ both in
       waits (is_new found.kept.phase) (not found.job.resources_first) (is_in_window c s q j) (is_asked found.kept.phase) (has_fulfilled_request s found.kept) waiting
       (λ new within. begins (record { new = rw (found.there, new) refl; within = within }))
-      (λ asked given. goes_on (asked-active c s q j found.kept found.there (own_by found.job found.row found.own) asked (fulfilled-answer s found.kept given)))
+      (λ asked given. goes_on (record { row = found.job; stands = found.row; own = found.own; kept = found.kept; there = found.there; asked = asked; given = given }) room)))
 
-  pub take-asked : (what : Done) → judge c s (ev.Take by j) ≡ Ok what → IsAsked c s q j
-  take-asked what is =
+  -- a take is of a job that was given its nodes and has all its handles
+  pub take-given : {P : Type 0} (what : Done) → judge c s (ev.Take by j) ≡ Ok what → ((is : WasGiven c s q j) → missing_handles s j is.row ≡ 0 → P) → P
+  take-given what is takes =
       let found = found_own _ what is in
       let passed : may_take s by j found.job found.kept ≡ Ok tt = then-ok _ _ what found.goes in
       on-need (is_asked found.kept.phase) _ _ tt passed (λ asked rest.
       on-found found.kept.request _ _ tt rest (λ r named rest.
       on-found (request_in r s.requests) _ _ tt rest (λ request stands rest.
       on-need (is_fulfilled request.state) _ _ tt rest (λ fulfilled rest.
+      on-check (none_missing (unheld s by request.nodes)) _ tt rest (λ _ rest.
       let given : has_fulfilled_request s found.kept ≡ true = rw (named, stands, fulfilled) refl in
-      asked-active c s q j found.kept found.there (own_by found.job found.row found.own) asked (fulfilled-answer s found.kept given)))))
+      let all : missing_handles s j found.job ≡ 0 = eqb-true (missing_handles s j found.job) 0 (needed (missing_handles s j found.job == 0) _ rest) in
+      takes (record { row = found.job; stands = found.row; own = found.own; kept = found.kept; there = found.there; asked = asked; given = given }) all)))))
 
-  pub finish-active : (what : Done) → judge c s (ev.Finish by j) ≡ Ok what → IsActive c s q j
-  finish-active what is = opened (slice_get c.jobs j.0) (slice_get s.jobs j.0) refl refl where
-    opened : (o : Option Job) (p : Option JobRecord) → slice_get c.jobs j.0 ≡ o → slice_get s.jobs j.0 ≡ p → IsActive c s q j
-    opened None p row there = absurd (let no : Err no.NoJob ≡ Ok what = rw (who, row) at is in cc)
-    opened (Some job) None row there = absurd (let no : Err no.NoJob ≡ Ok what = rw (who, row, there) at is in cc)
-    opened (Some job) (Some kept) row there = tested (job.requester.0 == q.0) (is_finishable s job kept) refl refl where
-      tested : (b d : Bool) → (job.requester.0 == q.0) ≡ b → is_finishable s job kept ≡ d → IsActive c s q j
-      tested false d other ready = absurd (let no : Err no.NotOwner ≡ Ok what = rw (who, row, there, other) at is in cc)
-      tested true false own ready = absurd (let no : Err (wrong_job kept) ≡ Ok what = rw (who, row, there, own, ready) at is in cc)
-      tested true true own ready =
-          ends (is_asked kept.phase) (has_failed_request s kept) (is_using kept.phase) _ ready
-          (λ asked failed. (asked-active c s q j kept there (own_by job row own) asked (failed-answer s kept failed)).active)
-          (λ uses. using-active c s q j kept there (own_by job row own) uses)
+  -- a finish is of a job that uses its nodes or whose request failed
+  pub finish-listed : (what : Done) → judge c s (ev.Finish by j) ≡ Ok what → (kept : JobRecord) × ((slice_get s.jobs j.0 ≡ Some kept) × (is_job_to_finish c s q j kept ≡ true))
+  finish-listed what is =
+      on-given (maker s by) _ what is (λ role made rest.
+      on-check (requester_or_janitor role) _ what rest (λ _ rest.
+      on-found (slice_get c.jobs j.0) _ _ what rest (λ job row rest.
+      on-found (slice_get s.jobs j.0) _ _ what rest (λ kept there rest.
+      on-check (may_finish s job role) _ what rest (λ may rest.
+      on-need (is_finishable s job kept) _ _ what rest (λ ready _.
+      let same : role ≡ Requester q = (let told : Ok role ≡ Ok (Requester q) = sym made ∙ who in cc) in
+      let own : (job.requester.0 == q.0) ≡ true = needed (job.requester.0 == q.0) _ (rw same at may) in
+      (kept, (there, rw (row, own) (finishable-by kept.phase (option_and_then (λ r. request_in r s.requests) kept.request) _ ready)))))))))

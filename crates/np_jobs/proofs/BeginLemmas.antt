@@ -1,9 +1,8 @@
 -- if the first job that is to begin has no acquire and submit, no new job in the window has one
 use Rattle.std.proofs.Common.{◌≡◌, ◌∙◌, ◌<◌, ◌≤◌, ◌+◌, refl, sym, ap, arith, Option, Some, None, Bool, true, false}
-use Rattle.std.specs.Prelude.{◌==◌, ◌||◌, not, is_none, slice_get}
+use Rattle.std.specs.Prelude.{◌==◌, ◌||◌, not, slice_get}
 use Rattle.np_text.specs.declared.id.SessionId.{SessionId}
 use Rattle.np_text.specs.declared.id.JobId.{JobId}
-use Rattle.np_text.specs.declared.id.SemId.{SemId}
 use Rattle.np_text.specs.declared.id.RequesterId.{RequesterId}
 use Rattle.np_text.specs.declared.id.Role.TheVariants.{Requester}
 use Rattle.np_site.specs.Configuration.{Configuration}
@@ -26,30 +25,22 @@ use Rattle.np_roles.proofs.Searches.{and-parts}
 use Rattle.np_jobs.specs.Steps.{phase_is, NoNewStep, ChoosesOfNew, ChoosesInWindow}
 use Rattle.np_jobs.proofs.Accepted.{acquire-begins, submit-begins}
 use Rattle.np_jobs.proofs.Rising.{IsListed, listed, apart}
-use Rattle.np_jobs.proofs.StepLemmas.{current-maker}
+use Rattle.np_jobs.proofs.Makers.{current-maker}
+use Rattle.np_jobs.proofs.Tests.{false-if, none-is}
 use Rattle.np_jobs.proofs.ToBegin.{IsToBegin, begins-listed, listed-begins}
 use Rattle.np_jobs.proofs.WindowLemmas.{IsOpen, new-open, earlier-within}
-
--- what is not true is false
-false-if : (b : Bool) → (b ≡ true → ⊥) → b ≡ false
-false-if true never = absurd (never refl)
-false-if false never = refl
-
-none-is : (o : Option SemId) → is_none o ≡ true → o ≡ None
-none-is None is = refl
-none-is (Some x) is = absurd cc
 
 module _ (c : Configuration) (s : State) (q : RequesterId) (session : SessionId) (current : is_current (Requester q) session s ≡ true) where
   -- ## a job that is to begin and is in the window
 
   module _ (j : JobId) (is : IsToBegin c s q j) (within : is_in_window c s q j ≡ true) where
     submit-passes : (is.row.resources_first || (missing_handles s j is.row == 0)) ≡ true → passes c s (Requester q) (ev.Submit session j) ≡ true
-    submit-passes ready = rw (current-maker c s q session current, is.stands, is.there, is.own, is.new, ready, within) refl
+    submit-passes ready = rw (current-maker s q session current, is.stands, is.there, is.own, is.new, ready, within) refl
 
     acquire-passes : is.row.resources_first ≡ false → (missing_handles s j is.row == 0) ≡ false → first_full c s j is.row ≡ None → passes c s (Requester q) (ev.Acquire session j) ≡ true
     acquire-passes first missing room =
         let stays : not (is_over is.kept.phase) ≡ true = new-open is.kept.phase is.new in
-        rw (current-maker c s q session current, is.stands, is.there, is.own, stays, room, missing, is.new, first, within) refl
+        rw (current-maker s q session current, is.stands, is.there, is.own, stays, room, missing, is.new, first, within) refl
 
     -- its submit passes if it asks for its nodes first or has all its handles, else its acquire
     begins : NoNewStep c s q session j → ⊥
@@ -76,13 +67,13 @@ module _ (c : Configuration) (s : State) (q : RequesterId) (session : SessionId)
   acquired-begins j new passed =
       let parts = and-parts c s (Requester q) _ (row_holds c s (Requester q) (ev.Acquire session j)) passed in
       let answer = ok-is (judge c s (ev.Acquire session j)) parts.0 in
-      acquire-begins c s session q (current-maker c s q session current) j answer.0 answer.1 new
+      acquire-begins c s session q (current-maker s q session current) j answer.0 answer.1 new
 
   submitted-begins : (j : JobId) → passes c s (Requester q) (ev.Submit session j) ≡ true → IsToBegin c s q j
   submitted-begins j passed =
       let parts = and-parts c s (Requester q) _ (row_holds c s (Requester q) (ev.Submit session j)) passed in
       let answer = ok-is (judge c s (ev.Submit session j)) parts.0 in
-      submit-begins c s session q (current-maker c s q session current) j answer.0 answer.1
+      submit-begins c s session q (current-maker s q session current) j answer.0 answer.1
 
   -- neither passes of one that is not to begin
   neither : (j : JobId) → phase_is j s is_new ≡ true → (IsToBegin c s q j → ⊥) → NoNewStep c s q session j

@@ -1,10 +1,14 @@
+pub mod Tests
+pub mod Found
 pub mod Rising
 pub mod WindowLemmas
 pub mod ForLemmas
-pub mod Active
+pub mod Makers
+pub mod Given
 pub mod ToBegin
 pub mod Accepted
 pub mod StepLemmas
 pub mod BeginLemmas
-pub mod Made
 pub mod LockLemmas
+pub mod LeaveLemmas
+pub mod Made

@@ -1,112 +1,95 @@
--- if the nodes for each active job were tried, no lock of a node is useful
-use Rattle.std.proofs.Common.{◌≡◌, ◌∙◌, ℕ, zero, suc, List, [], ◌∷◌, refl, sym, ap, subst, arith, Option, Some, None, Bool, true, false}
-use Rattle.std.specs.Prelude.{slice_get, find, ◌==◌, not}
-use Rattle.std.specs.Option.{option_map_or}
+-- a lock of a node is useful if the node was given to the requester and its session does not wait at it,
+-- and no other
+use Rattle.std.proofs.Common.{◌≡◌, ◌∙◌, refl, sym, ap, subst, Option, Some, None, true, false}
+use Rattle.std.specs.Prelude.{not, find}
+use Rattle.std.specs.Option.{option_map}
 use Rattle.np_text.specs.declared.id.SessionId.{SessionId}
-use Rattle.np_text.specs.declared.id.JobId.{JobId}
 use Rattle.np_text.specs.declared.id.NodeId.{NodeId}
 use Rattle.np_text.specs.declared.id.RequesterId.{RequesterId}
 use Rattle.np_text.specs.declared.id.Role.TheVariants.{Requester}
 use Rattle.np_site.specs.Configuration.{Configuration}
-use Rattle.np_record.specs.declared.record.JobRecord.{JobRecord}
 use Rattle.np_lists.proofs.FoundLemmas.{find-passes}
 use Rattle.np_event.specs.declared.event.Event.TheVariants as ev
 use Rattle.np_changes.specs.Planned.{IsReached}
-use Rattle.np_machine.specs.Entries.{RequestEntry}
-use Rattle.np_machine.specs.Kinds.{is_asked, is_fulfilled}
+use Rattle.np_machine.specs.Entries.{NodeEntry}
 use Rattle.np_machine.specs.State.{State}
-use Rattle.np_machine.specs.Tables.{is_queued, node_queue, request_in}
-use Rattle.np_safe.proofs.Places.{node-place}
+use Rattle.np_machine.specs.Tables.{is_queued, node_entry, node_in, node_queue}
+use Rattle.np_safe.proofs.Lookups.{same_node, same_node-is}
 use Rattle.np_safe.proofs.Runs.{invariant-Runs}
-use Rattle.np_look.specs.Readers.{is_active_job, active_of}
-use Rattle.np_useful.specs.Requester.{has_fulfilled_request, is_asked_by, is_for}
-use Rattle.np_useful.specs.Rows.{job_is}
+use Rattle.np_look.specs.Given.{is_given_to, is_to_lock, node_to_lock}
+use Rattle.np_useful.specs.Requester.{is_for}
 use Rattle.np_useful.specs.Sessions.{is_current}
 use Rattle.np_useful.specs.Useful.{IsUseful}
 use Rattle.np_roles.specs.declared.kind.EventKind.TheVariants as kind_of
 use Rattle.np_roles.specs.declared.kind.NodeKind.TheVariants as of_node
-use Rattle.np_roles.specs.Choices.{NoneOf}
-use Rattle.np_roles.proofs.Searches.{made-by, passes-useful, useful-passes}
-use Rattle.np_roles.proofs.Among.{among}
-use Rattle.np_jobs.specs.Locks.{lock_passes, nodes_awaited}
-use Rattle.np_jobs.proofs.ForLemmas.{IsFound, found-for, ids-rise, all-own, and-first, and-second}
-use Rattle.np_jobs.proofs.Active.{IsActive, asked-active, fulfilled-answer}
+use Rattle.np_roles.specs.Choices.{NoneOf, ChoosesOf}
+use Rattle.np_roles.specs.Passing.{passes}
+use Rattle.np_roles.proofs.Places.{StandsIn, find-place}
+use Rattle.np_roles.proofs.Searches.{made-by, passes-useful}
+use Rattle.np_jobs.proofs.Found.{none-passes, node-found}
+use Rattle.np_jobs.proofs.ForLemmas.{found-for, for-is}
+use Rattle.np_jobs.proofs.Makers.{current-maker}
+use Rattle.np_jobs.proofs.Tests.{and-first, and-second}
 
--- ## a search that finds nothing
+-- the entry of a node that has a record
+entry_of : {X Y : Type 0} (f : X → Y) (o : Option X) (y : Y) → option_map f o ≡ Some y → (x : X) × ((o ≡ Some x) × (f x ≡ y))
+entry_of f None y is = absurd cc
+entry_of f (Some x) y is = (x, (refl, cc))
 
--- it has passed the first member, and finds nothing in the rest
-none-by : {X : Type 0} (p : X → Bool) (x : X) (xs : List X) (b : Bool) → p x ≡ b → find p (x ∷ xs) ≡ None → (b ≡ false) × (find p xs ≡ None)
-none-by p x xs true is none = absurd (let no : Some x ≡ None = rw is at none in cc)
-none-by p x xs false is none = (refl, rw is at none)
+module _ (c : Configuration) (s : State) (reached : IsReached c s) (q : RequesterId) (session : SessionId) (current : is_current (Requester q) session s ≡ true) where
+  -- ## no node to lock
 
--- it has passed each member
-none-passes : {X : Type 0} (p : X → Bool) (xs : List X) (i : ℕ) (x : X) → find p xs ≡ None → slice_get xs i ≡ Some x → p x ≡ false
-none-passes p [] i x none there = absurd cc
-none-passes p (y ∷ xs) zero x none there =
-    let same : y ≡ x = cc in
-    ap p (sym same) ∙ (none-by p y xs (p y) refl none).0
-none-passes p (y ∷ xs) (suc i) x none there = none-passes p xs i x (none-by p y xs (p y) refl none).1 there
-
--- ## the job that a node is for
-
-module _ (c : Configuration) (s : State) (q : RequesterId) where
-  -- an active job that has asked for its nodes, and the request that it names
-  record IsAwaiting (e : RequestEntry) : Type 0 where
-    job : JobId
-    active : IsActive c s q job
-    kept : JobRecord
-    there : slice_get s.jobs job.0 ≡ Some kept
-    nodes : nodes_awaited s kept ≡ e.kept.nodes
-
-  module _ (reached : IsReached c s) (e : RequestEntry) (found : request_in e.id s.requests ≡ Some e.kept) (fulfilled : is_fulfilled e.kept.state ≡ true) where
-    -- the request's job has asked, and names the request, since each request that names a job is its
-    -- only one: so the job is active
-    of_job : (j : JobId) → e.kept.job ≡ Some j → is_asked_by c s q j ≡ true → IsAwaiting e
-    of_job j is asks =
-        let named = (invariant-Runs c reached.journal s reached.runs).jobs.of_request e.id e.kept j found is in
-        let own : job_is j c (λ job. job.requester.0 == q.0) ≡ true = and-first (job_is j c (λ job. job.requester.0 == q.0)) _ asks in
-        let has_asked : option_map_or (λ k. is_asked k.phase) (slice_get s.jobs j.0) false ≡ true = and-second (job_is j c (λ job. job.requester.0 == q.0)) _ asks in
-        let asked : is_asked named.0.phase ≡ true = rw named.1.0 at has_asked in
-        let given : has_fulfilled_request s named.0 ≡ true = rw (named.1.1, found, fulfilled) refl in
-        record {
-          job = j;
-          active = (asked-active c s q j named.0 named.1.0 own asked (fulfilled-answer s named.0 given)).active;
-          kept = named.0;
-          there = named.1.0;
-          nodes = rw (asked, named.1.1, found, fulfilled) refl;
-        }
-
-    -- a fulfilled request of an asked job of the requester has such a job
-    awaiting : (o : Option JobId) → e.kept.job ≡ o → option_map_or (is_asked_by c s q) o false ≡ true → IsAwaiting e
-    awaiting None is asks = absurd cc
-    awaiting (Some j) is asks = of_job j is asks
-
--- ## all locks
-
-module _ (c : Configuration) (s : State) (q : RequesterId) (session : SessionId) (current : is_current (Requester q) session s ≡ true) where
-  -- a lock that was found is useful
-  pub lock-found : (nodes : List NodeId) (n : NodeId) → find (lock_passes c s q session) nodes ≡ Some n → IsUseful c s (Requester q) (ev.LockNode session n)
-  lock-found nodes n found = passes-useful c s (Requester q) (ev.LockNode session n) (find-passes (lock_passes c s q session) nodes n found) current
-
-  module _ (reached : IsReached c s) (passed : (k : ℕ) (j : JobId) → active_of c q k s ≡ Some j → (kept : JobRecord) → slice_get s.jobs j.0 ≡ Some kept → find (lock_passes c s q session) (nodes_awaited s kept) ≡ None) where
-    -- no lock of the session is useful
-    none_of : (n : NodeId) → IsUseful c s (Requester q) (ev.LockNode session n) → ⊥
-    none_of n useful =
-        let passes : lock_passes c s q session n ≡ true = useful-passes c s (Requester q) (ev.LockNode session n) useful in
-        let for_it : is_for c s q n ≡ true = and-first (is_for c s q n) (not (is_queued session (node_queue n s.nodes))) useful.row in
-        let given : IsFound c s q n (ids-rise c s reached) (all-own c s reached) = found-for c s q n (ids-rise c s reached) (all-own c s reached) for_it in
-        let e : RequestEntry = given.entry in
-        let fulfilled : is_fulfilled e.kept.state ≡ true = and-first (is_fulfilled e.kept.state) (option_map_or (is_asked_by c s q) e.kept.job false) given.over in
-        let asks : option_map_or (is_asked_by c s q) e.kept.job false ≡ true = and-second (is_fulfilled e.kept.state) (option_map_or (is_asked_by c s q) e.kept.job false) given.over in
-        let is : IsAwaiting c s q e = awaiting c s q reached e given.handed_to.found fulfilled e.kept.job refl asks in
-        let place = among (is_active_job c s q) 0 s.jobs is.job.0 is.active.kept is.job (omega arith) is.active.there is.active.active in
-        let none : find (lock_passes c s q session) e.kept.nodes ≡ None = ap (find (lock_passes c s q session)) (sym is.nodes) ∙ passed place.at is.job place.there is.kept is.there in
-        let listed = node-place n e.kept.nodes given.listed in
-        let fails : lock_passes c s q session n ≡ false = none-passes (lock_passes c s q session) e.kept.nodes listed.0 n none listed.1 in
+  module _ (none : find (is_to_lock c s q session) s.nodes ≡ None) where
+    -- a node that is for the requester and at which the session does not wait would be found
+    unlocked : (n : NodeId) → is_for c s q n ≡ true → not (is_queued session (node_queue n s.nodes)) ≡ true → ⊥
+    unlocked n for_it apart =
+        let found = found-for c s reached q n for_it in
+        let e = entry_of (λ (x : NodeEntry). x.kept) (node_entry n s.nodes) found.way.node found.way.stands in
+        let number : e.0.id ≡ n = same_node-is e.0.id n (find-passes (λ (x : NodeEntry). same_node x.id n) s.nodes e.0 e.1.0) in
+        let stands : node_in n s.nodes ≡ Some e.0.kept = ap (option_map (λ (x : NodeEntry). x.kept)) e.1.0 in
+        let given : is_given_to c s q e.0.kept ≡ true = sym (for-is c s reached q n e.0.kept stands) ∙ for_it in
+        let place : StandsIn e.0 s.nodes = find-place (λ (x : NodeEntry). same_node x.id n) s.nodes e.0 e.1.0 in
+        let is : is_to_lock c s q session e.0 ≡ true = rw (given, number, apart) refl in
+        let no : is_to_lock c s q session e.0 ≡ false = none-passes (is_to_lock c s q session) s.nodes place.at e.0 none place.there in
         cc
 
-    -- no lock of a node is useful, whoever makes it
-    pub locks-none : NoneOf c s (Requester q) (kind_of.Node of_node.Lock)
-    locks-none other n useful =
-        let same : other ≡ session = made-by c s (Requester q) session current other (ev.LockNode other n) refl useful in
-        none_of n (subst (λ (x : SessionId). IsUseful c s (Requester q) (ev.LockNode x n)) same useful)
+    -- so no lock of a node is useful, whoever makes it
+    locks-none : NoneOf c s (Requester q) (kind_of.Node of_node.Lock)
+    locks-none by n useful =
+        let same : by ≡ session = made-by c s (Requester q) session current by (ev.LockNode by n) refl useful in
+        let mine : IsUseful c s (Requester q) (ev.LockNode session n) = subst (λ (x : SessionId). IsUseful c s (Requester q) (ev.LockNode x n)) same useful in
+        unlocked n
+        (and-first (is_for c s q n) (not (is_queued session (node_queue n s.nodes))) mine.row)
+        (and-second (is_for c s q n) (not (is_queued session (node_queue n s.nodes))) mine.row)
+
+  -- ## a node to lock
+
+  -- its lock is useful
+  lock-useful : (e : NodeEntry) → find (is_to_lock c s q session) s.nodes ≡ Some e → IsUseful c s (Requester q) (ev.LockNode session e.id)
+  lock-useful e found =
+      let is : is_to_lock c s q session e ≡ true = find-passes (is_to_lock c s q session) s.nodes e found in
+      let given : is_given_to c s q e.kept ≡ true = and-first (is_given_to c s q e.kept) (not (is_queued session (node_queue e.id s.nodes))) is in
+      let apart : not (is_queued session (node_queue e.id s.nodes)) ≡ true = and-second (is_given_to c s q e.kept) (not (is_queued session (node_queue e.id s.nodes))) is in
+      let place : StandsIn e s.nodes = find-place (is_to_lock c s q session) s.nodes e found in
+      let entry : node_entry e.id s.nodes ≡ Some e = node-found s.nodes place.at e (invariant-Runs c reached.journal s reached.runs).numbered.nodes_rise place.there in
+      let stands : node_in e.id s.nodes ≡ Some e.kept = ap (option_map (λ (x : NodeEntry). x.kept)) entry in
+      let for_it : is_for c s q e.id ≡ true = for-is c s reached q e.id e.kept stands ∙ given in
+      let passed : passes c s (Requester q) (ev.LockNode session e.id) ≡ true = rw (current-maker s q session current, stands, for_it, apart) refl in
+      passes-useful c s (Requester q) (ev.LockNode session e.id) passed current
+
+  by_entry : (o : Option NodeEntry) → find (is_to_lock c s q session) s.nodes ≡ o → (n : NodeId) → option_map (λ (x : NodeEntry). x.id) o ≡ Some n → IsUseful c s (Requester q) (ev.LockNode session n)
+  by_entry None found n is = absurd cc
+  by_entry (Some e) found n is =
+      let same : e.id ≡ n = cc in
+      subst (λ (x : NodeId). IsUseful c s (Requester q) (ev.LockNode session x)) same (lock-useful e found)
+
+  no_entry : (o : Option NodeEntry) → option_map (λ (x : NodeEntry). x.id) o ≡ None → o ≡ None
+  no_entry None is = refl
+  no_entry (Some e) is = absurd cc
+
+  -- the lock of the node to lock is the choice among locks
+  pub lock-chooses : (n : NodeId) → node_to_lock c q session s ≡ Some n → ChoosesOf c s (Requester q) (kind_of.Node of_node.Lock) (Some (ev.LockNode session n))
+  lock-chooses n is = by_entry (find (is_to_lock c s q session) s.nodes) refl n is
+
+  pub lock-none : node_to_lock c q session s ≡ None → ChoosesOf c s (Requester q) (kind_of.Node of_node.Lock) None
+  lock-none is = locks-none (no_entry (find (is_to_lock c s q session) s.nodes) is)

@@ -15,7 +15,7 @@ use Rattle.np_machine.specs.State.{State}
 use Rattle.np_machine.specs.Tables.{has_handle}
 use Rattle.np_machine.specs.Tests.{missing_handles}
 use Rattle.np_look.specs.Jobs.{is_own, may_begin, is_job_to_begin}
-use Rattle.np_jobs.proofs.ForLemmas.{and-first, and-second}
+use Rattle.np_jobs.proofs.Tests.{and-first, and-second}
 use Rattle.np_jobs.proofs.WindowLemmas.{counted}
 
 -- ## semaphores that are not missing

@@ -17,7 +17,7 @@ use Rattle.np_machine.specs.State.{State}
 use Rattle.np_look.specs.Readers.{is_unfinished_job, unfinished_from}
 use Rattle.np_roles.proofs.Among.{IsAmong, among, before-end}
 use Rattle.np_useful.specs.Window.{is_unfinished, jobs_of, window_of, is_in_window}
-use Rattle.np_jobs.proofs.ForLemmas.{and-first}
+use Rattle.np_jobs.proofs.Tests.{and-first}
 use Rattle.np_jobs.proofs.Rising.{apart, in-order}
 
 -- ## the configuration's rows from a number on

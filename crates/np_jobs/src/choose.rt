@@ -7,31 +7,31 @@ ghost use Rattle.np_fits.specs.Fits.{Fits};
 ghost use Rattle.np_machine.specs.Session.{is_role};
 ghost use Rattle.np_roles.specs.Choices.{Chooses};
 
+use crate::leave::first_step_to_leave;
 use crate::rows::RequesterRows;
-use crate::step::{first_active_step, first_step_in_window};
+use crate::step::{first_step_in_window, first_step_under_way};
 use np_event::Event;
 use np_look::Look;
-use np_roles::{
-    EventKind, NodeKind, choose_opening, current_session, first_of_kinds, first_release,
-};
-use np_text::{EndAs, RequesterId, Role};
+use np_roles::{choose_opening, current_session, first_release};
+use np_text::{RequesterId, Role};
 
-/// A useful event of the requester, or `None` if and only if there is none. It takes no memory. A
-/// job is active if it uses its nodes, or has asked for them and its request is fulfilled or
-/// failed. The choice goes through the requester's active jobs up to the first on which, or on
-/// whose nodes, it finds a useful event: so it passes those that wait for a handle or for the lock
-/// of a node. For each it judges at most three events, and one or two for each node of the job.
-/// Then the release of a job's handles costs one lookup and at most one judged event. Then the
-/// reader `job_to_begin` names the first new job that need not wait for semaphores, and this job
-/// costs the window test, which is two lookups, and at most two judged events. Last it judges three
-/// events for each node in whose queue its session is. It stops at the first event that is useful.
-/// An event on a node costs a few lookups, however many requests there are, if the readers
-/// `active`, `job_to_release`, `unfinished` and `owner` are lookups, as with an index. With an
-/// index, `job_to_begin` costs a few lookups for each different list of semaphores that new jobs
-/// wait for. So what grows the cost is the active jobs that wait for others, the nodes that they
-/// have, the nodes in whose queues the session is, and these lists of semaphores, and not the
-/// requester's other jobs, the handles or all nodes. Jobs that wait for their nodes and new jobs
-/// that wait for semaphores cost nothing, whatever their number.
+/// A useful event of the requester, or `None` if and only if there is none. It takes no memory. It
+/// tries the kinds of events in the order of the crate's table, and stops at the first useful
+/// event. Until then it judges at most
+///
+/// - two events for each node that a job uses, and one for each job that uses its nodes or whose
+///   request failed;
+/// - two for each job that was given its nodes and need not wait for handles, but whose nodes
+///   others hold;
+/// - one release, and two for the first new job that need not wait for semaphores;
+/// - three for each node in whose queue the session is and that was not given to the requester.
+///
+/// The readers of `Look` name these jobs and nodes, the first node to lock, and the first job to
+/// acquire handles for. With an index a reader costs a few lookups, `job_to_acquire` and
+/// `job_to_begin` a few for each different list of semaphores that jobs wait for. A judged event on
+/// a node costs a few lookups, and one on a job under way a few for each of its nodes and
+/// semaphores. So jobs that wait for nodes, handles or semaphores cost nothing, whatever their
+/// number, nor do locked nodes and handles.
 pub fn choose_requester<L: Look>(look: &L, requester: RequesterId) -> Option<Event>
     requires there { is_role (L.site look.now) (Requester requester) ≡ true }
     requires reached { IsReached (L.site look.now) (L.state look.now) }
@@ -42,7 +42,7 @@ pub fn choose_requester<L: Look>(look: &L, requester: RequesterId) -> Option<Eve
     let Some(session) = current_session(look, Role::Requester(requester)) else {
         return choose_opening(look, Role::Requester(requester));
     };
-    let found = first_active_step(look, &rows, session);
+    let found = first_step_under_way(look, &rows, session);
     if found.is_some() {
         return found;
     }
@@ -54,14 +54,5 @@ pub fn choose_requester<L: Look>(look: &L, requester: RequesterId) -> Option<Eve
     if begun.is_some() {
         return begun;
     }
-    first_of_kinds(
-        look,
-        &rows,
-        session,
-        &[
-            EventKind::Node(NodeKind::End(EndAs::Used)),
-            EventKind::Node(NodeKind::End(EndAs::Hold)),
-            EventKind::Node(NodeKind::Unlock),
-        ],
-    )
+    first_step_to_leave(look, &rows, session)
 }

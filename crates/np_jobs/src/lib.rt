@@ -4,30 +4,40 @@
 //!
 //! | What | Tried on |
 //! |---|---|
-//! | take, acquire, lock-node, end-node, unlock-node, finish | each of its active jobs, in order |
+//! | end-node, unlock-node, finish | each job that uses its nodes or whose request failed, in order |
+//! | lock-node | the first node to lock, by number |
+//! | take, acquire | each job that was given its nodes and need not wait for handles, in order |
+//! | acquire | the first job that was given its nodes, waits for handles and finds room |
 //! | release | each of its jobs that is over and has a handle, in order |
 //! | acquire, submit | the first of its new jobs that need not wait, if it is in the window |
-//! | end-node, unlock-node | each node in whose queue its session is, by number |
+//! | end-node, unlock-node | each node to leave, by number |
 //! | open a session | if it has none |
 //!
-//! A job is active if it uses its nodes, or has asked for them and its request is fulfilled or
-//! failed. For each job only the events that its phase allows are judged: take, acquire and the
-//! locks of the nodes of its request if it has asked, and the ends and unlocks of its nodes if it
-//! uses them. So a job goes on until it has to wait for another party, and the next one is looked at
-//! only then. A job whose request is requested or pending waits for its nodes, and has no useful
-//! event, so none is judged. Nor is one of a new job that is past the window, or that waits for
-//! semaphores: it neither asks for its nodes first nor finds room in each semaphore that it lacks.
-//! The first new job that need not wait has a useful acquire or submit if it is in the window, and
-//! if it is past the window, so are those after it. So this one is the only new job that is looked
-//! at, and new jobs that wait for semaphores cost nothing, whatever their number.
+//! A job was given its nodes if it has asked for them and its request is fulfilled, and then the
+//! nodes were given to the requester. It locks each of them in whose queue its session is not, and
+//! leaves each other node in whose queue its session is. A job gets the handles of all its
+//! semaphores at once, so it need not wait for handles if it has one, or has no semaphores. A job
+//! that waits for handles finds room if none of its semaphores is full. The readers of `Look` name
+//! these jobs and nodes.
 //!
-//! So what a choice costs grows with the requester's active jobs that wait for a handle or for the
-//! lock of a node, and with the nodes in whose queues its session is, and not with its other jobs,
-//! handles or all nodes. A release costs one lookup and at most one judged event: of the jobs that
-//! are over and have a handle, the first can be released. An acquire or a submit costs one call of
-//! the reader `job_to_begin`, the window test, which reads only the job and the last one in the
-//! window, and at most two judged events. With an index the reader costs a few lookups for each
-//! different list of semaphores that new jobs wait for.
+//! No other job or node has a useful event of these kinds. A job whose request is requested or
+//! pending waits for its nodes. A job that waits for handles can't be taken, and it acquires them
+//! only if it finds room. A new job waits if it is past the window, or if it does not ask for its
+//! nodes first and lacks a semaphore that is full. The first new job that need not wait for
+//! semaphores has a useful acquire or submit if it is in the window, and if it is past the window,
+//! so are those after it.
+//!
+//! So the cost of a choice grows with the jobs that use their nodes or whose request failed, with
+//! the jobs that need not wait for handles but whose nodes others hold, and with the nodes to
+//! leave, and it stops at the first of these that has a useful event. Everything else is a few
+//! lookups. The lock of the first node to lock is always useful, and so is the acquire of the first
+//! job that waits for handles and finds room, so neither is judged. A release costs one lookup and
+//! at most one judged event: of the jobs that are over and have a handle, the first can be
+//! released. An acquire or a submit of a new job costs one call of the reader `job_to_begin`, the
+//! window test, which reads only the job and the last one in the window, and at most two judged
+//! events. With an index, the readers `job_to_acquire` and `job_to_begin` cost a few lookups for
+//! each different list of semaphores that jobs wait for. Jobs that wait for nodes, handles or
+//! semaphores cost nothing, whatever their number, and locked nodes and handles cost nothing.
 //!
 //! A job that is under way comes before one that begins, and what is no longer needed is given back
 //! first: a node before its job is finished, and handles before a new job begins, which may wait
@@ -36,7 +46,6 @@
 
 mod choose;
 mod leave;
-mod lock;
 mod node;
 mod rows;
 mod step;

@@ -4,82 +4,24 @@ ghost use Rattle.std.specs.Prelude.{◌≡◌, true};
 ghost use Rattle.np_text.specs.declared.id.Role.TheVariants.{Requester};
 ghost use Rattle.np_changes.specs.Planned.{IsReached};
 ghost use Rattle.np_fits.specs.Fits.{Fits};
-ghost use Rattle.np_machine.specs.Kinds.{is_asked};
 ghost use Rattle.np_useful.specs.Sessions.{is_current};
-ghost use Rattle.np_jobs.specs.Steps.{ChoosesOfAsked, ChoosesBeforeFinish, ChoosesOfActive, ChoosesOfNew, ChoosesActive, ChoosesInWindow};
+ghost use Rattle.np_roles.specs.declared.kind.EventKind.TheVariants.{Node, Job};
+ghost use Rattle.np_roles.specs.declared.kind.NodeKind.TheVariants as of_node;
+ghost use Rattle.np_roles.specs.declared.kind.JobKind.TheVariants as of_job;
+ghost use Rattle.np_roles.specs.Choices.{ChoosesOf};
+ghost use Rattle.np_jobs.specs.Steps.{ChoosesToFinish, ChoosesToTakeOne, ChoosesToTake, ChoosesToAcquire, ChoosesUnderWay, ChoosesOfNew, ChoosesInWindow};
 
 use crate::leave::first_to_leave;
-use crate::lock::first_to_lock;
 use crate::rows::RequesterRows;
 use crate::window::is_in_window;
 use np_event::Event;
 use np_look::Look;
-use np_record::JobRecord;
 use np_roles::passes;
-use np_text::{JobId, Phase, SessionId};
+use np_text::{JobId, SessionId};
 
-/// Whether the job has asked for its nodes, and does not use them yet.
-pub(crate) fn is_asked(kept: &JobRecord) -> bool
-    ensures { result ≡ is_asked kept.now.phase }
-{
-    kept.phase == Phase::Asked
-}
-
-/// The first useful event of these on a job that has asked for its nodes and does not use them:
-/// take, acquire, and the lock of a node of its request.
-fn step_of_asked<L: Look>(
-    look: &L,
-    rows: &RequesterRows,
-    session: SessionId,
-    job: JobId,
-    kept: &JobRecord,
-) -> Option<Event>
-    requires reached { IsReached (L.site look.now) (L.state look.now) }
-    requires fits { Fits (L.site look.now) (L.state look.now) }
-    requires current { is_current (Requester rows.now.requester) session (L.state look.now) ≡ true }
-    ensures { ChoosesOfAsked (L.site look.now) (L.state look.now) rows.now.requester session job
-        kept.now result }
-{
-    let take = Event::Take { session, job };
-    if passes(look, rows, take) {
-        return Some(take);
-    }
-    let acquire = Event::Acquire { session, job };
-    if passes(look, rows, acquire) {
-        return Some(acquire);
-    }
-    match first_to_lock(look, rows, session, kept) {
-        None => None,
-        Some(node) => Some(Event::LockNode { session, node }),
-    }
-}
-
-/// The first useful event of these on an active job, before it is finished: take, acquire and
-/// lock-node if it has asked for its nodes, and end-node and unlock-node if it uses them.
-fn step_before_finish<L: Look>(
-    look: &L,
-    rows: &RequesterRows,
-    session: SessionId,
-    job: JobId,
-    kept: &JobRecord,
-) -> Option<Event>
-    requires reached { IsReached (L.site look.now) (L.state look.now) }
-    requires fits { Fits (L.site look.now) (L.state look.now) }
-    requires current { is_current (Requester rows.now.requester) session (L.state look.now) ≡ true }
-    ensures { ChoosesBeforeFinish (L.site look.now) (L.state look.now) rows.now.requester session
-        job kept.now result }
-{
-    if is_asked(kept) {
-        step_of_asked(look, rows, session, job, kept)
-    } else {
-        first_to_leave(look, rows, session, job, kept)
-    }
-}
-
-/// The first useful event of the requester on an active job: take, acquire and lock-node if it has
-/// asked for its nodes, end-node and unlock-node if it uses them, and then finish. It judges at
-/// most three events, and one or two more for each of the job's nodes.
-fn step_of_active<L: Look>(
+/// The first useful event of these on a job: end-node and unlock-node of its nodes if it uses them,
+/// and then finish. It judges at most two events for each of these nodes, and one more.
+fn step_to_finish<L: Look>(
     look: &L,
     rows: &RequesterRows,
     session: SessionId,
@@ -88,15 +30,12 @@ fn step_of_active<L: Look>(
     requires reached { IsReached (L.site look.now) (L.state look.now) }
     requires fits { Fits (L.site look.now) (L.state look.now) }
     requires current { is_current (Requester rows.now.requester) session (L.state look.now) ≡ true }
-    ensures { ChoosesOfActive (L.site look.now) (L.state look.now) rows.now.requester session job
+    ensures { ChoosesToFinish (L.site look.now) (L.state look.now) rows.now.requester session job
         result }
 {
-    let Some(kept) = look.job(job) else {
-        return None;
-    };
-    let found = step_before_finish(look, rows, session, job, &kept);
-    if found.is_some() {
-        return found;
+    let left = first_to_leave(look, rows, session, job);
+    if left.is_some() {
+        return left;
     }
     let finish = Event::Finish { session, job };
     if passes(look, rows, finish) {
@@ -104,6 +43,139 @@ fn step_of_active<L: Look>(
     } else {
         None
     }
+}
+
+/// The first useful event on the jobs that use their nodes or whose request failed, the first job
+/// first: end-node and unlock-node of the nodes that it uses, and then its finish. `None` only if
+/// no finish is useful, since only these jobs can be finished. It stops at the first job that has a
+/// useful event.
+fn first_step_to_finish<L: Look>(
+    look: &L,
+    rows: &RequesterRows,
+    session: SessionId,
+) -> Option<Event>
+    requires reached { IsReached (L.site look.now) (L.state look.now) }
+    requires fits { Fits (L.site look.now) (L.state look.now) }
+    requires current { is_current (Requester rows.now.requester) session (L.state look.now) ≡ true }
+    ensures { ChoosesOf (L.site look.now) (L.state look.now) (Requester rows.now.requester)
+        (Job of_job.Finish) result }
+{
+    for at in 0..look.jobs() {
+        let Some(job) = look.job_to_finish(rows.requester, at) else {
+            return None;
+        };
+        let found = step_to_finish(look, rows, session, job);
+        if found.is_some() {
+            return found;
+        }
+    }
+    None
+}
+
+/// The first useful lock-node, by number of its node, or `None` if and only if there is none. A
+/// lock is useful if and only if its node was given to the requester and the session is not in its
+/// queue, so the cost is one call of the reader `node_to_lock`.
+fn first_lock<L: Look>(look: &L, rows: &RequesterRows, session: SessionId) -> Option<Event>
+    requires reached { IsReached (L.site look.now) (L.state look.now) }
+    requires fits { Fits (L.site look.now) (L.state look.now) }
+    requires current { is_current (Requester rows.now.requester) session (L.state look.now) ≡ true }
+    ensures { ChoosesOf (L.site look.now) (L.state look.now) (Requester rows.now.requester)
+        (Node of_node.Lock) result }
+{
+    match look.node_to_lock(rows.requester, session) {
+        None => None,
+        Some(node) => Some(Event::LockNode { session, node }),
+    }
+}
+
+/// The first useful event of these on a job: take, acquire. It judges at most two events.
+fn step_to_take<L: Look>(
+    look: &L,
+    rows: &RequesterRows,
+    session: SessionId,
+    job: JobId,
+) -> Option<Event>
+    requires reached { IsReached (L.site look.now) (L.state look.now) }
+    requires fits { Fits (L.site look.now) (L.state look.now) }
+    requires current { is_current (Requester rows.now.requester) session (L.state look.now) ≡ true }
+    ensures { ChoosesToTakeOne (L.site look.now) (L.state look.now) rows.now.requester session job
+        result }
+{
+    let take = Event::Take { session, job };
+    if passes(look, rows, take) {
+        return Some(take);
+    }
+    let acquire = Event::Acquire { session, job };
+    if passes(look, rows, acquire) {
+        Some(acquire)
+    } else {
+        None
+    }
+}
+
+/// The first useful take or acquire on the jobs that were given their nodes and need not wait for
+/// handles, the first job first. `None` if there is none on any of them. Only a job that has some
+/// of its handles and lacks others has a useful acquire here. It stops at the first job that has a
+/// useful event, and so passes only those whose nodes others hold.
+fn first_step_to_take<L: Look>(look: &L, rows: &RequesterRows, session: SessionId) -> Option<Event>
+    requires reached { IsReached (L.site look.now) (L.state look.now) }
+    requires fits { Fits (L.site look.now) (L.state look.now) }
+    requires current { is_current (Requester rows.now.requester) session (L.state look.now) ≡ true }
+    ensures { ChoosesToTake (L.site look.now) (L.state look.now) rows.now.requester session result }
+{
+    for at in 0..look.jobs() {
+        let Some(job) = look.job_to_take(rows.requester, at) else {
+            return None;
+        };
+        let found = step_to_take(look, rows, session, job);
+        if found.is_some() {
+            return found;
+        }
+    }
+    None
+}
+
+/// A useful acquire of the first job that was given its nodes, waits for handles and finds room in
+/// all its semaphores, or `None` if there is no such job. The acquire of each such job is useful,
+/// so the cost is one call of the reader `job_to_acquire`.
+fn first_acquire<L: Look>(look: &L, rows: &RequesterRows, session: SessionId) -> Option<Event>
+    requires current { is_current (Requester rows.now.requester) session (L.state look.now) ≡ true }
+    ensures { ChoosesToAcquire (L.site look.now) (L.state look.now) rows.now.requester result }
+{
+    match look.job_to_acquire(rows.requester) {
+        None => None,
+        Some(job) => Some(Event::Acquire { session, job }),
+    }
+}
+
+/// The first useful event on the jobs that have asked for their nodes or use them. These are tried
+/// in order: what ends a job, the lock of a node that was given to the requester, take, and
+/// acquire. Its cost grows with the jobs that use their nodes or whose request failed, and with
+/// those that need not wait for handles but whose nodes others hold.
+pub(crate) fn first_step_under_way<L: Look>(
+    look: &L,
+    rows: &RequesterRows,
+    session: SessionId,
+) -> Option<Event>
+    requires reached { IsReached (L.site look.now) (L.state look.now) }
+    requires fits { Fits (L.site look.now) (L.state look.now) }
+    requires current { is_current (Requester rows.now.requester) session (L.state look.now) ≡ true }
+    ensures { ChoosesUnderWay (L.site look.now) (L.state look.now) rows.now.requester session
+        result }
+{
+    let finish = first_step_to_finish(look, rows, session);
+    if finish.is_some() {
+        return finish;
+    }
+    let lock = first_lock(look, rows, session);
+    if lock.is_some() {
+        return lock;
+    }
+    let take = first_step_to_take(look, rows, session);
+    if take.is_some() {
+        return take;
+    }
+    first_acquire(look, rows, session)
 }
 
 /// The first useful event of these on a job: acquire, submit. It judges at most two events.
@@ -129,32 +201,6 @@ fn step_of_new<L: Look>(
     } else {
         None
     }
-}
-
-/// The first useful event on the requester's active jobs and their nodes, the first job first.
-/// These jobs use their nodes, or have asked for them and their request is fulfilled or failed. It
-/// stops at the first job that has one, so it costs nothing for a job that waits for its nodes, and
-/// passes only active jobs that wait for others: for a handle, or for the lock of a node.
-pub(crate) fn first_active_step<L: Look>(
-    look: &L,
-    rows: &RequesterRows,
-    session: SessionId,
-) -> Option<Event>
-    requires reached { IsReached (L.site look.now) (L.state look.now) }
-    requires fits { Fits (L.site look.now) (L.state look.now) }
-    requires current { is_current (Requester rows.now.requester) session (L.state look.now) ≡ true }
-    ensures { ChoosesActive (L.site look.now) (L.state look.now) rows.now.requester session result }
-{
-    for at in 0..look.jobs() {
-        let Some(job) = look.active(rows.requester, at) else {
-            return None;
-        };
-        let found = step_of_active(look, rows, session, job);
-        if found.is_some() {
-            return found;
-        }
-    }
-    None
 }
 
 /// A useful acquire or submit of a new job in the requester's window. Only a job that need not wait

@@ -1,13 +1,12 @@
 use Rattle.std.proofs.Common.{◌∙◌, sym}
-use Rattle.np_jobs.proofs.ForLemmas.{for-none, for-is, ids-rise, all-own}
+use Rattle.np_jobs.proofs.ForLemmas.{for-none, for-is}
 use Rattle.np_jobs.proofs.node.is_for.Goals as goal
 
 pub returns-in-None : goal.returns-in-None
 returns-in-None g c =
-    sym (for-none (g.L.Look.site c.args.look.now) (g.L.Look.state c.args.look.now) c.args.requester c.args.node
-    (ids-rise (g.L.Look.site c.args.look.now) (g.L.Look.state c.args.look.now) c.requires) (all-own (g.L.Look.site c.args.look.now) (g.L.Look.state c.args.look.now) c.requires) (sym c.node.ensures ∙ c.in-None.is))
+    sym (for-none (g.L.Look.site c.args.look.now) (g.L.Look.state c.args.look.now) c.requires c.args.requester c.args.node (sym c.node.ensures ∙ c.in-None.is))
 
 pub returns-in-Some : goal.returns-in-Some
 returns-in-Some g c =
-    c.is_given.ensures ∙ sym (for-is (g.L.Look.site c.args.look.now) (g.L.Look.state c.args.look.now) c.args.requester c.args.node
-    (ids-rise (g.L.Look.site c.args.look.now) (g.L.Look.state c.args.look.now) c.requires) (all-own (g.L.Look.site c.args.look.now) (g.L.Look.state c.args.look.now) c.requires) c.in-Some.kept (sym c.node.ensures ∙ c.in-Some.is))
+    c.is_given_to.ensures
+    ∙ sym (for-is (g.L.Look.site c.args.look.now) (g.L.Look.state c.args.look.now) c.requires c.args.requester c.args.node c.in-Some.kept (sym c.node.ensures ∙ c.in-Some.is))

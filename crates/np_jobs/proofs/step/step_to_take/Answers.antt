@@ -1,18 +1,11 @@
-use Rattle.std.proofs.Common.{◌≡◌, sym, true}
+use Rattle.std.proofs.Common.{◌≡◌, true}
 use Rattle.np_text.specs.declared.id.Role.TheVariants.{Requester}
 use Rattle.np_event.specs.declared.event.Event.TheVariants as ev
 use Rattle.np_roles.specs.Passing.{passes}
 use Rattle.np_roles.proofs.Searches.{passes-useful}
-use Rattle.np_jobs.specs.Locks.{nodes_awaited}
-use Rattle.np_jobs.proofs.LockLemmas.{lock-found}
-use Rattle.np_jobs.proofs.step.step_of_asked.Goals as goal
+use Rattle.np_jobs.proofs.step.step_to_take.Goals as goal
 
 pub returns-then-passes-2 : goal.returns-then-passes-2
 returns-then-passes-2 g c =
     let is : passes (g.L.Look.site c.args.look.now) (g.L.Look.state c.args.look.now) (Requester c.args.rows.now.requester) (ev.Acquire c.args.session c.args.job) ≡ true = cc in
     passes-useful (g.L.Look.site c.args.look.now) (g.L.Look.state c.args.look.now) (Requester c.args.rows.now.requester) (ev.Acquire c.args.session c.args.job) is c.requires.current
-
-pub returns-in-Some : goal.returns-in-Some
-returns-in-Some g c =
-    lock-found (g.L.Look.site c.args.look.now) (g.L.Look.state c.args.look.now) c.args.rows.now.requester c.args.session c.requires.current
-    (nodes_awaited (g.L.Look.state c.args.look.now) c.args.kept.now) c.in-Some.node (sym c.in-Some.ensures)

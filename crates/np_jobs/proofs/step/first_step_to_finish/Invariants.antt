@@ -1,0 +1,10 @@
+use Rattle.std.proofs.Common.{◌≡◌, ◌<◌, ℕ, Some, false}
+use Rattle.np_text.specs.declared.id.JobId.{JobId}
+use Rattle.np_text.specs.declared.id.Role.TheVariants.{Requester}
+use Rattle.np_event.specs.declared.event.Event.TheVariants as ev
+use Rattle.np_look.specs.Jobs.{job_to_finish}
+use Rattle.np_roles.specs.Passing.{passes}
+use Rattle.np_jobs.proofs.step.first_step_to_finish.Given as goal
+
+abbrev pub invariant-loop-at : goal.invariant-loop-at
+invariant-loop-at g l = (k : ℕ) → k < l.at → (j : JobId) → job_to_finish (g.L.Look.site l.look) l.rows.requester k (g.L.Look.state l.look) ≡ Some j → passes (g.L.Look.site l.look) (g.L.Look.state l.look) (Requester l.rows.requester) (ev.Finish l.session j) ≡ false
