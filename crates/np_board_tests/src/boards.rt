@@ -120,7 +120,11 @@ fn have_equal_handles(one: &Index, other: &Index) -> bool {
 // Both indexes have the same next jobs of the requester.
 fn have_equal_jobs(config: &Config, one: &Index, other: &Index) -> bool {
     let requester = RequesterId(0);
-    one.active(requester, 0) == other.active(requester, 0)
+    let session = SessionId(1);
+    one.job_to_take(requester, 0) == other.job_to_take(requester, 0)
+        && one.job_to_acquire(config, requester) == other.job_to_acquire(config, requester)
+        && one.node_to_lock(requester, session) == other.node_to_lock(requester, session)
+        && one.node_to_leave(requester, session, 0) == other.node_to_leave(requester, session, 0)
         && one.job_to_begin(config, requester) == other.job_to_begin(config, requester)
         && one.job_to_finish(requester, 0) == other.job_to_finish(requester, 0)
         && one.job_to_release(requester, 0) == other.job_to_release(requester, 0)

@@ -6,6 +6,7 @@ ghost use Rattle.np_active.specs.contracts.active.Active as active;
 ghost use Rattle.np_board.specs.contracts.board.Board as board;
 ghost use Rattle.np_classes.specs.contracts.classes.Classes as classes;
 ghost use Rattle.np_config.specs.contracts.config.Config as config;
+ghost use Rattle.np_given.specs.contracts.given.Given as given;
 ghost use Rattle.np_index.specs.contracts.index.Index as index;
 ghost use Rattle.np_keeper.specs.contracts.keeper.TreeKeeper as keeper;
 ghost use Rattle.np_lookups.specs.contracts.lookups.Lookups as lookups;
@@ -16,6 +17,7 @@ use np_active::Active;
 use np_board::Board;
 use np_classes::Classes;
 use np_config::Config;
+use np_given::Given;
 use np_index::Index;
 use np_indexed::Indexed;
 use np_keeper::TreeKeeper;
@@ -65,6 +67,13 @@ fn active_crosses()
     crosses::<Active>();
 }
 
+fn given_crosses()
+    ensures send { IsSend given.the_row }
+    ensures sync { IsSync given.the_row }
+{
+    crosses::<Given>();
+}
+
 fn requested_crosses()
     ensures send { IsSend requested.the_row }
     ensures sync { IsSync requested.the_row }
@@ -80,6 +89,7 @@ fn index_crosses()
     classes_cross();
     requested_crosses();
     active_crosses();
+    given_crosses();
     crosses::<Index>();
 }
 

@@ -236,8 +236,12 @@ impl Look for Board {
         self.index().unfinished(requester, at)
     }
 
-    fn active(&self, requester: RequesterId, at: u32) -> Option<JobId> {
-        self.index().active(requester, at)
+    fn job_to_take(&self, requester: RequesterId, at: u32) -> Option<JobId> {
+        self.index().job_to_take(requester, at)
+    }
+
+    fn job_to_acquire(&self, requester: RequesterId) -> Option<JobId> {
+        self.index().job_to_acquire(self.config(), requester)
     }
 
     fn job_to_begin(&self, requester: RequesterId) -> Option<JobId> {
@@ -250,6 +254,14 @@ impl Look for Board {
 
     fn job_to_release(&self, requester: RequesterId, at: u32) -> Option<JobId> {
         self.index().job_to_release(requester, at)
+    }
+
+    fn node_to_lock(&self, requester: RequesterId, session: SessionId) -> Option<NodeId> {
+        self.index().node_to_lock(requester, session)
+    }
+
+    fn node_to_leave(&self, requester: RequesterId, session: SessionId, at: u32) -> Option<NodeId> {
+        self.index().node_to_leave(requester, session, at)
     }
 
     fn owner(&self, node: NodeId) -> Option<JobId> {
