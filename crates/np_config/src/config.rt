@@ -3,10 +3,7 @@
 ghost use Rattle.std.specs.Prelude.{◌≡◌, slice_get};
 ghost use Rattle.std.specs.Option.{option_copied};
 
-use crate::print::config_value;
-use crate::tenants::default_tenant;
-use crate::walk::config_of;
-use np_json::ConfigRead;
+use crate::tenant::default_tenant;
 use np_site::{Fault, Job, Label, Pool, Provider, Requester, Sem, Tenant};
 use np_text::{JobId, LabelId, NoMemory, PoolId, RequesterId, SemId, TenantId};
 use std::alloc::Global;
@@ -48,22 +45,8 @@ impl Model for Config {
 ghost use Rattle.np_site.specs.Configuration.{configuration, tenant_of};
 ghost use Rattle.np_site.specs.Sound.{IsSound};
 ghost use Rattle.std.specs.Prelude.{IfOk};
-ghost use Rattle.np_json.specs.Reading.{Gives};
-ghost use Rattle.np_config.specs.Walk.{reads};
-ghost use Rattle.np_config.specs.Canonical.{canonical};
 
 impl Config {
-    /// The configuration that the bytes of a JSON text are, or the first fault of a walk through it:
-    /// depth first, the keys of an object in the order of the documentation, lists from the front.
-    /// The cost grows with the length of the text; a reference is looked up without a scan.
-    #[tactic(auto, using(crate::proofs::WalkTakes::read_soundly))]
-    pub fn from_json(alloc: Global, bytes: &[u8]) -> Result<Config, ConfigRead>
-        ensures exact { Gives (λ c. c) result (reads bytes.now) }
-        ensures sound { IfOk result IsSound }
-    {
-        config_of(alloc, bytes)
-    }
-
     /// The configuration with these tables, in which each id is a place. It takes memory for the
     /// tenant `default`, which is not listed.
     pub fn of_parts(
@@ -103,18 +86,6 @@ impl Config {
         ensures { IsSound self.now }
     {
         let _labels = &self.labels;
-    }
-
-    /// The one text of the configuration: compact JSON, keys in byte order, every default written
-    /// except an empty list of tenants and a job's tenant `default`. Reading it returns the same
-    /// configuration. The cost grows with the length of the text, and with the number of jobs times
-    /// that of requesters.
-    pub fn to_json(&self, alloc: Global) -> Result<Vec<u8>, NoMemory>
-        ensures text { IfOk result (λ b. b.items ≡ canonical self.now) }
-        ensures again { IfOk result (λ b. reads b.items ≡ Ok self.now) }
-    {
-        self.soundness();
-        Ok(config_value(alloc, self)?.to_vec(alloc)?)
     }
 
     /// The label, or `None` if the id is past the end of the table.
@@ -184,49 +155,57 @@ impl Config {
         self.max_hold_age
     }
 
-    pub(crate) fn labels(&self) -> &[Label]
+    /// The table of labels.
+    pub fn labels(&self) -> &[Label]
         ensures { result.now ≡ self.now.labels }
     {
         &self.labels
     }
 
-    pub(crate) fn providers(&self) -> &[Provider]
+    /// The table of providers.
+    pub fn providers(&self) -> &[Provider]
         ensures { result.now ≡ self.now.providers }
     {
         &self.providers
     }
 
-    pub(crate) fn pools(&self) -> &[Pool]
+    /// The table of pools, those of the first provider first.
+    pub fn pools(&self) -> &[Pool]
         ensures { result.now ≡ self.now.pools }
     {
         &self.pools
     }
 
-    pub(crate) fn semaphores(&self) -> &[Sem]
+    /// The table of semaphores.
+    pub fn semaphores(&self) -> &[Sem]
         ensures { result.now ≡ self.now.semaphores }
     {
         &self.semaphores
     }
 
-    pub(crate) fn tenants(&self) -> &[Tenant]
+    /// The tenants that are listed: the one at place `n` has the id `n + 1`.
+    pub fn tenants(&self) -> &[Tenant]
         ensures { result.now ≡ self.now.tenants }
     {
         &self.tenants
     }
 
-    pub(crate) fn requesters(&self) -> &[Requester]
+    /// The table of requesters.
+    pub fn requesters(&self) -> &[Requester]
         ensures { result.now ≡ self.now.requesters }
     {
         &self.requesters
     }
 
-    pub(crate) fn jobs(&self) -> &[Job]
+    /// The table of jobs, those of the first requester first.
+    pub fn jobs(&self) -> &[Job]
         ensures { result.now ≡ self.now.jobs }
     {
         &self.jobs
     }
 
-    pub(crate) fn faults(&self) -> &[Fault]
+    /// The planned faults.
+    pub fn faults(&self) -> &[Fault]
         ensures { result.now ≡ self.now.faults }
     {
         &self.faults
