@@ -5,7 +5,7 @@ ghost use Rattle.np_machine.specs.History.{Runs};
 ghost use Rattle.np_machine.specs.State.{start};
 ghost use Rattle.np_fits.specs.Fits.{IsFitSite};
 ghost use Rattle.np_index.specs.Index.{IsIndexOf};
-ghost use Rattle.np_rules.specs.Ran.{answer_of, applied};
+ghost use Rattle.np_journal.specs.Ran.{answer_of, applied};
 ghost use Rattle.np_useful.specs.Settled.{IsSettled};
 ghost use Rattle.np_answers.specs.Answers.{answers_due};
 ghost use Rattle.np_board.specs.Taken.{IsTaken};
@@ -24,7 +24,7 @@ use np_indexed::Indexed;
 use np_keeper::TreeKeeper;
 use np_look::Look;
 use np_roles::current_session;
-use np_rules::JournalKeeper;
+use np_journal::JournalKeeper;
 use np_text::{JOURNAL_ENTRIES, NoMemory, NodeId, PoolId, Role};
 use std::alloc::Global;
 use std::marker::Model;
@@ -37,7 +37,7 @@ pub struct Board {
 }
 
 impl Model for Board {
-    ghost use Rattle.np_rules.specs.Ran.{Ran};
+    ghost use Rattle.np_journal.specs.Ran.{Ran};
 
     ghost Value = { Ran };
 

@@ -4,8 +4,8 @@ ghost use Rattle.std.specs.Prelude.{◌≡◌, ◌≤◌, ◌++◌, codes, lengt
 ghost use Rattle.np_machine.specs.Fates.{fates, fate_of};
 ghost use Rattle.np_report.specs.Summary.{is_end, summary_of, count_line};
 
+use np_look::Look;
 use np_record::JobRecord;
-use np_rules::Look;
 use np_text::{Ending, JobId, NoMemory, put_number};
 use std::alloc::Global;
 

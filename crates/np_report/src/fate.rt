@@ -5,8 +5,8 @@ ghost use Rattle.std.specs.List.{flat_map};
 ghost use Rattle.np_machine.specs.Fates.{declines_of, fate_of};
 ghost use Rattle.np_report.specs.Text.{decline_text, fate_text, node_text, pool_text};
 
+use np_look::Look;
 use np_record::{Declined, JobRecord, Marked};
-use np_rules::Look;
 use np_text::{Ending, NoMemory, PoolId, put_number, put_reason};
 
 fn put_decline(out: &mut Vec<u8>, declined: Declined) -> Result<(), NoMemory>

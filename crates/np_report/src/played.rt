@@ -4,7 +4,7 @@ ghost use Rattle.std.specs.Prelude.{◌≡◌, ◌≤◌, [], length, IfOk, OnOk
 ghost use Rattle.std.specs.List.{AllByRecursion};
 ghost use Rattle.np_event.specs.Line.{HasEventLine};
 ghost use Rattle.np_machine.specs.State.{start};
-ghost use Rattle.np_rules.specs.Ran.{Ran, answer_of, applied};
+ghost use Rattle.np_journal.specs.Ran.{Ran, answer_of, applied};
 ghost use Rattle.np_report.specs.Played.{played, ran};
 ghost use Rattle.np_report.specs.Printed.{IsPrinted};
 ghost use Rattle.np_report.specs.Script.{IsPlayable};
@@ -15,7 +15,9 @@ use np_config::Config;
 use np_decision::StateKeeper;
 use np_event::{Entry, Event, Reply};
 use np_indexed::Indexed;
-use np_rules::{JournalKeeper, Look, VecKeeper};
+use np_journal::JournalKeeper;
+use np_look::Look;
+use np_rules::VecKeeper;
 use np_text::NoMemory;
 use std::alloc::{AllocError, Global};
 

@@ -14,7 +14,7 @@ ghost use Rattle.np_report.specs.Text.{text_of, job_text, entry_lines, fate_line
 use crate::fate::put_fate;
 use np_config::Config;
 use np_event::{Entry, put_entry};
-use np_rules::Look;
+use np_look::Look;
 use np_site::Job;
 use np_text::{JobId, NoMemory, put_number};
 use std::alloc::Global;

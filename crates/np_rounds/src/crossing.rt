@@ -23,7 +23,7 @@ use np_indexed::Indexed;
 use np_keeper::TreeKeeper;
 use np_lookups::Lookups;
 use np_open::Open;
-use np_rules::JournalKeeper;
+use np_journal::JournalKeeper;
 use np_tree::Tree;
 
 /// A type with these bounds may be moved to other threads, and shared with them.

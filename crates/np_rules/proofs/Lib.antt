@@ -7,6 +7,5 @@ pub mod Changing
 pub mod LeaveLemmas
 pub mod EndLemmas
 pub mod Handles
-pub mod StepLemmas
 pub mod StartLemmas
 mod FirstLemmas

@@ -2,4 +2,3 @@ pub mod CanChange
 pub mod LeftLast
 pub mod TakenBack
 pub mod Keeper
-pub mod Ran

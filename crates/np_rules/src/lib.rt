@@ -3,9 +3,8 @@
 //! np_machine defines the reply to each event and the state that it leaves, and np_decision decides
 //! both for anything that keeps a state. `keeper` keeps it in vectors: `tables` has the lists,
 //! `walk` the readers that scan every row, `grow` the changes that may take memory, `settle` those
-//! that may not fail, and `ends` how a session that ends leaves its queues. `JournalKeeper` adds the
-//! journal to anything that keeps a state, and the journal always leads to that state; `Plain` is the
-//! machine over vectors.
+//! that may not fail, and `ends` how a session that ends leaves its queues. `Plain` is the machine
+//! over vectors, with its journal (np_journal).
 //!
 //! Requests, nodes and swept pairs are in the order of their keys (`keys`), and one of them is
 //! changed by one of the changes in `change`. The vectors have the rows and nothing besides: what
@@ -17,9 +16,9 @@
 mod change;
 mod ends;
 mod grow;
-mod journal;
 mod keeper;
 mod keys;
+mod plain;
 mod queues;
 mod roles;
 mod settle;
@@ -27,6 +26,5 @@ mod start;
 mod tables;
 mod walk;
 
-pub use journal::{JournalKeeper, Plain};
 pub use keeper::VecKeeper;
-pub use np_look::Look;
+pub use plain::{Plain, new_plain};

@@ -1,6 +1,6 @@
 use Rattle.np_fits.proofs.FitsRuns.{Fits-Runs}
 use Rattle.np_fits.proofs.Sites.{sound_fits}
-use Rattle.np_rules.proofs.StartLemmas.{Runs-start}
+use Rattle.np_journal.proofs.StartLemmas.{Runs-start}
 use Rattle.np_report.proofs.played.new_machine.Goals as goal
 
 pub new-requires-2-clause-fits : goal.new-requires-2-clause-fits

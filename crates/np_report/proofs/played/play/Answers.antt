@@ -1,6 +1,6 @@
 use Rattle.std.proofs.Common.{◌<◌, ◌∙◌, ap, arith, length, get_or}
 use Rattle.np_event.specs.declared.event.Event.TheVariants.{Tick}
-use Rattle.np_rules.specs.Ran.{Ran, applied}
+use Rattle.np_journal.specs.Ran.{Ran, applied}
 use Rattle.np_report.proofs.Playing.{ran-next}
 use Rattle.np_report.proofs.played.play.Goals as goal
 

@@ -3,7 +3,7 @@ use Rattle.std.specs.List.{AllByRecursion}
 use Rattle.np_event.specs.declared.entry.Entry.{Entry}
 use Rattle.np_event.specs.Line.{HasEventLine}
 use Rattle.np_machine.specs.State.{start}
-use Rattle.np_rules.specs.Ran.{Ran}
+use Rattle.np_journal.specs.Ran.{Ran}
 use Rattle.np_report.proofs.Playing.{lines-played_from}
 use Rattle.np_report.proofs.SafePlay.{runs-same}
 use Rattle.np_report.proofs.played.text_of_events.Goals as goal

@@ -2,7 +2,7 @@ use Rattle.std.proofs.Common.{ap, subst, List}
 use Rattle.std.specs.Prelude.{IfOk}
 use Rattle.np_event.specs.declared.event.Event.{Event}
 use Rattle.np_site.specs.Configuration.{Configuration}
-use Rattle.np_rules.specs.Ran.{Ran}
+use Rattle.np_journal.specs.Ran.{Ran}
 use Rattle.np_report.specs.Played.{played}
 use Rattle.np_report.specs.Printed.{IsPrinted}
 use Rattle.np_report.proofs.played.text_of_script.Goals as goal

@@ -1,7 +1,7 @@
 use Rattle.std.proofs.Common.{◌≡◌, ◌<◌, ◌++◌, ◌∷◌, [], ◌∙◌, List, length, ap, arith}
 use Rattle.np_event.specs.declared.entry.Entry.{Entry}
 use Rattle.np_decode.specs.Decoded.{decoded}
-use Rattle.np_rules.proofs.StepLemmas.{Runs-next}
+use Rattle.np_journal.proofs.StepLemmas.{Runs-next}
 use Rattle.np_steps_tests.proofs.play.step.Goals as goal
 
 pub returns : goal.returns

@@ -1,6 +1,6 @@
 use Rattle.std.proofs.Common.{◌<◌, ◌∙◌, List, length, ap, subst, arith}
 use Rattle.np_event.specs.declared.entry.Entry.{Entry}
-use Rattle.np_rules.specs.Ran.{Ran}
+use Rattle.np_journal.specs.Ran.{Ran}
 use Rattle.np_board.proofs.TurnLemmas.{do-taken}
 use Rattle.np_board.proofs.board.Board.record.Goals as goal
 

@@ -4,8 +4,6 @@ ghost use Rattle.std.specs.Prelude.{◌≡◌, [], IfOk, OnErr, OnOk, length};
 
 mod look;
 
-use crate::keeper::{VecKeeper, is_sound};
-use np_config::Config;
 use np_decision::{StateKeeper, decide, step};
 use np_event::{Entry, Event, Refusal, Reply};
 use np_text::JOURNAL_ENTRIES;
@@ -20,11 +18,8 @@ pub struct JournalKeeper<K: StateKeeper + Drop> {
     journal: Vec<Entry>,
 }
 
-/// The machine over vectors.
-pub type Plain = JournalKeeper<VecKeeper>;
-
 impl<K: StateKeeper + Drop> Model for JournalKeeper<K> {
-    ghost use Rattle.np_rules.specs.Ran.{IsRun, Ran};
+    ghost use Rattle.np_journal.specs.Ran.{IsRun, Ran};
 
     ghost Value = { Ran };
 
@@ -33,24 +28,11 @@ impl<K: StateKeeper + Drop> Model for JournalKeeper<K> {
     ghost invariant = { λ m. IsRun (record { configuration = K.site m.keeper; journal = m.journal.items; state = K.state m.keeper }) };
 }
 
-impl JournalKeeper<VecKeeper> {
-    ghost use Rattle.np_machine.specs.State.{start};
-
-    /// The machine before the first event.
-    pub fn new(alloc: Global, config: Config) -> Result<Plain, AllocError>
-        ensures { IfOk result (λ m. m ≡ record { configuration = config; journal = []; state = start config }) }
-    {
-        is_sound(&config);
-        let keeper = VecKeeper::new(alloc, config)?;
-        Ok(JournalKeeper::begin(alloc, keeper))
-    }
-}
-
 impl<K: StateKeeper + Drop> JournalKeeper<K> {
     ghost use Rattle.np_fits.specs.Fits.{IsFitSite};
     ghost use Rattle.np_machine.specs.History.{Runs};
     ghost use Rattle.np_machine.specs.State.{start};
-    ghost use Rattle.np_rules.specs.Ran.{answer_of, applied};
+    ghost use Rattle.np_journal.specs.Ran.{answer_of, applied};
 
     /// The machine over this keeper, which has the state before the first event.
     pub fn begin(alloc: Global, keeper: K) -> JournalKeeper<K>

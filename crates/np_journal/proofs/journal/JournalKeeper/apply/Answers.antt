@@ -2,8 +2,8 @@
 use Rattle.std.proofs.Common.{◌≡◌, ◌<◌, ◌++◌, ◌∷◌, [], ◌∙◌, List, length, ap, arith}
 use Rattle.np_event.specs.declared.entry.Entry.{Entry}
 use Rattle.np_fits.proofs.FitsRuns.{Fits-Runs}
-use Rattle.np_rules.proofs.StepLemmas.{IsRun-next}
-use Rattle.np_rules.proofs.journal.JournalKeeper.apply.Goals as goal
+use Rattle.np_journal.proofs.StepLemmas.{IsRun-next}
+use Rattle.np_journal.proofs.journal.JournalKeeper.apply.Goals as goal
 
 pub step-requires-clause-reached : goal.step-requires-clause-reached
 step-requires-clause-reached g c = record { journal = c.self.inside.journal.items; runs = c.self.invariant.runs }

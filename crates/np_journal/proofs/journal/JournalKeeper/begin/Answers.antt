@@ -1,8 +1,8 @@
 use Rattle.std.proofs.Common.{[], sym, subst}
 use Rattle.np_machine.specs.History.{Runs}
 use Rattle.np_machine.specs.State.{State}
-use Rattle.np_rules.proofs.StartLemmas.{Runs-start}
-use Rattle.np_rules.proofs.journal.JournalKeeper.begin.Goals as goal
+use Rattle.np_journal.proofs.StartLemmas.{Runs-start}
+use Rattle.np_journal.proofs.journal.JournalKeeper.begin.Goals as goal
 
 pub invariant_of-result : goal.invariant_of-result
 invariant_of-result g c = record {

@@ -6,7 +6,7 @@ use Rattle.np_event.specs.declared.reply.Reply.{Reply}
 use Rattle.np_machine.specs.State.{State, start}
 use Rattle.np_machine.specs.Step.{judge, next, reply_of}
 use Rattle.np_machine.specs.History.{after, Runs}
-use Rattle.np_rules.specs.Ran.{Ran, IsRun}
+use Rattle.np_journal.specs.Ran.{Ran, IsRun}
 use Rattle.np_machine.proofs.Runs.{state_after-push, replayed-push}
 
 -- a run continues with an event and the machine's reply
