@@ -4,7 +4,7 @@ use crate::event::Event;
 use crate::reply::Reply;
 
 /// One entry of the machine's journal.
-#[derive(Clone, Copy, Debug, PartialEq, Eq)]
+#[derive(Clone, Copy)]
 pub struct Entry {
     pub event: Event,
     pub reply: Reply,

@@ -3,7 +3,7 @@
 use np_text::{EndAs, JobId, LabelId, NodeId, Reason, RequestId, Role, SessionId};
 
 /// What became of a launch.
-#[derive(Clone, Copy, Debug, PartialEq, Eq)]
+#[derive(Clone, Copy)]
 pub enum Outcome {
     /// The driver launched the server of this number.
     Launched(u64),
@@ -12,7 +12,7 @@ pub enum Outcome {
 
 /// One event of the machine. All except `Tick`, `OpenSession`, `Crash` and `Expire` have a maker,
 /// the session that they name first.
-#[derive(Clone, Copy, Debug, PartialEq, Eq)]
+#[derive(Clone, Copy)]
 pub enum Event {
     Tick,
     OpenSession {

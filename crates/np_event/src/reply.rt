@@ -5,7 +5,7 @@ use np_text::{
 };
 
 /// The answer to an accepted event.
-#[derive(Clone, Copy, Debug, PartialEq, Eq)]
+#[derive(Clone, Copy)]
 pub enum Done {
     Plain,
     /// The session that was opened.
@@ -29,7 +29,7 @@ pub enum Done {
 }
 
 /// The state that a refusal found.
-#[derive(Clone, Copy, Debug, PartialEq, Eq)]
+#[derive(Clone, Copy)]
 pub enum Found {
     Request(RequestState),
     Node(NodeState),
@@ -39,7 +39,7 @@ pub enum Found {
 }
 
 /// A refusal, by the first test that failed.
-#[derive(Clone, Copy, Debug, PartialEq, Eq)]
+#[derive(Clone, Copy)]
 pub enum Refusal {
     NoSession,
     Expired,
@@ -95,7 +95,7 @@ pub enum Refusal {
 }
 
 /// The answer to an event.
-#[derive(Clone, Copy, Debug, PartialEq, Eq)]
+#[derive(Clone, Copy)]
 pub enum Reply {
     Done(Done),
     Refused(Refusal),

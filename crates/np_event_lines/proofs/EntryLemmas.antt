@@ -1,0 +1,169 @@
+-- One line for each entry.
+use Rattle.std.proofs.Common.{◌≡◌, ℕ, Bool, true, false, cond, ◌&&◌, not, ◌==◌, List, [], ◌∷◌, ◌++◌, drop, Option, Some, None, Result, Ok, Err, refl, sym, ap, subst, ◌∙◌, arith, append_assoc}
+use Rattle.std.specs.Prelude.{codes, IfOk}
+use Rattle.std.specs.List.{list_all}
+use Rattle.std.specs.Result.{result_ok}
+use Rattle.std.specs.Str.{bytes_eq}
+use Rattle.std.proofs.lemmas.Bool.{eqb-true}
+use Rattle.std.proofs.lemmas.Bool.Decides.{nat_tests}
+use Rattle.np_text.specs.Lines.{is_line}
+use Rattle.np_text.specs.Sections.{bar, behind}
+use Rattle.np_text.proofs.SpellingLemmas.{both_true, some_injective}
+use Rattle.np_event.specs.declared.entry.Entry.{Entry}
+use Rattle.np_event.specs.declared.event.Event.{Event}
+use Rattle.np_event_lines.specs.declared.fault.LineFault.{LineFault}
+use Rattle.np_event.specs.declared.reply.Reply.{Reply}
+use Rattle.np_event_lines.specs.Line.{HasEntryLine, HasEventLine, begins_reply, entry_from, entry_in, entry_line, entry_with, event_in, event_line, reply_in, reply_line, sides_of, told, told_entry}
+use Rattle.np_event_lines.specs.Words.{words_of}
+use Rattle.np_event_lines.proofs.EventLemmas.{event_in-spelled, event_in-words, inside-event_line}
+use Rattle.np_event_lines.proofs.ReplyLemmas.{inside-reply_line, reply_in-spelled, reply_in-words}
+use Rattle.np_event_lines.proofs.KindLemmas.{same_bytes}
+use Rattle.np_event_lines.proofs.SpellingLemmas.{is_inside, is_line-inside}
+
+-- ## The two sides
+
+middle_false : (p q : Bool) → ((p && false) && q) ≡ false
+middle_false true q = refl
+middle_false false q = refl
+
+no_reply : (x : ℕ) (xs back : List ℕ) → list_all is_inside xs ≡ true → begins_reply (x ∷ (xs ++ 32 ∷ 61 ∷ 32 ∷ back)) ≡ false
+no_reply x [] back inside = middle_false (x == 32) false
+no_reply x (y ∷ []) back inside =
+    let other : (y == 61) ≡ false = grind (arith, nat_tests, (both_true (is_inside y) true inside).0) in
+    rw other (middle_false (x == 32) true)
+no_reply x (y ∷ z ∷ zs) back inside =
+    let other : (y == 61) ≡ false = grind (arith, nat_tests, (both_true (is_inside y) (list_all is_inside (z ∷ zs)) inside).0) in
+    rw other (middle_false (x == 32) (z == 32))
+
+sides_of-sides : (front back : List ℕ) → list_all is_inside front ≡ true → sides_of (front ++ 32 ∷ 61 ∷ 32 ∷ back) ≡ Some (front, back)
+unfolding sides_of
+sides_of-sides [] back inside = refl
+sides_of-sides (x ∷ xs) back inside =
+    let parts = both_true (is_inside x) (list_all is_inside xs) inside in
+    let other = no_reply x xs back parts.1 in
+    rw other (ap (behind (x ∷ [])) (sides_of-sides xs back parts.1))
+
+begins_reply-told : (line : List ℕ) → begins_reply line ≡ true → 32 ∷ 61 ∷ 32 ∷ drop 3 line ≡ line
+begins_reply-told [] begins = absurd (cc)
+begins_reply-told (a ∷ []) begins = absurd (cc)
+begins_reply-told (a ∷ b ∷ []) begins = absurd (cc)
+begins_reply-told (a ∷ b ∷ c ∷ rest) begins =
+    let last = both_true ((a == 32) && (b == 61)) (c == 32) begins in
+    let front = both_true (a == 32) (b == 61) last.0 in
+    ap (λ x. x ∷ 61 ∷ 32 ∷ rest) (sym (eqb-true a 32 front.0)) ∙ ap (λ x. a ∷ x ∷ 32 ∷ rest) (sym (eqb-true b 61 front.1)) ∙ ap (λ x. a ∷ b ∷ x ∷ rest) (sym (eqb-true c 32 last.1))
+
+-- the line again, of its sides
+abbrev joined : List ℕ × List ℕ → List ℕ
+joined sides = sides.0 ++ 32 ∷ 61 ∷ 32 ∷ sides.1
+
+behind_told : (x : ℕ) (xs : List ℕ) (o : Option (List ℕ × List ℕ)) (sides : List ℕ × List ℕ) → behind (x ∷ []) o ≡ Some sides
+    → ((inner : List ℕ × List ℕ) → o ≡ Some inner → joined inner ≡ xs) → joined sides ≡ x ∷ xs
+behind_told x xs None sides answer inside = absurd (cc)
+behind_told x xs (Some inner) sides answer inside =
+    let same = some_injective {A = List ℕ × List ℕ} (x ∷ inner.0, inner.1) sides answer in
+    sym (ap joined same) ∙ ap (λ rest. x ∷ rest) (inside inner refl)
+
+sides_of-told : (line : List ℕ) (sides : List ℕ × List ℕ) → sides_of line ≡ Some sides → joined sides ≡ line
+unfolding sides_of
+sides_of-told [] sides answer = absurd (cc)
+sides_of-told (x ∷ xs) sides answer = cases (sides_of-told xs) (begins_reply (x ∷ xs)) refl answer
+  where
+    cases : ((inner : List ℕ × List ℕ) → sides_of xs ≡ Some inner → joined inner ≡ xs) → (b : Bool) → begins_reply (x ∷ xs) ≡ b
+        → cond {A = Option (List ℕ × List ℕ)} b (Some ([], drop 3 (x ∷ xs))) (behind (x ∷ []) (sides_of xs)) ≡ Some sides → joined sides ≡ x ∷ xs
+    cases inside true begins answer =
+        let same = some_injective {A = List ℕ × List ℕ} ([], drop 3 (x ∷ xs)) sides answer in
+        sym (ap joined same) ∙ begins_reply-told (x ∷ xs) begins
+    cases inside false begins answer = behind_told x xs (sides_of xs) sides answer inside
+
+-- ## Entries
+
+entry_line-joined : (e : Entry) → entry_line e ≡ event_line e.event ++ 32 ∷ 61 ∷ 32 ∷ reply_line e.reply
+entry_line-joined e = append_assoc (event_line e.event) (codes " = ") (reply_line e.reply)
+
+pub entry_in-line : (e : Entry) → HasEntryLine e → entry_in (entry_line e) ≡ Some (told_entry e)
+unfolding entry_in
+entry_in-line e has =
+    ap (λ line. entry_with (sides_of line)) (entry_line-joined e)
+    ∙ ap entry_with (sides_of-sides (event_line e.event) (reply_line e.reply) (inside-event_line e.event has.event))
+    ∙ ap (λ o. entry_from o (reply_in (words_of (reply_line e.reply)))) (event_in-words e.event has.event)
+    ∙ ap (entry_from (Ok e.event)) (reply_in-words e.reply has.reply)
+
+-- what is known of an entry that is read from a line
+pub record IsTold (line : List ℕ) (e : Entry) : Type 0 where
+  pub has : HasEntryLine e
+  pub says : entry_line e ≡ line
+  pub told : told_entry e ≡ e
+
+entry_from-told : (o : Result Event LineFault) (p : Option Reply) (e : Entry) → entry_from o p ≡ Some e → (o ≡ Ok e.event) × (p ≡ Some e.reply)
+entry_from-told (Ok event) (Some reply) e answer =
+    let same = some_injective (record { event = event; reply = reply }) e answer in
+    (ap (λ (x : Entry). Ok x.event) same, ap (λ (x : Entry). Some x.reply) same)
+entry_from-told (Ok event) None e answer = absurd (cc)
+entry_from-told (Err fault) p e answer = absurd (cc)
+
+told_reply : (text : List ℕ) (r : Reply) → reply_in (words_of text) ≡ Some r → told r ≡ r
+told_reply text r answer =
+    let spelled = reply_in-spelled text r answer in
+    let again = reply_in-words r spelled.0 in
+    some_injective (told r) r (sym again ∙ ap (λ line. reply_in (words_of line)) spelled.1 ∙ answer)
+
+entry_with-told : (line : List ℕ) (o : Option (List ℕ × List ℕ)) (e : Entry) → sides_of line ≡ o → entry_with o ≡ Some e → IsTold line e
+entry_with-told line None e is answer = absurd (cc)
+entry_with-told line (Some sides) e is answer =
+    let read = entry_from-told (event_in (words_of sides.0)) (reply_in (words_of sides.1)) e answer in
+    let event = event_in-spelled sides.0 e.event read.0 in
+    let reply = reply_in-spelled sides.1 e.reply read.1 in
+    record {
+      has = record { event = event.0; reply = reply.0 };
+      says = entry_line-joined e ∙ ap (λ front. front ++ 32 ∷ 61 ∷ 32 ∷ reply_line e.reply) event.1 ∙ ap (λ back. sides.0 ++ 32 ∷ 61 ∷ 32 ∷ back) reply.1 ∙ sides_of-told line sides is;
+      told = ap (λ (r : Reply). let made : Entry = record { event = e.event; reply = r } in made) (told_reply sides.1 e.reply read.1);
+    }
+
+pub entry_in-told : (line : List ℕ) (e : Entry) → entry_in line ≡ Some e → IsTold line e
+unfolding entry_in
+entry_in-told line e answer = entry_with-told line (sides_of line) e refl answer
+
+pub entry_line-injective : (a b : Entry) → HasEntryLine a → HasEntryLine b → entry_line a ≡ entry_line b → told_entry a ≡ told_entry b
+entry_line-injective a b a_has b_has same =
+    some_injective (told_entry a) (told_entry b) (sym (entry_in-line a a_has) ∙ ap entry_in same ∙ entry_in-line b b_has)
+
+-- ## No newline
+
+is_line-append : (xs ys : List ℕ) → is_line xs ≡ true → is_line ys ≡ true → is_line (xs ++ ys) ≡ true
+is_line-append [] ys front back = back
+is_line-append (x ∷ xs) ys front back =
+    let parts = both_true (not (x == 10)) (is_line xs) front in
+    rw parts.0 (is_line-append xs ys parts.1 back)
+
+pub is_line-event : (e : Event) → HasEventLine e → is_line (event_line e) ≡ true
+is_line-event e has = is_line-inside (event_line e) (inside-event_line e has)
+
+pub is_line-entry : (e : Entry) → HasEntryLine e → is_line (entry_line e) ≡ true
+is_line-entry e has =
+    let back : is_line (32 ∷ 61 ∷ 32 ∷ reply_line e.reply) ≡ true = is_line-inside (reply_line e.reply) (inside-reply_line e.reply has.reply) in
+    ap is_line (entry_line-joined e) ∙ is_line-append (event_line e.event) (32 ∷ 61 ∷ 32 ∷ reply_line e.reply) (is_line-event e.event has.event) back
+
+none_some : (e : Entry) → None ≡ Some e → ⊥
+none_some e same = cc
+
+-- no entry's line is the line between two sections
+pub entry_line-no_bar : (e : Entry) → HasEntryLine e → bytes_eq (entry_line e) bar ≡ false
+unfolding entry_in sides_of
+entry_line-no_bar e has = cases (bytes_eq (entry_line e) bar) refl
+  where
+    nothing : entry_in bar ≡ None
+    nothing = refl
+
+    cases : (b : Bool) → bytes_eq (entry_line e) bar ≡ b → b ≡ false
+    cases true is =
+        let told : entry_in bar ≡ Some (told_entry e) = ap entry_in (sym (same_bytes (entry_line e) bar is)) ∙ entry_in-line e has in
+        absurd (none_some (told_entry e) (sym nothing ∙ told))
+    cases false is = refl
+
+-- ## What was read has a line
+
+pub HasEntryLine-read : (o : Result Event LineFault) (p : Option Reply) (text : List ℕ) (event : Event) (reply : Reply)
+    → result_ok o ≡ Some event → IfOk o HasEventLine → p ≡ reply_in (words_of text) → p ≡ Some reply → HasEntryLine (record { event = event; reply = reply })
+HasEntryLine-read (Ok e) p text event reply is_event has is read =
+    record { event = subst HasEventLine (some_injective e event is_event) has; reply = (reply_in-spelled text reply (sym is ∙ read)).0 }
+HasEntryLine-read (Err fault) p text event reply is_event has is read = absurd (cc)

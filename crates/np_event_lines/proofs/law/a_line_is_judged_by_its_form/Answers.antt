@@ -1,0 +1,16 @@
+use Rattle.np_event_lines.specs.declared.fault.LineFault.TheVariants.{BadArgument, WrongCount}
+use Rattle.np_event_lines.specs.EventForm.{event_row}
+use Rattle.np_event_lines.proofs.FaultLemmas.{form-fault, row-count, row-word}
+use Rattle.np_event_lines.proofs.law.a_line_is_judged_by_its_form.Goals as goal
+
+pub returns : goal.returns
+returns c = record {
+  count = λ form rest stands.
+      let fault = form-fault form rest WrongCount stands in
+      let row = row-count (event_row form).kinds rest in
+      (λ answer. row.0 (fault.0 answer), λ other. fault.1 (row.1 other));
+  word = λ form rest word stands.
+      let fault = form-fault form rest (BadArgument word) stands in
+      let row = row-word (event_row form).kinds rest word in
+      (λ answer. row.0 (fault.0 answer), λ told. fault.1 (row.1 told));
+}
