@@ -4,7 +4,7 @@ use np_event::{Entry, Event};
 use np_text::{NodeId, PoolId, Role};
 
 /// What a party asks in a turn.
-#[derive(Clone, Copy, Debug, PartialEq, Eq)]
+#[derive(Clone, Copy)]
 pub enum Ask {
     /// The role makes a useful event, if it has one.
     Act(Role),
@@ -22,7 +22,7 @@ pub enum Ask {
 }
 
 /// What a turn answers.
-#[derive(Clone, Copy, Debug, PartialEq, Eq)]
+#[derive(Clone, Copy)]
 pub enum Turn {
     /// What was recorded.
     Did(Entry),

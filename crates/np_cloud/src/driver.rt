@@ -19,7 +19,7 @@ pub struct Tag {
 }
 
 /// A launch, and what became of it.
-#[derive(Clone, Copy, Debug, PartialEq, Eq)]
+#[derive(Clone, Copy)]
 pub struct Launch {
     pub tag: Tag,
     pub outcome: Outcome,
