@@ -12,7 +12,7 @@ use Rattle.np_site.specs.Configuration.{Configuration}
 use Rattle.np_site.specs.Sound.{IsSound}
 use Rattle.np_config.specs.Canonical.{canonical}
 use Rattle.np_config.specs.Walk.{reads}
-use Rattle.np_event.proofs.KindLemmas.{bytes_eq-refl, same_bytes}
+use Rattle.np_event_lines.proofs.KindLemmas.{bytes_eq-refl, same_bytes}
 use Rattle.np_report.specs.declared.script.Script.{Script}
 use Rattle.np_report.specs.Played.{played}
 use Rattle.np_report.specs.Printed.{IsPrinted}

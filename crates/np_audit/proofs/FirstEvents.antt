@@ -8,8 +8,8 @@ use Rattle.np_text.specs.Lines.{line_in, line_length, lines_of}
 use Rattle.np_text.proofs.LineLemmas.{lines_of-walk}
 use Rattle.np_event.specs.declared.event.Event.{Event}
 use Rattle.np_event.specs.declared.entry.Entry.{Entry}
-use Rattle.np_event.specs.Line.{HasEventLine, entry_in}
-use Rattle.np_event.proofs.EntryLemmas.{entry_in-told}
+use Rattle.np_event_lines.specs.Line.{HasEventLine, entry_in}
+use Rattle.np_event_lines.proofs.EntryLemmas.{entry_in-told}
 use Rattle.np_site.specs.Configuration.{Configuration}
 use Rattle.np_site.specs.Sound.{IsSound}
 use Rattle.np_report.specs.Script.{IsPlayable}

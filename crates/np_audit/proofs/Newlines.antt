@@ -25,8 +25,8 @@ use Rattle.np_site.specs.Sound.{IsJob, IsRequester, IsSound, StandsByOwner}
 use Rattle.np_config.specs.Canonical.{canonical}
 use Rattle.np_config.proofs.Ascii.{at_place}
 use Rattle.np_event.specs.declared.entry.Entry.{Entry}
-use Rattle.np_event.specs.Line.{HasEntryLine, entry_line}
-use Rattle.np_event.proofs.EntryLemmas.{is_line-entry}
+use Rattle.np_event_lines.specs.Line.{HasEntryLine, entry_line}
+use Rattle.np_event_lines.proofs.EntryLemmas.{is_line-entry}
 use Rattle.np_record.specs.declared.record.Declined.{Declined}
 use Rattle.np_machine.specs.Fates.{Fate, fates}
 use Rattle.np_machine.specs.Fates as fate

@@ -8,8 +8,8 @@ use Rattle.np_text.proofs.SpellingLemmas.{both_true}
 use Rattle.np_site.specs.Configuration.{Configuration}
 use Rattle.np_event.specs.declared.event.Event.{Event}
 use Rattle.np_event.specs.declared.entry.Entry.{Entry}
-use Rattle.np_event.specs.Line.{HasEntryLine, entry_in, entry_line, sides_of}
-use Rattle.np_event.proofs.EntryLemmas.{entry_in-line, is_line-entry}
+use Rattle.np_event_lines.specs.Line.{HasEntryLine, entry_in, entry_line, sides_of}
+use Rattle.np_event_lines.proofs.EntryLemmas.{entry_in-line, is_line-entry}
 use Rattle.np_machine.specs.State.{State}
 use Rattle.np_machine.specs.Step.{judge, next, reply_of}
 use Rattle.np_machine.specs.History.{replayed}

@@ -9,8 +9,8 @@ use Rattle.np_site.specs.Configuration.{Configuration}
 use Rattle.np_config.specs.Canonical.{canonical, configuration_data}
 use Rattle.np_event.specs.declared.event.Event.{Event}
 use Rattle.np_event.specs.declared.entry.Entry.{Entry}
-use Rattle.np_event.specs.Line.{HasEntryLine, entry_line}
-use Rattle.np_event.proofs.EntryLemmas.{is_line-entry}
+use Rattle.np_event_lines.specs.Line.{HasEntryLine, entry_line}
+use Rattle.np_event_lines.proofs.EntryLemmas.{is_line-entry}
 use Rattle.np_machine.specs.State.{start}
 use Rattle.np_machine.specs.Fates.{fates}
 use Rattle.np_machine.specs.History.{after, replayed}

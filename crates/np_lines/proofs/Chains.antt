@@ -9,7 +9,7 @@ use Rattle.np_event.specs.declared.reply.Done.TheVariants as done
 use Rattle.np_event.specs.declared.reply.Refusal.{Refusal}
 use Rattle.np_event.specs.declared.reply.Refusal.TheVariants as no
 use Rattle.np_event.specs.declared.reply.Reply.TheVariants as reply
-use Rattle.np_event.specs.Line.{HasReplyLine}
+use Rattle.np_event_lines.specs.Line.{HasReplyLine}
 use Rattle.np_lists.specs.Refusals.{◌>>=◌, ◌>>◌, need, found, vacant}
 use Rattle.np_machine.specs.Tests.{Answer, Check}
 use Rattle.np_machine.specs.Step.{reply_of}

@@ -13,8 +13,8 @@ use Rattle.np_site.specs.Sound.{IsSound}
 use Rattle.np_config.specs.Walk.{reads}
 use Rattle.np_event.specs.declared.event.Event.{Event}
 use Rattle.np_event.specs.declared.entry.Entry.{Entry}
-use Rattle.np_event.specs.Line.{HasEntryLine, entry_line}
-use Rattle.np_event.proofs.EntryLemmas.{is_line-entry, entry_line-no_bar, entry_line-injective}
+use Rattle.np_event_lines.specs.Line.{HasEntryLine, entry_line}
+use Rattle.np_event_lines.proofs.EntryLemmas.{is_line-entry, entry_line-no_bar, entry_line-injective}
 use Rattle.np_machine.specs.State.{State, start}
 use Rattle.np_machine.specs.Step.{judge, next, reply_of}
 use Rattle.np_machine.specs.Fates.{fates}

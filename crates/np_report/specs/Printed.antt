@@ -4,7 +4,7 @@ use Rattle.std.specs.List.{AllByRecursion}
 use Rattle.np_site.specs.Configuration.{Configuration}
 use Rattle.np_site.specs.Sound.{IsSound}
 use Rattle.np_event.specs.declared.entry.Entry.{Entry}
-use Rattle.np_event.specs.Line.{HasEventLine}
+use Rattle.np_event_lines.specs.Line.{HasEventLine}
 use Rattle.np_machine.specs.State.{State}
 use Rattle.np_machine.specs.History.{Runs}
 use Rattle.np_machine.specs.Safe.{Safe}

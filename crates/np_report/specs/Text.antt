@@ -12,7 +12,7 @@ use Rattle.np_config.specs.Canonical.{canonical}
 use Rattle.np_site.specs.declared.row.Job.{Job}
 use Rattle.np_record.specs.declared.record.Declined.{Declined}
 use Rattle.np_event.specs.declared.entry.Entry.{Entry}
-use Rattle.np_event.specs.Line.{entry_line}
+use Rattle.np_event_lines.specs.Line.{entry_line}
 use Rattle.np_machine.specs.History.{after}
 use Rattle.np_machine.specs.Fates.{Fate, fates}
 use Rattle.np_machine.specs.Fates as fate

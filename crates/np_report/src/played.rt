@@ -2,7 +2,7 @@
 
 ghost use Rattle.std.specs.Prelude.{◌≡◌, ◌≤◌, [], length, IfOk, OnOk, OnErr};
 ghost use Rattle.std.specs.List.{AllByRecursion};
-ghost use Rattle.np_event.specs.Line.{HasEventLine};
+ghost use Rattle.np_event_lines.specs.Line.{HasEventLine};
 ghost use Rattle.np_machine.specs.State.{start};
 ghost use Rattle.np_journal.specs.Ran.{Ran, answer_of, applied};
 ghost use Rattle.np_report.specs.Played.{played, ran};

@@ -4,7 +4,7 @@ ghost use Rattle.std.specs.Prelude.{◌≡◌, ◌+◌, ◌≤◌, ◌++◌, ◌
 ghost use Rattle.std.specs.List.{AllByRecursion};
 ghost use Rattle.np_text.specs.Lines.{line};
 ghost use Rattle.np_site.specs.Sound.{IsSound};
-ghost use Rattle.np_event.specs.Line.{HasEventLine, entry_line};
+ghost use Rattle.np_event_lines.specs.Line.{HasEventLine, entry_line};
 ghost use Rattle.np_machine.specs.Fates.{fates};
 ghost use Rattle.np_machine.specs.History.{Runs};
 ghost use Rattle.np_told.specs.Told.{IsToldEntry};
@@ -13,7 +13,8 @@ ghost use Rattle.np_report.specs.Text.{text_of, job_text, entry_lines, fate_line
 
 use crate::fate::put_fate;
 use np_config::Config;
-use np_event::{Entry, put_entry};
+use np_event::Entry;
+use np_event_lines::put_entry;
 use np_look::Look;
 use np_site::Job;
 use np_text::{JobId, NoMemory, put_number};

@@ -1,6 +1,6 @@
-use np_event::{
-    Done, Entry, Event, Found, LineFault, Outcome, Refusal, Reply, entry_has_line, event_has_line,
-    put_entry, put_event, read_entry, read_event,
+use np_event::{Done, Entry, Event, Found, Outcome, Refusal, Reply};
+use np_event_lines::{
+    LineFault, entry_has_line, event_has_line, put_entry, put_event, read_entry, read_event,
 };
 use np_text::{
     EndAs, Ending, JobId, LabelId, NodeId, NodeState, Phase, PoolId, Reason, RequestId,

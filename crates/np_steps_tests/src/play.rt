@@ -13,7 +13,8 @@ ghost use Rattle.np_semstep.specs.Semaphores.{is_semaphore_event};
 ghost use Rattle.np_steps_tests.specs.Leads.{Leads};
 
 use np_config::Config;
-use np_event::{Entry, Event, Reply, entry_has_line, put_entry, read_entry};
+use np_event::{Entry, Event, Reply};
+use np_event_lines::{entry_has_line, put_entry, read_entry};
 use np_nodestep::{enact_node, judge_node};
 use np_reqstep::{enact_request, judge_request};
 use np_semstep::{enact_semaphore, judge_semaphore};

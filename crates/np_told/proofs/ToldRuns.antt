@@ -4,7 +4,7 @@ use Rattle.std.specs.List.{AllByRecursion}
 use Rattle.np_site.specs.Configuration.{Configuration}
 use Rattle.np_site.specs.Sound.{IsSound}
 use Rattle.np_event.specs.declared.entry.Entry.{Entry}
-use Rattle.np_event.specs.Line.{HasEventLine}
+use Rattle.np_event_lines.specs.Line.{HasEventLine}
 use Rattle.np_machine.specs.State.{State, start}
 use Rattle.np_machine.specs.Tests.{Answer}
 use Rattle.np_machine.specs.Step.{judge, next, reply_of}

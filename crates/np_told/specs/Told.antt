@@ -4,7 +4,7 @@ use Rattle.np_text.specs.declared.id.RequestId.{RequestId}
 use Rattle.np_text.specs.declared.word.Ending.{Ending}
 use Rattle.np_text.specs.declared.word.Ending.TheVariants as ending
 use Rattle.np_event.specs.declared.entry.Entry.{Entry}
-use Rattle.np_event.specs.Line.{HasEventLine}
+use Rattle.np_event_lines.specs.Line.{HasEventLine}
 use Rattle.np_event.specs.declared.reply.Done.{Done}
 use Rattle.np_event.specs.declared.reply.Done.TheVariants as done
 use Rattle.np_event.specs.declared.reply.Refusal.{Refusal}

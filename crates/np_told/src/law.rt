@@ -5,7 +5,7 @@ ghost use Rattle.std.specs.List.{AllByRecursion};
 ghost use Rattle.np_site.specs.Configuration.{Configuration};
 ghost use Rattle.np_site.specs.Sound.{IsSound};
 ghost use Rattle.np_event.specs.declared.entry.Entry.{Entry};
-ghost use Rattle.np_event.specs.Line.{HasEventLine};
+ghost use Rattle.np_event_lines.specs.Line.{HasEventLine};
 ghost use Rattle.np_machine.specs.State.{State};
 ghost use Rattle.np_machine.specs.History.{Runs};
 ghost use Rattle.np_told.specs.Told.{IsToldEntry};

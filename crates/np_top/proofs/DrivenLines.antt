@@ -21,7 +21,7 @@ use Rattle.np_event.specs.declared.event.Event.TheVariants as ev
 use Rattle.np_event.specs.declared.event.Outcome.{Outcome}
 use Rattle.np_event.specs.declared.event.Outcome.TheVariants as outcome
 use Rattle.np_event.specs.declared.reply.Refusal.{Refusal}
-use Rattle.np_event.specs.Line.{HasEventLine}
+use Rattle.np_event_lines.specs.Line.{HasEventLine}
 use Rattle.np_machine.specs.State.{State, start}
 use Rattle.np_machine.specs.Step.{judge, next}
 use Rattle.np_machine.specs.Tables.{request_in}

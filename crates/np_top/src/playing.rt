@@ -2,7 +2,7 @@
 
 ghost use Rattle.std.specs.Prelude.{◌≡◌, IfOk};
 ghost use Rattle.std.specs.List.{AllByRecursion};
-ghost use Rattle.np_event.specs.Line.{HasEventLine};
+ghost use Rattle.np_event_lines.specs.Line.{HasEventLine};
 ghost use Rattle.np_useful.specs.Driven.{Driven};
 ghost use Rattle.np_top.specs.Run.{HasEnded};
 

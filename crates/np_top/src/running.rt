@@ -2,7 +2,7 @@
 
 ghost use Rattle.std.specs.Prelude.{◌≡◌, length, IfOk, IfErr};
 ghost use Rattle.std.specs.List.{AllByRecursion};
-ghost use Rattle.np_event.specs.Line.{HasEventLine};
+ghost use Rattle.np_event_lines.specs.Line.{HasEventLine};
 ghost use Rattle.np_machine.specs.Fates.{fate_of, fates};
 ghost use Rattle.np_useful.specs.Driven.{Driven};
 ghost use Rattle.np_top.specs.Run.{

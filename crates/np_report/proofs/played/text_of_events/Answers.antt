@@ -1,7 +1,7 @@
 use Rattle.std.proofs.Common.{◌∙◌, ap, sym, subst, List}
 use Rattle.std.specs.List.{AllByRecursion}
 use Rattle.np_event.specs.declared.entry.Entry.{Entry}
-use Rattle.np_event.specs.Line.{HasEventLine}
+use Rattle.np_event_lines.specs.Line.{HasEventLine}
 use Rattle.np_machine.specs.State.{start}
 use Rattle.np_journal.specs.Ran.{Ran}
 use Rattle.np_report.proofs.Playing.{lines-played_from}
