@@ -10,8 +10,8 @@ use Rattle.np_text.proofs.SpellingLemmas.{both_true}
 use Rattle.np_json.specs.declared.fault.ConfigFault.{ConfigFault}
 use Rattle.np_site.specs.Configuration.{Configuration}
 use Rattle.np_site.specs.Sound.{IsSound}
-use Rattle.np_config.specs.Canonical.{canonical}
-use Rattle.np_config.specs.Walk.{reads}
+use Rattle.np_config_text.specs.Canonical.{canonical}
+use Rattle.np_config_read.specs.Walk.{reads}
 use Rattle.np_event_lines.proofs.KindLemmas.{bytes_eq-refl, same_bytes}
 use Rattle.np_report.specs.declared.script.Script.{Script}
 use Rattle.np_report.specs.Played.{played}

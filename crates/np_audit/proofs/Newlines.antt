@@ -22,8 +22,8 @@ use Rattle.np_site.specs.declared.row.Job.{Job}
 use Rattle.np_site.specs.declared.row.Requester.{Requester}
 use Rattle.np_site.specs.Configuration.{Configuration}
 use Rattle.np_site.specs.Sound.{IsJob, IsRequester, IsSound, StandsByOwner}
-use Rattle.np_config.specs.Canonical.{canonical}
-use Rattle.np_config.proofs.Ascii.{at_place}
+use Rattle.np_config_text.specs.Canonical.{canonical}
+use Rattle.np_config_text.proofs.Ascii.{at_place}
 use Rattle.np_event.specs.declared.entry.Entry.{Entry}
 use Rattle.np_event_lines.specs.Line.{HasEntryLine, entry_line}
 use Rattle.np_event_lines.proofs.EntryLemmas.{is_line-entry}

@@ -6,7 +6,7 @@ use Rattle.np_text.specs.Sections.{bar}
 use Rattle.np_text.proofs.LineLemmas.{lines_of-line, lines_of-lines}
 use Rattle.np_text.proofs.SpellingLemmas.{both_true}
 use Rattle.np_site.specs.Configuration.{Configuration}
-use Rattle.np_config.specs.Canonical.{canonical, configuration_data}
+use Rattle.np_config_text.specs.Canonical.{canonical, configuration_data}
 use Rattle.np_event.specs.declared.event.Event.{Event}
 use Rattle.np_event.specs.declared.entry.Entry.{Entry}
 use Rattle.np_event_lines.specs.Line.{HasEntryLine, entry_line}

@@ -2,7 +2,7 @@
 
 ghost use Rattle.std.specs.Prelude.{◌≡◌, ◌<◌, ◌^◌, ◌-◌, [], IfOk};
 ghost use Rattle.np_site.specs.Sound.{IsSound};
-ghost use Rattle.np_config.specs.Walk.{reads};
+ghost use Rattle.np_config_read.specs.Walk.{reads};
 ghost use Rattle.np_report.specs.Played.{played};
 ghost use Rattle.np_report.specs.Printed.{IsPrinted};
 ghost use Rattle.np_audit.specs.Agreement.{finding_of, newlines};
@@ -11,7 +11,8 @@ ghost use Rattle.np_audit.specs.Entries.{later_lines, leading_events};
 
 use crate::agreement::common_lines;
 use crate::entries::{leading_events, split_line};
-use np_config::{Config, a_worked_text_is_read_and_printed};
+use np_config::Config;
+use np_config_text::a_worked_text_is_read_and_printed;
 use np_report::{Script, read_config, text_of_script};
 use np_text::NoMemory;
 use std::alloc::Global;

@@ -1,6 +1,7 @@
 //! No clause says that memory suffices: it does, also for the largest site. The text of a small site
 //! was made by another program, written after the same description.
 
+use np_config_text::config_text;
 use np_gen::drill;
 use np_text::JobId;
 use std::alloc::{AllocError, Global};
@@ -56,7 +57,7 @@ fn joined(alloc: Global, pieces: &[&str]) -> Result<String, AllocError> {
 #[test]
 fn twelve_jobs_have_their_text(rt: HostRuntime) -> Result<(), Fail> {
     let alloc = rt.alloc();
-    let text = drill(alloc, 12)?.to_json(alloc)?;
+    let text = config_text(alloc, &drill(alloc, 12)?)?;
     let want = joined(alloc, &TWELVE)?;
     assert!(rt; text.as_slice() == want.as_bytes());
     Ok(())

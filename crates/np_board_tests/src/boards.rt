@@ -9,6 +9,7 @@ ghost use Rattle.np_answers.specs.Legal.{is_legal};
 use np_answers::{Ask, Turn};
 use np_board::Board;
 use np_config::Config;
+use np_config_read::read_config;
 use np_desk::{Alone, Turns};
 use np_event::{Done, Entry, Event, Outcome, Reply};
 use np_index::Index;
@@ -78,7 +79,7 @@ const STEPS: [(Event, Option<JobId>, Option<JobId>); 4] = [
 fn new_board(alloc: Global, site: &str) -> Result<Board, NoMemory>
     ensures { IfOk result (λ b. is_legal b.configuration b.journal ≡ true) }
 {
-    let Ok(config) = Config::from_json(alloc, site.as_bytes()) else {
+    let Ok(config) = read_config(alloc, site.as_bytes()) else {
         return Err(NoMemory);
     };
     let board = Board::new(alloc, config)?;

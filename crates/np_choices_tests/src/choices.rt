@@ -6,7 +6,7 @@ ghost use Rattle.np_changes.specs.Planned.{IsReached};
 ghost use Rattle.np_fits.specs.Fits.{Fits};
 
 use np_choices::{choose, is_settled};
-use np_config::Config;
+use np_config_read::read_config;
 use np_event::Event;
 use np_look::Look;
 use np_rules::Plain;
@@ -135,7 +135,7 @@ fn play(machine: &mut Plain) -> Result<bool, AllocError>
 fn machine_of(alloc: Global, text: &str) -> Result<Plain, Fail>
     ensures { IfOk result (λ m. Runs m.configuration m.journal m.state) }
 {
-    match Config::from_json(alloc, text.as_bytes()) {
+    match read_config(alloc, text.as_bytes()) {
         Ok(config) => Ok(Plain::new(alloc, config)?),
         Err(_) => Err(Fail::from("no configuration was read")),
     }

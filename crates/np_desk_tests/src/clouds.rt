@@ -3,7 +3,7 @@
 use np_cloud::{
     Driver, Gate, LaunchFault, OpenGate, RemoveFailed, ScriptDriver, Server, SimDriver, Tag,
 };
-use np_config::Config;
+use np_config_read::read_config;
 use np_text::{NodeId, PoolId};
 use std::alloc::Global;
 use std::process::Abort;
@@ -24,7 +24,7 @@ fn tag(start: u32) -> Tag {
 }
 
 fn simulated(alloc: Global) -> Result<SimDriver, Fail> {
-    match Config::from_json(alloc, SITE.as_bytes()) {
+    match read_config(alloc, SITE.as_bytes()) {
         Ok(config) => Ok(SimDriver::new(alloc, &config, PoolId(0))?),
         Err(_) => Err(Fail::from("no configuration was read")),
     }

@@ -8,6 +8,7 @@ ghost use Rattle.np_fits.specs.Fits.{Fits};
 
 use np_choices::{choose, is_settled};
 use np_config::Config;
+use np_config_read::read_config;
 use np_event::Event;
 use np_keeper::TreeKeeper;
 use np_look::{Look, NodeView, RequestView};
@@ -237,7 +238,7 @@ fn play<R: Abort>(rt: &R, plain: &mut Plain, tree: &mut Trees) -> Result<bool, F
 
 /// The configuration.
 fn config_of(alloc: Global, text: &str) -> Result<Config, Fail> {
-    match Config::from_json(alloc, text.as_bytes()) {
+    match read_config(alloc, text.as_bytes()) {
         Ok(config) => Ok(config),
         Err(_) => Err(Fail::from("no configuration was read")),
     }

@@ -18,12 +18,13 @@ use Rattle.np_site.specs.declared.row.Requester.{Requester}
 use Rattle.np_site.specs.declared.row.Job.{Job}
 use Rattle.np_site.specs.declared.row.Fault.{Fault}
 use Rattle.np_site.specs.Configuration.{Configuration, tenant_of}
-use Rattle.np_config.specs.Names.{pool_name}
+use Rattle.np_config_read.specs.Names.{pool_name}
 use Rattle.np_site.specs.Sound.{StandsByOwner, IsSound, IsLabel, IsProvider, IsOffer, IsStart, IsPool, IsSem, IsTenant, IsRequester, IsWanted, IsTaken, IsJob, IsFault}
-use Rattle.np_config.specs.Canonical.{count, given_count, list_data, list_if_any, label_data, label_name, semaphore_name, tenant_name, full_name, offer_data, pool_data, pools_of, provider_data, semaphore_data, tenant_data, job_tenant, job_data, requester_data, role_name, fault_data, configuration_data}
+use Rattle.np_config_read.specs.Defaults.{count}
+use Rattle.np_config_text.specs.Canonical.{given_count, list_data, list_if_any, label_data, label_name, semaphore_name, tenant_name, full_name, offer_data, pool_data, pools_of, provider_data, semaphore_data, tenant_data, job_tenant, job_data, requester_data, role_name, fault_data, configuration_data}
 use Rattle.np_lists.specs.EachAfter.{EachAfter}
 use Rattle.np_lists.proofs.EachAfterLemmas.{EachAfter-from_all}
-use Rattle.np_config.proofs.Ascii.{label-ascii, semaphore-ascii, tenant-ascii, requester-ascii, pool_name-ascii}
+use Rattle.np_config_text.proofs.Ascii.{label-ascii, semaphore-ascii, tenant-ascii, requester-ascii, pool_name-ascii}
 use Rattle.np_report.proofs.WholeData.{is_ascii, IsWhole}
 use Rattle.np_report.proofs.ConfigurationParts.{is_ascii-name, is_ascii-found, is_ascii-priority, is_ascii-end_word, is_ascii-kind_word, is_ascii-role_word, HaveWhole-given, HaveWhole-value, put_all-pool_members, put_all-provider_members, put_all-tenant_members, put_all-job_members, put_all-top_members, AreWhole-list, AreWhole-placed, AreWhole-filter}
 

@@ -17,7 +17,7 @@ use Rattle.np_site.specs.declared.row.FaultKind.TheVariants.{Expire, Crash, Stop
 use Rattle.np_lists.specs.EachAfter.{EachAfter}
 use Rattle.np_text.specs.Word.{end_as_word}
 use Rattle.np_site.specs.Word.{fault_kind_word}
-use Rattle.np_config.specs.Canonical.{given, given_count, placed, role_word}
+use Rattle.np_config_text.specs.Canonical.{given, given_count, placed, role_word}
 use Rattle.np_report.proofs.WholeData.{is_ascii, put_all, IsWhole, AreWhole, HaveWhole}
 
 -- ## strings

@@ -8,9 +8,9 @@ use Rattle.np_text.specs.Sections.{bar, has_bar, sections_of}
 use Rattle.np_text.proofs.LineLemmas.{lines_of-lines}
 use Rattle.np_text.proofs.SectionLemmas.{sections_of-bar}
 use Rattle.np_site.specs.Configuration.{Configuration}
-use Rattle.np_config.specs.Canonical.{configuration_data, canonical}
+use Rattle.np_config_text.specs.Canonical.{configuration_data, canonical}
 use Rattle.np_site.specs.Sound.{IsSound}
-use Rattle.np_config.specs.Walk.{reads}
+use Rattle.np_config_read.specs.Walk.{reads}
 use Rattle.np_event.specs.declared.event.Event.{Event}
 use Rattle.np_event.specs.declared.entry.Entry.{Entry}
 use Rattle.np_event_lines.specs.Line.{HasEntryLine, entry_line}

@@ -1,11 +1,11 @@
 -- the text of a sound configuration is read as that configuration
 use Rattle.std.proofs.Common.{◌≡◌, Ok}
 use Rattle.np_site.specs.Configuration.{Configuration}
-use Rattle.np_config.specs.Canonical.{configuration_data, canonical}
+use Rattle.np_config_text.specs.Canonical.{configuration_data, canonical}
 use Rattle.np_site.specs.Sound.{IsSound}
-use Rattle.np_config.specs.Walk.{reads}
-use Rattle.np_config.proofs.AgainWhole.{reads-again}
-use Rattle.np_config.proofs.Shapes.{configuration-depth}
+use Rattle.np_config_read.specs.Walk.{reads}
+use Rattle.np_config_text.proofs.AgainWhole.{reads-again}
+use Rattle.np_config_text.proofs.Shapes.{configuration-depth}
 use Rattle.np_report.proofs.WholeData.{IsUtf8-compact_text}
 use Rattle.np_report.proofs.WholeText.{read-compact_text}
 use Rattle.np_report.proofs.ConfigurationData.{IsWhole-configuration_data}

@@ -8,7 +8,7 @@ use Rattle.np_text.specs.Word.{phase_word, reason_text_of}
 use Rattle.np_text.specs.Lines.{line}
 use Rattle.np_text.specs.Sections.{bar}
 use Rattle.np_site.specs.Configuration.{Configuration}
-use Rattle.np_config.specs.Canonical.{canonical}
+use Rattle.np_config_text.specs.Canonical.{canonical}
 use Rattle.np_site.specs.declared.row.Job.{Job}
 use Rattle.np_record.specs.declared.record.Declined.{Declined}
 use Rattle.np_event.specs.declared.entry.Entry.{Entry}

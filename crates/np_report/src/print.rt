@@ -13,6 +13,7 @@ ghost use Rattle.np_report.specs.Text.{text_of, job_text, entry_lines, fate_line
 
 use crate::fate::put_fate;
 use np_config::Config;
+use np_config_text::config_text;
 use np_event::Entry;
 use np_event_lines::put_entry;
 use np_look::Look;
@@ -88,7 +89,7 @@ fn parts<L: Look>(alloc: Global, look: &L, journal: &[Entry]) -> Result<Vec<u8>,
 {
     let config = look.config();
     config.soundness();
-    let mut out = config.to_json(alloc)?;
+    let mut out = config_text(alloc, config)?;
     out.extend_from_slice(b"\n%%\n")?;
     put_entries(&mut out, journal)?;
     out.extend_from_slice(b"%%\n")?;

@@ -1,7 +1,7 @@
 //! Reading a script.
 
 ghost use Rattle.std.specs.Prelude.{◌≡◌, IfOk};
-ghost use Rattle.np_config.specs.Walk.{reads};
+ghost use Rattle.np_config_read.specs.Walk.{reads};
 ghost use Rattle.np_report.specs.Script.{script_of, event_said, IsPlayable};
 
 use crate::lines::{FromLine, LinesFault, read_lines};
@@ -48,7 +48,7 @@ impl FromLine for Event {
 pub fn read_config(alloc: Global, bytes: &[u8]) -> Result<Result<Config, ConfigFault>, NoMemory>
     ensures { IfOk result (λ read. read ≡ reads bytes.now) }
 {
-    match Config::from_json(alloc, bytes) {
+    match np_config_read::read_config(alloc, bytes) {
         Ok(config) => Ok(Ok(config)),
         Err(ConfigRead::Fault(fault)) => Ok(Err(fault)),
         Err(ConfigRead::NoMemory) => Err(NoMemory),

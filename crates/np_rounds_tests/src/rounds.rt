@@ -3,6 +3,7 @@
 use np_board::Board;
 use np_cloud::{OpenGate, simulated_clouds};
 use np_config::Config;
+use np_config_read::read_config;
 use np_look::Look;
 use np_rounds::run_rounds;
 use np_text::{Ending, JobId, NoMemory};
@@ -32,7 +33,7 @@ fn play<R: Threads + Wait + Sync>(
 #[test]
 fn a_site_is_played_to_its_end(rt: HostRuntime) -> Result<(), Fail> {
     let alloc = rt.alloc();
-    let Ok(config) = Config::from_json(alloc, SITE.as_bytes()) else {
+    let Ok(config) = read_config(alloc, SITE.as_bytes()) else {
         return Err(Fail::from("no configuration was read"));
     };
     let Some(board) = play(&rt, alloc, config)? else {

@@ -7,7 +7,7 @@ ghost use Rattle.np_answers.specs.Legal.{is_legal};
 use np_answers::{Ask, Turn};
 use np_board::Board;
 use np_cloud::{Driver, OpenGate, ScriptDriver, Tag};
-use np_config::Config;
+use np_config_read::read_config;
 use np_desk::{Alone, Turns};
 use np_event::{Entry, Event};
 use np_look::Look;
@@ -27,7 +27,7 @@ const POOL: PoolId = PoolId(0);
 fn new_board(alloc: Global) -> Result<Board, NoMemory>
     ensures { IfOk result (λ b. is_legal b.configuration b.journal ≡ true) }
 {
-    let Ok(config) = Config::from_json(alloc, SITE.as_bytes()) else {
+    let Ok(config) = read_config(alloc, SITE.as_bytes()) else {
         return Err(NoMemory);
     };
     let board = Board::new(alloc, config)?;

@@ -3,7 +3,9 @@
 use ConfigKind::{
     BadName, Missing, NotJson, OutOfRange, Repeated, TooMany, UnknownKey, UnknownName, WrongType,
 };
-use np_config::{Config, ConfigKind, ConfigRead};
+use np_config::Config;
+use np_config_read::{ConfigKind, ConfigRead, read_config};
+use np_config_text::config_text;
 use np_text::{JobId, TenantId};
 use std::alloc::{AllocError, Global};
 use std::process::Abort;
@@ -111,7 +113,7 @@ fn put_largest(alloc: Global, text: &mut String) -> Result<(), AllocError> {
 }
 
 fn read(alloc: Global, text: &[u8]) -> Result<Config, Fail> {
-    match Config::from_json(alloc, text) {
+    match read_config(alloc, text) {
         Ok(config) => Ok(config),
         Err(_) => Err(Fail::from("no configuration was read")),
     }
@@ -122,8 +124,8 @@ fn the_largest_configuration_is_read_and_printed(rt: HostRuntime) -> Result<(), 
     let alloc = rt.alloc();
     let mut text = String::new(alloc);
     put_largest(alloc, &mut text)?;
-    let printed = read(alloc, text.as_bytes())?.to_json(alloc)?;
-    let again = read(alloc, printed.as_slice())?.to_json(alloc)?;
+    let printed = config_text(alloc, &read(alloc, text.as_bytes())?)?;
+    let again = config_text(alloc, &read(alloc, printed.as_slice())?)?;
     assert!(rt; printed.as_slice() == again.as_slice());
     assert!(rt; printed.len() > text.len());
     Ok(())
@@ -135,7 +137,7 @@ fn check(
     kind: ConfigKind,
     pointer: &str,
 ) -> Result<(), Fail> {
-    match Config::from_json(rt.alloc(), text) {
+    match read_config(rt.alloc(), text) {
         Ok(_) => return Err(Fail::from("a configuration was read")),
         Err(ConfigRead::NoMemory) => return Err(Fail::from("no memory")),
         Err(ConfigRead::Fault(fault)) => {
@@ -267,7 +269,7 @@ fn check_printed(rt: &(impl AllocGlobal + Abort), config: &Config, rows: &str) -
     let canonical = format!(in alloc;
         "{{\"faults\":[],\"labels\":[{{\"max-ready-age\":0,\"min-ready\":0,\"name\":\"a\"}}],\"max-hold-age\":0,\"providers\":[{{\"launch-retries\":3,\"name\":\"c\",\"pools\":[{{\"fail-starts\":[],\"labels\":[{{\"cores\":1,\"name\":\"a\",\"ram\":1024}}],\"name\":\"m\"}}]}}],\"requesters\":[{{\"jobs\":[{{\"end\":\"used\",\"labels\":[\"a\"],\"name\":\"j\",{same},\"tenant\":\"v\"}},{{\"end\":\"used\",\"labels\":[\"a\"],\"name\":\"k\",{same}}}],\"name\":\"z\",\"window\":20}}],\"semaphores\":[],\"tenants\":{rows}}}"
     )?;
-    let printed = config.to_json(alloc)?;
+    let printed = config_text(alloc, config)?;
     assert!(rt; printed.as_slice() == canonical.as_bytes());
     Ok(())
 }
@@ -286,8 +288,8 @@ fn no_tenants_leave_the_text_as_it_is(rt: HostRuntime) -> Result<(), Fail> {
     let alloc = rt.alloc();
     let plain = with_top(alloc, "")?;
     let told = with_top(alloc, ",\"tenants\":[]")?;
-    let plain = read(alloc, plain.as_bytes())?.to_json(alloc)?;
-    let told = read(alloc, told.as_bytes())?.to_json(alloc)?;
+    let plain = config_text(alloc, &read(alloc, plain.as_bytes())?)?;
+    let told = config_text(alloc, &read(alloc, told.as_bytes())?)?;
     assert!(rt; plain.as_slice() == told.as_slice());
     assert!(rt; plain.as_slice().ends_with(b"\"semaphores\":[]}"));
     Ok(())

@@ -1,5 +1,5 @@
-//! The tests of np_text, np_amount, np_event, np_record, np_spelling and np_config: of texts,
-//! amounts, lines, rows, records as bytes and configurations.
+//! The tests of np_text, np_amount, np_event, np_record, np_spelling, np_config_read and
+//! np_config_text: of texts, amounts, lines, rows, records as bytes and configurations.
 //!
 //! They are proved over the contracts of these crates, and not over their code.
 #![tactic(auto)]

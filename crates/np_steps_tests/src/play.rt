@@ -13,6 +13,7 @@ ghost use Rattle.np_semstep.specs.Semaphores.{is_semaphore_event};
 ghost use Rattle.np_steps_tests.specs.Leads.{Leads};
 
 use np_config::Config;
+use np_config_read::read_config;
 use np_event::{Entry, Event, Reply};
 use np_event_lines::{entry_has_line, put_entry, read_entry};
 use np_nodestep::{enact_node, judge_node};
@@ -252,7 +253,7 @@ pub fn refuse<R: AllocGlobal + Abort>(
 
 /// The configuration.
 pub fn config_of(alloc: Global, text: &str) -> Result<Config, Fail> {
-    match Config::from_json(alloc, text.as_bytes()) {
+    match read_config(alloc, text.as_bytes()) {
         Ok(config) => Ok(config),
         Err(_) => Err(Fail::from("no configuration was read")),
     }

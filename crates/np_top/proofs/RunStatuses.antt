@@ -4,7 +4,7 @@ use Rattle.std.specs.Prelude.{◌⊎◌}
 use Rattle.np_io.specs.Facts.{SourceFacts, SinkFacts, IsWritten}
 use Rattle.np_json.specs.declared.fault.ConfigFault.{ConfigFault}
 use Rattle.np_site.specs.Configuration.{Configuration}
-use Rattle.np_config.specs.Walk.{reads}
+use Rattle.np_config_read.specs.Walk.{reads}
 use Rattle.np_machine.specs.Fates.{Fate}
 use Rattle.np_top.specs.declared.ending.Ending.{Ending}
 use Rattle.np_top.specs.Input.{IsInput}

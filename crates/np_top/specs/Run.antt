@@ -5,7 +5,7 @@ use Rattle.np_io.specs.Counts.{Rose}
 use Rattle.np_io.specs.Facts.{SourceFacts, SinkFacts, IsWritten}
 use Rattle.np_json.specs.declared.fault.ConfigFault.{ConfigFault}
 use Rattle.np_site.specs.Configuration.{Configuration}
-use Rattle.np_config.specs.Walk.{reads}
+use Rattle.np_config_read.specs.Walk.{reads}
 use Rattle.np_event.specs.declared.entry.Entry.{Entry}
 use Rattle.np_machine.specs.Fates.{Fate, fates}
 use Rattle.np_machine.specs.Fates as fate

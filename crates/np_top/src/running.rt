@@ -23,6 +23,7 @@ use crate::telling::tell;
 use np_board::Board;
 use np_cloud::Gate;
 use np_config::Config;
+use np_config_read::read_config;
 use np_io::{Sink, Source};
 use np_json::{ConfigFault, ConfigRead};
 use np_look::Look;
@@ -43,7 +44,7 @@ fn configuration<S: Source>(
     ensures stops { IfErr result (EndsRun (S.facts source.old) (S.facts source.new)) }
 {
     let bytes = input(alloc, source)?;
-    match Config::from_json(alloc, bytes.as_slice()) {
+    match read_config(alloc, bytes.as_slice()) {
         Ok(config) => Ok(Ok(config)),
         Err(ConfigRead::Fault(fault)) => Ok(Err(fault)),
         Err(ConfigRead::NoMemory) => Err(Ending::NoMemory),

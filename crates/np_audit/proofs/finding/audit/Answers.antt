@@ -1,5 +1,5 @@
 use Rattle.std.proofs.Common.{◌∙◌, ap, sym}
-use Rattle.np_config.specs.Walk.{reads}
+use Rattle.np_config_read.specs.Walk.{reads}
 use Rattle.np_report.specs.Played.{played}
 use Rattle.np_audit.specs.Entries.{later_lines, leading_events}
 use Rattle.np_audit.proofs.Findings.{finding-so, unread_so}

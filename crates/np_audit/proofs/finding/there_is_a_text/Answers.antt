@@ -1,5 +1,5 @@
-use Rattle.np_config.specs.Worked.{worked, worked_text}
-use Rattle.np_config.proofs.WalkTakes.{reads-takes}
+use Rattle.np_config_text.specs.Worked.{worked, worked_text}
+use Rattle.np_config_read.proofs.WalkTakes.{reads-takes}
 use Rattle.np_audit.proofs.Findings.{begins-nothing}
 use Rattle.np_audit.proofs.finding.there_is_a_text.Goals as goal
 

@@ -1,9 +1,0 @@
-use Rattle.std.proofs.Common.{sym}
-use Rattle.std.specs.Str.{IsAscii}
-use Rattle.np_config.proofs.Ascii.{requester-ascii}
-use Rattle.np_config.proofs.print.names.requester_name.Goals as goal
-
-pub returns-in-Some-clause-ascii : goal.returns-in-Some-clause-ascii
-returns-in-Some-clause-ascii c =
-    let named : IsAscii c.in-Some.requester.now.name = requester-ascii c.args.config.now c.args.id.0 c.in-Some.requester.now c.soundness.ensures (sym c.in-Some.ensures) in
-    rw c.items.ensures named

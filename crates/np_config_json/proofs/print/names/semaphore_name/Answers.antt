@@ -1,9 +1,0 @@
-use Rattle.std.proofs.Common.{sym}
-use Rattle.std.specs.Str.{IsAscii}
-use Rattle.np_config.proofs.Ascii.{semaphore-ascii}
-use Rattle.np_config.proofs.print.names.semaphore_name.Goals as goal
-
-pub returns-in-Some-clause-ascii : goal.returns-in-Some-clause-ascii
-returns-in-Some-clause-ascii c =
-    let named : IsAscii c.in-Some.semaphore.now.name = semaphore-ascii c.args.config.now c.args.id.0 c.in-Some.semaphore.now c.soundness.ensures (sym c.in-Some.ensures) in
-    rw c.items.ensures named

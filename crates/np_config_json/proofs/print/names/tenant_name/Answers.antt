@@ -1,9 +1,0 @@
-use Rattle.std.proofs.Common.{sym}
-use Rattle.std.specs.Str.{IsAscii}
-use Rattle.np_config.proofs.Ascii.{tenant-ascii}
-use Rattle.np_config.proofs.print.names.tenant_name.Goals as goal
-
-pub returns-in-Some-clause-ascii : goal.returns-in-Some-clause-ascii
-returns-in-Some-clause-ascii c =
-    let named : IsAscii c.in-Some.tenant.now.name = tenant-ascii c.args.config.now c.args.id c.in-Some.tenant.now c.soundness.ensures (sym c.in-Some.ensures) in
-    rw c.items.ensures named

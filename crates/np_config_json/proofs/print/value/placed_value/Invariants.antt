@@ -1,7 +1,0 @@
-use Rattle.std.proofs.Common.{◌≡◌, take, map}
-use Rattle.serde_json.specs.View.{view}
-use Rattle.np_config.specs.Canonical.{placed}
-use Rattle.np_config.proofs.print.value.placed_value.Given as goal
-
-abbrev pub invariant-loop-place : goal.invariant-loop-place
-invariant-loop-place g l = map view l.values.items ≡ placed (g.T.Placed.shown l.config) 0 (take l.place l.rows)

@@ -1,9 +1,0 @@
-use Rattle.std.proofs.Common.{◌≡◌, map, take, length}
-use Rattle.np_config.specs.Names.{pool_names}
-use Rattle.np_config.proofs.walk.names_of_pools.Given as goal
-
-abbrev pub invariant-loop-pool : goal.invariant-loop-pool
-invariant-loop-pool l = record {
-  names : map (λ n. n.text) l.names ≡ pool_names l.providers (take l.pool-index l.pools);
-  count : length l.names ≡ l.pool-index;
-}

@@ -1,0 +1,11 @@
+pub mod RowTakes
+pub mod PoolTakes
+pub mod TenantTakes
+pub mod JobTakes
+pub mod FullNames
+pub mod WalkTakes
+pub mod WalkExits
+pub mod Parsed
+pub mod Puts
+pub mod DefaultLemmas
+pub mod OnLiterals

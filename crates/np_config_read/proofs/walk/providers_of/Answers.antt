@@ -1,0 +1,18 @@
+use Rattle.std.proofs.Common.{◌<◌, [], length}
+use Rattle.std.specs.Prelude.{◌^◌}
+use Rattle.serde_json.specs.View.{view}
+use Rattle.np_lists.specs.EachAfter.{EachAfter}
+use Rattle.np_config_read.specs.declared.providers.Providers.{Providers}
+use Rattle.np_config_read.specs.Names.{pool_names, IsUnused}
+use Rattle.np_config_read.proofs.WalkTakes.{gives_ok, providers-unused, providers-few}
+use Rattle.np_config_read.proofs.walk.providers_of.Goals as goal
+
+pub returns-clause-unused : goal.returns-clause-unused
+returns-clause-unused c =
+    let read = rw (c.one_to-length.ensures, c.new.ensures, c.none.ensures) at c.rows_required.ensures in
+    gives_ok (λ (s : Providers). EachAfter IsUnused [] (pool_names s.providers s.pools)) _ _ (providers-unused c.args.labels.now.table (view c.args.value.now)) read
+
+pub returns-clause-few : goal.returns-clause-few
+returns-clause-few c =
+    let read = rw (c.one_to-length.ensures, c.new.ensures, c.none.ensures) at c.rows_required.ensures in
+    gives_ok (λ (s : Providers). length s.pools < 2 ^ 16) _ _ (providers-few c.args.labels.now.table (view c.args.value.now)) read

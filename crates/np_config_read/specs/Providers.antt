@@ -1,0 +1,110 @@
+-- providers and their pools, as they are read
+use Rattle.std.specs.Prelude.{ℕ, List, [], ◌∷◌, ◌++◌, codes, length, Result, Ok}
+use Rattle.serde_json.specs.Data.{Data}
+use Rattle.np_amount.specs.declared.amount.Amount.{Amount}
+use Rattle.np_amount.specs.declared.amount.Limit.{Limit}
+use Rattle.np_text.specs.declared.limit.TheConstants.{LABELS, POOLS, FAIL_STARTS, LAUNCHES, CONCURRENCY, POOL_SERVERS, POOL_CORES, POOL_RAM, NODE_CORES, NODE_RAM, START_NUMBER}
+use Rattle.np_text.specs.declared.id.LabelId.{LabelId}
+use Rattle.np_json.specs.declared.fault.ConfigKind.TheVariants.{OutOfRange, Repeated, UnknownName}
+use Rattle.np_json.specs.declared.fault.ConfigFault.{ConfigFault}
+use Rattle.np_lists.specs.Refusals.{◌>>=◌, ◌>>◌, need, found}
+use Rattle.np_json.specs.Reading.{fault, below}
+use Rattle.np_json.specs.Leaf.{at_most, one_to, behind, object_at, required, text_value, named_at, whole_value, whole_or, whole_maybe}
+use Rattle.np_json.specs.Rows.{ReadsItem, list_required, list_maybe}
+use Rattle.np_site.specs.declared.row.Label.{Label}
+use Rattle.np_site.specs.declared.row.Provider.{Provider}
+use Rattle.np_site.specs.declared.row.Pool.{Pool}
+use Rattle.np_site.specs.declared.row.Offer.{Offer}
+use Rattle.np_config_read.specs.declared.providers.PoolsOf.{PoolsOf}
+use Rattle.np_config_read.specs.declared.providers.Providers.{Providers}
+use Rattle.np_site.specs.Sound.{is_unoffered, is_above}
+use Rattle.np_config_read.specs.Keys.{provider_keys, pool_keys, offer_keys}
+use Rattle.np_config_read.specs.Names.{label_named}
+
+-- the label with this name
+unfoldable pub label_for : List Label → List ℕ → List ℕ → Result LabelId ConfigFault
+label_for labels at text = found (label_named labels text) (fault UnknownName at) >>= λ n. Ok (record { 0 = n })
+
+-- the label whose name is at a place
+unfoldable pub label_value : List Label → List ℕ → Data → Result LabelId ConfigFault
+label_value labels at d = text_value at d >>= label_for labels at
+
+-- the label of an offer, which the pool did not offer before
+unfoldable pub offer_label : List Label → List ℕ → List Offer → Data → Result LabelId ConfigFault
+offer_label labels at earlier d = do
+  name ← required at (codes "name") d
+  label ← label_value labels (below at (codes "name")) name
+  need (is_unoffered earlier label) (fault Repeated (below at (codes "name")))
+  Ok label
+
+-- what a node of an offer takes
+unfoldable pub offer_amount : List ℕ → Data → Result Amount ConfigFault
+offer_amount at d = do
+  cores ← whole_or at (codes "cores") 0 NODE_CORES 1 d
+  ram ← whole_or at (codes "ram") 0 NODE_RAM 1024 d
+  Ok (record { instances = 1; cores = cores; ram = ram })
+
+-- an offer, given those of its pool before it (Nodepool: a pool's labels; ranges and defaults own)
+unfoldable pub offer_at : List Label → ReadsItem (List Offer)
+offer_at labels at earlier d = do
+  object_at at offer_keys d
+  label ← offer_label labels at earlier d
+  amount ← offer_amount at d
+  Ok (earlier ++ record { label = label; amount = amount } ∷ [])
+
+-- a start that fails, above the one before it (own)
+unfoldable pub start_at : ReadsItem (List ℕ)
+start_at at earlier d = do
+  n ← whole_value at 1 START_NUMBER d
+  need (is_above earlier n) (fault OutOfRange at)
+  Ok (earlier ++ n ∷ [])
+
+-- the limits of a pool or a tenant (Nodepool: `max-servers`, `max-cores`, `max-ram`; ranges own)
+unfoldable pub limit_at : List ℕ → Data → Result Limit ConfigFault
+limit_at at d = do
+  servers ← whole_maybe at (codes "max-servers") 0 POOL_SERVERS d
+  cores ← whole_maybe at (codes "max-cores") 0 POOL_CORES d
+  ram ← whole_maybe at (codes "max-ram") 0 POOL_RAM d
+  Ok (record { instances = servers; cores = cores; ram = ram })
+
+-- the offers of a pool
+unfoldable pub offers_at : List Label → List ℕ → Data → Result (List Offer) ConfigFault
+offers_at labels at d = list_required (offer_at labels) at (codes "labels") (at_most LABELS) [] d
+
+-- the failing starts of a pool
+unfoldable pub starts_at : List ℕ → Data → Result (List ℕ) ConfigFault
+starts_at at d = list_maybe start_at at (codes "fail-starts") (at_most FAIL_STARTS) [] d
+
+-- the rest of a pool of the provider at a place
+unfoldable pub pool_row : List Label → List ℕ → ℕ → List ℕ → Data → Result Pool ConfigFault
+pool_row labels at provider name d = do
+  limit ← limit_at at d
+  offers ← offers_at labels at d
+  starts ← starts_at at d
+  Ok (record { provider = provider; name = name; limit = limit; offers = offers; fail_starts = starts })
+
+-- a pool, given those of its provider before it (Nodepool)
+unfoldable pub pool_at : List Label → ReadsItem PoolsOf
+pool_at labels at s d = do
+  name ← named_at (λ (p : Pool). p.name) pool_keys at s.pools d
+  pool ← pool_row labels at s.provider name d
+  Ok (record s { pools = s.pools ++ pool ∷ [] })
+
+-- the rest of a provider (Nodepool: `launch-retries`, `max-concurrency`; ranges and defaults own)
+unfoldable pub provider_row : List ℕ → List ℕ → Data → Result Provider ConfigFault
+provider_row at name d = do
+  retries ← whole_or at (codes "launch-retries") 1 LAUNCHES 3 d
+  concurrency ← whole_maybe at (codes "max-concurrency") 1 CONCURRENCY d
+  Ok (record { name = name; retries = retries; concurrency = concurrency })
+
+-- the pools of a provider, after this many of earlier providers
+unfoldable pub pools_at : List Label → List ℕ → ℕ → ℕ → Data → Result PoolsOf ConfigFault
+pools_at labels at earlier provider d = list_required (pool_at labels) at (codes "pools") (behind earlier (one_to POOLS)) (record { provider = provider; pools = [] }) d
+
+-- a provider, given those before it, with its pools (Nodepool)
+unfoldable pub provider_at : List Label → ReadsItem Providers
+provider_at labels at s d = do
+  name ← named_at (λ (p : Provider). p.name) provider_keys at s.providers d
+  provider ← provider_row at name d
+  own ← pools_at labels at (length s.pools) (length s.providers) d
+  Ok (record { providers = s.providers ++ provider ∷ []; pools = s.pools ++ own.pools })

@@ -1,0 +1,114 @@
+-- requesters and their jobs, as they are read
+use Rattle.std.specs.Prelude.{ℕ, List, [], ◌∷◌, ◌++◌, codes, length, false, if◌then◌else◌, Option, Some, None, Result, Ok}
+use Rattle.std.specs.Option.{option_map_or}
+use Rattle.std.specs.Str.{bytes_eq}
+use Rattle.serde_json.specs.Data.{Data}
+use Rattle.serde_json.specs.Find.{get}
+use Rattle.np_text.specs.declared.id.LabelId.{LabelId}
+use Rattle.np_text.specs.declared.id.SemId.{SemId}
+use Rattle.np_text.specs.declared.id.RequesterId.{RequesterId}
+use Rattle.np_text.specs.declared.word.EndAs.TheVariants.{Used}
+use Rattle.np_text.specs.declared.limit.TheConstants.{JOBS, JOB_LABELS, JOB_SEMAPHORES, WINDOW, RELATIVE_PRIORITY}
+use Rattle.np_text.specs.Word.{end_as_of}
+use Rattle.np_json.specs.declared.fault.ConfigKind.TheVariants.{Repeated, UnknownName}
+use Rattle.np_json.specs.declared.fault.ConfigFault.{ConfigFault}
+use Rattle.np_lists.specs.Refusals.{◌>>=◌, ◌>>◌, need, found}
+use Rattle.np_json.specs.Reading.{fault, below}
+use Rattle.np_json.specs.Leaf.{at_most, one_to, behind, text_value, named_at, whole_or, flag_or}
+use Rattle.np_json.specs.Rows.{ReadsItem, list_required, list_maybe}
+use Rattle.np_site.specs.declared.row.Label.{Label}
+use Rattle.np_site.specs.declared.row.Sem.{Sem}
+use Rattle.np_site.specs.declared.row.Tenant.{Tenant}
+use Rattle.np_site.specs.declared.row.Requester.{Requester}
+use Rattle.np_site.specs.declared.row.Job.{Job}
+use Rattle.np_config_read.specs.declared.requesters.Demand.{Demand}
+use Rattle.np_config_read.specs.declared.requesters.JobsOf.{JobsOf}
+use Rattle.np_config_read.specs.declared.requesters.Requesters.{Requesters}
+use Rattle.np_site.specs.Sound.{is_untaken}
+use Rattle.np_config_read.specs.Names.{semaphore_named, tenant_id, tenant_named}
+use Rattle.np_config_read.specs.Keys.{requester_keys, job_keys}
+use Rattle.np_config_read.specs.Providers.{label_value}
+
+-- one label that a job requests
+unfoldable pub wanted_at : List Label → ReadsItem (List LabelId)
+wanted_at labels at earlier d = label_value labels at d >>= λ label. Ok (earlier ++ label ∷ [])
+
+-- the semaphore with this name
+unfoldable pub semaphore_for : List Sem → List ℕ → List ℕ → Result SemId ConfigFault
+semaphore_for semaphores at text = found (semaphore_named semaphores text) (fault UnknownName at) >>= λ n. Ok (record { 0 = n })
+
+-- a semaphore that the job did not name before
+unfoldable pub taken_at : List Sem → ReadsItem (List SemId)
+taken_at semaphores at earlier d = do
+  text ← text_value at d
+  semaphore ← semaphore_for semaphores at text
+  need (is_untaken earlier semaphore) (fault Repeated at)
+  Ok (earlier ++ semaphore ∷ [])
+
+-- high, normal and low (Zuul's `precedence` of a pipeline; the numbers are own)
+abbrev pub priority_of : List ℕ → Option ℕ
+priority_of word = if bytes_eq word (codes "high") then Some 100 else (if bytes_eq word (codes "normal") then Some 200 else (if bytes_eq word (codes "low") then Some 300 else None))
+
+-- what a word means
+abbrev pub meaning_of : {A : Type 0} → (List ℕ → Option A) → List ℕ → List ℕ → Result A ConfigFault
+meaning_of meaning at word = found (meaning word) (fault UnknownName at)
+
+-- a word with a meaning
+unfoldable pub word_value : {A : Type 0} → (List ℕ → Option A) → List ℕ → Data → Result A ConfigFault
+word_value meaning at d = text_value at d >>= meaning_of meaning at
+
+-- a word with a meaning, or its default if it is absent
+abbrev pub word_or : {A : Type 0} → (List ℕ → Option A) → List ℕ → List ℕ → A → Data → Result A ConfigFault
+word_or meaning at key absent d = option_map_or (word_value meaning (below at key)) (get key d) (Ok absent)
+
+-- the labels that a job requests
+unfoldable pub wants_at : List Label → List ℕ → Data → Result (List LabelId) ConfigFault
+wants_at labels at d = list_required (wanted_at labels) at (codes "labels") (one_to JOB_LABELS) [] d
+
+-- the semaphores that a job takes
+unfoldable pub takes_at : List Sem → List ℕ → Data → Result (List SemId) ConfigFault
+takes_at semaphores at d = list_maybe (taken_at semaphores) at (codes "semaphores") (at_most JOB_SEMAPHORES) [] d
+
+-- what a job requests, and when: its labels, its priority and its relative priority
+unfoldable pub demand_at : List Label → List ℕ → Data → Result Demand ConfigFault
+demand_at labels at d = do
+  wanted ← wants_at labels at d
+  priority ← word_or priority_of at (codes "priority") 200 d
+  relative ← whole_or at (codes "relative-priority") 0 RELATIVE_PRIORITY 0 d
+  Ok (record { labels = wanted; priority = priority; relative_priority = relative })
+
+-- the rest of a job of a requester (Zuul: `resources-first` on a semaphore, here on the job;
+-- defaults own)
+unfoldable pub job_row : List Sem → List Tenant → List ℕ → RequesterId → List ℕ → Demand → Data → Result Job ConfigFault
+job_row semaphores tenants at requester name demand d = do
+  taken ← takes_at semaphores at d
+  first ← flag_or at (codes "resources-first") false d
+  end ← word_or end_as_of at (codes "end") Used d
+  tenant ← word_or (tenant_named tenants) at (codes "tenant") (tenant_id 0) d
+  Ok (record { requester = requester; name = name; labels = demand.labels; priority = demand.priority; relative_priority = demand.relative_priority; semaphores = taken; resources_first = first; end = end; tenant = tenant })
+
+-- a job, given those of its requester before it (own)
+unfoldable pub job_at : List Label → List Sem → List Tenant → ReadsItem JobsOf
+job_at labels semaphores tenants at s d = do
+  name ← named_at (λ (j : Job). j.name) job_keys at s.jobs d
+  demand ← demand_at labels at d
+  job ← job_row semaphores tenants at s.requester name demand d
+  Ok (record s { jobs = s.jobs ++ job ∷ [] })
+
+-- the jobs of a requester, after this many of earlier requesters
+unfoldable pub jobs_at : List Label → List Sem → List Tenant → List ℕ → ℕ → RequesterId → Data → Result JobsOf ConfigFault
+jobs_at labels semaphores tenants at earlier requester d = list_maybe (job_at labels semaphores tenants) at (codes "jobs") (behind earlier (at_most JOBS)) (record { requester = requester; jobs = [] }) d
+
+-- the rest of a requester (Zuul: `window`; range and default own)
+unfoldable pub requester_row : List ℕ → List ℕ → Data → Result Requester ConfigFault
+requester_row at name d = do
+  window ← whole_or at (codes "window") 1 WINDOW 20 d
+  Ok (record { name = name; window = window })
+
+-- a requester, given those before it, with its jobs (own)
+unfoldable pub requester_at : List Label → List Sem → List Tenant → ReadsItem Requesters
+requester_at labels semaphores tenants at s d = do
+  name ← named_at (λ (q : Requester). q.name) requester_keys at s.requesters d
+  requester ← requester_row at name d
+  own ← jobs_at labels semaphores tenants at (length s.jobs) (record { 0 = length s.requesters }) d
+  Ok (record { requesters = s.requesters ++ requester ∷ []; jobs = s.jobs ++ own.jobs })

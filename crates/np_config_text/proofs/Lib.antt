@@ -1,0 +1,12 @@
+pub mod Ascii
+pub mod Values
+pub mod Members
+pub mod Shapes
+pub mod Again
+pub mod AgainPools
+pub mod AgainProviders
+pub mod AgainTenants
+pub mod AgainJobs
+pub mod AgainFaults
+pub mod AgainWhole
+pub mod OnLiterals

@@ -1,0 +1,49 @@
+use Rattle.std.proofs.Common.{◌∙◌, ap}
+use Rattle.serde_json.proofs.Views.{view-Object}
+use Rattle.serde_json.specs.Data.{object}
+use Rattle.np_config_text.proofs.Ascii.{labels-ascii, semaphores-ascii, tenants-ascii, providers-ascii, requesters-ascii}
+use Rattle.np_config_text.proofs.Members.{top_members}
+use Rattle.np_config_text.proofs.text.config_value.Goals as goal
+
+pub list_value-requires-2 : goal.list_value-requires-2
+list_value-requires-2 c = rw c.labels.ensures (labels-ascii _ c.soundness.ensures)
+
+pub placed_value-requires-clause-shown : goal.placed_value-requires-clause-shown
+placed_value-requires-clause-shown c = rw c.providers.ensures (providers-ascii _ c.soundness.ensures)
+
+pub placed_value-requires-2-clause-shown : goal.placed_value-requires-2-clause-shown
+placed_value-requires-2-clause-shown c = rw c.requesters.ensures (requesters-ascii _ c.soundness.ensures)
+
+pub list_value-requires-3 : goal.list_value-requires-3
+list_value-requires-3 c = rw c.semaphores.ensures (semaphores-ascii _ c.soundness.ensures)
+
+pub list_if_any-requires : goal.list_if_any-requires
+list_if_any-requires c = rw c.tenants.ensures (tenants-ascii _ c.soundness.ensures)
+
+pub returns : goal.returns
+returns c =
+    view-Object _
+    ∙ ap object (rw (
+      c.in_ok-put_given.ensures,
+      c.in_ok-put-6.ensures.ok,
+      c.in_ok-put-5.ensures.ok,
+      c.in_ok-put-4.ensures.ok,
+      c.in_ok-put-3.ensures.ok,
+      c.in_ok-put-2.ensures.ok,
+      c.in_ok-put.ensures.ok,
+      c.new-members.ensures.empty,
+      c.in_ok-faults.ensures,
+      c.in_ok-labels.ensures,
+      c.in_ok-providers.ensures,
+      c.in_ok-requesters.ensures,
+      c.in_ok-semaphores.ensures,
+      c.in_ok-tenants.ensures,
+      c.faults.ensures,
+      c.labels.ensures,
+      c.providers.ensures,
+      c.requesters.ensures,
+      c.semaphores.ensures,
+      c.tenants.ensures,
+      c.from-age.ensures,
+      c.max_hold_age.ensures,
+    ) (top_members _ _ _ _ _ _ _))

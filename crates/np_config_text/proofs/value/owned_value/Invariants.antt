@@ -1,0 +1,7 @@
+use Rattle.std.proofs.Common.{◌≡◌, take, map}
+use Rattle.std.specs.Prelude.{filter, ◌==◌}
+use Rattle.serde_json.specs.View.{view}
+use Rattle.np_config_text.proofs.value.owned_value.Given as goal
+
+abbrev pub invariant-loop-row : goal.invariant-loop-row
+invariant-loop-row g l = map view l.values.items ≡ map (g.T.Shown.shown l.config) (filter (λ r. g.T.Owned.owner r == l.owner) (take l.row-index l.rows))

@@ -1,0 +1,7 @@
+use Rattle.std.proofs.Common.{◌≡◌, take, map}
+use Rattle.serde_json.specs.View.{view}
+use Rattle.np_config_text.specs.Canonical.{placed}
+use Rattle.np_config_text.proofs.value.placed_value.Given as goal
+
+abbrev pub invariant-loop-place : goal.invariant-loop-place
+invariant-loop-place g l = map view l.values.items ≡ placed (g.T.Placed.shown l.config) 0 (take l.place l.rows)
