@@ -7,9 +7,9 @@ ghost use Rattle.serde_json.specs.Data.{string};
 ghost use Rattle.serde_json.specs.View.{view};
 ghost use Rattle.np_config_text.specs.Canonical.{label_name, semaphore_name, tenant_name, job_tenant, requester_name, full_name, priority_word, role_word, role_name};
 
+use crate::value::text_value;
 use np_config::Config;
 use np_config_read::full_name;
-use crate::value::text_value;
 use np_text::{LabelId, PoolId, RequesterId, Role, RoleKind, SemId, TenantId};
 use serde_json::Value;
 use std::alloc::{AllocError, Global};

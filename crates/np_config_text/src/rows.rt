@@ -7,13 +7,13 @@ ghost use Rattle.np_site.specs.Configuration.{Configuration};
 ghost use Rattle.np_config_read.specs.Defaults.{count};
 ghost use Rattle.np_config_text.specs.Canonical.{label_data, label_name, semaphore_name, offer_data, pool_data, provider_data, semaphore_data, tenant_data, job_data, requester_data, fault_data};
 
-use np_config::Config;
 use crate::names::{
     job_tenant, label_name, priority_word, role_name_value, role_word, semaphore_name,
 };
 use crate::value::{
     Owned, Placed, Shown, list_value, owned_value, put_count, put_given, put_limit, text_value,
 };
+use np_config::Config;
 use np_site::{Fault, Job, Label, Offer, Pool, Provider, Requester, Sem, Tenant};
 use np_text::{LabelId, SemId};
 use serde_json::{Map, Value, json, put};

@@ -9,8 +9,8 @@ ghost use Rattle.np_site.specs.Configuration.{Configuration};
 ghost use Rattle.np_config_text.specs.Canonical.{list_data, list_if_any, placed};
 ghost use Rattle.np_config_text.specs.Put.{put_given, put_count, put_limit};
 
-use np_config::Config;
 use np_amount::Limit;
+use np_config::Config;
 use serde_json::{Map, Value, put};
 use std::alloc::{AllocError, Global};
 use std::str;

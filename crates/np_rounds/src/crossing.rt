@@ -20,10 +20,10 @@ use np_config::Config;
 use np_given::Given;
 use np_index::Index;
 use np_indexed::Indexed;
+use np_journal::JournalKeeper;
 use np_keeper::TreeKeeper;
 use np_lookups::Lookups;
 use np_open::Open;
-use np_journal::JournalKeeper;
 use np_tree::Tree;
 
 /// A type with these bounds may be moved to other threads, and shared with them.
