@@ -58,6 +58,10 @@ lead [] s = (Some tt, s)
 lead (c ∷ cs) [] = (None, [])
 lead (c ∷ cs) (b ∷ bs) = if b == c then lead cs bs else (None, b ∷ bs)
 
+-- these bytes, read as this value
+abbrev pub spelled : {A : Type 0} → List ℕ → A → Reader A
+spelled text a = lead text >> gives a
+
 -- the byte c comes next
 abbrev pub begins : ℕ → List ℕ → Bool
 begins c [] = false

@@ -2,8 +2,9 @@
 ghost use Rattle.std.specs.Prelude.{◌≡◌, ◌≤◌, ◌+◌, ◌-◌, ◌*◌, [], ◌∷◌, ◌&&◌, nat_le, if◌then◌else◌, false, drop, length, IfSome};
 ghost use Rattle.std.specs.Bool.{OnTrue, OnFalse};
 ghost use Rattle.std.specs.Char.{is_ascii_digit};
-ghost use Rattle.np_spelling.specs.Reading.{begins, digits, first_byte, fixed, lead, max_u8, max_u16, max_u32, max_u64, number, numbered};
+ghost use Rattle.np_spelling.specs.Reading.{answer, begins, digits, first_byte, fixed, lead, max_u8, max_u16, max_u32, max_u64, number, numbered, spelled};
 
+use crate::fault::BadRecord;
 use std::marker::Model;
 
 /// The bytes that are left. Contracts see them as a list.
@@ -33,6 +34,19 @@ impl<'a> Cursor<'a> {
         ensures { result ≡ length self.now }
     {
         self.left.len()
+    }
+
+    /// The answer of a reader of `count` bytes: what it found, if none are left.
+    pub(crate) fn answer<T: Copy>(&self, count: usize, found: Option<T>) -> Result<T, BadRecord>
+        requires { length self.now ≤ count }
+        ensures { result ≡ answer count found self.now }
+    {
+        match found {
+            Some(found) if self.len() == 0 => Ok(found),
+            _ => Err(BadRecord {
+                place: count - self.len(),
+            }),
+        }
     }
 
     /// Whether this byte comes next.
@@ -84,6 +98,15 @@ impl<'a> Cursor<'a> {
             }
         }
         Some(())
+    }
+
+    /// Passes these bytes, and returns this value.
+    #[inline(always)]
+    pub(crate) fn spelled<T: Copy>(&mut self, text: &[u8], value: T) -> Option<T>
+        ensures { spelled text.now value self.old ≡ (result, self.new) }
+    {
+        self.lead(text)?;
+        Some(value)
     }
 
     /// Passes a decimal number of at most `max`. A digit that would make it larger is left, and so

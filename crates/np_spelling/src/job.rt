@@ -2,16 +2,16 @@
 ghost use Rattle.std.specs.Prelude.{◌≡◌, ◌++◌, ◌∷◌, [], OnOk, IfSome, codes, length};
 ghost use Rattle.np_text.specs.Request.{HasText};
 ghost use Rattle.np_text.specs.Word.{ending_word, phase_word};
-ghost use Rattle.np_spelling.specs.Reading.{answer, asked_end_in, chosen, ending_by, job_end_in, job_front_in, job_in, list_in, marked_in, no_end_in, open_phase_in, over_end_in, phase_in, using_end_in};
+ghost use Rattle.np_spelling.specs.Reading.{answer, asked_end_in, chosen, ending_by, job_end_in, job_front_in, job_in, no_end_in, open_phase_in, over_end_in, phase_in, using_end_in};
 ghost use Rattle.np_spelling.specs.Spelling.{IsJob, SpellsJob, job_end, job_front, job_text, joined};
 
 use crate::cursor::Cursor;
 use crate::fault::BadRecord;
 use crate::id::request;
 use crate::kind::Record;
-use crate::list::{list, put_list};
+use crate::list::{put_list, row};
 use crate::text::{put, put_number_between, put_request_between, put_u16_behind};
-use np_record::{JobRecord, MarkRow, Row};
+use np_record::{JobRecord, MarkRow};
 use np_text::{Ending, NoMemory, Phase, PoolId, RequestId};
 use std::alloc::Global;
 
@@ -46,8 +46,7 @@ fn front(cursor: &mut Cursor) -> Option<Option<Ending>>
         cursor.lead(b"\",\"nodes\":")?;
         Some(Some(ending))
     } else {
-        cursor.lead(b"nodes\":")?;
-        Some(None)
+        cursor.spelled(b"nodes\":", None)
     }
 }
 
@@ -56,15 +55,12 @@ fn open_phase(cursor: &mut Cursor) -> Option<Phase>
     ensures { open_phase_in cursor.old ≡ (result, cursor.new) }
 {
     if cursor.begins(b'n') {
-        cursor.lead(b"new\"")?;
-        return Some(Phase::New);
+        cursor.spelled(b"new\"", Phase::New)
+    } else if cursor.begins(b'a') {
+        cursor.spelled(b"asked\"", Phase::Asked)
+    } else {
+        cursor.spelled(b"using\"", Phase::Using)
     }
-    if cursor.begins(b'a') {
-        cursor.lead(b"asked\"")?;
-        return Some(Phase::Asked);
-    }
-    cursor.lead(b"using\"")?;
-    Some(Phase::Using)
 }
 
 /// The phase: over if and only if there is an ending.
@@ -73,10 +69,7 @@ fn phase(cursor: &mut Cursor, ending: Option<Ending>) -> Option<Phase>
     ensures { phase_in ending cursor.old ≡ (result, cursor.new) }
 {
     match ending {
-        Some(_) => {
-            cursor.lead(b",\"phase\":\"over\"")?;
-            Some(Phase::Over)
-        }
+        Some(_) => cursor.spelled(b",\"phase\":\"over\"", Phase::Over),
         None => {
             cursor.lead(b",\"phase\":\"")?;
             open_phase(cursor)
@@ -90,8 +83,7 @@ type End = (Option<PoolId>, Option<RequestId>);
 fn no_end(cursor: &mut Cursor) -> Option<End>
     ensures { no_end_in cursor.old ≡ (result, cursor.new) }
 {
-    cursor.lead(b"}")?;
-    Some((None, None))
+    cursor.spelled(b"}", (None, None))
 }
 
 #[tactic(auto, unfolding(crate::specs::Reading::asked_end_in))]
@@ -139,21 +131,12 @@ fn end(cursor: &mut Cursor, phase: Phase) -> Option<End>
     }
 }
 
-#[inline(always)]
-fn nodes(cursor: &mut Cursor) -> Option<MarkRow>
-    ensures { list_in marked_in 31 cursor.old ≡ (result, cursor.new) }
-{
-    let mut row: MarkRow = Row::new();
-    list(cursor, &mut row)?;
-    Some(row)
-}
-
 #[tactic(auto, unfolding(crate::specs::Reading::job_in))]
 fn job(cursor: &mut Cursor) -> Option<JobRecord>
     ensures { job_in cursor.old ≡ (result, cursor.new) }
 {
     let ending = front(cursor)?;
-    let nodes = nodes(cursor)?;
+    let nodes: MarkRow = row(cursor)?;
     let phase = phase(cursor, ending)?;
     let (pool, request) = end(cursor, phase)?;
     Some(JobRecord {
@@ -170,12 +153,7 @@ fn read_job(bytes: &[u8]) -> Result<JobRecord, BadRecord>
 {
     let mut cursor = Cursor::new(bytes);
     let found = job(&mut cursor);
-    match found {
-        Some(found) if cursor.len() == 0 => Ok(found),
-        _ => Err(BadRecord {
-            place: bytes.len() - cursor.len(),
-        }),
-    }
+    cursor.answer(bytes.len(), found)
 }
 
 fn put_front(out: &mut Vec<u8>, ending: Option<Ending>) -> Result<(), NoMemory>
@@ -235,8 +213,7 @@ fn put_job(out: &mut Vec<u8>, job: &JobRecord) -> Result<(), NoMemory>
     put_front(out, job.ending)?;
     put_list(out, job.nodes.items())?;
     put_phase(out, job.phase)?;
-    put_end(out, job.pool, job.request)?;
-    Ok(())
+    put_end(out, job.pool, job.request)
 }
 
 impl Record for JobRecord {

@@ -44,7 +44,7 @@ fn rest<T: Part, const N: usize>(cursor: &mut Cursor, row: &mut Row<T, N>, room:
 }
 
 /// Passes a list in brackets, and puts its items into an empty row.
-pub(crate) fn list<T: Part, const N: usize>(cursor: &mut Cursor, row: &mut Row<T, N>) -> Option<()>
+fn list<T: Part, const N: usize>(cursor: &mut Cursor, row: &mut Row<T, N>) -> Option<()>
     requires empty { row.old ≡ [] }
     requires some { 0 < N }
     requires few { N < 2 ^ 32 }
@@ -57,6 +57,17 @@ pub(crate) fn list<T: Part, const N: usize>(cursor: &mut Cursor, row: &mut Row<T
     let item = T::part(cursor)?;
     row.push(item);
     rest(cursor, row, N as u32 - 1)
+}
+
+/// Passes a list in brackets of at most `N` items.
+pub(crate) fn row<T: Part, const N: usize>(cursor: &mut Cursor) -> Option<Row<T, N>>
+    requires some { 0 < N }
+    requires few { N < 2 ^ 32 }
+    ensures { list_in T.reads (N - 1) cursor.old ≡ (result, cursor.new) }
+{
+    let mut row = Row::new();
+    list(cursor, &mut row)?;
+    Some(row)
 }
 
 /// Appends further items, each after a comma, and the bracket.
@@ -145,15 +156,13 @@ fn reason(cursor: &mut Cursor) -> Option<Reason>
         return Some(Reason::Spent(NodeId(cursor.u32_behind(b"spent-n")?)));
     }
     if cursor.begins(b't') {
-        cursor.lead(b"tenant-never-fits")?;
-        return Some(Reason::TenantNeverFits);
+        return cursor.spelled(b"tenant-never-fits", Reason::TenantNeverFits);
     }
     cursor.lead(b"n")?;
     if cursor.begins(b'o') {
         return Some(Reason::NoLabel(LabelId(cursor.u16_behind(b"o-label-l")?)));
     }
-    cursor.lead(b"ever-fits")?;
-    Some(Reason::NeverFits)
+    cursor.spelled(b"ever-fits", Reason::NeverFits)
 }
 
 impl Part for Declined {

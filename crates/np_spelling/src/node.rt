@@ -29,8 +29,7 @@ fn front(cursor: &mut Cursor) -> Option<Option<RequestId>>
         cursor.lead(b"\",\"attempts\":")?;
         Some(Some(id))
     } else {
-        cursor.lead(b"ttempts\":")?;
-        Some(None)
+        cursor.spelled(b"ttempts\":", None)
     }
 }
 
@@ -55,8 +54,7 @@ fn server(cursor: &mut Cursor) -> Option<Option<u64>>
         cursor.lead(b",\"since\":")?;
         Some(Some(server))
     } else {
-        cursor.lead(b"ince\":")?;
-        Some(None)
+        cursor.spelled(b"ince\":", None)
     }
 }
 
@@ -118,13 +116,11 @@ fn tenant(cursor: &mut Cursor) -> Option<Option<TenantId>>
     ensures { node_tenant_in cursor.old ≡ (result, cursor.new) }
 {
     if cursor.begins(b'}') {
-        cursor.lead(b"}")?;
-        return Some(Some(TenantId(0)));
+        return cursor.spelled(b"}", Some(TenantId(0)));
     }
     cursor.lead(b",\"tenant\":")?;
     if cursor.begins(b'"') {
-        cursor.lead(b"\"none\"}")?;
-        return Some(None);
+        return cursor.spelled(b"\"none\"}", None);
     }
     let tenant = cursor.u16()?;
     cursor.lead(b"}")?;
@@ -158,12 +154,7 @@ fn read_node(bytes: &[u8]) -> Result<NodeRecord, BadRecord>
 {
     let mut cursor = Cursor::new(bytes);
     let found = node(&mut cursor);
-    match found {
-        Some(found) if cursor.len() == 0 => Ok(found),
-        _ => Err(BadRecord {
-            place: bytes.len() - cursor.len(),
-        }),
-    }
+    cursor.answer(bytes.len(), found)
 }
 
 fn put_front(out: &mut Vec<u8>, allocated_to: Option<RequestId>) -> Result<(), NoMemory>
@@ -201,8 +192,7 @@ fn put_place(out: &mut Vec<u8>, node: &NodeRecord) -> Result<(), NoMemory>
 {
     put_u16_behind(out, b",\"label\":", node.label.0)?;
     put_u16_behind(out, b",\"pool\":", node.pool.0)?;
-    put_server(out, node.server)?;
-    Ok(())
+    put_server(out, node.server)
 }
 
 fn put_age(out: &mut Vec<u8>, node: &NodeRecord) -> Result<(), NoMemory>
@@ -212,8 +202,7 @@ fn put_age(out: &mut Vec<u8>, node: &NodeRecord) -> Result<(), NoMemory>
     put_u32_behind(out, b",\"start\":", node.start)?;
     put(out, b",\"state\":\"")?;
     put(out, node.state.word().as_bytes())?;
-    put(out, b"\"")?;
-    Ok(())
+    put(out, b"\"")
 }
 
 fn put_tenant(out: &mut Vec<u8>, tenant: Option<TenantId>) -> Result<(), NoMemory>

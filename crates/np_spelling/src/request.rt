@@ -2,44 +2,17 @@
 ghost use Rattle.std.specs.Prelude.{◌≡◌, ◌++◌, ◌∷◌, [], OnOk, codes, length};
 ghost use Rattle.std.specs.Fmt.{decimal};
 ghost use Rattle.np_text.specs.Word.{request_state_word};
-ghost use Rattle.np_spelling.specs.Reading.{answer, declined_in, label_in, list_in, node_id_in, request_job_in, request_pinned_in, request_pool_in, other_state_in, request_record_in, request_state_in, served_state_in};
+ghost use Rattle.np_spelling.specs.Reading.{answer, request_job_in, request_pinned_in, request_pool_in, other_state_in, request_record_in, request_state_in, served_state_in};
 ghost use Rattle.np_spelling.specs.Spelling.{IsRequest, SpellsRequest, declined_text, joined, label_text, list_text, request_job, request_pinned, request_pool, request_record_text};
 
 use crate::cursor::Cursor;
 use crate::fault::BadRecord;
 use crate::kind::Record;
-use crate::list::{list, put_list};
+use crate::list::{put_list, row};
 use crate::text::{put, put_number_between, put_u32_behind};
-use np_record::{DeclineRow, LabelRow, NodeRow, RequestRecord, Row};
+use np_record::{DeclineRow, LabelRow, NodeRow, RequestRecord};
 use np_text::{JobId, NoMemory, PoolId, RequestState};
 use std::alloc::Global;
-
-#[inline(always)]
-fn declines(cursor: &mut Cursor) -> Option<DeclineRow>
-    ensures { list_in declined_in 63 cursor.old ≡ (result, cursor.new) }
-{
-    let mut row: DeclineRow = Row::new();
-    list(cursor, &mut row)?;
-    Some(row)
-}
-
-#[inline(always)]
-fn labels(cursor: &mut Cursor) -> Option<LabelRow>
-    ensures { list_in label_in 31 cursor.old ≡ (result, cursor.new) }
-{
-    let mut row: LabelRow = Row::new();
-    list(cursor, &mut row)?;
-    Some(row)
-}
-
-#[inline(always)]
-fn nodes(cursor: &mut Cursor) -> Option<NodeRow>
-    ensures { list_in node_id_in 31 cursor.old ≡ (result, cursor.new) }
-{
-    let mut row: NodeRow = Row::new();
-    list(cursor, &mut row)?;
-    Some(row)
-}
 
 #[tactic(auto, unfolding(crate::specs::Reading::request_job_in))]
 fn job(cursor: &mut Cursor) -> Option<Option<JobId>>
@@ -51,8 +24,7 @@ fn job(cursor: &mut Cursor) -> Option<Option<JobId>>
         cursor.lead(b",\"labels\":")?;
         Some(Some(JobId(job)))
     } else {
-        cursor.lead(b"labels\":")?;
-        Some(None)
+        cursor.spelled(b"labels\":", None)
     }
 }
 
@@ -77,8 +49,7 @@ fn pool(cursor: &mut Cursor) -> Option<Option<PoolId>>
         cursor.lead(b",\"relative-priority\":")?;
         Some(Some(PoolId(pool)))
     } else {
-        cursor.lead(b"relative-priority\":")?;
-        Some(None)
+        cursor.spelled(b"relative-priority\":", None)
     }
 }
 
@@ -98,11 +69,9 @@ fn served_state(cursor: &mut Cursor) -> Option<RequestState>
     ensures { served_state_in cursor.old ≡ (result, cursor.new) }
 {
     if cursor.begins(b'p') {
-        cursor.lead(b"pending\"}")?;
-        Some(RequestState::Pending)
+        cursor.spelled(b"pending\"}", RequestState::Pending)
     } else {
-        cursor.lead(b"fulfilled\"}")?;
-        Some(RequestState::Fulfilled)
+        cursor.spelled(b"fulfilled\"}", RequestState::Fulfilled)
     }
 }
 
@@ -112,11 +81,9 @@ fn other_state(cursor: &mut Cursor) -> Option<RequestState>
     ensures { other_state_in cursor.old ≡ (result, cursor.new) }
 {
     if cursor.begins(b'r') {
-        cursor.lead(b"requested\"}")?;
-        Some(RequestState::Requested)
+        cursor.spelled(b"requested\"}", RequestState::Requested)
     } else {
-        cursor.lead(b"failed\"}")?;
-        Some(RequestState::Failed)
+        cursor.spelled(b"failed\"}", RequestState::Failed)
     }
 }
 
@@ -125,11 +92,11 @@ fn request(cursor: &mut Cursor) -> Option<RequestRecord>
     ensures { request_record_in cursor.old ≡ (result, cursor.new) }
 {
     cursor.lead(b"{\"declined\":")?;
-    let declined = declines(cursor)?;
+    let declined: DeclineRow = row(cursor)?;
     let job = job(cursor)?;
-    let labels = labels(cursor)?;
+    let labels: LabelRow = row(cursor)?;
     cursor.lead(b",\"nodes\":")?;
-    let nodes = nodes(cursor)?;
+    let nodes: NodeRow = row(cursor)?;
     let pinned = pinned(cursor, job)?;
     let pool = pool(cursor)?;
     let relative_priority = cursor.u32()?;
@@ -152,12 +119,7 @@ fn read_request_record(bytes: &[u8]) -> Result<RequestRecord, BadRecord>
 {
     let mut cursor = Cursor::new(bytes);
     let found = request(&mut cursor);
-    match found {
-        Some(found) if cursor.len() == 0 => Ok(found),
-        _ => Err(BadRecord {
-            place: bytes.len() - cursor.len(),
-        }),
-    }
+    cursor.answer(bytes.len(), found)
 }
 
 fn put_job(out: &mut Vec<u8>, job: Option<JobId>) -> Result<(), NoMemory>
@@ -199,8 +161,7 @@ fn put_front(out: &mut Vec<u8>, request: &RequestRecord) -> Result<(), NoMemory>
     put_list(out, request.declined.items())?;
     put_job(out, request.job)?;
     put_list(out, request.labels.items())?;
-    put(out, b",\"nodes\":")?;
-    Ok(())
+    put(out, b",\"nodes\":")
 }
 
 fn put_end(out: &mut Vec<u8>, request: &RequestRecord) -> Result<(), NoMemory>
@@ -210,8 +171,7 @@ fn put_end(out: &mut Vec<u8>, request: &RequestRecord) -> Result<(), NoMemory>
     put_u32_behind(out, b"", request.relative_priority)?;
     put(out, b",\"state\":\"")?;
     put(out, request.state.word().as_bytes())?;
-    put(out, b"\"}")?;
-    Ok(())
+    put(out, b"\"}")
 }
 
 fn put_request_record(out: &mut Vec<u8>, request: &RequestRecord) -> Result<(), NoMemory>
@@ -220,8 +180,7 @@ fn put_request_record(out: &mut Vec<u8>, request: &RequestRecord) -> Result<(), 
     put_front(out, request)?;
     put_list(out, request.nodes.items())?;
     put_pinned(out, request.pinned)?;
-    put_end(out, request)?;
-    Ok(())
+    put_end(out, request)
 }
 
 impl Record for RequestRecord {

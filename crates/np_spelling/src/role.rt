@@ -32,12 +32,7 @@ fn read_role(bytes: &[u8]) -> Result<RoleRecord, BadRecord>
 {
     let mut cursor = Cursor::new(bytes);
     let found = role(&mut cursor);
-    match found {
-        Some(found) if cursor.len() == 0 => Ok(found),
-        _ => Err(BadRecord {
-            place: bytes.len() - cursor.len(),
-        }),
-    }
+    cursor.answer(bytes.len(), found)
 }
 
 fn put_role(out: &mut Vec<u8>, role: &RoleRecord) -> Result<(), NoMemory>
@@ -46,8 +41,7 @@ fn put_role(out: &mut Vec<u8>, role: &RoleRecord) -> Result<(), NoMemory>
     put_u32_behind(out, b"{\"acts\":", role.acts)?;
     put_u32_behind(out, b",\"starts\":", role.starts)?;
     put_u32_behind(out, b",\"strikes\":", role.strikes)?;
-    put(out, b"}")?;
-    Ok(())
+    put(out, b"}")
 }
 
 impl Record for RoleRecord {

@@ -29,12 +29,7 @@ fn read_session(bytes: &[u8]) -> Result<SessionRecord, BadRecord>
 {
     let mut cursor = Cursor::new(bytes);
     let found = session(&mut cursor);
-    match found {
-        Some(found) if cursor.len() == 0 => Ok(found),
-        _ => Err(BadRecord {
-            place: bytes.len() - cursor.len(),
-        }),
-    }
+    cursor.answer(bytes.len(), found)
 }
 
 fn put_session(out: &mut Vec<u8>, session: &SessionRecord) -> Result<(), NoMemory>

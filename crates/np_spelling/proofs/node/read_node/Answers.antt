@@ -2,5 +2,5 @@ use Rattle.std.proofs.Common.{ap, arith, length}
 use Rattle.np_spelling.proofs.NodeForm.{node_left}
 use Rattle.np_spelling.proofs.node.read_node.Goals as goal
 
-pub overflow_sub-result : goal.overflow_sub-result
-overflow_sub-result c = omega (arith, node_left _ _ _ c.node-found.ensures, ap length c.new-cursor.ensures, c.len-in_default.ensures)
+pub answer-requires : goal.answer-requires
+answer-requires c = omega (arith, node_left _ _ _ c.node-found.ensures, ap length c.new-cursor.ensures)

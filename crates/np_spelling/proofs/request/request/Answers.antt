@@ -4,7 +4,7 @@ use Rattle.np_spelling.proofs.request.request.Goals as goal
 
 pub returns-in_err-labels : goal.returns-in_err-labels
 unfolding request_record_in
-returns-in_err-labels c = rw (c.in_ok-lead.ensures, c.in_ok-declined.ensures, c.in_ok-job.ensures, c.in_err-labels.ensures) (ap (λ o. (o, c.labels.new.cursor)) (sym c.from_residual-in_err-labels.ensures))
+returns-in_err-labels c = rw (c.in_ok-lead.ensures, c.in_ok-declined.ensures, c.in_ok-job.ensures, c.in_err-labels.ensures) (ap (λ o. (o, c.row-2.new.cursor)) (sym c.from_residual-in_err-labels.ensures))
 
 pub returns-in_err-lead-2 : goal.returns-in_err-lead-2
 unfolding request_record_in
@@ -12,7 +12,7 @@ returns-in_err-lead-2 c = rw (c.in_ok-lead.ensures, c.in_ok-declined.ensures, c.
 
 pub returns-in_err-nodes : goal.returns-in_err-nodes
 unfolding request_record_in
-returns-in_err-nodes c = rw (c.in_ok-lead.ensures, c.in_ok-declined.ensures, c.in_ok-job.ensures, c.in_ok-labels.ensures, c.in_ok-lead-2.ensures, c.in_err-nodes.ensures) (ap (λ o. (o, c.nodes.new.cursor)) (sym c.from_residual-in_err-nodes.ensures))
+returns-in_err-nodes c = rw (c.in_ok-lead.ensures, c.in_ok-declined.ensures, c.in_ok-job.ensures, c.in_ok-labels.ensures, c.in_ok-lead-2.ensures, c.in_err-nodes.ensures) (ap (λ o. (o, c.row-3.new.cursor)) (sym c.from_residual-in_err-nodes.ensures))
 
 pub returns-in_err-pinned : goal.returns-in_err-pinned
 unfolding request_record_in

@@ -2,5 +2,5 @@ use Rattle.std.proofs.Common.{ap, arith, length}
 use Rattle.np_spelling.proofs.RoleForm.{role_left}
 use Rattle.np_spelling.proofs.role.read_role.Goals as goal
 
-pub overflow_sub-result : goal.overflow_sub-result
-overflow_sub-result c = omega (arith, role_left _ _ _ c.role-found.ensures, ap length c.new-cursor.ensures, c.len-in_default.ensures)
+pub answer-requires : goal.answer-requires
+answer-requires c = omega (arith, role_left _ _ _ c.role-found.ensures, ap length c.new-cursor.ensures)
