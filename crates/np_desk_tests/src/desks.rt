@@ -1,256 +1,146 @@
-ghost use Rattle.std.specs.Prelude.{◌≡◌, ◌≤◌, ◌+◌, ◌<◌, ◌^◌, [], ◌∷◌, length, IfOk};
-ghost use Rattle.np_desk.specs.Part.{IsWhole};
+//! What no clause says: that threads take turns side by side with ample memory and come to their
+//! end, also if some turns run out of memory, and that each thread's entries are in its order.
+
+ghost use Rattle.std.specs.Prelude.{◌≡◌, Some, None, true, if◌then◌else◌};
 ghost use Rattle.np_desk.specs.Pass.{IsOf};
-ghost use Rattle.np_desk_tests.specs.Counter.{is_legal, Answers, recorded, AreSplit, zeros};
 
 use np_desk::{Alone, Desk, OnDesk, Pass, SeqObject, Turns};
 use np_text::NoMemory;
 use std::alloc::Global;
 use std::sync::Wait;
-use std::test::Fail;
-use std::thread;
 use std::thread::{Threads, join};
 
-// How many turns each thread takes.
-const TURNS: u64 = 10;
-
-// Counts what it is asked, up to a limit, and keeps it. Asked 0 it finds no memory.
+/// Keeps what it is asked to, but asked 1 it keeps nothing, and asked 0 it finds no memory.
 #[derive(Drop)]
-struct Counter {
-    limit: u64,
-    count: u64,
-    journal: Vec<u64>,
-    ghost counted: { count ≡ length journal.items },
-    ghost within: { count ≤ limit },
+struct Notes {
+    kept: Vec<u64>,
 }
 
-impl Counter {
-    fn new(alloc: Global, limit: u64) -> Counter
-        ensures { (result.limit ≡ limit) × (result.journal.items ≡ []) }
-    {
-        Counter {
-            limit,
-            count: 0,
-            journal: Vec::new(alloc),
-        }
-    }
-}
-
-impl SeqObject for Counter {
+impl SeqObject for Notes {
     type Ask = u64;
 
     type Entry = u64;
 
-    type Turn = Option<u64>;
+    type Turn = bool;
 
     type Fixed = u64;
 
-    ghost fixed = { λ c. c.limit };
+    ghost fixed = { λ _. 0 };
 
-    ghost history = { λ c. c.journal.items };
+    ghost history = { λ notes. notes.kept.items };
 
-    ghost legal = { is_legal };
+    ghost legal = { λ _ _. true };
 
-    ghost answers = { Answers };
+    ghost answers = { λ _ _ _ _. Unit {0} };
 
-    ghost recorded = { recorded };
+    ghost recorded = { λ ask keeps. if keeps then Some ask else None };
 
-    fn turn(&mut self, ask: u64) -> Result<Option<u64>, NoMemory> {
-        if ask == 0 {
-            return Err(NoMemory);
+    fn turn(&mut self, ask: u64) -> Result<bool, NoMemory> {
+        match ask {
+            0 => Err(NoMemory),
+            1 => Ok(false),
+            _ => {
+                self.kept.push(ask)?;
+                Ok(true)
+            }
         }
-        if self.limit == self.count {
-            return Ok(None);
-        }
-        self.journal.push(ask)?;
-        self.count += 1;
-        Ok(Some(self.count))
     }
 }
 
-// Asks these numbers in turn, and answers how many were counted.
-fn ask_each<T: Turns<Ask = u64, Turn = Option<u64>>>(turns: &mut T, first: u64) -> u64
-    requires ready { T.ready turns.old }
-    requires few { first < 2 ^ 32 }
+// What each of two threads asks.
+const ONES: [u64; 16] = [10, 0, 11, 12, 1, 13, 14, 0, 0, 15, 16, 17, 1, 18, 19, 0];
+
+const TWOS: [u64; 16] = [0, 20, 1, 21, 22, 23, 0, 24, 25, 26, 27, 1, 28, 0, 1, 29];
+
+/// Whether this is the answer to the ask.
+fn is_answer(ask: u64, turn: Result<bool, NoMemory>) -> bool {
+    match turn {
+        Err(_) => ask == 0,
+        Ok(keeps) => ask != 0 && keeps == (ask != 1),
+    }
+}
+
+/// Asks these in turn. Whether each was answered.
+fn ask_each<T: Turns<Ask = u64, Turn = bool>>(turns: &mut T, asks: &[u64]) -> bool
+    requires { T.ready turns.old }
     ensures ready { T.ready turns.new }
     ensures place { T.place turns.new ≡ T.place turns.old }
 {
-    let mut counted = 0;
-    for at in 0..TURNS {
-        if let Ok(Some(_)) = turns.turn(first + at) {
-            counted += 1;
-        }
+    let mut answered = true;
+    for ask in asks {
+        answered = is_answer(*ask, turns.turn(*ask)) && answered;
     }
-    counted
+    answered
 }
 
-// The turns of one thread.
-fn work<R: Wait>(
-    rt: &R,
-    desk: &Desk<Counter>,
-    pass: Pass<Counter>,
-    first: u64,
-) -> (Pass<Counter>, u64)
-    requires own { IsOf pass desk.now }
-    requires few { first < 2 ^ 32 }
+/// The turns of one thread.
+fn work<R: Wait>(rt: &R, desk: &Desk<Notes>, pass: Pass<Notes>, asks: &[u64]) -> (Pass<Notes>, bool)
+    requires { IsOf pass desk.now }
     ensures own { IsOf result.0 desk.now }
     ensures part { result.0.part ≡ pass.part }
 {
     let mut turns = OnDesk { rt, desk, pass };
-    let counted = ask_each(&mut turns, first);
-    (turns.pass, counted)
+    let answered = ask_each(&mut turns, asks);
+    (turns.pass, answered)
 }
 
-// Two threads take turns beside each other. Then the first sees what the second has seen, and both
-// are joined to the pass that they were split from.
-fn two_threads<R: Threads + Wait + Sync>(
-    rt: &R,
-    alloc: Global,
-    counter: Counter,
-) -> Option<(Counter, u64, u64)> {
-    let Ok((desk, mut pass)) = Desk::set_up(alloc, counter) else {
-        return None;
+/// Whether these are what both threads had kept, each in its order.
+fn are_both(kept: &[u64]) -> bool {
+    let mut one: u64 = 10;
+    let mut two: u64 = 20;
+    for ask in kept {
+        if *ask == one {
+            one = one.wrapping_add(1);
+        } else if *ask == two {
+            two = two.wrapping_add(1);
+        } else {
+            return false;
+        }
+    }
+    one == 20 && two == 30
+}
+
+/// Two threads take turns beside each other. Then the first sees what the second has seen, and both
+/// are joined to the pass that they were split from.
+fn two_threads<R: Threads + Wait + Sync>(rt: &R, alloc: Global) -> bool {
+    let kept = Vec::new(alloc);
+    let Ok((desk, mut pass)) = Desk::set_up(alloc, Notes { kept }) else {
+        return false;
     };
     let one = pass.split(&desk);
     let two = pass.split(&desk);
     let at = &desk;
     let ((mut one, ones), (mut two, twos)) = join(
         rt,
-        || -> (Pass<Counter>, u64)
+        || -> (Pass<Notes>, bool)
             requires { IsOf one at.now }
             ensures own { IsOf result.0 at.entry.now }
             ensures part { result.0.part ≡ one.part }
-        { work(rt, at, one, 100) },
-        || -> (Pass<Counter>, u64)
+        { work(rt, at, one, &ONES) },
+        || -> (Pass<Notes>, bool)
             requires { IsOf two at.now }
             ensures own { IsOf result.0 at.entry.now }
             ensures part { result.0.part ≡ two.part }
-        { work(rt, at, two, 200) },
+        { work(rt, at, two, &TWOS) },
     );
     one.meet(&desk, &mut two);
     pass.join(&desk, one);
     pass.join(&desk, two);
-    Some((desk.close(pass), ones, twos))
+    let notes = desk.close(pass);
+    ones && twos && are_both(notes.kept.as_slice())
 }
 
-// The turns of one thread, through a pass that it is lent.
-fn take_turns<R: Wait>(rt: &R, desk: &Desk<Counter>, pass: &mut Pass<Counter>)
-    requires own { IsOf pass.old desk.now }
-    ensures own { IsOf pass.new desk.now }
-    ensures part { pass.new.part ≡ pass.old.part }
-{
-    for at in 0..TURNS {
-        let _ = pass.turn(rt, desk, at + 1);
-    }
-}
-
-// Each pass of the list takes turns in a thread of its own.
-fn each_takes_turns<R: Threads + Wait + Sync>(
-    rt: &R,
-    desk: &Desk<Counter>,
-    passes: &mut [Pass<Counter>],
-)
-    requires split { AreSplit desk.now passes.old }
-    ensures split { AreSplit desk.now passes.new }
-{
-    thread::for_each_mut(rt, passes, 4, &|_, pass| take_turns(rt, desk, pass));
-}
-
-// As many passes, split off one after another.
-fn split_off(
-    alloc: Global,
-    desk: &Desk<Counter>,
-    pass: &mut Pass<Counter>,
-    count: u64,
-) -> Result<Vec<Pass<Counter>>, NoMemory>
-    requires own { IsOf pass.old desk.now }
-    requires whole { IsWhole pass.old.part }
-    ensures own { IsOf pass.new desk.now }
-    ensures split { IfOk result (λ v. AreSplit desk.now v.items) }
-    ensures part { IfOk result (λ v. pass.new.part ≡ zeros (length v.items) ∷ []) }
-{
-    let mut passes = Vec::new(alloc);
-    for _ in 0..count {
-        let given = pass.split(desk);
-        passes.push(given)?;
-    }
-    Ok(passes)
-}
-
-// As many threads, whose passes stand in a list. The pass that they were split from takes them in
-// from the last to the first, and is then whole.
-fn many_threads<R: Threads + Wait + Sync>(
-    rt: &R,
-    alloc: Global,
-    counter: Counter,
-    count: u64,
-) -> Result<Counter, NoMemory> {
-    let Ok((desk, mut pass)) = Desk::set_up(alloc, counter) else {
-        return Err(NoMemory);
+/// An object that no other thread has takes turns, too.
+fn alone(alloc: Global) -> bool {
+    let object = Notes {
+        kept: Vec::new(alloc),
     };
-    let mut passes = split_off(alloc, &desk, &mut pass, count)?;
-    each_takes_turns(rt, &desk, &mut passes);
-    while let Some(last) = passes.pop() {
-        pass.join(&desk, last);
-    }
-    Ok(desk.close(pass))
+    let mut alone = Alone { object };
+    ask_each(&mut alone, &[7, 0, 8, 1, 9]) && alone.object.kept.as_slice() == [7, 8, 9].as_slice()
 }
 
 #[test]
-fn two_threads_share_one_history(rt: HostRuntime) -> Result<(), Fail> {
-    let Some((counter, ones, twos)) = two_threads(&rt, rt.alloc(), Counter::new(rt.alloc(), 20))
-    else {
-        return Err(Fail::from("no memory"));
-    };
-    assert_eq!(rt; (ones, twos), (TURNS, TURNS));
-    assert_eq!(rt; counter.count, 20);
-    assert_eq!(rt; counter.journal.len(), 20);
-    for first in [100, 200] {
-        let mut next = first;
-        for ask in &counter.journal {
-            if *ask / 100 == first / 100 {
-                assert_eq!(rt; *ask, next, "the turns from {first} on");
-                next += 1;
-            }
-        }
-        assert_eq!(rt; next, first + TURNS, "all turns from {first} on");
-    }
-    Ok(())
-}
-
-#[test]
-fn passes_in_a_list_are_joined_again(rt: HostRuntime) -> Result<(), Fail> {
-    let Ok(counter) = many_threads(&rt, rt.alloc(), Counter::new(rt.alloc(), 99), 5) else {
-        return Err(Fail::from("no memory"));
-    };
-    assert_eq!(rt; counter.journal.len(), 50);
-    Ok(())
-}
-
-#[test]
-fn a_turn_without_memory_calls_the_next(rt: HostRuntime) -> Result<(), Fail> {
-    let Ok((desk, mut pass)) = Desk::set_up(rt.alloc(), Counter::new(rt.alloc(), 2)) else {
-        return Err(Fail::from("no memory"));
-    };
-    for (ask, want) in [
-        (0, Err(NoMemory)),
-        (7, Ok(Some(1))),
-        (0, Err(NoMemory)),
-        (8, Ok(Some(2))),
-        (9, Ok(None)),
-    ] {
-        assert_eq!(rt; pass.turn(&rt, &desk, ask), want, "asked {ask}");
-    }
-    let counter = desk.close(pass);
-    assert_eq!(rt; counter.journal.as_slice(), [7, 8].as_slice());
-    Ok(())
-}
-
-#[test]
-fn an_object_alone_takes_turns_too(rt: HostRuntime) {
-    let mut alone = Alone {
-        object: Counter::new(rt.alloc(), 9),
-    };
-    assert_eq!(rt; ask_each(&mut alone, 1), 9);
-    assert_eq!(rt; alone.object.count, 9);
+fn turns_are_taken_side_by_side_and_alone(rt: HostRuntime) {
+    assert!(rt; two_threads(&rt, rt.alloc()), "two threads");
+    assert!(rt; alone(rt.alloc()), "alone");
 }

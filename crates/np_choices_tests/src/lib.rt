@@ -1,5 +1,0 @@
-//! Tests of the choices: small sites that are played by choices alone.
-#![tactic(auto)]
-
-#[cfg(test)]
-mod choices;

@@ -1,0 +1,13 @@
+-- a tree and the journal that led to it
+use Rattle.std.specs.Prelude.{List}
+use Rattle.np_nodes.specs.TreeState.{TreeState}
+use Rattle.np_site.specs.Configuration.{Configuration}
+use Rattle.np_event.specs.declared.entry.Entry.{Entry}
+use Rattle.np_machine.specs.History.{Runs}
+use Rattle.np_decode.specs.Decoded.{decoded}
+use Rattle.np_keeper.specs.Keeper.{IsHeld}
+
+-- the tree stores the state that the journal leads to, with room for the events to come
+pub record Leads (c : Configuration) (journal : List Entry) (t : TreeState) : Type 0 where
+  pub held : IsHeld c t
+  pub runs : Runs c journal (decoded c t)
