@@ -1,8 +1,7 @@
 //! The forms of event lines, one row for each. A new event is one more row in each table here, and
 //! one in each table of `specs/EventForm`.
-ghost use Rattle.std.specs.Prelude.{◌≡◌, ◌≤◌, IfSome, length};
+ghost use Rattle.std.specs.Prelude.{◌≡◌};
 ghost use Rattle.np_event_lines.specs.EventForm.{event_of, event_parts, event_row};
-ghost use Rattle.np_event_lines.specs.Row.{blank};
 
 use crate::kind::Kind::*;
 use crate::kind::{
@@ -11,7 +10,7 @@ use crate::kind::{
 };
 use crate::row::Row;
 use np_event::{Event, Outcome};
-use np_text::{JobId, NodeId, Reason, RequestId, Role, SessionId};
+use np_text::{Reason, Role};
 
 /// What an event's line looks like: one form, or one for each of its shapes.
 #[derive(Clone, Copy)]
@@ -103,8 +102,6 @@ pub(crate) fn event_row(form: EventForm) -> Row
     ensures head { result.head.now ≡ (event_row form).head }
     ensures kinds { result.kinds.now ≡ (event_row form).kinds }
     ensures decided { result.decided_at ≡ (event_row form).decided_at }
-    ensures few { length result.kinds.now ≤ 16 }
-    ensures near { IfSome result.decided_at (λ place. place ≤ 4) }
 {
     match form {
         Form::Tick => Row::of(b"tick", &[]),
@@ -310,192 +307,184 @@ pub(crate) fn event_of(form: EventForm, said: Fields) -> Event
     }
 }
 
-fn by(session: SessionId) -> Fields
-    ensures { result ≡ record blank { session = session } }
-{
-    Fields { session, ..BLANK }
-}
-
-fn on_request(session: SessionId, request: RequestId) -> Fields
-    ensures { result ≡ record blank { session = session; request = request } }
-{
-    Fields {
-        session,
-        request,
-        ..BLANK
-    }
-}
-
-fn on_node(session: SessionId, node: NodeId) -> Fields
-    ensures { result ≡ record blank { session = session; node = node } }
-{
-    Fields {
-        session,
-        node,
-        ..BLANK
-    }
-}
-
-fn on_job(session: SessionId, job: JobId) -> Fields
-    ensures { result ≡ record blank { session = session; job = job } }
-{
-    Fields {
-        session,
-        job,
-        ..BLANK
-    }
-}
-
-/// An event's form and fields. No line opens a reaper's session.
-pub(crate) fn event_parts(event: Event) -> (EventForm, Fields)
-    ensures { result ≡ event_parts event }
+/// An event's form. No line opens a reaper's session.
+pub(crate) fn form_of(event: Event) -> EventForm
+    ensures { result ≡ (event_parts event).0 }
 {
     match event {
-        Event::Tick => (Form::Tick, BLANK),
+        Event::Tick => Form::Tick,
         Event::OpenSession {
-            role: Role::Launcher(pool),
-        } => (Form::OpenLauncher, Fields { pool, ..BLANK }),
+            role: Role::Launcher(_),
+        } => Form::OpenLauncher,
         Event::OpenSession {
-            role: Role::Janitor(pool),
-        } => (Form::OpenJanitor, Fields { pool, ..BLANK }),
+            role: Role::Janitor(_),
+        } => Form::OpenJanitor,
         Event::OpenSession {
-            role: Role::Requester(requester),
-        } => (Form::OpenRequester, Fields { requester, ..BLANK }),
-        Event::Crash { session } => (Form::Crash, by(session)),
-        Event::Expire { session } => (Form::Expire, by(session)),
-        Event::Register { session } => (Form::Register, by(session)),
-        Event::Submit { session, job } => (Form::Submit, on_job(session, job)),
+            role: Role::Requester(_),
+        } => Form::OpenRequester,
+        Event::OpenSession { role: Role::Reaper } => Form::Tick,
+        Event::Crash { .. } => Form::Crash,
+        Event::Expire { .. } => Form::Expire,
+        Event::Register { .. } => Form::Register,
+        Event::Submit { .. } => Form::Submit,
+        Event::Revise { .. } => Form::Revise,
+        Event::MinReady { .. } => Form::MinReady,
+        Event::LockRequest { .. } => Form::LockRequest,
+        Event::UnlockRequest { .. } => Form::UnlockRequest,
+        Event::Accept { .. } => Form::Accept,
+        Event::Decline {
+            reason: Reason::NoLabel(_),
+            ..
+        } => Form::DeclineNoLabel,
+        Event::Decline {
+            reason: Reason::NeverFits,
+            ..
+        } => Form::DeclineNeverFits,
+        Event::Decline {
+            reason: Reason::TenantNeverFits,
+            ..
+        } => Form::DeclineTenantNeverFits,
+        Event::Decline {
+            reason: Reason::Spent(_),
+            ..
+        } => Form::DeclineSpent,
+        Event::TakeReady { .. } => Form::TakeReady,
+        Event::Create { .. } => Form::Create,
+        Event::Start { .. } => Form::Start,
+        Event::Done {
+            outcome: Outcome::Launched(_),
+            ..
+        } => Form::DoneOk,
+        Event::Done {
+            outcome: Outcome::Failed,
+            ..
+        } => Form::DoneFailed,
+        Event::Fulfil { .. } => Form::Fulfil,
+        Event::LockNode { .. } => Form::LockNode,
+        Event::UnlockNode { .. } => Form::UnlockNode,
+        Event::Acquire { .. } => Form::Acquire,
+        Event::Take { .. } => Form::Take,
+        Event::EndNode { .. } => Form::EndNode,
+        Event::Finish { .. } => Form::Finish,
+        Event::Withdraw { .. } => Form::Withdraw,
+        Event::Release { .. } => Form::Release,
+        Event::MarkDeleting { .. } => Form::MarkDeleting,
+        Event::Gone { .. } => Form::Gone,
+        Event::Reset { .. } => Form::Reset,
+        Event::FreeNode { .. } => Form::FreeNode,
+        Event::FailDeclined { .. } => Form::FailDeclined,
+        Event::Sweep { .. } => Form::Sweep,
+    }
+}
+
+/// What an event says.
+pub(crate) fn event_fields(event: Event) -> Fields
+    ensures { result ≡ (event_parts event).1 }
+{
+    let mut said = BLANK;
+    match event {
+        Event::Tick => {}
+        Event::OpenSession { role } => match role {
+            Role::Launcher(pool) => said.pool = pool,
+            Role::Janitor(pool) => said.pool = pool,
+            Role::Requester(requester) => said.requester = requester,
+            Role::Reaper => {}
+        },
+        Event::Crash { session } | Event::Expire { session } | Event::Register { session } => {
+            said.session = session;
+        }
+        Event::Submit { session, job }
+        | Event::Acquire { session, job }
+        | Event::Take { session, job }
+        | Event::Finish { session, job }
+        | Event::Withdraw { session, job }
+        | Event::Release { session, job } => {
+            said.session = session;
+            said.job = job;
+        }
         Event::Revise {
             session,
             job,
             relative,
-        } => (
-            Form::Revise,
-            Fields {
-                relative,
-                ..on_job(session, job)
-            },
-        ),
-        Event::MinReady { session, label } => (
-            Form::MinReady,
-            Fields {
-                label,
-                ..by(session)
-            },
-        ),
-        Event::LockRequest { session, request } => (
-            Form::LockRequest,
-            on_request(session, request),
-        ),
-        Event::UnlockRequest { session, request } => (
-            Form::UnlockRequest,
-            on_request(session, request),
-        ),
-        Event::Accept { session, request } => (Form::Accept, on_request(session, request)),
+        } => {
+            said.session = session;
+            said.job = job;
+            said.relative = relative;
+        }
+        Event::MinReady { session, label } => {
+            said.session = session;
+            said.label = label;
+        }
+        Event::LockRequest { session, request }
+        | Event::UnlockRequest { session, request }
+        | Event::Accept { session, request }
+        | Event::Create { session, request }
+        | Event::Fulfil { session, request }
+        | Event::Reset { session, request }
+        | Event::FailDeclined { session, request } => {
+            said.session = session;
+            said.request = request;
+        }
         Event::Decline {
             session,
             request,
-            reason: Reason::NoLabel(label),
-        } => (
-            Form::DeclineNoLabel,
-            Fields {
-                label,
-                ..on_request(session, request)
-            },
-        ),
-        Event::Decline {
-            session,
-            request,
-            reason: Reason::NeverFits,
-        } => (Form::DeclineNeverFits, on_request(session, request)),
-        Event::Decline {
-            session,
-            request,
-            reason: Reason::TenantNeverFits,
-        } => (Form::DeclineTenantNeverFits, on_request(session, request)),
-        Event::Decline {
-            session,
-            request,
-            reason: Reason::Spent(node),
-        } => (
-            Form::DeclineSpent,
-            Fields {
-                node,
-                ..on_request(session, request)
-            },
-        ),
+            reason,
+        } => {
+            said.session = session;
+            said.request = request;
+            match reason {
+                Reason::NoLabel(label) => said.label = label,
+                Reason::Spent(node) => said.node = node,
+                Reason::NeverFits => {}
+                Reason::TenantNeverFits => {}
+            }
+        }
         Event::TakeReady {
             session,
             request,
             node,
-        } => (
-            Form::TakeReady,
-            Fields {
-                node,
-                ..on_request(session, request)
-            },
-        ),
-        Event::Create { session, request } => (Form::Create, on_request(session, request)),
-        Event::Start { session, node } => (Form::Start, on_node(session, node)),
+        } => {
+            said.session = session;
+            said.request = request;
+            said.node = node;
+        }
+        Event::Start { session, node }
+        | Event::LockNode { session, node }
+        | Event::UnlockNode { session, node }
+        | Event::MarkDeleting { session, node }
+        | Event::Gone { session, node }
+        | Event::FreeNode { session, node } => {
+            said.session = session;
+            said.node = node;
+        }
         Event::Done {
             session,
             node,
             attempt,
-            outcome: Outcome::Launched(server),
-        } => (
-            Form::DoneOk,
-            Fields {
-                attempt,
-                server,
-                ..on_node(session, node)
-            },
-        ),
-        Event::Done {
-            session,
-            node,
-            attempt,
-            outcome: Outcome::Failed,
-        } => (
-            Form::DoneFailed,
-            Fields {
-                attempt,
-                ..on_node(session, node)
-            },
-        ),
-        Event::Fulfil { session, request } => (Form::Fulfil, on_request(session, request)),
-        Event::LockNode { session, node } => (Form::LockNode, on_node(session, node)),
-        Event::UnlockNode { session, node } => (Form::UnlockNode, on_node(session, node)),
-        Event::Acquire { session, job } => (Form::Acquire, on_job(session, job)),
-        Event::Take { session, job } => (Form::Take, on_job(session, job)),
-        Event::EndNode { session, node, end } => (
-            Form::EndNode,
-            Fields {
-                end,
-                ..on_node(session, node)
-            },
-        ),
-        Event::Finish { session, job } => (Form::Finish, on_job(session, job)),
-        Event::Withdraw { session, job } => (Form::Withdraw, on_job(session, job)),
-        Event::Release { session, job } => (Form::Release, on_job(session, job)),
-        Event::MarkDeleting { session, node } => (Form::MarkDeleting, on_node(session, node)),
-        Event::Gone { session, node } => (Form::Gone, on_node(session, node)),
-        Event::Reset { session, request } => (Form::Reset, on_request(session, request)),
-        Event::FreeNode { session, node } => (Form::FreeNode, on_node(session, node)),
-        Event::FailDeclined { session, request } => (
-            Form::FailDeclined,
-            on_request(session, request),
-        ),
+            outcome,
+        } => {
+            said.session = session;
+            said.node = node;
+            said.attempt = attempt;
+            match outcome {
+                Outcome::Launched(server) => said.server = server,
+                Outcome::Failed => {}
+            }
+        }
+        Event::EndNode { session, node, end } => {
+            said.session = session;
+            said.node = node;
+            said.end = end;
+        }
         Event::Sweep {
             session,
             node,
             server,
-        } => (
-            Form::Sweep,
-            Fields {
-                server,
-                ..on_node(session, node)
-            },
-        ),
-        Event::OpenSession { role: Role::Reaper } => (Form::Tick, BLANK),
+        } => {
+            said.session = session;
+            said.node = node;
+            said.server = server;
+        }
     }
+    said
 }

@@ -15,7 +15,7 @@ ghost use Rattle.np_event_lines.specs.Reading.{HaveWords, row_fields, stand};
 ghost use Rattle.np_event_lines.specs.ReplyForm.{done_forms, done_row, refusal_forms, refusal_row};
 ghost use Rattle.np_event_lines.specs.Words.{left_of, words_of};
 
-use crate::event_form::{EVENT_FORMS, EventForm, event_of, event_parts, event_row};
+use crate::event_form::{EVENT_FORMS, EventForm, event_fields, event_of, event_row, form_of};
 use crate::fault::LineFault;
 use crate::kind::{Fields, Kind};
 use crate::reply_form::{
@@ -233,8 +233,7 @@ fn put_event_parts(out: &mut Vec<u8>, event: Event) -> Result<(), NoMemory>
     ensures ok { OnOk result (out.new.items ≡ out.old.items ++ event_line event) }
     ensures err { OnErr result (StartsWith out.new.items out.old.items) }
 {
-    let (form, fields) = event_parts(event);
-    put_row(out, event_row(form), &fields)
+    put_row(out, event_row(form_of(event)), &event_fields(event))
 }
 
 fn put_reply_parts(out: &mut Vec<u8>, reply: Reply) -> Result<(), NoMemory>
@@ -275,8 +274,7 @@ fn opens_no_reaper(event: Event) -> bool
 pub fn event_has_line(event: Event) -> bool
     ensures { IsTrue result ↔ HasEventLine event }
 {
-    let (form, fields) = event_parts(event);
-    opens_no_reaper(event) && have_words(event_row(form).kinds, fields)
+    opens_no_reaper(event) && have_words(event_row(form_of(event)).kinds, event_fields(event))
 }
 
 fn reply_has_line(reply: Reply) -> bool

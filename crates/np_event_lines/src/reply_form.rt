@@ -1,8 +1,7 @@
 //! The forms of replies, one row for each; a refusal's row comes after the word `refused`. A new
 //! refusal is one more row in each table here, and one in each table of `specs/ReplyForm`.
 //! A reply also represents its form: the tables go by the variant and ignore its values.
-ghost use Rattle.std.specs.Prelude.{◌≡◌, ◌≤◌, length};
-ghost use Rattle.np_event_lines.specs.Row.{blank};
+ghost use Rattle.std.specs.Prelude.{◌≡◌};
 ghost use Rattle.np_event_lines.specs.ReplyForm.{done_of, done_fields, done_row, refusal_fields, refusal_of, refusal_row};
 
 use crate::kind::{BLANK, BLANK_FOUND, BLANK_REQUEST, Fields, Kind};
@@ -72,7 +71,6 @@ pub(crate) const REFUSAL_FORMS: [Refusal; 29] = [
 pub(crate) fn done_row(form: Done) -> Row
     ensures head { result.head.now ≡ (done_row form).head }
     ensures kinds { result.kinds.now ≡ (done_row form).kinds }
-    ensures few { length result.kinds.now ≤ 16 }
 {
     match form {
         Done::Plain => Row::of(b"ok", &[]),
@@ -110,29 +108,26 @@ pub(crate) fn done_of(form: Done, said: Fields) -> Done
 pub(crate) fn done_fields(done: Done) -> Fields
     ensures { result ≡ done_fields done }
 {
+    let mut said = BLANK;
     match done {
-        Done::Session(session) => Fields { session, ..BLANK },
-        Done::Request(request) => Fields { request, ..BLANK },
-        Done::Node(node) => Fields { node, ..BLANK },
-        Done::Started { attempt, start } => Fields {
-            attempt,
-            number: start,
-            ..BLANK
-        },
-        Done::Queued { ahead } => Fields {
-            number: ahead,
-            ..BLANK
-        },
-        Done::Ended(ending) => Fields { ending, ..BLANK },
-        _ => BLANK,
+        Done::Session(session) => said.session = session,
+        Done::Request(request) => said.request = request,
+        Done::Node(node) => said.node = node,
+        Done::Started { attempt, start } => {
+            said.attempt = attempt;
+            said.number = start;
+        }
+        Done::Queued { ahead } => said.number = ahead,
+        Done::Ended(ending) => said.ending = ending,
+        _ => {}
     }
+    said
 }
 
 /// The first word after `refused`, and what follows it. It depends on the refusal's form alone.
 pub(crate) fn refusal_row(form: Refusal) -> Row
     ensures head { result.head.now ≡ (refusal_row form).head }
     ensures kinds { result.kinds.now ≡ (refusal_row form).kinds }
-    ensures few { length result.kinds.now ≤ 16 }
 {
     match form {
         Refusal::NoSession => Row::of(b"no-session", &[]),
@@ -203,43 +198,36 @@ pub(crate) fn refusal_of(form: Refusal, said: Fields) -> Refusal
     }
 }
 
-fn counted(instances: u64, cores: u64, ram: u64) -> Fields
-    ensures { result ≡ record blank { instances = instances; cores = cores; ram = ram } }
-{
-    Fields {
-        instances,
-        cores,
-        ram,
-        ..BLANK
-    }
-}
-
 /// What the refusal says.
 pub(crate) fn refusal_fields(refusal: Refusal) -> Fields
     ensures { result ≡ refusal_fields refusal }
 {
+    let mut said = BLANK;
     match refusal {
-        Refusal::Taken(session) => Fields { session, ..BLANK },
-        Refusal::Busy(session) => Fields { session, ..BLANK },
-        Refusal::WrongState(found) => Fields { found, ..BLANK },
-        Refusal::NotFirst(request) => Fields { request, ..BLANK },
-        Refusal::NoLabel(label) => Fields { label, ..BLANK },
+        Refusal::Taken(session) | Refusal::Busy(session) => said.session = session,
+        Refusal::WrongState(found) => said.found = found,
+        Refusal::NotFirst(request) | Refusal::Allocated(request) => said.request = request,
+        Refusal::NoLabel(label) => said.label = label,
+        Refusal::WrongAttempt(attempt) => said.attempt = attempt,
+        Refusal::NotAll(number) | Refusal::NotDue(number) | Refusal::Enough(number) => {
+            said.number = number;
+        }
+        Refusal::SemaphoreFull(semaphore) => said.semaphore = semaphore,
         Refusal::QuotaShort {
             instances,
             cores,
             ram,
-        } => counted(instances, cores, ram),
-        Refusal::Allocated(request) => Fields { request, ..BLANK },
-        Refusal::WrongAttempt(attempt) => Fields { attempt, ..BLANK },
-        Refusal::NotAll(number) => Fields { number, ..BLANK },
-        Refusal::SemaphoreFull(semaphore) => Fields { semaphore, ..BLANK },
-        Refusal::NotDue(number) => Fields { number, ..BLANK },
-        Refusal::Enough(number) => Fields { number, ..BLANK },
-        Refusal::TenantShort {
+        }
+        | Refusal::TenantShort {
             instances,
             cores,
             ram,
-        } => counted(instances, cores, ram),
-        _ => BLANK,
+        } => {
+            said.instances = instances;
+            said.cores = cores;
+            said.ram = ram;
+        }
+        _ => {}
     }
+    said
 }

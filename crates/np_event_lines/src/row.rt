@@ -26,8 +26,13 @@ pub(crate) struct Row {
 
 impl Row {
     /// A row that no word after the first chooses.
-    pub(crate) fn of(head: &'static [u8], kinds: &'static [Kind]) -> Row
-        ensures { result ≡ record { head = head.entry; kinds = kinds.entry; decided_at = None } }
+    pub(crate) fn of<const N: usize, const M: usize>(
+        head: &'static [u8; N],
+        kinds: &'static [Kind; M],
+    ) -> Row
+        ensures head { result.head.now ≡ head.now }
+        ensures kinds { result.kinds.now ≡ kinds.now }
+        ensures decided { result.decided_at ≡ None }
     {
         Row {
             head,
@@ -37,8 +42,14 @@ impl Row {
     }
 
     /// A row that the word at this place chooses.
-    pub(crate) fn decided(place: u32, head: &'static [u8], kinds: &'static [Kind]) -> Row
-        ensures { result ≡ record { head = head.entry; kinds = kinds.entry; decided_at = Some place } }
+    pub(crate) fn decided<const N: usize, const M: usize>(
+        place: u32,
+        head: &'static [u8; N],
+        kinds: &'static [Kind; M],
+    ) -> Row
+        ensures head { result.head.now ≡ head.now }
+        ensures kinds { result.kinds.now ≡ kinds.now }
+        ensures decided { result.decided_at ≡ Some place }
     {
         Row {
             head,
