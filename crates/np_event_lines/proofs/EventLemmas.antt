@@ -1,5 +1,5 @@
 -- One line for each event.
-use Rattle.std.proofs.Common.{◌≡◌, ℕ, ◌+◌, ◌≤◌, length, Bool, true, false, cond, ◌&&◌, List, [], ◌∷◌, map, Option, Some, None, Result, Ok, Err, refl, sym, ap, subst, ◌∙◌, ◌==◌, lit≤}
+use Rattle.std.proofs.Common.{◌≡◌, ℕ, ◌+◌, length, Bool, true, false, cond, ◌&&◌, List, [], ◌∷◌, map, Option, Some, None, Result, Ok, Err, refl, sym, ap, subst, ◌∙◌, ◌==◌}
 use Rattle.std.specs.Prelude.{if◌then◌else◌, nat_le}
 use Rattle.std.specs.List.{find, join_with_byte, list_all}
 use Rattle.std.specs.Str.{bytes_eq}
@@ -31,13 +31,6 @@ use Rattle.np_event_lines.proofs.SpellingLemmas.{inside-row_line, is_inside, is_
 row_apart : (F : EventForm) → are_apart (event_row F).kinds ≡ true
 row_apart form.Tick = refl
 row_apart F = refl
-
-pub few_kinds : (F : EventForm) (kinds : List Kind) → kinds ≡ (event_row F).kinds → length kinds ≤ 16
-few_kinds F kinds same = subst (λ ks. length ks ≤ 16) (sym same) (few F)
-  where
-    few : (F : EventForm) → length (event_row F).kinds ≤ 16
-    few form.Tick = lit≤ tt
-    few F = lit≤ tt
 
 head_plain : (F : EventForm) → list_all is_plain (event_row F).head ≡ true
 head_plain form.Tick = refl

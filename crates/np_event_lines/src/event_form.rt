@@ -8,7 +8,7 @@ use crate::kind::{
     BLANK, FAILED, Fields, JANITOR, LAUNCHER, NEVER_FITS, NO_LABEL, OK, REQUESTER, SPENT,
     TENANT_NEVER_FITS,
 };
-use crate::row::Row;
+use crate::row::{HasRow, Row};
 use np_event::{Event, Outcome};
 use np_text::{Reason, Role};
 
@@ -97,54 +97,61 @@ pub(crate) const EVENT_FORMS: [EventForm; 37] = [
     Form::Sweep,
 ];
 
-/// The first word, and what follows it.
-pub(crate) fn event_row(form: EventForm) -> Row
-    ensures head { result.head.now ≡ (event_row form).head }
-    ensures kinds { result.kinds.now ≡ (event_row form).kinds }
-    ensures decided { result.decided_at ≡ (event_row form).decided_at }
-{
-    match form {
-        Form::Tick => Row::of(b"tick", &[]),
-        Form::OpenLauncher => Row::of(b"open", &[LAUNCHER, Pool]),
-        Form::OpenJanitor => Row::of(b"open", &[JANITOR, Pool]),
-        Form::OpenRequester => Row::of(b"open", &[REQUESTER, Requester]),
-        Form::Crash => Row::of(b"crash", &[Session]),
-        Form::Expire => Row::of(b"expire", &[Session]),
-        Form::Register => Row::of(b"register", &[Session]),
-        Form::Submit => Row::of(b"submit", &[Session, Job]),
-        Form::Revise => Row::of(b"revise", &[Session, Job, Relative]),
-        Form::MinReady => Row::of(b"min-ready", &[Session, Label]),
-        Form::LockRequest => Row::of(b"lock-request", &[Session, Request]),
-        Form::UnlockRequest => Row::of(b"unlock-request", &[Session, Request]),
-        Form::Accept => Row::of(b"accept", &[Session, Request]),
-        Form::DeclineNoLabel => Row::decided(3, b"decline", &[Session, Request, NO_LABEL, Label]),
-        Form::DeclineNeverFits => Row::decided(3, b"decline", &[Session, Request, NEVER_FITS]),
-        Form::DeclineTenantNeverFits => Row::decided(
-            3,
-            b"decline",
-            &[Session, Request, TENANT_NEVER_FITS],
-        ),
-        Form::DeclineSpent => Row::decided(3, b"decline", &[Session, Request, SPENT, Node]),
-        Form::TakeReady => Row::of(b"take-ready", &[Session, Request, Node]),
-        Form::Create => Row::of(b"create", &[Session, Request]),
-        Form::Start => Row::of(b"start", &[Session, Node]),
-        Form::DoneOk => Row::decided(4, b"done", &[Session, Node, Attempt, OK, Server]),
-        Form::DoneFailed => Row::decided(4, b"done", &[Session, Node, Attempt, FAILED]),
-        Form::Fulfil => Row::of(b"fulfil", &[Session, Request]),
-        Form::LockNode => Row::of(b"lock-node", &[Session, Node]),
-        Form::UnlockNode => Row::of(b"unlock-node", &[Session, Node]),
-        Form::Acquire => Row::of(b"acquire", &[Session, Job]),
-        Form::Take => Row::of(b"take", &[Session, Job]),
-        Form::EndNode => Row::of(b"end-node", &[Session, Node, End]),
-        Form::Finish => Row::of(b"finish", &[Session, Job]),
-        Form::Withdraw => Row::of(b"withdraw", &[Session, Job]),
-        Form::Release => Row::of(b"release", &[Session, Job]),
-        Form::MarkDeleting => Row::of(b"mark-deleting", &[Session, Node]),
-        Form::Gone => Row::of(b"gone", &[Session, Node]),
-        Form::Reset => Row::of(b"reset", &[Session, Request]),
-        Form::FreeNode => Row::of(b"free-node", &[Session, Node]),
-        Form::FailDeclined => Row::of(b"fail-declined", &[Session, Request]),
-        Form::Sweep => Row::of(b"sweep", &[Session, Node, Server]),
+impl HasRow for EventForm {
+    ghost row_of = { event_row };
+
+    fn row(self) -> Row
+        ensures head { result.head.now ≡ (event_row self).head }
+        ensures kinds { result.kinds.now ≡ (event_row self).kinds }
+        ensures decided { result.decided_at ≡ (event_row self).decided_at }
+    {
+        match self {
+            Form::Tick => Row::of(b"tick", &[]),
+            Form::OpenLauncher => Row::of(b"open", &[LAUNCHER, Pool]),
+            Form::OpenJanitor => Row::of(b"open", &[JANITOR, Pool]),
+            Form::OpenRequester => Row::of(b"open", &[REQUESTER, Requester]),
+            Form::Crash => Row::of(b"crash", &[Session]),
+            Form::Expire => Row::of(b"expire", &[Session]),
+            Form::Register => Row::of(b"register", &[Session]),
+            Form::Submit => Row::of(b"submit", &[Session, Job]),
+            Form::Revise => Row::of(b"revise", &[Session, Job, Relative]),
+            Form::MinReady => Row::of(b"min-ready", &[Session, Label]),
+            Form::LockRequest => Row::of(b"lock-request", &[Session, Request]),
+            Form::UnlockRequest => Row::of(b"unlock-request", &[Session, Request]),
+            Form::Accept => Row::of(b"accept", &[Session, Request]),
+            Form::DeclineNoLabel => Row::decided(
+                3,
+                b"decline",
+                &[Session, Request, NO_LABEL, Label],
+            ),
+            Form::DeclineNeverFits => Row::decided(3, b"decline", &[Session, Request, NEVER_FITS]),
+            Form::DeclineTenantNeverFits => Row::decided(
+                3,
+                b"decline",
+                &[Session, Request, TENANT_NEVER_FITS],
+            ),
+            Form::DeclineSpent => Row::decided(3, b"decline", &[Session, Request, SPENT, Node]),
+            Form::TakeReady => Row::of(b"take-ready", &[Session, Request, Node]),
+            Form::Create => Row::of(b"create", &[Session, Request]),
+            Form::Start => Row::of(b"start", &[Session, Node]),
+            Form::DoneOk => Row::decided(4, b"done", &[Session, Node, Attempt, OK, Server]),
+            Form::DoneFailed => Row::decided(4, b"done", &[Session, Node, Attempt, FAILED]),
+            Form::Fulfil => Row::of(b"fulfil", &[Session, Request]),
+            Form::LockNode => Row::of(b"lock-node", &[Session, Node]),
+            Form::UnlockNode => Row::of(b"unlock-node", &[Session, Node]),
+            Form::Acquire => Row::of(b"acquire", &[Session, Job]),
+            Form::Take => Row::of(b"take", &[Session, Job]),
+            Form::EndNode => Row::of(b"end-node", &[Session, Node, End]),
+            Form::Finish => Row::of(b"finish", &[Session, Job]),
+            Form::Withdraw => Row::of(b"withdraw", &[Session, Job]),
+            Form::Release => Row::of(b"release", &[Session, Job]),
+            Form::MarkDeleting => Row::of(b"mark-deleting", &[Session, Node]),
+            Form::Gone => Row::of(b"gone", &[Session, Node]),
+            Form::Reset => Row::of(b"reset", &[Session, Request]),
+            Form::FreeNode => Row::of(b"free-node", &[Session, Node]),
+            Form::FailDeclined => Row::of(b"fail-declined", &[Session, Request]),
+            Form::Sweep => Row::of(b"sweep", &[Session, Node, Server]),
+        }
     }
 }
 

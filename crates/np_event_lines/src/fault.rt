@@ -1,7 +1,7 @@
 //! What is wrong with a line.
 
 /// The first fault of a line that is no event's.
-#[derive(Clone, Copy, Debug, PartialEq, Eq)]
+#[derive(Clone, Copy, PartialEq, Eq)]
 pub enum LineFault {
     /// The first word names no event.
     UnknownEvent,

@@ -46,43 +46,21 @@ fn read_ending(text: &[u8]) -> Option<Ending>
     }
 }
 
-fn read_request_found(text: &[u8]) -> Option<Found>
-    ensures { result ≡ option_map Request (request_state_of text.now) }
-{
-    Some(Found::Request(RequestState::from_word(text)?))
-}
-
-fn read_in_flight(text: &[u8]) -> Option<Found>
-    ensures { result ≡ in_flight_of text.now }
-{
-    if text == b"in-flight".as_slice() {
-        Some(Found::InFlight)
-    } else {
-        None
-    }
-}
-
-fn read_node_found(text: &[u8]) -> Option<Found>
-    ensures { result ≡ option_map Node (node_state_of text.now) }
-{
-    Some(Found::Node(NodeState::from_word(text)?))
-}
-
-fn read_job_found(text: &[u8]) -> Option<Found>
-    ensures { result ≡ option_map Job (phase_of text.now) }
-{
-    Some(Found::Job(Phase::from_word(text)?))
-}
-
 /// A request's state comes before one of a node: they share the word `failed`.
 #[tactic(auto, unfolding(crate::specs::Kind::found_of))]
 fn read_found(text: &[u8]) -> Option<Found>
     ensures { result ≡ found_of text.now }
 {
-    read_request_found(text)
-        .or(read_in_flight(text))
-        .or(read_node_found(text))
-        .or(read_job_found(text))
+    if let Some(state) = RequestState::from_word(text) {
+        return Some(Found::Request(state));
+    }
+    if text == b"in-flight".as_slice() {
+        return Some(Found::InFlight);
+    }
+    if let Some(state) = NodeState::from_word(text) {
+        return Some(Found::Node(state));
+    }
+    Some(Found::Job(Phase::from_word(text)?))
 }
 
 fn read_behind(letter: u8, text: &[u8], max: u64) -> Option<u64>

@@ -15,14 +15,13 @@ ghost use Rattle.np_event_lines.specs.Reading.{HaveWords, row_fields, stand};
 ghost use Rattle.np_event_lines.specs.ReplyForm.{done_forms, done_row, refusal_forms, refusal_row};
 ghost use Rattle.np_event_lines.specs.Words.{left_of, words_of};
 
-use crate::event_form::{EVENT_FORMS, EventForm, event_fields, event_of, event_row, form_of};
+use crate::event_form::{EVENT_FORMS, EventForm, event_fields, event_of, form_of};
 use crate::fault::LineFault;
 use crate::kind::{Fields, Kind};
 use crate::reply_form::{
-    DONE_FORMS, REFUSAL_FORMS, done_fields, done_of, done_row, refusal_fields, refusal_of,
-    refusal_row,
+    DONE_FORMS, REFUSAL_FORMS, done_fields, done_of, refusal_fields, refusal_of,
 };
-use crate::row::{Row, have_words, put_kinds, read_fields, stand};
+use crate::row::{HasRow, Row, have_words, put_kinds, read_fields, stand};
 use crate::words::{count_words, split_word};
 use np_event::{Done, Entry, Event, Refusal, Reply};
 use np_text::{NoMemory, Role};
@@ -51,22 +50,22 @@ fn refusal_forms() -> &'static [Refusal]
     &REFUSAL_FORMS
 }
 
-fn is_headed(first: &[u8], form: EventForm) -> bool
-    ensures { result ≡ is_headed first.now form }
+fn is_headed<F: HasRow>(first: &[u8], form: F) -> bool
+    ensures { result ≡ bytes_eq first.now (F.row_of form).head }
 {
-    first == event_row(form).head
+    first == form.row().head
+}
+
+fn headed<'a, F: HasRow>(forms: &'a [F], first: &[u8]) -> Option<&'a F>
+    ensures { option_copied result ≡ find (λ form. bytes_eq first.now (F.row_of form).head) forms.now }
+{
+    forms.iter().find(|form| is_headed(first, **form))
 }
 
 fn is_agreed(first: &[u8], rest: Option<&[u8]>, form: EventForm) -> bool
     ensures { result ≡ is_agreed first.now (left_of (option_copied rest.entry)) form }
 {
-    is_headed(first, form) && stand(event_row(form).kinds, rest)
-}
-
-fn headed<'a>(forms: &'a [EventForm], first: &[u8]) -> Option<&'a EventForm>
-    ensures { option_copied result ≡ find (is_headed first.now) forms.now }
-{
-    forms.iter().find(|form| is_headed(first, **form))
+    is_headed(first, form) && stand(form.row().kinds, rest)
 }
 
 fn agreed<'a>(forms: &'a [EventForm], first: &[u8], rest: Option<&[u8]>) -> Option<&'a EventForm>
@@ -78,7 +77,7 @@ fn agreed<'a>(forms: &'a [EventForm], first: &[u8], rest: Option<&[u8]>) -> Opti
 fn undecided(form: EventForm, rest: Option<&[u8]>) -> Result<EventForm, LineFault>
     ensures { result ≡ undecided form (left_of (option_copied rest.entry)) (event_row form).decided_at }
 {
-    let Some(place) = event_row(form).decided_at else {
+    let Some(place) = form.row().decided_at else {
         return Ok(form);
     };
     if place as usize <= count_words(rest) {
@@ -123,39 +122,27 @@ pub fn read_event(line: &[u8]) -> Result<Event, LineFault>
 {
     let (first, rest) = split_word(line);
     let form = event_form_of(first, rest)?;
-    let fields = row_fields(event_row(form).kinds, rest)?;
+    let fields = row_fields(form.row().kinds, rest)?;
     Ok(event_of(form, fields))
-}
-
-fn headed_done<'a>(forms: &'a [Done], first: &[u8]) -> Option<&'a Done>
-    ensures { option_copied result ≡ find (is_headed_done first.now) forms.now }
-{
-    forms.iter().find(|form| first == done_row(**form).head)
-}
-
-fn headed_refusal<'a>(forms: &'a [Refusal], first: &[u8]) -> Option<&'a Refusal>
-    ensures { option_copied result ≡ find (is_headed_refusal first.now) forms.now }
-{
-    forms.iter().find(|form| first == refusal_row(**form).head)
 }
 
 fn done_form_of(first: &[u8]) -> Option<Done>
     ensures { result ≡ find (is_headed_done first.now) done_forms }
 {
-    headed_done(done_forms(), first).copied()
+    headed(done_forms(), first).copied()
 }
 
 fn refusal_form_of(first: &[u8]) -> Option<Refusal>
     ensures { result ≡ find (is_headed_refusal first.now) refusal_forms }
 {
-    headed_refusal(refusal_forms(), first).copied()
+    headed(refusal_forms(), first).copied()
 }
 
 fn read_done(first: &[u8], rest: Option<&[u8]>) -> Option<Reply>
     ensures { result ≡ done_with (left_of (option_copied rest.entry)) (find (is_headed_done first.now) done_forms) }
 {
     let form = done_form_of(first)?;
-    match row_fields(done_row(form).kinds, rest) {
+    match row_fields(form.row().kinds, rest) {
         Ok(fields) => Some(Reply::Done(done_of(form, fields))),
         Err(_) => None,
     }
@@ -166,7 +153,7 @@ fn read_refusal(words: Option<&[u8]>) -> Option<Reply>
 {
     let (first, rest) = split_word(words?);
     let form = refusal_form_of(first)?;
-    match row_fields(refusal_row(form).kinds, rest) {
+    match row_fields(form.row().kinds, rest) {
         Ok(fields) => Some(Reply::Refused(refusal_of(form, fields))),
         Err(_) => None,
     }
@@ -233,7 +220,7 @@ fn put_event_parts(out: &mut Vec<u8>, event: Event) -> Result<(), NoMemory>
     ensures ok { OnOk result (out.new.items ≡ out.old.items ++ event_line event) }
     ensures err { OnErr result (StartsWith out.new.items out.old.items) }
 {
-    put_row(out, event_row(form_of(event)), &event_fields(event))
+    put_row(out, form_of(event).row(), &event_fields(event))
 }
 
 fn put_reply_parts(out: &mut Vec<u8>, reply: Reply) -> Result<(), NoMemory>
@@ -242,10 +229,10 @@ fn put_reply_parts(out: &mut Vec<u8>, reply: Reply) -> Result<(), NoMemory>
     ensures err { OnErr result (StartsWith out.new.items out.old.items) }
 {
     match reply {
-        Reply::Done(done) => { put_row(out, done_row(done), &done_fields(done)) }
+        Reply::Done(done) => { put_row(out, done.row(), &done_fields(done)) }
         Reply::Refused(refusal) => {
             out.extend_from_slice(b"refused ")?;
-            put_row(out, refusal_row(refusal), &refusal_fields(refusal))
+            put_row(out, refusal.row(), &refusal_fields(refusal))
         }
     }
 }
@@ -274,17 +261,15 @@ fn opens_no_reaper(event: Event) -> bool
 pub fn event_has_line(event: Event) -> bool
     ensures { IsTrue result ↔ HasEventLine event }
 {
-    opens_no_reaper(event) && have_words(event_row(form_of(event)).kinds, event_fields(event))
+    opens_no_reaper(event) && have_words(form_of(event).row().kinds, event_fields(event))
 }
 
 fn reply_has_line(reply: Reply) -> bool
     ensures { IsTrue result ↔ HasReplyLine reply }
 {
     match reply {
-        Reply::Done(done) => { have_words(done_row(done).kinds, done_fields(done)) }
-        Reply::Refused(refusal) => {
-            have_words(refusal_row(refusal).kinds, refusal_fields(refusal))
-        }
+        Reply::Done(done) => { have_words(done.row().kinds, done_fields(done)) }
+        Reply::Refused(refusal) => { have_words(refusal.row().kinds, refusal_fields(refusal)) }
     }
 }
 

@@ -5,7 +5,7 @@ ghost use Rattle.std.specs.Prelude.{◌≡◌};
 ghost use Rattle.np_event_lines.specs.ReplyForm.{done_of, done_fields, done_row, refusal_fields, refusal_of, refusal_row};
 
 use crate::kind::{BLANK, BLANK_FOUND, BLANK_REQUEST, Fields, Kind};
-use crate::row::Row;
+use crate::row::{HasRow, Row};
 use np_event::{Done, Refusal};
 use np_text::{Ending, LabelId, NodeId, SemId, SessionId};
 
@@ -67,22 +67,23 @@ pub(crate) const REFUSAL_FORMS: [Refusal; 29] = [
     Refusal::TenantNeverFits,
 ];
 
-/// The first word, and what follows it. It depends on the reply's form alone.
-pub(crate) fn done_row(form: Done) -> Row
-    ensures head { result.head.now ≡ (done_row form).head }
-    ensures kinds { result.kinds.now ≡ (done_row form).kinds }
-{
-    match form {
-        Done::Plain => Row::of(b"ok", &[]),
-        Done::Session(_) => Row::of(b"session", &[Kind::Session]),
-        Done::Request(_) => Row::of(b"request", &[Kind::Request]),
-        Done::Node(_) => Row::of(b"node", &[Kind::Node]),
-        Done::Started { .. } => Row::of(b"started", &[Kind::Attempt, Kind::Number]),
-        Done::Held => Row::of(b"held", &[]),
-        Done::Queued { .. } => Row::of(b"queued", &[Kind::Number]),
-        Done::Keep => Row::of(b"keep", &[]),
-        Done::Remove => Row::of(b"remove", &[]),
-        Done::Ended(_) => Row::of(b"ended", &[Kind::Ending]),
+impl HasRow for Done {
+    ghost row_of = { done_row };
+
+    /// The first word, and what follows it. It depends on the reply's form alone.
+    fn row(self) -> Row {
+        match self {
+            Done::Plain => Row::of(b"ok", &[]),
+            Done::Session(_) => Row::of(b"session", &[Kind::Session]),
+            Done::Request(_) => Row::of(b"request", &[Kind::Request]),
+            Done::Node(_) => Row::of(b"node", &[Kind::Node]),
+            Done::Started { .. } => Row::of(b"started", &[Kind::Attempt, Kind::Number]),
+            Done::Held => Row::of(b"held", &[]),
+            Done::Queued { .. } => Row::of(b"queued", &[Kind::Number]),
+            Done::Keep => Row::of(b"keep", &[]),
+            Done::Remove => Row::of(b"remove", &[]),
+            Done::Ended(_) => Row::of(b"ended", &[Kind::Ending]),
+        }
     }
 }
 
@@ -124,47 +125,48 @@ pub(crate) fn done_fields(done: Done) -> Fields
     said
 }
 
-/// The first word after `refused`, and what follows it. It depends on the refusal's form alone.
-pub(crate) fn refusal_row(form: Refusal) -> Row
-    ensures head { result.head.now ≡ (refusal_row form).head }
-    ensures kinds { result.kinds.now ≡ (refusal_row form).kinds }
-{
-    match form {
-        Refusal::NoSession => Row::of(b"no-session", &[]),
-        Refusal::Expired => Row::of(b"expired", &[]),
-        Refusal::Crashed => Row::of(b"crashed", &[]),
-        Refusal::WrongRole => Row::of(b"wrong-role", &[]),
-        Refusal::NoRequest => Row::of(b"no-request", &[]),
-        Refusal::NoNode => Row::of(b"no-node", &[]),
-        Refusal::NoJob => Row::of(b"no-job", &[]),
-        Refusal::NotOwner => Row::of(b"not-owner", &[]),
-        Refusal::NotRegistered => Row::of(b"not-registered", &[]),
-        Refusal::Taken(_) => Row::of(b"taken", &[Kind::Session]),
-        Refusal::Busy(_) => Row::of(b"busy", &[Kind::Session]),
-        Refusal::NotHeld => Row::of(b"not-held", &[]),
-        Refusal::WrongState(_) => Row::of(b"wrong-state", &[Kind::Found]),
-        Refusal::Declined => Row::of(b"declined", &[]),
-        Refusal::NotFirst(_) => Row::of(b"not-first", &[Kind::Request]),
-        Refusal::FalseReason => Row::of(b"false-reason", &[]),
-        Refusal::NoLabel(_) => Row::of(b"no-label", &[Kind::Label]),
-        Refusal::NeverFits => Row::of(b"never-fits", &[]),
-        Refusal::QuotaShort { .. } => Row::of(
-            b"quota-short",
-            &[Kind::Instances, Kind::Cores, Kind::Ram],
-        ),
-        Refusal::Allocated(_) => Row::of(b"allocated", &[Kind::Request]),
-        Refusal::WrongAttempt(_) => Row::of(b"wrong-attempt", &[Kind::Attempt]),
-        Refusal::NotAll(_) => Row::of(b"not-all", &[Kind::Number]),
-        Refusal::SemaphoreFull(_) => Row::of(b"semaphore-full", &[Kind::Semaphore]),
-        Refusal::NotDue(_) => Row::of(b"not-due", &[Kind::Number]),
-        Refusal::Enough(_) => Row::of(b"enough", &[Kind::Number]),
-        Refusal::Spent => Row::of(b"spent", &[]),
-        Refusal::Full => Row::of(b"full", &[]),
-        Refusal::TenantShort { .. } => Row::of(
-            b"tenant-short",
-            &[Kind::Instances, Kind::Cores, Kind::Ram],
-        ),
-        Refusal::TenantNeverFits => Row::of(b"tenant-never-fits", &[]),
+impl HasRow for Refusal {
+    ghost row_of = { refusal_row };
+
+    /// The first word after `refused`, and what follows it. It depends on the refusal's form alone.
+    fn row(self) -> Row {
+        match self {
+            Refusal::NoSession => Row::of(b"no-session", &[]),
+            Refusal::Expired => Row::of(b"expired", &[]),
+            Refusal::Crashed => Row::of(b"crashed", &[]),
+            Refusal::WrongRole => Row::of(b"wrong-role", &[]),
+            Refusal::NoRequest => Row::of(b"no-request", &[]),
+            Refusal::NoNode => Row::of(b"no-node", &[]),
+            Refusal::NoJob => Row::of(b"no-job", &[]),
+            Refusal::NotOwner => Row::of(b"not-owner", &[]),
+            Refusal::NotRegistered => Row::of(b"not-registered", &[]),
+            Refusal::Taken(_) => Row::of(b"taken", &[Kind::Session]),
+            Refusal::Busy(_) => Row::of(b"busy", &[Kind::Session]),
+            Refusal::NotHeld => Row::of(b"not-held", &[]),
+            Refusal::WrongState(_) => Row::of(b"wrong-state", &[Kind::Found]),
+            Refusal::Declined => Row::of(b"declined", &[]),
+            Refusal::NotFirst(_) => Row::of(b"not-first", &[Kind::Request]),
+            Refusal::FalseReason => Row::of(b"false-reason", &[]),
+            Refusal::NoLabel(_) => Row::of(b"no-label", &[Kind::Label]),
+            Refusal::NeverFits => Row::of(b"never-fits", &[]),
+            Refusal::QuotaShort { .. } => Row::of(
+                b"quota-short",
+                &[Kind::Instances, Kind::Cores, Kind::Ram],
+            ),
+            Refusal::Allocated(_) => Row::of(b"allocated", &[Kind::Request]),
+            Refusal::WrongAttempt(_) => Row::of(b"wrong-attempt", &[Kind::Attempt]),
+            Refusal::NotAll(_) => Row::of(b"not-all", &[Kind::Number]),
+            Refusal::SemaphoreFull(_) => Row::of(b"semaphore-full", &[Kind::Semaphore]),
+            Refusal::NotDue(_) => Row::of(b"not-due", &[Kind::Number]),
+            Refusal::Enough(_) => Row::of(b"enough", &[Kind::Number]),
+            Refusal::Spent => Row::of(b"spent", &[]),
+            Refusal::Full => Row::of(b"full", &[]),
+            Refusal::TenantShort { .. } => Row::of(
+                b"tenant-short",
+                &[Kind::Instances, Kind::Cores, Kind::Ram],
+            ),
+            Refusal::TenantNeverFits => Row::of(b"tenant-never-fits", &[]),
+        }
     }
 }
 

@@ -5,7 +5,7 @@ ghost use Rattle.std.specs.List.{flat_map};
 ghost use Rattle.std.specs.Option.{option_copied};
 ghost use Rattle.np_event_lines.specs.Kind.{HasWord, field_text};
 ghost use Rattle.np_event_lines.specs.Reading.{HaveWords, fields_from, stand, stands};
-ghost use Rattle.np_event_lines.specs.Row.{blank};
+ghost use Rattle.np_event_lines.specs.Row.{Row as SpecRow, blank};
 ghost use Rattle.np_event_lines.specs.Words.{left_of};
 
 use crate::fault::LineFault;
@@ -57,6 +57,17 @@ impl Row {
             decided_at: Some(place),
         }
     }
+}
+
+/// What has a row: a form of an event's or a reply's line.
+pub(crate) trait HasRow: Copy {
+    /// The first word, and what follows it.
+    ghost row_of: { Self → SpecRow };
+
+    /// The first word, and what follows it.
+    fn row(self) -> Row
+        ensures head { result.head.now ≡ (row_of self).head }
+        ensures kinds { result.kinds.now ≡ (row_of self).kinds };
 }
 
 /// Whether a fixed word is at its place. Other kinds are not checked.
