@@ -83,8 +83,15 @@ pool_row labels at provider name d = do
   starts ← starts_at at d
   Ok (record { provider = provider; name = name; limit = limit; offers = offers; fail_starts = starts })
 
+-- what was read so far: the pools of the provider at a place; providers, with the pools of all
+abbrev pub PoolsSoFar : Type 0
+PoolsSoFar = PoolsOf
+
+abbrev pub ProvidersSoFar : Type 0
+ProvidersSoFar = Providers
+
 -- a pool, given those of its provider before it (Nodepool)
-unfoldable pub pool_at : List Label → ReadsItem PoolsOf
+unfoldable pub pool_at : List Label → ReadsItem PoolsSoFar
 pool_at labels at s d = do
   name ← named_at (λ (p : Pool). p.name) pool_keys at s.pools d
   pool ← pool_row labels at s.provider name d
@@ -102,7 +109,7 @@ unfoldable pub pools_at : List Label → List ℕ → ℕ → ℕ → Data → R
 pools_at labels at earlier provider d = list_required (pool_at labels) at (codes "pools") (behind earlier (one_to POOLS)) (record { provider = provider; pools = [] }) d
 
 -- a provider, given those before it, with its pools (Nodepool)
-unfoldable pub provider_at : List Label → ReadsItem Providers
+unfoldable pub provider_at : List Label → ReadsItem ProvidersSoFar
 provider_at labels at s d = do
   name ← named_at (λ (p : Provider). p.name) provider_keys at s.providers d
   provider ← provider_row at name d

@@ -87,8 +87,15 @@ job_row semaphores tenants at requester name demand d = do
   tenant ← word_or (tenant_named tenants) at (codes "tenant") (tenant_id 0) d
   Ok (record { requester = requester; name = name; labels = demand.labels; priority = demand.priority; relative_priority = demand.relative_priority; semaphores = taken; resources_first = first; end = end; tenant = tenant })
 
+-- what was read so far: the jobs of the requester at a place; requesters, with the jobs of all
+abbrev pub JobsSoFar : Type 0
+JobsSoFar = JobsOf
+
+abbrev pub RequestersSoFar : Type 0
+RequestersSoFar = Requesters
+
 -- a job, given those of its requester before it (own)
-unfoldable pub job_at : List Label → List Sem → List Tenant → ReadsItem JobsOf
+unfoldable pub job_at : List Label → List Sem → List Tenant → ReadsItem JobsSoFar
 job_at labels semaphores tenants at s d = do
   name ← named_at (λ (j : Job). j.name) job_keys at s.jobs d
   demand ← demand_at labels at d
@@ -106,7 +113,7 @@ requester_row at name d = do
   Ok (record { name = name; window = window })
 
 -- a requester, given those before it, with its jobs (own)
-unfoldable pub requester_at : List Label → List Sem → List Tenant → ReadsItem Requesters
+unfoldable pub requester_at : List Label → List Sem → List Tenant → ReadsItem RequestersSoFar
 requester_at labels semaphores tenants at s d = do
   name ← named_at (λ (q : Requester). q.name) requester_keys at s.requesters d
   requester ← requester_row at name d

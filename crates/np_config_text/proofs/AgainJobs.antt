@@ -19,12 +19,10 @@ use Rattle.np_json.specs.Leaf.{at_most, one_to, behind}
 use Rattle.np_text.specs.Word.{end_as_word, end_as_of}
 use Rattle.np_site.specs.declared.row.Requester.{Requester}
 use Rattle.np_site.specs.declared.row.Job.{Job}
-use Rattle.np_config_read.specs.declared.requesters.JobsOf.{JobsOf}
-use Rattle.np_config_read.specs.declared.requesters.Requesters.{Requesters}
 use Rattle.np_site.specs.Configuration.{Configuration}
 use Rattle.np_config_read.specs.Keys.{job_keys}
 use Rattle.np_config_read.specs.Providers.{label_value, label_for}
-use Rattle.np_config_read.specs.Requesters.{wanted_at, taken_at, semaphore_for, priority_of, word_value, wants_at, takes_at, demand_at, job_row, job_at, jobs_at, requester_row, requester_at}
+use Rattle.np_config_read.specs.Requesters.{JobsSoFar, RequestersSoFar, wanted_at, taken_at, semaphore_for, priority_of, word_value, wants_at, takes_at, demand_at, job_row, job_at, jobs_at, requester_row, requester_at}
 use Rattle.np_lists.specs.EachAfter.{EachAfter}
 use Rattle.np_site.specs.Sound.{IsLabel, IsSem, IsTenant, IsWanted, IsTaken, IsPriority, IsJob, IsRequester, AreRequesters}
 use Rattle.np_config_text.specs.Canonical.{list_data, label_name, semaphore_name, priority_word, job_tenant, job_data, jobs_of, requester_data, placed}
@@ -37,7 +35,7 @@ use Rattle.np_lists.proofs.Each.{length-filter_at_most}
 use Rattle.np_lists.proofs.KeptLemmas.{All-filter_number}
 use Rattle.np_lists.proofs.EachAfterLemmas.{EachAfter-from_all}
 
-abbrev demand_of : List Requester → List Job → Requesters
+abbrev demand_of : List Requester → List Job → RequestersSoFar
 demand_of qs jobs = record { requesters = qs; jobs = jobs }
 
 priority_again : (n : ℕ) → IsPriority n → priority_of (priority_word n) ≡ Some n
@@ -58,16 +56,16 @@ module _ (c : Configuration) (each_label : EachAfter IsLabel [] c.labels) (each_
   unfolding taken_at semaphore_for
   taken_again at e s is = rw (semaphore_reference c s each_sem is.semaphore, is.new) refl
 
-  abbrev joined : JobsOf → Job → JobsOf
+  abbrev joined : JobsSoFar → Job → JobsSoFar
   joined s j = record s { jobs = s.jobs ++ j ∷ [] }
 
-  abbrev Fits : JobsOf → Job → Type 0
+  abbrev Fits : JobsSoFar → Job → Type 0
   Fits s j = (j.requester ≡ s.requester) × IsJob (length c.labels) (length c.semaphores) (length c.tenants) s.jobs j
 
   abbrev with_requester : RequesterId → Job → Job
   with_requester q j = record j { requester = q }
 
-  job_again : (at : List ℕ) (s : JobsOf) (j : Job) → Fits s j → job_at c.labels c.semaphores c.tenants at s (job_data c j) ≡ Ok (joined s j)
+  job_again : (at : List ℕ) (s : JobsSoFar) (j : Job) → Fits s j → job_at c.labels c.semaphores c.tenants at s (job_data c j) ≡ Ok (joined s j)
   unfolding job_at demand_at job_row wants_at takes_at list_required list_maybe word_value named_at name_at new_name
   job_again at s j is =
       let each = EachAfter-from_all (IsWanted (length c.labels)) [] j.labels is.1.wanted in
@@ -87,7 +85,7 @@ module _ (c : Configuration) (each_label : EachAfter IsLabel [] c.labels) (each_
         job_tenant_again c (under at (codes "tenant")) j.tenant each_tenant is.1.tenant,
       ) (ap (λ (q : RequesterId). ok (joined s (with_requester q j))) (sym is.0))
 
-  abbrev own_of : RequesterId → List Job → JobsOf
+  abbrev own_of : RequesterId → List Job → JobsSoFar
   own_of q js = record { requester = q; jobs = js }
 
   same_id : (a b : RequesterId) → a.0 ≡ b.0 → a ≡ b
@@ -109,7 +107,7 @@ module _ (c : Configuration) (each_label : EachAfter IsLabel [] c.labels) (each_
       let l : Length = behind earlier (at_most JOBS) in
       state_list_again (job_at c.labels c.semaphores c.tenants) (job_data c) Fits joined job_again at l (own_of q []) js (jobs_fit q [] js owned each) few (omega arith) ∙ ap ok (jobs_after q [] js)
 
-  requester_again : (at : List ℕ) (s : Requesters) (k : ℕ) (q : Requester) (own : List Job) → own ≡ jobs_of c k → IsRequester s.requesters q
+  requester_again : (at : List ℕ) (s : RequestersSoFar) (k : ℕ) (q : Requester) (own : List Job) → own ≡ jobs_of c k → IsRequester s.requesters q
       → list_at (job_at c.labels c.semaphores c.tenants) (under at (codes "jobs")) (behind (length s.jobs) (at_most JOBS)) (own_of (record { 0 = length s.requesters }) []) (list_data (job_data c) (jobs_of c k)) ≡ Ok (own_of (record { 0 = length s.requesters }) own)
       → requester_at c.labels c.semaphores c.tenants at s (requester_data c k q) ≡ Ok (record { requesters = s.requesters ++ q ∷ []; jobs = s.jobs ++ own })
   unfolding requester_at requester_row jobs_at list_maybe named_at name_at new_name
@@ -141,7 +139,7 @@ module _ (c : Configuration) (each_label : EachAfter IsLabel [] c.labels) (each_
         let here : RequesterId = record { 0 = length e } in
         let mine_owned : All (λ j. j.requester.0 ≡ here.0) own = subst (λ (m : ℕ). All (λ j. j.requester.0 ≡ m) own) place (All-filter_number owner k c.jobs) in
         let mine = jobs_read (under (under at (decimal n)) (codes "jobs")) (length (before k)) here own mine_owned (rows_of owner P k [] c.jobs are.each_job) room in
-        let s : Requesters = record { requesters = e; jobs = before k } in
+        let s : RequestersSoFar = record { requesters = e; jobs = before k } in
         let read = requester_again (under at (decimal n)) s k x own refl each.0 mine in
         let next : ok (demand_of (e ++ x ∷ []) (before k ++ own)) ≡ ok (demand_of (e ++ x ∷ []) (before (k + 1))) = ap (λ (js : List Job). ok (demand_of (e ++ x ∷ []) js)) (sym more) in
         let longer : length (e ++ x ∷ []) ≡ length e + 1 = simp length-append (omega arith) in

@@ -9,10 +9,9 @@ use Rattle.np_text.specs.declared.limit.TheConstants.{LABELS, FAIL_STARTS}
 use Rattle.np_json.specs.Rows.{ReadsItem, items_from, list_at, list_required, list_maybe}
 use Rattle.np_json.proofs.Takes.{ok}
 use Rattle.np_site.specs.declared.row.Pool.{Pool}
-use Rattle.np_config_read.specs.declared.providers.PoolsOf.{PoolsOf}
 use Rattle.np_site.specs.Configuration.{Configuration}
 use Rattle.np_config_read.specs.Keys.{pool_keys}
-use Rattle.np_config_read.specs.Providers.{offer_at, start_at, offers_at, starts_at, pool_row, pool_at}
+use Rattle.np_config_read.specs.Providers.{PoolsSoFar, offer_at, start_at, offers_at, starts_at, pool_row, pool_at}
 use Rattle.np_lists.specs.EachAfter.{EachAfter}
 use Rattle.np_site.specs.Sound.{IsLabel, IsOffer, IsStart, IsPool}
 use Rattle.np_config_read.specs.Defaults.{count}
@@ -43,13 +42,13 @@ module _ {S T : Type 0} (read : ReadsItem S) (shown : T → Data) (Fit : S → T
       let some = most_test l.least (length xs) least in
       rw (items_len-of shown xs, few, some, states_again at 0 s xs each) refl
 
-abbrev pub joined : PoolsOf → Pool → PoolsOf
+abbrev pub joined : PoolsSoFar → Pool → PoolsSoFar
 joined s p = record s { pools = s.pools ++ p ∷ [] }
 
 abbrev of_provider : ℕ → Pool → Pool
 of_provider k p = record p { provider = k }
 
-pub pool_again : (c : Configuration) → EachAfter IsLabel [] c.labels → (at : List ℕ) (s : PoolsOf) (p : Pool) → (p.provider ≡ s.provider) × IsPool (length c.labels) s.pools p → pool_at c.labels at s (pool_data c p) ≡ Ok (joined s p)
+pub pool_again : (c : Configuration) → EachAfter IsLabel [] c.labels → (at : List ℕ) (s : PoolsSoFar) (p : Pool) → (p.provider ≡ s.provider) × IsPool (length c.labels) s.pools p → pool_at c.labels at s (pool_data c p) ≡ Ok (joined s p)
 unfolding pool_at pool_row offers_at starts_at list_required list_maybe named_at name_at new_name
 pool_again c each at s p is =
     let last = member (codes "name") (string p.name) no_members in

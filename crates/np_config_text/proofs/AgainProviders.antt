@@ -14,11 +14,9 @@ use Rattle.np_text.specs.declared.limit.TheConstants.{POOLS, LAUNCHES, CONCURREN
 use Rattle.np_json.specs.Leaf.{one_to, behind}
 use Rattle.np_site.specs.declared.row.Provider.{Provider}
 use Rattle.np_site.specs.declared.row.Pool.{Pool}
-use Rattle.np_config_read.specs.declared.providers.PoolsOf.{PoolsOf}
-use Rattle.np_config_read.specs.declared.providers.Providers.{Providers}
 use Rattle.np_site.specs.Configuration.{Configuration}
 use Rattle.np_config_read.specs.Keys.{provider_keys}
-use Rattle.np_config_read.specs.Providers.{pool_at, provider_row, pools_at, provider_at}
+use Rattle.np_config_read.specs.Providers.{PoolsSoFar, ProvidersSoFar, pool_at, provider_row, pools_at, provider_at}
 use Rattle.np_lists.specs.EachAfter.{EachAfter}
 use Rattle.np_site.specs.Sound.{IsLabel, IsPool, IsProvider, AreProviders}
 use Rattle.np_config_read.specs.Defaults.{count}
@@ -30,13 +28,13 @@ use Rattle.np_config_text.proofs.Members.{keys-given, get-other, get-given}
 use Rattle.np_config_text.proofs.Again.{whole_again, maybe_again}
 use Rattle.np_config_text.proofs.AgainPools.{joined, pool_again, all_after, EachFits, state_list_again}
 
-abbrev supply_of : List Provider → List Pool → Providers
+abbrev supply_of : List Provider → List Pool → ProvidersSoFar
 supply_of ps pools = record { providers = ps; pools = pools }
 
-abbrev Fits : ℕ → PoolsOf → Pool → Type 0
+abbrev Fits : ℕ → PoolsSoFar → Pool → Type 0
 Fits labels s p = (p.provider ≡ s.provider) × IsPool labels s.pools p
 
-abbrev own_of : ℕ → List Pool → PoolsOf
+abbrev own_of : ℕ → List Pool → PoolsSoFar
 own_of k ps = record { provider = k; pools = ps }
 
 module _ (c : Configuration) (each_label : EachAfter IsLabel [] c.labels) where
@@ -56,7 +54,7 @@ module _ (c : Configuration) (each_label : EachAfter IsLabel [] c.labels) where
       let l : Length = behind earlier (one_to POOLS) in
       state_list_again (pool_at c.labels) (pool_data c) (Fits (length c.labels)) joined (λ at s x fit. pool_again c each_label at s x fit) at l (own_of k []) ps (pools_fit k [] ps owned each) few some ∙ ap ok (pools_after k [] ps)
 
-provider_again : (c : Configuration) (at : List ℕ) (s : Providers) (k : ℕ) (p : Provider) (own : List Pool) → IsProvider s.providers p
+provider_again : (c : Configuration) (at : List ℕ) (s : ProvidersSoFar) (k : ℕ) (p : Provider) (own : List Pool) → IsProvider s.providers p
     → list_at (pool_at c.labels) (under at (codes "pools")) (behind (length s.pools) (one_to POOLS)) (own_of (length s.providers) []) (list_data (pool_data c) (pools_of c k)) ≡ Ok (own_of (length s.providers) own)
     → provider_at c.labels at s (provider_data c k p) ≡ Ok (supply_of (s.providers ++ p ∷ []) (s.pools ++ own))
 unfolding provider_at provider_row pools_at list_required named_at name_at new_name
@@ -101,7 +99,7 @@ module _ (c : Configuration) (each_label : EachAfter IsLabel [] c.labels) (are :
       let room : length (before k) + length own ≤ POOLS = omega arith in
       let some : 1 ≤ length own = are.each_has_one k (omega arith) in
       let mine = pools_read c each_label (under (under at (decimal n)) (codes "pools")) (length (before k)) k own (All-filter_number owner k c.pools) (rows_of owner P k [] c.pools are.each_pool) room some in
-      let s : Providers = record { providers = e; pools = before k } in
+      let s : ProvidersSoFar = record { providers = e; pools = before k } in
       let mine' : list_at (pool_at c.labels) (under (under at (decimal n)) (codes "pools")) (behind (length (before k)) (one_to POOLS)) (own_of (length e) []) (list_data (pool_data c) own) ≡ Ok (own_of (length e) own)
       = subst (λ (m : ℕ). list_at (pool_at c.labels) (under (under at (decimal n)) (codes "pools")) (behind (length (before k)) (one_to POOLS)) (own_of m []) (list_data (pool_data c) own) ≡ Ok (own_of m own)) place mine in
       let read = provider_again c (under at (decimal n)) s k x own each.0 mine' in

@@ -15,14 +15,12 @@ use Rattle.np_site.specs.declared.row.Provider.{Provider}
 use Rattle.np_site.specs.declared.row.Pool.{Pool}
 use Rattle.np_site.specs.declared.row.Requester.{Requester}
 use Rattle.np_site.specs.declared.row.Job.{Job}
-use Rattle.np_config_read.specs.declared.providers.Providers.{Providers}
-use Rattle.np_config_read.specs.declared.requesters.Requesters.{Requesters}
 use Rattle.np_site.specs.Configuration.{Configuration}
 use Rattle.np_config_read.specs.Keys.{top_keys}
 use Rattle.np_config_read.specs.Names.{pool_names}
 use Rattle.np_config_read.specs.Labels.{label_at, semaphore_at}
-use Rattle.np_config_read.specs.Providers.{provider_at}
-use Rattle.np_config_read.specs.Requesters.{requester_at}
+use Rattle.np_config_read.specs.Providers.{ProvidersSoFar, provider_at}
+use Rattle.np_config_read.specs.Requesters.{RequestersSoFar, requester_at}
 use Rattle.np_config_read.specs.Faults.{fault_at}
 use Rattle.np_config_read.specs.Walk.{configuration_at, reads}
 use Rattle.np_site.specs.Sound.{IsLabel, IsSem, IsPool, IsJob, IsFault, IsSound}
@@ -54,10 +52,10 @@ list_at-items read at l s t ds items most least =
     let some = most_test l.least (length ds) least in
     rw (items_len-of ds, few, some, items) refl
 
-abbrev supply : List Provider → List Pool → Providers
+abbrev supply : List Provider → List Pool → ProvidersSoFar
 supply ps pools = record { providers = ps; pools = pools }
 
-abbrev demand : List Requester → List Job → Requesters
+abbrev demand : List Requester → List Job → RequestersSoFar
 demand qs jobs = record { requesters = qs; jobs = jobs }
 
 providers_read : (c : Configuration) → IsSound c → list_at (provider_at c.labels) (under [] (codes "providers")) (one_to PROVIDERS) (supply [] []) (array (items_of (placed (provider_data c) 0 c.providers))) ≡ Ok (supply c.providers c.pools)
