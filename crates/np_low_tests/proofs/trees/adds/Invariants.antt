@@ -1,7 +1,7 @@
 use Rattle.std.proofs.Common.{◌≡◌, true}
 use Rattle.std.specs.List.{list_all}
 use Rattle.np_nodes.specs.Multi.{is_numbered}
-use Rattle.np_tree_tests.proofs.trees.parts_of.Given as goal
+use Rattle.np_low_tests.proofs.trees.adds.Given as goal
 
 abbrev pub invariant-loop-call : goal.invariant-loop-call
 invariant-loop-call l = list_all is_numbered l.ops.items ≡ true

@@ -1,5 +1,5 @@
 use Rattle.np_lock.specs.Queue.{IsLock}
-use Rattle.np_tree_tests.proofs.locks.enqueue_all.Given as goal
+use Rattle.np_low_tests.proofs.locks.enqueues_all.Given as goal
 
 abbrev pub invariant-loop-ahead : goal.invariant-loop-ahead
 invariant-loop-ahead l = IsLock l.tree l.dir

@@ -1,7 +1,7 @@
 use Rattle.std.proofs.Common.{◌≡◌, List, ℕ, None, sym, ap, ◌∙◌}
 use Rattle.np_tree.specs.Read.{stat_of_child}
-use Rattle.np_tree_tests.proofs.LockLemmas.{free-lock}
-use Rattle.np_tree_tests.proofs.locks.is_lock.Goals as goal
+use Rattle.np_low_tests.proofs.LockLemmas.{free-lock}
+use Rattle.np_low_tests.proofs.locks.is_lock.Goals as goal
 
 pub returns-in-None : goal.returns-in-None
 returns-in-None c =

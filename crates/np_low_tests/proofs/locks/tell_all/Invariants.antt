@@ -1,5 +1,5 @@
 use Rattle.np_lock.specs.Queue.{IsLock}
-use Rattle.np_tree_tests.proofs.locks.tell_all.Given as goal
+use Rattle.np_low_tests.proofs.locks.tell_all.Given as goal
 
 abbrev pub invariant-loop-session : goal.invariant-loop-session
 invariant-loop-session l = IsLock l.tree l.dir
