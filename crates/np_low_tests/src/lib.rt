@@ -1,21 +1,32 @@
-//! Tests of what plays the machine: the tables, the tree, choices and the board, compared with one
-//! another.
+//! The tests of the low crates: of texts and amounts, events' lines, records and configurations, the
+//! coordination tree with its paths, lists and locks, streams, and clouds.
 //!
-//! `scripts` plays tables of lines over a bare tree (`bare`), `sites` plays whole sites by choices
-//! over tables, over a bare tree and at the board, and `turns` asks the board for turns. `desks` has
-//! threads side by side at a desk. Each test is a table, and one function that answers whether a row
-//! of it is as it says: a check that fails where many values are owned is dear to prove.
+//! They are what no clause says: values from documents, printed text, that calls succeed with ample
+//! memory, and full sizes. Most of a test is a function that answers a `bool`, with one `assert!` in
+//! the test: at each way out of a function, what it owns has to be shown given back.
 #![tactic(auto)]
 
 #[cfg(test)]
-mod bare;
+mod amounts;
 #[cfg(test)]
-mod index;
+mod clouds;
+#[cfg(test)]
+mod configurations;
 #[cfg(test)]
 mod lines;
 #[cfg(test)]
-mod scripts;
+mod locks;
 #[cfg(test)]
-mod sites;
+mod paths;
 #[cfg(test)]
-mod turns;
+mod records;
+#[cfg(test)]
+mod sessions;
+#[cfg(test)]
+mod shelves;
+#[cfg(test)]
+mod streams;
+#[cfg(test)]
+mod texts;
+#[cfg(test)]
+mod trees;
