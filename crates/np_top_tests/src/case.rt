@@ -45,6 +45,8 @@ pub struct Case<'a> {
     pub is_text: bool,
     /// A line for each job.
     pub jobs: Vec<u8>,
+    /// Whether each line began with a word that is known.
+    pub is_clear: bool,
     /// How often the next line stands.
     repeat: usize,
 }
@@ -133,6 +135,7 @@ impl<'a> Case<'a> {
             meets: false,
             is_text: false,
             jobs: Vec::new(alloc),
+            is_clear: true,
             repeat: 1,
         }
     }
@@ -161,14 +164,16 @@ impl<'a> Case<'a> {
     fn take_lines(&mut self, lines: &'a str) -> Result<(), AllocError> {
         for line in lines.lines() {
             let (word, rest) = parts(line);
-            self.set(word, rest);
-            self.take_text(word, rest)?;
+            let known = matches!(word, "#" | "case" | "each")
+                || self.set(word, rest)
+                || self.take_text(word, rest)?;
+            self.is_clear = self.is_clear && known;
         }
         Ok(())
     }
 
-    /// Takes in a line that says how the case is played.
-    fn set(&mut self, word: &str, rest: &'a str) {
+    /// Takes in a line that says how the case is played, and returns whether it is one.
+    fn set(&mut self, word: &str, rest: &'a str) -> bool {
         match word {
             "$" => self.words = rest,
             "status" => self.status = number(rest),
@@ -180,12 +185,13 @@ impl<'a> Case<'a> {
             "piece" => self.piece = size(rest),
             "meet" => self.meets = true,
             "text" => self.is_text = true,
-            _ => {}
+            _ => return false,
         }
+        true
     }
 
-    /// Takes in a line of the input or of what is printed.
-    fn take_text(&mut self, word: &str, rest: &'a str) -> Result<(), AllocError> {
+    /// Takes in a line of the input or of what is printed, and returns whether it is one.
+    fn take_text(&mut self, word: &str, rest: &str) -> Result<bool, AllocError> {
         match word {
             "<" => put(&mut self.input, rest, self.repeat)?,
             "<-" => self.input.extend_from_slice(rest.as_bytes())?,
@@ -198,9 +204,9 @@ impl<'a> Case<'a> {
             "job" => put(&mut self.jobs, rest, self.repeat)?,
             "spaces" => put_spaces(&mut self.input, size(rest))?,
             "byte" => self.input.push(byte(rest))?,
-            _ => return Ok(()),
+            _ => return Ok(false),
         }
         self.repeat = 1;
-        Ok(())
+        Ok(true)
     }
 }

@@ -166,7 +166,8 @@ fn come_as_said<R: Threads + Wait + Sync + AllocGlobal + Print>(
     let gate = Meeting::new(case.meets);
     let mut ran = before(rt.alloc(), case)?;
     play(rt, case, &gate, &mut ran)?;
-    let well = gate.is_over()
+    let well = case.is_clear
+        && gate.is_over()
         && ends_as_said(case, &ran)
         && prints_as_said(case, ran.out.bytes())
         && is_text(rt, case, ran.out.bytes())?;
