@@ -1,17 +1,15 @@
 //! What no clause says: that sites played by choices alone come to their end with ample memory, how
-//! their jobs end, and that tables, a bare tree and the board give the same journal.
+//! their jobs end, and that tables and a bare tree give the journal of the board.
 
 use crate::bare::Bare;
 use crate::index::is_rebuilt;
 use crate::lines::{config_of, have_equal_lines};
 use np_answers::Turn;
 use np_board::Board;
-use np_choices::choose;
 use np_event::{Done, Entry, Event, Reply};
-use np_journal::JournalKeeper;
 use np_look::Look;
-use np_rules::{Plain, VecKeeper, new_plain};
-use np_text::{Ending, JobId, NoMemory, PoolId, RequesterId, Role};
+use np_rules::{Plain, new_plain};
+use np_text::{Ending, JobId, PoolId, RequesterId, Role};
 use std::alloc::Global;
 
 /// Who may act in these sites, in the order of a round.
@@ -98,92 +96,70 @@ const SITES: [Site; 10] = [
     },
 ];
 
-/// Whatever a site is played over.
-trait Player {
-    /// The role makes a useful event. Whether it had one.
-    fn act(&mut self, role: Role) -> Result<bool, NoMemory>;
-
-    /// A tick passes.
-    fn tick(&mut self) -> Result<(), NoMemory>;
-}
-
-impl Player for JournalKeeper<VecKeeper> {
-    fn act(&mut self, role: Role) -> Result<bool, NoMemory> {
-        self.soundness();
-        let Some(event) = choose(self, role) else {
-            return Ok(false);
-        };
-        self.apply(event)?;
-        Ok(true)
-    }
-
-    fn tick(&mut self) -> Result<(), NoMemory> {
-        self.apply(Event::Tick)?;
-        Ok(())
-    }
-}
-
-/// A board, and whether its index was that of its state after each act.
-#[derive(Drop)]
-struct Watched {
-    alloc: Global,
-    board: Board,
-    is_rebuilt: bool,
-}
-
-impl Player for Watched {
-    fn act(&mut self, role: Role) -> Result<bool, NoMemory> {
-        let Turn::Did(_) = self.board.act(role)? else {
-            return Ok(false);
-        };
-        self.is_rebuilt = self.is_rebuilt && is_rebuilt(self.alloc, &self.board);
-        Ok(true)
-    }
-
-    fn tick(&mut self) -> Result<(), NoMemory> {
-        self.board.apply(Event::Tick)?;
-        Ok(())
+/// The role makes a useful event at the board, whose index is then that of its state. Whether it had
+/// one; none if the index differs, or memory runs out.
+fn act(alloc: Global, board: &mut Board, role: Role) -> Option<bool> {
+    match board.act(role) {
+        Ok(Turn::Did(_)) => is_rebuilt(alloc, board).then_some(true),
+        Ok(_) => Some(false),
+        Err(_) => None,
     }
 }
 
 /// Each role makes at most one event. Whether one did.
-fn play_round<P: Player>(player: &mut P) -> Result<bool, NoMemory> {
+fn play_round(alloc: Global, board: &mut Board) -> Option<bool> {
     let mut acted = false;
     for role in ROLES {
-        acted = player.act(role)? || acted;
+        acted = act(alloc, board, role)? || acted;
     }
-    Ok(acted)
+    Some(acted)
 }
 
 /// Plays rounds, with a tick after each, until no role has a useful event. Whether that came.
-fn play<P: Player>(player: &mut P) -> Result<bool, NoMemory> {
+fn play(alloc: Global, board: &mut Board) -> bool {
     for _round in 0..ROUNDS {
-        if !play_round(player)? {
-            return Ok(true);
+        match play_round(alloc, board) {
+            Some(true) => {}
+            Some(false) => return true,
+            None => return false,
         }
-        player.tick()?;
-    }
-    Ok(false)
-}
-
-/// Whether the end came, with ample memory.
-fn is_over(played: Result<bool, NoMemory>) -> bool {
-    matches!(played, Ok(true))
-}
-
-/// How the job ended.
-fn ending_of(plain: &Plain, job: JobId) -> Option<Ending> {
-    plain.job(job)?.ending
-}
-
-/// Whether the jobs ended, and nodes are left, as the site says.
-fn ends_as(plain: &Plain, site: &Site) -> bool {
-    for at in 0..plain.jobs() {
-        if ending_of(plain, JobId(at)) != site.endings.get(at as usize).copied() {
+        if board.apply(Event::Tick).is_err() {
             return false;
         }
     }
-    plain.jobs() as usize == site.endings.len() && plain.nodes() == site.nodes
+    false
+}
+
+/// How the job ended.
+fn ending_of(board: &Board, job: JobId) -> Option<Ending> {
+    board.job(job)?.ending
+}
+
+/// Whether the jobs ended, and nodes are left, as the site says.
+fn ends_as(board: &Board, site: &Site) -> bool {
+    for at in 0..board.jobs() {
+        if ending_of(board, JobId(at)) != site.endings.get(at as usize).copied() {
+            return false;
+        }
+    }
+    board.jobs() as usize == site.endings.len() && board.nodes() == site.nodes
+}
+
+/// Whether the board is settled and its readers agree on what it recorded.
+fn is_at_rest(board: &Board) -> bool {
+    board.settled()
+        && board.journal().len() == board.entries() as usize
+        && matches!(board.judge(Event::Tick), Reply::Done(Done::Plain))
+}
+
+/// The events of the journal happen at the tables. Whether memory was ample.
+fn repeats_at_tables(plain: &mut Plain, journal: &[Entry]) -> bool {
+    for entry in journal {
+        if plain.apply(entry.event).is_err() {
+            return false;
+        }
+    }
+    true
 }
 
 /// The machine over tables, before the first event.
@@ -191,6 +167,37 @@ fn first_plain(alloc: Global, site: &str) -> Option<Plain> {
     match new_plain(alloc, config_of(alloc, site)?) {
         Ok(plain) => Some(plain),
         Err(_) => None,
+    }
+}
+
+/// Whether tables give the replies of the journal to its events.
+fn is_journal_of_tables(alloc: Global, text: &str, journal: &[Entry]) -> bool {
+    match first_plain(alloc, text) {
+        None => false,
+        Some(mut plain) => {
+            repeats_at_tables(&mut plain, journal)
+                && have_equal_lines(alloc, plain.journal(), journal)
+        }
+    }
+}
+
+/// The events of the journal happen at the bare tree. Whether memory was ample.
+fn repeats_at_tree(bare: &mut Bare, journal: &[Entry]) -> bool {
+    for entry in journal {
+        if bare.apply(entry.event).is_err() {
+            return false;
+        }
+    }
+    true
+}
+
+/// Whether a bare tree gives the replies of the journal to its events.
+fn is_journal_of_tree(alloc: Global, text: &str, journal: &[Entry]) -> bool {
+    match Bare::new(alloc, text) {
+        None => false,
+        Some(mut bare) => {
+            repeats_at_tree(&mut bare, journal) && have_equal_lines(alloc, bare.journal(), journal)
+        }
     }
 }
 
@@ -202,52 +209,23 @@ pub fn new_board(alloc: Global, site: &str) -> Option<Board> {
     }
 }
 
-/// Whether the board is settled and its readers agree on what it recorded.
-fn is_at_rest(board: &Board) -> bool {
-    board.settled()
-        && board.journal().len() == board.entries() as usize
-        && matches!(board.judge(Event::Tick), Reply::Done(Done::Plain))
-}
-
-/// Whether the site, played at the board, has this journal.
-fn is_played_at_board(alloc: Global, text: &str, journal: &[Entry]) -> bool {
-    let Some(board) = new_board(alloc, text) else {
-        return false;
-    };
-    let mut watched = Watched {
-        alloc,
-        board,
-        is_rebuilt: true,
-    };
-    !is_at_rest(&watched.board)
-        && is_over(play(&mut watched))
-        && watched.is_rebuilt
-        && is_at_rest(&watched.board)
-        && have_equal_lines(alloc, watched.board.journal(), journal)
-}
-
-/// Whether a bare tree gives the replies of the journal to its events.
-fn is_journal_of_tree(alloc: Global, text: &str, journal: &[Entry]) -> bool {
-    let Some(mut bare) = Bare::new(alloc, text) else {
-        return false;
-    };
-    for entry in journal {
-        if bare.apply(entry.event).is_err() {
-            return false;
-        }
-    }
-    have_equal_lines(alloc, bare.journal(), journal)
+/// Whether the site, played at its new board, comes to the end that it says, and all give the same
+/// journal.
+fn is_played_at(alloc: Global, board: &mut Board, site: &Site) -> bool {
+    !is_at_rest(board)
+        && play(alloc, board)
+        && is_at_rest(board)
+        && ends_as(board, site)
+        && is_journal_of_tables(alloc, site.text, board.journal())
+        && is_journal_of_tree(alloc, site.text, board.journal())
 }
 
 /// Whether the site comes to the end that it says, and all give the same journal.
 fn is_played(alloc: Global, site: &Site) -> bool {
-    let Some(mut plain) = first_plain(alloc, site.text) else {
-        return false;
-    };
-    is_over(play(&mut plain))
-        && ends_as(&plain, site)
-        && is_played_at_board(alloc, site.text, plain.journal())
-        && is_journal_of_tree(alloc, site.text, plain.journal())
+    match new_board(alloc, site.text) {
+        None => false,
+        Some(mut board) => is_played_at(alloc, &mut board, site),
+    }
 }
 
 #[test]

@@ -97,14 +97,6 @@ const SCRIPTS: [(&str, &str, &[(Option<Ask>, &str)]); 2] = [
     ("jobs are withdrawn", SITE_OF_TWO, &WITHDRAWN),
 ];
 
-/// What is asked: that the event of the line happens, if it is nothing else.
-fn ask_of(ask: Option<Ask>, line: &str) -> Option<Ask> {
-    if ask.is_some() {
-        return ask;
-    }
-    Some(Ask::Do(read_entry(line.as_bytes())?.event))
-}
-
 /// Whether the turn is as the text says.
 fn is_told(alloc: Global, turn: Turn, text: &str) -> bool {
     match turn {
@@ -118,15 +110,23 @@ fn is_told(alloc: Global, turn: Turn, text: &str) -> bool {
     }
 }
 
-/// Whether the board answers as the text says. Its index is then that of the state.
-fn answers(alloc: Global, board: &mut Board, ask: Option<Ask>, text: &str) -> bool {
-    let Some(ask) = ask_of(ask, text) else {
-        return false;
-    };
+/// Whether the turn of the board is as the text says. Its index is then that of the state.
+fn takes(alloc: Global, board: &mut Board, ask: Ask, text: &str) -> bool {
     board.soundness();
     match board.turn(ask) {
         Ok(turn) => is_told(alloc, turn, text) && is_rebuilt(alloc, board),
         Err(_) => false,
+    }
+}
+
+/// Whether the board answers as the text says. Where nothing is asked, the event of the line happens.
+fn answers(alloc: Global, board: &mut Board, ask: Option<Ask>, text: &str) -> bool {
+    match ask {
+        Some(ask) => takes(alloc, board, ask, text),
+        None => match read_entry(text.as_bytes()) {
+            Some(entry) => takes(alloc, board, Ask::Do(entry.event), text),
+            None => false,
+        },
     }
 }
 
