@@ -1,0 +1,5 @@
+pub mod Moments
+pub mod ReadLemmas
+pub mod TornLemmas
+pub mod CallLemmas
+pub mod FileLemmas

@@ -1,0 +1,5 @@
+pub mod Disk
+pub mod Plans
+pub mod Calls
+pub mod Memory
+pub mod Files
