@@ -1,0 +1,19 @@
+use Rattle.std.proofs.Common.{refl}
+use Rattle.np_event_lines.specs.EventForm.{event_forms}
+use Rattle.np_event_lines.specs.Line.{event_in}
+use Rattle.np_log.specs.Log.{record_in, walk, walk_of}
+use Rattle.np_log.proofs.WalkLemmas.{after_record-many}
+use Rattle.np_log.proofs.law.damage_has_its_number.Goals as goal
+
+pub returns : goal.returns
+unfolding walk_of walk record_in event_in event_forms
+returns c = record {
+  no_bytes = refl;
+  no_gate = refl;
+  closed_first = refl;
+  short_config = refl;
+  short_length = refl;
+  short_batch = refl;
+  no_newline = refl;
+  too_many = after_record-many;
+}

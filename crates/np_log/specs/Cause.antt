@@ -1,0 +1,51 @@
+-- Why a call of a log gives up, and what it leaves.
+use Rattle.std.specs.Prelude.{◌≡◌, ◌≤◌, ◌<◌, ℕ, ◌+◌, List, length, take, IfSome, Err}
+use Rattle.std.specs.Option.{option_map}
+use Rattle.np_io.specs.Counts.{Rose}
+use Rattle.np_disk.specs.Disk.{DiskFacts, Stays}
+use Rattle.np_event.specs.declared.event.Event.{Event}
+use Rattle.np_log.specs.declared.fault.AppendFault.{AppendFault}
+use Rattle.np_log.specs.declared.fault.AppendFault.TheVariants as append
+use Rattle.np_log.specs.declared.fault.CreateFault.{CreateFault}
+use Rattle.np_log.specs.declared.fault.CreateFault.TheVariants as create
+use Rattle.np_log.specs.declared.fault.LoadFault.{LoadFault}
+use Rattle.np_log.specs.declared.fault.LoadFault.TheVariants as load
+use Rattle.np_log.specs.Log.{content_of, content_with}
+use Rattle.np_log.specs.Place.{IsSettled, Place}
+
+-- the file has bytes, and what reads give and what a crash leaves stay; or the disk failed; or memory
+-- ran out, and then the disk is as it was
+abbrev pub CreateCause : {D : Type 0} → (D → DiskFacts) → D → D → CreateFault → Type 0
+CreateCause facts old new create.NotEmpty = IfSome (facts old).now (λ file. 0 < length file) × Stays (facts old) (facts new)
+CreateCause facts old new create.DiskFault = Rose (facts old).faults (facts new).faults
+CreateCause facts old new create.NoMemory = new ≡ old
+
+-- the bytes are damaged at this record; or the disk failed; or memory ran out
+abbrev pub LoadCause : DiskFacts → DiskFacts → LoadFault → Type 0
+LoadCause old new (load.Damaged number) = IfSome old.now (λ file. content_of file ≡ Err number)
+LoadCause old new load.DiskFault = Rose old.faults new.faults
+LoadCause old new load.NoMemory = Unit {0}
+
+-- the file is not read: the disk failed, or memory ran out
+abbrev pub ReadCause : DiskFacts → DiskFacts → LoadFault → Type 0
+ReadCause old new (load.Damaged number) = ⊥
+ReadCause old new load.DiskFault = Rose old.faults new.faults
+ReadCause old new load.NoMemory = Unit {0}
+
+-- the disk failed; or memory ran out, and then the log comes back and the disk is as it was
+abbrev pub AppendCause : {D : Type 0} → (D → DiskFacts) → D → D → Place → AppendFault → Type 0
+AppendCause facts old new log append.DiskFault = Rose (facts old).faults (facts new).faults
+AppendCause facts old new log (append.NoMemory back) = (back ≡ log) × (new ≡ old)
+
+-- a log comes back that is settled and has the first n of these events
+pub record HasFirst (old new : DiskFacts) (log back : Place) (events : List Event) : Type 0 where
+  pub settled : IsSettled new back
+  pub n : ℕ
+  pub within : n ≤ length events
+  pub count : back.events ≡ log.events + n
+  pub content : option_map content_of new.now ≡ option_map (λ file. content_with (content_of file) (take n events)) old.now
+
+-- the disk failed; or memory ran out, and then a log comes back that has the first of these events
+abbrev pub AppendAllCause : DiskFacts → DiskFacts → Place → List Event → AppendFault → Type 0
+AppendAllCause old new log events append.DiskFault = Rose old.faults new.faults
+AppendAllCause old new log events (append.NoMemory back) = HasFirst old new log back events
