@@ -10,3 +10,5 @@ pub mod AgainJobs
 pub mod AgainFaults
 pub mod AgainWhole
 pub mod OnLiterals
+pub mod TextLengths
+pub mod Short

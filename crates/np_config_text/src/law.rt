@@ -1,6 +1,8 @@
-//! What the definitions of reading and printing say together.
+//! The laws. Each function does nothing: its contract is the law.
 
-ghost use Rattle.std.specs.Prelude.{◌≡◌, Ok};
+ghost use Rattle.std.specs.Prelude.{◌≡◌, ◌<◌, ◌^◌, Ok, length};
+ghost use Rattle.np_site.specs.Configuration.{Configuration};
+ghost use Rattle.np_site.specs.Sound.{IsSound};
 ghost use Rattle.np_config_read.specs.Walk.{reads};
 ghost use Rattle.np_config_text.specs.Canonical.{canonical};
 ghost use Rattle.np_config_text.specs.Worked.{worked, worked_text, worked_canonical};
@@ -9,4 +11,9 @@ ghost use Rattle.np_config_text.specs.Worked.{worked, worked_text, worked_canoni
 pub fn a_worked_text_is_read_and_printed()
     ensures read { reads worked_text ≡ Ok worked }
     ensures printed { canonical worked ≡ worked_canonical }
+{}
+
+/// The one text of a sound configuration is shorter than 2^32 bytes.
+pub fn a_canonical_text_is_short()
+    ensures { (c : Configuration) → IsSound c → length (canonical c) < 2 ^ 32 }
 {}
