@@ -74,6 +74,13 @@ impl Inventory {
         self.answered.len()
     }
 
+    /// How many servers there are.
+    pub fn server_count(&self) -> usize
+        ensures { result ≡ length self.now.servers }
+    {
+        self.servers.len()
+    }
+
     /// Takes out each server of this number. The cost grows with the servers.
     pub fn remove(&mut self, number: u64)
         ensures { self.new ≡ after_removal self.old number }

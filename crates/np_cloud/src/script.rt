@@ -3,6 +3,7 @@
 ghost use Rattle.std.specs.Prelude.{◌≡◌, ◌↔◌, Option, None, Contains, IsTrue, IsErr, OnOk, OnErr, slice_get};
 ghost use Rattle.np_io.specs.Counts.{counted};
 ghost use Rattle.np_cloud.specs.Calls.{KeepsCounts};
+ghost use Rattle.np_cloud.specs.Sound.{every_list, soundness_of_every_list};
 ghost use Rattle.np_cloud.specs.Inventory.{HasOutcome};
 ghost use Rattle.np_cloud.specs.Script.{script_of, next_outcome, after_scripted_removal, after_failed_removal, script_facts};
 
@@ -80,6 +81,12 @@ impl Driver for ScriptDriver {
     ghost facts = { script_facts };
 
     ghost plan = { λ _ _. None };
+
+    ghost sound = { λ _. every_list };
+
+    ghost soundness = { λ driver. soundness_of_every_list (script_facts driver) };
+
+    ghost room = { λ _. 0 };
 
     /// Takes constant time, except that the list of what was launched so far moves now and then as
     /// it grows.

@@ -5,6 +5,7 @@ ghost use Rattle.std.specs.List.{list_any};
 ghost use Rattle.np_machine.specs.Plan.{outcome_of};
 ghost use Rattle.np_cloud.specs.declared.driver.Tag.{Tag};
 ghost use Rattle.np_cloud.specs.Calls.{KeepsCounts};
+ghost use Rattle.np_cloud.specs.Sound.{every_list, soundness_of_every_list};
 ghost use Rattle.np_cloud.specs.Inventory.{after_removal, HasOutcome};
 ghost use Rattle.np_cloud.specs.Sim.{simulation_of, simulated_outcome, simulation_facts, simulation_plan};
 
@@ -74,6 +75,12 @@ impl Driver for SimDriver {
     ghost facts = { simulation_facts };
 
     ghost plan = { simulation_plan };
+
+    ghost sound = { λ _. every_list };
+
+    ghost soundness = { λ driver. soundness_of_every_list (simulation_facts driver) };
+
+    ghost room = { λ _. 0 };
 
     /// The cost grows with the starts that the pool plans to fail. Besides, the list of what was
     /// launched so far moves now and then as it grows.
