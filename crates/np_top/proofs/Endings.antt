@@ -3,9 +3,9 @@ use Rattle.std.proofs.Common.{◌≡◌, ℕ, List, Ok, Err}
 use Rattle.np_io.specs.Facts.{SourceFacts}
 use Rattle.np_json.specs.declared.fault.ConfigFault.{ConfigFault}
 use Rattle.np_site.specs.Configuration.{Configuration}
-use Rattle.np_top.specs.declared.ending.Ending.{Ending}
-use Rattle.np_top.specs.declared.ending.Ending.TheVariants as ending
-use Rattle.np_top.specs.Lines.{config_line}
+use Rattle.np_ending.specs.declared.ending.Ending.{Ending}
+use Rattle.np_ending.specs.declared.ending.Ending.TheVariants as ending
+use Rattle.np_ending.specs.Lines.{config_line}
 use Rattle.np_top.specs.Run.{EndsRun, HasCome, IsNoSite, IsPlayed}
 
 module _ (source source_now : SourceFacts) where

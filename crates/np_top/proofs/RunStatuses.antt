@@ -6,11 +6,11 @@ use Rattle.np_json.specs.declared.fault.ConfigFault.{ConfigFault}
 use Rattle.np_site.specs.Configuration.{Configuration}
 use Rattle.np_config_read.specs.Walk.{reads}
 use Rattle.np_machine.specs.Fates.{Fate}
-use Rattle.np_top.specs.declared.ending.Ending.{Ending}
-use Rattle.np_top.specs.Input.{IsInput}
-use Rattle.np_top.specs.Told.{IsTold, full_line}
+use Rattle.np_ending.specs.declared.ending.Ending.{Ending}
+use Rattle.np_ending.specs.Input.{IsInput}
+use Rattle.np_ending.specs.Told.{IsTold, full_line}
 use Rattle.np_top.specs.Run.{IsRun, IsNoSite, EndsRun, RunsSite, IsStatusBy, IsStatusIf, fates_of_run, some_waits, status_of_fates}
-use Rattle.np_top.proofs.Told.{HasOwn, ShowsOwn, tells, complete-read}
+use Rattle.np_ending.proofs.Told.{HasOwn, ShowsOwn, tells, complete-read}
 
 -- ## the fates' status
 

@@ -14,12 +14,12 @@ use Rattle.np_useful.specs.Driven.{Driven}
 use Rattle.np_useful.specs.Settled.{IsSettled}
 use Rattle.np_report.specs.Printed.{IsPrinted}
 use Rattle.np_rounds.specs.Played.{EndsWithTick}
-use Rattle.np_top.specs.declared.ending.Ending.{Ending}
-use Rattle.np_top.specs.declared.ending.Ending.TheVariants as ending
-use Rattle.np_top.specs.Input.{IsInput, Stops, most}
-use Rattle.np_top.specs.Lines.{config_line}
-use Rattle.np_top.specs.Failures.{ShowsFailures}
-use Rattle.np_top.specs.Told.{IsTold, EndsSo, full_line}
+use Rattle.np_ending.specs.declared.ending.Ending.{Ending}
+use Rattle.np_ending.specs.declared.ending.Ending.TheVariants as ending
+use Rattle.np_ending.specs.Input.{IsInput, Stops, most}
+use Rattle.np_ending.specs.Lines.{config_line}
+use Rattle.np_ending.specs.Failures.{ShowsFailures}
+use Rattle.np_ending.specs.Told.{IsTold, EndsSo, full_line}
 
 -- ## how a site was played
 

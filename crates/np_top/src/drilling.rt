@@ -9,11 +9,10 @@ ghost use Rattle.np_gen.specs.Site.{drill_site};
 ghost use Rattle.np_top.specs.Run.{HasEnded};
 ghost use Rattle.np_top.specs.Drill.{Drills, EndsDrill};
 
-use crate::ending::Ending;
 use crate::playing::play_site;
-use crate::telling::tell;
 use np_board::Board;
 use np_cloud::Gate;
+use np_ending::{Ending, tell};
 use np_io::Sink;
 use np_report::summary;
 use np_text::NoMemory;

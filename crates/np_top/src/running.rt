@@ -15,15 +15,12 @@ ghost use Rattle.np_top.specs.Run.{
   status_of_fates,
 };
 
-use crate::ending::Ending;
-use crate::input::input;
-use crate::lines::line_of_config;
 use crate::playing::play_site;
-use crate::telling::tell;
 use np_board::Board;
 use np_cloud::Gate;
 use np_config::Config;
 use np_config_read::read_config;
+use np_ending::{Ending, input, line_of_config, tell};
 use np_io::{Sink, Source};
 use np_json::{ConfigFault, ConfigRead};
 use np_look::Look;

@@ -1,31 +1,34 @@
 //! The top call.
 
-ghost use Rattle.std.specs.Prelude.{◌≡◌, ℕ, Some, None, map, string_bytes};
-ghost use Rattle.np_top.specs.declared.command.Command.TheVariants as the;
-ghost use Rattle.np_top.specs.declared.ending.Ending.TheVariants as ending;
-ghost use Rattle.np_top.specs.Command.{command};
-ghost use Rattle.np_top.specs.Told.{IsTold};
-ghost use Rattle.np_top.specs.Replay.{Replays};
-ghost use Rattle.np_top.specs.Run.{RunsSite};
+ghost use Rattle.std.specs.Prelude.{◌≡◌, ℕ, List, Some, None, map, string_bytes};
+ghost use Rattle.np_replay.specs.Keep.{Keeps};
+ghost use Rattle.np_replay.specs.Replay.{Replays};
+ghost use Rattle.np_replay.specs.Resume.{Resumes};
 ghost use Rattle.np_top.specs.Audit.{Audits};
 ghost use Rattle.np_top.specs.Drill.{Drills};
+ghost use Rattle.np_top.specs.Run.{RunsSite};
+ghost use Rattle.np_top.specs.Words.{IsNoCommand};
+ghost use Rattle.np_words.specs.Command.{command};
+ghost use Rattle.np_words.specs.declared.command.Command.TheVariants as the;
 
 use crate::auditing::audit;
-use crate::command::{Command, command_of};
 use crate::drilling::drill;
-use crate::ending::Ending;
-use crate::replaying::replay;
 use crate::running::run;
-use crate::telling::tell;
 use np_cloud::Gate;
+use np_disk::Disk;
+use np_ending::{Ending, tell};
 use np_io::{Sink, Source};
+use np_replay::{keep, replay, resume};
+use np_text::NoMemory;
+use np_words::{Command, command_of};
 use std::alloc::Global;
 use std::sync::Wait;
 use std::thread::Threads;
 
 /// All that the program does, and its status. Words that are no command have the status 2, and
-/// nothing is read then; each command says its own statuses. A drill reads nothing either.
-pub fn poolsim<R: Threads + Wait + Sync, S: Source, K: Sink, E: Sink, G: Gate + Sync>(
+/// nothing is read then; if memory runs out while the words are read, the status is 7. Each command
+/// says its own statuses. A drill reads nothing either. Only `keep` and `resume` touch the disk.
+pub fn poolsim<R: Threads + Wait + Sync, S: Source, K: Sink, E: Sink, G: Gate + Sync, D: Disk>(
     rt: &R,
     alloc: Global,
     words: &[String],
@@ -33,27 +36,39 @@ pub fn poolsim<R: Threads + Wait + Sync, S: Source, K: Sink, E: Sink, G: Gate + 
     out: &mut K,
     err: &mut E,
     gate: &G,
+    disk: &mut D,
 ) -> u8
-    ensures usage { command (map string_bytes words.now) ≡ None → (source.new ≡ source.old)
-        × IsTold K.facts E.facts out.old out.new err.old err.new ending.NoCommand result }
-    ensures replay { command (map string_bytes words.now) ≡ Some the.Replay →
-        Replays S.facts K.facts E.facts source.old source.new out.old out.new err.old err.new
+    ensures usage { command (map string_bytes words.now) ≡ None →
+        (source.new ≡ source.old) × (disk.new ≡ disk.old)
+        × IsNoCommand K.facts E.facts out.old out.new err.old err.new result }
+    ensures replay { command (map string_bytes words.now) ≡ Some the.Replay → (disk.new ≡ disk.old)
+        × Replays S.facts K.facts E.facts source.old source.new out.old out.new err.old err.new
         result }
-    ensures run { command (map string_bytes words.now) ≡ Some the.Run →
-        RunsSite S.facts K.facts E.facts source.old source.new out.old out.new err.old err.new
+    ensures run { command (map string_bytes words.now) ≡ Some the.Run → (disk.new ≡ disk.old)
+        × RunsSite S.facts K.facts E.facts source.old source.new out.old out.new err.old err.new
         result }
-    ensures audit { command (map string_bytes words.now) ≡ Some the.Audit →
-        Audits S.facts K.facts E.facts source.old source.new out.old out.new err.old err.new
+    ensures audit { command (map string_bytes words.now) ≡ Some the.Audit → (disk.new ≡ disk.old)
+        × Audits S.facts K.facts E.facts source.old source.new out.old out.new err.old err.new
         result }
     ensures drill { (jobs : ℕ) → command (map string_bytes words.now) ≡ Some (the.Drill jobs) →
-        (source.new ≡ source.old)
+        (source.new ≡ source.old) × (disk.new ≡ disk.old)
         × Drills K.facts E.facts jobs out.old out.new err.old err.new result }
+    ensures keep { (file : List ℕ) → command (map string_bytes words.now) ≡ Some (the.Keep file) →
+        Keeps S.facts K.facts E.facts D.facts source.old source.new out.old out.new
+        err.old err.new disk.old disk.new result }
+    ensures resume { (file : List ℕ) →
+        command (map string_bytes words.now) ≡ Some (the.Resume file) →
+        Resumes S.facts K.facts E.facts D.facts source.old source.new out.old out.new
+        err.old err.new disk.old disk.new result }
 {
-    match command_of(words) {
-        None => tell(out, err, &Ending::NoCommand),
-        Some(Command::Replay) => replay(alloc, source, out, err),
-        Some(Command::Run) => run(rt, alloc, source, out, err, gate),
-        Some(Command::Audit) => audit(alloc, source, out, err),
-        Some(Command::Drill { jobs }) => drill(rt, alloc, jobs, out, err, gate),
+    match command_of(alloc, words) {
+        Err(NoMemory) => tell(out, err, &Ending::NoMemory),
+        Ok(None) => tell(out, err, &Ending::NoCommand),
+        Ok(Some(Command::Replay)) => replay(alloc, source, out, err),
+        Ok(Some(Command::Run)) => run(rt, alloc, source, out, err, gate),
+        Ok(Some(Command::Audit)) => audit(alloc, source, out, err),
+        Ok(Some(Command::Drill { jobs })) => drill(rt, alloc, jobs, out, err, gate),
+        Ok(Some(Command::Keep { file })) => keep(alloc, source, out, err, disk, file.as_str()),
+        Ok(Some(Command::Resume { file })) => resume(alloc, source, out, err, disk, file.as_str()),
     }
 }

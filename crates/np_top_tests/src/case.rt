@@ -17,11 +17,15 @@
 //!     read N          the Nth read of the input fails
 //!     write N         the Nth write to standard output fails: what comes before it is expected
 //!     tell N          the same of standard error
+//!     disk N          the Nth call of the disk fails, and each after it
+//!     cut N           the file's last N bytes are cut off before the run
+//!     poke AT BYTE    the file's byte at this place is this one before the run
 //!     piece N         a read or a write takes at most N bytes
 //!     each M N        the case is played with each number from M to N in the place of `@`
 //!     meet            each launch waits until one of another pool waits, too
 //!     text            standard output is a Text that `audit` accepts, with a line `job` for each job
 //!     job END | END   what the job comes to: what its line goes on with after its names
+//!     then            one more run, over the file that the last one left; the lines after it say how
 
 use std::alloc::{AllocError, Global};
 use std::mem;
@@ -39,6 +43,11 @@ pub struct Case<'a> {
     pub read: u32,
     pub write: u32,
     pub tell: u32,
+    pub disk: u32,
+    /// How many of the file's bytes are cut off.
+    pub cut: usize,
+    /// What is put into the file, and where.
+    pub poke: Option<(usize, u8)>,
     /// The most bytes of a call.
     pub piece: usize,
     pub meets: bool,
@@ -131,6 +140,9 @@ impl<'a> Case<'a> {
             read: 0,
             write: 0,
             tell: 0,
+            disk: 0,
+            cut: 0,
+            poke: None,
             piece: usize::MAX,
             meets: false,
             is_text: false,
@@ -182,6 +194,12 @@ impl<'a> Case<'a> {
             "read" => self.read = call(rest),
             "write" => self.write = call(rest),
             "tell" => self.tell = call(rest),
+            "disk" => self.disk = call(rest),
+            "cut" => self.cut = size(rest),
+            "poke" => {
+                let (at, value) = parts(rest);
+                self.poke = Some((size(at), byte(value)));
+            }
             "piece" => self.piece = size(rest),
             "meet" => self.meets = true,
             "text" => self.is_text = true,

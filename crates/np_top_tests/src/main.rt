@@ -3,14 +3,16 @@
 //!
 //! The words of this program name files of cases in `data/`; `case` says how to read them. The top
 //! call is run on each case, over streams in memory, and what it comes to is compared with what the
-//! case says. So one more case costs no proof. Two stories are no such cases: `site` prints a
-//! generated site, and `cloud` plays one whose launches and removals fail.
+//! case says. So one more case costs no proof. Three stories are no such cases: `site` prints a
+//! generated site, `cloud` plays one whose launches and removals fail, and `crash` stops a keep at
+//! each of its calls of the disk, and resumes what a crash leaves then.
 //!
 //! The same is printed in whatever order threads take their turns.
 #![tactic(auto)]
 
 mod case;
 mod cloud;
+mod crash;
 mod fates;
 mod meeting;
 mod play;
@@ -77,11 +79,23 @@ fn print_cloud<R: Threads + Wait + Sync + AllocGlobal + Print>(rt: &R) -> io::Re
     println!(rt; "failed launches and removals are made good: {end}")
 }
 
+/// Prints what a crash leaves of a keep, counted.
+fn print_crash<R: Threads + Wait + Sync + AllocGlobal + Print>(rt: &R) -> io::Result<()> {
+    match crash::images_are_whole(rt) {
+        Ok(found) => println!(rt;
+            "a keep that stops leaves no log {} times, no event {} times, all events {} times, anything else {} times",
+            found.none, found.begun, found.whole, found.wrong
+        ),
+        Err(_) => println!(rt; "out of memory"),
+    }
+}
+
 fn main(rt: HostRuntime) -> io::Result<()> {
     for name in std::env::args(&rt)?.skip(1) {
         let text = fs::read_to_string(&rt, name.as_str())?;
         play_file(&rt, name.as_str(), text.as_str())?;
     }
     print_site(&rt)?;
-    print_cloud(&rt)
+    print_cloud(&rt)?;
+    print_crash(&rt)
 }

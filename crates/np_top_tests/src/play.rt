@@ -3,13 +3,14 @@
 use crate::case::Case;
 use crate::fates;
 use crate::meeting::Meeting;
+use np_disk::MemDisk;
 use np_io::{MemSink, MemSource, Source, StdSource};
 use np_top::poolsim;
 use std::alloc::{AllocError, Global};
-use std::io;
 use std::io::Read;
 use std::sync::Wait;
 use std::thread::Threads;
+use std::{io, mem};
 
 /// What a run comes to.
 #[derive(Drop)]
@@ -17,6 +18,7 @@ struct Ran {
     status: u8,
     out: MemSink,
     err: MemSink,
+    disk: MemDisk,
 }
 
 /// A terminal: its bytes, an end, and then more bytes.
@@ -60,14 +62,31 @@ fn source(alloc: Global, case: &mut Case) -> Result<MemSource, AllocError> {
     Ok(MemSource::in_pieces(input, failing, case.piece.max(1)))
 }
 
-/// Before a run of the case.
-fn before(alloc: Global, case: &Case) -> Result<Ran, AllocError> {
+/// The file with these bytes, damaged as the case says. Its calls fail from one on.
+fn disk(case: &Case, mut file: Vec<u8>) -> MemDisk {
+    file.truncate(file.len().saturating_sub(case.cut));
+    if let Some((at, value)) = case.poke {
+        if let Some(byte) = file.get_mut(at) {
+            *byte = value;
+        }
+    }
+    let stop = if case.disk == 0 {
+        None
+    } else {
+        Some(case.disk)
+    };
+    MemDisk::new(file, stop)
+}
+
+/// Before a run of the case over the file with these bytes.
+fn before(alloc: Global, case: &Case, file: Vec<u8>) -> Result<Ran, AllocError> {
     let out = sink(alloc, case.write, case.piece)?;
     let err = sink(alloc, case.tell, case.piece)?;
     Ok(Ran {
         status: 0,
         out,
         err,
+        disk: disk(case, file),
     })
 }
 
@@ -89,6 +108,7 @@ fn run<R: Threads + Wait + Sync + AllocGlobal, S: Source>(
         &mut ran.out,
         &mut ran.err,
         gate,
+        &mut ran.disk,
     );
     Ok(())
 }
@@ -144,7 +164,7 @@ fn is_text<R: Threads + Wait + Sync + AllocGlobal>(
         return Ok(true);
     }
     let mut audited = Case::audit(rt.alloc(), out)?;
-    let mut ran = before(rt.alloc(), &audited)?;
+    let mut ran = before(rt.alloc(), &audited, Vec::new(rt.alloc()))?;
     play(rt, &mut audited, &Meeting::new(false), &mut ran)?;
     Ok(ends_as_said(&audited, &ran) && prints_as_said(&audited, ran.out.bytes()))
 }
@@ -157,14 +177,17 @@ fn print_wrong<R: AllocGlobal + Print>(rt: &R, lines: &str, ran: &Ran) -> io::Re
     println!(rt; "{lines}\ncame to status {status}, and printed\n{out}and\n{err}")
 }
 
-/// Plays a case, and returns whether it came to what it says.
+/// Plays a case over the file with these bytes, which are then those that it left, and returns
+/// whether it came to what it says.
 fn come_as_said<R: Threads + Wait + Sync + AllocGlobal + Print>(
     rt: &R,
     lines: &str,
     case: &mut Case,
+    file: &mut Vec<u8>,
 ) -> io::Result<bool> {
     let gate = Meeting::new(case.meets);
-    let mut ran = before(rt.alloc(), case)?;
+    let bytes = mem::replace(file, Vec::new(rt.alloc()));
+    let mut ran = before(rt.alloc(), case, bytes)?;
     play(rt, case, &gate, &mut ran)?;
     let well = case.is_clear
         && gate.is_over()
@@ -174,11 +197,12 @@ fn come_as_said<R: Threads + Wait + Sync + AllocGlobal + Print>(
     if !well {
         print_wrong(rt, lines, &ran)?;
     }
+    file.extend_from_slice(ran.disk.bytes())?;
     Ok(well)
 }
 
-/// Plays the case of these lines with this number, and returns whether it came to what it says.
-/// What it came to otherwise is printed.
+/// Plays the runs of these lines with this number over one file, which is empty at first, and
+/// returns whether each came to what it says. What one came to otherwise is printed.
 pub fn plays_as_said<R: Threads + Wait + Sync + AllocGlobal + Print>(
     rt: &R,
     lines: &str,
@@ -186,6 +210,12 @@ pub fn plays_as_said<R: Threads + Wait + Sync + AllocGlobal + Print>(
 ) -> io::Result<bool> {
     let number = format!(in rt.alloc(); "{number}")?;
     let lines = lines.replace(rt.alloc(), "@", number.as_str())?;
-    let mut case = Case::read(rt.alloc(), lines.as_str())?;
-    come_as_said(rt, lines.as_str(), &mut case)
+    let mut file = Vec::new(rt.alloc());
+    for run in lines.as_str().split("\nthen\n") {
+        let mut case = Case::read(rt.alloc(), run)?;
+        if !come_as_said(rt, run, &mut case, &mut file)? {
+            return Ok(false);
+        }
+    }
+    Ok(true)
 }

@@ -1,9 +1,11 @@
-//! poolsim over the real streams.
+//! poolsim over the real streams and files.
 #![tactic(auto)]
 
 use np_cloud::OpenGate;
+use np_disk::FileDisk;
+use np_ending::{Ending, tell};
 use np_io::{StdSink, StdSource};
-use np_top::{Ending, poolsim, tell};
+use np_top::poolsim;
 use std::io::ErrorKind;
 use std::process::ExitCode;
 
@@ -26,6 +28,7 @@ fn main(rt: HostRuntime) -> ExitCode {
     let mut source = StdSource::new(rt.stdin());
     let mut out = StdSink::new(rt.stdout());
     let mut err = StdSink::new(rt.stderr());
+    let mut disk = FileDisk::new(&rt);
     let status = match words_of(&rt) {
         Err(ending) => tell(&mut out, &mut err, &ending),
         Ok(words) => poolsim(
@@ -36,6 +39,7 @@ fn main(rt: HostRuntime) -> ExitCode {
             &mut out,
             &mut err,
             &OpenGate,
+            &mut disk,
         ),
     };
     ExitCode::from(status)

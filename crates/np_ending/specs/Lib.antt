@@ -1,0 +1,4 @@
+pub mod Told
+pub mod Input
+pub mod Failures
+pub mod Lines

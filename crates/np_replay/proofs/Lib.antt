@@ -1,0 +1,4 @@
+pub mod Statuses
+pub mod KeepStatuses
+pub mod GoingOn
+pub mod ResumeStatuses

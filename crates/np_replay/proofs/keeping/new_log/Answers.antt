@@ -1,0 +1,9 @@
+use Rattle.std.proofs.Common.{length, ap, arith, ◌∙◌, ◌≡◌}
+use Rattle.np_config_text.specs.Canonical.{canonical}
+use Rattle.np_config_text.proofs.Short.{canonical-short}
+use Rattle.np_replay.proofs.keeping.new_log.Goals as goal
+
+pub create-requires : goal.create-requires
+create-requires g c =
+    let is : c.deref.result.now ≡ canonical c.args.config.now = c.deref.ensures.value ∙ c.in_ok-text.ensures.text in
+    omega (arith, ap length is, canonical-short c.args.config.now c.soundness.ensures)
