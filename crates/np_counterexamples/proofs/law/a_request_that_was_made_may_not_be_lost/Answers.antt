@@ -1,0 +1,22 @@
+use Rattle.std.proofs.Common.{refl}
+use Rattle.np_machine.specs.Kept.{EndsRequest}
+use Rattle.np_counterexamples.specs.Parts.{request}
+use Rattle.np_counterexamples.specs.Ends.{crashing, expiring}
+use Rattle.np_counterexamples.proofs.Cases.{neither, neither-of}
+use Rattle.np_counterexamples.proofs.law.a_request_that_was_made_may_not_be_lost.Goals as goal
+
+no-crash : EndsRequest (request 0) crashing → ⊥
+no-crash crash = let ends = crash.ends in absurd cc
+
+no-expiry : EndsRequest (request 0) expiring → ⊥
+no-expiry expiry = let ends = expiry.ends in absurd cc
+
+pub returns : goal.returns
+returns c = record {
+  job = λ kept. neither (kept.0 (request 0) refl);
+  min_ready = λ kept. neither (kept.0 (request 0) refl);
+  later = λ kept. neither (kept.1.0 (request 0) refl);
+  crash = λ kept. neither-of no-crash (kept.0 (request 0) refl);
+  expiry = λ kept. neither-of no-expiry (kept.0 (request 0) refl);
+  early = λ kept. neither (kept.1.0 (request 0) refl);
+}
