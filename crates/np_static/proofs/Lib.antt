@@ -1,0 +1,9 @@
+pub mod LoadLemmas
+pub mod Numbers
+pub mod Kept
+pub mod Launched
+pub mod Words
+pub mod Sites
+pub mod Sound
+pub mod Drivers
+pub mod First

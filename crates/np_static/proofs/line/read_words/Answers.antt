@@ -1,0 +1,9 @@
+use Rattle.std.proofs.Common.{sym, ap}
+use Rattle.std.specs.Option.{option_copied}
+use Rattle.np_static.proofs.Words.{more-after}
+use Rattle.np_static.proofs.line.read_words.Goals as goal
+
+pub returns-in-Some-rest-2 : goal.returns-in-Some-rest-2
+returns-in-Some-rest-2 c =
+    rw c.in-Some.is (sym (more-after c.args.pools c.in-Some.rest.now c.split_word.result.0.now c.in-Some-rest.rest.now c.split_word-2.result.0.now c.in-Some-rest-2.field-0.now
+    (option_copied c.split_word.result.1) (option_copied c.split_word-2.result.1) c.split_word.ensures (ap option_copied c.in-Some-rest.is) c.split_word-2.ensures (ap option_copied c.in-Some-rest-2.is)))

@@ -1,0 +1,82 @@
+-- the drivers of all pools, by host lines
+use Rattle.std.specs.Prelude.{◌≡◌, ◌==◌, ℕ, suc, nat_le, Bool, false, if◌then◌else◌, List, [], ◌∷◌, length, map, filter, sum, Option, Some, None, Result, Ok, Err}
+use Rattle.np_text.specs.Lines.{lines_of}
+use Rattle.np_text.specs.declared.id.PoolId.{PoolId}
+use Rattle.np_site.specs.Configuration.{Configuration}
+use Rattle.np_site.specs.declared.row.Pool.{Pool}
+use Rattle.np_event_lines.specs.Words.{words_of}
+use Rattle.np_event_lines.specs.declared.fault.LineFault.{LineFault}
+use Rattle.np_report.specs.Lines.{lines_read}
+use Rattle.np_report.specs.declared.lines.LinesFault.{LinesFault}
+use Rattle.np_report.specs.declared.lines.LinesFault.TheVariants as lines
+use Rattle.np_cloud.specs.Sim.{simulation_of}
+use Rattle.np_static.specs.declared.fault.HostsFault.{HostsFault}
+use Rattle.np_static.specs.declared.fault.HostsFault.TheVariants as fault
+use Rattle.np_static.specs.declared.limit.TheConstants.{HOSTS}
+use Rattle.np_static.specs.declared.line.HostLine.{HostLine}
+use Rattle.np_static.specs.Line.{host_in}
+use Rattle.np_static.specs.Hosting.{hosting_of}
+use Rattle.np_static.specs.Site.{Site, simulated, hosted}
+
+-- ## lines
+
+-- what a line says, where there are so many pools
+abbrev pub host_said : ℕ → List ℕ → Result HostLine LineFault
+host_said pools line = host_in pools (words_of line)
+
+-- the hosts of all lines, or the first line that is at fault or one too many (own)
+abbrev pub hosts_read : ℕ → List ℕ → Result (List HostLine) (LinesFault LineFault)
+hosts_read pools bytes = lines_read (host_said pools) HOSTS 1 (lines_of bytes)
+
+-- ## pools
+
+-- a line of this pool
+abbrev pub is_of : PoolId → HostLine → Bool
+is_of p line = line.pool.0 == p.0
+
+-- how many servers each host of the pool carries, in the order of its lines
+abbrev pub hosts_in : PoolId → List HostLine → List ℕ
+hosts_in p lines = map (λ line. line.servers) (filter (is_of p) lines)
+
+-- there is a largest number of servers, and room for so many (Nodepool: `max-servers`)
+abbrev pub is_room_for : Option ℕ → ℕ → Bool
+is_room_for None room = false
+is_room_for (Some most) room = nat_le most room
+
+-- the driver of a pool with this limit and these hosts, if they have room for all of its servers
+abbrev pub site_with : Configuration → PoolId → Option ℕ → List ℕ → Result Site HostsFault
+site_with c p limit [] = Ok (simulated (simulation_of c p))
+site_with c p limit (most ∷ hosts) =
+    if is_room_for limit (sum (most ∷ hosts)) then Ok (hosted (hosting_of p (most ∷ hosts))) else Err (fault.Room p (sum (most ∷ hosts)))
+
+-- the first fault, or the first driver before the later ones
+abbrev pub with_site : Result Site HostsFault → Result (List Site) HostsFault → Result (List Site) HostsFault
+with_site (Err why) later = Err why
+with_site (Ok site) (Err why) = Err why
+with_site (Ok site) (Ok sites) = Ok (site ∷ sites)
+
+-- the drivers of these pools, the first of which has the number n, or the first pool whose hosts lack room
+abbrev pub sites_from : Configuration → List HostLine → ℕ → List Pool → Result (List Site) HostsFault
+sites_from c lines n [] = Ok []
+sites_from c lines n (pool ∷ pools) =
+    let p : PoolId = record { 0 = n } in
+    with_site (site_with c p pool.limit.instances (hosts_in p lines)) (sites_from c lines (suc n) pools)
+
+-- ## all
+
+-- lines come before room
+abbrev pub sites_with : Configuration → Result (List HostLine) (LinesFault LineFault) → Result (List Site) HostsFault
+sites_with c (Err (lines.Line n why)) = Err (fault.Line n why)
+sites_with c (Err (lines.TooMany n)) = Err (fault.TooMany n)
+sites_with c (Ok hosts) = sites_from c hosts 0 c.pools
+
+-- the drivers of all pools by these host lines, or the first fault (own)
+abbrev pub hosts_of : Configuration → List ℕ → Result (List Site) HostsFault
+hosts_of c bytes = sites_with c (hosts_read (length c.pools) bytes)
+
+-- the fault is the one that is said, unless memory ran out (own)
+abbrev pub Tells : {A : Type 0} → Result A HostsFault → HostsFault → Type 0
+Tells said fault.NoMemory = Unit {0}
+Tells said (fault.Line n why) = said ≡ Err (fault.Line n why)
+Tells said (fault.TooMany n) = said ≡ Err (fault.TooMany n)
+Tells said (fault.Room p room) = said ≡ Err (fault.Room p room)
