@@ -33,7 +33,7 @@ deletion_by by = changing (ev.MarkDeleting by (node 0)) (allocated node_state.De
 abbrev pub removal_by : SessionId → Turn
 removal_by by = turn_to (record whole { nodes = [] }) (accepted (ev.Gone by (node 0)) done.Plain)
 
--- the end of its session deletes the node
+-- the expiry of session 1 deletes the node
 abbrev pub deleting_expiry : Turn
 deleting_expiry = changing (ev.Expire (session 1)) (allocated node_state.Deleting)
 

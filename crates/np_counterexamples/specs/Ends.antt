@@ -1,4 +1,4 @@
--- turns that make a request or a node, and turns that are no end of it
+-- turns that make a request or a node, turns that are no end of it, and turns that are
 use Rattle.std.specs.Prelude.{[], ◌∷◌, Some, None}
 use Rattle.np_text.specs.declared.word.RequestState.TheVariants as request_state
 use Rattle.np_event.specs.declared.event.Event.{Event}
@@ -9,7 +9,7 @@ use Rattle.np_machine.specs.State.{State}
 use Rattle.np_machine.specs.Turns.{Turn}
 use Rattle.np_counterexamples.specs.Parts.{session, node, job, request, accepted, refused, asked_for, held_request, whole, turn_to, turn_to_nothing}
 
--- the turn was accepted, with nothing to say, and leaves nothing of the whole state
+-- the event is accepted, and nothing of the whole state is left
 abbrev pub clearing : Event → Turn
 clearing event = turn_to_nothing (accepted event done.Plain)
 
