@@ -92,10 +92,10 @@ impl Driver for HostDriver {
     /// grow with the servers, but the list of what was launched so far moves now and then as it
     /// grows.
     fn launch(&mut self, tag: Tag) -> Result<u64, LaunchFault>
-        ensures outcome { HasOutcome (hosted_outcome (hosting self.old)) self.old.inventory tag
-            result self.new.inventory }
+        ensures outcome { HasOutcome (hosted_outcome (hosting self.old)) (hosting self.old).told
+            tag result (hosting self.new).told }
         ensures fixed { hosting self.new
-            ≡ record (hosting self.old) { told = self.new.inventory } }
+            ≡ record (hosting self.old) { told = (hosting self.new).told } }
         ensures full { FailsOnlyFull (host_facts self.old) (host_room self.old) result }
         ensures counts { KeepsCounts (host_facts self.old) (host_facts self.new) }
     {
@@ -115,7 +115,7 @@ impl Driver for HostDriver {
     fn remove(&mut self, number: u64) -> Result<(), RemoveFailed>
         ensures ok { IsOk result }
         ensures removal { hosting self.new ≡ record (hosting self.old)
-            { told = after_removal self.old.inventory number } }
+            { told = after_removal (hosting self.old).told number } }
     {
         let before = self.inventory.server_count();
         self.inventory.remove(number);
@@ -131,7 +131,7 @@ impl Driver for HostDriver {
 
     /// Takes constant time.
     fn server(&self, at: u32) -> Option<Server>
-        ensures { result ≡ slice_get self.now.inventory.servers at }
+        ensures { result ≡ slice_get (hosting self.now).told.servers at }
     {
         self.inventory.server(at)
     }

@@ -1,6 +1,6 @@
 //! The drivers of all pools, by host lines.
 
-ghost use Rattle.std.specs.Prelude.{◌≡◌, ◌≤◌, ◌-◌, length, map, sum, take, drop, IfOk, MatchResult};
+ghost use Rattle.std.specs.Prelude.{◌≡◌, ◌≤◌, length, map, sum, IfOk, MatchResult};
 ghost use Rattle.np_static.specs.Read.{Tells, hosts_in, hosts_of, hosts_read, is_room_for, site_with, sites_from};
 ghost use Rattle.np_static.specs.Site.{site_of};
 
@@ -16,15 +16,6 @@ use np_lists::Items;
 use np_report::LinesFault;
 use np_text::{NoMemory, PoolId, line_at};
 use std::alloc::Global;
-
-/// The bytes between two places.
-fn between(bytes: &[u8], start: usize, end: usize) -> &[u8]
-    requires { (start ≤ end) × (end ≤ length bytes.now) }
-    ensures { result.now ≡ take (end - start) (drop start bytes.now) }
-{
-    let (_, rest) = bytes.split_at(start);
-    rest.split_at(end - start).0
-}
 
 /// The hosts of all lines, or the first line that is at fault or one too many, where there are so
 /// many pools. The last line may lack its newline.
@@ -42,7 +33,7 @@ fn read_lines(
         if HOSTS < u64::from(line) {
             return Ok(Err(LinesFault::TooMany { line }));
         }
-        match read_host(between(bytes, start, end), pools) {
+        match read_host(&bytes[start..end], pools) {
             Ok(host) => read.push(host)?,
             Err(fault) => return Ok(Err(LinesFault::Line { line, fault })),
         }

@@ -25,7 +25,7 @@ returns-in-Err c =
     let walk = (lines_of-walk text c.loop-start.from c.in-Some.start c.in-Some.end c.loop-start.invariant.within here).1 in
     let few : c.loop-start.line ≤ 1024 = omega (arith, c.if-from-gt-HOSTS.false, c.from.ensures) in
     let told : said (take (c.in-Some.end - c.in-Some.start) (drop c.in-Some.start text)) ≡ Err c.in-Err.fault
-    = ap said (sym c.between.ensures) ∙ sym c.read_host.ensures ∙ c.in-Err.is in
+    = sym c.read_host.ensures ∙ c.in-Err.is in
     sym (lines_read-fault said 1024 c.loop-start.read.items c.loop-start.line (take (c.in-Some.end - c.in-Some.start) (drop c.in-Some.start text)) (lines_of (drop (c.in-Some.end + 1) text)) c.in-Err.fault few told)
     ∙ sym (ap (λ (lines : List (List ℕ)). read_before c.loop-start.read.items (lines_read said 1024 c.loop-start.line lines)) walk)
     ∙ c.loop-start.invariant.said
@@ -38,7 +38,7 @@ loop-start-preserved c =
     let walk = (lines_of-walk text c.loop-start.from c.in-Some.start c.in-Some.end c.loop-start.invariant.within here).1 in
     let few : c.loop-start.line ≤ 1024 = omega (arith, c.if-from-gt-HOSTS.false, c.from.ensures) in
     let told : said (take (c.in-Some.end - c.in-Some.start) (drop c.in-Some.start text)) ≡ Ok c.in-Ok.host
-    = ap said (sym c.between.ensures) ∙ sym c.read_host.ensures ∙ c.in-Ok.is in
+    = sym c.read_host.ensures ∙ c.in-Ok.is in
     let more = c.in_ok-push-in-Ok.ensures.items in
     let next : lines_of (drop c.min-from.result text) ≡ lines_of (drop (c.in-Some.end + 1) text)
     = ap (λ (n : ℕ). lines_of (drop n text)) c.min-from.ensures ∙ ap lines_of (drop_min (c.in-Some.end + 1) text) in
