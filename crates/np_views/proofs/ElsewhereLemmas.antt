@@ -30,7 +30,7 @@ use Rattle.np_views.specs.Views.{Row, row_of, rows_at}
 use Rattle.np_views.proofs.RelationLemmas.{child-line, creates-show, creates-under-show, deletes-show}
 use Rattle.np_views.proofs.RowLemmas.{rows-changed_other, rows-child, rows-other, rows_in}
 
-done-of : (r : Result OpDone TreeRefusal) → IsOk r → (d : OpDone) × (r ≡ Ok d)
+pub done-of : (r : Result OpDone TreeRefusal) → IsOk r → (d : OpDone) × (r ≡ Ok d)
 done-of (Ok d) ok = (d, refl)
 done-of (Err refusal) ok = absurd cc
 

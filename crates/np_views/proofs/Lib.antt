@@ -7,3 +7,6 @@ pub mod SeveralLemmas
 pub mod RoomLemmas
 pub mod ClearLemmas
 pub mod ElsewhereLemmas
+pub mod DateLemmas
+pub mod LaterLemmas
+pub mod FreshLemmas

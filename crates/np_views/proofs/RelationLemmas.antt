@@ -46,7 +46,7 @@ use Rattle.np_views.proofs.FindLemmas.{at_path-filter, find-filter_gone, find-fi
 use Rattle.np_views.proofs.RowLemmas.{rows-changed, rows-changed_other, rows-ended, rows-gone, rows-gone_other, rows-more, rows-more_other, rows-touch, rows_in}
 use Rattle.np_views.proofs.SiblingLemmas.{above-child, at-child, named-at, other-child}
 
-some_same : {A : Type 0} {x y : A} → Some x ≡ Some y → x ≡ y
+pub some_same : {A : Type 0} {x y : A} → Some x ≡ Some y → x ≡ y
 some_same e = cc
 
 -- ## if there is no node at a path, there is none below it
@@ -289,7 +289,7 @@ counter-kept session f (Some n) seen keeps is free =
     let other : is_owned session n ≡ false = ap (λ (s : Seen). is_owner session s.owner) same ∙ free in
     ap (λ (b : Bool). option_map (λ (m : Node). m.facts.counter) (option_map f (cond (not b) (Some n) None))) other ∙ ap Some (keeps n)
 
-at_path-ended : (z session : ℕ) (nodes : List Node) (path : List ℕ) → IsSorted nodes → at_path (nodes_after_end z session nodes) path ≡ option_map (after_loss nodes z session) (kept_by (λ n. not (is_owned session n)) (at_path nodes path))
+pub at_path-ended : (z session : ℕ) (nodes : List Node) (path : List ℕ) → IsSorted nodes → at_path (nodes_after_end z session nodes) path ≡ option_map (after_loss nodes z session) (kept_by (λ n. not (is_owned session n)) (at_path nodes path))
 at_path-ended z session nodes path sorted =
     find-map (is_at path) (after_loss nodes z session) (λ _. refl) (filter (λ n. not (is_owned session n)) nodes)
     ∙ ap (option_map (after_loss nodes z session)) (at_path-filter path (λ n. not (is_owned session n)) nodes sorted)

@@ -2,3 +2,4 @@ pub mod Views
 pub mod Relations
 pub mod Goes
 pub mod Several
+pub mod Dates

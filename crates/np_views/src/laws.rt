@@ -1,5 +1,6 @@
 //! Laws of what a tree shows. Each function does nothing: its contract is the law.
 
+ghost use Rattle.np_views.specs.Dates.{BeginsLater, CallsLater, EndsLater, FreshListed, FreshSeen, LaterJoined, LaterThanItself, RaisesLater, ReservesLater, UndatedBytesAreNotLater, UndatedLossIsNotLater};
 ghost use Rattle.np_views.specs.Goes.{ChecksGo, CreatesGo, CreatesUnderGo, DeletesGo, SetsGo};
 ghost use Rattle.np_views.specs.Relations.{CreatesAnswer, CreatesShow, CreatesUnderShow, DeletesShow, EndsShow, NothingBelowNothing, PartsChangeNodesAlone, RaisesShow, RowsRise, SeenIsRow, SetsShow};
 ghost use Rattle.np_views.specs.Several.{AnsweredGoes, ChecksLeaveTheTree, ClearsEmpty, ClearsGo, Elsewhere, GoesAfter, GoesAnswered, GoesEmpty, GoesFront, GoesJoined, GoesUnderOneNumber, GoesUnrefused, GoesWhole, PathsAreTheirParts, RoomFalls, RoomGives};
@@ -115,4 +116,35 @@ pub fn clears()
 /// A path below a directory determines its directory and its name.
 pub fn paths_are_their_parts()
     ensures { PathsAreTheirParts }
+{}
+
+/// A tree is later than itself, and what is later than a later tree is later.
+pub fn later_is_an_order()
+    ensures itself { LaterThanItself }
+    ensures joined { LaterJoined }
+{}
+
+/// Each call leaves a later tree: a session that begins, is reserved or ends, a counter that is
+/// raised, and a `multi` of parts that are accepted.
+pub fn calls_leave_later_trees()
+    ensures reserves { ReservesLater }
+    ensures begins { BeginsLater }
+    ensures raises { RaisesLater }
+    ensures ends { EndsLater }
+    ensures multi { CallsLater }
+{}
+
+/// If a node and its directory are from a change up to a number, an earlier tree that has all that
+/// is from then shows the same: the node, or that there is none, and the names and owners in its
+/// directory.
+pub fn fresh_is_what_was_seen()
+    ensures seen { FreshSeen }
+    ensures listed { FreshListed }
+{}
+
+/// A tree whose node has other bytes, or whose directory lost a child, is not later if the dates
+/// stayed, whatever its last change number is.
+pub fn undated_changes_are_not_later()
+    ensures bytes { UndatedBytesAreNotLater }
+    ensures loss { UndatedLossIsNotLater }
 {}
