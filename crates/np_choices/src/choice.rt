@@ -10,17 +10,17 @@ use np_event::Event;
 use np_janitor::{choose_janitor, choose_reaper};
 use np_jobs::choose_requester;
 use np_launch::choose_launcher;
-use np_look::Look;
+use np_look::{Look, Rows};
 use np_text::Role;
 
 /// Whether the role is in the configuration, or is the reaper.
-pub fn takes_part<L: Look>(look: &L, role: Role) -> bool
-    ensures { result ≡ takes_part (L.site look.now) role }
+pub fn takes_part<R: Rows>(rows: &R, role: Role) -> bool
+    ensures { result ≡ takes_part (R.site rows.now) role }
 {
     match role {
-        Role::Launcher(pool) => look.config().pool(pool).is_some(),
-        Role::Janitor(pool) => look.config().pool(pool).is_some(),
-        Role::Requester(requester) => look.config().requester(requester).is_some(),
+        Role::Launcher(pool) => rows.config().pool(pool).is_some(),
+        Role::Janitor(pool) => rows.config().pool(pool).is_some(),
+        Role::Requester(requester) => rows.config().requester(requester).is_some(),
         Role::Reaper => true,
     }
 }
@@ -34,7 +34,7 @@ pub fn choose<L: Look>(look: &L, role: Role) -> Option<Event>
     requires fits { Fits (L.site look.now) (L.state look.now) }
     ensures { Chooses (L.site look.now) (L.state look.now) role result }
 {
-    if !takes_part(look, role) {
+    if !takes_part(look.rows(), role) {
         return None;
     }
     match role {

@@ -7,7 +7,7 @@ ghost use Rattle.np_useful.specs.Settled.{IsSettled};
 ghost use Rattle.np_choices.specs.Idle.{IsIdle, IsPoolIdle, ArePoolsIdle, AreRequestersIdle};
 
 use crate::choice::choose;
-use np_look::Look;
+use np_look::{Look, Rows};
 use np_text::{POOLS, PoolId, REQUESTERS, RequesterId, Role};
 
 /// Whether the role has no useful event.
@@ -63,6 +63,6 @@ pub fn is_settled<L: Look>(look: &L) -> bool
     requires fits { Fits (L.site look.now) (L.state look.now) }
     ensures { (result ≡ true) ↔ IsSettled (L.site look.now) (L.state look.now) }
 {
-    look.config().soundness();
+    look.rows().config().soundness();
     are_pools_idle(look) && are_requesters_idle(look) && is_idle(look, Role::Reaper)
 }

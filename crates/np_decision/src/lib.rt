@@ -1,14 +1,15 @@
 //! The decision: the answer to each event and what it changes, once for every representation of the
 //! state.
 //!
-//! The rows, one function for each event, read the state through np_look's `Look`. They return a
-//! refusal or a `Verdict`: the answer to the event, and its `Changes`, which are np_changes' plan
-//! of it. A `StateKeeper` keeps a state and makes the changes, and `step` is one step of the
-//! machine over it.
+//! `decide` has one function for each event, a row of the machine's table. It reads the state
+//! through np_look: most rows read `Rows` alone, and those that ask what a pool or a tenant uses,
+//! which request is first or who has a node search by a `Look`. A row returns a refusal or a
+//! `Verdict`: the answer to the event, and its `Changes`, which are np_changes' plan of it. Nothing
+//! here keeps a state or makes the changes. `specs/Queues` says which queues a session leaves that
+//! ends, for whoever makes them.
 #![tactic(auto)]
 
 mod decision;
-mod keeper;
 mod node;
 mod request;
 mod semaphore;
@@ -17,7 +18,6 @@ mod tests;
 mod verdict;
 
 pub use decision::decide;
-pub use keeper::{StateKeeper, step};
 pub use node::{
     decide_create, decide_done, decide_end_node, decide_free_node, decide_gone, decide_lock_node,
     decide_mark_deleting, decide_start, decide_sweep, decide_take_ready, decide_unlock_node,

@@ -21,39 +21,39 @@ use np_changes::{
     Asked, Changes, Deed, Growth, JobsChange, NodesChange, RequestEdit, RequestsChange,
 };
 use np_event::{Done, Outcome, Refusal};
-use np_look::Look;
+use np_look::{Look, Rows, ahead_at_node, node_holder, waits_at_node};
 use np_record::NodeRecord;
 use np_text::{
     EndAs, JobId, LabelId, NodeId, NodeState, PoolId, RequestId, RequesterId, Role, SessionId,
 };
 
 /// The node is given to the request, for the tenant of its job.
-fn allocate<L: Look>(look: &L, node: NodeId, request: RequestId, asked: &Asked) -> Growth
-    ensures { result ≡ Allocate node request (tenant_of_job (L.site look.now) asked.now.job) }
+fn allocate<R: Rows>(rows: &R, node: NodeId, request: RequestId, asked: &Asked) -> Growth
+    ensures { result ≡ Allocate node request (tenant_of_job (R.site rows.now) asked.now.job) }
 {
     Growth::Allocate {
         node,
         request,
-        tenant: tenant_of_job(look, asked.job),
+        tenant: tenant_of_job(rows, asked.job),
     }
 }
 
 /// The launcher gives a ready node to the request, for the tenant of its job.
-pub fn decide_take_ready<L: Look>(
-    look: &L,
+pub fn decide_take_ready<R: Rows>(
+    rows: &R,
     session: SessionId,
     request: RequestId,
     node: NodeId,
 ) -> Result<Verdict, Refusal>
-    ensures answer { answer_of result ≡ judge_take_ready (L.state look.now) session request node }
+    ensures answer { answer_of result ≡ judge_take_ready (R.state rows.now) session request node }
     ensures changes { IfOk result (λ v. v.changes ≡
-        plan_take_ready (L.site look.now) (L.state look.now) session request node) }
+        plan_take_ready (R.site rows.now) (R.state rows.now) session request node) }
 {
-    let pool = launcher(look, session)?;
-    let asked = request_at(look, request)?;
-    let kept = node_at(look, node)?;
-    by_registrant(look, pool, session)?;
-    by_request_holder(look, request, session)?;
+    let pool = launcher(rows, session)?;
+    let asked = request_at(rows, request)?;
+    let kept = node_at(rows, node)?;
+    by_registrant(rows, pool, session)?;
+    by_request_holder(rows, request, session)?;
     if !is_pending_by(pool, &asked) {
         return Err(wrong_request(&asked));
     }
@@ -72,13 +72,13 @@ pub fn decide_take_ready<L: Look>(
     if kept.pool.0 != pool.0 || kept.label.0 != label.0 {
         return Err(Refusal::NoLabel(label));
     }
-    if let Some(holder) = look.node_holder(node) {
+    if let Some(holder) = node_holder(rows, node) {
         return Err(Refusal::Busy(holder));
     }
     Ok(Verdict {
         done: Done::Held,
         changes: Changes {
-            grows: allocate(look, node, request, &asked),
+            grows: allocate(rows, node, request, &asked),
             requests: RequestsChange::Edit {
                 request,
                 edit: RequestEdit::AddNode { node },
@@ -89,15 +89,15 @@ pub fn decide_take_ready<L: Look>(
 }
 
 /// A node that nobody has launched yet, for the tenant of the request's job.
-fn new_node<L: Look>(
-    look: &L,
+fn new_node<R: Rows>(
+    rows: &R,
     request: RequestId,
     pool: PoolId,
     asked: &Asked,
     label: LabelId,
 ) -> NodeRecord
     ensures { result ≡
-        new_node (L.site look.now) (L.state look.now) request pool (new_record asked.now) label }
+        new_node (R.site rows.now) (R.state rows.now) request pool (new_record asked.now) label }
 {
     NodeRecord {
         allocated_to: Some(request),
@@ -106,10 +106,10 @@ fn new_node<L: Look>(
         label,
         pool,
         server: None,
-        since: look.tick(),
+        since: rows.tick(),
         start: 0,
         state: NodeState::Building,
-        tenant: tenant_of_job(look, asked.job),
+        tenant: tenant_of_job(rows, asked.job),
     }
 }
 
@@ -125,10 +125,11 @@ pub fn decide_create<L: Look>(
     ensures changes { IfOk result (λ v. v.changes ≡
         plan_create (L.site look.now) (L.state look.now) session request) }
 {
-    let pool = launcher(look, session)?;
-    let asked = request_at(look, request)?;
-    by_registrant(look, pool, session)?;
-    by_request_holder(look, request, session)?;
+    let rows = look.rows();
+    let pool = launcher(rows, session)?;
+    let asked = request_at(rows, request)?;
+    by_registrant(rows, pool, session)?;
+    by_request_holder(rows, request, session)?;
     if !is_pending_by(pool, &asked) {
         return Err(wrong_request(&asked));
     }
@@ -136,12 +137,12 @@ pub fn decide_create<L: Look>(
         return Err(wrong_request(&asked));
     };
     has_room(look, pool, label)?;
-    let node = NodeId(look.next_node());
+    let node = NodeId(rows.next_node());
     Ok(Verdict {
         done: Done::Node(node),
         changes: Changes {
             grows: Growth::Node {
-                kept: new_node(look, request, pool, &asked, label),
+                kept: new_node(rows, request, pool, &asked, label),
             },
             requests: RequestsChange::Edit {
                 request,
@@ -153,32 +154,32 @@ pub fn decide_create<L: Look>(
 }
 
 /// How many launches the pool has started.
-fn starts_of<L: Look>(look: &L, pool: PoolId) -> u32
-    requires { Fits (L.site look.now) (L.state look.now) }
-    ensures starts { result ≡ starts_of pool (L.state look.now) }
+fn starts_of<R: Rows>(rows: &R, pool: PoolId) -> u32
+    requires { Fits (R.site rows.now) (R.state rows.now) }
+    ensures starts { result ≡ starts_of pool (R.state rows.now) }
     ensures few { result ≤ 262144 }
 {
-    match look.role(Role::Launcher(pool)) {
+    match rows.role(Role::Launcher(pool)) {
         None => 0,
         Some(deeds) => deeds.starts,
     }
 }
 
 /// The launcher begins an attempt to launch the node.
-pub fn decide_start<L: Look>(look: &L, session: SessionId, node: NodeId) -> Result<Verdict, Refusal>
-    requires { Fits (L.site look.now) (L.state look.now) }
-    ensures answer { answer_of result ≡ judge_start (L.state look.now) session node }
-    ensures changes { IfOk result (λ v. v.changes ≡ plan_start (L.state look.now) session node) }
+pub fn decide_start<R: Rows>(rows: &R, session: SessionId, node: NodeId) -> Result<Verdict, Refusal>
+    requires { Fits (R.site rows.now) (R.state rows.now) }
+    ensures answer { answer_of result ≡ judge_start (R.state rows.now) session node }
+    ensures changes { IfOk result (λ v. v.changes ≡ plan_start (R.state rows.now) session node) }
 {
-    let pool = launcher(look, session)?;
-    let kept = node_at(look, node)?;
+    let pool = launcher(rows, session)?;
+    let kept = node_at(rows, node)?;
     of_pool(pool, &kept)?;
-    by_node_holder(look, node, session)?;
+    by_node_holder(rows, node, session)?;
     if kept.state != NodeState::Building || kept.in_flight {
         return Err(wrong_node(&kept));
     }
     let attempts = kept.attempts + 1;
-    let start = starts_of(look, pool) + 1;
+    let start = starts_of(rows, pool) + 1;
     Ok(Verdict {
         done: Done::Started {
             attempt: attempts,
@@ -236,28 +237,28 @@ fn launched(retries: u8, tick: u32, outcome: Outcome, node: &NodeRecord) -> Node
     }
 }
 
-fn retries<L: Look>(look: &L, pool: PoolId) -> u8
-    ensures { result ≡ retries_of (L.site look.now) pool }
+fn retries<R: Rows>(rows: &R, pool: PoolId) -> u8
+    ensures { result ≡ retries_of (R.site rows.now) pool }
 {
-    np_look::retries(look.config(), pool)
+    np_look::retries(rows.config(), pool)
 }
 
 /// The launcher reports the outcome of the launch.
-pub fn decide_done<L: Look>(
-    look: &L,
+pub fn decide_done<R: Rows>(
+    rows: &R,
     session: SessionId,
     node: NodeId,
     attempt: u8,
     outcome: Outcome,
 ) -> Result<Verdict, Refusal>
-    ensures answer { answer_of result ≡ judge_done (L.state look.now) session node attempt }
+    ensures answer { answer_of result ≡ judge_done (R.state rows.now) session node attempt }
     ensures changes { IfOk result (λ v. v.changes ≡
-        plan_done (L.site look.now) (L.state look.now) session node outcome) }
+        plan_done (R.site rows.now) (R.state rows.now) session node outcome) }
 {
-    let pool = launcher(look, session)?;
-    let kept = node_at(look, node)?;
+    let pool = launcher(rows, session)?;
+    let kept = node_at(rows, node)?;
     of_pool(pool, &kept)?;
-    by_node_holder(look, node, session)?;
+    by_node_holder(rows, node, session)?;
     if !kept.in_flight {
         return Err(wrong_node(&kept));
     }
@@ -269,7 +270,7 @@ pub fn decide_done<L: Look>(
         changes: Changes {
             nodes: NodesChange::Put {
                 node,
-                kept: launched(retries(look, kept.pool), look.tick(), outcome, &kept),
+                kept: launched(retries(rows, kept.pool), rows.tick(), outcome, &kept),
             },
             ..made_by(session, Role::Launcher(pool))
         },
@@ -288,20 +289,20 @@ fn place_reply(ahead: u32) -> Done
 }
 
 /// The maker joins the node's queue.
-pub fn decide_lock_node<L: Look>(
-    look: &L,
+pub fn decide_lock_node<R: Rows>(
+    rows: &R,
     session: SessionId,
     node: NodeId,
 ) -> Result<Verdict, Refusal>
-    requires { Fits (L.site look.now) (L.state look.now) }
-    ensures answer { answer_of result ≡ judge_lock_node (L.state look.now) session node }
+    requires { Fits (R.site rows.now) (R.state rows.now) }
+    ensures answer { answer_of result ≡ judge_lock_node (R.state rows.now) session node }
     ensures changes { IfOk result (λ v. v.changes ≡
-        plan_lock_node (L.state look.now) session node) }
+        plan_lock_node (R.state rows.now) session node) }
 {
-    let role = maker(look, session)?;
-    node_at(look, node)?;
+    let role = maker(rows, session)?;
+    node_at(rows, node)?;
     Ok(Verdict {
-        done: place_reply(look.ahead_at_node(session, node)),
+        done: place_reply(ahead_at_node(rows, session, node)),
         changes: Changes {
             grows: Growth::JoinNode { node },
             ..made_by(session, role)
@@ -310,19 +311,19 @@ pub fn decide_lock_node<L: Look>(
 }
 
 /// The maker leaves the node's queue.
-pub fn decide_unlock_node<L: Look>(
-    look: &L,
+pub fn decide_unlock_node<R: Rows>(
+    rows: &R,
     session: SessionId,
     node: NodeId,
 ) -> Result<Verdict, Refusal>
-    requires { Fits (L.site look.now) (L.state look.now) }
-    ensures answer { answer_of result ≡ judge_unlock_node (L.state look.now) session node }
+    requires { Fits (R.site rows.now) (R.state rows.now) }
+    ensures answer { answer_of result ≡ judge_unlock_node (R.state rows.now) session node }
     ensures changes { IfOk result (λ v. v.changes ≡
-        plan_unlock_node (L.state look.now) session node) }
+        plan_unlock_node (R.state rows.now) session node) }
 {
-    let role = maker(look, session)?;
-    node_at(look, node)?;
-    if !look.waits_at_node(session, node) {
+    let role = maker(rows, session)?;
+    node_at(rows, node)?;
+    if !waits_at_node(rows, session, node) {
         return Err(Refusal::NotHeld);
     }
     Ok(Verdict {
@@ -344,14 +345,14 @@ fn ended_as(end: EndAs) -> NodeState
 }
 
 /// Whether the job is there, and the requester's.
-fn is_own<L: Look>(look: &L, requester: RequesterId, job: Option<JobId>) -> bool
+fn is_own<R: Rows>(rows: &R, requester: RequesterId, job: Option<JobId>) -> bool
     ensures { result ≡
-        is_own requester (option_and_then (λ j. slice_get (L.site look.now).jobs j.0) job) }
+        is_own requester (option_and_then (λ j. slice_get (R.site rows.now).jobs j.0) job) }
 {
     let Some(job) = job else {
         return false;
     };
-    match look.config().job(job) {
+    match rows.config().job(job) {
         None => false,
         Some(row) => row.requester.0 == requester.0,
     }
@@ -380,14 +381,15 @@ pub fn decide_end_node<L: Look>(
     ensures changes { IfOk result (λ v. v.changes ≡
         plan_end_node (L.state look.now) session node end) }
 {
-    let own = requester(look, session)?;
-    let kept = node_at(look, node)?;
-    by_node_holder(look, node, session)?;
+    let rows = look.rows();
+    let own = requester(rows, session)?;
+    let kept = node_at(rows, node)?;
+    by_node_holder(rows, node, session)?;
     if kept.state != NodeState::InUse {
         return Err(wrong_node(&kept));
     }
     let job = look.owner(node);
-    if !is_own(look, own, job) {
+    if !is_own(rows, own, job) {
         return Err(Refusal::NotOwner);
     }
     Ok(Verdict {
@@ -396,7 +398,7 @@ pub fn decide_end_node<L: Look>(
             nodes: NodesChange::Put {
                 node,
                 kept: NodeRecord {
-                    since: look.tick(),
+                    since: rows.tick(),
                     state: ended_as(end),
                     ..kept
                 },
@@ -422,16 +424,16 @@ fn due_tick(age: u32, since: u32) -> u32
     if age == 0 { 0 } else { since + age + 1 }
 }
 
-fn max_hold_age<L: Look>(look: &L) -> u32
-    ensures { result ≡ (L.site look.now).max_hold_age }
+fn max_hold_age<R: Rows>(rows: &R) -> u32
+    ensures { result ≡ (R.site rows.now).max_hold_age }
 {
-    look.config().max_hold_age()
+    rows.config().max_hold_age()
 }
 
-fn ready_age<L: Look>(look: &L, label: LabelId) -> u32
-    ensures { result ≡ ready_age (L.site look.now) label }
+fn ready_age<R: Rows>(rows: &R, label: LabelId) -> u32
+    ensures { result ≡ ready_age (R.site rows.now) label }
 {
-    np_look::ready_age(look.config(), label)
+    np_look::ready_age(rows.config(), label)
 }
 
 /// Whether a node may be given up: a ready one if nobody has it and it is old or its pool is
@@ -441,12 +443,13 @@ fn may_delete<L: Look>(look: &L, node: &NodeRecord) -> Result<(), Refusal>
     requires since { node.now.since ≤ 262144 }
     ensures { result ≡ may_delete (L.site look.now) (L.state look.now) node.now node.now.state }
 {
+    let rows = look.rows();
     match node.state {
         NodeState::Building | NodeState::InUse | NodeState::Used | NodeState::Failed => Ok(()),
         NodeState::Deleting => Err(wrong_node(node)),
         NodeState::Hold => {
-            let age = max_hold_age(look);
-            if is_past(age, node.since, look.tick()) {
+            let age = max_hold_age(rows);
+            if is_past(age, node.since, rows.tick()) {
                 return Ok(());
             }
             Err(Refusal::NotDue(due_tick(age, node.since)))
@@ -455,8 +458,8 @@ fn may_delete<L: Look>(look: &L, node: &NodeRecord) -> Result<(), Refusal>
             if let Some(request) = node.allocated_to {
                 return Err(Refusal::Allocated(request));
             }
-            let age = ready_age(look, node.label);
-            if is_past(age, node.since, look.tick()) || look.is_paused(node.pool) {
+            let age = ready_age(rows, node.label);
+            if is_past(age, node.since, rows.tick()) || look.is_paused(node.pool) {
                 return Ok(());
             }
             Err(Refusal::NotDue(due_tick(age, node.since)))
@@ -476,9 +479,10 @@ pub fn decide_mark_deleting<L: Look>(
     ensures changes { IfOk result (λ v. v.changes ≡
         plan_mark_deleting (L.state look.now) session node) }
 {
-    let pool = janitor(look, session)?;
-    let kept = node_at(look, node)?;
-    by_node_holder(look, node, session)?;
+    let rows = look.rows();
+    let pool = janitor(rows, session)?;
+    let kept = node_at(rows, node)?;
+    by_node_holder(rows, node, session)?;
     may_delete(look, &kept)?;
     Ok(Verdict {
         done: Done::Plain,
@@ -497,13 +501,13 @@ pub fn decide_mark_deleting<L: Look>(
 }
 
 /// The node's record is removed.
-pub fn decide_gone<L: Look>(look: &L, session: SessionId, node: NodeId) -> Result<Verdict, Refusal>
-    ensures answer { answer_of result ≡ judge_gone (L.state look.now) session node }
-    ensures changes { IfOk result (λ v. v.changes ≡ plan_gone (L.state look.now) session node) }
+pub fn decide_gone<R: Rows>(rows: &R, session: SessionId, node: NodeId) -> Result<Verdict, Refusal>
+    ensures answer { answer_of result ≡ judge_gone (R.state rows.now) session node }
+    ensures changes { IfOk result (λ v. v.changes ≡ plan_gone (R.state rows.now) session node) }
 {
-    let pool = janitor(look, session)?;
-    let kept = node_at(look, node)?;
-    by_node_holder(look, node, session)?;
+    let pool = janitor(rows, session)?;
+    let kept = node_at(rows, node)?;
+    by_node_holder(rows, node, session)?;
     if kept.state != NodeState::Deleting {
         return Err(wrong_node(&kept));
     }
@@ -517,33 +521,33 @@ pub fn decide_gone<L: Look>(look: &L, session: SessionId, node: NodeId) -> Resul
 }
 
 /// The request, if it is there.
-fn standing<L: Look>(look: &L, found: Option<RequestId>) -> Option<RequestId>
-    ensures { result ≡ standing (L.state look.now) found }
+fn standing<R: Rows>(rows: &R, found: Option<RequestId>) -> Option<RequestId>
+    ensures { result ≡ standing (R.state rows.now) found }
 {
     let request = found?;
-    match look.asked(request) {
+    match rows.asked(request) {
         None => None,
         Some(_) => Some(request),
     }
 }
 
 /// The janitor frees a ready node whose request is gone.
-pub fn decide_free_node<L: Look>(
-    look: &L,
+pub fn decide_free_node<R: Rows>(
+    rows: &R,
     session: SessionId,
     node: NodeId,
 ) -> Result<Verdict, Refusal>
-    ensures answer { answer_of result ≡ judge_free_node (L.state look.now) session node }
+    ensures answer { answer_of result ≡ judge_free_node (R.state rows.now) session node }
     ensures changes { IfOk result (λ v. v.changes ≡
-        plan_free_node (L.state look.now) session node) }
+        plan_free_node (R.state rows.now) session node) }
 {
-    let pool = janitor(look, session)?;
-    let kept = node_at(look, node)?;
-    by_node_holder(look, node, session)?;
+    let pool = janitor(rows, session)?;
+    let kept = node_at(rows, node)?;
+    by_node_holder(rows, node, session)?;
     if kept.state != NodeState::Ready || kept.allocated_to.is_none() {
         return Err(wrong_node(&kept));
     }
-    if let Some(request) = standing(look, kept.allocated_to) {
+    if let Some(request) = standing(rows, kept.allocated_to) {
         return Err(Refusal::Allocated(request));
     }
     Ok(Verdict {
@@ -572,29 +576,29 @@ fn is_server(server: u64, found: Option<u64>) -> bool
 }
 
 /// Whether the node is there, and building or with this server.
-fn is_wanted<L: Look>(look: &L, node: NodeId, server: u64) -> bool
-    ensures { result ≡ is_wanted (L.state look.now) node server }
+fn is_wanted<R: Rows>(rows: &R, node: NodeId, server: u64) -> bool
+    ensures { result ≡ is_wanted (R.state rows.now) node server }
 {
-    match look.node(node) {
+    match rows.node(node) {
         None => false,
         Some(kept) => kept.state == NodeState::Building || is_server(server, kept.server),
     }
 }
 
 /// The janitor asks whether a server of its cloud is still wanted.
-pub fn decide_sweep<L: Look>(
-    look: &L,
+pub fn decide_sweep<R: Rows>(
+    rows: &R,
     session: SessionId,
     node: NodeId,
     server: u64,
 ) -> Result<Verdict, Refusal>
-    ensures answer { answer_of result ≡ judge_sweep (L.state look.now) session node server }
+    ensures answer { answer_of result ≡ judge_sweep (R.state rows.now) session node server }
     ensures changes { IfOk result (λ v. v.changes ≡
-        plan_sweep (L.state look.now) session node server) }
+        plan_sweep (R.state rows.now) session node server) }
 {
-    let pool = janitor(look, session)?;
+    let pool = janitor(rows, session)?;
     let bare = made_by(session, Role::Janitor(pool));
-    if is_wanted(look, node, server) {
+    if is_wanted(rows, node, server) {
         return Ok(Verdict {
             done: Done::Keep,
             changes: bare,

@@ -22,7 +22,7 @@ use crate::tests::{
 use crate::verdict::{Verdict, made_by};
 use np_changes::{Asked, Changes, Growth, JobsChange, NodesChange, RequestEdit, RequestsChange};
 use np_event::{Done, Refusal};
-use np_look::Look;
+use np_look::{Look, Rows, is_last_pool, node_holder, request_holder, undeclined};
 use np_record::{JobRecord, LabelRow, NodeRow};
 use np_site::Job;
 use np_text::{
@@ -31,12 +31,12 @@ use np_text::{
 };
 
 /// The launcher of a pool takes its registration.
-pub fn decide_register<L: Look>(look: &L, session: SessionId) -> Result<Verdict, Refusal>
-    ensures answer { answer_of result ≡ judge_register (L.state look.now) session }
-    ensures changes { IfOk result (λ v. v.changes ≡ plan_register (L.state look.now) session) }
+pub fn decide_register<R: Rows>(rows: &R, session: SessionId) -> Result<Verdict, Refusal>
+    ensures answer { answer_of result ≡ judge_register (R.state rows.now) session }
+    ensures changes { IfOk result (λ v. v.changes ≡ plan_register (R.state rows.now) session) }
 {
-    let pool = launcher(look, session)?;
-    if let Some(other) = look.registration(pool) {
+    let pool = launcher(rows, session)?;
+    if let Some(other) = rows.registration(pool) {
         return Err(Refusal::Taken(other));
     }
     Ok(Verdict {
@@ -77,27 +77,27 @@ fn asked_for(job: JobId, row: &Job) -> Asked
 }
 
 /// The requester requests the nodes of its job.
-pub fn decide_submit<L: Look>(look: &L, session: SessionId, job: JobId) -> Result<Verdict, Refusal>
-    requires { Fits (L.site look.now) (L.state look.now) }
+pub fn decide_submit<R: Rows>(rows: &R, session: SessionId, job: JobId) -> Result<Verdict, Refusal>
+    requires { Fits (R.site rows.now) (R.state rows.now) }
     ensures answer { answer_of result ≡
-        judge_submit (L.site look.now) (L.state look.now) session job }
+        judge_submit (R.site rows.now) (R.state rows.now) session job }
     ensures changes { IfOk result (λ v. v.changes ≡
-        plan_submit (L.site look.now) (L.state look.now) session job) }
+        plan_submit (R.site rows.now) (R.state rows.now) session job) }
 {
-    let owner = requester(look, session)?;
-    let row = job_at(look, job)?;
-    let kept = record_of(look, job)?;
+    let owner = requester(rows, session)?;
+    let row = job_at(rows, job)?;
+    let kept = record_of(rows, job)?;
     of_requester(owner, row)?;
     if kept.phase != Phase::New {
         return Err(wrong_job(&kept));
     }
-    let missing = missing_handles(look, job, row);
+    let missing = missing_handles(rows, job, row);
     if !row.resources_first && missing != 0 {
         return Err(Refusal::NotAll(missing as u32));
     }
     let id = RequestId {
         priority: row.priority,
-        seq: look.next_request(),
+        seq: rows.next_request(),
     };
     Ok(Verdict {
         done: Done::Request(id),
@@ -120,26 +120,26 @@ pub fn decide_submit<L: Look>(look: &L, session: SessionId, job: JobId) -> Resul
 }
 
 /// The requester changes the relative priority of a request that nobody has accepted.
-pub fn decide_revise<L: Look>(
-    look: &L,
+pub fn decide_revise<R: Rows>(
+    rows: &R,
     session: SessionId,
     job: JobId,
     relative: u32,
 ) -> Result<Verdict, Refusal>
     ensures answer { answer_of result ≡
-        judge_revise (L.site look.now) (L.state look.now) session job }
+        judge_revise (R.site rows.now) (R.state rows.now) session job }
     ensures changes { IfOk result (λ v. v.changes ≡
-        plan_revise (L.state look.now) session job relative) }
+        plan_revise (R.state rows.now) session job relative) }
 {
-    let owner = requester(look, session)?;
-    let row = job_at(look, job)?;
-    let kept = record_of(look, job)?;
+    let owner = requester(rows, session)?;
+    let row = job_at(rows, job)?;
+    let kept = record_of(rows, job)?;
     of_requester(owner, row)?;
     if kept.phase != Phase::Asked {
         return Err(wrong_job(&kept));
     }
     let request = request_of(&kept)?;
-    let asked = request_at(look, request)?;
+    let asked = request_at(rows, request)?;
     if asked.state != RequestState::Requested {
         return Err(wrong_request(&asked));
     }
@@ -173,10 +173,10 @@ fn asked_to_keep(pool: PoolId, label: LabelId) -> Asked
 }
 
 /// How many free ready nodes of the label are kept.
-fn min_ready<L: Look>(look: &L, label: LabelId) -> Result<u32, Refusal>
-    ensures { result ≡ min_ready_of (L.site look.now) label }
+fn min_ready<R: Rows>(rows: &R, label: LabelId) -> Result<u32, Refusal>
+    ensures { result ≡ min_ready_of (R.site rows.now) label }
 {
-    match look.config().label(label) {
+    match rows.config().label(label) {
         None => Err(Refusal::NoLabel(label)),
         Some(row) => Ok(row.min_ready),
     }
@@ -194,10 +194,11 @@ pub fn decide_min_ready<L: Look>(
     ensures changes { IfOk result (λ v. v.changes ≡
         plan_min_ready (L.state look.now) session label) }
 {
-    let pool = launcher(look, session)?;
-    let least = min_ready(look, label)?;
-    by_registrant(look, pool, session)?;
-    if !is_offered(look, pool, label) {
+    let rows = look.rows();
+    let pool = launcher(rows, session)?;
+    let least = min_ready(rows, label)?;
+    by_registrant(rows, pool, session)?;
+    if !is_offered(rows, pool, label) {
         return Err(Refusal::NoLabel(label));
     }
     if look.has_spent_min_ready(pool, label) {
@@ -211,7 +212,7 @@ pub fn decide_min_ready<L: Look>(
     Ok(Verdict {
         done: Done::Request(RequestId {
             priority: 400,
-            seq: look.next_request(),
+            seq: rows.next_request(),
         }),
         changes: Changes {
             grows: Growth::Request {
@@ -245,18 +246,19 @@ fn lock_first<L: Look>(
     ensures { result ≡
         lock_request_as (L.site look.now) (L.state look.now) session request (Launcher pool) }
 {
-    let asked = request_at(look, request)?;
-    by_registrant(look, pool, session)?;
+    let rows = look.rows();
+    let asked = request_at(rows, request)?;
+    by_registrant(rows, pool, session)?;
     if asked.state != RequestState::Requested {
         return Err(wrong_request(&asked));
     }
-    if look.is_declined(request, pool) {
+    if rows.is_declined(request, pool) {
         return Err(Refusal::Declined);
     }
     if is_pinned_away(pool, &asked) {
         return Err(Refusal::NotOwner);
     }
-    if let Some(holder) = look.request_holder(request) {
+    if let Some(holder) = request_holder(rows, request) {
         return Err(Refusal::Busy(holder));
     }
     not_blocked(look, pool, &asked)?;
@@ -276,14 +278,14 @@ fn is_pinned_away(pool: PoolId, asked: &Asked) -> bool
     }
 }
 
-fn lock_pending<L: Look>(look: &L, request: RequestId) -> Result<Done, Refusal>
-    ensures { result ≡ lock_pending (L.state look.now) request }
+fn lock_pending<R: Rows>(rows: &R, request: RequestId) -> Result<Done, Refusal>
+    ensures { result ≡ lock_pending (R.state rows.now) request }
 {
-    let asked = request_at(look, request)?;
+    let asked = request_at(rows, request)?;
     if asked.state != RequestState::Pending {
         return Err(wrong_request(&asked));
     }
-    if let Some(holder) = look.request_holder(request) {
+    if let Some(holder) = request_holder(rows, request) {
         return Err(Refusal::Busy(holder));
     }
     Ok(Done::Held)
@@ -300,7 +302,7 @@ fn lock_request_as<L: Look>(
 {
     match role {
         Role::Launcher(pool) => lock_first(look, pool, session, request),
-        Role::Janitor(_) => lock_pending(look, request),
+        Role::Janitor(_) => lock_pending(look.rows(), request),
         Role::Requester(_) | Role::Reaper => Err(Refusal::WrongRole),
     }
 }
@@ -317,7 +319,7 @@ pub fn decide_lock_request<L: Look>(
     ensures changes { IfOk result (λ v. v.changes ≡
         plan_lock_request (L.state look.now) session request) }
 {
-    let role = maker(look, session)?;
+    let role = maker(look.rows(), session)?;
     let done = lock_request_as(look, session, request, role)?;
     Ok(Verdict {
         done,
@@ -328,62 +330,62 @@ pub fn decide_lock_request<L: Look>(
     })
 }
 
-fn unlock_served<L: Look>(
-    look: &L,
+fn unlock_served<R: Rows>(
+    rows: &R,
     pool: PoolId,
     session: SessionId,
     request: RequestId,
 ) -> Result<Done, Refusal>
-    ensures { result ≡ unlock_request_as (L.state look.now) session request (Launcher pool) }
+    ensures { result ≡ unlock_request_as (R.state rows.now) session request (Launcher pool) }
 {
-    let asked = request_at(look, request)?;
-    by_request_holder(look, request, session)?;
+    let asked = request_at(rows, request)?;
+    by_request_holder(rows, request, session)?;
     if is_pending_by(pool, &asked) {
         return Err(wrong_request(&asked));
     }
     Ok(Done::Plain)
 }
 
-fn unlock_any<L: Look>(
-    look: &L,
+fn unlock_any<R: Rows>(
+    rows: &R,
     pool: PoolId,
     session: SessionId,
     request: RequestId,
 ) -> Result<Done, Refusal>
-    ensures { result ≡ unlock_request_as (L.state look.now) session request (Janitor pool) }
+    ensures { result ≡ unlock_request_as (R.state rows.now) session request (Janitor pool) }
 {
-    request_at(look, request)?;
-    by_request_holder(look, request, session)?;
+    request_at(rows, request)?;
+    by_request_holder(rows, request, session)?;
     Ok(Done::Plain)
 }
 
-fn unlock_request_as<L: Look>(
-    look: &L,
+fn unlock_request_as<R: Rows>(
+    rows: &R,
     session: SessionId,
     request: RequestId,
     role: Role,
 ) -> Result<Done, Refusal>
-    ensures { result ≡ unlock_request_as (L.state look.now) session request role }
+    ensures { result ≡ unlock_request_as (R.state rows.now) session request role }
 {
     match role {
-        Role::Launcher(pool) => unlock_served(look, pool, session, request),
-        Role::Janitor(pool) => unlock_any(look, pool, session, request),
+        Role::Launcher(pool) => unlock_served(rows, pool, session, request),
+        Role::Janitor(pool) => unlock_any(rows, pool, session, request),
         Role::Requester(_) | Role::Reaper => Err(Refusal::WrongRole),
     }
 }
 
 /// The maker releases the lock; a launcher may not while its pool serves the request.
-pub fn decide_unlock_request<L: Look>(
-    look: &L,
+pub fn decide_unlock_request<R: Rows>(
+    rows: &R,
     session: SessionId,
     request: RequestId,
 ) -> Result<Verdict, Refusal>
-    ensures answer { answer_of result ≡ judge_unlock_request (L.state look.now) session request }
+    ensures answer { answer_of result ≡ judge_unlock_request (R.state rows.now) session request }
     ensures changes { IfOk result (λ v. v.changes ≡
-        plan_unlock_request (L.state look.now) session request) }
+        plan_unlock_request (R.state rows.now) session request) }
 {
-    let role = maker(look, session)?;
-    let done = unlock_request_as(look, session, request, role)?;
+    let role = maker(rows, session)?;
+    let done = unlock_request_as(rows, session, request, role)?;
     Ok(Verdict {
         done,
         changes: Changes {
@@ -405,24 +407,25 @@ pub fn decide_accept<L: Look>(
     ensures changes { IfOk result (λ v. v.changes ≡
         plan_accept (L.state look.now) session request) }
 {
-    let pool = launcher(look, session)?;
-    let asked = request_at(look, request)?;
-    by_registrant(look, pool, session)?;
-    by_request_holder(look, request, session)?;
+    let rows = look.rows();
+    let pool = launcher(rows, session)?;
+    let asked = request_at(rows, request)?;
+    by_registrant(rows, pool, session)?;
+    by_request_holder(rows, request, session)?;
     if asked.state != RequestState::Requested {
         return Err(wrong_request(&asked));
     }
-    if look.is_declined(request, pool) {
+    if rows.is_declined(request, pool) {
         return Err(Refusal::Declined);
     }
-    if let Some(label) = first_unoffered(look, pool, asked.labels.items()) {
+    if let Some(label) = first_unoffered(rows, pool, asked.labels.items()) {
         return Err(Refusal::NoLabel(label));
     }
     let _few = asked.labels.len();
-    if is_too_much(look, pool, asked.labels.items()) {
+    if is_too_much(rows, pool, asked.labels.items()) {
         return Err(Refusal::NeverFits);
     }
-    if tenant_never_fits(look, pool, &asked) {
+    if tenant_never_fits(rows, pool, &asked) {
         return Err(Refusal::TenantNeverFits);
     }
     not_blocked(look, pool, &asked)?;
@@ -469,57 +472,57 @@ fn has_node(asked: &Asked, node: NodeId) -> bool
     asked.nodes.items().iter().any(|other| other.0 == node.0)
 }
 
-fn is_spent<L: Look>(look: &L, node: NodeId) -> bool
-    ensures { result ≡ is_spent node (L.state look.now) }
+fn is_spent<R: Rows>(rows: &R, node: NodeId) -> bool
+    ensures { result ≡ is_spent node (R.state rows.now) }
 {
-    match look.node(node) {
+    match rows.node(node) {
         None => false,
         Some(kept) => kept.state == NodeState::Failed,
     }
 }
 
 /// Whether the reason is true of the request at the pool.
-fn is_true<L: Look>(look: &L, pool: PoolId, asked: &Asked, reason: Reason) -> bool
-    requires { Fits (L.site look.now) (L.state look.now) }
+fn is_true<R: Rows>(rows: &R, pool: PoolId, asked: &Asked, reason: Reason) -> bool
+    requires { Fits (R.site rows.now) (R.state rows.now) }
     ensures { result ≡
-        is_true (L.site look.now) (L.state look.now) pool (new_record asked.now) reason }
+        is_true (R.site rows.now) (R.state rows.now) pool (new_record asked.now) reason }
 {
     match reason {
-        Reason::NoLabel(label) => asks_label(asked, label) && !is_offered(look, pool, label),
+        Reason::NoLabel(label) => asks_label(asked, label) && !is_offered(rows, pool, label),
         Reason::NeverFits => {
             let _few = asked.labels.len();
-            is_too_much(look, pool, asked.labels.items())
+            is_too_much(rows, pool, asked.labels.items())
         }
-        Reason::TenantNeverFits => tenant_never_fits(look, pool, asked),
-        Reason::Spent(node) => has_node(asked, node) && is_spent(look, node),
+        Reason::TenantNeverFits => tenant_never_fits(rows, pool, asked),
+        Reason::Spent(node) => has_node(asked, node) && is_spent(rows, node),
     }
 }
 
 /// The launcher leaves the request to the other pools; it fails if none is left.
-pub fn decide_decline<L: Look>(
-    look: &L,
+pub fn decide_decline<R: Rows>(
+    rows: &R,
     session: SessionId,
     request: RequestId,
     reason: Reason,
 ) -> Result<Verdict, Refusal>
-    requires { Fits (L.site look.now) (L.state look.now) }
+    requires { Fits (R.site rows.now) (R.state rows.now) }
     ensures answer { answer_of result ≡
-        judge_decline (L.site look.now) (L.state look.now) session request reason }
+        judge_decline (R.site rows.now) (R.state rows.now) session request reason }
     ensures changes { IfOk result (λ v. v.changes ≡
-        plan_decline (L.state look.now) session request reason) }
+        plan_decline (R.state rows.now) session request reason) }
 {
-    let pool = launcher(look, session)?;
-    let asked = request_at(look, request)?;
-    by_registrant(look, pool, session)?;
-    by_request_holder(look, request, session)?;
+    let pool = launcher(rows, session)?;
+    let asked = request_at(rows, request)?;
+    by_registrant(rows, pool, session)?;
+    by_request_holder(rows, request, session)?;
     in_state_for(pool, &asked, reason)?;
-    if look.is_declined(request, pool) {
+    if rows.is_declined(request, pool) {
         return Err(Refusal::Declined);
     }
-    if !is_true(look, pool, &asked, reason) {
+    if !is_true(rows, pool, &asked, reason) {
         return Err(Refusal::FalseReason);
     }
-    let failed = asked.pinned.is_some() || look.is_last_pool(request, pool);
+    let failed = asked.pinned.is_some() || is_last_pool(rows, request, pool);
     Ok(Verdict {
         done: Done::Plain,
         changes: Changes {
@@ -538,15 +541,15 @@ pub fn decide_decline<L: Look>(
 }
 
 /// 1 if there is a label and no node for it.
-fn lack<L: Look>(
-    look: &L,
+fn lack<R: Rows>(
+    rows: &R,
     pool: PoolId,
     session: SessionId,
     request: RequestId,
     label: Option<LabelId>,
     number: Option<NodeId>,
 ) -> usize
-    ensures lack { result ≡ lack_at pool session request (L.state look.now).nodes label number }
+    ensures lack { result ≡ lack_at pool session request (R.state rows.now).nodes label number }
     ensures few { result ≤ 1 }
 {
     let Some(label) = label else {
@@ -555,33 +558,33 @@ fn lack<L: Look>(
     let Some(number) = number else {
         return 1;
     };
-    let Some(kept) = look.node(number) else {
+    let Some(kept) = rows.node(number) else {
         return 1;
     };
     let filled = kept.state == NodeState::Ready
         && is_of_request(request, kept.allocated_to)
         && kept.pool.0 == pool.0
         && kept.label.0 == label.0
-        && is_named(session, look.node_holder(number));
+        && is_named(session, node_holder(rows, number));
     if filled { 0 } else { 1 }
 }
 
 /// How many places of the labels have no node as `fulfil` needs it.
-fn unfilled<L: Look>(
-    look: &L,
+fn unfilled<R: Rows>(
+    rows: &R,
     pool: PoolId,
     session: SessionId,
     request: RequestId,
     asked: &Asked,
 ) -> usize
     ensures unfilled { result ≡
-        unfilled pool session request (L.state look.now).nodes asked.now.labels asked.now.nodes }
+        unfilled pool session request (R.state rows.now).nodes asked.now.labels asked.now.nodes }
     ensures few { result ≤ 32 }
 {
     let mut missing = 0;
     for at in 0..asked.labels.len() {
         missing += lack(
-            look,
+            rows,
             pool,
             session,
             request,
@@ -617,23 +620,23 @@ fn nodes_after_fulfil(request: RequestId, pinned: bool) -> NodesChange
 
 /// The launcher hands all the request's nodes over at once; a min-ready request is removed, and its
 /// node is free.
-pub fn decide_fulfil<L: Look>(
-    look: &L,
+pub fn decide_fulfil<R: Rows>(
+    rows: &R,
     session: SessionId,
     request: RequestId,
 ) -> Result<Verdict, Refusal>
-    ensures answer { answer_of result ≡ judge_fulfil (L.state look.now) session request }
+    ensures answer { answer_of result ≡ judge_fulfil (R.state rows.now) session request }
     ensures changes { IfOk result (λ v. v.changes ≡
-        plan_fulfil (L.state look.now) session request) }
+        plan_fulfil (R.state rows.now) session request) }
 {
-    let pool = launcher(look, session)?;
-    let asked = request_at(look, request)?;
-    by_registrant(look, pool, session)?;
-    by_request_holder(look, request, session)?;
+    let pool = launcher(rows, session)?;
+    let asked = request_at(rows, request)?;
+    by_registrant(rows, pool, session)?;
+    by_request_holder(rows, request, session)?;
     if !is_pending_by(pool, &asked) {
         return Err(wrong_request(&asked));
     }
-    none_missing(unfilled(look, pool, session, request, &asked))?;
+    none_missing(unfilled(rows, pool, session, request, &asked))?;
     let pinned = asked.pinned.is_some();
     Ok(Verdict {
         done: Done::Plain,
@@ -646,17 +649,17 @@ pub fn decide_fulfil<L: Look>(
 }
 
 /// The janitor gives back a request whose launcher is gone.
-pub fn decide_reset<L: Look>(
-    look: &L,
+pub fn decide_reset<R: Rows>(
+    rows: &R,
     session: SessionId,
     request: RequestId,
 ) -> Result<Verdict, Refusal>
-    ensures answer { answer_of result ≡ judge_reset (L.state look.now) session request }
-    ensures changes { IfOk result (λ v. v.changes ≡ plan_reset (L.state look.now) session request) }
+    ensures answer { answer_of result ≡ judge_reset (R.state rows.now) session request }
+    ensures changes { IfOk result (λ v. v.changes ≡ plan_reset (R.state rows.now) session request) }
 {
-    let pool = janitor(look, session)?;
-    let asked = request_at(look, request)?;
-    by_request_holder(look, request, session)?;
+    let pool = janitor(rows, session)?;
+    let asked = request_at(rows, request)?;
+    by_request_holder(rows, request, session)?;
     if asked.state != RequestState::Pending {
         return Err(wrong_request(&asked));
     }
@@ -674,24 +677,24 @@ pub fn decide_reset<L: Look>(
 }
 
 /// The janitor fails a request that every registered pool has declined.
-pub fn decide_fail_declined<L: Look>(
-    look: &L,
+pub fn decide_fail_declined<R: Rows>(
+    rows: &R,
     session: SessionId,
     request: RequestId,
 ) -> Result<Verdict, Refusal>
-    ensures answer { answer_of result ≡ judge_fail_declined (L.state look.now) session request }
+    ensures answer { answer_of result ≡ judge_fail_declined (R.state rows.now) session request }
     ensures changes { IfOk result (λ v. v.changes ≡
-        plan_fail_declined (L.state look.now) session request) }
+        plan_fail_declined (R.state rows.now) session request) }
 {
-    let pool = janitor(look, session)?;
-    let asked = request_at(look, request)?;
+    let pool = janitor(rows, session)?;
+    let asked = request_at(rows, request)?;
     if asked.state != RequestState::Requested {
         return Err(wrong_request(&asked));
     }
-    if look.registrations() == 0 {
+    if rows.registrations() == 0 {
         return Err(Refusal::NotRegistered);
     }
-    none_missing(look.undeclined(request) as usize)?;
+    none_missing(undeclined(rows, request) as usize)?;
     Ok(Verdict {
         done: Done::Plain,
         changes: Changes {

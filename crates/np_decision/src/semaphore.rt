@@ -16,7 +16,7 @@ use crate::tests::{
 use crate::verdict::{Verdict, made_by};
 use np_changes::{Changes, Growth, HandlesChange, JobsChange, NodesChange, RequestsChange};
 use np_event::{Done, Refusal};
-use np_look::{Look, is_requester};
+use np_look::{Look, Rows, first_full, is_requester, node_holder};
 use np_record::{JobRecord, MarkRow, Marked, NodeRow};
 use np_site::Job;
 use np_text::{
@@ -24,19 +24,19 @@ use np_text::{
 };
 
 /// The job takes all its semaphores, or none.
-pub fn decide_acquire<L: Look>(look: &L, session: SessionId, job: JobId) -> Result<Verdict, Refusal>
+pub fn decide_acquire<R: Rows>(rows: &R, session: SessionId, job: JobId) -> Result<Verdict, Refusal>
     ensures answer { answer_of result ≡
-        judge_acquire (L.site look.now) (L.state look.now) session job }
-    ensures changes { IfOk result (λ v. v.changes ≡ plan_acquire (L.state look.now) session job) }
+        judge_acquire (R.site rows.now) (R.state rows.now) session job }
+    ensures changes { IfOk result (λ v. v.changes ≡ plan_acquire (R.state rows.now) session job) }
 {
-    let owner = requester(look, session)?;
-    let row = job_at(look, job)?;
-    let kept = record_of(look, job)?;
+    let owner = requester(rows, session)?;
+    let row = job_at(rows, job)?;
+    let kept = record_of(rows, job)?;
     of_requester(owner, row)?;
     if kept.phase == Phase::Over {
         return Err(wrong_job(&kept));
     }
-    if let Some(full) = look.first_full(job, row) {
+    if let Some(full) = first_full(rows, job, row) {
         return Err(Refusal::SemaphoreFull(full));
     }
     Ok(Verdict {
@@ -49,15 +49,15 @@ pub fn decide_acquire<L: Look>(look: &L, session: SessionId, job: JobId) -> Resu
 }
 
 /// How many of the nodes the session does not hold.
-fn unheld<L: Look>(look: &L, session: SessionId, numbers: &NodeRow) -> usize
-    ensures unheld { result ≡ unheld (L.state look.now) session numbers.now }
+fn unheld<R: Rows>(rows: &R, session: SessionId, numbers: &NodeRow) -> usize
+    ensures unheld { result ≡ unheld (R.state rows.now) session numbers.now }
     ensures few { result ≤ 32 }
 {
     let _most = numbers.len();
     numbers
         .items()
         .iter()
-        .filter(|n| !is_named(session, look.node_holder(**n)))
+        .filter(|n| !is_named(session, node_holder(rows, **n)))
         .count()
 }
 
@@ -77,26 +77,26 @@ fn unended_marks(nodes: &[NodeId]) -> MarkRow
 }
 
 /// The requester takes over the nodes of its fulfilled request.
-pub fn decide_take<L: Look>(look: &L, session: SessionId, job: JobId) -> Result<Verdict, Refusal>
-    requires { Fits (L.site look.now) (L.state look.now) }
+pub fn decide_take<R: Rows>(rows: &R, session: SessionId, job: JobId) -> Result<Verdict, Refusal>
+    requires { Fits (R.site rows.now) (R.state rows.now) }
     ensures answer { answer_of result ≡
-        judge_take (L.site look.now) (L.state look.now) session job }
-    ensures changes { IfOk result (λ v. v.changes ≡ plan_take (L.state look.now) session job) }
+        judge_take (R.site rows.now) (R.state rows.now) session job }
+    ensures changes { IfOk result (λ v. v.changes ≡ plan_take (R.state rows.now) session job) }
 {
-    let owner = requester(look, session)?;
-    let row = job_at(look, job)?;
-    let kept = record_of(look, job)?;
+    let owner = requester(rows, session)?;
+    let row = job_at(rows, job)?;
+    let kept = record_of(rows, job)?;
     of_requester(owner, row)?;
     if kept.phase != Phase::Asked {
         return Err(wrong_job(&kept));
     }
     let request = request_of(&kept)?;
-    let asked = request_at(look, request)?;
+    let asked = request_at(rows, request)?;
     if asked.state != RequestState::Fulfilled {
         return Err(wrong_request(&asked));
     }
-    none_missing(unheld(look, session, &asked.nodes))?;
-    none_missing(missing_handles(look, job, row))?;
+    none_missing(unheld(rows, session, &asked.nodes))?;
+    none_missing(missing_handles(rows, job, row))?;
     let _most = asked.nodes.len();
     Ok(Verdict {
         done: Done::Plain,
@@ -117,57 +117,57 @@ pub fn decide_take<L: Look>(look: &L, session: SessionId, job: JobId) -> Result<
     })
 }
 
-fn role_of<L: Look>(look: &L, session: SessionId) -> Option<Role>
-    ensures { result ≡ role_of session (L.state look.now) }
+fn role_of<R: Rows>(rows: &R, session: SessionId) -> Option<Role>
+    ensures { result ≡ role_of session (R.state rows.now) }
 {
-    match look.session(session) {
+    match rows.session(session) {
         None => None,
         Some(facts) => Some(facts.role),
     }
 }
 
 /// Whether the node is in use, and held by a session of the requester.
-fn is_busy_with<L: Look>(look: &L, requester: RequesterId, node: NodeId) -> bool
-    ensures { result ≡ is_busy_with requester (L.state look.now) node }
+fn is_busy_with<R: Rows>(rows: &R, requester: RequesterId, node: NodeId) -> bool
+    ensures { result ≡ is_busy_with requester (R.state rows.now) node }
 {
-    let Some(kept) = look.node(node) else {
+    let Some(kept) = rows.node(node) else {
         return false;
     };
     if kept.state != NodeState::InUse {
         return false;
     }
-    let Some(holder) = look.node_holder(node) else {
+    let Some(holder) = node_holder(rows, node) else {
         return false;
     };
-    is_requester(requester, role_of(look, holder))
+    is_requester(requester, role_of(rows, holder))
 }
 
-fn is_any_busy<L: Look>(look: &L, requester: RequesterId, nodes: &[Marked]) -> bool
-    ensures { result ≡ list_any (λ m. is_busy_with requester (L.state look.now) m.node) nodes.now }
+fn is_any_busy<R: Rows>(rows: &R, requester: RequesterId, nodes: &[Marked]) -> bool
+    ensures { result ≡ list_any (λ m. is_busy_with requester (R.state rows.now) m.node) nodes.now }
 {
-    nodes.iter().any(|m| is_busy_with(look, requester, m.node))
+    nodes.iter().any(|m| is_busy_with(rows, requester, m.node))
 }
 
-fn has_failed_request<L: Look>(look: &L, kept: &JobRecord) -> bool
-    ensures { result ≡ has_failed_request (L.state look.now) kept.now }
+fn has_failed_request<R: Rows>(rows: &R, kept: &JobRecord) -> bool
+    ensures { result ≡ has_failed_request (R.state rows.now) kept.now }
 {
     let Some(request) = kept.request else {
         return false;
     };
-    match look.asked(request) {
+    match rows.asked(request) {
         None => false,
         Some(asked) => asked.state == RequestState::Failed,
     }
 }
 
 /// Whether the job is asked and its request failed, or using and done with each of its nodes.
-fn is_finishable<L: Look>(look: &L, job: &Job, kept: &JobRecord) -> bool
-    ensures { result ≡ is_finishable (L.state look.now) job.now kept.now }
+fn is_finishable<R: Rows>(rows: &R, job: &Job, kept: &JobRecord) -> bool
+    ensures { result ≡ is_finishable (R.state rows.now) job.now kept.now }
 {
-    if kept.phase == Phase::Asked && has_failed_request(look, kept) {
+    if kept.phase == Phase::Asked && has_failed_request(rows, kept) {
         return true;
     }
-    kept.phase == Phase::Using && !is_any_busy(look, job.requester, kept.nodes.items())
+    kept.phase == Phase::Using && !is_any_busy(rows, job.requester, kept.nodes.items())
 }
 
 fn requester_or_janitor(role: Role) -> Result<(), Refusal>
@@ -217,12 +217,13 @@ pub fn decide_finish<L: Look>(look: &L, session: SessionId, job: JobId) -> Resul
         judge_finish (L.site look.now) (L.state look.now) session job }
     ensures changes { IfOk result (λ v. v.changes ≡ plan_finish (L.state look.now) session job) }
 {
-    let role = maker(look, session)?;
+    let rows = look.rows();
+    let role = maker(rows, session)?;
     requester_or_janitor(role)?;
-    let row = job_at(look, job)?;
-    let kept = record_of(look, job)?;
+    let row = job_at(rows, job)?;
+    let kept = record_of(rows, job)?;
     may_finish(look, row, role)?;
-    if !is_finishable(look, row, &kept) {
+    if !is_finishable(rows, row, &kept) {
         return Err(wrong_job(&kept));
     }
     let ending = ending_of(&kept);
@@ -253,18 +254,18 @@ fn request_after_withdraw(request: Option<RequestId>) -> RequestsChange
 }
 
 /// The requester gives its job up before it has nodes.
-pub fn decide_withdraw<L: Look>(
-    look: &L,
+pub fn decide_withdraw<R: Rows>(
+    rows: &R,
     session: SessionId,
     job: JobId,
 ) -> Result<Verdict, Refusal>
     ensures answer { answer_of result ≡
-        judge_withdraw (L.site look.now) (L.state look.now) session job }
-    ensures changes { IfOk result (λ v. v.changes ≡ plan_withdraw (L.state look.now) session job) }
+        judge_withdraw (R.site rows.now) (R.state rows.now) session job }
+    ensures changes { IfOk result (λ v. v.changes ≡ plan_withdraw (R.state rows.now) session job) }
 {
-    let owner = requester(look, session)?;
-    let row = job_at(look, job)?;
-    let kept = record_of(look, job)?;
+    let owner = requester(rows, session)?;
+    let row = job_at(rows, job)?;
+    let kept = record_of(rows, job)?;
     of_requester(owner, row)?;
     if kept.phase != Phase::New && kept.phase != Phase::Asked {
         return Err(wrong_job(&kept));
@@ -298,15 +299,15 @@ fn may_release(job: &Job, role: Role) -> Result<(), Refusal>
 }
 
 /// The job's handles are given back.
-pub fn decide_release<L: Look>(look: &L, session: SessionId, job: JobId) -> Result<Verdict, Refusal>
+pub fn decide_release<R: Rows>(rows: &R, session: SessionId, job: JobId) -> Result<Verdict, Refusal>
     ensures answer { answer_of result ≡
-        judge_release (L.site look.now) (L.state look.now) session job }
-    ensures changes { IfOk result (λ v. v.changes ≡ plan_release (L.state look.now) session job) }
+        judge_release (R.site rows.now) (R.state rows.now) session job }
+    ensures changes { IfOk result (λ v. v.changes ≡ plan_release (R.state rows.now) session job) }
 {
-    let role = maker(look, session)?;
+    let role = maker(rows, session)?;
     requester_or_janitor(role)?;
-    let row = job_at(look, job)?;
-    let kept = record_of(look, job)?;
+    let row = job_at(rows, job)?;
+    let kept = record_of(rows, job)?;
     may_release(row, role)?;
     if kept.phase != Phase::Over {
         return Err(wrong_job(&kept));

@@ -10,7 +10,7 @@ ghost use Rattle.np_decision.specs.Verdicts.{answer_of};
 use crate::verdict::Verdict;
 use np_changes::{Changes, Deed, Growth, SAME, SessionsChange};
 use np_event::{Done, Refusal};
-use np_look::Look;
+use np_look::Rows;
 use np_text::{Role, SessionId};
 
 /// Time advances by one tick.
@@ -28,28 +28,28 @@ pub fn decide_tick() -> Result<Verdict, Refusal>
 }
 
 /// Whether the role is in the configuration.
-fn is_role<L: Look>(look: &L, role: Role) -> bool
-    ensures { result ≡ is_role (L.site look.now) role }
+fn is_role<R: Rows>(rows: &R, role: Role) -> bool
+    ensures { result ≡ is_role (R.site rows.now) role }
 {
     match role {
-        Role::Launcher(pool) => look.config().pool(pool).is_some(),
-        Role::Janitor(pool) => look.config().pool(pool).is_some(),
-        Role::Requester(requester) => look.config().requester(requester).is_some(),
+        Role::Launcher(pool) => rows.config().pool(pool).is_some(),
+        Role::Janitor(pool) => rows.config().pool(pool).is_some(),
+        Role::Requester(requester) => rows.config().requester(requester).is_some(),
         Role::Reaper => false,
     }
 }
 
 /// A role of the configuration begins a session.
-pub fn decide_open<L: Look>(look: &L, role: Role) -> Result<Verdict, Refusal>
-    requires { Fits (L.site look.now) (L.state look.now) }
-    ensures answer { answer_of result ≡ judge_open (L.site look.now) (L.state look.now) role }
+pub fn decide_open<R: Rows>(rows: &R, role: Role) -> Result<Verdict, Refusal>
+    requires { Fits (R.site rows.now) (R.state rows.now) }
+    ensures answer { answer_of result ≡ judge_open (R.site rows.now) (R.state rows.now) role }
     ensures changes { IfOk result (λ v. v.changes ≡ plan_open role) }
 {
-    if !is_role(look, role) {
+    if !is_role(rows, role) {
         return Err(Refusal::WrongRole);
     }
     Ok(Verdict {
-        done: Done::Session(SessionId(look.sessions() + 1)),
+        done: Done::Session(SessionId(rows.sessions() + 1)),
         changes: Changes {
             grows: Growth::Session { role },
             ..SAME
@@ -58,11 +58,11 @@ pub fn decide_open<L: Look>(look: &L, role: Role) -> Result<Verdict, Refusal>
 }
 
 /// The party stops, and its session is mute from then on.
-pub fn decide_crash<L: Look>(look: &L, session: SessionId) -> Result<Verdict, Refusal>
-    ensures answer { answer_of result ≡ judge_crash (L.state look.now) session }
-    ensures changes { IfOk result (λ v. v.changes ≡ plan_crash (L.state look.now) session) }
+pub fn decide_crash<R: Rows>(rows: &R, session: SessionId) -> Result<Verdict, Refusal>
+    ensures answer { answer_of result ≡ judge_crash (R.state rows.now) session }
+    ensures changes { IfOk result (λ v. v.changes ≡ plan_crash (R.state rows.now) session) }
 {
-    let Some(facts) = look.session(session) else {
+    let Some(facts) = rows.session(session) else {
         return Err(Refusal::NoSession);
     };
     if !facts.live {
@@ -85,11 +85,11 @@ pub fn decide_crash<L: Look>(look: &L, session: SessionId) -> Result<Verdict, Re
 }
 
 /// The session ends, and leaves every queue and its registration.
-pub fn decide_expire<L: Look>(look: &L, session: SessionId) -> Result<Verdict, Refusal>
-    ensures answer { answer_of result ≡ judge_expire (L.state look.now) session }
-    ensures changes { IfOk result (λ v. v.changes ≡ plan_expire (L.state look.now) session) }
+pub fn decide_expire<R: Rows>(rows: &R, session: SessionId) -> Result<Verdict, Refusal>
+    ensures answer { answer_of result ≡ judge_expire (R.state rows.now) session }
+    ensures changes { IfOk result (λ v. v.changes ≡ plan_expire (R.state rows.now) session) }
 {
-    let Some(facts) = look.session(session) else {
+    let Some(facts) = rows.session(session) else {
         return Err(Refusal::NoSession);
     };
     if !facts.live {

@@ -16,7 +16,7 @@ ghost use Rattle.np_decision.specs.Verdicts.{without_declines, row_of_job, asked
 use np_amount::Amount;
 use np_changes::Asked;
 use np_event::{Found, Refusal};
-use np_look::Look;
+use np_look::{Look, Rows, node_holder, request_holder};
 use np_record::{JobRecord, NodeRecord};
 use np_site::Job;
 use np_text::{
@@ -27,10 +27,10 @@ use np_text::{
 // The maker.
 
 /// The role of the session that makes the event.
-pub(crate) fn maker<L: Look>(look: &L, session: SessionId) -> Result<Role, Refusal>
-    ensures { result ≡ maker (L.state look.now) session }
+pub(crate) fn maker<R: Rows>(rows: &R, session: SessionId) -> Result<Role, Refusal>
+    ensures { result ≡ maker (R.state rows.now) session }
 {
-    let Some(facts) = look.session(session) else {
+    let Some(facts) = rows.session(session) else {
         return Err(Refusal::NoSession);
     };
     if !facts.live {
@@ -43,30 +43,30 @@ pub(crate) fn maker<L: Look>(look: &L, session: SessionId) -> Result<Role, Refus
 }
 
 /// The pool whose launcher makes the event.
-pub(crate) fn launcher<L: Look>(look: &L, session: SessionId) -> Result<PoolId, Refusal>
-    ensures { result ≡ launcher (L.state look.now) session }
+pub(crate) fn launcher<R: Rows>(rows: &R, session: SessionId) -> Result<PoolId, Refusal>
+    ensures { result ≡ launcher (R.state rows.now) session }
 {
-    match maker(look, session)? {
+    match maker(rows, session)? {
         Role::Launcher(pool) => Ok(pool),
         Role::Janitor(_) | Role::Requester(_) | Role::Reaper => Err(Refusal::WrongRole),
     }
 }
 
 /// The pool whose janitor makes the event.
-pub(crate) fn janitor<L: Look>(look: &L, session: SessionId) -> Result<PoolId, Refusal>
-    ensures { result ≡ janitor (L.state look.now) session }
+pub(crate) fn janitor<R: Rows>(rows: &R, session: SessionId) -> Result<PoolId, Refusal>
+    ensures { result ≡ janitor (R.state rows.now) session }
 {
-    match maker(look, session)? {
+    match maker(rows, session)? {
         Role::Janitor(pool) => Ok(pool),
         Role::Launcher(_) | Role::Requester(_) | Role::Reaper => Err(Refusal::WrongRole),
     }
 }
 
 /// The requester that makes the event.
-pub(crate) fn requester<L: Look>(look: &L, session: SessionId) -> Result<RequesterId, Refusal>
-    ensures { result ≡ requester (L.state look.now) session }
+pub(crate) fn requester<R: Rows>(rows: &R, session: SessionId) -> Result<RequesterId, Refusal>
+    ensures { result ≡ requester (R.state rows.now) session }
 {
-    match maker(look, session)? {
+    match maker(rows, session)? {
         Role::Requester(requester) => Ok(requester),
         Role::Launcher(_) | Role::Janitor(_) | Role::Reaper => Err(Refusal::WrongRole),
     }
@@ -75,40 +75,40 @@ pub(crate) fn requester<L: Look>(look: &L, session: SessionId) -> Result<Request
 // What the event names.
 
 /// The request without its declines.
-pub(crate) fn request_at<L: Look>(look: &L, request: RequestId) -> Result<Asked, Refusal>
-    ensures { result ≡ without_declines (request_at (L.state look.now) request) }
+pub(crate) fn request_at<R: Rows>(rows: &R, request: RequestId) -> Result<Asked, Refusal>
+    ensures { result ≡ without_declines (request_at (R.state rows.now) request) }
 {
-    match look.asked(request) {
+    match rows.asked(request) {
         None => Err(Refusal::NoRequest),
         Some(asked) => Ok(asked),
     }
 }
 
 /// The node's record.
-pub(crate) fn node_at<L: Look>(look: &L, node: NodeId) -> Result<NodeRecord, Refusal>
-    ensures { result ≡ node_at (L.state look.now) node }
+pub(crate) fn node_at<R: Rows>(rows: &R, node: NodeId) -> Result<NodeRecord, Refusal>
+    ensures { result ≡ node_at (R.state rows.now) node }
 {
-    match look.node(node) {
+    match rows.node(node) {
         None => Err(Refusal::NoNode),
         Some(kept) => Ok(kept),
     }
 }
 
 /// The job as the configuration has it.
-pub(crate) fn job_at<L: Look>(look: &L, job: JobId) -> Result<&Job, Refusal>
-    ensures { row_of_job result ≡ job_at (L.site look.now) job }
+pub(crate) fn job_at<R: Rows>(rows: &R, job: JobId) -> Result<&Job, Refusal>
+    ensures { row_of_job result ≡ job_at (R.site rows.now) job }
 {
-    match look.config().job(job) {
+    match rows.config().job(job) {
         None => Err(Refusal::NoJob),
         Some(row) => Ok(row),
     }
 }
 
 /// The job as the machine keeps it.
-pub(crate) fn record_of<L: Look>(look: &L, job: JobId) -> Result<JobRecord, Refusal>
-    ensures { result ≡ record_of (L.state look.now) job }
+pub(crate) fn record_of<R: Rows>(rows: &R, job: JobId) -> Result<JobRecord, Refusal>
+    ensures { result ≡ record_of (R.state rows.now) job }
 {
-    match look.job(job) {
+    match rows.job(job) {
         None => Err(Refusal::NoJob),
         Some(kept) => Ok(kept),
     }
@@ -169,14 +169,14 @@ pub(crate) fn of_pool(pool: PoolId, node: &NodeRecord) -> Result<(), Refusal>
 }
 
 /// The maker holds its pool's registration.
-pub(crate) fn by_registrant<L: Look>(
-    look: &L,
+pub(crate) fn by_registrant<R: Rows>(
+    rows: &R,
     pool: PoolId,
     session: SessionId,
 ) -> Result<(), Refusal>
-    ensures { result ≡ by_registrant (L.state look.now) pool session }
+    ensures { result ≡ by_registrant (R.state rows.now) pool session }
 {
-    if is_named(session, look.registration(pool)) {
+    if is_named(session, rows.registration(pool)) {
         Ok(())
     } else {
         Err(Refusal::NotRegistered)
@@ -184,14 +184,14 @@ pub(crate) fn by_registrant<L: Look>(
 }
 
 /// The maker is first in the request's queue.
-pub(crate) fn by_request_holder<L: Look>(
-    look: &L,
+pub(crate) fn by_request_holder<R: Rows>(
+    rows: &R,
     request: RequestId,
     session: SessionId,
 ) -> Result<(), Refusal>
-    ensures { result ≡ by_request_holder (L.state look.now) request session }
+    ensures { result ≡ by_request_holder (R.state rows.now) request session }
 {
-    if is_named(session, look.request_holder(request)) {
+    if is_named(session, request_holder(rows, request)) {
         Ok(())
     } else {
         Err(Refusal::NotHeld)
@@ -199,14 +199,14 @@ pub(crate) fn by_request_holder<L: Look>(
 }
 
 /// The maker is first in the node's queue.
-pub(crate) fn by_node_holder<L: Look>(
-    look: &L,
+pub(crate) fn by_node_holder<R: Rows>(
+    rows: &R,
     node: NodeId,
     session: SessionId,
 ) -> Result<(), Refusal>
-    ensures { result ≡ by_node_holder (L.state look.now) node session }
+    ensures { result ≡ by_node_holder (R.state rows.now) node session }
 {
-    if is_named(session, look.node_holder(node)) {
+    if is_named(session, node_holder(rows, node)) {
         Ok(())
     } else {
         Err(Refusal::NotHeld)
@@ -278,32 +278,32 @@ pub(crate) fn none_missing(missing: usize) -> Result<(), Refusal>
 // Quota and semaphores.
 
 /// The first of the labels that the pool does not offer.
-pub(crate) fn first_unoffered<L: Look>(
-    look: &L,
+pub(crate) fn first_unoffered<R: Rows>(
+    rows: &R,
     pool: PoolId,
     labels: &[LabelId],
 ) -> Option<LabelId>
-    ensures { result ≡ find (λ l. not (is_offered (L.site look.now) pool l)) labels.now }
+    ensures { result ≡ find (λ l. not (is_offered (R.site rows.now) pool l)) labels.now }
 {
-    np_look::first_unoffered(look.config(), pool, labels)
+    np_look::first_unoffered(rows.config(), pool, labels)
 }
 
 /// Whether the pool offers the label.
-pub(crate) fn is_offered<L: Look>(look: &L, pool: PoolId, label: LabelId) -> bool
-    ensures { result ≡ is_offered (L.site look.now) pool label }
+pub(crate) fn is_offered<R: Rows>(rows: &R, pool: PoolId, label: LabelId) -> bool
+    ensures { result ≡ is_offered (R.site rows.now) pool label }
 {
-    np_look::is_offered(look.config(), pool, label)
+    np_look::is_offered(rows.config(), pool, label)
 }
 
 /// Whether the labels together pass a limit of the pool, however empty it is.
-pub(crate) fn is_too_much<L: Look>(look: &L, pool: PoolId, labels: &[LabelId]) -> bool
-    requires fits { Fits (L.site look.now) (L.state look.now) }
+pub(crate) fn is_too_much<R: Rows>(rows: &R, pool: PoolId, labels: &[LabelId]) -> bool
+    requires fits { Fits (R.site rows.now) (R.state rows.now) }
     requires few { length labels.now < 2 ^ 32 }
     ensures { result ≡
-        not (fits (amount_of_all (L.site look.now) pool labels.now)
-        (limit_of (L.site look.now) pool)) }
+        not (fits (amount_of_all (R.site rows.now) pool labels.now)
+        (limit_of (R.site rows.now) pool)) }
 {
-    np_look::is_too_much(look.config(), pool, labels)
+    np_look::is_too_much(rows.config(), pool, labels)
 }
 
 /// The pool has room for one more node of the label.
@@ -312,7 +312,7 @@ pub(crate) fn has_room<L: Look>(look: &L, pool: PoolId, label: LabelId) -> Resul
     ensures { result ≡ has_room (L.site look.now) (L.state look.now) pool label }
 {
     let used = look.used(pool);
-    if lacks_room(look, pool, label, used) {
+    if lacks_room(look.rows(), pool, label, used) {
         return Err(Refusal::QuotaShort {
             instances: used.instances,
             cores: used.cores,
@@ -323,31 +323,31 @@ pub(crate) fn has_room<L: Look>(look: &L, pool: PoolId, label: LabelId) -> Resul
 }
 
 /// Whether one more node of the label passes a limit of the pool that uses so much.
-pub(crate) fn lacks_room<L: Look>(look: &L, pool: PoolId, label: LabelId, used: Amount) -> bool
-    requires fits { Fits (L.site look.now) (L.state look.now) }
-    requires used { used ≡ count_of (L.site look.now) (L.state look.now) pool }
+pub(crate) fn lacks_room<R: Rows>(rows: &R, pool: PoolId, label: LabelId, used: Amount) -> bool
+    requires fits { Fits (R.site rows.now) (R.state rows.now) }
+    requires used { used ≡ count_of (R.site rows.now) (R.state rows.now) pool }
     requires instances { used.instances < 2 ^ 63 }
     requires cores { used.cores < 2 ^ 63 }
     requires ram { used.ram < 2 ^ 63 }
-    ensures { result ≡ is_short (L.site look.now) (L.state look.now) pool label }
+    ensures { result ≡ is_short (R.site rows.now) (R.state rows.now) pool label }
 {
-    np_look::lacks_room(look.config(), pool, label, used)
+    np_look::lacks_room(rows.config(), pool, label, used)
 }
 
 /// The tenant of the job, where there is one.
-pub(crate) fn tenant_of_job<L: Look>(look: &L, job: Option<JobId>) -> Option<TenantId>
-    ensures { result ≡ tenant_of_job (L.site look.now) job }
+pub(crate) fn tenant_of_job<R: Rows>(rows: &R, job: Option<JobId>) -> Option<TenantId>
+    ensures { result ≡ tenant_of_job (R.site rows.now) job }
 {
-    np_look::tenant_of_job(look.config(), job)
+    np_look::tenant_of_job(rows.config(), job)
 }
 
 /// Whether a request that is not pinned passes a limit of its job's tenant, however little that
 /// uses.
-pub(crate) fn tenant_never_fits<L: Look>(look: &L, pool: PoolId, asked: &Asked) -> bool
-    requires { Fits (L.site look.now) (L.state look.now) }
-    ensures { result ≡ tenant_never_fits (L.site look.now) pool (new_record asked.now) }
+pub(crate) fn tenant_never_fits<R: Rows>(rows: &R, pool: PoolId, asked: &Asked) -> bool
+    requires { Fits (R.site rows.now) (R.state rows.now) }
+    ensures { result ≡ tenant_never_fits (R.site rows.now) pool (new_record asked.now) }
 {
-    np_look::tenant_never_fits(look.config(), pool, asked)
+    np_look::tenant_never_fits(rows.config(), pool, asked)
 }
 
 /// The tenant of the request's job has room for it, at the pool.
@@ -368,13 +368,13 @@ pub(crate) fn not_blocked<L: Look>(look: &L, pool: PoolId, asked: &Asked) -> Res
 }
 
 /// How many of the job's semaphores it has no handle of. It costs the handles of each.
-pub fn missing_handles<L: Look>(look: &L, id: JobId, job: &Job) -> usize
-    ensures missing { result ≡ missing_handles (L.state look.now) id job.now }
+pub fn missing_handles<R: Rows>(rows: &R, id: JobId, job: &Job) -> usize
+    ensures missing { result ≡ missing_handles (R.state rows.now) id job.now }
     ensures few { result ≤ length job.now.semaphores }
 {
     job.semaphores
         .items()
         .iter()
-        .filter(|x| !look.has_handle(**x, id))
+        .filter(|x| !rows.has_handle(**x, id))
         .count()
 }

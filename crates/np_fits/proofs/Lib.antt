@@ -7,3 +7,4 @@ pub mod ShapeRuns
 pub mod FitsRuns
 pub mod Sites
 pub mod Offered
+pub mod RunSteps

@@ -5,7 +5,7 @@ ghost use Rattle.np_machine.specs.Reasons.{is_past, is_old_ready, is_old_hold, i
 ghost use Rattle.np_fits.specs.Fits.{Fits};
 ghost use Rattle.np_useful.specs.Cleanable.{is_left_over, is_to_go, is_cleanable};
 
-use np_look::{Look, ready_age};
+use np_look::{Look, Rows, is_unclaimed, ready_age};
 use np_record::NodeRecord;
 use np_text::{NodeState, PoolId};
 
@@ -36,28 +36,28 @@ fn is_past(age: u32, since: u32, tick: u32) -> bool
 }
 
 /// Whether it has been ready for longer than its label allows.
-fn is_old_ready<L: Look>(look: &L, kept: &NodeRecord) -> bool
-    ensures { result ≡ is_old_ready (L.site look.now) (L.state look.now) kept.now }
+fn is_old_ready<R: Rows>(rows: &R, kept: &NodeRecord) -> bool
+    ensures { result ≡ is_old_ready (R.site rows.now) (R.state rows.now) kept.now }
 {
     is_past(
-        ready_age(look.config(), kept.label),
+        ready_age(rows.config(), kept.label),
         kept.since,
-        look.tick(),
+        rows.tick(),
     )
 }
 
 /// Whether it was held for longer than the configuration allows.
-fn is_old_hold<L: Look>(look: &L, kept: &NodeRecord) -> bool
-    ensures { result ≡ is_old_hold (L.site look.now) (L.state look.now) kept.now }
+fn is_old_hold<R: Rows>(rows: &R, kept: &NodeRecord) -> bool
+    ensures { result ≡ is_old_hold (R.site rows.now) (R.state rows.now) kept.now }
 {
-    is_past(look.config().max_hold_age(), kept.since, look.tick())
+    is_past(rows.config().max_hold_age(), kept.since, rows.tick())
 }
 
 /// Whether it is allocated to a request that no longer exists.
-fn is_left_over<L: Look>(look: &L, kept: &NodeRecord) -> bool
-    ensures { result ≡ is_left_over (L.state look.now) kept.now }
+fn is_left_over<R: Rows>(rows: &R, kept: &NodeRecord) -> bool
+    ensures { result ≡ is_left_over (R.state rows.now) kept.now }
 {
-    kept.allocated_to.is_some() && look.is_unclaimed(kept)
+    kept.allocated_to.is_some() && is_unclaimed(rows, kept)
 }
 
 /// Whether it is allocated to no request, and old or in a paused pool.
@@ -66,7 +66,8 @@ fn is_to_go<L: Look>(look: &L, known: PoolPause, kept: &NodeRecord) -> bool
     requires known { known.paused ≡ is_paused (L.site look.now) (L.state look.now) known.pool }
     ensures { result ≡ is_to_go (L.site look.now) (L.state look.now) kept.now }
 {
-    kept.allocated_to.is_none() && (is_old_ready(look, kept) || is_paused(look, known, kept.pool))
+    kept.allocated_to.is_none()
+        && (is_old_ready(look.rows(), kept) || is_paused(look, known, kept.pool))
 }
 
 /// Whether a janitor may remove or free the node if nobody holds it.
@@ -75,10 +76,11 @@ pub(crate) fn is_cleanable<L: Look>(look: &L, known: PoolPause, kept: &NodeRecor
     requires known { known.paused ≡ is_paused (L.site look.now) (L.state look.now) known.pool }
     ensures { result ≡ is_cleanable (L.site look.now) (L.state look.now) kept.now }
 {
+    let rows = look.rows();
     match kept.state {
         NodeState::Building | NodeState::InUse | NodeState::Used => true,
         NodeState::Deleting | NodeState::Failed => true,
-        NodeState::Ready => is_left_over(look, kept) || is_to_go(look, known, kept),
-        NodeState::Hold => is_old_hold(look, kept),
+        NodeState::Ready => is_left_over(rows, kept) || is_to_go(look, known, kept),
+        NodeState::Hold => is_old_hold(rows, kept),
     }
 }

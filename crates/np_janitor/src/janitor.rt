@@ -23,9 +23,9 @@ ghost use Rattle.np_janitor.specs.Finishes.{ChoosesFinish};
 use crate::cleanable::{PoolPause, is_cleanable};
 use crate::listed::LocksOfDue;
 use np_event::Event;
-use np_look::{Look, is_same_role};
+use np_look::{Look, Rows, has_handles, is_same_role, node_holder};
 use np_roles::{
-    EventKind, NodeKind, RequestKind, Rows, choose_opening, current_session, first_of_kinds,
+    EventKind, NodeKind, RequestKind, RoleRows, choose_opening, current_session, first_of_kinds,
     first_release, first_that_passes, is_stopped, may_open, passes,
 };
 use np_text::{
@@ -44,10 +44,10 @@ const BEFORE_FAIL: [EventKind; 6] = [
 ];
 
 /// Whether the request exists and is pending, and the pool serves it.
-fn is_served<L: Look>(look: &L, pool: PoolId, request: RequestId) -> bool
-    ensures { result ≡ request_is request (L.state look.now) (is_pending_by pool) }
+fn is_served<R: Rows>(rows: &R, pool: PoolId, request: RequestId) -> bool
+    ensures { result ≡ request_is request (R.state rows.now) (is_pending_by pool) }
 {
-    let Some(asked) = look.asked(request) else {
+    let Some(asked) = rows.asked(request) else {
         return false;
     };
     let own = match asked.pool {
@@ -58,21 +58,21 @@ fn is_served<L: Look>(look: &L, pool: PoolId, request: RequestId) -> bool
 }
 
 /// Whether the request exists and is not pending.
-fn is_given_back<L: Look>(look: &L, request: RequestId) -> bool
+fn is_given_back<R: Rows>(rows: &R, request: RequestId) -> bool
     ensures { result ≡
-        request_is request (L.state look.now) (λ kept. not (is_pending kept.state)) }
+        request_is request (R.state rows.now) (λ kept. not (is_pending kept.state)) }
 {
-    match look.asked(request) {
+    match rows.asked(request) {
         None => false,
         Some(asked) => asked.state != RequestState::Pending,
     }
 }
 
 /// Whether the node exists and belongs to the pool.
-fn is_of_pool<L: Look>(look: &L, pool: PoolId, node: NodeId) -> bool
-    ensures { result ≡ node_is node (L.state look.now) (is_node_of pool) }
+fn is_of_pool<R: Rows>(rows: &R, pool: PoolId, node: NodeId) -> bool
+    ensures { result ≡ node_is node (R.state rows.now) (is_node_of pool) }
 {
-    match look.node(node) {
+    match rows.node(node) {
         None => false,
         Some(kept) => kept.pool.0 == pool.0,
     }
@@ -87,12 +87,13 @@ fn is_to_clean<L: Look>(look: &L, known: PoolPause, node: NodeId) -> bool
         (λ k. is_node_of known.pool k && is_cleanable (L.site look.now) (L.state look.now) k)
         && is_none (node_holder node (L.state look.now).nodes)) }
 {
-    let Some(kept) = look.node(node) else {
+    let rows = look.rows();
+    let Some(kept) = rows.node(node) else {
         return false;
     };
     kept.pool.0 == known.pool.0
         && is_cleanable(look, known, &kept)
-        && look.node_holder(node).is_none()
+        && node_holder(rows, node).is_none()
 }
 
 /// Whether the node exists and need not be cleaned up.
@@ -102,30 +103,30 @@ fn is_clean<L: Look>(look: &L, known: PoolPause, node: NodeId) -> bool
     ensures { result ≡ node_is node (L.state look.now)
         (λ k. not (is_cleanable (L.site look.now) (L.state look.now) k)) }
 {
-    match look.node(node) {
+    match look.rows().node(node) {
         None => false,
         Some(kept) => !is_cleanable(look, known, &kept),
     }
 }
 
 /// Whether the job's requester stopped for good.
-fn is_left_alone<L: Look>(look: &L, job: JobId) -> bool
-    ensures { result ≡ job_is job (L.site look.now)
-        (λ row. is_stopped (L.site look.now) (Requester row.requester) (L.state look.now)) }
+fn is_left_alone<R: Rows>(rows: &R, job: JobId) -> bool
+    ensures { result ≡ job_is job (R.site rows.now)
+        (λ row. is_stopped (R.site rows.now) (Requester row.requester) (R.state rows.now)) }
 {
-    match look.config().job(job) {
+    match rows.config().job(job) {
         None => false,
-        Some(row) => is_stopped(look, Role::Requester(row.requester)),
+        Some(row) => is_stopped(rows, Role::Requester(row.requester)),
     }
 }
 
 /// Whether the job exists and has a handle.
-fn has_handle_left<L: Look>(look: &L, job: JobId) -> bool
-    ensures { result ≡ job_is job (L.site look.now) (has_some_handle (L.state look.now) job) }
+fn has_handle_left<R: Rows>(rows: &R, job: JobId) -> bool
+    ensures { result ≡ job_is job (R.site rows.now) (has_some_handle (R.state rows.now) job) }
 {
-    match look.config().job(job) {
+    match rows.config().job(job) {
         None => false,
-        Some(row) => look.has_handles(job, row),
+        Some(row) => has_handles(rows, job, row),
     }
 }
 
@@ -135,28 +136,29 @@ struct JanitorRows {
     known: PoolPause,
 }
 
-impl Rows for JanitorRows {
+impl RoleRows for JanitorRows {
     ghost role = { λ rows. Janitor rows.known.pool };
 
     ghost knows = { λ rows c s. rows.known.paused ≡ is_paused c s rows.known.pool };
 
     fn holds<L: Look>(&self, look: &L, event: Event) -> bool {
+        let rows = look.rows();
         let pool = self.known.pool;
         match event {
             Event::OpenSession { role } => {
                 is_same_role(role, Role::Janitor(pool)) && may_open(look, role)
             }
-            Event::LockRequest { request, .. } => is_served(look, pool, request),
-            Event::Reset { request, .. } => is_served(look, pool, request),
-            Event::UnlockRequest { request, .. } => is_given_back(look, request),
+            Event::LockRequest { request, .. } => is_served(rows, pool, request),
+            Event::Reset { request, .. } => is_served(rows, pool, request),
+            Event::UnlockRequest { request, .. } => is_given_back(rows, request),
             Event::LockNode { node, .. } => is_to_clean(look, self.known, node),
-            Event::MarkDeleting { node, .. } => is_of_pool(look, pool, node),
-            Event::FreeNode { node, .. } => is_of_pool(look, pool, node),
-            Event::Gone { node, .. } => is_of_pool(look, pool, node),
+            Event::MarkDeleting { node, .. } => is_of_pool(rows, pool, node),
+            Event::FreeNode { node, .. } => is_of_pool(rows, pool, node),
+            Event::Gone { node, .. } => is_of_pool(rows, pool, node),
             Event::UnlockNode { node, .. } => is_clean(look, self.known, node),
             Event::FailDeclined { .. } => true,
-            Event::Finish { job, .. } => is_left_alone(look, job),
-            Event::Release { job, .. } => has_handle_left(look, job),
+            Event::Finish { job, .. } => is_left_alone(rows, job),
+            Event::Release { job, .. } => has_handle_left(rows, job),
             _ => false,
         }
     }
@@ -181,10 +183,10 @@ fn finish_for<L: Look>(
     ensures { ChoosesFinish (L.site look.now) (L.state look.now) rows.now.known.pool requester
         result }
 {
-    if look.has_live_session(requester) || !is_stopped(look, Role::Requester(requester)) {
+    if look.has_live_session(requester) || !is_stopped(look.rows(), Role::Requester(requester)) {
         return None;
     }
-    for at in 0..look.jobs() {
+    for at in 0..look.rows().jobs() {
         let Some(job) = look.job_to_finish(requester, at) else {
             return None;
         };
@@ -207,7 +209,7 @@ fn first_finish<L: Look>(look: &L, rows: &JanitorRows, session: SessionId) -> Op
     ensures { ChoosesOf (L.site look.now) (L.state look.now) (Janitor rows.now.known.pool)
         (Job of_job.Finish) result }
 {
-    look.config().soundness();
+    look.rows().config().soundness();
     for at in 0..REQUESTERS as u16 {
         let found = finish_for(look, rows, session, RequesterId(at));
         if found.is_some() {
@@ -228,7 +230,7 @@ fn first_release_of_all<L: Look>(look: &L, rows: &JanitorRows, session: SessionI
     ensures { ChoosesOf (L.site look.now) (L.state look.now) (Janitor rows.now.known.pool)
         (Job of_job.Release) result }
 {
-    look.config().soundness();
+    look.rows().config().soundness();
     for at in 0..REQUESTERS as u16 {
         let found = first_release(look, rows, session, RequesterId(at));
         if found.is_some() {
@@ -240,12 +242,12 @@ fn first_release_of_all<L: Look>(look: &L, rows: &JanitorRows, session: SessionI
 
 /// Whether there are fewer registrations than the configuration has pools, so that some pool has
 /// none. It costs the count of the registrations and one lookup in the configuration.
-fn lacks_registration<L: Look>(look: &L) -> bool
-    ensures { result ≡ lacks_registration (L.site look.now) (L.state look.now) }
+fn lacks_registration<R: Rows>(rows: &R) -> bool
+    ensures { result ≡ lacks_registration (R.site rows.now) (R.state rows.now) }
 {
-    let config = look.config();
+    let config = rows.config();
     config.soundness();
-    let registrations = look.registrations();
+    let registrations = rows.registrations();
     registrations < POOLS as u32 && config.pool(PoolId(registrations as u16)).is_some()
 }
 
@@ -263,7 +265,7 @@ fn first_fail<L: Look>(look: &L, rows: &JanitorRows, session: SessionId) -> Opti
     ensures { ChoosesOf (L.site look.now) (L.state look.now) (Janitor rows.now.known.pool)
         (Request of_request.FailDeclined) result }
 {
-    if !lacks_registration(look) {
+    if !lacks_registration(look.rows()) {
         return None;
     }
     let Some(request) = look.first_declined_by_all() else {

@@ -7,27 +7,27 @@ ghost use Rattle.np_roles.specs.Choices.{Chooses};
 ghost use Rattle.np_janitor.specs.Struck.{due_kind, strike_on, strike_of, strike_by, ChoosesStrike};
 
 use np_event::Event;
-use np_look::Look;
+use np_look::{Look, Rows};
 use np_roles::{fault_of, strikes_of};
 use np_site::{Fault, FaultKind};
 use np_text::{Role, SessionId};
 
 /// Whether the role has as many accepted events as the fault waits for.
-fn is_due<L: Look>(look: &L, role: Role, fault: &Fault) -> bool
-    ensures { result ≡ is_due role (L.state look.now) fault.now }
+fn is_due<R: Rows>(rows: &R, role: Role, fault: &Fault) -> bool
+    ensures { result ≡ is_due role (R.state rows.now) fault.now }
 {
-    match look.role(role) {
+    match rows.role(role) {
         None => false,
         Some(deeds) => fault.after <= deeds.acts,
     }
 }
 
 /// The kind of the role's next fault, if it is due.
-fn due_kind<L: Look>(look: &L, role: Role) -> Option<FaultKind>
-    ensures { result ≡ due_kind (L.site look.now) role (L.state look.now) }
+fn due_kind<R: Rows>(rows: &R, role: Role) -> Option<FaultKind>
+    ensures { result ≡ due_kind (R.site rows.now) role (R.state rows.now) }
 {
-    let fault = fault_of(look.config(), role, strikes_of(look, role))?;
-    if is_due(look, role, &fault) {
+    let fault = fault_of(rows.config(), role, strikes_of(rows, role))?;
+    if is_due(rows, role, &fault) {
         Some(fault.kind)
     } else {
         None
@@ -50,7 +50,7 @@ fn strike_on(kind: FaultKind, session: SessionId) -> Event
 fn strike_of<L: Look>(look: &L, role: Role) -> Option<Event>
     ensures { result ≡ strike_of (L.site look.now) (L.state look.now) role }
 {
-    let kind = due_kind(look, role)?;
+    let kind = due_kind(look.rows(), role)?;
     let session = look.current_session(role)?;
     Some(strike_on(kind, session))
 }
@@ -60,7 +60,7 @@ fn strike_of<L: Look>(look: &L, role: Role) -> Option<Event>
 fn strike_by<L: Look>(look: &L, fault: &Fault) -> Option<Event>
     ensures { result ≡ strike_by (L.site look.now) (L.state look.now) fault.now }
 {
-    if is_due(look, fault.role, fault) {
+    if is_due(look.rows(), fault.role, fault) {
         strike_of(look, fault.role)
     } else {
         None
@@ -72,7 +72,7 @@ fn strike_by<L: Look>(look: &L, fault: &Fault) -> Option<Event>
 fn first_strike<L: Look>(look: &L) -> Option<Event>
     ensures { ChoosesStrike (L.site look.now) (L.state look.now) result }
 {
-    let config = look.config();
+    let config = look.rows().config();
     config.soundness();
     let mut at = 0;
     while let Some(fault) = config.fault(at) {

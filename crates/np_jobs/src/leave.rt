@@ -11,7 +11,7 @@ ghost use Rattle.np_jobs.specs.Steps.{leaving, ChoosesToLeave};
 
 use crate::rows::RequesterRows;
 use np_event::Event;
-use np_look::Look;
+use np_look::{Look, Rows};
 use np_roles::passes;
 use np_text::{EndAs, JobId, NodeId, Phase, SessionId};
 
@@ -31,10 +31,10 @@ pub(crate) fn first_to_leave<L: Look>(
     ensures { IfSome result
         (IsUseful (L.site look.now) (L.state look.now) (Requester rows.now.requester)) }
 {
-    let Some(row) = look.config().job(job) else {
+    let Some(row) = look.rows().config().job(job) else {
         return None;
     };
-    let Some(kept) = look.job(job) else {
+    let Some(kept) = look.rows().job(job) else {
         return None;
     };
     if kept.phase != Phase::Using {
@@ -111,7 +111,7 @@ pub(crate) fn first_step_to_leave<L: Look>(
     ensures { ChoosesOfAny (L.site look.now) (L.state look.now) (Requester rows.now.requester)
         leaving result }
 {
-    for at in 0..look.nodes() {
+    for at in 0..look.rows().nodes() {
         let Some(node) = look.node_to_leave(rows.requester, session, at) else {
             return None;
         };

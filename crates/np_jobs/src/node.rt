@@ -6,27 +6,27 @@ ghost use Rattle.np_machine.specs.Kinds.{is_in_use};
 ghost use Rattle.np_useful.specs.Requester.{is_for, same_end, is_left_as};
 ghost use Rattle.np_useful.specs.Rows.{node_is};
 
-use np_look::Look;
+use np_look::{Look, Rows, is_given_to};
 use np_text::{EndAs, NodeId, NodeState, RequesterId};
 
 /// Whether the node is in the list of a fulfilled request of an asked job of the requester: whether
 /// it was given to the requester. The node is then allocated to that request, so this costs one
 /// lookup of each.
-pub(crate) fn is_for<L: Look>(look: &L, requester: RequesterId, node: NodeId) -> bool
-    requires { IsReached (L.site look.now) (L.state look.now) }
-    ensures { result ≡ is_for (L.site look.now) (L.state look.now) requester node }
+pub(crate) fn is_for<R: Rows>(rows: &R, requester: RequesterId, node: NodeId) -> bool
+    requires { IsReached (R.site rows.now) (R.state rows.now) }
+    ensures { result ≡ is_for (R.site rows.now) (R.state rows.now) requester node }
 {
-    match look.node(node) {
+    match rows.node(node) {
         None => false,
-        Some(kept) => look.is_given_to(requester, &kept),
+        Some(kept) => is_given_to(rows, requester, &kept),
     }
 }
 
 /// Whether the node exists and is not in use.
-pub(crate) fn is_idle<L: Look>(look: &L, node: NodeId) -> bool
-    ensures { result ≡ node_is node (L.state look.now) (λ k. not (is_in_use k.state)) }
+pub(crate) fn is_idle<R: Rows>(rows: &R, node: NodeId) -> bool
+    ensures { result ≡ node_is node (R.state rows.now) (λ k. not (is_in_use k.state)) }
 {
-    match look.node(node) {
+    match rows.node(node) {
         None => false,
         Some(kept) => kept.state != NodeState::InUse,
     }
@@ -56,7 +56,7 @@ pub(crate) fn is_left_as<L: Look>(look: &L, node: NodeId, end: EndAs) -> bool
     let Some(job) = look.owner(node) else {
         return false;
     };
-    match look.config().job(job) {
+    match look.rows().config().job(job) {
         None => false,
         Some(row) => is_same_end(row.end, end),
     }

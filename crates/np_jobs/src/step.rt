@@ -15,7 +15,7 @@ use crate::leave::first_to_leave;
 use crate::rows::RequesterRows;
 use crate::window::is_in_window;
 use np_event::Event;
-use np_look::Look;
+use np_look::{Look, Rows};
 use np_roles::passes;
 use np_text::{JobId, SessionId};
 
@@ -60,7 +60,7 @@ fn first_step_to_finish<L: Look>(
     ensures { ChoosesOf (L.site look.now) (L.state look.now) (Requester rows.now.requester)
         (Job of_job.Finish) result }
 {
-    for at in 0..look.jobs() {
+    for at in 0..look.rows().jobs() {
         let Some(job) = look.job_to_finish(rows.requester, at) else {
             return None;
         };
@@ -123,7 +123,7 @@ fn first_step_to_take<L: Look>(look: &L, rows: &RequesterRows, session: SessionI
     requires current { is_current (Requester rows.now.requester) session (L.state look.now) ≡ true }
     ensures { ChoosesToTake (L.site look.now) (L.state look.now) rows.now.requester session result }
 {
-    for at in 0..look.jobs() {
+    for at in 0..look.rows().jobs() {
         let Some(job) = look.job_to_take(rows.requester, at) else {
             return None;
         };

@@ -10,7 +10,7 @@ ghost use Rattle.np_useful.specs.Requester.{has_fulfilled_request, waits_for_han
 
 use np_config::Config;
 use np_decision::missing_handles;
-use np_look::Look;
+use np_look::{Look, Rows};
 use np_record::JobRecord;
 use np_site::Job;
 use np_text::{JobId, Phase, RequestState, RequesterId};
@@ -26,14 +26,14 @@ fn window(config: &Config, requester: RequesterId) -> u32
 }
 
 /// Whether the job exists, is the requester's and is not over. It costs one lookup.
-fn is_unfinished<L: Look>(look: &L, requester: RequesterId, id: JobId) -> bool
-    ensures { result ≡ option_map_or (is_unfinished_job (L.site look.now) requester id)
-        (slice_get (L.state look.now).jobs id.0) false }
+fn is_unfinished<R: Rows>(rows: &R, requester: RequesterId, id: JobId) -> bool
+    ensures { result ≡ option_map_or (is_unfinished_job (R.site rows.now) requester id)
+        (slice_get (R.state rows.now).jobs id.0) false }
 {
-    let Some(job) = look.config().job(id) else {
+    let Some(job) = rows.config().job(id) else {
         return false;
     };
-    let Some(kept) = look.job(id) else {
+    let Some(kept) = rows.job(id) else {
         return false;
     };
     job.requester.0 == requester.0 && kept.phase != Phase::Over
@@ -45,11 +45,12 @@ fn is_unfinished<L: Look>(look: &L, requester: RequesterId, id: JobId) -> bool
 pub(crate) fn is_in_window<L: Look>(look: &L, requester: RequesterId, job: JobId) -> bool
     ensures { result ≡ is_in_window (L.site look.now) (L.state look.now) requester job }
 {
-    let width = window(look.config(), requester);
+    let rows = look.rows();
+    let width = window(rows.config(), requester);
     if width == 0 {
         return false;
     }
-    if !is_unfinished(look, requester, job) {
+    if !is_unfinished(rows, requester, job) {
         return false;
     }
     match look.unfinished(requester, width - 1) {
@@ -59,13 +60,13 @@ pub(crate) fn is_in_window<L: Look>(look: &L, requester: RequesterId, job: JobId
 }
 
 /// Whether the job's request exists and is fulfilled.
-fn has_fulfilled_request<L: Look>(look: &L, kept: &JobRecord) -> bool
-    ensures { result ≡ has_fulfilled_request (L.state look.now) kept.now }
+fn has_fulfilled_request<R: Rows>(rows: &R, kept: &JobRecord) -> bool
+    ensures { result ≡ has_fulfilled_request (R.state rows.now) kept.now }
 {
     let Some(request) = kept.request else {
         return false;
     };
-    match look.asked(request) {
+    match rows.asked(request) {
         None => false,
         Some(asked) => asked.state == RequestState::Fulfilled,
     }
@@ -83,7 +84,7 @@ fn waits_for_handles<L: Look>(
         job.now kept.now }
 {
     (kept.phase == Phase::New && !job.resources_first && is_in_window(look, requester, id))
-        || (kept.phase == Phase::Asked && has_fulfilled_request(look, kept))
+        || (kept.phase == Phase::Asked && has_fulfilled_request(look.rows(), kept))
 }
 
 /// Whether some handle is missing, and the job waits for it.
@@ -91,11 +92,12 @@ pub(crate) fn is_to_acquire<L: Look>(look: &L, requester: RequesterId, id: JobId
     ensures { result ≡ job_is id (L.site look.now)
         (is_to_acquire (L.site look.now) (L.state look.now) requester id) }
 {
-    let Some(job) = look.config().job(id) else {
+    let rows = look.rows();
+    let Some(job) = rows.config().job(id) else {
         return false;
     };
-    let Some(kept) = look.job(id) else {
+    let Some(kept) = rows.job(id) else {
         return false;
     };
-    missing_handles(look, id, job) != 0 && waits_for_handles(look, requester, id, job, &kept)
+    missing_handles(rows, id, job) != 0 && waits_for_handles(look, requester, id, job, &kept)
 }

@@ -14,7 +14,7 @@ use np_changes::Asked;
 use np_config::Config;
 use np_decision::decide;
 use np_event::Event;
-use np_look::{Look, first_unoffered, is_too_much, tenant_never_fits};
+use np_look::{Look, Rows, first_unoffered, is_too_much, tenant_never_fits};
 use np_roles::Candidates;
 use np_text::{LabelId, NodeId, PoolId, Reason, RequestId, Role, SessionId};
 
@@ -42,10 +42,10 @@ fn is_takable<L: Look>(look: &L, session: SessionId, request: RequestId, node: N
 }
 
 /// The pool of the launcher that the session belongs to.
-fn pool_of<L: Look>(look: &L, session: SessionId) -> Option<PoolId>
-    ensures { result ≡ pool_of (L.state look.now) session }
+fn pool_of<R: Rows>(rows: &R, session: SessionId) -> Option<PoolId>
+    ensures { result ≡ pool_of (R.state rows.now) session }
 {
-    let Some(facts) = look.session(session) else {
+    let Some(facts) = rows.session(session) else {
         return None;
     };
     match facts.role {
@@ -58,7 +58,7 @@ fn pool_of<L: Look>(look: &L, session: SessionId) -> Option<PoolId>
 fn first_free<L: Look>(look: &L, request: RequestId, pool: PoolId) -> Option<NodeId>
     ensures { result ≡ first_free (L.state look.now) request pool }
 {
-    let Some(asked) = look.asked(request) else {
+    let Some(asked) = look.rows().asked(request) else {
         return None;
     };
     match asked.labels.at(asked.nodes.len()) {
@@ -75,7 +75,7 @@ fn first_takable<L: Look>(look: &L, session: SessionId, request: RequestId) -> O
     requires { Fits (L.site look.now) (L.state look.now) }
     ensures { result ≡ first_takable (L.site look.now) (L.state look.now) session request }
 {
-    let Some(pool) = pool_of(look, session) else {
+    let Some(pool) = pool_of(look.rows(), session) else {
         return None;
     };
     let Some(node) = first_free(look, request, pool) else {
@@ -98,11 +98,11 @@ pub(crate) fn may_take_ready<L: Look>(look: &L, session: SessionId, request: Req
 }
 
 /// The first of the nodes that failed.
-fn first_spent<L: Look>(look: &L, nodes: &[NodeId]) -> Option<NodeId>
-    ensures { result ≡ find (λ m. is_spent m (L.state look.now)) nodes.now }
+fn first_spent<R: Rows>(rows: &R, nodes: &[NodeId]) -> Option<NodeId>
+    ensures { result ≡ find (λ m. is_spent m (R.state rows.now)) nodes.now }
 {
     for node in nodes {
-        if is_spent(look, *node) {
+        if is_spent(rows, *node) {
             return Some(*node);
         }
     }
@@ -110,41 +110,41 @@ fn first_spent<L: Look>(look: &L, nodes: &[NodeId]) -> Option<NodeId>
 }
 
 /// The first reason why the pool would decline the request.
-fn first_reason<L: Look>(look: &L, pool: PoolId, asked: &Asked) -> Option<Reason>
-    requires { Fits (L.site look.now) (L.state look.now) }
+fn first_reason<R: Rows>(rows: &R, pool: PoolId, asked: &Asked) -> Option<Reason>
+    requires { Fits (R.site rows.now) (R.state rows.now) }
     ensures { result ≡
-        first_reason (L.site look.now) (L.state look.now) pool (new_record asked.now) }
+        first_reason (R.site rows.now) (R.state rows.now) pool (new_record asked.now) }
 {
     let _few = asked.labels.len();
-    if let Some(label) = first_unoffered(look.config(), pool, asked.labels.items()) {
+    if let Some(label) = first_unoffered(rows.config(), pool, asked.labels.items()) {
         return Some(Reason::NoLabel(label));
     }
-    if is_too_much(look.config(), pool, asked.labels.items()) {
+    if is_too_much(rows.config(), pool, asked.labels.items()) {
         return Some(Reason::NeverFits);
     }
-    if tenant_never_fits(look.config(), pool, asked) {
+    if tenant_never_fits(rows.config(), pool, asked) {
         return Some(Reason::TenantNeverFits);
     }
-    match first_spent(look, asked.nodes.items()) {
+    match first_spent(rows, asked.nodes.items()) {
         None => None,
         Some(node) => Some(Reason::Spent(node)),
     }
 }
 
 /// Whether the reason is the first of the pool's for the request.
-pub(crate) fn is_first_reason<L: Look>(
-    look: &L,
+pub(crate) fn is_first_reason<R: Rows>(
+    rows: &R,
     pool: PoolId,
     request: RequestId,
     reason: Reason,
 ) -> bool
-    requires { Fits (L.site look.now) (L.state look.now) }
-    ensures { result ≡ request_is request (L.state look.now)
-        (λ k. is_first_reason (L.site look.now) (L.state look.now) pool k reason) }
+    requires { Fits (R.site rows.now) (R.state rows.now) }
+    ensures { result ≡ request_is request (R.state rows.now)
+        (λ k. is_first_reason (R.site rows.now) (R.state rows.now) pool k reason) }
 {
-    match look.asked(request) {
+    match rows.asked(request) {
         None => false,
-        Some(asked) => is_reason(reason, first_reason(look, pool, &asked)),
+        Some(asked) => is_reason(reason, first_reason(rows, pool, &asked)),
     }
 }
 
@@ -153,17 +153,18 @@ pub(crate) fn is_first_reason<L: Look>(
 fn done_at<L: Look>(look: &L, pool: PoolId, session: SessionId, at: u32) -> Option<Event>
     ensures { result ≡ done_at (L.site look.now) (L.state look.now) pool session at }
 {
+    let rows = look.rows();
     let Some(node) = look.queued_node_at(session, at) else {
         return None;
     };
-    let Some(kept) = look.node(node) else {
+    let Some(kept) = rows.node(node) else {
         return None;
     };
     Some(Event::Done {
         session,
         node,
         attempt: kept.attempts,
-        outcome: outcome_of(look.config(), pool, kept.start),
+        outcome: outcome_of(rows.config(), pool, kept.start),
     })
 }
 
@@ -176,7 +177,7 @@ fn take_ready_at<L: Look>(look: &L, pool: PoolId, session: SessionId, at: u32) -
     let Some(request) = look.queued_request_at(session, at) else {
         return None;
     };
-    let Some(asked) = look.asked(request) else {
+    let Some(asked) = look.rows().asked(request) else {
         return None;
     };
     if !is_served_by(pool, &asked) {
@@ -197,13 +198,14 @@ fn decline_at<L: Look>(look: &L, pool: PoolId, session: SessionId, at: u32) -> O
     requires { Fits (L.site look.now) (L.state look.now) }
     ensures { result ≡ decline_at (L.site look.now) (L.state look.now) pool session at }
 {
+    let rows = look.rows();
     let Some(request) = look.queued_request_at(session, at) else {
         return None;
     };
-    let Some(asked) = look.asked(request) else {
+    let Some(asked) = rows.asked(request) else {
         return None;
     };
-    match first_reason(look, pool, &asked) {
+    match first_reason(rows, pool, &asked) {
         None => None,
         Some(reason) => Some(Event::Decline {
             session,
@@ -299,7 +301,7 @@ impl Candidates for OfComputed {
             ComputedKind::TakeReady | ComputedKind::Decline => {
                 look.queued_requests(self.session)
             }
-            ComputedKind::MinReady => label_count(look.config()),
+            ComputedKind::MinReady => label_count(look.rows().config()),
         }
     }
 
@@ -310,7 +312,7 @@ impl Candidates for OfComputed {
             ComputedKind::Done => done_at(look, self.pool, session, at),
             ComputedKind::TakeReady => take_ready_at(look, self.pool, session, at),
             ComputedKind::Decline => decline_at(look, self.pool, session, at),
-            ComputedKind::MinReady => min_ready_at(look.config(), session, at),
+            ComputedKind::MinReady => min_ready_at(look.rows().config(), session, at),
         }
     }
 }

@@ -20,7 +20,7 @@ use crate::rows::{is_node_done_with, is_planned_report, is_registrant, is_unfail
 use np_event::Event;
 use np_look::{Look, is_same_role};
 use np_roles::{
-    EventKind, NodeKind, RequestKind, Rows, choose_opening, current_session, first_of_kind,
+    EventKind, NodeKind, RequestKind, RoleRows, choose_opening, current_session, first_of_kind,
     first_that_passes, may_open, passes,
 };
 use np_text::{PoolId, RequestId, Role, SessionId};
@@ -56,29 +56,30 @@ fn is_registered_row<L: Look>(look: &L, pool: PoolId, event: Event) -> bool
     ensures { result ≡ (is_by_registrant (L.state look.now) pool event
         && registered_row (L.site look.now) (L.state look.now) pool event) }
 {
+    let rows = look.rows();
     match event {
         Event::UnlockRequest { session, request } => {
-            is_registrant(look, pool, session) && is_done_with(look, pool, request)
+            is_registrant(rows, pool, session) && is_done_with(look, pool, request)
         }
         Event::UnlockNode { session, node } => {
-            is_registrant(look, pool, session) && is_node_done_with(look, pool, node)
+            is_registrant(rows, pool, session) && is_node_done_with(rows, pool, node)
         }
-        Event::Accept { session, .. } => is_registrant(look, pool, session),
+        Event::Accept { session, .. } => is_registrant(rows, pool, session),
         Event::Decline {
             session,
             request,
             reason,
-        } => is_registrant(look, pool, session) && is_first_reason(look, pool, request, reason),
+        } => is_registrant(rows, pool, session) && is_first_reason(rows, pool, request, reason),
         Event::TakeReady {
             session,
             request,
             ..
-        } => is_registrant(look, pool, session) && is_unfailed(look, request),
+        } => is_registrant(rows, pool, session) && is_unfailed(rows, request),
         Event::Create { session, request } => {
-            is_registrant(look, pool, session) && is_to_create(look, session, request)
+            is_registrant(rows, pool, session) && is_to_create(look, session, request)
         }
         Event::Start { session, node } => {
-            is_registrant(look, pool, session) && is_to_launch(look, pool, node)
+            is_registrant(rows, pool, session) && is_to_launch(rows, pool, node)
         }
         Event::Done {
             session,
@@ -86,15 +87,15 @@ fn is_registered_row<L: Look>(look: &L, pool: PoolId, event: Event) -> bool
             attempt,
             outcome,
         } => {
-            is_registrant(look, pool, session)
-                && is_planned_report(look, pool, node, attempt, outcome)
+            is_registrant(rows, pool, session)
+                && is_planned_report(rows, pool, node, attempt, outcome)
         }
-        Event::Fulfil { session, .. } => is_registrant(look, pool, session),
+        Event::Fulfil { session, .. } => is_registrant(rows, pool, session),
         Event::LockRequest { session, .. } => {
-            is_registrant(look, pool, session) && may_take_up(look, pool, session)
+            is_registrant(rows, pool, session) && may_take_up(look, pool, session)
         }
         Event::MinReady { session, .. } => {
-            is_registrant(look, pool, session) && !look.is_paused(pool)
+            is_registrant(rows, pool, session) && !look.is_paused(pool)
         }
         _ => false,
     }
@@ -108,7 +109,7 @@ fn is_to_create<L: Look>(look: &L, session: SessionId, request: RequestId) -> bo
         (λ k. not (has_failed_node (L.state look.now) k))
         && not (may_take_ready (L.site look.now) (L.state look.now) session request)) }
 {
-    is_unfailed(look, request) && !may_take_ready(look, session, request)
+    is_unfailed(look.rows(), request) && !may_take_ready(look, session, request)
 }
 
 /// The rows of a pool's launcher.
@@ -117,7 +118,7 @@ struct LauncherRows {
     pool: PoolId,
 }
 
-impl Rows for LauncherRows {
+impl RoleRows for LauncherRows {
     ghost role = { λ rows. Launcher rows.pool };
 
     ghost knows = { λ rows. IsReached };

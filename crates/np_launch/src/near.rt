@@ -7,7 +7,7 @@ ghost use Rattle.np_useful.specs.Rows.{request_is};
 ghost use Rattle.np_launch.specs.Sisters.{is_served_by_sister, unserved_requests, launcher_requests, sister_requests};
 
 use np_config::Config;
-use np_look::Look;
+use np_look::{Look, Rows};
 use np_text::{PoolId, RequestId, RequestState, SessionId};
 
 /// The provider of the pool, by its place.
@@ -34,16 +34,16 @@ fn is_sister(config: &Config, pool: PoolId, other: PoolId) -> bool
 }
 
 /// Whether the request is pending, and a pool of the provider serves it. It costs one lookup.
-fn is_served_by_sister<L: Look>(look: &L, pool: PoolId, request: RequestId) -> bool
-    ensures { result ≡ request_is request (L.state look.now)
-        (is_served_by_sister (L.site look.now) pool) }
+fn is_served_by_sister<R: Rows>(rows: &R, pool: PoolId, request: RequestId) -> bool
+    ensures { result ≡ request_is request (R.state rows.now)
+        (is_served_by_sister (R.site rows.now) pool) }
 {
-    let Some(asked) = look.asked(request) else {
+    let Some(asked) = rows.asked(request) else {
         return false;
     };
     let near = match asked.pool {
         None => false,
-        Some(other) => is_sister(look.config(), pool, other),
+        Some(other) => is_sister(rows.config(), pool, other),
     };
     asked.state == RequestState::Pending && near
 }
@@ -66,7 +66,7 @@ fn unserved_requests<L: Look>(look: &L, pool: PoolId, session: SessionId) -> u32
         let Some(request) = look.queued_request_at(session, at) else {
             return 0;
         };
-        count += one_if(!is_served_by_sister(look, pool, request));
+        count += one_if(!is_served_by_sister(look.rows(), pool, request));
     }
     count
 }
@@ -78,7 +78,7 @@ fn launcher_requests<L: Look>(look: &L, pool: PoolId, other: PoolId) -> u32
     ensures { result ≡ launcher_requests (L.site look.now) (L.state look.now) pool other }
 {
     let pending = look.pending_requests(other);
-    match look.registration(other) {
+    match look.rows().registration(other) {
         None => pending,
         Some(session) => pending + unserved_requests(look, pool, session),
     }
@@ -91,7 +91,7 @@ pub(crate) fn sister_requests<L: Look>(look: &L, pool: PoolId, other: PoolId) ->
     requires { Fits (L.site look.now) (L.state look.now) }
     ensures { result ≡ sister_requests (L.site look.now) (L.state look.now) pool other }
 {
-    if is_sister(look.config(), pool, other) {
+    if is_sister(look.rows().config(), pool, other) {
         launcher_requests(look, pool, other)
     } else {
         0

@@ -16,7 +16,7 @@ ghost use Rattle.np_launch.specs.Hands.{is_in_hand_at};
 use np_changes::Asked;
 use np_config::Config;
 use np_event::Outcome;
-use np_look::Look;
+use np_look::{Look, Rows, request_holder};
 use np_record::{NodeRecord, RequestRecord};
 use np_text::{NodeId, NodeState, PoolId, RequestId, RequestState, SessionId};
 
@@ -47,17 +47,17 @@ fn is_pending_in(pool: PoolId, state: RequestState, server: Option<PoolId>) -> b
 
 /// The request that the node is allocated to, if it is pending and this pool serves it. It costs
 /// one lookup.
-pub(crate) fn served_request<L: Look>(
-    look: &L,
+pub(crate) fn served_request<R: Rows>(
+    rows: &R,
     pool: PoolId,
     node: &NodeRecord,
 ) -> Option<RequestRecord>
-    ensures { result ≡ served_request pool (L.state look.now) node.now }
+    ensures { result ≡ served_request pool (R.state rows.now) node.now }
 {
     let Some(request) = node.allocated_to else {
         return None;
     };
-    let Some(kept) = look.request(request) else {
+    let Some(kept) = rows.request(request) else {
         return None;
     };
     if is_pending_by(pool, &kept) {
@@ -75,54 +75,54 @@ pub fn is_listed(node: NodeId, request: &RequestRecord) -> bool
 }
 
 /// Whether the node exists and failed.
-pub fn is_spent<L: Look>(look: &L, node: NodeId) -> bool
-    ensures { result ≡ is_spent node (L.state look.now) }
+pub fn is_spent<R: Rows>(rows: &R, node: NodeId) -> bool
+    ensures { result ≡ is_spent node (R.state rows.now) }
 {
-    match look.node(node) {
+    match rows.node(node) {
         None => false,
         Some(kept) => kept.state == NodeState::Failed,
     }
 }
 
 /// Whether a node of the request's list has no launch left.
-pub fn has_failed_node<L: Look>(look: &L, request: &RequestRecord) -> bool
-    ensures { result ≡ has_failed_node (L.state look.now) request.now }
+pub fn has_failed_node<R: Rows>(rows: &R, request: &RequestRecord) -> bool
+    ensures { result ≡ has_failed_node (R.state rows.now) request.now }
 {
-    request.nodes.items().iter().any(|n| is_spent(look, *n))
+    request.nodes.items().iter().any(|n| is_spent(rows, *n))
 }
 
 /// Whether the request needs a launch of the node by the pool: the pool serves it, the node is in
 /// its list, and no node of that list failed. It costs up to one lookup of each node of the list.
-pub(crate) fn needs_launch<L: Look>(
-    look: &L,
+pub(crate) fn needs_launch<R: Rows>(
+    rows: &R,
     pool: PoolId,
     node: NodeId,
     request: &RequestRecord,
 ) -> bool
     ensures { result ≡ (is_pending_by pool request.now && is_listed node request.now
-        && not (has_failed_node (L.state look.now) request.now)) }
+        && not (has_failed_node (R.state rows.now) request.now)) }
 {
-    is_pending_by(pool, request) && is_listed(node, request) && !has_failed_node(look, request)
+    is_pending_by(pool, request) && is_listed(node, request) && !has_failed_node(rows, request)
 }
 
 /// Whether the request is requested, the pool has not declined it, and the session holds it. It
 /// costs three lookups.
-pub(crate) fn is_in_hand<L: Look>(
-    look: &L,
+pub(crate) fn is_in_hand<R: Rows>(
+    rows: &R,
     pool: PoolId,
     session: SessionId,
     request: RequestId,
 ) -> bool
-    ensures { result ≡ is_in_hand_at pool session (L.state look.now) request }
+    ensures { result ≡ is_in_hand_at pool session (R.state rows.now) request }
 {
-    let Some(asked) = look.asked(request) else {
+    let Some(asked) = rows.asked(request) else {
         return false;
     };
-    let held = match look.request_holder(request) {
+    let held = match request_holder(rows, request) {
         None => false,
         Some(other) => other.0 == session.0,
     };
-    asked.state == RequestState::Requested && !look.is_declined(request, pool) && held
+    asked.state == RequestState::Requested && !rows.is_declined(request, pool) && held
 }
 
 /// Whether the request exists and is not pending, and the pool's launcher can do nothing with it.
@@ -131,14 +131,15 @@ pub fn is_done_with<L: Look>(look: &L, pool: PoolId, request: RequestId) -> bool
     ensures { result ≡ request_is request (L.state look.now)
         (is_done_with (L.site look.now) (L.state look.now) pool) }
 {
-    let Some(asked) = look.asked(request) else {
+    let rows = look.rows();
+    let Some(asked) = rows.asked(request) else {
         return false;
     };
     if asked.state == RequestState::Pending {
         return false;
     }
     asked.state != RequestState::Requested
-        || look.is_declined(request, pool)
+        || rows.is_declined(request, pool)
         || look.blocking(pool, &asked).is_some()
 }
 

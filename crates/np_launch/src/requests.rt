@@ -8,19 +8,19 @@ ghost use Rattle.np_useful.specs.Launcher.{is_to_launch, is_in_hand, requests_ne
 
 use crate::near::{concurrency_of, sister_requests};
 use crate::request::{has_failed_node, is_in_hand, needs_launch, served_request};
-use np_look::Look;
+use np_look::{Look, Rows};
 use np_text::{NodeId, PoolId, SessionId};
 
 /// Whether some request needs a launch of the node by the pool. This scans the requests up to the
 /// first one that does.
-fn has_pending_with<L: Look>(look: &L, pool: PoolId, node: NodeId) -> bool
-    ensures { result ≡ is_to_launch pool (L.state look.now) node }
+fn has_pending_with<R: Rows>(rows: &R, pool: PoolId, node: NodeId) -> bool
+    ensures { result ≡ is_to_launch pool (R.state rows.now) node }
 {
-    for at in 0..look.requests() {
-        let Some(view) = look.request_view(at) else {
+    for at in 0..rows.requests() {
+        let Some(view) = rows.request_view(at) else {
             return false;
         };
-        if needs_launch(look, pool, node, &view.kept) {
+        if needs_launch(rows, pool, node, &view.kept) {
             return true;
         }
     }
@@ -32,16 +32,16 @@ fn has_pending_with<L: Look>(look: &L, pool: PoolId, node: NodeId) -> bool
 /// each, and one of each node of the list. Only for a node that does not exist are the requests
 /// scanned, since a pending request may list a node that was removed. The machine accepts no start
 /// of such a node.
-pub fn is_to_launch<L: Look>(look: &L, pool: PoolId, node: NodeId) -> bool
-    requires { IsReached (L.site look.now) (L.state look.now) }
-    ensures { result ≡ is_to_launch pool (L.state look.now) node }
+pub fn is_to_launch<R: Rows>(rows: &R, pool: PoolId, node: NodeId) -> bool
+    requires { IsReached (R.site rows.now) (R.state rows.now) }
+    ensures { result ≡ is_to_launch pool (R.state rows.now) node }
 {
-    let Some(kept) = look.node(node) else {
-        return has_pending_with(look, pool, node);
+    let Some(kept) = rows.node(node) else {
+        return has_pending_with(rows, pool, node);
     };
-    match served_request(look, pool, &kept) {
+    match served_request(rows, pool, &kept) {
         None => false,
-        Some(request) => !has_failed_node(look, &request),
+        Some(request) => !has_failed_node(rows, &request),
     }
 }
 
@@ -55,7 +55,7 @@ pub fn has_request_in_hand<L: Look>(look: &L, pool: PoolId, session: SessionId) 
         let Some(request) = look.queued_request_at(session, at) else {
             return false;
         };
-        if is_in_hand(look, pool, session, request) {
+        if is_in_hand(look.rows(), pool, session, request) {
             return true;
         }
     }
@@ -71,7 +71,7 @@ fn requests_near<L: Look>(look: &L, pool: PoolId) -> u32
     requires fits { Fits (L.site look.now) (L.state look.now) }
     ensures { result ≡ requests_near (L.site look.now) (L.state look.now) pool }
 {
-    let config = look.config();
+    let config = look.rows().config();
     config.soundness();
     let mut count = 0;
     let mut at = 0;
@@ -89,7 +89,7 @@ pub fn has_turn_left<L: Look>(look: &L, pool: PoolId) -> bool
     requires fits { Fits (L.site look.now) (L.state look.now) }
     ensures { result ≡ has_turn_left (L.site look.now) (L.state look.now) pool }
 {
-    match concurrency_of(look.config(), pool) {
+    match concurrency_of(look.rows().config(), pool) {
         None => true,
         Some(most) => requests_near(look, pool) < most,
     }

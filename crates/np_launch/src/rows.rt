@@ -11,14 +11,14 @@ ghost use Rattle.np_useful.specs.Rows.{request_is, node_is, has_failed_node};
 use crate::request::{has_failed_node, is_as_planned, served_request};
 use crate::requests::{has_request_in_hand, has_turn_left};
 use np_event::Outcome;
-use np_look::Look;
+use np_look::{Look, Rows};
 use np_text::{NodeId, PoolId, RequestId, SessionId};
 
 /// Whether the session holds the registration of the pool.
-pub fn is_registrant<L: Look>(look: &L, pool: PoolId, session: SessionId) -> bool
-    ensures { result ≡ is_session_of session (registered pool (L.state look.now).registrations) }
+pub fn is_registrant<R: Rows>(rows: &R, pool: PoolId, session: SessionId) -> bool
+    ensures { result ≡ is_session_of session (registered pool (R.state rows.now).registrations) }
 {
-    match look.registration(pool) {
+    match rows.registration(pool) {
         None => false,
         Some(other) => other.0 == session.0,
     }
@@ -27,46 +27,46 @@ pub fn is_registrant<L: Look>(look: &L, pool: PoolId, session: SessionId) -> boo
 /// Whether the launcher is done with the node: no launch of it is running, and no request that the
 /// pool serves needs it. Such a request is the one that the node is allocated to, so this costs one
 /// lookup of each, however many requests there are.
-pub fn is_node_done_with<L: Look>(look: &L, pool: PoolId, node: NodeId) -> bool
-    requires { IsReached (L.site look.now) (L.state look.now) }
+pub fn is_node_done_with<R: Rows>(rows: &R, pool: PoolId, node: NodeId) -> bool
+    requires { IsReached (R.site rows.now) (R.state rows.now) }
     ensures { result ≡
-        (node_is node (L.state look.now) (λ k. not k.in_flight)
-        && not (is_wanted_by pool (L.state look.now) node)) }
+        (node_is node (R.state rows.now) (λ k. not k.in_flight)
+        && not (is_wanted_by pool (R.state rows.now) node)) }
 {
-    let Some(kept) = look.node(node) else {
+    let Some(kept) = rows.node(node) else {
         return false;
     };
     if kept.in_flight {
         return false;
     }
-    served_request(look, pool, &kept).is_none()
+    served_request(rows, pool, &kept).is_none()
 }
 
 /// Whether the request exists, and none of its nodes failed.
-pub fn is_unfailed<L: Look>(look: &L, request: RequestId) -> bool
-    ensures { result ≡ request_is request (L.state look.now)
-        (λ kept. not (has_failed_node (L.state look.now) kept)) }
+pub fn is_unfailed<R: Rows>(rows: &R, request: RequestId) -> bool
+    ensures { result ≡ request_is request (R.state rows.now)
+        (λ kept. not (has_failed_node (R.state rows.now) kept)) }
 {
-    match look.request(request) {
+    match rows.request(request) {
         None => false,
-        Some(kept) => !has_failed_node(look, &kept),
+        Some(kept) => !has_failed_node(rows, &kept),
     }
 }
 
 /// Whether it is the simulated cloud's report on the node's last attempt.
-pub fn is_planned_report<L: Look>(
-    look: &L,
+pub fn is_planned_report<R: Rows>(
+    rows: &R,
     pool: PoolId,
     node: NodeId,
     attempt: u8,
     outcome: Outcome,
 ) -> bool
-    ensures { result ≡ node_is node (L.state look.now)
-        (is_as_planned (L.site look.now) pool attempt outcome) }
+    ensures { result ≡ node_is node (R.state rows.now)
+        (is_as_planned (R.site rows.now) pool attempt outcome) }
 {
-    match look.node(node) {
+    match rows.node(node) {
         None => false,
-        Some(kept) => is_as_planned(look.config(), pool, attempt, outcome, &kept),
+        Some(kept) => is_as_planned(rows.config(), pool, attempt, outcome, &kept),
     }
 }
 

@@ -1,13 +1,19 @@
 //! What can be read of a state of the machine, whatever keeps it.
 //!
-//! A representation implements the readers of `Look` that have no body; the others walk by place,
-//! and a representation that keeps a number or an index uses that instead. What a walk reads of
-//! each row is here too, and what the configuration alone says of pools and tenants.
+//! `Rows` reads rows: the tables have it, and a coordination tree. `Look` searches them, and lends
+//! the rows that it searches: whoever keeps an index answers by the index, and `Scan` walks any
+//! rows, place by place. `Store` is where the changes of a state are written. `predicates` has what is true of one row and of those that it names, `walk`
+//! what a walk asks of each row, and `count` and `tenant` what the configuration alone says of pools
+//! and tenants.
 #![tactic(auto)]
 
 mod asked;
 mod count;
 mod look;
+mod predicates;
+mod rows;
+mod scan;
+mod store;
 mod tenant;
 mod walk;
 
@@ -17,6 +23,15 @@ pub use count::{
     ready_age, retries,
 };
 pub use look::Look;
+pub use predicates::{
+    ahead_at_node, first_full, given_to, has_handles, is_declined_by_all, is_full, is_given_to,
+    is_job_to_acquire, is_job_to_begin, is_job_to_release, is_job_to_take, is_last_pool,
+    is_supplied, is_unclaimed, node_holder, request_holder, request_state, undeclined,
+    waits_at_node,
+};
+pub use rows::Rows;
+pub use scan::Scan;
+pub use store::Store;
 pub use tenant::{is_short_of, limited_tenant, rest_of, tenant_never_fits, tenant_of_job};
 pub use walk::{
     asked_of, comes_before, declines_or_is, due_of, is_coming, is_declined_by, is_free_ready,

@@ -7,7 +7,7 @@ ghost use Rattle.np_machine.specs.State.{State};
 ghost use Rattle.np_fits.specs.Fits.{Fits};
 ghost use Rattle.np_roles.specs.Passing.{passing, IsFirstThatPasses};
 
-use crate::rows::{Rows, passes};
+use crate::rows::{RoleRows, passes};
 use np_event::Event;
 use np_look::Look;
 
@@ -30,7 +30,7 @@ pub trait Candidates {
 }
 
 /// The candidate, if it passes.
-fn passing<L: Look, R: Rows>(look: &L, rows: &R, found: Option<Event>) -> Option<Event>
+fn passing<L: Look, R: RoleRows>(look: &L, rows: &R, found: Option<Event>) -> Option<Event>
     requires fits { Fits (L.site look.now) (L.state look.now) }
     requires knows { R.knows rows.now (L.site look.now) (L.state look.now) }
     ensures { result ≡ passing (L.site look.now) (L.state look.now) (R.role rows.now) found }
@@ -47,7 +47,7 @@ fn passing<L: Look, R: Rows>(look: &L, rows: &R, found: Option<Event>) -> Option
 
 /// The first of the candidates that passes, or `None` if and only if none of them does. It tests
 /// the candidates up to that one.
-pub fn first_that_passes<L: Look, R: Rows, C: Candidates>(
+pub fn first_that_passes<L: Look, R: RoleRows, C: Candidates>(
     look: &L,
     rows: &R,
     candidates: &C,

@@ -1,15 +1,16 @@
 //! What the choices of all roles share: a role's current session, the planned faults that stop it,
 //! the opening of its session, and the search for its first useful event.
 //!
-//! A role has rows (`Rows`), which say whether an event is useful as far as the role is concerned.
-//! The candidates of a kind of event (`EventKind`) are the events of the current session that name
-//! what is in the kind's table, place by place; where the machine accepts an event only from a
-//! session in the queue of what it names, they name only what the session queues for. A candidate
-//! is tested by the machine's judge and then by its row, and the first that passes is chosen.
-//! Releases have a search of their own (`first_release`), among the jobs of one requester: it tests
-//! only those that are over and have a handle. Other searches are of one role, and stand with its
-//! choice: some have candidates of their own (`Candidates`) for `first_that_passes`. `specs/Choices`
-//! says what a choice returns: a useful event (np_useful), or none if and only if there is none.
+//! A role has rows (`RoleRows`), which say whether an event is useful as far as the role is
+//! concerned. The candidates of a kind of event (`EventKind`) are the events of the current session
+//! that name what is in the kind's table, place by place; where the machine accepts an event only
+//! from a session in the queue of what it names, they name only what the session queues for. A
+//! candidate is tested by the machine's judge and then by its row, and the first that passes is
+//! chosen. Releases have a search of their own (`first_release`), among the jobs of one requester:
+//! it tests only those that are over and have a handle. Other searches are of one role, and stand
+//! with its choice: some have candidates of their own (`Candidates`) for `first_that_passes`.
+//! `specs/Choices` says what a choice returns: a useful event (np_useful), or none if and only if
+//! there is none.
 #![tactic(auto)]
 
 mod first;
@@ -23,5 +24,5 @@ pub use first::{Candidates, first_that_passes};
 pub use kind::{EventKind, JobKind, NodeKind, RequestKind, job_event, node_event, request_event};
 pub use of_kind::{first_of_kind, first_of_kinds};
 pub use release::first_release;
-pub use rows::{Rows, passes};
+pub use rows::{RoleRows, passes};
 pub use session::{choose_opening, current_session, fault_of, is_stopped, may_open, strikes_of};

@@ -12,9 +12,9 @@ use crate::kind::{
     EventKind, NodeKind, RequestKind, is_from_node_queue, is_from_request_queue, job_event,
     node_event, request_event,
 };
-use crate::rows::Rows;
+use crate::rows::RoleRows;
 use np_event::Event;
-use np_look::Look;
+use np_look::{Look, Rows};
 use np_text::{JobId, NodeId, RequestId, SessionId};
 
 /// The session's events of the kind, by place. Where the machine accepts the event only from a
@@ -34,7 +34,7 @@ impl Candidates for OfKind {
         match self.kind {
             EventKind::Request(kind) => request_places(look, self.session, kind),
             EventKind::Node(kind) => node_places(look, self.session, kind),
-            EventKind::Job(_) => look.jobs(),
+            EventKind::Job(_) => look.rows().jobs(),
         }
     }
 
@@ -48,7 +48,7 @@ impl Candidates for OfKind {
                 None => None,
                 Some(node) => Some(node_event(kind, self.session, node)),
             },
-            EventKind::Job(kind) => match look.job(JobId(at)) {
+            EventKind::Job(kind) => match look.rows().job(JobId(at)) {
                 None => None,
                 Some(_) => Some(job_event(kind, self.session, JobId(at))),
             },
@@ -63,7 +63,7 @@ fn request_places<L: Look>(look: &L, session: SessionId, kind: RequestKind) -> u
     if is_from_request_queue(kind) {
         look.queued_requests(session)
     } else {
-        look.requests()
+        look.rows().requests()
     }
 }
 
@@ -74,7 +74,7 @@ fn node_places<L: Look>(look: &L, session: SessionId, kind: NodeKind) -> u32
     if is_from_node_queue(kind) {
         look.queued_nodes(session)
     } else {
-        look.nodes()
+        look.rows().nodes()
     }
 }
 
@@ -90,7 +90,7 @@ fn request_named<L: Look>(
     if is_from_request_queue(kind) {
         look.queued_request_at(session, at)
     } else {
-        look.request_at(at)
+        look.rows().request_at(at)
     }
 }
 
@@ -101,7 +101,7 @@ fn node_named<L: Look>(look: &L, session: SessionId, kind: NodeKind, at: u32) ->
     if is_from_node_queue(kind) {
         look.queued_node_at(session, at)
     } else {
-        look.node_at(at)
+        look.rows().node_at(at)
     }
 }
 
@@ -109,7 +109,7 @@ fn node_named<L: Look>(look: &L, session: SessionId, kind: NodeKind, at: u32) ->
 /// table, or `None` if and only if no event of the kind is useful. It tests each candidate up to
 /// the first that passes: the requests or nodes in whose queues the session is, and all of them
 /// only for locks and for requests that every pool declined.
-pub fn first_of_kind<L: Look, R: Rows>(
+pub fn first_of_kind<L: Look, R: RoleRows>(
     look: &L,
     rows: &R,
     session: SessionId,
@@ -126,7 +126,7 @@ pub fn first_of_kind<L: Look, R: Rows>(
 /// The first useful event of the first kind that has one, or `None` if and only if no event of any
 /// of the kinds is useful. It tests the candidates of one kind after another up to the first that
 /// passes.
-pub fn first_of_kinds<L: Look, R: Rows>(
+pub fn first_of_kinds<L: Look, R: RoleRows>(
     look: &L,
     rows: &R,
     session: SessionId,

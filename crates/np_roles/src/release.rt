@@ -5,9 +5,9 @@ ghost use Rattle.np_fits.specs.Fits.{Fits};
 ghost use Rattle.np_useful.specs.Sessions.{is_current};
 ghost use Rattle.np_roles.specs.Choices.{ChoosesRelease};
 
-use crate::rows::{Rows, passes};
+use crate::rows::{RoleRows, passes};
 use np_event::Event;
-use np_look::Look;
+use np_look::{Look, Rows};
 use np_text::{RequesterId, SessionId};
 
 /// The first useful release of a job of the requester that the current session may make, by job, or
@@ -16,7 +16,7 @@ use np_text::{RequesterId, SessionId};
 /// tests only the requester's jobs that are over and have a handle, up to the first whose release
 /// passes. For a janitor and for the requester itself that is the first of them: a choice costs one
 /// lookup and one judged event, or the lookup alone if there is no such job.
-pub fn first_release<L: Look, R: Rows>(
+pub fn first_release<L: Look, R: RoleRows>(
     look: &L,
     rows: &R,
     session: SessionId,
@@ -27,7 +27,7 @@ pub fn first_release<L: Look, R: Rows>(
     requires current { is_current (R.role rows.now) session (L.state look.now) ≡ true }
     ensures { ChoosesRelease (L.site look.now) (L.state look.now) (R.role rows.now) requester result }
 {
-    for at in 0..look.jobs() {
+    for at in 0..look.rows().jobs() {
         let Some(job) = look.job_to_release(requester, at) else {
             return None;
         };

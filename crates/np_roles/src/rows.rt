@@ -13,7 +13,7 @@ use np_event::Event;
 use np_look::Look;
 
 /// The rows of one role.
-pub trait Rows {
+pub trait RoleRows {
     /// The role.
     ghost role: { Self → Role };
     /// What the rows know of the state beforehand.
@@ -28,7 +28,7 @@ pub trait Rows {
 
 /// Whether the machine accepts the event and its row is true. The row is tested only for an
 /// accepted event. The cost is that of the judge and the row.
-pub fn passes<L: Look, R: Rows>(look: &L, rows: &R, event: Event) -> bool
+pub fn passes<L: Look, R: RoleRows>(look: &L, rows: &R, event: Event) -> bool
     requires fits { Fits (L.site look.now) (L.state look.now) }
     requires knows { R.knows rows.now (L.site look.now) (L.state look.now) }
     ensures { result ≡ passes (L.site look.now) (L.state look.now) (R.role rows.now) event }

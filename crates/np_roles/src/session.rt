@@ -8,7 +8,7 @@ ghost use Rattle.np_roles.specs.Choices.{NamesCurrent, ChoosesOpening};
 
 use np_config::Config;
 use np_event::Event;
-use np_look::{Look, is_same_role};
+use np_look::{Look, Rows, is_same_role};
 use np_site::{Fault, FaultKind};
 use np_text::{Role, SessionId};
 
@@ -21,10 +21,10 @@ pub fn current_session<L: Look>(look: &L, role: Role) -> Option<SessionId>
 }
 
 /// How many sessions of the role were lost.
-pub fn strikes_of<L: Look>(look: &L, role: Role) -> u32
-    ensures { result ≡ strikes_of role (L.state look.now) }
+pub fn strikes_of<R: Rows>(rows: &R, role: Role) -> u32
+    ensures { result ≡ strikes_of role (R.state rows.now) }
 {
-    match look.role(role) {
+    match rows.role(role) {
         None => 0,
         Some(deeds) => deeds.strikes,
     }
@@ -65,14 +65,14 @@ pub fn fault_of(config: &Config, role: Role, place: u32) -> Option<Fault>
 
 /// Whether the role stopped for good: the last fault that struck it was a stop. The cost is the
 /// number of faults that the configuration has.
-pub fn is_stopped<L: Look>(look: &L, role: Role) -> bool
-    ensures { result ≡ is_stopped (L.site look.now) role (L.state look.now) }
+pub fn is_stopped<R: Rows>(rows: &R, role: Role) -> bool
+    ensures { result ≡ is_stopped (R.site rows.now) role (R.state rows.now) }
 {
-    let strikes = strikes_of(look, role);
+    let strikes = strikes_of(rows, role);
     if strikes == 0 {
         return false;
     }
-    match fault_of(look.config(), role, strikes - 1) {
+    match fault_of(rows.config(), role, strikes - 1) {
         None => false,
         Some(fault) => fault.kind == FaultKind::Stop,
     }
@@ -82,7 +82,7 @@ pub fn is_stopped<L: Look>(look: &L, role: Role) -> bool
 pub fn may_open<L: Look>(look: &L, role: Role) -> bool
     ensures { result ≡ may_open (L.site look.now) role (L.state look.now) }
 {
-    current_session(look, role).is_none() && !is_stopped(look, role)
+    current_session(look, role).is_none() && !is_stopped(look.rows(), role)
 }
 
 /// The opening of a session of the role, which has none, or `None` if and only if it has stopped.
@@ -92,7 +92,7 @@ pub fn choose_opening<L: Look>(look: &L, role: Role) -> Option<Event>
     requires none { has_current role (L.state look.now) ≡ false }
     ensures { ChoosesOpening (L.site look.now) (L.state look.now) role result }
 {
-    if is_stopped(look, role) {
+    if is_stopped(look.rows(), role) {
         return None;
     }
     Some(Event::OpenSession { role })

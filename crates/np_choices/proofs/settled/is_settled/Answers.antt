@@ -1,4 +1,4 @@
-use Rattle.std.proofs.Common.{◌≡◌, true, subst}
+use Rattle.std.proofs.Common.{◌≡◌, ◌∙◌, true, subst}
 use Rattle.np_site.specs.Configuration.{Configuration}
 use Rattle.np_site.specs.Sound.{IsSound}
 use Rattle.np_choices.proofs.Settles.{all-idle, settled-pools, settled-requesters, settled-reaper}
@@ -7,7 +7,7 @@ use Rattle.np_choices.proofs.settled.is_settled.Goals.{then-are_pools_idle, else
 
 pub returns-then-are_requesters_idle : goal.returns-then-are_requesters_idle
 returns-then-are_requesters_idle g c =
-    let sound : IsSound (g.L.Look.site c.args.look.now) = subst (λ (site : Configuration). IsSound site) c.config.ensures c.soundness.ensures in
+    let sound : IsSound (g.L.Look.site c.args.look.now) = subst (λ (site : Configuration). IsSound site) (c.config.ensures ∙ c.rows.ensures.site) c.soundness.ensures in
     elim c.if-are_pools_idle.branch [
       | then-are_pools_idle w ↦
           let pools : c.are_pools_idle.result ≡ true = cc in

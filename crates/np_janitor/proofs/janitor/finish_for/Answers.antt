@@ -22,4 +22,4 @@ loop-at-preserved g c =
 pub returns : goal.returns
 returns g c =
     none-finished (g.L.Look.site c.args.look.now) (g.L.Look.state c.args.look.now) c.args.rows.now.known.pool c.args.session c.requires.current c.args.requester
-    (λ k j found. c.loop-at.invariant k (omega (arith, below-jobs (is_job_to_finish (g.L.Look.site c.args.look.now) (g.L.Look.state c.args.look.now) c.args.requester) (g.L.Look.state c.args.look.now).jobs k j found, c.loop-at-test.false, c.jobs-at-end.ensures)) j found)
+    (λ k j found. c.loop-at.invariant k (omega (arith, below-jobs (is_job_to_finish (g.L.Look.site c.args.look.now) (g.L.Look.state c.args.look.now) c.args.requester) (g.L.Look.state c.args.look.now).jobs k j found, c.loop-at-test.false, rw c.rows-2.ensures.state at c.jobs-at-end.ensures)) j found)

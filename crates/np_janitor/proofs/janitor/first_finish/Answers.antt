@@ -1,4 +1,4 @@
-use Rattle.std.proofs.Common.{ℕ, sym, subst, arith, below_more}
+use Rattle.std.proofs.Common.{◌∙◌, ℕ, sym, subst, arith, below_more}
 use Rattle.np_site.specs.Configuration.{Configuration}
 use Rattle.np_site.specs.Sound.{IsSound}
 use Rattle.np_janitor.specs.Finishes.{NoneFinished}
@@ -12,6 +12,6 @@ loop-at-preserved g c =
 
 pub returns : goal.returns
 returns g c =
-    let sound : IsSound (g.L.Look.site c.args.look.now) = subst (λ (site : Configuration). IsSound site) c.config.ensures c.soundness.ensures in
+    let sound : IsSound (g.L.Look.site c.args.look.now) = subst (λ (site : Configuration). IsSound site) (c.config.ensures ∙ c.rows.ensures.site) c.soundness.ensures in
     finish-none (g.L.Look.site c.args.look.now) (g.L.Look.state c.args.look.now) c.args.rows.now.known.pool sound
     (λ k less. c.loop-at.invariant k (omega (arith, less, c.loop-at-test.false)))

@@ -13,5 +13,5 @@ pub returns : goal.returns
 returns g c =
     let none : slice_get c.config-config.result.now.faults c.loop-fault.at ≡ None = sym c.in_default.ensures in
     none-strikes (g.L.Look.site c.args.look.now) (g.L.Look.state c.args.look.now) (λ at f there.
-    let here : slice_get c.config-config.result.now.faults at ≡ Some f = ap (λ (x : Configuration). slice_get x.faults at) c.config-config.ensures ∙ there in
+    let here : slice_get c.config-config.result.now.faults at ≡ Some f = ap (λ (x : Configuration). slice_get x.faults at) (c.config-config.ensures ∙ c.rows.ensures.site) ∙ there in
     c.loop-fault.invariant at (before-end c.config-config.result.now.faults c.loop-fault.at at f none here) f here)

@@ -20,4 +20,4 @@ loop-at-preserved g c =
 pub returns : goal.returns
 returns g c =
     leaves-none (g.L.Look.site c.args.look.now) (g.L.Look.state c.args.look.now) c.requires.reached c.args.rows.now.requester c.args.session c.requires.current
-    (λ k n found. c.loop-at.invariant k (omega (arith, below-nodes (g.L.Look.site c.args.look.now) (g.L.Look.state c.args.look.now) c.args.rows.now.requester c.args.session k n found, c.loop-at-test.false, c.nodes-at-end.ensures)) n found)
+    (λ k n found. c.loop-at.invariant k (omega (arith, below-nodes (g.L.Look.site c.args.look.now) (g.L.Look.state c.args.look.now) c.args.rows.now.requester c.args.session k n found, c.loop-at-test.false, rw c.rows.ensures.state at c.nodes-at-end.ensures)) n found)

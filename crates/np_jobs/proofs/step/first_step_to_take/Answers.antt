@@ -19,4 +19,4 @@ loop-at-preserved g c =
 
 pub returns : goal.returns
 returns g c = λ k j found.
-    c.loop-at.invariant k (omega (arith, below-jobs (is_job_to_take (g.L.Look.site c.args.look.now) (g.L.Look.state c.args.look.now) c.args.rows.now.requester) (g.L.Look.state c.args.look.now).jobs k j found, c.loop-at-test.false, c.jobs-at-end.ensures)) j found
+    c.loop-at.invariant k (omega (arith, below-jobs (is_job_to_take (g.L.Look.site c.args.look.now) (g.L.Look.state c.args.look.now) c.args.rows.now.requester) (g.L.Look.state c.args.look.now).jobs k j found, c.loop-at-test.false, rw c.rows.ensures.state at c.jobs-at-end.ensures)) j found

@@ -5,4 +5,4 @@ use Rattle.np_launch.proofs.computed.first_spent.Given as goal
 
 abbrev pub invariant-loop-node : goal.invariant-loop-node
 invariant-loop-node g l =
-    find (λ m. is_spent m (g.L.Look.state l.look)) (drop l.node-index l.nodes) ≡ find (λ m. is_spent m (g.L.Look.state l.look)) l.nodes
+    find (λ m. is_spent m (g.R.Rows.state l.rows)) (drop l.node-index l.nodes) ≡ find (λ m. is_spent m (g.R.Rows.state l.rows)) l.nodes

@@ -6,4 +6,4 @@ use Rattle.np_launch.proofs.computed.is_first_reason.Goals as goal
 pub returns-in-Some : goal.returns-in-Some
 returns-in-Some g c =
     c.is_reason.ensures
-    ∙ found-reason (g.L.Look.site c.args.look.now) (g.L.Look.state c.args.look.now) c.args.pool c.args.reason (request_in c.args.request (g.L.Look.state c.args.look.now).requests) c.in-Some.asked c.first_reason.result (sym c.in-Some.ensures) c.first_reason.ensures
+    ∙ found-reason (g.R.Rows.site c.args.rows.now) (g.R.Rows.state c.args.rows.now) c.args.pool c.args.reason (request_in c.args.request (g.R.Rows.state c.args.rows.now).requests) c.in-Some.asked c.first_reason.result (sym c.in-Some.ensures) c.first_reason.ensures

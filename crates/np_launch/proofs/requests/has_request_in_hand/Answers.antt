@@ -13,13 +13,13 @@ returns-in_default g c =
 
 pub returns-then-is_in_hand : goal.returns-then-is_in_hand
 returns-then-is_in_hand g c =
-    sym (any-found (is_in_hand_at c.args.pool c.args.session (g.L.Look.state c.args.look.now)) (queued_requests c.args.session (g.L.Look.state c.args.look.now)) c.loop-at.at c.in-Some.request (sym c.in-Some.ensures) (sym c.if-is_in_hand.ensures))
+    sym (any-found (is_in_hand_at c.args.pool c.args.session (g.L.Look.state c.args.look.now)) (queued_requests c.args.session (g.L.Look.state c.args.look.now)) c.loop-at.at c.in-Some.request (sym c.in-Some.ensures) (sym (rw c.rows.ensures.state at c.if-is_in_hand.ensures)))
     ∙ c.loop-at.invariant
     ∙ any-in_hand (g.L.Look.site c.args.look.now) (g.L.Look.state c.args.look.now) c.requires c.args.pool c.args.session
 
 pub loop-at-preserved : goal.loop-at-preserved
 loop-at-preserved g c =
-    any-later (is_in_hand_at c.args.pool c.args.session (g.L.Look.state c.args.look.now)) (queued_requests c.args.session (g.L.Look.state c.args.look.now)) c.loop-at.at c.in-Some.request (sym c.in-Some.ensures) (sym c.if-is_in_hand.ensures)
+    any-later (is_in_hand_at c.args.pool c.args.session (g.L.Look.state c.args.look.now)) (queued_requests c.args.session (g.L.Look.state c.args.look.now)) c.loop-at.at c.in-Some.request (sym c.in-Some.ensures) (sym (rw c.rows.ensures.state at c.if-is_in_hand.ensures))
     ∙ c.loop-at.invariant
 
 pub returns : goal.returns

@@ -1,4 +1,4 @@
-use Rattle.std.proofs.Common.{◌≡◌, length, suc, sym, ap, add-one, arith}
+use Rattle.std.proofs.Common.{◌≡◌, ◌∙◌, length, suc, sym, ap, add-one, arith}
 use Rattle.std.proofs.lemmas.List.Sums.{count_by-le-length}
 use Rattle.std.proofs.lemmas.Option.{slice_get_within}
 use Rattle.np_site.specs.Configuration.{Configuration}
@@ -19,13 +19,13 @@ overflow_add-count g c =
 pub loop-count-smaller : goal.loop-count-smaller
 loop-count-smaller g c =
     let below = slice_get_within c.config-config.result.now.pools c.loop-count.at c.in-Some.field-0.now (sym c.in-Some.ensures) in
-    let same = ap (λ (site : Configuration). length site.pools) c.config-config.ensures in
+    let same = ap (λ (site : Configuration). length site.pools) (c.config-config.ensures ∙ c.rows.ensures.site) in
     omega (arith, below, same)
 
 pub loop-count-preserved : goal.loop-count-preserved
 loop-count-preserved g c =
     let below = slice_get_within c.config-config.result.now.pools c.loop-count.at c.in-Some.field-0.now (sym c.in-Some.ensures) in
-    let same = ap (λ (site : Configuration). length site.pools) c.config-config.ensures in
+    let same = ap (λ (site : Configuration). length site.pools) (c.config-config.ensures ∙ c.rows.ensures.site) in
     let adds = pool-adds (g.L.Look.site c.args.look.now) (g.L.Look.state c.args.look.now) c.requires.reached c.args.pool (record { 0 = c.loop-count.at }) in
     record {
       within = omega (arith, below, same);
@@ -35,6 +35,6 @@ loop-count-preserved g c =
 pub returns : goal.returns
 returns g c =
     let past = past-end c.config-config.result.now.pools c.loop-count.at (sym c.in_default.ensures) in
-    let same = ap (λ (site : Configuration). length site.pools) c.config-config.ensures in
+    let same = ap (λ (site : Configuration). length site.pools) (c.config-config.ensures ∙ c.rows.ensures.site) in
     let end : c.loop-count.at ≡ length (g.L.Look.site c.args.look.now).pools = omega (arith, past, same, c.loop-count.invariant.within) in
     omega (arith, c.loop-count.invariant.all, pools-count (g.L.Look.site c.args.look.now) (g.L.Look.state c.args.look.now) c.requires.reached c.args.pool c.loop-count.at end)

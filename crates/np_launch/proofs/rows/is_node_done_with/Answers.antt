@@ -8,4 +8,4 @@ pub returns : goal.returns
 returns g c =
     none-is c.is_none.result c.served_request.result c.is_none.ensures
     ∙ ap (λ (o : Option RequestRecord). is_none o) c.served_request.ensures
-    ∙ sym (done-is (g.L.Look.site c.args.look.now) (g.L.Look.state c.args.look.now) c.requires c.args.pool c.args.node c.in-Some.kept (sym c.node.ensures ∙ c.in-Some.is) c.if-kept.false)
+    ∙ sym (done-is (g.R.Rows.site c.args.rows.now) (g.R.Rows.state c.args.rows.now) c.requires c.args.pool c.args.node c.in-Some.kept (sym c.node.ensures ∙ c.in-Some.is) c.if-kept.false)

@@ -1,8 +1,0 @@
-use Rattle.std.proofs.Common.{◌≡◌, drop}
-use Rattle.std.specs.Prelude.{find}
-use Rattle.np_machine.specs.Entries.{RequestEntry}
-use Rattle.np_look.specs.Readers.{is_declined_by_all}
-use Rattle.np_look.proofs.look.Look.first_declined_by_all.Given as goal
-
-abbrev pub invariant-loop-at : goal.invariant-loop-at
-invariant-loop-at g l = find (λ (e : RequestEntry). is_declined_by_all (g.Self.Look.state l.self) e.kept) (drop l.at (g.Self.Look.state l.self).requests) ≡ find (λ (e : RequestEntry). is_declined_by_all (g.Self.Look.state l.self) e.kept) (g.Self.Look.state l.self).requests

@@ -1,7 +1,0 @@
-use Rattle.std.proofs.Common.{◌≡◌, drop}
-use Rattle.std.specs.Prelude.{filter, slice_get}
-use Rattle.np_machine.specs.Reasons.{is_spare}
-use Rattle.np_look.proofs.look.Look.free_ready.Given as goal
-
-abbrev pub invariant-loop-place : goal.invariant-loop-place
-invariant-loop-place g l = slice_get (filter (is_spare l.pool l.label) (drop l.place (g.Self.Look.state l.self).nodes)) l.left ≡ slice_get (filter (is_spare l.pool l.label) (g.Self.Look.state l.self).nodes) l.at

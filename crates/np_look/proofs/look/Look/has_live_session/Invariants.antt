@@ -1,9 +1,0 @@
-use Rattle.std.proofs.Common.{◌≡◌, drop}
-use Rattle.std.specs.List.{list_any}
-use Rattle.std.proofs.Common.{Some}
-use Rattle.std.specs.Prelude.{◌&&◌}
-use Rattle.np_machine.specs.Semaphore.{is_requesters}
-use Rattle.np_look.proofs.look.Look.has_live_session.Given as goal
-
-abbrev pub invariant-loop-at : goal.invariant-loop-at
-invariant-loop-at g l = list_any (λ f. f.live && is_requesters l.requester (Some f.role)) (drop l.at (g.Self.Look.state l.self).sessions) ≡ list_any (λ f. f.live && is_requesters l.requester (Some f.role)) (g.Self.Look.state l.self).sessions

@@ -1,7 +1,0 @@
-use Rattle.std.proofs.Common.{◌≡◌, ◌<◌, ℕ, false, get_or}
-use Rattle.np_machine.specs.State.{new_job}
-use Rattle.np_machine.specs.Tables.{is_marked}
-use Rattle.np_look.proofs.look.Look.owner.Given as goal
-
-abbrev pub invariant-loop-at : goal.invariant-loop-at
-invariant-loop-at g l = (k : ℕ) → k < l.at → is_marked l.node (get_or (g.Self.Look.state l.self).jobs k new_job) ≡ false

@@ -1,7 +1,0 @@
-use Rattle.std.proofs.Common.{◌≡◌, drop}
-use Rattle.std.specs.Prelude.{slice_get}
-use Rattle.np_look.specs.Readers.{jobs_from, is_unfinished_job}
-use Rattle.np_look.proofs.look.Look.unfinished.Given as goal
-
-abbrev pub invariant-loop-number : goal.invariant-loop-number
-invariant-loop-number g l = slice_get (jobs_from (is_unfinished_job (g.Self.Look.site l.self) l.requester) l.number (drop l.number (g.Self.Look.state l.self).jobs)) l.left ≡ slice_get (jobs_from (is_unfinished_job (g.Self.Look.site l.self) l.requester) 0 (g.Self.Look.state l.self).jobs) l.at

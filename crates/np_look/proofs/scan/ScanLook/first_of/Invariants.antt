@@ -1,0 +1,6 @@
+use Rattle.std.proofs.Common.{◌≡◌, take}
+use Rattle.np_look.proofs.Seen.{best_of}
+use Rattle.np_look.proofs.scan.ScanLook.first_of.Given as goal
+
+abbrev pub invariant-loop-at : goal.invariant-loop-at
+invariant-loop-at g l = l.best ≡ best_of (g.R.Rows.site l.self.rows.now) (g.R.Rows.state l.self.rows.now) l.pool (take l.at (g.R.Rows.state l.self.rows.now).requests)

@@ -1,0 +1,29 @@
+use Rattle.std.proofs.Common.{◌≡◌, ◌∙◌, ap, sym, refl, true, false, Option, Some, None, add-one}
+use Rattle.std.specs.Option.{option_map}
+use Rattle.np_machine.specs.Entries.{NodeEntry}
+use Rattle.np_machine.specs.Reasons.{is_spare}
+use Rattle.np_look.specs.Views.{node_view, node_seen}
+use Rattle.np_look.specs.declared.asked.NodeView.{NodeView}
+use Rattle.np_look.proofs.Seen.{spare-seen}
+use Rattle.np_look.proofs.Walks.{passed_here, passed_later, passed_over}
+use Rattle.np_look.proofs.scan.ScanLook.free_ready.Goals as goal
+
+pub returns-then-left-eq0 : goal.returns-then-left-eq0
+returns-then-left-eq0 g c =
+    let passes : is_spare c.args.pool c.args.label (node_seen c.in-Some.view) ≡ true = cc in
+    let here = passed_here (λ v. is_spare c.args.pool c.args.label (node_seen v)) node_view (is_spare c.args.pool c.args.label) (spare-seen c.args.pool c.args.label) (g.R.Rows.state c.args.self.now.rows.now).nodes c.loop-place.place c.in-Some.view (sym c.in-Some.ensures) passes in
+    sym (view_id _ c.in-Some.view (ap (option_map node_view) (sym c.loop-place.invariant ∙ rw c.if-left-eq0.true refl) ∙ here))
+  where
+    view_id : (o : Option NodeEntry) (v : NodeView) → option_map node_view o ≡ Some v → option_map (λ (e : NodeEntry). e.id) o ≡ Some v.id
+    view_id None v is = absurd cc
+    view_id (Some e) v is = let same : node_view e ≡ v = cc in rw (← same) refl
+
+pub loop-place-preserved : goal.loop-place-preserved
+loop-place-preserved g c =
+    let passes : is_spare c.args.pool c.args.label (node_seen c.in-Some.view) ≡ true = cc in
+    rw add-one (sym (passed_later (λ v. is_spare c.args.pool c.args.label (node_seen v)) node_view (is_spare c.args.pool c.args.label) (spare-seen c.args.pool c.args.label) (g.R.Rows.state c.args.self.now.rows.now).nodes c.loop-place.place c.in-Some.view c.loop-place.left (sym c.in-Some.ensures) passes c.if-left-eq0.false) ∙ c.loop-place.invariant)
+
+pub loop-place-preserved-then-not-is_spare : goal.loop-place-preserved-then-not-is_spare
+loop-place-preserved-then-not-is_spare g c =
+    let fails : is_spare c.args.pool c.args.label (node_seen c.in-Some.view) ≡ false = cc in
+    rw add-one (sym (passed_over (λ v. is_spare c.args.pool c.args.label (node_seen v)) node_view (is_spare c.args.pool c.args.label) (spare-seen c.args.pool c.args.label) (g.R.Rows.state c.args.self.now.rows.now).nodes c.loop-place.place c.in-Some.view c.loop-place.left (sym c.in-Some.ensures) fails) ∙ c.loop-place.invariant)

@@ -1,0 +1,7 @@
+use Rattle.std.proofs.Common.{◌≡◌, drop}
+use Rattle.std.specs.Prelude.{filter, slice_get}
+use Rattle.np_machine.specs.Reasons.{is_spare}
+use Rattle.np_look.proofs.scan.ScanLook.free_ready.Given as goal
+
+abbrev pub invariant-loop-place : goal.invariant-loop-place
+invariant-loop-place g l = slice_get (filter (is_spare l.pool l.label) (drop l.place (g.R.Rows.state l.self.rows.now).nodes)) l.left ≡ slice_get (filter (is_spare l.pool l.label) (g.R.Rows.state l.self.rows.now).nodes) l.at

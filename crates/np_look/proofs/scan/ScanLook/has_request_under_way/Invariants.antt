@@ -1,0 +1,8 @@
+use Rattle.std.proofs.Common.{◌≡◌, drop}
+use Rattle.std.specs.List.{list_any}
+use Rattle.np_machine.specs.Entries.{RequestEntry}
+use Rattle.np_look.specs.Readers.{is_under_way_by, has_request_under_way}
+use Rattle.np_look.proofs.scan.ScanLook.has_request_under_way.Given as goal
+
+abbrev pub invariant-loop-at : goal.invariant-loop-at
+invariant-loop-at g l = list_any (λ (e : RequestEntry). is_under_way_by l.pool e.kept) (drop l.at (g.R.Rows.state l.self.rows.now).requests) ≡ has_request_under_way l.pool (g.R.Rows.state l.self.rows.now)

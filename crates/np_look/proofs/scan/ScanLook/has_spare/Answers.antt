@@ -1,0 +1,16 @@
+use Rattle.std.proofs.Common.{◌≡◌, ◌∙◌, sym, true, false, add-one}
+use Rattle.np_machine.specs.Reasons.{is_spare}
+use Rattle.np_look.specs.Views.{node_view, node_seen}
+use Rattle.np_look.proofs.Seen.{spare-seen}
+use Rattle.np_look.proofs.Walks.{any_found, any_later}
+use Rattle.np_look.proofs.scan.ScanLook.has_spare.Goals as goal
+
+pub returns-then-is_spare : goal.returns-then-is_spare
+returns-then-is_spare g c =
+    let passes : is_spare c.args.pool c.args.label (node_seen c.in-Some.view) ≡ true = cc in
+    sym (any_found (λ v. is_spare c.args.pool c.args.label (node_seen v)) node_view (is_spare c.args.pool c.args.label) (spare-seen c.args.pool c.args.label) (g.R.Rows.state c.args.self.now.rows.now).nodes c.loop-at.at c.in-Some.view (sym c.in-Some.ensures) passes) ∙ c.loop-at.invariant
+
+pub loop-at-preserved : goal.loop-at-preserved
+loop-at-preserved g c =
+    let fails : is_spare c.args.pool c.args.label (node_seen c.in-Some.view) ≡ false = cc in
+    rw add-one (sym (any_later (λ v. is_spare c.args.pool c.args.label (node_seen v)) node_view (is_spare c.args.pool c.args.label) (spare-seen c.args.pool c.args.label) (g.R.Rows.state c.args.self.now.rows.now).nodes c.loop-at.at c.in-Some.view (sym c.in-Some.ensures) fails) ∙ c.loop-at.invariant)

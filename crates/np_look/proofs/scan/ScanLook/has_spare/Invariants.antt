@@ -1,0 +1,7 @@
+use Rattle.std.proofs.Common.{◌≡◌, drop}
+use Rattle.std.specs.List.{list_any}
+use Rattle.np_machine.specs.Reasons.{is_spare}
+use Rattle.np_look.proofs.scan.ScanLook.has_spare.Given as goal
+
+abbrev pub invariant-loop-at : goal.invariant-loop-at
+invariant-loop-at g l = list_any (is_spare l.pool l.label) (drop l.at (g.R.Rows.state l.self.rows.now).nodes) ≡ list_any (is_spare l.pool l.label) (g.R.Rows.state l.self.rows.now).nodes

@@ -1,0 +1,27 @@
+use Rattle.std.proofs.Common.{◌≡◌, ◌∙◌, sym, refl, add-one, Some, None}
+use Rattle.np_machine.specs.Reasons.{is_stuck}
+use Rattle.np_look.specs.Views.{request_view, request_seen}
+use Rattle.np_look.specs.Readers.{short_label}
+use Rattle.np_look.proofs.Walks.{any_found, any_later}
+use Rattle.np_look.proofs.Seen.{stuck-none, stuck-pinned, stuck-bare, stuck-spared}
+use Rattle.np_look.proofs.scan.ScanLook.is_paused.Goals as goal
+
+pub loop-at-preserved-in_default-short_label : goal.loop-at-preserved-in_default-short_label
+loop-at-preserved-in_default-short_label g c =
+    let short : None ≡ short_label (g.R.Rows.site c.args.self.now.rows.now) c.args.pool c.used-used.result c.in-Some.view.kept = rw c.config.ensures at c.in_default-short_label.ensures in
+    rw add-one (sym (any_later (λ v. is_stuck (g.R.Rows.site c.args.self.now.rows.now) (g.R.Rows.state c.args.self.now.rows.now) c.args.pool (request_seen v)) request_view (is_stuck (g.R.Rows.site c.args.self.now.rows.now) (g.R.Rows.state c.args.self.now.rows.now) c.args.pool) (λ e. refl) (g.R.Rows.state c.args.self.now.rows.now).requests c.loop-at.at c.in-Some.view (sym c.in-Some.ensures) (stuck-none (g.R.Rows.site c.args.self.now.rows.now) (g.R.Rows.state c.args.self.now.rows.now) c.args.pool c.in-Some.view c.used-used.result c.used-used.ensures.used short)) ∙ c.loop-at.invariant)
+
+pub returns-then-is_some : goal.returns-then-is_some
+returns-then-is_some g c =
+    let short : Some c.in-Some-short_label.label ≡ short_label (g.R.Rows.site c.args.self.now.rows.now) c.args.pool c.used-used.result c.in-Some.view.kept = rw c.config.ensures at c.in-Some-short_label.ensures in
+    sym (any_found (λ v. is_stuck (g.R.Rows.site c.args.self.now.rows.now) (g.R.Rows.state c.args.self.now.rows.now) c.args.pool (request_seen v)) request_view (is_stuck (g.R.Rows.site c.args.self.now.rows.now) (g.R.Rows.state c.args.self.now.rows.now) c.args.pool) (λ e. refl) (g.R.Rows.state c.args.self.now.rows.now).requests c.loop-at.at c.in-Some.view (sym c.in-Some.ensures) (stuck-pinned (g.R.Rows.site c.args.self.now.rows.now) (g.R.Rows.state c.args.self.now.rows.now) c.args.pool c.in-Some.view c.used-used.result c.used-used.ensures.used c.in-Some-short_label.label short (sym c.if-is_some.ensures))) ∙ c.loop-at.invariant
+
+pub returns-then-not-has_spare : goal.returns-then-not-has_spare
+returns-then-not-has_spare g c =
+    let short : Some c.in-Some-short_label.label ≡ short_label (g.R.Rows.site c.args.self.now.rows.now) c.args.pool c.used-used.result c.in-Some.view.kept = rw c.config.ensures at c.in-Some-short_label.ensures in
+    sym (any_found (λ v. is_stuck (g.R.Rows.site c.args.self.now.rows.now) (g.R.Rows.state c.args.self.now.rows.now) c.args.pool (request_seen v)) request_view (is_stuck (g.R.Rows.site c.args.self.now.rows.now) (g.R.Rows.state c.args.self.now.rows.now) c.args.pool) (λ e. refl) (g.R.Rows.state c.args.self.now.rows.now).requests c.loop-at.at c.in-Some.view (sym c.in-Some.ensures) (stuck-bare (g.R.Rows.site c.args.self.now.rows.now) (g.R.Rows.state c.args.self.now.rows.now) c.args.pool c.in-Some.view c.used-used.result c.used-used.ensures.used c.in-Some-short_label.label short (sym c.if-is_some.ensures) (sym c.if-not-has_spare.ensures))) ∙ c.loop-at.invariant
+
+pub loop-at-preserved : goal.loop-at-preserved
+loop-at-preserved g c =
+    let short : Some c.in-Some-short_label.label ≡ short_label (g.R.Rows.site c.args.self.now.rows.now) c.args.pool c.used-used.result c.in-Some.view.kept = rw c.config.ensures at c.in-Some-short_label.ensures in
+    rw add-one (sym (any_later (λ v. is_stuck (g.R.Rows.site c.args.self.now.rows.now) (g.R.Rows.state c.args.self.now.rows.now) c.args.pool (request_seen v)) request_view (is_stuck (g.R.Rows.site c.args.self.now.rows.now) (g.R.Rows.state c.args.self.now.rows.now) c.args.pool) (λ e. refl) (g.R.Rows.state c.args.self.now.rows.now).requests c.loop-at.at c.in-Some.view (sym c.in-Some.ensures) (stuck-spared (g.R.Rows.site c.args.self.now.rows.now) (g.R.Rows.state c.args.self.now.rows.now) c.args.pool c.in-Some.view c.used-used.result c.used-used.ensures.used c.in-Some-short_label.label short (sym c.if-is_some.ensures) (sym c.if-not-has_spare.ensures))) ∙ c.loop-at.invariant)

@@ -1,0 +1,7 @@
+use Rattle.std.proofs.Common.{◌≡◌, drop}
+use Rattle.std.specs.List.{list_any}
+use Rattle.np_machine.specs.Reasons.{is_stuck}
+use Rattle.np_look.proofs.scan.ScanLook.is_paused.Given as goal
+
+abbrev pub invariant-loop-at : goal.invariant-loop-at
+invariant-loop-at g l = list_any (is_stuck (g.R.Rows.site l.self.rows.now) (g.R.Rows.state l.self.rows.now) l.pool) (drop l.at (g.R.Rows.state l.self.rows.now).requests) ≡ list_any (is_stuck (g.R.Rows.site l.self.rows.now) (g.R.Rows.state l.self.rows.now) l.pool) (g.R.Rows.state l.self.rows.now).requests

@@ -1,0 +1,14 @@
+use Rattle.std.proofs.Common.{◌≡◌, ◌∙◌, sym, true, false, add-one}
+use Rattle.np_look.specs.Jobs.{is_job_to_begin}
+use Rattle.np_look.proofs.Placed.{job-here, job-over}
+use Rattle.np_look.proofs.scan.ScanLook.job_to_begin.Goals as goal
+
+pub returns-then-is_job_to_begin : goal.returns-then-is_job_to_begin
+returns-then-is_job_to_begin g c =
+    let passes : is_job_to_begin (g.R.Rows.site c.args.self.now.rows.now) (g.R.Rows.state c.args.self.now.rows.now) c.args.requester (record { 0 = c.loop-number.number }) c.in_ok-kept.kept ≡ true = cc in
+    sym (sym c.loop-number.invariant ∙ job-here (is_job_to_begin (g.R.Rows.site c.args.self.now.rows.now) (g.R.Rows.state c.args.self.now.rows.now) c.args.requester) (g.R.Rows.state c.args.self.now.rows.now).jobs c.loop-number.number c.in_ok-kept.kept (sym c.in_ok-kept.ensures) passes)
+
+pub loop-number-preserved : goal.loop-number-preserved
+loop-number-preserved g c =
+    let fails : is_job_to_begin (g.R.Rows.site c.args.self.now.rows.now) (g.R.Rows.state c.args.self.now.rows.now) c.args.requester (record { 0 = c.loop-number.number }) c.in_ok-kept.kept ≡ false = cc in
+    rw add-one (sym (job-over (is_job_to_begin (g.R.Rows.site c.args.self.now.rows.now) (g.R.Rows.state c.args.self.now.rows.now) c.args.requester) (g.R.Rows.state c.args.self.now.rows.now).jobs c.loop-number.number c.in_ok-kept.kept (sym c.in_ok-kept.ensures) 0 fails) ∙ c.loop-number.invariant)

@@ -1,0 +1,19 @@
+use Rattle.std.proofs.Common.{◌≡◌, ◌∙◌, sym, true, false, add-one}
+use Rattle.np_look.specs.Jobs.{is_job_to_finish}
+use Rattle.np_look.proofs.Placed.{job-here, job-later, job-over}
+use Rattle.np_look.proofs.scan.ScanLook.job_to_finish.Goals as goal
+
+pub returns-then-left-eq0 : goal.returns-then-left-eq0
+returns-then-left-eq0 g c =
+    let passes : is_job_to_finish (g.R.Rows.site c.args.self.now.rows.now) (g.R.Rows.state c.args.self.now.rows.now) c.args.requester (record { 0 = c.loop-number.number }) c.in-Some.kept ≡ true = cc in
+    sym (sym c.loop-number.invariant ∙ rw c.if-left-eq0.true (job-here (is_job_to_finish (g.R.Rows.site c.args.self.now.rows.now) (g.R.Rows.state c.args.self.now.rows.now) c.args.requester) (g.R.Rows.state c.args.self.now.rows.now).jobs c.loop-number.number c.in-Some.kept (sym c.in-Some.ensures) passes))
+
+pub loop-number-preserved : goal.loop-number-preserved
+loop-number-preserved g c =
+    let passes : is_job_to_finish (g.R.Rows.site c.args.self.now.rows.now) (g.R.Rows.state c.args.self.now.rows.now) c.args.requester (record { 0 = c.loop-number.number }) c.in-Some.kept ≡ true = cc in
+    rw add-one (sym (job-later (is_job_to_finish (g.R.Rows.site c.args.self.now.rows.now) (g.R.Rows.state c.args.self.now.rows.now) c.args.requester) (g.R.Rows.state c.args.self.now.rows.now).jobs c.loop-number.number c.in-Some.kept (sym c.in-Some.ensures) c.loop-number.left passes c.if-left-eq0.false) ∙ c.loop-number.invariant)
+
+pub loop-number-preserved-then-not-is_job_to_finish : goal.loop-number-preserved-then-not-is_job_to_finish
+loop-number-preserved-then-not-is_job_to_finish g c =
+    let fails : is_job_to_finish (g.R.Rows.site c.args.self.now.rows.now) (g.R.Rows.state c.args.self.now.rows.now) c.args.requester (record { 0 = c.loop-number.number }) c.in-Some.kept ≡ false = cc in
+    rw add-one (sym (job-over (is_job_to_finish (g.R.Rows.site c.args.self.now.rows.now) (g.R.Rows.state c.args.self.now.rows.now) c.args.requester) (g.R.Rows.state c.args.self.now.rows.now).jobs c.loop-number.number c.in-Some.kept (sym c.in-Some.ensures) c.loop-number.left fails) ∙ c.loop-number.invariant)

@@ -1,0 +1,8 @@
+use Rattle.std.proofs.Common.{◌≡◌, drop}
+use Rattle.std.specs.Prelude.{slice_get}
+use Rattle.np_look.specs.Jobs.{is_job_to_take}
+use Rattle.np_look.specs.Readers.{jobs_from}
+use Rattle.np_look.proofs.scan.ScanLook.job_to_take.Given as goal
+
+abbrev pub invariant-loop-number : goal.invariant-loop-number
+invariant-loop-number g l = slice_get (jobs_from (is_job_to_take (g.R.Rows.site l.self.rows.now) (g.R.Rows.state l.self.rows.now) l.requester) l.number (drop l.number (g.R.Rows.state l.self.rows.now).jobs)) l.left ≡ slice_get (jobs_from (is_job_to_take (g.R.Rows.site l.self.rows.now) (g.R.Rows.state l.self.rows.now) l.requester) 0 (g.R.Rows.state l.self.rows.now).jobs) l.at

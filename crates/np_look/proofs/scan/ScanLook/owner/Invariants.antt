@@ -1,0 +1,7 @@
+use Rattle.std.proofs.Common.{◌≡◌, ◌<◌, ℕ, false, get_or}
+use Rattle.np_machine.specs.State.{new_job}
+use Rattle.np_machine.specs.Tables.{is_marked}
+use Rattle.np_look.proofs.scan.ScanLook.owner.Given as goal
+
+abbrev pub invariant-loop-at : goal.invariant-loop-at
+invariant-loop-at g l = (k : ℕ) → k < l.at → is_marked l.node (get_or (g.R.Rows.state l.self.rows.now).jobs k new_job) ≡ false

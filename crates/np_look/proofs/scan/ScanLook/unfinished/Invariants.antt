@@ -1,0 +1,7 @@
+use Rattle.std.proofs.Common.{◌≡◌, drop}
+use Rattle.std.specs.Prelude.{slice_get}
+use Rattle.np_look.specs.Readers.{jobs_from, is_unfinished_job}
+use Rattle.np_look.proofs.scan.ScanLook.unfinished.Given as goal
+
+abbrev pub invariant-loop-number : goal.invariant-loop-number
+invariant-loop-number g l = slice_get (jobs_from (is_unfinished_job (g.R.Rows.site l.self.rows.now) l.requester) l.number (drop l.number (g.R.Rows.state l.self.rows.now).jobs)) l.left ≡ slice_get (jobs_from (is_unfinished_job (g.R.Rows.site l.self.rows.now) l.requester) 0 (g.R.Rows.state l.self.rows.now).jobs) l.at

@@ -1,0 +1,17 @@
+use Rattle.std.proofs.Common.{◌≡◌, ◌∙◌, ◌+◌, sym, ap, refl}
+use Rattle.std.specs.Prelude.{◌==◌}
+use Rattle.np_machine.specs.Entries.{NodeEntry}
+use Rattle.np_machine.specs.Count.{amount_of}
+use Rattle.np_look.specs.Readers.{amount_at}
+use Rattle.np_look.specs.Views.{node_view, node_seen}
+use Rattle.np_look.specs.declared.asked.NodeView.{NodeView}
+use Rattle.np_look.proofs.Used.{total_seen, few-plus}
+use Rattle.np_look.proofs.scan.ScanLook.used.Goals as goal
+
+pub loop-at-preserved : goal.loop-at-preserved
+loop-at-preserved g c =
+    let here : c.amount_at.result ≡ amount_at (g.R.Rows.site c.args.self.now.rows.now) c.args.pool (node_seen c.in-Some.view) = c.amount_at.ensures.amount ∙ ap (λ k. amount_at k c.args.pool (node_seen c.in-Some.view)) c.config.ensures in
+    record {
+      sum = c.plus-sum.ensures ∙ rw (c.loop-at.invariant.sum, here) (sym (total_seen (λ (e : NodeEntry). amount_of (g.R.Rows.site c.args.self.now.rows.now) c.args.pool e.kept.label) (λ (e : NodeEntry). e.kept.pool.0 == c.args.pool.0) node_view (λ (v : NodeView). amount_at (g.R.Rows.site c.args.self.now.rows.now) c.args.pool (node_seen v)) (λ e. refl) (g.R.Rows.state c.args.self.now.rows.now).nodes c.loop-at.at c.in-Some.view (sym c.in-Some.ensures)));
+      few = rw c.plus-sum.ensures (few-plus c.loop-at.sum c.amount_at.result c.loop-at.at 1 (c.loop-at.at + 1) refl c.loop-at.invariant.few c.amount_at.ensures.few);
+    }
