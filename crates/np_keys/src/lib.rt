@@ -1,7 +1,7 @@
 //! Tables of ids: nodes, jobs and sessions by number, requests by priority and then sequence, swept
 //! pairs by node and then server.
 //!
-//! Tables of rows with such ids are sorted in the same orders (np_rules); `specs/Keys` has the facts
+//! Tables of rows with such ids are sorted in the same orders (np_tables); `specs/Keys` has the facts
 //! about them.
 #![tactic(auto)]
 

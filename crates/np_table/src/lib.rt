@@ -1,9 +1,15 @@
 //! Rows in the order of their keys: one table for every kind of row.
 //!
-//! An `Order` says what a row's key is and which key comes first, a `RowChange` what a row becomes.
-//! Contracts see a `KeyTable` as the list of its rows.
+//! An `Order` says what a row's key is and which key comes first, a `RowChange` or a `RowEdit` what a
+//! row becomes. Contracts see a `KeyTable` as the list of its rows, and a `RoomyTable` as that list
+//! with the number of rows that it can take without memory.
 #![tactic(auto)]
 
+mod order;
+mod roomy;
+mod rows;
 mod table;
 
-pub use table::{KeyTable, Order, RowChange, always};
+pub use order::{Order, RowChange, RowEdit, always};
+pub use roomy::RoomyTable;
+pub use table::KeyTable;

@@ -1,63 +1,15 @@
-//! Rows in the order of their keys.
-//!
-//! A row is found by binary search. A change of a row costs that search; inserting or removing a row
-//! also moves the rows behind it.
+//! A table of rows, seen as their list.
 
-ghost use Rattle.std.specs.Prelude.{◌≡◌, ◌<◌, ◌≤◌, [], Bool, true, false, length, Ok, OnOk, OnErr, IfSome, option_copied, find, map};
+ghost use Rattle.std.specs.Prelude.{◌≡◌, ◌<◌, [], length, OnOk, OnErr, IfSome, option_copied, find, map};
 ghost use Rattle.std.specs.List.{list_any};
-ghost use Rattle.std.specs.List.Sorted.{IsPartitionPoint};
 ghost use Rattle.np_lists.specs.Change.{change_first, remove_first, insert_before};
-ghost use Rattle.np_lists.specs.Rising.{Rises, IsFirstPlace, NonePass};
+ghost use Rattle.np_lists.specs.Rising.{IsFirstPlace, NonePass};
 
+use crate::order::{Order, RowChange};
+use crate::rows::{change_rows, find_row, has_row, insert_row, place_of, remove_row};
 use std::alloc::{AllocError, Global};
 use std::convert::Infallible;
 use std::marker::Model;
-
-/// An order of rows by a key.
-pub trait Order {
-    /// What a row is found by.
-    type Key: Copy;
-
-    type Row: Drop;
-
-    /// The key of a row.
-    ghost key: { Self.Row → Self.Key };
-    /// Whether the first key is before the second.
-    ghost before: { Self.Key → Self.Key → Bool };
-    /// Whether both keys are the same.
-    ghost same: { Self.Key → Self.Key → Bool };
-
-    fn key(row: &Self::Row) -> Self::Key
-        ensures { result ≡ key row.now };
-
-    fn is_before(first: Self::Key, second: Self::Key) -> bool
-        ensures { result ≡ before first second };
-
-    fn is_same(first: Self::Key, second: Self::Key) -> bool
-        ensures { result ≡ same first second };
-
-    ghost transitive: { (a b k : Self.Key) → before a b ≡ true → before b k ≡ true → before a k ≡ true };
-
-    ghost one_way: { (a b : Self.Key) → before a b ≡ true → before b a ≡ false };
-
-    ghost some_way: { (a b : Self.Key) → before a b ≡ false → same a b ≡ false → before b a ≡ true };
-
-    ghost equal: { (a b : Self.Key) → same a b ≡ true → a ≡ b };
-}
-
-/// A change of one row.
-pub trait RowChange<T> {
-    /// Why it may fail: `Infallible` if it always succeeds.
-    type Error;
-
-    /// What the row becomes.
-    ghost after: { Self → T → T };
-
-    /// Changes the row. If the change fails, the row stays as it was.
-    fn make(&self, row: &mut T) -> Result<(), Self::Error>
-        ensures ok { OnOk result (row.new ≡ after self.now row.old) }
-        ensures err { OnErr result (row.new ≡ row.old) };
-}
 
 /// Rows in the order of their keys, each key once.
 #[derive(Drop)]
@@ -74,45 +26,6 @@ impl<O: Order> Model for KeyTable<O> {
     ghost view = { λ table. table.rows.items };
 
     ghost invariant = { λ table. Rises (λ a b. O.before (O.key a) (O.key b)) table.rows.items };
-}
-
-/// The place of the first row that is not before the key.
-fn split_of<O: Order>(rows: &[O::Row], key: O::Key) -> usize
-    requires { Rises (λ a b. O.before (O.key a) (O.key b)) rows.now }
-    ensures within { result ≤ length rows.now }
-    ensures point { IsPartitionPoint (λ row. O.before (O.key row) key ≡ true) (λ row. O.before (O.key row) key ≡ false) rows.now result }
-{
-    rows.partition_point(|row| O::is_before(O::key(row), key))
-}
-
-/// The place of the row with this key.
-fn place_of<O: Order>(rows: &[O::Row], key: O::Key) -> Option<usize>
-    requires { Rises (λ a b. O.before (O.key a) (O.key b)) rows.now }
-    ensures { IsFirstPlace (λ row. O.same (O.key row) key) rows.now result }
-{
-    let at = split_of::<O>(rows, key);
-    if at < rows.len() && O::is_same(O::key(&rows[at]), key) {
-        return Some(at);
-    }
-    None
-}
-
-fn change_rows<T: Drop, C: RowChange<T, Error = Infallible>>(rows: &mut Vec<T>, change: &C)
-    ensures { rows.new.items ≡ map (C.after change.now) rows.old.items }
-{
-    for row in rows.iter_mut() {
-        always(change.make(row));
-    }
-}
-
-/// The value of a result that can't be a failure.
-pub fn always<T>(done: Result<T, Infallible>) -> T
-    ensures { done ≡ Ok result }
-{
-    match done {
-        Ok(value) => value,
-        Err(never) => match never {},
-    }
 }
 
 impl<O: Order> KeyTable<O> {
@@ -150,20 +63,14 @@ impl<O: Order> KeyTable<O> {
     pub fn find(&self, key: O::Key) -> Option<&O::Row>
         ensures { option_copied result ≡ find (λ row. O.same (O.key row) key) self.now }
     {
-        match self.place(key) {
-            Some(at) => Some(&self.rows[at]),
-            None => None,
-        }
+        find_row::<O>(self.rows.as_slice(), key)
     }
 
     /// Whether there is a row with this key.
     pub fn has(&self, key: O::Key) -> bool
         ensures { result ≡ list_any (λ row. O.same (O.key row) key) self.now }
     {
-        match self.place(key) {
-            Some(_) => true,
-            None => false,
-        }
+        has_row::<O>(self.rows.as_slice(), key)
     }
 
     /// Changes the row with this key, if there is one.
@@ -192,10 +99,7 @@ impl<O: Order> KeyTable<O> {
     pub fn remove(&mut self, key: O::Key)
         ensures { self.new ≡ remove_first (λ row. O.same (O.key row) key) self.old }
     {
-        let Some(at) = self.place(key) else {
-            return;
-        };
-        let _row = self.rows.remove(at);
+        remove_row::<O>(&mut self.rows, key);
     }
 
     /// Inserts a row whose key no other row has.
@@ -204,8 +108,7 @@ impl<O: Order> KeyTable<O> {
         ensures ok { OnOk result (self.new ≡ insert_before (λ other. O.before (O.key row) (O.key other)) row self.old) }
         ensures err { OnErr result (self.new ≡ self.old) }
     {
-        let at = split_of::<O>(self.rows.as_slice(), O::key(&row));
-        self.rows.insert(at, row)?;
+        insert_row::<O>(&mut self.rows, row)?;
         Ok(())
     }
 }

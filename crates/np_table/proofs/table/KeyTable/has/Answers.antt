@@ -1,10 +1,4 @@
-use Rattle.std.proofs.Common.{sym}
-use Rattle.np_lists.proofs.FilterLemmas.{list_any-none}
-use Rattle.np_table.proofs.KeyLemmas.{any-first}
 use Rattle.np_table.proofs.table.KeyTable.has.Goals as goal
 
-pub returns-in-Some : goal.returns-in-Some
-returns-in-Some g c = sym (any-first _ _ _ c.in-Some.ensures.place)
-
-pub returns-in-None : goal.returns-in-None
-returns-in-None g c = sym (list_any-none _ _ c.in-None.ensures.place)
+pub has_row-requires : goal.has_row-requires
+has_row-requires g c = rw c.as_slice.ensures.value c.self.invariant

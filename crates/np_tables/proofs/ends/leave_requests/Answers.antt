@@ -1,0 +1,15 @@
+use Rattle.std.proofs.Common.{◌≡◌, ◌∙◌, List, drop, sym, ap}
+use Rattle.std.proofs.lemmas.List.{at_drop_all}
+use Rattle.np_text.specs.declared.id.RequestId.{RequestId}
+use Rattle.np_machine.specs.Tables.{same_request}
+use Rattle.np_tables.proofs.LeaveLemmas.{each_left, requests-left}
+use Rattle.np_tables.proofs.ends.leave_requests.Goals as goal
+
+pub returns : goal.returns
+returns c =
+    let left_by = λ (ids : List RequestId). each_left same_request c.args.session ids c.loop-request.requests.rows in
+    let all : left_by (drop c.loop-request.request-index c.args.ids.now) ≡ c.loop-request.requests.rows = at_drop_all left_by c.args.ids.now c.loop-request.request-index c.loop-request-test.false in
+    sym all
+    ∙ c.loop-request.invariant
+    ∙ ap (λ (ids : List RequestId). each_left same_request c.args.session ids c.args.requests.now.rows) c.requires.ids
+    ∙ requests-left c.args.session c.args.requests.now.rows c.requires.rise

@@ -1,0 +1,7 @@
+use Rattle.std.proofs.Common.{◌≡◌, drop}
+use Rattle.np_machine.specs.Semaphore.{all_without_handle}
+use Rattle.np_tables.specs.Room.{rows_of}
+use Rattle.np_tables.proofs.handles.drop_handles.Given as goal
+
+abbrev pub invariant-loop-semaphore : goal.invariant-loop-semaphore
+invariant-loop-semaphore l = all_without_handle l.job (drop l.semaphore-index l.semaphores) (rows_of l.handles.items) ≡ all_without_handle l.job l.semaphores (rows_of l.initial.handles.items)

@@ -1,0 +1,16 @@
+use Rattle.std.proofs.Common.{◌<◌, sym, ◌∙◌, ap, arith, length}
+use Rattle.std.specs.Prelude.{slice_set}
+use Rattle.np_record.specs.declared.record.JobRecord.{JobRecord}
+use Rattle.np_machine.specs.Node.{with_mark}
+use Rattle.np_lists.proofs.ChangeLemmas.{change_at-set, change_at-past}
+use Rattle.np_tables.proofs.settle.mark_ended.Goals as goal
+
+pub returns-then-at-len : goal.returns-then-at-len
+returns-then-at-len c = sym (change_at-past c.args.job.0 (with_mark c.args.node) c.args.jobs.now.items (omega (arith, c.len.ensures)))
+
+pub returns : goal.returns
+returns c =
+    let within : c.args.job.0 < length c.args.jobs.now.items = omega (arith, c.len.ensures) in
+    rw (c.marks_with-kept.ensures, c.items.ensures) (
+    ap (λ (job : JobRecord). slice_set c.args.jobs.now.items c.args.job.0 (with_mark c.args.node job)) c.index_mut-kept.ensures.value
+    ∙ sym (change_at-set c.args.job.0 (with_mark c.args.node) c.args.jobs.now.items c.index_mut-kept.result.now within))

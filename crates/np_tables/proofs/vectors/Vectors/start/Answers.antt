@@ -1,0 +1,29 @@
+use Rattle.std.proofs.Common.{[], List, refl}
+use Rattle.np_text.specs.declared.id.JobId.{JobId}
+use Rattle.np_machine.specs.State.{new_job, no_deeds}
+use Rattle.np_tables.proofs.StartLemmas.{replicate-map}
+use Rattle.np_tables.proofs.vectors.Vectors.start.Goals as goal
+
+pub returns : goal.returns
+returns c =
+    rw (
+      c.in_ok-handles.ensures,
+      c.in_ok-jobs.ensures,
+      c.in_ok-launchers.ensures,
+      c.in_ok-janitors.ensures,
+      c.in_ok-requesters.ensures,
+      c.semaphores.ensures,
+      c.jobs.ensures,
+      c.pools.ensures,
+      c.pools-2.ensures,
+      c.requesters.ensures,
+      c.new.ensures.items,
+      c.new-2.ensures.items,
+      c.new-3.ensures,
+      c.new-4.ensures,
+      c.new-5.ensures,
+      replicate-map {X = List JobId} [] c.args.config.now.semaphores,
+      replicate-map new_job c.args.config.now.jobs,
+      replicate-map no_deeds c.args.config.now.pools,
+      replicate-map no_deeds c.args.config.now.requesters,
+    ) refl
