@@ -20,7 +20,7 @@ use crate::members::{
 use np_changes::Changes;
 use np_groups::Groups;
 use np_keys::{ByJob, BySession};
-use np_look::Look;
+use np_look::Rows;
 use np_text::{JobId, RequesterId, Role, SemId, SessionId};
 use std::alloc::{AllocError, Global};
 use std::marker::Model;
@@ -59,14 +59,14 @@ impl Active {
     /// semaphores, which costs the number of jobs times that of the different lists of semaphores
     /// of a requester. Then it reads each job, each handle and each session once, with six binary
     /// searches for each job, one for each handle, and up to three for each session.
-    pub fn rebuild<L: Look>(alloc: Global, look: &L) -> Result<Active, AllocError>
-        requires { IsReached (L.site look.now) (L.state look.now) }
-        ensures { IfOk result (λ x. AreActive (L.site look.now) (L.state look.now) x) }
+    pub fn rebuild<R: Rows>(alloc: Global, rows: &R) -> Result<Active, AllocError>
+        requires { IsReached (R.site rows.now) (R.state rows.now) }
+        ensures { IfOk result (λ x. AreActive (R.site rows.now) (R.state rows.now) x) }
     {
-        let lines = lines_of(alloc, look.config())?;
-        let jobs = all_jobs(alloc, look, lines.as_slice())?;
-        let handles = all_handles(alloc, look)?;
-        let sessions = all_sessions(alloc, look)?;
+        let lines = lines_of(alloc, rows.config())?;
+        let jobs = all_jobs(alloc, rows, lines.as_slice())?;
+        let handles = all_handles(alloc, rows)?;
+        let sessions = all_sessions(alloc, rows)?;
         Ok(Active {
             lines,
             jobs,
@@ -162,9 +162,9 @@ impl Active {
     /// the job that asks for the request that they answer or remove, if it has one. The members
     /// stay as they are. One lookup of a request if they answer or remove it, and one of a job if
     /// they add handles; any other edit of a request costs no lookup.
-    pub fn prepare<L: Look>(
+    pub fn prepare<R: Rows>(
         &mut self,
-        look: &L,
+        rows: &R,
         changes: &Changes,
     ) -> Result<Option<JobId>, AllocError>
         ensures lines { self.new.lines ≡ self.old.lines }
@@ -172,14 +172,14 @@ impl Active {
         ensures handles { self.new.handles ≡ self.old.handles }
         ensures sessions { self.new.sessions ≡ self.old.sessions }
         ensures asker { IfOk result (λ asker.
-            asker ≡ asker_of changes.now.requests (L.state look.now)) }
-        ensures room { OnOk result (HasRoom (L.site look.now) changes.now self.new) }
+            asker ≡ asker_of changes.now.requests (R.state rows.now)) }
+        ensures room { OnOk result (HasRoom (R.site rows.now) changes.now self.new) }
     {
         self.jobs.reserve(24)?;
         self.handles
-            .reserve(new_handles(look.config(), &changes.grows))?;
+            .reserve(new_handles(rows.config(), &changes.grows))?;
         self.sessions.reserve(6)?;
-        Ok(asker_of(look, &changes.requests))
+        Ok(asker_of(rows, &changes.requests))
     }
 
     /// Puts the jobs and the sessions that the changes name, and the job that `prepare` returned,
@@ -189,17 +189,17 @@ impl Active {
     /// semaphore of such a job that is new or over, or was given its nodes; a lookup and a binary
     /// search for each handle that is taken or given back; and a lookup and up to three binary
     /// searches for a session.
-    pub fn note<L: Look>(&mut self, look: &L, changes: &Changes, asker: Option<JobId>)
-        requires { HasRoom (L.site look.now) changes.now self.old }
+    pub fn note<R: Rows>(&mut self, rows: &R, changes: &Changes, asker: Option<JobId>)
+        requires { HasRoom (R.site rows.now) changes.now self.old }
         ensures { (c : Configuration) (s : State) → IsReached c s → IsPlanned c s changes.now
             → asker ≡ asker_of changes.now.requests s
-            → L.site look.now ≡ c → L.state look.now ≡ changed c changes.now s
+            → R.site rows.now ≡ c → R.state rows.now ≡ changed c changes.now s
             → AreActive c s self.old → AreActive c (changed c changes.now s) self.new }
     {
-        put_named(&mut self.jobs, look, self.lines.as_slice(), asker, changes);
-        put_new_handles(&mut self.handles, look, &changes.grows);
-        take_handles(&mut self.handles, look.config(), &changes.handles);
-        put_new_session(&mut self.sessions, look, &changes.grows);
-        put_changed_session(&mut self.sessions, look, &changes.sessions);
+        put_named(&mut self.jobs, rows, self.lines.as_slice(), asker, changes);
+        put_new_handles(&mut self.handles, rows, &changes.grows);
+        take_handles(&mut self.handles, rows.config(), &changes.handles);
+        put_new_session(&mut self.sessions, rows, &changes.grows);
+        put_changed_session(&mut self.sessions, rows, &changes.sessions);
     }
 }

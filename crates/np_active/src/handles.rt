@@ -13,7 +13,7 @@ use np_changes::{Growth, HandlesChange};
 use np_config::Config;
 use np_groups::{Group, Groups};
 use np_keys::ByJob;
-use np_look::Look;
+use np_look::Rows;
 use np_text::{JobId, SEMAPHORES, SemId};
 use std::alloc::{AllocError, Global};
 
@@ -42,16 +42,16 @@ fn semaphores_of(config: &Config, job: JobId) -> &[SemId]
 // ## all handles
 
 /// Puts each job that has a handle of the semaphore. A lookup and a binary search for each.
-fn put_holders<L: Look>(
+fn put_holders<R: Rows>(
     groups: &mut Groups<ByJob>,
-    look: &L,
+    rows: &R,
     semaphore: SemId,
 ) -> Result<(), AllocError>
     ensures { OnOk result (groups.new.members ≡ with_holders semaphore
-        (handles_of semaphore (L.state look.now).handles) groups.old.members) }
+        (handles_of semaphore (R.state rows.now).handles) groups.old.members) }
 {
-    for at in 0..look.handles(semaphore) {
-        let Some(job) = look.handle_at(semaphore, at) else {
+    for at in 0..rows.handles(semaphore) {
+        let Some(job) = rows.handle_at(semaphore, at) else {
             return Ok(());
         };
         groups.reserve(1)?;
@@ -61,16 +61,16 @@ fn put_holders<L: Look>(
 }
 
 /// The groups of all handles, by one walk over those of each semaphore that there may be.
-pub(crate) fn all_handles<L: Look>(alloc: Global, look: &L) -> Result<Groups<ByJob>, AllocError>
-    requires { IsReached (L.site look.now) (L.state look.now) }
+pub(crate) fn all_handles<R: Rows>(alloc: Global, rows: &R) -> Result<Groups<ByJob>, AllocError>
+    requires { IsReached (R.site rows.now) (R.state rows.now) }
     ensures { IfOk result (λ groups.
-        AreHandleGroups (L.site look.now) (L.state look.now) groups.members) }
+        AreHandleGroups (R.site rows.now) (R.state rows.now) groups.members) }
 {
-    let config = look.config();
+    let config = rows.config();
     config.soundness();
     let mut groups = Groups::new(alloc);
     for number in 0..SEMAPHORES as u16 {
-        put_holders(&mut groups, look, SemId(number))?;
+        put_holders(&mut groups, rows, SemId(number))?;
     }
     Ok(groups)
 }
@@ -89,16 +89,16 @@ pub(crate) fn new_handles(config: &Config, growth: &Growth) -> usize
 
 /// Puts the job that takes handles where the state has it, in the group of each of its semaphores.
 /// A lookup and a binary search for each of them.
-pub(crate) fn put_new_handles<L: Look>(groups: &mut Groups<ByJob>, look: &L, growth: &Growth)
-    requires { length (new_semaphores (L.site look.now) growth.now) ≤ groups.old.room }
+pub(crate) fn put_new_handles<R: Rows>(groups: &mut Groups<ByJob>, rows: &R, growth: &Growth)
+    requires { length (new_semaphores (R.site rows.now) growth.now) ≤ groups.old.room }
     ensures { groups.new.members
-        ≡ with_new_handles (L.site look.now) (L.state look.now) growth.now groups.old.members }
+        ≡ with_new_handles (R.site rows.now) (R.state rows.now) growth.now groups.old.members }
 {
     let Growth::Handles { job } = growth else {
         return;
     };
-    for semaphore in semaphores_of(look.config(), *job) {
-        let is_in = look.has_handle(*semaphore, *job);
+    for semaphore in semaphores_of(rows.config(), *job) {
+        let is_in = rows.has_handle(*semaphore, *job);
         put_if(groups, handle_group(*semaphore), *job, is_in);
     }
 }

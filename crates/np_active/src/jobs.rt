@@ -10,7 +10,7 @@ use crate::members::put_if;
 use np_changes::{Changes, Growth, HandlesChange, JobsChange, RequestEdit, RequestsChange};
 use np_groups::{Group, Groups};
 use np_keys::ByJob;
-use np_look::{Look, is_job_to_finish, was_given};
+use np_look::{Rows, has_handles, is_job_to_finish, is_supplied, request_state, was_given};
 use np_site::Job;
 use np_text::{JobId, Phase, RequesterId};
 use std::alloc::{AllocError, Global};
@@ -94,10 +94,10 @@ pub(crate) fn lacking_group(requester: RequesterId, line: u64) -> Group
 /// Whether the job asks for its nodes without waiting for a semaphore: it asks for them first, has
 /// no semaphores, or has a handle already. A lookup for each of its semaphores, and none if it asks
 /// for its nodes first.
-fn is_prompt<L: Look>(look: &L, job: JobId, row: &Job) -> bool
-    ensures { result ≡ is_prompt (L.state look.now) job row.now }
+fn is_prompt<R: Rows>(rows: &R, job: JobId, row: &Job) -> bool
+    ensures { result ≡ is_prompt (R.state rows.now) job row.now }
 {
-    row.resources_first || look.is_supplied(job, row)
+    row.resources_first || is_supplied(rows, job, row)
 }
 
 /// Of which kinds of its requester's jobs a job is; a job that is not there is of none.
@@ -114,22 +114,22 @@ struct Kinds {
 /// Of which kinds of its requester's jobs the job with this row is. A lookup of the job and one of
 /// its request; if the job is new or over, or was given its nodes, also one for each of its
 /// semaphores.
-fn kinds_of<L: Look>(look: &L, lines: &[JobId], job: JobId, row: &Job) -> Kinds
-    requires { slice_get (L.site look.now).jobs job.0 ≡ Some row.now }
-    ensures supplied { result.is_supplied ≡ is_job_in (L.site look.now) (L.state look.now)
+fn kinds_of<R: Rows>(rows: &R, lines: &[JobId], job: JobId, row: &Job) -> Kinds
+    requires { slice_get (R.site rows.now).jobs job.0 ≡ Some row.now }
+    ensures supplied { result.is_supplied ≡ is_job_in (R.site rows.now) (R.state rows.now)
         lines.now (supplied_ones row.now.requester) job }
-    ensures prompt { result.is_prompt ≡ is_job_in (L.site look.now) (L.state look.now) lines.now
+    ensures prompt { result.is_prompt ≡ is_job_in (R.site rows.now) (R.state rows.now) lines.now
         (prompt_ones row.now.requester) job }
-    ensures waiting { result.is_waiting ≡ is_job_in (L.site look.now) (L.state look.now) lines.now
-        (waiting_ones row.now.requester (line_of (L.site look.now) lines.now job row.now)) job }
-    ensures ending { result.is_ending ≡ is_job_in (L.site look.now) (L.state look.now) lines.now
+    ensures waiting { result.is_waiting ≡ is_job_in (R.site rows.now) (R.state rows.now) lines.now
+        (waiting_ones row.now.requester (line_of (R.site rows.now) lines.now job row.now)) job }
+    ensures ending { result.is_ending ≡ is_job_in (R.site rows.now) (R.state rows.now) lines.now
         (ending_ones row.now.requester) job }
-    ensures releasing { result.is_releasing ≡ is_job_in (L.site look.now) (L.state look.now)
+    ensures releasing { result.is_releasing ≡ is_job_in (R.site rows.now) (R.state rows.now)
         lines.now (releasing_ones row.now.requester) job }
-    ensures lacking { result.is_lacking ≡ is_job_in (L.site look.now) (L.state look.now) lines.now
-        (lacking_ones row.now.requester (line_of (L.site look.now) lines.now job row.now)) job }
+    ensures lacking { result.is_lacking ≡ is_job_in (R.site rows.now) (R.state rows.now) lines.now
+        (lacking_ones row.now.requester (line_of (R.site rows.now) lines.now job row.now)) job }
 {
-    let Some(kept) = look.job(job) else {
+    let Some(kept) = rows.job(job) else {
         return Kinds {
             is_supplied: false,
             is_prompt: false,
@@ -139,35 +139,35 @@ fn kinds_of<L: Look>(look: &L, lines: &[JobId], job: JobId, row: &Job) -> Kinds
             is_lacking: false,
         };
     };
-    let config = look.config();
+    let config = rows.config();
     let requester = row.requester;
-    let state = look.request_state(kept.request);
+    let state = request_state(rows, kept.request);
     let is_new = kept.phase == Phase::New;
-    let waits_for_none = is_new && is_prompt(look, job, row);
+    let waits_for_none = is_new && is_prompt(rows, job, row);
     let was_given = was_given(kept.phase, state);
-    let is_supplied = was_given && look.is_supplied(job, row);
+    let is_supplied = was_given && is_supplied(rows, job, row);
     Kinds {
         is_supplied,
         is_prompt: waits_for_none,
         is_waiting: is_new && !waits_for_none,
         is_ending: is_job_to_finish(config, requester, job, &kept, state),
-        is_releasing: kept.phase == Phase::Over && look.has_handles(job, row),
+        is_releasing: kept.phase == Phase::Over && has_handles(rows, job, row),
         is_lacking: was_given && !is_supplied,
     }
 }
 
 /// Puts the job where the state has it. It costs what `kinds_of` does, and six binary searches.
-fn put_job<L: Look>(groups: &mut Groups<ByJob>, look: &L, lines: &[JobId], job: JobId)
+fn put_job<R: Rows>(groups: &mut Groups<ByJob>, rows: &R, lines: &[JobId], job: JobId)
     requires { 6 ≤ groups.old.room }
     ensures members { groups.new.members
-        ≡ with_job (L.site look.now) (L.state look.now) lines.now job groups.old.members }
+        ≡ with_job (R.site rows.now) (R.state rows.now) lines.now job groups.old.members }
     ensures room { groups.old.room ≤ groups.new.room + 6 }
 {
-    let config = look.config();
+    let config = rows.config();
     if let Some(row) = config.job(job) {
         let requester = row.requester;
         let line = line_of(config, lines, job, row);
-        let kinds = kinds_of(look, lines, job, row);
+        let kinds = kinds_of(rows, lines, job, row);
         put_if(groups, supplied_group(requester), job, kinds.is_supplied);
         put_if(groups, prompt_group(requester), job, kinds.is_prompt);
         put_if(
@@ -188,18 +188,18 @@ fn put_job<L: Look>(groups: &mut Groups<ByJob>, look: &L, lines: &[JobId], job: 
 }
 
 /// The groups of all jobs, by one walk over them.
-pub(crate) fn all_jobs<L: Look>(
+pub(crate) fn all_jobs<R: Rows>(
     alloc: Global,
-    look: &L,
+    rows: &R,
     lines: &[JobId],
 ) -> Result<Groups<ByJob>, AllocError>
     ensures { IfOk result (λ groups.
-        AreJobGroups (L.site look.now) (L.state look.now) lines.now groups.members) }
+        AreJobGroups (R.site rows.now) (R.state rows.now) lines.now groups.members) }
 {
     let mut groups = Groups::new(alloc);
-    for number in 0..look.jobs() {
+    for number in 0..rows.jobs() {
         groups.reserve(6)?;
-        put_job(&mut groups, look, lines, JobId(number));
+        put_job(&mut groups, rows, lines, JobId(number));
     }
     Ok(groups)
 }
@@ -222,25 +222,25 @@ fn answers(edit: &RequestEdit) -> bool
 
 /// The job that asks for the request that is answered or removed, before it is. One lookup if a
 /// request is, and none otherwise.
-pub(crate) fn asker_of<L: Look>(look: &L, change: &RequestsChange) -> Option<JobId>
-    ensures { result ≡ asker_of change.now (L.state look.now) }
+pub(crate) fn asker_of<R: Rows>(rows: &R, change: &RequestsChange) -> Option<JobId>
+    ensures { result ≡ asker_of change.now (R.state rows.now) }
 {
     match change {
-        RequestsChange::Edit { request, edit } if answers(edit) => look.asked(*request)?.job,
-        RequestsChange::Remove { request } => look.asked(*request)?.job,
+        RequestsChange::Edit { request, edit } if answers(edit) => rows.asked(*request)?.job,
+        RequestsChange::Remove { request } => rows.asked(*request)?.job,
         RequestsChange::Same | RequestsChange::Edit { .. } | RequestsChange::Leave { .. } => None,
     }
 }
 
 /// Puts the job, if there is one.
-fn put_if_any<L: Look>(groups: &mut Groups<ByJob>, look: &L, lines: &[JobId], job: Option<JobId>)
+fn put_if_any<R: Rows>(groups: &mut Groups<ByJob>, rows: &R, lines: &[JobId], job: Option<JobId>)
     requires { 6 ≤ groups.old.room }
     ensures members { groups.new.members
-        ≡ with_if_any (L.site look.now) (L.state look.now) lines.now groups.old.members job }
+        ≡ with_if_any (R.site rows.now) (R.state rows.now) lines.now groups.old.members job }
     ensures room { groups.old.room ≤ groups.new.room + 6 }
 {
     if let Some(job) = job {
-        put_job(groups, look, lines, job);
+        put_job(groups, rows, lines, job);
     }
 }
 
@@ -276,19 +276,19 @@ fn job_releasing(change: &HandlesChange) -> Option<JobId>
 
 /// Puts the job that asks for the request that was answered or removed, and those that the changes
 /// name, where the state has them. It costs what `put_job` does for each.
-pub(crate) fn put_named<L: Look>(
+pub(crate) fn put_named<R: Rows>(
     groups: &mut Groups<ByJob>,
-    look: &L,
+    rows: &R,
     lines: &[JobId],
     asker: Option<JobId>,
     changes: &Changes,
 )
     requires { 24 ≤ groups.old.room }
-    ensures { groups.new.members ≡ with_named (L.site look.now) (L.state look.now) lines.now
+    ensures { groups.new.members ≡ with_named (R.site rows.now) (R.state rows.now) lines.now
         asker changes.now groups.old.members }
 {
-    put_if_any(groups, look, lines, asker);
-    put_if_any(groups, look, lines, job_put(&changes.jobs));
-    put_if_any(groups, look, lines, job_taking(&changes.grows));
-    put_if_any(groups, look, lines, job_releasing(&changes.handles));
+    put_if_any(groups, rows, lines, asker);
+    put_if_any(groups, rows, lines, job_put(&changes.jobs));
+    put_if_any(groups, rows, lines, job_taking(&changes.grows));
+    put_if_any(groups, rows, lines, job_releasing(&changes.handles));
 }

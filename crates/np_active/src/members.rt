@@ -8,7 +8,7 @@ ghost use Rattle.np_active.specs.Members.{with_changed_session, with_member_if, 
 use np_changes::{Growth, SessionsChange};
 use np_groups::{Group, Groups};
 use np_keys::BySession;
-use np_look::{Look, is_live_of, is_mute, speaks_for};
+use np_look::{Rows, is_live_of, is_mute, speaks_for};
 use np_table::Order;
 use np_text::{RequesterId, Role, SessionId};
 use std::alloc::{AllocError, Global};
@@ -74,13 +74,13 @@ pub(crate) fn live_group(requester: RequesterId) -> Group
 // ## sessions
 
 /// Puts the session where the state has it. One lookup and up to three binary searches.
-fn put_session<L: Look>(groups: &mut Groups<BySession>, look: &L, session: SessionId)
+fn put_session<R: Rows>(groups: &mut Groups<BySession>, rows: &R, session: SessionId)
     requires { 3 ≤ groups.old.room }
     ensures members { groups.new.members
-        ≡ with_session (L.state look.now) session groups.old.members }
+        ≡ with_session (R.state rows.now) session groups.old.members }
     ensures room { groups.old.room ≤ groups.new.room + 3 }
 {
-    if let Some(facts) = look.session(session) {
+    if let Some(facts) = rows.session(session) {
         let speaks = speaks_for(facts.role, &facts);
         put_if(groups, role_group(facts.role), session, speaks);
         put_if(groups, mute_group(), session, is_mute(&facts));
@@ -92,45 +92,45 @@ fn put_session<L: Look>(groups: &mut Groups<BySession>, look: &L, session: Sessi
 }
 
 /// The groups of all sessions, by one walk over them.
-pub(crate) fn all_sessions<L: Look>(
+pub(crate) fn all_sessions<R: Rows>(
     alloc: Global,
-    look: &L,
+    rows: &R,
 ) -> Result<Groups<BySession>, AllocError>
-    ensures { IfOk result (λ groups. AreSessionGroups (L.state look.now) groups.members) }
+    ensures { IfOk result (λ groups. AreSessionGroups (R.state rows.now) groups.members) }
 {
     let mut groups = Groups::new(alloc);
-    for at in 0..look.sessions() {
+    for at in 0..rows.sessions() {
         groups.reserve(3)?;
-        put_session(&mut groups, look, SessionId(at + 1));
+        put_session(&mut groups, rows, SessionId(at + 1));
     }
     Ok(groups)
 }
 
 /// Puts the session that began, which is the last.
-pub(crate) fn put_new_session<L: Look>(groups: &mut Groups<BySession>, look: &L, growth: &Growth)
+pub(crate) fn put_new_session<R: Rows>(groups: &mut Groups<BySession>, rows: &R, growth: &Growth)
     requires { 3 ≤ groups.old.room }
     ensures members { groups.new.members
-        ≡ with_new_session (L.state look.now) growth.now groups.old.members }
+        ≡ with_new_session (R.state rows.now) growth.now groups.old.members }
     ensures room { groups.old.room ≤ groups.new.room + 3 }
 {
     if let Growth::Session { .. } = growth {
-        put_session(groups, look, SessionId(look.sessions()));
+        put_session(groups, rows, SessionId(rows.sessions()));
     }
 }
 
 /// Puts the session that is mute or over now.
-pub(crate) fn put_changed_session<L: Look>(
+pub(crate) fn put_changed_session<R: Rows>(
     groups: &mut Groups<BySession>,
-    look: &L,
+    rows: &R,
     change: &SessionsChange,
 )
     requires { 3 ≤ groups.old.room }
     ensures { groups.new.members
-        ≡ with_changed_session (L.state look.now) change.now groups.old.members }
+        ≡ with_changed_session (R.state rows.now) change.now groups.old.members }
 {
     match change {
         SessionsChange::Same => {}
-        SessionsChange::Mute { session } => put_session(groups, look, *session),
-        SessionsChange::End { session } => put_session(groups, look, *session),
+        SessionsChange::Mute { session } => put_session(groups, rows, *session),
+        SessionsChange::End { session } => put_session(groups, rows, *session),
     }
 }

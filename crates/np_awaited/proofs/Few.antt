@@ -25,7 +25,7 @@ none-few : (n : ℕ) → IsFew nothing n
 none-few n = record { instances = omega arith; cores = omega arith; ram = omega arith }
 
 -- each of the members that pass takes at most so much
-rows-few : {X : Type 0} (f : X → Amount) (p : X → Bool) (xs : List X) → AllByRecursion (λ x. IsFew (f x) 32) xs → IsFew (total (map f (filter p xs))) (length xs * 32)
+pub rows-few : {X : Type 0} (f : X → Amount) (p : X → Bool) (xs : List X) → AllByRecursion (λ x. IsFew (f x) 32) xs → IsFew (total (map f (filter p xs))) (length xs * 32)
 rows-few f p [] all = none-few 0
 rows-few f p (x ∷ xs) all = by (p x) (rows-few f p xs all.1) where
   by : (b : Bool) → IsFew (total (map f (filter p xs))) (length xs * 32) → IsFew (total (map f (cond b (x ∷ filter p xs) (filter p xs)))) (suc (length xs) * 32)
@@ -61,7 +61,7 @@ module _ (c : Configuration) (small : (p : PoolId) (l : LabelId) → AmountFits 
         ram = omega (arith, one.ram, rest.ram);
       }
 
-  rest-few : (e : RequestEntry) → length e.kept.labels ≤ 32 → IsFew (rest_of_request c e) 32
+  pub rest-few : (e : RequestEntry) → length e.kept.labels ≤ 32 → IsFew (rest_of_request c e) 32
   rest-few e few = by e.kept.pool where
     by : (o : Option PoolId) → IsFew (option_map_or (λ p. amount_of_all c p (drop (length e.kept.nodes) e.kept.labels)) o nothing) 32
     by None = none-few 32

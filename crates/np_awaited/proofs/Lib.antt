@@ -4,3 +4,5 @@ pub mod Shares
 pub mod Few
 pub mod Made
 pub mod Moved
+mod Small
+pub mod Noted

@@ -1,6 +1,7 @@
 -- what the pending requests of each tenant still wait for
-use Rattle.std.specs.Prelude.{◌≡◌, ◌<◌, ◌^◌, suc, List, length, if◌then◌else◌, Option, None, filter, map, option_and_then, slice_get}
+use Rattle.std.specs.Prelude.{◌≡◌, ◌<◌, ◌≤◌, ◌^◌, false, suc, List, length, if◌then◌else◌, Option, None, filter, map, option_and_then, slice_get}
 use Rattle.std.specs.Option.{option_map, option_map_or}
+use Rattle.std.specs.List.{list_any}
 use Rattle.np_amount.specs.declared.amount.Amount.{Amount}
 use Rattle.np_amount.specs.Amounts.{minus, nothing, plus, total}
 use Rattle.np_text.specs.declared.id.RequestId.{RequestId}
@@ -10,7 +11,7 @@ use Rattle.np_site.specs.Configuration.{Configuration}
 use Rattle.np_lists.specs.Change.{change_at}
 use Rattle.np_machine.specs.Kinds.{is_pending}
 use Rattle.np_machine.specs.State.{State}
-use Rattle.np_machine.specs.Tables.{request_in}
+use Rattle.np_machine.specs.Tables.{request_in, same_request}
 use Rattle.np_machine.specs.Tenants.{is_pending_of, rest_of_request, tenant_of_request}
 use Rattle.np_look.specs.Readers.{rest_of}
 use Rattle.np_awaited.specs.declared.awaited.Rest.{Rest}
@@ -26,6 +27,15 @@ rest_by c k = if is_pending k.state then option_map (λ t. record { tenant = t; 
 -- the same of the request, if it is there
 abbrev pub rest_at : Configuration → State → RequestId → Option Rest
 rest_at c s r = option_and_then (rest_by c) (request_in r s.requests)
+
+-- what the first of the requests still waits for
+abbrev pub first_rest : Configuration → State → List RequestId → Option Rest
+first_rest c s requests = option_and_then (rest_at c s) (slice_get requests 0)
+
+-- there is one request at most, and the records of all others are the same in both states
+pub record OthersStay (requests : List RequestId) (s t : State) : Type 0 where
+  pub once : length requests ≤ 1
+  pub same : (r : RequestId) → list_any (λ x. same_request x r) requests ≡ false → request_in r t.requests ≡ request_in r s.requests
 
 -- the tenant's amount; nothing if the list is shorter
 abbrev pub amount_at : TenantId → List Amount → Amount

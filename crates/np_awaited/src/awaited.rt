@@ -3,12 +3,17 @@
 ghost use Rattle.std.specs.Prelude.{◌≡◌, ◌≤◌, IfOk, length, replicate, suc};
 ghost use Rattle.np_amount.specs.declared.amount.Amount.{Amount};
 ghost use Rattle.np_amount.specs.Amounts.{minus, nothing, plus};
+ghost use Rattle.np_site.specs.Configuration.{Configuration};
+ghost use Rattle.np_machine.specs.State.{State};
+ghost use Rattle.np_changes.specs.Changes.{changed};
+ghost use Rattle.np_changes.specs.declared.changes.Changes.{Changes};
+ghost use Rattle.np_changes.specs.Planned.{IsPlanned, IsReached};
 ghost use Rattle.np_fits.specs.Fits.{Fits};
-ghost use Rattle.np_awaited.specs.Awaited.{AreAwaited, AreSmall, IsSmall, amount_at, exchange, rest_at, rest_by, with_rest, without_rest};
+ghost use Rattle.np_awaited.specs.Awaited.{AreAwaited, AreSmall, IsSmall, OthersStay, amount_at, exchange, first_rest, rest_at, rest_by, with_rest, without_rest};
 
 use np_amount::Amount;
 use np_config::Config;
-use np_look::{Look, rest_of, tenant_of_job};
+use np_look::{Rows, rest_of, tenant_of_job};
 use np_record::RequestRecord;
 use np_text::{RequestId, RequestState, TenantId};
 use std::alloc::{AllocError, Global};
@@ -119,24 +124,34 @@ fn rest_by(config: &Config, kept: &RequestRecord) -> Option<Rest>
 
 /// What the request still waits for, if it is pending and of a tenant's job. It costs one lookup of
 /// the request, and for each label that still lacks a node one lookup among its pool's offers.
-pub fn rest_at<L: Look>(look: &L, request: RequestId) -> Option<Rest>
-    ensures { result ≡ rest_at (L.site look.now) (L.state look.now) request }
+fn rest_at<R: Rows>(rows: &R, request: RequestId) -> Option<Rest>
+    ensures { result ≡ rest_at (R.site rows.now) (R.state rows.now) request }
 {
-    let kept = look.request(request)?;
-    rest_by(look.config(), &kept)
+    let kept = rows.request(request)?;
+    rest_by(rows.config(), &kept)
+}
+
+/// What the first of the requests still waits for. It costs what `rest_at` does.
+pub fn first_rest<R: Rows>(rows: &R, requests: &[RequestId]) -> Option<Rest>
+    ensures { result ≡ first_rest (R.site rows.now) (R.state rows.now) requests.now }
+{
+    match requests.first() {
+        None => None,
+        Some(request) => rest_at(rows, *request),
+    }
 }
 
 impl Awaited {
     /// The amounts of the state, by one walk over its requests.
-    pub fn rebuild<L: Look>(alloc: Global, look: &L) -> Result<Awaited, AllocError>
-        requires { Fits (L.site look.now) (L.state look.now) }
-        ensures { IfOk result (λ x. AreAwaited (L.site look.now) (L.state look.now) x) }
+    pub fn rebuild<R: Rows>(alloc: Global, rows: &R) -> Result<Awaited, AllocError>
+        requires { Fits (R.site rows.now) (R.state rows.now) }
+        ensures { IfOk result (λ x. AreAwaited (R.site rows.now) (R.state rows.now) x) }
     {
-        let config = look.config();
+        let config = rows.config();
         config.soundness();
         let mut amounts = no_amounts(alloc, config)?;
-        for at in 0..look.requests() {
-            if let Some(view) = look.request_view(at) {
+        for at in 0..rows.requests() {
+            if let Some(view) = rows.request_view(at) {
                 add(&mut amounts, rest_by(config, &view.kept));
             }
         }
@@ -153,13 +168,28 @@ impl Awaited {
         }
     }
 
-    /// Takes off what a request waited for before it changed, and adds what it waits for now. It
-    /// takes no memory. An amount that 64 bits can't have becomes the largest that they can.
-    pub fn note(&mut self, before: Option<Rest>, after: Option<Rest>)
+    /// Takes off what a request waited for before it changed, and adds what it waits for now. An
+    /// amount that 64 bits can't have becomes the largest that they can.
+    fn exchange(&mut self, before: Option<Rest>, after: Option<Rest>)
         ensures { AreSmall (exchange before after self.old) →
             self.new ≡ exchange before after self.old }
     {
         take_off(&mut self.amounts, before);
         add(&mut self.amounts, after);
+    }
+
+    /// After the state has changed: exchanges what the first of the requests waited for before, as
+    /// `first_rest` told, for what it waits for now. It takes no memory, and costs what `first_rest`
+    /// does.
+    pub fn note<R: Rows>(&mut self, rows: &R, requests: &[RequestId], before: Option<Rest>)
+        ensures { (c : Configuration) (s : State) (ch : Changes)
+            → IsReached c s → IsPlanned c s ch → OthersStay requests.now s (changed c ch s)
+            → before ≡ first_rest c s requests.now
+            → R.site rows.now ≡ c → R.state rows.now ≡ changed c ch s
+            → AreAwaited c s self.old → AreAwaited c (changed c ch s) self.new }
+    {
+        rows.config().soundness();
+        let after = first_rest(rows, requests);
+        self.exchange(before, after);
     }
 }

@@ -1,8 +1,9 @@
+pub mod Apart
+pub mod Rows
 pub mod Folds
 pub mod Declines
 pub mod Untouched
 pub mod Listed
 pub mod Unheld
-pub mod Small
 pub mod Noted
 pub mod Rebuilt

@@ -38,7 +38,7 @@ use Rattle.np_safe.specs.Parts.{AllocationsListed, Invariant, IsAsking, JobIn, J
 use Rattle.np_safe.proofs.Runs.{invariant-Runs}
 use Rattle.np_classes.specs.Touched.{grows_node, changes_node, ends_at_node, unclaims_node, touches_node, grows_request, changes_request, touches_request, grows_request_queue, leaves_request_queue, ends_at_request, touches_request_queue}
 use Rattle.np_classes.specs.Placed.{members_of, placed_node, placed_queue, placed_request}
-use Rattle.np_classes.specs.Prepared.{IsPrepared, TouchedOf, ended, first_rest, grown_nodes, changed_nodes, unclaimed_nodes, touched_nodes, grown_requests, changed_requests, touched_requests, grown_queues, left_queues, touched_queues}
+use Rattle.np_classes.specs.Prepared.{IsPrepared, TouchedOf, ended, grown_nodes, changed_nodes, unclaimed_nodes, touched_nodes, grown_requests, changed_requests, touched_requests, grown_queues, left_queues, touched_queues}
 
 -- ## lists
 
@@ -329,9 +329,9 @@ pub is-prepared : (c : Configuration) (s : State) (ch : Changes) (nodes : List N
     → ((session : SessionId) → ch.sessions ≡ sessions.End session → queued ≡ queued_requests session s)
     → touched.nodes ≡ touched_nodes ch nodes s → touched.requests ≡ touched_requests ch s → touched.queues ≡ touched_queues ch queued
     → touched.node_members ≡ members_of (map (placed_node c s) touched.nodes) → touched.request_members ≡ members_of (map (placed_request s) touched.requests)
-    → touched.queue_members ≡ members_of (map (placed_queue s) touched.queues) → touched.before ≡ first_rest c s touched.requests
+    → touched.queue_members ≡ members_of (map (placed_queue s) touched.queues)
     → IsPrepared c s ch touched
-is-prepared c s ch nodes queued touched reached planned all_nodes all_requests nodes_are requests_are queues_are node_members request_members queue_members before =
+is-prepared c s ch nodes queued touched reached planned all_nodes all_requests nodes_are requests_are queues_are node_members request_members queue_members =
     let given : Premises c s ch = subst (Premises c s) (sym planned.plan) (premises c s planned.event planned.accepted) in
     record {
       nodes = λ n is. ap (listed n) nodes_are ∙ node-listed c s ch nodes reached planned all_nodes n is;
@@ -341,5 +341,4 @@ is-prepared c s ch nodes queued touched reached planned all_nodes all_requests n
       request_members = request_members;
       queue_members = queue_members;
       once = subst (λ (rs : List RequestId). length rs ≤ 1) (sym requests_are) (touched-once c s ch given);
-      before = before;
     }

@@ -1,5 +1,5 @@
 -- the members of groups after a change, from those before it
-use Rattle.std.proofs.Common.{◌≡◌, ◌≤◌, ◌∙◌, Bool, true, false, List, [], ◌∷◌, length, Option, None, Some, refl, sym, ap, subst, arith}
+use Rattle.std.proofs.Common.{◌≡◌, ◌∙◌, Bool, true, false, List, [], ◌∷◌, Option, None, Some, refl, sym, ap, subst}
 use Rattle.std.specs.Prelude.{◌&&◌, ◌||◌, not, map, is_none}
 use Rattle.std.specs.Option.{option_map_or}
 use Rattle.std.specs.List.{list_any}
@@ -8,9 +8,7 @@ use Rattle.np_text.specs.declared.id.RequestId.{RequestId}
 use Rattle.np_text.specs.declared.id.SessionId.{SessionId}
 use Rattle.np_record.specs.declared.record.NodeRecord.{NodeRecord}
 use Rattle.np_record.specs.declared.record.RequestRecord.{RequestRecord}
-use Rattle.np_amount.specs.declared.amount.Amount.{Amount}
 use Rattle.np_site.specs.Configuration.{Configuration}
-use Rattle.np_site.specs.Sound.{IsSound}
 use Rattle.np_groups.specs.declared.groups.Group.{Group}
 use Rattle.np_groups.specs.declared.groups.Member.{Member}
 use Rattle.np_groups.specs.Groups.{has_member, is_member_before}
@@ -20,21 +18,17 @@ use Rattle.np_machine.specs.Order.{is_id_before}
 use Rattle.np_machine.specs.State.{State}
 use Rattle.np_machine.specs.Tables.{holder, node_in, node_holder, request_holder, request_in, same_request}
 use Rattle.np_changes.specs.Changes.{changed}
-use Rattle.np_changes.specs.Planned.{IsPlanned, IsReached}
+use Rattle.np_changes.specs.Planned.{IsReached}
 use Rattle.np_changes.specs.declared.changes.Changes.{Changes}
 use Rattle.np_look.specs.Readers.{is_unclaimed}
 use Rattle.np_safe.specs.Parts.{IsNumbered}
 use Rattle.np_safe.proofs.Numbered.{numbered}
 use Rattle.np_safe.proofs.Runs.{invariant-Runs}
-use Rattle.np_awaited.specs.declared.awaited.Rest.{Rest}
-use Rattle.np_awaited.specs.Awaited.{AreAwaited, AreSmall, exchange}
-use Rattle.np_awaited.proofs.Moved.{awaited-noted, awaited-same, small-amounts}
 use Rattle.np_classes.specs.Classes.{ClassesOf, AreClasses, AreNodeGroups, AreRequestGroups, is_among, node_groups, node_is_in, request_groups, request_is_in}
 use Rattle.np_classes.specs.Placed.{Placed, groups_of_node, groups_of_request, members_of, no_node_groups, no_request_groups, placed_node, placed_queue, placed_request, unheld_group_of_request, with_all, without_all}
-use Rattle.np_classes.specs.Prepared.{IsPrepared, TouchedOf, first_rest}
+use Rattle.np_classes.specs.Prepared.{IsPrepared, TouchedOf}
 use Rattle.np_classes.specs.Touched.{touches_node, touches_request, touches_request_queue}
 use Rattle.np_classes.proofs.Folds.{moved, rises-with_all, rises-without_all, shifted}
-use Rattle.np_classes.proofs.Small.{small-after}
 use Rattle.np_classes.proofs.Untouched.{node-untouched, queue-untouched, request-untouched, unclaimed-untouched}
 use Rattle.np_classes.proofs.Unheld.{noted-both, others-stay, unheld-alone, unheld-among}
 
@@ -60,6 +54,11 @@ or_false false = refl
 untouched : (a b : Bool) → (a ≡ true → b ≡ true) → b ≡ false → a ≡ false
 untouched true b all out = let is : b ≡ true = all refl in cc
 untouched false b all out = refl
+
+-- the record of a request that is not listed stays
+pub record-stays : (c : Configuration) (s : State) (ch : Changes) (touched : TouchedOf) → IsPrepared c s ch touched
+    → (r : RequestId) → list_any (λ x. same_request x r) touched.requests ≡ false → request_in r (changed c ch s).requests ≡ request_in r s.requests
+record-stays c s ch touched prepared r out = request-untouched c ch s r (untouched (touches_request ch s r) (list_any (λ x. same_request x r) touched.requests) (prepared.requests r) out)
 
 module _ (c : Configuration) (s : State) (ch : Changes) (touched : TouchedOf) (reached : IsReached c s) (prepared : IsPrepared c s ch touched) (later : IsNumbered (changed c ch s)) where
   nodes-noted : (ms new : List (Member NodeId)) → AreNodeGroups c s ms
@@ -95,7 +94,7 @@ module _ (c : Configuration) (s : State) (ch : Changes) (touched : TouchedOf) (r
 
   -- where its record is not touched
   stays : (r : RequestId) → list_any (λ x. same_request x r) touched.requests ≡ false → request_in r (changed c ch s).requests ≡ request_in r s.requests
-  stays r out = request-untouched c ch s r (untouched (touches_request ch s r) (list_any (λ x. same_request x r) touched.requests) (prepared.requests r) out)
+  stays r out = record-stays c s ch touched prepared r out
 
   -- where its queue is not touched either
   stays-all : (r : RequestId) → list_any (λ x. same_request x r) touched.requests ≡ false → list_any (λ x. same_request x r) touched.queues ≡ false
@@ -170,72 +169,24 @@ moved-by before same place old was between new gone listed_gone ids listed given
     ∙ ap (λ (ms : List (Member _)). with_all before same (map place given) ms) (taken ∙ ap (λ (ms : List (Member _)). without_all same given_gone ms) was_is ∙ ap (λ (ms : List (Member _)). without_all same ms old) (passed_gone ∙ gone_is))
     ∙ ap (λ (some : List _). with_all before same (map place some) (without_all same listed_gone old)) (passed ∙ ids_is)
 
--- ## what is awaited
-
--- one request at most is among these
-one-at-most : (a b : RequestId) (rs : List RequestId) → length (a ∷ b ∷ rs) ≤ 1 → ⊥
-one-at-most a b rs few = omega (arith, few)
-
-module _ (c : Configuration) (s : State) (ch : Changes) (sound : IsSound c) (reached : IsReached c s) (planned : IsPlanned c s ch) (requests : List RequestId) (old new : List Amount)
-    (once : length requests ≤ 1) (all : (r : RequestId) → touches_request ch s r ≡ true → list_any (λ x. same_request x r) requests ≡ true) where
-  rises : Rises (λ a b. is_id_before a.id b.id) s.requests
-  rises = (invariant-Runs c reached.journal s reached.runs).numbered.requests_rise
-
-  rises_later : Rises (λ a b. is_id_before a.id b.id) (changed c ch s).requests
-  rises_later = (numbered c s ch (invariant-Runs c reached.journal s reached.runs).numbered).requests_rise
-
-  -- what is not listed stays
-  stays-out : (r : RequestId) → list_any (λ x. same_request x r) requests ≡ false → request_in r (changed c ch s).requests ≡ request_in r s.requests
-  stays-out r out = request-untouched c ch s r (untouched (touches_request ch s r) (list_any (λ x. same_request x r) requests) (all r) out)
-
-  pub amounts-noted : AreAwaited c s old → (AreSmall (exchange (first_rest c s requests) (first_rest c (changed c ch s) requests) old) → new ≡ exchange (first_rest c s requests) (first_rest c (changed c ch s) requests) old)
-      → AreAwaited c (changed c ch s) new
-  amounts-noted are noted = by requests refl noted where
-    by : (rs : List RequestId) → requests ≡ rs → (AreSmall (exchange (first_rest c s rs) (first_rest c (changed c ch s) rs) old) → new ≡ exchange (first_rest c s rs) (first_rest c (changed c ch s) rs) old)
-        → AreAwaited c (changed c ch s) new
-    by [] is noted =
-        let now : AreAwaited c (changed c ch s) old =
-        awaited-same c s (changed c ch s) old rises rises_later (λ r. stays-out r (ap (λ (rs : List RequestId). list_any (λ x. same_request x r) rs) is)) are in
-        subst (AreAwaited c (changed c ch s)) (sym (noted (small-amounts c (changed c ch s) old (small-after c s ch sound reached planned) now))) now
-    by (r ∷ []) is noted =
-        awaited-noted c s (changed c ch s) r old new sound rises rises_later
-        (λ x other. stays-out x (ap (λ (rs : List RequestId). list_any (λ y. same_request y x) rs) is ∙ or_false (same_request r x) ∙ other))
-        are (small-after c s ch sound reached planned) noted
-    by (a ∷ b ∷ rs) is noted = absurd (one-at-most a b rs (subst (λ (list : List RequestId). length list ≤ 1) is once))
-
--- the same of what is kept under other names
-pub amounts-by : (rest before after : Option Rest) (amounts old new : List Amount) → rest ≡ before → amounts ≡ old
-    → (AreSmall (exchange rest after amounts) → new ≡ exchange rest after amounts) → AreSmall (exchange before after old) → new ≡ exchange before after old
-amounts-by rest before after amounts old new rest_is amounts_are noted =
-    subst (λ (x : Option Rest). AreSmall (exchange x after old) → new ≡ exchange x after old) rest_is
-    (subst (λ (list : List Amount). AreSmall (exchange rest after list) → new ≡ exchange rest after list) amounts_are noted)
-
 -- ## all of it
 
--- what is touched leaves its groups, and is put where it is after the change; what is awaited follows
-pub classes-noted : (c site : Configuration) (s t : State) (ch : Changes) (touched : TouchedOf) (old new : ClassesOf) (after : Option Rest)
+-- what is touched leaves its groups, and is put where it is after the change
+pub classes-noted : (c site : Configuration) (s t : State) (ch : Changes) (touched : TouchedOf) (old new : ClassesOf)
     → new.nodes ≡ with_all is_node_before same_node (map (placed_node site t) touched.nodes) (without_all same_node touched.node_members old.nodes)
     → new.requests ≡ with_all is_id_before same_request (map (placed_queue t) touched.queues) (without_all same_request touched.queue_members
     (with_all is_id_before same_request (map (placed_request t) touched.requests) (without_all same_request touched.request_members old.requests)))
-    → after ≡ first_rest site t touched.requests
-    → (AreSmall (exchange touched.before after old.awaited) → new.awaited ≡ exchange touched.before after old.awaited)
-    → IsSound site → IsReached c s → IsPlanned c s ch → IsPrepared c s ch touched → site ≡ c → t ≡ changed c ch s → AreClasses c s old → AreClasses c (changed c ch s) new
-classes-noted c site s t ch touched old new after nodes requests after_is awaited sound reached planned prepared same_site later_is was =
+    → IsReached c s → IsPrepared c s ch touched → site ≡ c → t ≡ changed c ch s → AreClasses c s old → AreClasses c (changed c ch s) new
+classes-noted c site s t ch touched old new nodes requests reached prepared same_site later_is was =
     let later : IsNumbered (changed c ch s) = numbered c s ch (invariant-Runs c reached.journal s reached.runs).numbered in
-    let later_rest : after ≡ first_rest c (changed c ch s) touched.requests = rw (← later_is, ← same_site) after_is in
     record {
       nodes = nodes-noted c s ch touched reached prepared later old.nodes new.nodes was.nodes (rw (← later_is, ← same_site) nodes);
       requests = requests-noted c s ch touched reached prepared later old.requests new.requests was.requests (rw (← later_is) requests);
-      awaited =
-          amounts-noted c s ch (subst IsSound same_site sound) reached planned touched.requests old.awaited new.awaited prepared.once prepared.requests was.awaited
-          (subst (λ (rest : Option Rest). AreSmall (exchange (first_rest c s touched.requests) rest old.awaited) → new.awaited ≡ exchange (first_rest c s touched.requests) rest old.awaited) later_rest
-          (subst (λ (rest : Option Rest). AreSmall (exchange rest after old.awaited) → new.awaited ≡ exchange rest after old.awaited) prepared.before awaited));
     }
 
--- members and amounts that stay are those of the same states
-pub classes-same : (c : Configuration) (s : State) (old new : ClassesOf) → new.nodes ≡ old.nodes → new.requests ≡ old.requests → new.awaited ≡ old.awaited → AreClasses c s old → AreClasses c s new
-classes-same c s old new nodes requests awaited was = record {
+-- members that stay are those of the same state
+pub classes-same : (c : Configuration) (s : State) (old new : ClassesOf) → new.nodes ≡ old.nodes → new.requests ≡ old.requests → AreClasses c s old → AreClasses c s new
+classes-same c s old new nodes requests was = record {
   nodes = subst (AreNodeGroups c s) (sym nodes) was.nodes;
   requests = subst (AreRequestGroups s) (sym requests) was.requests;
-  awaited = subst (AreAwaited c s) (sym awaited) was.awaited;
 }

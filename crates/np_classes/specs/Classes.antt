@@ -2,7 +2,6 @@
 use Rattle.std.specs.Prelude.{◌≡◌, ℕ, zero, suc, ◌+◌, ◌*◌, List, [], ◌∷◌, Bool, false, ◌==◌, ◌&&◌, ◌||◌, not, if◌then◌else◌, Option, Some, None, is_none, is_some, length, slice_get, option_and_then, nat_lt}
 use Rattle.std.specs.Option.{option_map, option_map_or}
 use Rattle.std.specs.List.{list_any}
-use Rattle.np_amount.specs.declared.amount.Amount.{Amount}
 use Rattle.np_text.specs.declared.id.PoolId.{PoolId}
 use Rattle.np_text.specs.declared.id.LabelId.{LabelId}
 use Rattle.np_text.specs.declared.id.NodeId.{NodeId}
@@ -25,7 +24,6 @@ use Rattle.np_machine.specs.Order.{is_declined_by, is_id_before}
 use Rattle.np_machine.specs.Reasons.{next_label}
 use Rattle.np_machine.specs.State.{State}
 use Rattle.np_machine.specs.Tables.{node_in, node_holder, request_holder, request_in, same_request}
-use Rattle.np_awaited.specs.Awaited.{AreAwaited}
 
 -- ## groups of nodes (own)
 
@@ -177,17 +175,14 @@ pub record AreRequestGroups (s : State) (members : List (Member RequestId)) : Ty
   pub each : (g : Group) (r : RequestId) → has_member same_request g r members ≡ request_is_in s g r
   pub once : Rises (λ a b. is_id_before a.id b.id) s.requests
 
--- the members of all groups, how many more can be put without taking memory, and what the pending
--- requests of each tenant still wait for
+-- the members of all groups, and how many more can be put without taking memory
 pub record ClassesOf : Type 0 where
   pub nodes : List (Member NodeId)
   pub requests : List (Member RequestId)
   pub node_room : ℕ
   pub request_room : ℕ
-  pub awaited : List Amount
 
 -- each part says what the state says
 pub record AreClasses (c : Configuration) (s : State) (classes : ClassesOf) : Type 0 where
   pub nodes : AreNodeGroups c s classes.nodes
   pub requests : AreRequestGroups s classes.requests
-  pub awaited : AreAwaited c s classes.awaited

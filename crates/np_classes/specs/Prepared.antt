@@ -1,5 +1,5 @@
 -- which nodes and requests are listed before a change, and what is prepared for it
-use Rattle.std.specs.Prelude.{◌≡◌, ◌≤◌, ◌+◌, ◌*◌, List, [], ◌∷◌, ◌++◌, true, Option, length, map, option_and_then, slice_get}
+use Rattle.std.specs.Prelude.{◌≡◌, ◌≤◌, ◌+◌, ◌*◌, List, [], ◌∷◌, ◌++◌, true, length, map}
 use Rattle.std.specs.Option.{option_map_or}
 use Rattle.std.specs.List.{list_any}
 use Rattle.np_text.specs.declared.id.NodeId.{NodeId}
@@ -20,8 +20,6 @@ use Rattle.np_changes.specs.declared.changes.NodesChange.TheVariants as nodes
 use Rattle.np_changes.specs.declared.changes.SessionsChange.{SessionsChange}
 use Rattle.np_changes.specs.declared.changes.SessionsChange.TheVariants as sessions
 use Rattle.np_classes.specs.Classes.{ClassesOf}
-use Rattle.np_awaited.specs.Awaited.{rest_at}
-use Rattle.np_awaited.specs.declared.awaited.Rest.{Rest}
 use Rattle.np_classes.specs.Placed.{members_of, placed_node, placed_queue, placed_request}
 use Rattle.np_classes.specs.Touched.{touches_node, touches_request, touches_request_queue}
 
@@ -91,12 +89,8 @@ touched_queues ch queued = (grown_queues ch.grows ++ left_queues ch.requests) ++
 
 -- ## what is prepared
 
--- what the first of the requests still waits for
-abbrev pub first_rest : Configuration → State → List RequestId → Option Rest
-first_rest c s requests = option_and_then (rest_at c s) (slice_get requests 0)
-
 -- the nodes and the requests that a change touches, the requests of which it touches the queue alone,
--- the members that they are before it, and what the first request waits for before it (own)
+-- and the members that they are before it (own)
 pub record TouchedOf : Type 0 where
   pub nodes : List NodeId
   pub requests : List RequestId
@@ -104,7 +98,6 @@ pub record TouchedOf : Type 0 where
   pub node_members : List (Member NodeId)
   pub request_members : List (Member RequestId)
   pub queue_members : List (Member RequestId)
-  pub before : Option Rest
 
 -- all that the changes touch in the state is listed, with the members that it is there; they touch
 -- one request at most
@@ -116,7 +109,6 @@ pub record IsPrepared (c : Configuration) (s : State) (ch : Changes) (touched : 
   pub request_members : touched.request_members ≡ members_of (map (placed_request s) touched.requests)
   pub queue_members : touched.queue_members ≡ members_of (map (placed_queue s) touched.queues)
   pub once : length touched.requests ≤ 1
-  pub before : touched.before ≡ first_rest c s touched.requests
 
 -- there is room for each node in the five groups that it may be in, for each request in its seven, and
 -- for each queue in its one

@@ -1,5 +1,4 @@
-//! The groups of a state's nodes and requests, and what is awaited by tenant, kept as events change
-//! the state.
+//! The groups of a state's nodes and requests, kept as events change the state.
 
 ghost use Rattle.std.specs.Prelude.{◌≡◌, IfOk, length, slice_get};
 ghost use Rattle.np_text.specs.declared.id.SessionId.{SessionId};
@@ -9,32 +8,26 @@ ghost use Rattle.np_changes.specs.Changes.{changed};
 ghost use Rattle.np_changes.specs.declared.changes.Changes.{Changes};
 ghost use Rattle.np_changes.specs.declared.changes.SessionsChange.TheVariants as sessions;
 ghost use Rattle.np_changes.specs.Planned.{IsPlanned, IsReached};
-ghost use Rattle.np_fits.specs.Fits.{Fits};
 ghost use Rattle.np_look.specs.Readers.{queued_nodes, queued_requests};
 ghost use Rattle.np_groups.specs.Groups.{group_after, group_from, ids_in};
-ghost use Rattle.np_awaited.specs.Awaited.{amount_at};
 ghost use Rattle.np_classes.specs.Classes.{AreClasses};
 ghost use Rattle.np_classes.specs.Prepared.{HasRoom, IsPrepared};
 
 use crate::members::{all_nodes, all_requests, put_nodes, put_queues, put_requests, take_out};
-use crate::touched::{Touched, first_rest, touched_by};
-use np_amount::Amount;
-use np_awaited::Awaited;
+use crate::touched::{Touched, touched_by};
 use np_changes::Changes;
 use np_groups::{Group, Groups};
 use np_keys::{ByNode, ByRequest};
-use np_look::Look;
-use np_text::{NodeId, RequestId, TenantId};
+use np_look::Rows;
+use np_text::{NodeId, RequestId};
 use std::alloc::{AllocError, Global};
 use std::marker::Model;
 
-/// Which nodes and which requests are in each group, and what the pending requests of each tenant
-/// still wait for.
+/// Which nodes and which requests are in each group.
 #[derive(Drop)]
 pub struct Classes {
     nodes: Groups<ByNode>,
     requests: Groups<ByRequest>,
-    awaited: Awaited,
 }
 
 impl Model for Classes {
@@ -47,26 +40,19 @@ impl Model for Classes {
       requests = classes.requests.members;
       node_room = classes.nodes.room;
       request_room = classes.requests.room;
-      awaited = classes.awaited;
     } };
 }
 
 impl Classes {
-    /// The groups and the amounts of the state. It reads each node once and each request twice, and
-    /// looks up the request that each node is allocated to.
-    pub fn rebuild<L: Look>(alloc: Global, look: &L) -> Result<Classes, AllocError>
-        requires reached { IsReached (L.site look.now) (L.state look.now) }
-        requires fits { Fits (L.site look.now) (L.state look.now) }
-        ensures { IfOk result (λ x. AreClasses (L.site look.now) (L.state look.now) x) }
+    /// The groups of the state. It reads each node and each request once, and looks up the request
+    /// that each node is allocated to.
+    pub fn rebuild<R: Rows>(alloc: Global, rows: &R) -> Result<Classes, AllocError>
+        requires { IsReached (R.site rows.now) (R.state rows.now) }
+        ensures { IfOk result (λ x. AreClasses (R.site rows.now) (R.state rows.now) x) }
     {
-        let nodes = all_nodes(alloc, look)?;
-        let requests = all_requests(alloc, look)?;
-        let awaited = Awaited::rebuild(alloc, look)?;
-        Ok(Classes {
-            nodes,
-            requests,
-            awaited,
-        })
+        let nodes = all_nodes(alloc, rows)?;
+        let requests = all_requests(alloc, rows)?;
+        Ok(Classes { nodes, requests })
     }
 
     /// How many nodes are in the group. Two binary searches.
@@ -127,41 +113,33 @@ impl Classes {
         self.requests.group_after(group)
     }
 
-    /// What the tenant's pending requests still wait for. One lookup by the tenant's number.
-    pub fn awaited(&self, tenant: TenantId) -> Amount
-        ensures { result ≡ amount_at tenant self.now.awaited }
-    {
-        self.awaited.of(tenant)
-    }
-
     /// Lists what the changes touch, before the state changes, and takes the memory for `note`. The
     /// members stay as they are, so nothing need be undone if the change fails. Where a session
     /// ends, `nodes` and `requests` are those in whose queues it is; where a request goes away, its
     /// nodes are touched too. It costs a few lookups for each node that is touched and for a request
     /// whose record may change, for one that pools declined a scan of its declines for each of the
     /// 64 pools, and two lookups for each request whose queue alone changes.
-    pub fn prepare<L: Look>(
+    pub fn prepare<R: Rows>(
         &mut self,
         alloc: Global,
-        look: &L,
+        rows: &R,
         changes: &Changes,
         nodes: &[NodeId],
         requests: &[RequestId],
     ) -> Result<Touched, AllocError>
-        requires reached { IsReached (L.site look.now) (L.state look.now) }
-        requires planned { IsPlanned (L.site look.now) (L.state look.now) changes.now }
+        requires reached { IsReached (R.site rows.now) (R.state rows.now) }
+        requires planned { IsPlanned (R.site rows.now) (R.state rows.now) changes.now }
         requires nodes { (session : SessionId) → changes.now.sessions ≡ sessions.End session
-            → nodes.now ≡ queued_nodes session (L.state look.now) }
+            → nodes.now ≡ queued_nodes session (R.state rows.now) }
         requires requests { (session : SessionId) → changes.now.sessions ≡ sessions.End session
-            → requests.now ≡ queued_requests session (L.state look.now) }
+            → requests.now ≡ queued_requests session (R.state rows.now) }
         ensures nodes { self.new.nodes ≡ self.old.nodes }
         ensures requests { self.new.requests ≡ self.old.requests }
-        ensures awaited { self.new.awaited ≡ self.old.awaited }
         ensures prepared { IfOk result (λ touched.
-            IsPrepared (L.site look.now) (L.state look.now) changes.now touched) }
+            IsPrepared (R.site rows.now) (R.state rows.now) changes.now touched) }
         ensures room { IfOk result (λ touched. HasRoom touched self.new) }
     {
-        let touched = touched_by(alloc, look, changes, nodes, requests)?;
+        let touched = touched_by(alloc, rows, changes, nodes, requests)?;
         self.nodes.reserve(5 * touched.nodes.len())?;
         self.requests
             .reserve(7 * touched.requests.len() + touched.queues.len())?;
@@ -173,21 +151,18 @@ impl Classes {
     /// whose record may have changed, and for one that pools declined a scan of its declines for
     /// each of the 64 pools. A request whose queue alone was touched costs two lookups and two
     /// binary searches.
-    pub fn note<L: Look>(&mut self, look: &L, touched: &Touched)
+    pub fn note<R: Rows>(&mut self, rows: &R, touched: &Touched)
         requires { HasRoom touched.now self.old }
         ensures { (c : Configuration) (s : State) (ch : Changes)
-            → IsReached c s → IsPlanned c s ch → IsPrepared c s ch touched.now
-            → L.site look.now ≡ c → L.state look.now ≡ changed c ch s
+            → IsReached c s → IsPrepared c s ch touched.now
+            → R.site rows.now ≡ c → R.state rows.now ≡ changed c ch s
             → AreClasses c s self.old → AreClasses c (changed c ch s) self.new }
     {
         take_out(&mut self.nodes, touched.node_members.as_slice());
-        put_nodes(&mut self.nodes, look, touched.nodes.as_slice());
+        put_nodes(&mut self.nodes, rows, touched.nodes.as_slice());
         take_out(&mut self.requests, touched.request_members.as_slice());
-        put_requests(&mut self.requests, look, touched.requests.as_slice());
+        put_requests(&mut self.requests, rows, touched.requests.as_slice());
         take_out(&mut self.requests, touched.queue_members.as_slice());
-        put_queues(&mut self.requests, look, touched.queues.as_slice());
-        look.config().soundness();
-        let after = first_rest(look, touched.requests.as_slice());
-        self.awaited.note(touched.before, after);
+        put_queues(&mut self.requests, rows, touched.queues.as_slice());
     }
 }

@@ -1,5 +1,4 @@
-//! Groups of the nodes and of the requests of a state, for what is asked of all of one kind, and
-//! what the pending requests of each tenant still wait for.
+//! Groups of the nodes and of the requests of a state, for what is asked of all of one kind.
 //!
 //! `specs/Classes` says which groups a record is in, and when the members of all groups are those
 //! of a state. `Classes` keeps them as each event changes the state: `prepare` lists the nodes and
@@ -7,10 +6,7 @@
 //! once the state has changed, `note` puts them where they are now, which can't fail. A node is
 //! touched too when the request that it is allocated to goes away, since it is unclaimed from then
 //! on. A request whose queue alone changes leaves one group only: that of the pending ones that
-//! nobody holds.
-//!
-//! An event changes the record of one request at most. `prepare` reads what it waits for before,
-//! and `note` puts what it waits for now in its place.
+//! nobody holds. An event changes the record of one request at most.
 #![tactic(auto)]
 
 mod classes;

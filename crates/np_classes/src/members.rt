@@ -12,7 +12,7 @@ use crate::group::{node_groups, request_groups};
 use crate::touched::{groups_of_node, groups_of_request, unheld_group_of_request};
 use np_groups::{Group, Groups, Member};
 use np_keys::{ByNode, ByRequest};
-use np_look::{Look, NodeView, RequestView};
+use np_look::{NodeView, RequestView, Rows, is_unclaimed};
 use np_table::Order;
 use np_text::{NodeId, RequestId};
 use std::alloc::{AllocError, Global};
@@ -51,78 +51,78 @@ fn put_in<O: Order>(groups: &mut Groups<O>, id: O::Key, places: &[Option<Group>]
 }
 
 /// Puts the nodes where the state has them.
-pub(crate) fn put_nodes<L: Look>(groups: &mut Groups<ByNode>, look: &L, nodes: &[NodeId])
+pub(crate) fn put_nodes<R: Rows>(groups: &mut Groups<ByNode>, rows: &R, nodes: &[NodeId])
     requires { 5 * length nodes.now ≤ groups.old.room }
     ensures { groups.new.members
         ≡ with_all is_node_before same_node
-        (map (placed_node (L.site look.now) (L.state look.now)) nodes.now)
+        (map (placed_node (R.site rows.now) (R.state rows.now)) nodes.now)
         groups.old.members }
 {
     for node in nodes {
-        put_in(groups, *node, &groups_of_node(look, *node));
+        put_in(groups, *node, &groups_of_node(rows, *node));
     }
 }
 
 /// Puts the requests where the state has them.
-pub(crate) fn put_requests<L: Look>(
+pub(crate) fn put_requests<R: Rows>(
     groups: &mut Groups<ByRequest>,
-    look: &L,
+    rows: &R,
     requests: &[RequestId],
 )
     requires { 7 * length requests.now ≤ groups.old.room }
     ensures members { groups.new.members
         ≡ with_all is_id_before same_request
-        (map (placed_request (L.state look.now)) requests.now)
+        (map (placed_request (R.state rows.now)) requests.now)
         groups.old.members }
     ensures room { groups.old.room ≤ groups.new.room + 7 * length requests.now }
 {
     for request in requests {
-        put_in(groups, *request, &groups_of_request(look, *request));
+        put_in(groups, *request, &groups_of_request(rows, *request));
     }
 }
 
 /// Puts the requests among the pending ones that nobody holds, if the state has them there.
-pub(crate) fn put_queues<L: Look>(groups: &mut Groups<ByRequest>, look: &L, requests: &[RequestId])
+pub(crate) fn put_queues<R: Rows>(groups: &mut Groups<ByRequest>, rows: &R, requests: &[RequestId])
     requires { length requests.now ≤ groups.old.room }
     ensures { groups.new.members
         ≡ with_all is_id_before same_request
-        (map (placed_queue (L.state look.now)) requests.now)
+        (map (placed_queue (R.state rows.now)) requests.now)
         groups.old.members }
 {
     for request in requests {
-        put_one(groups, *request, unheld_group_of_request(look, *request));
+        put_one(groups, *request, unheld_group_of_request(rows, *request));
     }
 }
 
 /// Puts the node in its groups, and takes the memory.
-fn add_node<L: Look>(
+fn add_node<R: Rows>(
     groups: &mut Groups<ByNode>,
-    look: &L,
+    rows: &R,
     view: &NodeView,
 ) -> Result<(), AllocError>
     ensures { OnOk result (groups.new.members
         ≡ with_groups is_node_before same_node view.now.id
-        (placed_node_view (L.site look.now) (L.state look.now) view.now).groups
+        (placed_node_view (R.site rows.now) (R.state rows.now) view.now).groups
         groups.old.members) }
 {
-    let is_unclaimed = look.is_unclaimed(&view.kept);
+    let is_unclaimed = is_unclaimed(rows, &view.kept);
     let is_unlocked = view.holder.is_none();
-    let places = node_groups(look.config(), &view.kept, is_unlocked, is_unclaimed);
+    let places = node_groups(rows.config(), &view.kept, is_unlocked, is_unclaimed);
     groups.reserve(5)?;
     put_in(groups, view.id, &places);
     Ok(())
 }
 
 /// The groups of all nodes, by one walk over them, with a lookup of each one's request.
-pub(crate) fn all_nodes<L: Look>(alloc: Global, look: &L) -> Result<Groups<ByNode>, AllocError>
-    requires { IsReached (L.site look.now) (L.state look.now) }
+pub(crate) fn all_nodes<R: Rows>(alloc: Global, rows: &R) -> Result<Groups<ByNode>, AllocError>
+    requires { IsReached (R.site rows.now) (R.state rows.now) }
     ensures { IfOk result (λ groups.
-        AreNodeGroups (L.site look.now) (L.state look.now) groups.members) }
+        AreNodeGroups (R.site rows.now) (R.state rows.now) groups.members) }
 {
     let mut groups = Groups::new(alloc);
-    for at in 0..look.nodes() {
-        if let Some(view) = look.node_view(at) {
-            add_node(&mut groups, look, &view)?;
+    for at in 0..rows.nodes() {
+        if let Some(view) = rows.node_view(at) {
+            add_node(&mut groups, rows, &view)?;
         }
     }
     Ok(groups)
@@ -142,17 +142,17 @@ fn add_request(groups: &mut Groups<ByRequest>, view: &RequestView) -> Result<(),
 }
 
 /// The groups of all requests, by one walk over them.
-pub(crate) fn all_requests<L: Look>(
+pub(crate) fn all_requests<R: Rows>(
     alloc: Global,
-    look: &L,
+    rows: &R,
 ) -> Result<Groups<ByRequest>, AllocError>
-    requires { IsReached (L.site look.now) (L.state look.now) }
+    requires { IsReached (R.site rows.now) (R.state rows.now) }
     ensures { IfOk result (λ groups.
-        AreRequestGroups (L.state look.now) groups.members) }
+        AreRequestGroups (R.state rows.now) groups.members) }
 {
     let mut groups = Groups::new(alloc);
-    for at in 0..look.requests() {
-        if let Some(view) = look.request_view(at) {
+    for at in 0..rows.requests() {
+        if let Some(view) = rows.request_view(at) {
             add_request(&mut groups, &view)?;
         }
     }

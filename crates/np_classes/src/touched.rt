@@ -7,20 +7,18 @@ ghost use Rattle.np_changes.specs.declared.changes.SessionsChange.TheVariants as
 ghost use Rattle.np_changes.specs.Planned.{IsPlanned, IsReached};
 ghost use Rattle.np_look.specs.Readers.{queued_nodes, queued_requests};
 ghost use Rattle.np_classes.specs.Placed.{groups_of_node, groups_of_request, members_of, placed_node, placed_queue, placed_request, then_member, then_members, unheld_group_of_request};
-ghost use Rattle.np_classes.specs.Prepared.{IsPrepared, changed_nodes, changed_requests, ended, first_rest, grown_nodes, grown_queues, grown_requests, left_queues, touched_nodes, touched_queues, touched_requests, unclaimed_nodes};
+ghost use Rattle.np_classes.specs.Prepared.{IsPrepared, changed_nodes, changed_requests, ended, grown_nodes, grown_queues, grown_requests, left_queues, touched_nodes, touched_queues, touched_requests, unclaimed_nodes};
 
 use crate::group::{node_groups, request_groups, unheld_pending_group_of};
-use np_awaited::{Rest, rest_at};
 use np_changes::{Changes, Growth, NodesChange, RequestsChange, SessionsChange};
 use np_groups::{Group, Member};
-use np_look::Look;
+use np_look::{Rows, is_unclaimed, node_holder, request_holder};
 use np_text::{NodeId, RequestId};
 use std::alloc::{AllocError, Global};
 use std::marker::Model;
 
 /// The nodes and the requests that an event's changes touch, with the members of groups that they
-/// are before it: the requests whose records may change, and those whose queues alone may. Beside
-/// them what the request whose record may change waits for before the event.
+/// are before it: the requests whose records may change, and those whose queues alone may.
 #[derive(Drop)]
 pub struct Touched {
     pub(crate) nodes: Vec<NodeId>,
@@ -29,7 +27,6 @@ pub struct Touched {
     pub(crate) node_members: Vec<Member<NodeId>>,
     pub(crate) request_members: Vec<Member<RequestId>>,
     pub(crate) queue_members: Vec<Member<RequestId>>,
-    pub(crate) before: Option<Rest>,
 }
 
 impl Model for Touched {
@@ -44,7 +41,6 @@ impl Model for Touched {
       node_members = touched.node_members.items;
       request_members = touched.request_members.items;
       queue_members = touched.queue_members.items;
-      before = touched.before;
     } };
 }
 
@@ -74,55 +70,45 @@ const NO_REQUEST_GROUPS: [Option<Group>; 7] = [None, None, None, None, None, Non
 
 /// The groups that the node is in, if it is there. Three lookups: of the node, of its queue and of
 /// the request that it is allocated to.
-pub(crate) fn groups_of_node<L: Look>(look: &L, node: NodeId) -> [Option<Group>; 5]
-    ensures { result ≡ groups_of_node (L.site look.now) (L.state look.now) node }
+pub(crate) fn groups_of_node<R: Rows>(rows: &R, node: NodeId) -> [Option<Group>; 5]
+    ensures { result ≡ groups_of_node (R.site rows.now) (R.state rows.now) node }
 {
-    let Some(kept) = look.node(node) else {
+    let Some(kept) = rows.node(node) else {
         return NO_NODE_GROUPS;
     };
-    let is_unlocked = look.node_holder(node).is_none();
-    let is_unclaimed = look.is_unclaimed(&kept);
-    node_groups(look.config(), &kept, is_unlocked, is_unclaimed)
+    let is_unlocked = node_holder(rows, node).is_none();
+    let is_unclaimed = is_unclaimed(rows, &kept);
+    node_groups(rows.config(), &kept, is_unlocked, is_unclaimed)
 }
 
 /// The groups that the request is in, if it is there. Two lookups: of the request and of its queue.
-pub(crate) fn groups_of_request<L: Look>(look: &L, request: RequestId) -> [Option<Group>; 7]
-    ensures { result ≡ groups_of_request (L.state look.now) request }
+pub(crate) fn groups_of_request<R: Rows>(rows: &R, request: RequestId) -> [Option<Group>; 7]
+    ensures { result ≡ groups_of_request (R.state rows.now) request }
 {
-    let Some(kept) = look.request(request) else {
+    let Some(kept) = rows.request(request) else {
         return NO_REQUEST_GROUPS;
     };
-    let is_unlocked = look.request_holder(request).is_none();
+    let is_unlocked = request_holder(rows, request).is_none();
     request_groups(&kept, is_unlocked)
 }
 
 /// Its group among the pending ones that nobody holds. The same two lookups, without its declines.
-pub(crate) fn unheld_group_of_request<L: Look>(look: &L, request: RequestId) -> Option<Group>
-    ensures { result ≡ unheld_group_of_request (L.state look.now) request }
+pub(crate) fn unheld_group_of_request<R: Rows>(rows: &R, request: RequestId) -> Option<Group>
+    ensures { result ≡ unheld_group_of_request (R.state rows.now) request }
 {
-    let asked = look.asked(request)?;
-    let is_unlocked = look.request_holder(request).is_none();
+    let asked = rows.asked(request)?;
+    let is_unlocked = request_holder(rows, request).is_none();
     unheld_pending_group_of(asked.state, asked.pool, is_unlocked)
-}
-
-/// What the first of the requests still waits for.
-pub(crate) fn first_rest<L: Look>(look: &L, requests: &[RequestId]) -> Option<Rest>
-    ensures { result ≡ first_rest (L.site look.now) (L.state look.now) requests.now }
-{
-    match requests.first() {
-        None => None,
-        Some(request) => rest_at(look, *request),
-    }
 }
 
 // ## lists of ids
 
 /// The node that grows, or whose queue or allocation does.
-fn grown_node<L: Look>(look: &L, growth: &Growth) -> Option<NodeId>
-    ensures { option_to_list result ≡ grown_nodes growth.now (L.state look.now) }
+fn grown_node<R: Rows>(rows: &R, growth: &Growth) -> Option<NodeId>
+    ensures { option_to_list result ≡ grown_nodes growth.now (R.state rows.now) }
 {
     match growth {
-        Growth::Node { .. } => Some(NodeId(look.next_node())),
+        Growth::Node { .. } => Some(NodeId(rows.next_node())),
         Growth::JoinNode { node } => Some(*node),
         Growth::Allocate { node, .. } => Some(*node),
         _ => None,
@@ -138,20 +124,20 @@ fn list_if<T: Copy>(list: &mut Vec<T>, one: Option<T>) -> Result<(), AllocError>
     Ok(())
 }
 
-fn list_changed_nodes<L: Look>(
+fn list_changed_nodes<R: Rows>(
     list: &mut Vec<NodeId>,
-    look: &L,
+    rows: &R,
     change: &NodesChange,
 ) -> Result<(), AllocError>
     ensures { OnOk result
-        (list.new.items ≡ list.old.items ++ changed_nodes change.now (L.state look.now)) }
+        (list.new.items ≡ list.old.items ++ changed_nodes change.now (R.state rows.now)) }
 {
     match change {
         NodesChange::Same => Ok(()),
         NodesChange::Put { node, .. } => list_if(list, Some(*node)),
         NodesChange::Remove { node } => list_if(list, Some(*node)),
         NodesChange::Leave { node } => list_if(list, Some(*node)),
-        NodesChange::FreeAll { request } => match look.asked(*request) {
+        NodesChange::FreeAll { request } => match rows.asked(*request) {
             None => Ok(()),
             Some(asked) => list.extend_from_slice(asked.nodes.items()),
         },
@@ -173,47 +159,47 @@ fn list_ended<T: Copy>(
     }
 }
 
-fn list_unclaimed_nodes<L: Look>(
+fn list_unclaimed_nodes<R: Rows>(
     list: &mut Vec<NodeId>,
-    look: &L,
+    rows: &R,
     change: &RequestsChange,
 ) -> Result<(), AllocError>
     ensures { OnOk result
-        (list.new.items ≡ list.old.items ++ unclaimed_nodes change.now (L.state look.now)) }
+        (list.new.items ≡ list.old.items ++ unclaimed_nodes change.now (R.state rows.now)) }
 {
     let RequestsChange::Remove { request } = change else {
         return Ok(());
     };
-    match look.asked(*request) {
+    match rows.asked(*request) {
         None => Ok(()),
         Some(gone) => list.extend_from_slice(gone.nodes.items()),
     }
 }
 
-fn touched_nodes<L: Look>(
+fn touched_nodes<R: Rows>(
     alloc: Global,
-    look: &L,
+    rows: &R,
     changes: &Changes,
     ended_nodes: &[NodeId],
 ) -> Result<Vec<NodeId>, AllocError>
     ensures { IfOk result
-        (λ list. list.items ≡ touched_nodes changes.now ended_nodes.now (L.state look.now)) }
+        (λ list. list.items ≡ touched_nodes changes.now ended_nodes.now (R.state rows.now)) }
 {
     let mut list = Vec::new(alloc);
-    list_if(&mut list, grown_node(look, &changes.grows))?;
-    list_changed_nodes(&mut list, look, &changes.nodes)?;
+    list_if(&mut list, grown_node(rows, &changes.grows))?;
+    list_changed_nodes(&mut list, rows, &changes.nodes)?;
     list_ended(&mut list, &changes.sessions, ended_nodes)?;
-    list_unclaimed_nodes(&mut list, look, &changes.requests)?;
+    list_unclaimed_nodes(&mut list, rows, &changes.requests)?;
     Ok(list)
 }
 
-fn grown_request<L: Look>(look: &L, growth: &Growth) -> Option<RequestId>
-    ensures { option_to_list result ≡ grown_requests growth.now (L.state look.now) }
+fn grown_request<R: Rows>(rows: &R, growth: &Growth) -> Option<RequestId>
+    ensures { option_to_list result ≡ grown_requests growth.now (R.state rows.now) }
 {
     match growth {
         Growth::Request { priority, .. } => Some(RequestId {
             priority: *priority,
-            seq: look.next_request(),
+            seq: rows.next_request(),
         }),
         _ => None,
     }
@@ -229,16 +215,16 @@ fn changed_request(change: &RequestsChange) -> Option<RequestId>
     }
 }
 
-fn touched_requests<L: Look>(
+fn touched_requests<R: Rows>(
     alloc: Global,
-    look: &L,
+    rows: &R,
     changes: &Changes,
 ) -> Result<Vec<RequestId>, AllocError>
     ensures { IfOk result
-        (λ list. list.items ≡ touched_requests changes.now (L.state look.now)) }
+        (λ list. list.items ≡ touched_requests changes.now (R.state rows.now)) }
 {
     let mut list = Vec::new(alloc);
-    list_if(&mut list, grown_request(look, &changes.grows))?;
+    list_if(&mut list, grown_request(rows, &changes.grows))?;
     list_if(&mut list, changed_request(&changes.requests))?;
     Ok(list)
 }
@@ -303,76 +289,75 @@ fn list_members<K: Copy>(
     Ok(())
 }
 
-fn node_members<L: Look>(
+fn node_members<R: Rows>(
     alloc: Global,
-    look: &L,
+    rows: &R,
     nodes: &[NodeId],
 ) -> Result<Vec<Member<NodeId>>, AllocError>
     ensures { IfOk result (λ list. list.items
-        ≡ members_of (map (placed_node (L.site look.now) (L.state look.now)) nodes.now)) }
+        ≡ members_of (map (placed_node (R.site rows.now) (R.state rows.now)) nodes.now)) }
 {
     let mut list = Vec::new(alloc);
     for node in nodes {
-        list_members(&mut list, *node, &groups_of_node(look, *node))?;
+        list_members(&mut list, *node, &groups_of_node(rows, *node))?;
     }
     Ok(list)
 }
 
-fn request_members<L: Look>(
+fn request_members<R: Rows>(
     alloc: Global,
-    look: &L,
+    rows: &R,
     requests: &[RequestId],
 ) -> Result<Vec<Member<RequestId>>, AllocError>
     ensures { IfOk result (λ list. list.items
-        ≡ members_of (map (placed_request (L.state look.now)) requests.now)) }
+        ≡ members_of (map (placed_request (R.state rows.now)) requests.now)) }
 {
     let mut list = Vec::new(alloc);
     for request in requests {
-        list_members(&mut list, *request, &groups_of_request(look, *request))?;
+        list_members(&mut list, *request, &groups_of_request(rows, *request))?;
     }
     Ok(list)
 }
 
-fn queue_members<L: Look>(
+fn queue_members<R: Rows>(
     alloc: Global,
-    look: &L,
+    rows: &R,
     requests: &[RequestId],
 ) -> Result<Vec<Member<RequestId>>, AllocError>
     ensures { IfOk result (λ list. list.items
-        ≡ members_of (map (placed_queue (L.state look.now)) requests.now)) }
+        ≡ members_of (map (placed_queue (R.state rows.now)) requests.now)) }
 {
     let mut list = Vec::new(alloc);
     for request in requests {
-        list_member(&mut list, *request, unheld_group_of_request(look, *request))?;
+        list_member(&mut list, *request, unheld_group_of_request(rows, *request))?;
     }
     Ok(list)
 }
 
 /// What the changes touch. The nodes that are freed or whose request goes away are read from that
 /// request, and the nodes and the requests in whose queues a session is that ends are passed.
-pub(crate) fn touched_by<L: Look>(
+pub(crate) fn touched_by<R: Rows>(
     alloc: Global,
-    look: &L,
+    rows: &R,
     changes: &Changes,
     ended_nodes: &[NodeId],
     ended_requests: &[RequestId],
 ) -> Result<Touched, AllocError>
-    requires reached { IsReached (L.site look.now) (L.state look.now) }
-    requires planned { IsPlanned (L.site look.now) (L.state look.now) changes.now }
+    requires reached { IsReached (R.site rows.now) (R.state rows.now) }
+    requires planned { IsPlanned (R.site rows.now) (R.state rows.now) changes.now }
     requires nodes { (session : SessionId) → changes.now.sessions ≡ sessions.End session
-        → ended_nodes.now ≡ queued_nodes session (L.state look.now) }
+        → ended_nodes.now ≡ queued_nodes session (R.state rows.now) }
     requires requests { (session : SessionId) → changes.now.sessions ≡ sessions.End session
-        → ended_requests.now ≡ queued_requests session (L.state look.now) }
+        → ended_requests.now ≡ queued_requests session (R.state rows.now) }
     ensures { IfOk result (λ touched.
-        IsPrepared (L.site look.now) (L.state look.now) changes.now touched) }
+        IsPrepared (R.site rows.now) (R.state rows.now) changes.now touched) }
 {
-    let nodes = touched_nodes(alloc, look, changes, ended_nodes)?;
-    let requests = touched_requests(alloc, look, changes)?;
+    let nodes = touched_nodes(alloc, rows, changes, ended_nodes)?;
+    let requests = touched_requests(alloc, rows, changes)?;
     let queues = touched_queues(alloc, changes, ended_requests)?;
-    let node_members = node_members(alloc, look, nodes.as_slice())?;
-    let request_members = request_members(alloc, look, requests.as_slice())?;
-    let queue_members = queue_members(alloc, look, queues.as_slice())?;
-    let before = first_rest(look, requests.as_slice());
+    let node_members = node_members(alloc, rows, nodes.as_slice())?;
+    let request_members = request_members(alloc, rows, requests.as_slice())?;
+    let queue_members = queue_members(alloc, rows, queues.as_slice())?;
     Ok(Touched {
         nodes,
         requests,
@@ -380,6 +365,5 @@ pub(crate) fn touched_by<L: Look>(
         node_members,
         request_members,
         queue_members,
-        before,
     })
 }

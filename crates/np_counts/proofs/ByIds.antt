@@ -9,8 +9,8 @@ use Rattle.np_machine.specs.State.{State}
 use Rattle.np_machine.specs.Tables.{node_entry, request_entry, same_request}
 use Rattle.np_safe.proofs.Lookups.{same_request-self}
 use Rattle.np_classes.specs.Classes.{ClassesOf, AreClasses}
-use Rattle.np_counts.proofs.Rows.{rows-found}
-use Rattle.np_counts.proofs.Grouped.{same_node-self, node-apart, request-apart}
+use Rattle.np_classes.proofs.Rows.{rows-found}
+use Rattle.np_classes.proofs.Apart.{same_node-self, node-apart, request-apart}
 
 module _ (c : Configuration) (s : State) (classes : ClassesOf) (are : AreClasses c s classes) where
   -- each node is found by its number

@@ -1,5 +1,5 @@
 -- the members of a group are the rows that are in it, in order
-use Rattle.std.proofs.Common.{◌≡◌, ◌∙◌, Bool, true, false, List, [], map, Option, Some, None, refl, sym, ap, arith}
+use Rattle.std.proofs.Common.{◌≡◌, ◌∙◌, Bool, false, List, [], map, Option, Some, None, refl, sym, ap}
 use Rattle.std.specs.Prelude.{filter, is_none}
 use Rattle.std.specs.Option.{option_map, option_map_or}
 use Rattle.np_text.specs.declared.id.NodeId.{NodeId}
@@ -18,20 +18,9 @@ use Rattle.np_classes.specs.Classes.{node_groups, request_groups, is_among, AreN
 use Rattle.np_look.specs.Readers.{is_unclaimed}
 use Rattle.np_safe.proofs.Lookups.{same_request-self}
 use Rattle.np_groups.proofs.Ids.{ids-rise, ids-has, same-list}
-use Rattle.np_counts.proofs.Rows.{filter-each, ids-in_order, row-passes}
+use Rattle.np_classes.proofs.Apart.{node-apart, request-apart, same_node-self}
+use Rattle.np_classes.proofs.Rows.{filter-each, ids-in_order, row-passes}
 use Rattle.np_counts.proofs.Tests.{groups_of, groups_of_request}
-use Rattle.std.proofs.lemmas.Bool.Decides.{nat_tests}
-
--- ## ids
-
-pub same_node-self : (a : NodeId) → same_node a a ≡ true
-same_node-self a = grind (arith, nat_tests)
-
-pub node-apart : (a b : NodeId) → is_node_before a b ≡ true → same_node b a ≡ false
-node-apart a b order = grind (arith, nat_tests)
-
-pub request-apart : (a b : RequestId) → is_id_before a b ≡ true → same_request b a ≡ false
-request-apart a b order = grind (arith, nat_tests)
 
 -- ## nodes
 

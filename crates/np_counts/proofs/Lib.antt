@@ -1,4 +1,3 @@
-pub mod Rows
 pub mod Tests
 pub mod Grouped
 pub mod Numbers

@@ -39,7 +39,7 @@ use Rattle.np_counts.proofs.ByIds.{nodes-found}
 use Rattle.np_counts.proofs.DueLemmas.{first-passes}
 use Rattle.np_counts.proofs.Grouped.{nodes-by}
 use Rattle.np_counts.proofs.Labels.{after-up, beside-before, not-is}
-use Rattle.np_counts.proofs.Rows.{filter-each}
+use Rattle.np_classes.proofs.Rows.{filter-each}
 use Rattle.np_counts.proofs.Tests.{and_true, tenant-test}
 use Rattle.np_counts.proofs.Thirds.{group-each, not-both}
 use Rattle.np_counts.proofs.Totals.{IsParted, total-few, total-parted, total-times}

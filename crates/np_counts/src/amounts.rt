@@ -8,17 +8,17 @@ ghost use Rattle.np_fits.specs.Fits.{AmountFits, IsFew};
 ghost use Rattle.np_counts.specs.Taken.{taken_by};
 
 use np_amount::Amount;
-use np_look::{Look, NOTHING, amount};
+use np_look::{NOTHING, Rows, amount};
 use np_text::NodeId;
 
 /// What the node takes of its pool, nothing if it is not there. It is found by binary search.
-pub(crate) fn taken_by<L: Look>(look: &L, node: NodeId) -> Amount
-    requires small { (p : PoolId) (l : LabelId) → AmountFits (amount_of (L.site look.now) p l) }
-    ensures taken { result ≡ taken_by (L.site look.now) (L.state look.now) node }
+pub(crate) fn taken_by<R: Rows>(rows: &R, node: NodeId) -> Amount
+    requires small { (p : PoolId) (l : LabelId) → AmountFits (amount_of (R.site rows.now) p l) }
+    ensures taken { result ≡ taken_by (R.site rows.now) (R.state rows.now) node }
     ensures few { IsFew result 1 }
 {
-    match look.node(node) {
+    match rows.node(node) {
         None => NOTHING,
-        Some(kept) => amount(look.config(), kept.pool, kept.label),
+        Some(kept) => amount(rows.config(), kept.pool, kept.label),
     }
 }

@@ -9,17 +9,17 @@ ghost use Rattle.np_counts.specs.Sets.{earlier, first_of_set, is_late};
 use crate::kinds::third_if;
 use np_classes::{Classes, declined_group};
 use np_keys::ByRequest;
-use np_look::Look;
+use np_look::{Look, Rows, Scan, is_declined_by_all};
 use np_table::Order;
 use np_text::{POOLS, RequestId};
 
 /// Whether a pool is registered whose number is past those of any configuration. It reads each
 /// registration once.
-fn has_late_pool<L: Look>(look: &L) -> bool
-    ensures { result ≡ list_any is_late (L.state look.now).registrations }
+fn has_late_pool<R: Rows>(rows: &R) -> bool
+    ensures { result ≡ list_any is_late (R.state rows.now).registrations }
 {
-    for at in 0..look.registrations() {
-        let Some(row) = look.registration_at(at) else {
+    for at in 0..rows.registrations() {
+        let Some(row) = rows.registration_at(at) else {
             return false;
         };
         if row.pool.0 as usize >= POOLS {
@@ -33,15 +33,15 @@ fn has_late_pool<L: Look>(look: &L) -> bool
 /// registered pool is in the set. All requests of a set are alike in this, so only the first is
 /// looked at: one binary search, one lookup of a request and a scan of its declines for each
 /// registered pool.
-fn first_of_set<L: Look>(classes: &Classes, look: &L, set: u64) -> Option<RequestId>
-    requires classes { AreClasses (L.site look.now) (L.state look.now) classes.now }
-    requires some { 0 < length (L.state look.now).registrations }
-    requires known { list_any is_late (L.state look.now).registrations ≡ false }
-    ensures { result ≡ first_of_set set (L.state look.now) }
+fn first_of_set<R: Rows>(classes: &Classes, rows: &R, set: u64) -> Option<RequestId>
+    requires classes { AreClasses (R.site rows.now) (R.state rows.now) classes.now }
+    requires some { 0 < length (R.state rows.now).registrations }
+    requires known { list_any is_late (R.state rows.now).registrations ≡ false }
+    ensures { result ≡ first_of_set set (R.state rows.now) }
 {
     let request = classes.request_at(declined_group(set), 0)?;
-    let kept = look.request(request)?;
-    if look.is_declined_by_all(&kept) {
+    let kept = rows.request(request)?;
+    if is_declined_by_all(rows, &kept) {
         Some(request)
     } else {
         None
@@ -68,17 +68,17 @@ fn earlier(one: Option<RequestId>, other: Option<RequestId>) -> Option<RequestId
 /// The first request, by priority and then sequence, that is requested and that every registered
 /// pool declined, where a pool is registered and none whose number is too large. It walks the sets
 /// of pools that declined a requested request.
-fn first_of_sets<L: Look>(classes: &Classes, look: &L) -> Option<RequestId>
-    requires classes { AreClasses (L.site look.now) (L.state look.now) classes.now }
-    requires some { 0 < length (L.state look.now).registrations }
-    requires known { list_any is_late (L.state look.now).registrations ≡ false }
-    ensures { result ≡ first_declined_by_all (L.state look.now) }
+fn first_of_sets<R: Rows>(classes: &Classes, rows: &R) -> Option<RequestId>
+    requires classes { AreClasses (R.site rows.now) (R.state rows.now) classes.now }
+    requires some { 0 < length (R.state rows.now).registrations }
+    requires known { list_any is_late (R.state rows.now).registrations ≡ false }
+    ensures { result ≡ first_declined_by_all (R.state rows.now) }
 {
     let first = declined_group(0);
     let mut best = None;
     let mut next = third_if(first, classes.request_group_from(first));
     while let Some(set) = next {
-        best = earlier(best, first_of_set(classes, look, set));
+        best = earlier(best, first_of_set(classes, rows, set));
         next = third_if(first, classes.request_group_after(declined_group(set)));
     }
     best
@@ -91,15 +91,15 @@ fn first_of_sets<L: Look>(classes: &Classes, look: &L) -> Option<RequestId>
 /// binary searches, one lookup of a request and a scan of its declines for each registered pool.
 /// It scans the requests only if a pool is registered whose number is past those of any
 /// configuration.
-pub fn first_declined_by_all<L: Look>(classes: &Classes, look: &L) -> Option<RequestId>
-    requires classes { AreClasses (L.site look.now) (L.state look.now) classes.now }
-    ensures { result ≡ first_declined_by_all (L.state look.now) }
+pub fn first_declined_by_all<R: Rows>(classes: &Classes, rows: &R) -> Option<RequestId>
+    requires classes { AreClasses (R.site rows.now) (R.state rows.now) classes.now }
+    ensures { result ≡ first_declined_by_all (R.state rows.now) }
 {
-    if look.registrations() == 0 {
+    if rows.registrations() == 0 {
         return None;
     }
-    if has_late_pool(look) {
-        return look.first_declined_by_all();
+    if has_late_pool(rows) {
+        return Scan::over(rows).first_declined_by_all();
     }
-    first_of_sets(classes, look)
+    first_of_sets(classes, rows)
 }

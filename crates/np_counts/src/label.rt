@@ -9,15 +9,15 @@ ghost use Rattle.np_fits.specs.Fits.{Fits};
 ghost use Rattle.np_classes.specs.Classes.{AreClasses};
 
 use np_classes::{Classes, coming_group, free_group, spent_group};
-use np_look::Look;
+use np_look::Rows;
 use np_text::{LabelId, PoolId};
 
 /// The free ready nodes of the label in all pools, and those that are coming. Two groups are
-/// counted, each by binary search. Nothing is read of `look`, which says what the groups are of.
-pub fn ready_count<L: Look>(classes: &Classes, look: &L, label: LabelId) -> u32
-    requires fits { Fits (L.site look.now) (L.state look.now) }
-    requires classes { AreClasses (L.site look.now) (L.state look.now) classes.now }
-    ensures { result ≡ ready_count label (L.state look.now) }
+/// counted, each by binary search. Nothing is read of `rows`, which says what the groups are of.
+pub fn ready_count<R: Rows>(classes: &Classes, rows: &R, label: LabelId) -> u32
+    requires fits { Fits (R.site rows.now) (R.state rows.now) }
+    requires classes { AreClasses (R.site rows.now) (R.state rows.now) classes.now }
+    ensures { result ≡ ready_count label (R.state rows.now) }
 {
     let free = classes.nodes_in(free_group(label));
     let coming = classes.requests_in(coming_group(label));

@@ -15,21 +15,21 @@ ghost use Rattle.np_counts.specs.Waiting.{is_stuck_as, is_stuck_label, is_under_
 use np_amount::Amount;
 use np_classes::{Classes, kind_group, next_label_group, pinned_label_group, spare_group};
 use np_groups::Group;
-use np_look::{Look, NOTHING, lacks_room, offers};
+use np_look::{NOTHING, Rows, lacks_room, offers};
 use np_text::{LabelId, NodeId, PoolId};
 
 /// What the pool uses: for each of its offers, the number of its nodes of that label times the
 /// amount. One binary search for each offer.
-pub fn used<L: Look>(classes: &Classes, look: &L, pool: PoolId) -> Amount
-    requires fits { Fits (L.site look.now) (L.state look.now) }
-    requires classes { AreClasses (L.site look.now) (L.state look.now) classes.now }
-    ensures used { result ≡ count_of (L.site look.now) (L.state look.now) pool }
+pub fn used<R: Rows>(classes: &Classes, rows: &R, pool: PoolId) -> Amount
+    requires fits { Fits (R.site rows.now) (R.state rows.now) }
+    requires classes { AreClasses (R.site rows.now) (R.state rows.now) classes.now }
+    ensures used { result ≡ count_of (R.site rows.now) (R.state rows.now) pool }
     ensures instances { result.instances < 2 ^ 63 }
     ensures cores { result.cores < 2 ^ 63 }
     ensures ram { result.ram < 2 ^ 63 }
 {
     let mut sum = NOTHING;
-    for offer in offers(look.config(), pool) {
+    for offer in offers(rows.config(), pool) {
         let number = classes.nodes_in(kind_group(pool, offer.label));
         sum = sum.plus(offer.amount.times(number as u64));
     }
@@ -99,23 +99,23 @@ pub fn has_request_under_way(classes: &Classes, pool: PoolId) -> bool
 /// Whether a request that waits for the label is stuck, where the pool uses `used`: the pool has no
 /// room for a node of it, and one that is not pinned finds no spare node. At most one group is
 /// counted, by binary search.
-fn is_stuck_label<L: Look>(
+fn is_stuck_label<R: Rows>(
     classes: &Classes,
-    look: &L,
+    rows: &R,
     pool: PoolId,
     used: Amount,
     is_pinned: bool,
     label: LabelId,
 ) -> bool
-    requires fits { Fits (L.site look.now) (L.state look.now) }
-    requires classes { AreClasses (L.site look.now) (L.state look.now) classes.now }
-    requires used { used ≡ count_of (L.site look.now) (L.state look.now) pool }
+    requires fits { Fits (R.site rows.now) (R.state rows.now) }
+    requires classes { AreClasses (R.site rows.now) (R.state rows.now) classes.now }
+    requires used { used ≡ count_of (R.site rows.now) (R.state rows.now) pool }
     requires instances { used.instances < 2 ^ 63 }
     requires cores { used.cores < 2 ^ 63 }
     requires ram { used.ram < 2 ^ 63 }
-    ensures { result ≡ is_stuck_label (L.site look.now) (L.state look.now) pool is_pinned label }
+    ensures { result ≡ is_stuck_label (R.site rows.now) (R.state rows.now) pool is_pinned label }
 {
-    if !lacks_room(look.config(), pool, label, used) {
+    if !lacks_room(rows.config(), pool, label, used) {
         return false;
     }
     is_pinned || !has_spare(classes, pool, label)
@@ -124,26 +124,26 @@ fn is_stuck_label<L: Look>(
 /// Whether a request that is pinned is stuck, or one that is not, where the pool uses `used`. Each
 /// label that such requests of the pool wait for is found by one binary search, and looked up once
 /// among the pool's offers.
-fn has_stuck_request<L: Look>(
+fn has_stuck_request<R: Rows>(
     classes: &Classes,
-    look: &L,
+    rows: &R,
     pool: PoolId,
     used: Amount,
     is_pinned: bool,
 ) -> bool
-    requires fits { Fits (L.site look.now) (L.state look.now) }
-    requires classes { AreClasses (L.site look.now) (L.state look.now) classes.now }
-    requires used { used ≡ count_of (L.site look.now) (L.state look.now) pool }
+    requires fits { Fits (R.site rows.now) (R.state rows.now) }
+    requires classes { AreClasses (R.site rows.now) (R.state rows.now) classes.now }
+    requires used { used ≡ count_of (R.site rows.now) (R.state rows.now) pool }
     requires instances { used.instances < 2 ^ 63 }
     requires cores { used.cores < 2 ^ 63 }
     requires ram { used.ram < 2 ^ 63 }
-    ensures { result ≡ list_any (is_stuck_as (L.site look.now) (L.state look.now) pool is_pinned)
-        (L.state look.now).requests }
+    ensures { result ≡ list_any (is_stuck_as (R.site rows.now) (R.state rows.now) pool is_pinned)
+        (R.state rows.now).requests }
 {
     let first = label_group(is_pinned, pool, LabelId(0));
     let mut next = label_if(first, classes.request_group_from(first));
     while let Some(label) = next {
-        if is_stuck_label(classes, look, pool, used, is_pinned, label) {
+        if is_stuck_label(classes, rows, pool, used, is_pinned, label) {
             return true;
         }
         let group = label_group(is_pinned, pool, label);
@@ -155,12 +155,12 @@ fn has_stuck_request<L: Look>(
 /// Whether a request that is pending by the pool waits for room. What the pool uses is counted
 /// once. For each label that such requests wait for, however many they are, it costs a few binary
 /// searches and a lookup among the pool's offers.
-pub fn is_paused<L: Look>(classes: &Classes, look: &L, pool: PoolId) -> bool
-    requires fits { Fits (L.site look.now) (L.state look.now) }
-    requires classes { AreClasses (L.site look.now) (L.state look.now) classes.now }
-    ensures { result ≡ is_paused (L.site look.now) (L.state look.now) pool }
+pub fn is_paused<R: Rows>(classes: &Classes, rows: &R, pool: PoolId) -> bool
+    requires fits { Fits (R.site rows.now) (R.state rows.now) }
+    requires classes { AreClasses (R.site rows.now) (R.state rows.now) classes.now }
+    ensures { result ≡ is_paused (R.site rows.now) (R.state rows.now) pool }
 {
-    let used = used(classes, look, pool);
-    has_stuck_request(classes, look, pool, used, false)
-        || has_stuck_request(classes, look, pool, used, true)
+    let used = used(classes, rows, pool);
+    has_stuck_request(classes, rows, pool, used, false)
+        || has_stuck_request(classes, rows, pool, used, true)
 }

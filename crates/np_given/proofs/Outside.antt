@@ -23,8 +23,8 @@ use Rattle.np_machine.specs.Tables.{is_queued, node_entry, node_queue}
 use Rattle.np_look.specs.Given.{given_to, is_given_to, is_to_leave, is_to_lock, node_to_leave, node_to_lock}
 use Rattle.np_look.specs.Readers.{queued_nodes}
 use Rattle.np_classes.specs.Classes.{is_among}
-use Rattle.np_counts.proofs.Grouped.{node-apart, same_node-self}
-use Rattle.np_counts.proofs.Rows.{ids-in_order, row-passes, rows-found}
+use Rattle.np_classes.proofs.Apart.{node-apart, same_node-self}
+use Rattle.np_classes.proofs.Rows.{ids-in_order, row-passes, rows-found}
 use Rattle.np_ranks.specs.Ranks.{outside}
 use Rattle.np_given.specs.Given.{AreGivenGroups, given_group, given_groups, groups_by, locked_group}
 

@@ -18,7 +18,7 @@ use crate::prepare::{Prepared, prepared_by};
 use np_changes::Changes;
 use np_groups::Groups;
 use np_keys::ByNode;
-use np_look::Look;
+use np_look::Rows;
 use np_text::NodeId;
 use std::alloc::{AllocError, Global};
 use std::marker::Model;
@@ -40,12 +40,12 @@ impl Model for Given {
 impl Given {
     /// The groups of the state. It costs a few lookups for each node, and for each session in its
     /// queue two more and, if the node is given, a few binary searches.
-    pub fn rebuild<L: Look>(alloc: Global, look: &L) -> Result<Given, AllocError>
-        requires reached { IsReached (L.site look.now) (L.state look.now) }
-        requires fits { Fits (L.site look.now) (L.state look.now) }
-        ensures { IfOk result (λ x. AreGiven (L.site look.now) (L.state look.now) x) }
+    pub fn rebuild<R: Rows>(alloc: Global, rows: &R) -> Result<Given, AllocError>
+        requires reached { IsReached (R.site rows.now) (R.state rows.now) }
+        requires fits { Fits (R.site rows.now) (R.state rows.now) }
+        ensures { IfOk result (λ x. AreGiven (R.site rows.now) (R.state rows.now) x) }
     {
-        let nodes = all_nodes(alloc, look)?;
+        let nodes = all_nodes(alloc, rows)?;
         Ok(Given { nodes })
     }
 
@@ -55,23 +55,23 @@ impl Given {
     /// the request of a job whose record is put, are listed beside them. It costs a few lookups for
     /// each listed node, and two for each session in its queue. The memory taken for each is as
     /// much as the node with the longest queue may need.
-    pub fn prepare<L: Look>(
+    pub fn prepare<R: Rows>(
         &mut self,
         alloc: Global,
-        look: &L,
+        rows: &R,
         changes: &Changes,
         touched: &[NodeId],
     ) -> Result<Prepared, AllocError>
-        requires reached { IsReached (L.site look.now) (L.state look.now) }
-        requires fits { Fits (L.site look.now) (L.state look.now) }
-        requires touched { (n : NodeId) → touches_node changes.now (L.state look.now) n ≡ true
+        requires reached { IsReached (R.site rows.now) (R.state rows.now) }
+        requires fits { Fits (R.site rows.now) (R.state rows.now) }
+        requires touched { (n : NodeId) → touches_node changes.now (R.state rows.now) n ≡ true
             → list_any (λ m. same_node m n) touched.now ≡ true }
         ensures members { self.new.members ≡ self.old.members }
         ensures prepared { IfOk result (λ prepared.
-            IsPrepared (L.site look.now) (L.state look.now) changes.now prepared) }
+            IsPrepared (R.site rows.now) (R.state rows.now) changes.now prepared) }
         ensures room { IfOk result (λ prepared. HasRoom prepared self.new) }
     {
-        let prepared = prepared_by(alloc, look, changes, touched)?;
+        let prepared = prepared_by(alloc, rows, changes, touched)?;
         let each = prepared.most as usize + 1;
         let Some(room) = prepared.nodes.len().checked_mul(each) else {
             return Err(AllocError);
@@ -83,17 +83,17 @@ impl Given {
     /// Puts what was listed where it is now, after the state has changed. It takes no memory, and
     /// costs a few lookups and binary searches for each listed node, and a lookup and a few binary
     /// searches for each session in its queue before and after the change.
-    pub fn note<L: Look>(&mut self, look: &L, prepared: &Prepared)
+    pub fn note<R: Rows>(&mut self, rows: &R, prepared: &Prepared)
         requires { HasRoom prepared.now self.old }
         ensures { (c : Configuration) (s : State) (ch : Changes)
             → IsReached c s → IsPlanned c s ch → IsPrepared c s ch prepared.now
-            → L.site look.now ≡ c → L.state look.now ≡ changed c ch s
+            → R.site rows.now ≡ c → R.state rows.now ≡ changed c ch s
             → AreGiven c s self.old → AreGiven c (changed c ch s) self.new }
     {
         take_out(&mut self.nodes, prepared.members.as_slice());
         put_nodes(
             &mut self.nodes,
-            look,
+            rows,
             prepared.nodes.as_slice(),
             prepared.most,
         );

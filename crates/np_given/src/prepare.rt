@@ -16,7 +16,7 @@ use crate::group::{given_group, locked_group};
 use crate::members::queue_length;
 use np_changes::{Changes, JobsChange, RequestEdit, RequestsChange};
 use np_groups::Member;
-use np_look::Look;
+use np_look::{Rows, given_to};
 use np_text::{NodeId, RequestId, RequesterId};
 use std::alloc::{AllocError, Global};
 use std::marker::Model;
@@ -59,28 +59,28 @@ fn changes_state(edit: &RequestEdit) -> bool
 }
 
 /// Lists the nodes of the request, if it is there.
-fn list_nodes<L: Look>(
+fn list_nodes<R: Rows>(
     list: &mut Vec<NodeId>,
-    look: &L,
+    rows: &R,
     request: RequestId,
 ) -> Result<(), AllocError>
     ensures { OnOk result
-        (list.new.items ≡ list.old.items ++ nodes_of_request (L.state look.now) request) }
+        (list.new.items ≡ list.old.items ++ nodes_of_request (R.state rows.now) request) }
 {
-    match look.asked(request) {
+    match rows.asked(request) {
         None => Ok(()),
         Some(asked) => list.extend_from_slice(asked.nodes.items()),
     }
 }
 
 /// Lists the nodes of the request whose state changes.
-fn list_by_state<L: Look>(
+fn list_by_state<R: Rows>(
     list: &mut Vec<NodeId>,
-    look: &L,
+    rows: &R,
     change: &RequestsChange,
 ) -> Result<(), AllocError>
     ensures { OnOk result
-        (list.new.items ≡ list.old.items ++ nodes_by_state change.now (L.state look.now)) }
+        (list.new.items ≡ list.old.items ++ nodes_by_state change.now (R.state rows.now)) }
 {
     let RequestsChange::Edit { request, edit } = change else {
         return Ok(());
@@ -88,58 +88,58 @@ fn list_by_state<L: Look>(
     if !changes_state(edit) {
         return Ok(());
     }
-    list_nodes(list, look, *request)
+    list_nodes(list, rows, *request)
 }
 
 /// Lists the nodes of the request of the job whose record is put.
-fn list_by_job<L: Look>(
+fn list_by_job<R: Rows>(
     list: &mut Vec<NodeId>,
-    look: &L,
+    rows: &R,
     change: &JobsChange,
 ) -> Result<(), AllocError>
     ensures { OnOk result
-        (list.new.items ≡ list.old.items ++ nodes_by_job change.now (L.state look.now)) }
+        (list.new.items ≡ list.old.items ++ nodes_by_job change.now (R.state rows.now)) }
 {
     let JobsChange::Put { job, .. } = change else {
         return Ok(());
     };
-    let Some(kept) = look.job(*job) else {
+    let Some(kept) = rows.job(*job) else {
         return Ok(());
     };
     let Some(request) = kept.request else {
         return Ok(());
     };
-    list_nodes(list, look, request)
+    list_nodes(list, rows, request)
 }
 
 /// The nodes that are touched, then those of the request whose state changes, then those of the
 /// request of the job whose record is put.
-fn listed_nodes<L: Look>(
+fn listed_nodes<R: Rows>(
     alloc: Global,
-    look: &L,
+    rows: &R,
     changes: &Changes,
     touched: &[NodeId],
 ) -> Result<Vec<NodeId>, AllocError>
     ensures { IfOk result (λ list. list.items
-        ≡ (touched.now ++ nodes_by_state changes.now.requests (L.state look.now))
-        ++ nodes_by_job changes.now.jobs (L.state look.now)) }
+        ≡ (touched.now ++ nodes_by_state changes.now.requests (R.state rows.now))
+        ++ nodes_by_job changes.now.jobs (R.state rows.now)) }
 {
     let mut list = Vec::new(alloc);
     list.extend_from_slice(touched)?;
-    list_by_state(&mut list, look, &changes.requests)?;
-    list_by_job(&mut list, look, &changes.jobs)?;
+    list_by_state(&mut list, rows, &changes.requests)?;
+    list_by_job(&mut list, rows, &changes.jobs)?;
     Ok(list)
 }
 
 /// One more than the sessions in the longest of the nodes' queues. One lookup for each session.
-fn most_queued<L: Look>(look: &L, nodes: &[NodeId]) -> u32
-    requires { Fits (L.site look.now) (L.state look.now) }
+fn most_queued<R: Rows>(rows: &R, nodes: &[NodeId]) -> u32
+    requires { Fits (R.site rows.now) (R.state rows.now) }
     ensures { AllByRecursion
-        (λ n. suc (length (node_queue n (L.state look.now).nodes)) ≤ result) nodes.now }
+        (λ n. suc (length (node_queue n (R.state rows.now).nodes)) ≤ result) nodes.now }
 {
     let mut most = 1;
     for node in nodes {
-        let count = queue_length(look, *node) + 1;
+        let count = queue_length(rows, *node) + 1;
         if most < count {
             most = count;
         }
@@ -150,19 +150,19 @@ fn most_queued<L: Look>(look: &L, nodes: &[NodeId]) -> u32
 // ## lists of members
 
 /// Lists the node in the requester's group of each session in its queue.
-fn list_sessions<L: Look>(
+fn list_sessions<R: Rows>(
     list: &mut Vec<Member<NodeId>>,
-    look: &L,
+    rows: &R,
     node: NodeId,
     requester: RequesterId,
 ) -> Result<(), AllocError>
-    requires { Fits (L.site look.now) (L.state look.now) }
+    requires { Fits (R.site rows.now) (R.state rows.now) }
     ensures { OnOk result (list.new.items
         ≡ then_members node
-        (locked_groups requester (node_queue node (L.state look.now).nodes)) list.old.items) }
+        (locked_groups requester (node_queue node (R.state rows.now).nodes)) list.old.items) }
 {
     let mut at = 0;
-    while let Some(session) = look.node_queue(node, at) {
+    while let Some(session) = rows.node_queue(node, at) {
         list.push(Member {
             group: locked_group(requester, session),
             id: node,
@@ -173,43 +173,43 @@ fn list_sessions<L: Look>(
 }
 
 /// Lists the node in its groups, if it was given to a requester.
-fn list_node<L: Look>(
+fn list_node<R: Rows>(
     list: &mut Vec<Member<NodeId>>,
-    look: &L,
+    rows: &R,
     node: NodeId,
 ) -> Result<(), AllocError>
-    requires { Fits (L.site look.now) (L.state look.now) }
+    requires { Fits (R.site rows.now) (R.state rows.now) }
     ensures { OnOk result (list.new.items
-        ≡ then_members node (groups_of_node (L.site look.now) (L.state look.now) node)
+        ≡ then_members node (groups_of_node (R.site rows.now) (R.state rows.now) node)
         list.old.items) }
 {
-    let Some(kept) = look.node(node) else {
+    let Some(kept) = rows.node(node) else {
         return Ok(());
     };
-    let Some(requester) = look.given_to(&kept) else {
+    let Some(requester) = given_to(rows, &kept) else {
         return Ok(());
     };
     list.push(Member {
         group: given_group(requester),
         id: node,
     })?;
-    list_sessions(list, look, node, requester)
+    list_sessions(list, rows, node, requester)
 }
 
 /// The members that the nodes are in the groups. A few lookups for each node, and one for each
 /// session in its queue.
-fn members_of<L: Look>(
+fn members_of<R: Rows>(
     alloc: Global,
-    look: &L,
+    rows: &R,
     nodes: &[NodeId],
 ) -> Result<Vec<Member<NodeId>>, AllocError>
-    requires { Fits (L.site look.now) (L.state look.now) }
+    requires { Fits (R.site rows.now) (R.state rows.now) }
     ensures { IfOk result (λ list. list.items
-        ≡ members_of (map (placed_node (L.site look.now) (L.state look.now)) nodes.now)) }
+        ≡ members_of (map (placed_node (R.site rows.now) (R.state rows.now)) nodes.now)) }
 {
     let mut list = Vec::new(alloc);
     for node in nodes {
-        list_node(&mut list, look, *node)?;
+        list_node(&mut list, rows, *node)?;
     }
     Ok(list)
 }
@@ -217,21 +217,21 @@ fn members_of<L: Look>(
 /// What the changes touch, with the groups that it is in. The nodes whose records or queues change
 /// are passed; those of the request whose state changes and of the job whose record is put are
 /// read from their requests.
-pub(crate) fn prepared_by<L: Look>(
+pub(crate) fn prepared_by<R: Rows>(
     alloc: Global,
-    look: &L,
+    rows: &R,
     changes: &Changes,
     touched: &[NodeId],
 ) -> Result<Prepared, AllocError>
-    requires fits { Fits (L.site look.now) (L.state look.now) }
-    requires touched { (n : NodeId) → touches_node changes.now (L.state look.now) n ≡ true
+    requires fits { Fits (R.site rows.now) (R.state rows.now) }
+    requires touched { (n : NodeId) → touches_node changes.now (R.state rows.now) n ≡ true
         → list_any (λ m. same_node m n) touched.now ≡ true }
     ensures { IfOk result (λ prepared.
-        IsPrepared (L.site look.now) (L.state look.now) changes.now prepared) }
+        IsPrepared (R.site rows.now) (R.state rows.now) changes.now prepared) }
 {
-    let nodes = listed_nodes(alloc, look, changes, touched)?;
-    let members = members_of(alloc, look, nodes.as_slice())?;
-    let most = most_queued(look, nodes.as_slice());
+    let nodes = listed_nodes(alloc, rows, changes, touched)?;
+    let members = members_of(alloc, rows, nodes.as_slice())?;
+    let most = most_queued(rows, nodes.as_slice());
     Ok(Prepared {
         nodes,
         members,

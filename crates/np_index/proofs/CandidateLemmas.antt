@@ -27,8 +27,8 @@ use Rattle.np_open.specs.Moves.{rank_of}
 use Rattle.np_open.specs.Open.{AreOpen, OpenOf, is_requested_at, ranks_of}
 use Rattle.np_open.proofs.OpenLemmas.{ranks-are, waits-there}
 use Rattle.np_open.specs.Ranks.{is_rank_before, same_rank, rank_transitive, rank_one_way, rank_equal}
-use Rattle.np_counts.proofs.Grouped.{request-apart}
-use Rattle.np_counts.proofs.Rows.{ids-in_order, row-passes}
+use Rattle.np_classes.proofs.Apart.{request-apart}
+use Rattle.np_classes.proofs.Rows.{ids-in_order, row-passes}
 use Rattle.np_index.proofs.Firsts.{has}
 use Rattle.np_index.specs.Candidates.{in_order, candidate_of, candidate_ranks, may_take_up}
 

@@ -3,8 +3,12 @@ use Rattle.std.proofs.Common.{◌≡◌, subst, sym}
 use Rattle.np_text.specs.declared.id.SessionId.{SessionId}
 use Rattle.np_site.specs.Configuration.{Configuration}
 use Rattle.np_machine.specs.State.{State}
+use Rattle.np_changes.specs.Changes.{changed}
 use Rattle.np_changes.specs.declared.changes.Changes.{Changes}
 use Rattle.np_changes.specs.declared.changes.SessionsChange.TheVariants as sessions
+use Rattle.np_awaited.specs.Awaited.{OthersStay}
+use Rattle.np_classes.specs.Prepared.{TouchedOf, IsPrepared as AreTouchedOf}
+use Rattle.np_classes.proofs.Noted.{record-stays}
 use Rattle.np_open.specs.Open.{AreOpen, OpenOf}
 use Rattle.np_active.specs.Active.{ActiveOf, AreActive, AreHandleGroups, AreJobGroups, AreSessionGroups}
 use Rattle.np_index.specs.Index.{IndexParts, IsIndexOf}
@@ -24,11 +28,19 @@ active-same c s old new lines jobs handles sessions was = record {
   sessions = subst (AreSessionGroups s) (sym sessions) was.sessions;
 }
 
+-- the requests that are touched are one at most, and the records of all others stay
+pub others-stay : (c : Configuration) (s : State) (ch : Changes) (touched : TouchedOf) → AreTouchedOf c s ch touched → OthersStay touched.requests s (changed c ch s)
+others-stay c s ch touched is = record {
+  once = is.once;
+  same = record-stays c s ch touched is;
+}
+
 -- where a session ends, an index that is prepared is still that of the state
 pub prepared-ends : (c : Configuration) (s : State) (ch : Changes) (prepared : PreparedOf) (index : IndexParts) (session : SessionId) → ch.sessions ≡ sessions.End session → IsPreparedFor c s ch prepared index → IsIndexOf c s index
 prepared-ends c s ch prepared index session ending is = record {
   lookups = is.ends session ending;
   classes = is.classes;
+  awaited = is.awaited;
   requested = is.requested;
   active = is.active;
   given = is.given;

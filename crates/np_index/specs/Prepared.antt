@@ -10,6 +10,8 @@ use Rattle.np_lookups.specs.Lookups.{AreLookupsOf}
 use Rattle.np_lookups.specs.Prepared.{PreparedOf as LookupsPrepared, IsPrepared as AreLookupsPrepared}
 use Rattle.np_classes.specs.Classes.{AreClasses}
 use Rattle.np_classes.specs.Prepared.{TouchedOf, IsPrepared as AreTouchedOf, HasRoom as HasRoomForTouched}
+use Rattle.np_awaited.specs.Awaited.{AreAwaited, first_rest}
+use Rattle.np_awaited.specs.declared.awaited.Rest.{Rest}
 use Rattle.np_open.specs.Open.{AreOpen}
 use Rattle.np_open.specs.Prepared.{IsPrepared as AreMovedOf, HasRoom as HasRoomForMoved}
 use Rattle.np_open.specs.declared.moves.Past.{Past}
@@ -22,6 +24,8 @@ use Rattle.np_index.specs.Index.{IndexParts}
 pub record PreparedOf : Type 0 where
   -- the nodes and the requests that the changes touch, with their groups
   pub touched : TouchedOf
+  -- what the request whose record may change waits for
+  pub before : Option Rest
   -- these requests, with their records
   pub moved : List Past
   -- the job that asks for the request that is answered or removed
@@ -45,6 +49,8 @@ pub record IsPreparedFor (c : Configuration) (s : State) (ch : Changes) (prepare
   pub ends : (session : SessionId) → ch.sessions ≡ sessions.End session → AreLookupsOf c s index.lookups
   pub classes : AreClasses c s index.classes
   pub touched : AreTouchedOf c s ch prepared.touched
+  pub awaited : AreAwaited c s index.awaited
+  pub before : prepared.before ≡ first_rest c s prepared.touched.requests
   pub requested : AreOpen c s index.requested
   pub moved : AreMovedOf s ch prepared.moved
   pub active : AreActive c s index.active

@@ -3,15 +3,17 @@
 ghost use Rattle.std.specs.Prelude.{◌≡◌};
 ghost use Rattle.np_fits.specs.Fits.{Fits};
 ghost use Rattle.np_machine.specs.First.{first_of};
+ghost use Rattle.np_awaited.specs.Awaited.{AreAwaited};
 ghost use Rattle.np_classes.specs.Classes.{AreClasses};
 ghost use Rattle.np_open.specs.Open.{AreOpen, ranks_of};
 ghost use Rattle.np_index.specs.Candidates.{candidate_of, earlier_rank, next_among, open_record};
 ghost use Rattle.np_index.specs.Index.{IsIndexOf};
 
 use crate::index::Index;
+use np_awaited::Awaited;
 use np_classes::Classes;
 use np_counts::blocking;
-use np_look::{Look, asked_of, is_open_to};
+use np_look::{Rows, asked_of, is_open_to, request_holder};
 use np_open::{ByRank, Open, Rank};
 use np_record::RequestRecord;
 use np_table::Order;
@@ -19,13 +21,13 @@ use np_text::{PoolId, RequestId};
 
 /// The record of the request, if it is open to the pool. Of a request that is held, only its holder
 /// is looked up.
-fn open_record<L: Look>(look: &L, pool: PoolId, request: RequestId) -> Option<RequestRecord>
-    ensures { result ≡ open_record pool request (L.state look.now) }
+fn open_record<R: Rows>(rows: &R, pool: PoolId, request: RequestId) -> Option<RequestRecord>
+    ensures { result ≡ open_record pool request (R.state rows.now) }
 {
-    if look.request_holder(request).is_some() {
+    if request_holder(rows, request).is_some() {
         return None;
     }
-    let kept = look.request(request)?;
+    let kept = rows.request(request)?;
     if is_open_to(pool, &kept, None) {
         Some(kept)
     } else {
@@ -39,19 +41,21 @@ fn open_record<L: Look>(look: &L, pool: PoolId, request: RequestId) -> Option<Re
 /// that is held at the cost of looking its holder up. In the common line the tenants of the others
 /// are asked for room until one has it; in any other line only that of the first, since the requests
 /// there are alike.
-fn earlier_in_line<L: Look>(
+fn earlier_in_line<R: Rows>(
     classes: &Classes,
+    awaited: &Awaited,
     requested: &Open,
-    look: &L,
+    rows: &R,
     pool: PoolId,
     line: u64,
     after: Option<Rank>,
     best: Option<Rank>,
 ) -> Option<Rank>
-    requires fits { Fits (L.site look.now) (L.state look.now) }
-    requires classes { AreClasses (L.site look.now) (L.state look.now) classes.now }
-    requires requested { AreOpen (L.site look.now) (L.state look.now) requested.now }
-    ensures { result ≡ earlier_rank best (next_among (L.site look.now) (L.state look.now) pool after
+    requires fits { Fits (R.site rows.now) (R.state rows.now) }
+    requires classes { AreClasses (R.site rows.now) (R.state rows.now) classes.now }
+    requires awaited { AreAwaited (R.site rows.now) (R.state rows.now) awaited.now }
+    requires requested { AreOpen (R.site rows.now) (R.state rows.now) requested.now }
+    ensures { result ≡ earlier_rank best (next_among (R.site rows.now) (R.state rows.now) pool after
         (ranks_of line requested.now.members)) }
 {
     let are_alike = line != 0;
@@ -70,8 +74,8 @@ fn earlier_in_line<L: Look>(
         if !is_first {
             return best;
         }
-        if let Some(kept) = open_record(look, pool, rank.request) {
-            if blocking(classes, look, pool, &asked_of(&kept)).is_none() {
+        if let Some(kept) = open_record(rows, pool, rank.request) {
+            if blocking(classes, awaited, rows, pool, &asked_of(&kept)).is_none() {
                 return Some(rank);
             }
             if are_alike {
@@ -96,10 +100,10 @@ impl Index {
     /// wait, and not by its requests. In the common line a request that is pinned, or has no tenant
     /// with a limit, has room without that; for each other one there, as one whose labels are not
     /// those of its job, what its tenant uses may be read.
-    pub fn candidate_at<L: Look>(&self, look: &L, pool: PoolId, at: u32) -> Option<RequestId>
-        requires fits { Fits (L.site look.now) (L.state look.now) }
-        requires index { IsIndexOf (L.site look.now) (L.state look.now) self.now }
-        ensures { result ≡ candidate_of (L.site look.now) (L.state look.now) pool at }
+    pub fn candidate_at<R: Rows>(&self, rows: &R, pool: PoolId, at: u32) -> Option<RequestId>
+        requires fits { Fits (R.site rows.now) (R.state rows.now) }
+        requires index { IsIndexOf (R.site rows.now) (R.state rows.now) self.now }
+        ensures { result ≡ candidate_of (R.site rows.now) (R.state rows.now) pool at }
     {
         let requested = &self.requested;
         let mut after = None;
@@ -107,7 +111,16 @@ impl Index {
             let mut best = None;
             let mut next = requested.first_line();
             while let Some(line) = next {
-                best = earlier_in_line(&self.classes, requested, look, pool, line, after, best);
+                best = earlier_in_line(
+                    &self.classes,
+                    &self.awaited,
+                    requested,
+                    rows,
+                    pool,
+                    line,
+                    after,
+                    best,
+                );
                 next = requested.line_after(line);
             }
             let found = best?;
@@ -117,11 +130,11 @@ impl Index {
     }
 
     /// The first request that the pool's launcher may take up. It costs what `candidate_at` does.
-    pub fn first_of<L: Look>(&self, look: &L, pool: PoolId) -> Option<RequestId>
-        requires fits { Fits (L.site look.now) (L.state look.now) }
-        requires index { IsIndexOf (L.site look.now) (L.state look.now) self.now }
-        ensures { result ≡ first_of (L.site look.now) (L.state look.now) pool }
+    pub fn first_of<R: Rows>(&self, rows: &R, pool: PoolId) -> Option<RequestId>
+        requires fits { Fits (R.site rows.now) (R.state rows.now) }
+        requires index { IsIndexOf (R.site rows.now) (R.state rows.now) self.now }
+        ensures { result ≡ first_of (R.site rows.now) (R.state rows.now) pool }
     {
-        self.candidate_at(look, pool, 0)
+        self.candidate_at(rows, pool, 0)
     }
 }

@@ -12,9 +12,10 @@ ghost use Rattle.np_index.specs.Index.{IsIndexOf};
 ghost use Rattle.np_index.specs.Prepared.{HasRoomFor, IsPreparedFor};
 
 use crate::index::Index;
+use np_awaited::{Rest, first_rest};
 use np_changes::{Changes, SessionsChange};
 use np_classes::Touched;
-use np_look::Look;
+use np_look::Rows;
 use np_open::Moved;
 use np_text::{JobId, SessionId};
 use std::alloc::{AllocError, Global};
@@ -24,6 +25,7 @@ use std::marker::Model;
 #[derive(Drop)]
 pub struct Prepared {
     touched: Touched,
+    before: Option<Rest>,
     moved: Moved,
     asker: Option<JobId>,
     given: np_given::Prepared,
@@ -37,6 +39,7 @@ impl Model for Prepared {
 
     ghost view = { λ prepared. record {
       touched = prepared.touched;
+      before = prepared.before;
       moved = prepared.moved;
       asker = prepared.asker;
       given = prepared.given;
@@ -65,30 +68,32 @@ impl Index {
     /// they change, for one that pools declined a scan of its declines for each of the 64 pools, and
     /// two lookups for each request whose queue alone changes. A session that ends touches the nodes
     /// and the requests in whose queues it is.
-    pub fn prepare<L: Look>(
+    pub fn prepare<R: Rows>(
         &mut self,
         alloc: Global,
-        look: &L,
+        rows: &R,
         changes: &Changes,
     ) -> Result<Prepared, AllocError>
-        requires reached { IsReached (L.site look.now) (L.state look.now) }
-        requires fits { Fits (L.site look.now) (L.state look.now) }
-        requires planned { IsPlanned (L.site look.now) (L.state look.now) changes.now }
-        requires index { IsIndexOf (L.site look.now) (L.state look.now) self.old }
+        requires reached { IsReached (R.site rows.now) (R.state rows.now) }
+        requires fits { Fits (R.site rows.now) (R.state rows.now) }
+        requires planned { IsPlanned (R.site rows.now) (R.state rows.now) changes.now }
+        requires index { IsIndexOf (R.site rows.now) (R.state rows.now) self.old }
         ensures ok { IfOk result (λ prepared.
-            IsPreparedFor (L.site look.now) (L.state look.now) changes.now prepared self.new) }
-        ensures err { OnErr result (IsIndexOf (L.site look.now) (L.state look.now) self.new) }
+            IsPreparedFor (R.site rows.now) (R.state rows.now) changes.now prepared self.new) }
+        ensures err { OnErr result (IsIndexOf (R.site rows.now) (R.state rows.now) self.new) }
     {
         let session = ending(&changes.sessions);
         let nodes = self.lookups.nodes_of(session);
         let requests = self.lookups.requests_of(session);
-        let touched = self.classes.prepare(alloc, look, changes, nodes, requests)?;
-        let moved = self.requested.prepare(alloc, look, touched.requests())?;
-        let asker = self.active.prepare(look, changes)?;
-        let given = self.given.prepare(alloc, look, changes, touched.nodes())?;
-        let lookups = self.lookups.prepare(look, changes)?;
+        let touched = self.classes.prepare(alloc, rows, changes, nodes, requests)?;
+        let before = first_rest(rows, touched.requests());
+        let moved = self.requested.prepare(alloc, rows, touched.requests())?;
+        let asker = self.active.prepare(rows, changes)?;
+        let given = self.given.prepare(alloc, rows, changes, touched.nodes())?;
+        let lookups = self.lookups.prepare(rows, changes)?;
         Ok(Prepared {
             touched,
+            before,
             moved,
             asker,
             given,
@@ -109,18 +114,20 @@ impl Index {
     /// It costs a few lookups and binary searches for each node and request that was listed, and for
     /// each job, handle and session that the changes name. For a request whose record changed the
     /// declines are read a few times for each pool.
-    pub fn note<L: Look>(&mut self, look: &L, changes: &Changes, prepared: &Prepared)
-        requires room { HasRoomFor (L.site look.now) changes.now prepared.now self.old }
+    pub fn note<R: Rows>(&mut self, rows: &R, changes: &Changes, prepared: &Prepared)
+        requires room { HasRoomFor (R.site rows.now) changes.now prepared.now self.old }
         ensures { (c : Configuration) (s : State) → IsReached c s → IsPlanned c s changes.now
             → IsPreparedFor c s changes.now prepared.now self.old
-            → L.site look.now ≡ c → L.state look.now ≡ changed c changes.now s
+            → R.site rows.now ≡ c → R.state rows.now ≡ changed c changes.now s
             → IsIndexOf c (changed c changes.now s) self.new }
     {
         self.lookups
-            .settle(look.config(), changes, &prepared.lookups);
-        self.classes.note(look, &prepared.touched);
-        self.requested.note(look, &prepared.moved);
-        self.active.note(look, changes, prepared.asker);
-        self.given.note(look, &prepared.given);
+            .settle(rows.config(), changes, &prepared.lookups);
+        self.classes.note(rows, &prepared.touched);
+        self.awaited
+            .note(rows, prepared.touched.requests(), prepared.before);
+        self.requested.note(rows, &prepared.moved);
+        self.active.note(rows, changes, prepared.asker);
+        self.given.note(rows, &prepared.given);
     }
 }

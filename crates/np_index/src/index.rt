@@ -22,11 +22,12 @@ ghost use Rattle.np_index.specs.Index.{IsIndexOf};
 
 use np_active::Active;
 use np_amount::Amount;
+use np_awaited::Awaited;
 use np_changes::Asked;
 use np_classes::Classes;
 use np_config::Config;
 use np_given::Given;
-use np_look::{Look, UnheldKind};
+use np_look::{Rows, UnheldKind};
 use np_lookups::Lookups;
 use np_open::Open;
 use np_text::{
@@ -41,6 +42,7 @@ use std::marker::Model;
 pub struct Index {
     pub(crate) lookups: Lookups,
     pub(crate) classes: Classes,
+    pub(crate) awaited: Awaited,
     pub(crate) requested: Open,
     pub(crate) active: Active,
     pub(crate) given: Given,
@@ -54,6 +56,7 @@ impl Model for Index {
     ghost view = { λ index. record {
       lookups = index.lookups;
       classes = index.classes;
+      awaited = index.awaited;
       requested = index.requested;
       active = index.active;
       given = index.given;
@@ -63,22 +66,24 @@ impl Model for Index {
 impl Index {
     /// The index of the state. It reads each session, job, request, node and handle a few times, looks
     /// up the request that each node is allocated to, and compares each job with one job of each
-    /// line. It asks the keeper for what each session queues for and for the owner of each node that
-    /// was made. A keeper that scans reads all queues for each answer of the first kind, and all jobs
-    /// for each node and each handle.
-    pub fn rebuild<L: Look>(alloc: Global, look: &L) -> Result<Index, NoMemory>
-        requires reached { IsReached (L.site look.now) (L.state look.now) }
-        requires fits { Fits (L.site look.now) (L.state look.now) }
-        ensures { IfOk result (λ index. IsIndexOf (L.site look.now) (L.state look.now) index) }
+    /// line. It asks the rows for what each session queues for, and walks all jobs for the owner of
+    /// each node that was made. Rows that scan read all queues for each answer of the first kind, and
+    /// all jobs for each handle.
+    pub fn rebuild<R: Rows>(alloc: Global, rows: &R) -> Result<Index, NoMemory>
+        requires reached { IsReached (R.site rows.now) (R.state rows.now) }
+        requires fits { Fits (R.site rows.now) (R.state rows.now) }
+        ensures { IfOk result (λ index. IsIndexOf (R.site rows.now) (R.state rows.now) index) }
     {
-        let lookups = Lookups::rebuild(alloc, look)?;
-        let classes = Classes::rebuild(alloc, look)?;
-        let requested = Open::rebuild(alloc, look)?;
-        let active = Active::rebuild(alloc, look)?;
-        let given = Given::rebuild(alloc, look)?;
+        let lookups = Lookups::rebuild(alloc, rows)?;
+        let classes = Classes::rebuild(alloc, rows)?;
+        let awaited = Awaited::rebuild(alloc, rows)?;
+        let requested = Open::rebuild(alloc, rows)?;
+        let active = Active::rebuild(alloc, rows)?;
+        let given = Given::rebuild(alloc, rows)?;
         Ok(Index {
             lookups,
             classes,
+            awaited,
             requested,
             active,
             given,
@@ -245,39 +250,39 @@ impl Index {
     /// The tenant that has no room now for a request that the pool may serve. It costs what `used_by`
     /// does, if the tenant has a limit and the pool may serve the request, and else grows with the
     /// request's labels times the pool's offers.
-    pub fn blocking<L: Look>(&self, look: &L, pool: PoolId, asked: &Asked) -> Option<TenantId>
-        requires fits { Fits (L.site look.now) (L.state look.now) }
-        requires index { IsIndexOf (L.site look.now) (L.state look.now) self.now }
+    pub fn blocking<R: Rows>(&self, rows: &R, pool: PoolId, asked: &Asked) -> Option<TenantId>
+        requires fits { Fits (R.site rows.now) (R.state rows.now) }
+        requires index { IsIndexOf (R.site rows.now) (R.state rows.now) self.now }
         ensures { result ≡
-            blocking (L.site look.now) (L.state look.now) pool (new_record asked.now) }
+            blocking (R.site rows.now) (R.state rows.now) pool (new_record asked.now) }
     {
-        np_counts::blocking(&self.classes, look, pool, asked)
+        np_counts::blocking(&self.classes, &self.awaited, rows, pool, asked)
     }
 
     /// What the pool uses. It costs a lookup for each label that the pool offers.
-    pub fn used<L: Look>(&self, look: &L, pool: PoolId) -> Amount
-        requires fits { Fits (L.site look.now) (L.state look.now) }
-        requires index { IsIndexOf (L.site look.now) (L.state look.now) self.now }
-        ensures used { result ≡ count_of (L.site look.now) (L.state look.now) pool }
+    pub fn used<R: Rows>(&self, rows: &R, pool: PoolId) -> Amount
+        requires fits { Fits (R.site rows.now) (R.state rows.now) }
+        requires index { IsIndexOf (R.site rows.now) (R.state rows.now) self.now }
+        ensures used { result ≡ count_of (R.site rows.now) (R.state rows.now) pool }
         ensures instances { result.instances < 2 ^ 63 }
         ensures cores { result.cores < 2 ^ 63 }
         ensures ram { result.ram < 2 ^ 63 }
     {
-        np_counts::used(&self.classes, look, pool)
+        np_counts::used(&self.classes, rows, pool)
     }
 
     /// What the tenant uses: its nodes, and what its pending requests still wait for. It costs a few
     /// lookups for each pool and label of which the tenant has nodes, and one for what its pending
     /// requests wait for, however many they are.
-    pub fn used_by<L: Look>(&self, look: &L, tenant: TenantId) -> Amount
-        requires fits { Fits (L.site look.now) (L.state look.now) }
-        requires index { IsIndexOf (L.site look.now) (L.state look.now) self.now }
-        ensures used { result ≡ count_of_tenant (L.site look.now) (L.state look.now) tenant }
+    pub fn used_by<R: Rows>(&self, rows: &R, tenant: TenantId) -> Amount
+        requires fits { Fits (R.site rows.now) (R.state rows.now) }
+        requires index { IsIndexOf (R.site rows.now) (R.state rows.now) self.now }
+        ensures used { result ≡ count_of_tenant (R.site rows.now) (R.state rows.now) tenant }
         ensures instances { result.instances < 2 ^ 63 }
         ensures cores { result.cores < 2 ^ 63 }
         ensures ram { result.ram < 2 ^ 63 }
     {
-        np_counts::used_by(&self.classes, look, tenant)
+        np_counts::used_by(&self.classes, &self.awaited, rows, tenant)
     }
 
     /// Whether a ready, free and unlocked node of the pool has the label. It costs one lookup.
@@ -299,12 +304,12 @@ impl Index {
 
     /// The free ready nodes of the label in all pools, and those that are coming. It costs two
     /// lookups.
-    pub fn ready_count<L: Look>(&self, look: &L, label: LabelId) -> u32
-        requires fits { Fits (L.site look.now) (L.state look.now) }
-        requires index { IsIndexOf (L.site look.now) (L.state look.now) self.now }
-        ensures { result ≡ ready_count label (L.state look.now) }
+    pub fn ready_count<R: Rows>(&self, rows: &R, label: LabelId) -> u32
+        requires fits { Fits (R.site rows.now) (R.state rows.now) }
+        requires index { IsIndexOf (R.site rows.now) (R.state rows.now) self.now }
+        ensures { result ≡ ready_count label (R.state rows.now) }
     {
-        np_counts::ready_count(&self.classes, look, label)
+        np_counts::ready_count(&self.classes, rows, label)
     }
 
     /// Whether a min-ready request of the pool for the label has failed. It costs one lookup.
@@ -317,12 +322,12 @@ impl Index {
 
     /// Whether a request that is pending by the pool waits for room. It costs what `used` does, and a
     /// few lookups for each label that such requests wait for.
-    pub fn is_paused<L: Look>(&self, look: &L, pool: PoolId) -> bool
-        requires fits { Fits (L.site look.now) (L.state look.now) }
-        requires index { IsIndexOf (L.site look.now) (L.state look.now) self.now }
-        ensures { result ≡ is_paused (L.site look.now) (L.state look.now) pool }
+    pub fn is_paused<R: Rows>(&self, rows: &R, pool: PoolId) -> bool
+        requires fits { Fits (R.site rows.now) (R.state rows.now) }
+        requires index { IsIndexOf (R.site rows.now) (R.state rows.now) self.now }
+        ensures { result ≡ is_paused (R.site rows.now) (R.state rows.now) pool }
     {
-        np_counts::is_paused(&self.classes, look, pool)
+        np_counts::is_paused(&self.classes, rows, pool)
     }
 
     /// How many requests are pending by the pool. It costs one lookup.
@@ -355,11 +360,11 @@ impl Index {
     /// pool declined; `None` if there is none, or no pool is registered. It costs a few lookups for
     /// each different set of pools that declined, and of the first request of each set one lookup
     /// and a scan of its declines for each registered pool.
-    pub fn first_declined_by_all<L: Look>(&self, look: &L) -> Option<RequestId>
-        requires index { IsIndexOf (L.site look.now) (L.state look.now) self.now }
-        ensures { result ≡ first_declined_by_all (L.state look.now) }
+    pub fn first_declined_by_all<R: Rows>(&self, rows: &R) -> Option<RequestId>
+        requires index { IsIndexOf (R.site rows.now) (R.state rows.now) self.now }
+        ensures { result ≡ first_declined_by_all (R.state rows.now) }
     {
-        np_counts::first_declined_by_all(&self.classes, look)
+        np_counts::first_declined_by_all(&self.classes, rows)
     }
 
     /// The node of the pool that nobody holds and that is of this kind which is due first, and of

@@ -20,7 +20,7 @@ use crate::waits::{
 };
 use np_changes::Changes;
 use np_config::Config;
-use np_look::Look;
+use np_look::Rows;
 use np_text::SessionId;
 use std::alloc::AllocError;
 use std::marker::Model;
@@ -74,22 +74,22 @@ impl Lookups {
     /// memory runs out, these are still the lookups of the state. So they are if a session ends,
     /// since nothing grows then. It costs a lookup in the list that grows, and reads the holder of a
     /// request that goes and the queue of a node that goes.
-    pub fn prepare<L: Look>(&mut self, look: &L, changes: &Changes) -> Result<Prepared, AllocError>
-        requires reached { IsReached (L.site look.now) (L.state look.now) }
-        requires fits { Fits (L.site look.now) (L.state look.now) }
-        requires planned { IsPlanned (L.site look.now) (L.state look.now) changes.now }
-        requires are { AreLookupsOf (L.site look.now) (L.state look.now) self.old }
+    pub fn prepare<R: Rows>(&mut self, rows: &R, changes: &Changes) -> Result<Prepared, AllocError>
+        requires reached { IsReached (R.site rows.now) (R.state rows.now) }
+        requires fits { Fits (R.site rows.now) (R.state rows.now) }
+        requires planned { IsPlanned (R.site rows.now) (R.state rows.now) changes.now }
+        requires are { AreLookupsOf (R.site rows.now) (R.state rows.now) self.old }
         ensures ok { IfOk result (λ prepared.
-            IsPrepared (L.site look.now) (L.state look.now) changes.now self.new prepared) }
+            IsPrepared (R.site rows.now) (R.state rows.now) changes.now self.new prepared) }
         ensures ends { IfOk result (λ _.
             (session : SessionId) → changes.now.sessions ≡ sessions.End session
-            → AreLookupsOf (L.site look.now) (L.state look.now) self.new) }
-        ensures err { OnErr result (AreLookupsOf (L.site look.now) (L.state look.now) self.new) }
+            → AreLookupsOf (R.site rows.now) (R.state rows.now) self.new) }
+        ensures err { OnErr result (AreLookupsOf (R.site rows.now) (R.state rows.now) self.new) }
     {
-        self.make_room(look.sessions())?;
-        let holder = holder_of(look, removed_request(&changes.requests));
-        let queue = queue_of(self.alloc, look, removed_node(&changes.nodes))?;
-        let next = look.next_node();
+        self.make_room(rows.sessions())?;
+        let holder = holder_of(rows, removed_request(&changes.requests));
+        let queue = queue_of(self.alloc, rows, removed_node(&changes.nodes))?;
+        let next = rows.next_node();
         let added = self.grow(changes, next)?;
         Ok(Prepared {
             next,

@@ -13,7 +13,7 @@ use crate::lists::list_of;
 use crate::owners::list_owners;
 use crate::unfinished::list_unfinished;
 use np_keys::{ByNode, ByRequest, JobTable};
-use np_look::Look;
+use np_look::Rows;
 use np_table::KeyTable;
 use np_text::{JobId, NoMemory, NodeId, RequestId, RequesterId, SessionId};
 use std::alloc::{AllocError, Global};
@@ -43,17 +43,17 @@ impl Model for Lookups {
 }
 
 /// The requests in whose queues the session is.
-fn list_requests<L: Look>(
+fn list_requests<R: Rows>(
     alloc: Global,
-    look: &L,
+    rows: &R,
     session: SessionId,
 ) -> Result<KeyTable<ByRequest>, AllocError>
-    requires { IsReached (L.site look.now) (L.state look.now) }
-    ensures { IfOk result (λ list. list ≡ queued_requests session (L.state look.now)) }
+    requires { IsReached (R.site rows.now) (R.state rows.now) }
+    ensures { IfOk result (λ list. list ≡ queued_requests session (R.state rows.now)) }
 {
     let mut list = KeyTable::new(alloc);
-    for at in 0..look.queued_requests(session) {
-        if let Some(request) = look.queued_request_at(session, at) {
+    for at in 0..rows.queued_requests(session) {
+        if let Some(request) = rows.queued_request_at(session, at) {
             list.insert(request)?;
         }
     }
@@ -61,17 +61,17 @@ fn list_requests<L: Look>(
 }
 
 /// The nodes in whose queues the session is.
-fn list_nodes<L: Look>(
+fn list_nodes<R: Rows>(
     alloc: Global,
-    look: &L,
+    rows: &R,
     session: SessionId,
 ) -> Result<KeyTable<ByNode>, AllocError>
-    requires { IsReached (L.site look.now) (L.state look.now) }
-    ensures { IfOk result (λ list. list ≡ queued_nodes session (L.state look.now)) }
+    requires { IsReached (R.site rows.now) (R.state rows.now) }
+    ensures { IfOk result (λ list. list ≡ queued_nodes session (R.state rows.now)) }
 {
     let mut list = KeyTable::new(alloc);
-    for at in 0..look.queued_nodes(session) {
-        if let Some(node) = look.queued_node_at(session, at) {
+    for at in 0..rows.queued_nodes(session) {
+        if let Some(node) = rows.queued_node_at(session, at) {
             list.insert(node)?;
         }
     }
@@ -79,30 +79,30 @@ fn list_nodes<L: Look>(
 }
 
 /// The requests of each session, by number.
-fn requests_by_session<L: Look>(
+fn requests_by_session<R: Rows>(
     alloc: Global,
-    look: &L,
+    rows: &R,
 ) -> Result<Vec<KeyTable<ByRequest>>, AllocError>
-    requires reached { IsReached (L.site look.now) (L.state look.now) }
-    requires fits { Fits (L.site look.now) (L.state look.now) }
-    ensures { IfOk result (λ lists. AreRequestsOf (L.state look.now) lists.items) }
+    requires reached { IsReached (R.site rows.now) (R.state rows.now) }
+    requires fits { Fits (R.site rows.now) (R.state rows.now) }
+    ensures { IfOk result (λ lists. AreRequestsOf (R.state rows.now) lists.items) }
 {
     let mut lists = Vec::new(alloc);
-    for number in 0..look.sessions() + 1 {
-        lists.push(list_requests(alloc, look, SessionId(number))?)?;
+    for number in 0..rows.sessions() + 1 {
+        lists.push(list_requests(alloc, rows, SessionId(number))?)?;
     }
     Ok(lists)
 }
 
 /// The nodes of each session, by number.
-fn nodes_by_session<L: Look>(alloc: Global, look: &L) -> Result<Vec<KeyTable<ByNode>>, AllocError>
-    requires reached { IsReached (L.site look.now) (L.state look.now) }
-    requires fits { Fits (L.site look.now) (L.state look.now) }
-    ensures { IfOk result (λ lists. AreNodesOf (L.state look.now) lists.items) }
+fn nodes_by_session<R: Rows>(alloc: Global, rows: &R) -> Result<Vec<KeyTable<ByNode>>, AllocError>
+    requires reached { IsReached (R.site rows.now) (R.state rows.now) }
+    requires fits { Fits (R.site rows.now) (R.state rows.now) }
+    ensures { IfOk result (λ lists. AreNodesOf (R.state rows.now) lists.items) }
 {
     let mut lists = Vec::new(alloc);
-    for number in 0..look.sessions() + 1 {
-        lists.push(list_nodes(alloc, look, SessionId(number))?)?;
+    for number in 0..rows.sessions() + 1 {
+        lists.push(list_nodes(alloc, rows, SessionId(number))?)?;
     }
     Ok(lists)
 }
@@ -111,15 +111,15 @@ impl Lookups {
     /// The lookups of the state. It reads each job once, and asks the keeper for what each session
     /// queues for and for the owner of each node that was made. A keeper that scans reads all queues
     /// for each answer of the first kind, and all jobs for each node.
-    pub fn rebuild<L: Look>(alloc: Global, look: &L) -> Result<Lookups, NoMemory>
-        requires reached { IsReached (L.site look.now) (L.state look.now) }
-        requires fits { Fits (L.site look.now) (L.state look.now) }
-        ensures { IfOk result (λ x. AreLookupsOf (L.site look.now) (L.state look.now) x) }
+    pub fn rebuild<R: Rows>(alloc: Global, rows: &R) -> Result<Lookups, NoMemory>
+        requires reached { IsReached (R.site rows.now) (R.state rows.now) }
+        requires fits { Fits (R.site rows.now) (R.state rows.now) }
+        ensures { IfOk result (λ x. AreLookupsOf (R.site rows.now) (R.state rows.now) x) }
     {
-        let unfinished = list_unfinished(alloc, look)?;
-        let requests = requests_by_session(alloc, look)?;
-        let nodes = nodes_by_session(alloc, look)?;
-        let owners = list_owners(alloc, look)?;
+        let unfinished = list_unfinished(alloc, rows)?;
+        let requests = requests_by_session(alloc, rows)?;
+        let nodes = nodes_by_session(alloc, rows)?;
+        let owners = list_owners(alloc, rows)?;
         Ok(Lookups {
             alloc,
             unfinished,

@@ -6,21 +6,22 @@ ghost use Rattle.np_lookups.specs.Changed.{owners_changed, owners_grown, owners_
 ghost use Rattle.np_lookups.specs.Lookups.{AreOwners};
 
 use np_changes::{Growth, JobsChange};
-use np_look::Look;
+use np_look::{Look, Rows, Scan};
 use np_text::{JobId, NodeId, Phase};
 use std::alloc::{AllocError, Global};
 
-/// The owner of each node that was made, by a question to the keeper for each.
-pub(crate) fn list_owners<L: Look>(
+/// The owner of each node that was made, by a walk over the jobs for each.
+pub(crate) fn list_owners<R: Rows>(
     alloc: Global,
-    look: &L,
+    rows: &R,
 ) -> Result<Vec<Option<JobId>>, AllocError>
-    requires { IsReached (L.site look.now) (L.state look.now) }
-    ensures { IfOk result (λ owners. AreOwners (L.state look.now) owners.items) }
+    requires { IsReached (R.site rows.now) (R.state rows.now) }
+    ensures { IfOk result (λ owners. AreOwners (R.state rows.now) owners.items) }
 {
+    let scan = Scan::over(rows);
     let mut owners = Vec::new(alloc);
-    for number in 0..look.next_node() {
-        owners.push(look.owner(NodeId(number)))?;
+    for number in 0..rows.next_node() {
+        owners.push(scan.owner(NodeId(number)))?;
     }
     Ok(owners)
 }

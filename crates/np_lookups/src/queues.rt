@@ -6,7 +6,7 @@ ghost use Rattle.np_lookups.specs.Changed.{lists_ended, lists_joined, lists_left
 
 use crate::lists::{add_at, clear_at, remove_at, take_back_at};
 use crate::waits::Wait;
-use np_look::Look;
+use np_look::{Rows, request_holder};
 use np_table::{KeyTable, Order};
 use np_text::{NodeId, RequestId, SessionId};
 use std::alloc::{AllocError, Global};
@@ -85,27 +85,27 @@ pub(crate) fn end<O: Order>(alloc: Global, lists: &mut Vec<KeyTable<O>>, session
 }
 
 /// The queue of a node that goes. It takes memory only if there is such a node.
-pub(crate) fn queue_of<L: Look>(
+pub(crate) fn queue_of<R: Rows>(
     alloc: Global,
-    look: &L,
+    rows: &R,
     node: Option<NodeId>,
 ) -> Result<Vec<SessionId>, AllocError>
-    requires { Fits (L.site look.now) (L.state look.now) }
-    ensures { IfOk result (λ queue. queue.items ≡ queue_at node (L.state look.now)) }
+    requires { Fits (R.site rows.now) (R.state rows.now) }
+    ensures { IfOk result (λ queue. queue.items ≡ queue_at node (R.state rows.now)) }
 {
     let mut queue = Vec::new(alloc);
     let Some(node) = node else {
         return Ok(queue);
     };
-    while let Some(session) = look.node_queue(node, queue.len() as u32) {
+    while let Some(session) = rows.node_queue(node, queue.len() as u32) {
         queue.push(session)?;
     }
     Ok(queue)
 }
 
 /// The holder of a request that goes.
-pub(crate) fn holder_of<L: Look>(look: &L, request: Option<RequestId>) -> Option<SessionId>
-    ensures { result ≡ holder_at request (L.state look.now) }
+pub(crate) fn holder_of<R: Rows>(rows: &R, request: Option<RequestId>) -> Option<SessionId>
+    ensures { result ≡ holder_at request (R.state rows.now) }
 {
-    look.request_holder(request?)
+    request_holder(rows, request?)
 }

@@ -10,15 +10,15 @@ use crate::lists::{push_at, remove_at};
 use np_changes::JobsChange;
 use np_config::Config;
 use np_keys::JobTable;
-use np_look::Look;
+use np_look::Rows;
 use np_text::{JobId, Phase, RequesterId};
 use std::alloc::{AllocError, Global};
 
 /// Whether the job exists and is over.
-fn has_ended<L: Look>(look: &L, job: JobId) -> bool
-    ensures { result ≡ has_ended (L.state look.now) job }
+fn has_ended<R: Rows>(rows: &R, job: JobId) -> bool
+    ensures { result ≡ has_ended (R.state rows.now) job }
 {
-    match look.job(job) {
+    match rows.job(job) {
         None => false,
         Some(kept) => kept.phase == Phase::Over,
     }
@@ -40,16 +40,16 @@ fn no_jobs(alloc: Global, config: &Config) -> Result<Vec<JobTable>, AllocError>
 }
 
 /// The jobs of each requester that are not over, by one scan of all jobs.
-pub(crate) fn list_unfinished<L: Look>(alloc: Global, look: &L) -> Result<Vec<JobTable>, AllocError>
+pub(crate) fn list_unfinished<R: Rows>(alloc: Global, rows: &R) -> Result<Vec<JobTable>, AllocError>
     ensures { IfOk result
-        (λ lists. AreUnfinished (L.site look.now) (L.state look.now) lists.items) }
+        (λ lists. AreUnfinished (R.site rows.now) (R.state rows.now) lists.items) }
 {
-    let config = look.config();
+    let config = rows.config();
     config.soundness();
     let mut lists = no_jobs(alloc, config)?;
-    for number in 0..look.jobs() {
+    for number in 0..rows.jobs() {
         let job = JobId(number);
-        if has_ended(look, job) {
+        if has_ended(rows, job) {
             continue;
         }
         let Some(row) = config.job(job) else {

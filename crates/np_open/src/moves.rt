@@ -12,7 +12,7 @@ use crate::lines::line_of;
 use crate::ranks::{ByRank, Rank};
 use np_config::Config;
 use np_groups::{Groups, Member};
-use np_look::Look;
+use np_look::Rows;
 use np_record::RequestRecord;
 use np_table::Order;
 use np_text::{JobId, PoolId, RequestId};
@@ -105,23 +105,23 @@ pub(crate) fn move_request(
 }
 
 /// Moves each of these requests to where the state has it.
-pub(crate) fn move_all<L: Look>(
+pub(crate) fn move_all<R: Rows>(
     groups: &mut Groups<ByRank>,
-    look: &L,
+    rows: &R,
     lines: &[JobId],
     moved: &[Past],
 )
-    requires { length moved.now * (length (L.site look.now).pools + 1) ≤ groups.old.room }
+    requires { length moved.now * (length (R.site rows.now).pools + 1) ≤ groups.old.room }
     ensures { (passes : Group → Rank → Bool)
-        → AreAsKept (L.site look.now) lines.now moved.now passes
+        → AreAsKept (R.site rows.now) lines.now moved.now passes
         → AreBy passes groups.old.members
-        → AreBy (passes_moved (L.site look.now) (L.state look.now) lines.now moved.now passes)
+        → AreBy (passes_moved (R.site rows.now) (R.state rows.now) lines.now moved.now passes)
         groups.new.members }
 {
-    let config = look.config();
+    let config = rows.config();
     let pools = pools_of(config);
     for past in moved {
-        let now = look.request(past.request);
+        let now = rows.request(past.request);
         move_request(groups, config, lines, pools, past.request, &past.kept, &now);
     }
 }

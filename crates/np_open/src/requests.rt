@@ -23,7 +23,7 @@ use crate::ranks::{ByRank, Rank};
 use crate::runs::run_end;
 use np_config::Config;
 use np_groups::Groups;
-use np_look::{Look, RequestView};
+use np_look::{RequestView, Rows};
 use np_text::{JobId, PoolId, RequestId};
 use std::alloc::{AllocError, Global};
 use std::marker::Model;
@@ -53,7 +53,7 @@ impl Model for Open {
 /// The requests that an event's changes touch, with their records before it.
 #[derive(Drop)]
 pub struct Moved {
-    rows: Vec<Past>,
+    past: Vec<Past>,
 }
 
 impl Model for Moved {
@@ -62,7 +62,7 @@ impl Model for Moved {
 
     ghost Value = { List Past };
 
-    ghost view = { λ moved. moved.rows.items };
+    ghost view = { λ moved. moved.past.items };
 }
 
 /// Puts the request in its groups, and takes the memory.
@@ -94,20 +94,20 @@ fn add_request(
 }
 
 /// The groups of all requests, by one walk over them.
-fn all_requests<L: Look>(
+fn all_requests<R: Rows>(
     alloc: Global,
-    look: &L,
+    rows: &R,
     lines: &[JobId],
 ) -> Result<Groups<ByRank>, AllocError>
-    requires { IsReached (L.site look.now) (L.state look.now) }
+    requires { IsReached (R.site rows.now) (R.state rows.now) }
     ensures { IfOk result (λ groups.
-        AreBy (rank_is_in (L.site look.now) (L.state look.now) lines.now) groups.members) }
+        AreBy (rank_is_in (R.site rows.now) (R.state rows.now) lines.now) groups.members) }
 {
-    let config = look.config();
+    let config = rows.config();
     let pools = pools_of(config);
     let mut groups = Groups::new(alloc);
-    for at in 0..look.requests() {
-        if let Some(view) = look.request_view(at) {
+    for at in 0..rows.requests() {
+        if let Some(view) = rows.request_view(at) {
             add_request(&mut groups, config, lines, pools, &view)?;
         }
     }
@@ -115,18 +115,18 @@ fn all_requests<L: Look>(
 }
 
 /// The requests with their records. One lookup for each.
-fn records_of<L: Look>(
+fn records_of<R: Rows>(
     alloc: Global,
-    look: &L,
+    rows: &R,
     requests: &[RequestId],
 ) -> Result<Vec<Past>, AllocError>
-    ensures { IfOk result (λ moved. moved.items ≡ map (past_of (L.state look.now)) requests.now) }
+    ensures { IfOk result (λ moved. moved.items ≡ map (past_of (R.state rows.now)) requests.now) }
 {
     let mut moved = Vec::new(alloc);
     for request in requests {
         moved.push(Past {
             request: *request,
-            kept: look.request(*request),
+            kept: rows.request(*request),
         })?;
     }
     Ok(moved)
@@ -136,12 +136,12 @@ impl Open {
     /// The requests of the state. For each job it finds the first that has the same tenant and
     /// labels, which costs the number of jobs times that of different lines. Then it reads each
     /// request once, and for each pool the declines of one that is requested.
-    pub fn rebuild<L: Look>(alloc: Global, look: &L) -> Result<Open, AllocError>
-        requires { IsReached (L.site look.now) (L.state look.now) }
-        ensures { IfOk result (λ x. AreOpen (L.site look.now) (L.state look.now) x) }
+    pub fn rebuild<R: Rows>(alloc: Global, rows: &R) -> Result<Open, AllocError>
+        requires { IsReached (R.site rows.now) (R.state rows.now) }
+        ensures { IfOk result (λ x. AreOpen (R.site rows.now) (R.state rows.now) x) }
     {
-        let lines = lines_of(alloc, look.config())?;
-        let groups = all_requests(alloc, look, lines.as_slice())?;
+        let lines = lines_of(alloc, rows.config())?;
+        let groups = all_requests(alloc, rows, lines.as_slice())?;
         Ok(Open { groups, lines })
     }
 
@@ -212,44 +212,44 @@ impl Open {
     /// changes, and takes the memory for `note`. The members stay as they are, so nothing need be
     /// undone if the change fails. It costs one lookup for each request, and takes memory for each
     /// to be in a group of every pool.
-    pub fn prepare<L: Look>(
+    pub fn prepare<R: Rows>(
         &mut self,
         alloc: Global,
-        look: &L,
+        rows: &R,
         requests: &[RequestId],
     ) -> Result<Moved, AllocError>
         ensures members { self.new.members ≡ self.old.members }
         ensures lines { self.new.lines ≡ self.old.lines }
         ensures prepared { IfOk result (λ moved. (ch : Changes)
-            → AreListed ch (L.state look.now) requests.now
-            → IsPrepared (L.state look.now) ch moved) }
-        ensures room { IfOk result (λ moved. HasRoom (L.site look.now) moved self.new) }
+            → AreListed ch (R.state rows.now) requests.now
+            → IsPrepared (R.state rows.now) ch moved) }
+        ensures room { IfOk result (λ moved. HasRoom (R.site rows.now) moved self.new) }
     {
-        let rows = records_of(alloc, look, requests)?;
-        let groups = pools_of(look.config()) as usize + 1;
-        let Some(room) = rows.len().checked_mul(groups) else {
+        let past = records_of(alloc, rows, requests)?;
+        let groups = pools_of(rows.config()) as usize + 1;
+        let Some(room) = past.len().checked_mul(groups) else {
             return Err(AllocError);
         };
         self.groups.reserve(room)?;
-        Ok(Moved { rows })
+        Ok(Moved { past })
     }
 
     /// Moves what was listed to where it is now, after the state has changed. It takes no memory.
     /// For each request it costs one lookup, the line before and after the change, for each pool a
     /// reading of the declines before and after it, and a few binary searches for each group that
     /// the request leaves or joins: where it stays, nothing is searched.
-    pub fn note<L: Look>(&mut self, look: &L, moved: &Moved)
-        requires { HasRoom (L.site look.now) moved.now self.old }
+    pub fn note<R: Rows>(&mut self, rows: &R, moved: &Moved)
+        requires { HasRoom (R.site rows.now) moved.now self.old }
         ensures { (c : Configuration) (s : State) (ch : Changes)
             → IsReached c s → IsPrepared s ch moved.now
-            → L.site look.now ≡ c → L.state look.now ≡ changed c ch s
+            → R.site rows.now ≡ c → R.state rows.now ≡ changed c ch s
             → AreOpen c s self.old → AreOpen c (changed c ch s) self.new }
     {
         move_all(
             &mut self.groups,
-            look,
+            rows,
             self.lines.as_slice(),
-            moved.rows.as_slice(),
+            moved.past.as_slice(),
         );
     }
 }

@@ -6,6 +6,6 @@ use Rattle.np_active.proofs.handles.put_new_handles.Given as goal
 abbrev pub invariant-loop-semaphore : goal.invariant-loop-semaphore
 invariant-loop-semaphore g l = record {
   room : length (drop l.semaphore-index l.semaphore-items) ≤ l.groups.room;
-  rest : with_handles (λ x. has_handle l.job (g.L.Look.state l.look).handles x) l.job (drop l.semaphore-index l.semaphore-items) l.groups.members
-      ≡ with_handles (λ x. has_handle l.job (g.L.Look.state l.look).handles x) l.job l.semaphore-items l.initial.groups.members;
+  rest : with_handles (λ x. has_handle l.job (g.R.Rows.state l.rows).handles x) l.job (drop l.semaphore-index l.semaphore-items) l.groups.members
+      ≡ with_handles (λ x. has_handle l.job (g.R.Rows.state l.rows).handles x) l.job l.semaphore-items l.initial.groups.members;
 }

@@ -4,9 +4,9 @@ use Rattle.np_active.proofs.jobs.all_jobs.Goals as goal
 
 pub loop-number-preserved : goal.loop-number-preserved
 loop-number-preserved g c =
-    jobs-more (g.L.Look.site c.args.look.now) (g.L.Look.state c.args.look.now) c.args.lines.now c.loop-number.number c.loop-number.groups.members _ _ c.loop-number.invariant c.in_ok-reserve.ensures.same c.put_job.ensures.members
+    jobs-more (g.R.Rows.site c.args.rows.now) (g.R.Rows.state c.args.rows.now) c.args.lines.now c.loop-number.number c.loop-number.groups.members _ _ c.loop-number.invariant c.in_ok-reserve.ensures.same c.put_job.ensures.members
 
 pub returns : goal.returns
 returns g c =
-    let all : length (g.L.Look.state c.args.look.now).jobs ≤ c.loop-number.number = omega (arith, c.jobs-number-end.ensures, c.loop-number-test.false) in
-    jobs-all (g.L.Look.site c.args.look.now) (g.L.Look.state c.args.look.now) c.args.lines.now c.loop-number.number c.loop-number.groups.members all c.loop-number.invariant
+    let all : length (g.R.Rows.state c.args.rows.now).jobs ≤ c.loop-number.number = omega (arith, c.jobs-number-end.ensures, c.loop-number-test.false) in
+    jobs-all (g.R.Rows.site c.args.rows.now) (g.R.Rows.state c.args.rows.now) c.args.lines.now c.loop-number.number c.loop-number.groups.members all c.loop-number.invariant

@@ -4,9 +4,9 @@ use Rattle.np_active.proofs.members.all_sessions.Goals as goal
 
 pub loop-at-preserved : goal.loop-at-preserved
 loop-at-preserved g c =
-    sessions-more (g.L.Look.state c.args.look.now) (c.loop-at.at + 1) c.loop-at.groups.members _ _ c.loop-at.invariant c.in_ok-reserve.ensures.same c.put_session.ensures.members
+    sessions-more (g.R.Rows.state c.args.rows.now) (c.loop-at.at + 1) c.loop-at.groups.members _ _ c.loop-at.invariant c.in_ok-reserve.ensures.same c.put_session.ensures.members
 
 pub returns : goal.returns
 returns g c =
-    let all : length (g.L.Look.state c.args.look.now).sessions < c.loop-at.at + 1 = omega (arith, c.sessions-at-end.ensures, c.loop-at-test.false) in
-    sessions-all (g.L.Look.state c.args.look.now) (c.loop-at.at + 1) c.loop-at.groups.members all c.loop-at.invariant
+    let all : length (g.R.Rows.state c.args.rows.now).sessions < c.loop-at.at + 1 = omega (arith, c.sessions-at-end.ensures, c.loop-at-test.false) in
+    sessions-all (g.R.Rows.state c.args.rows.now) (c.loop-at.at + 1) c.loop-at.groups.members all c.loop-at.invariant

@@ -11,12 +11,12 @@ pub loop-at-preserved : goal.loop-at-preserved
 loop-at-preserved g c =
     elim c.match-node_view.branch [
       | in-Some+in_ok-add_node w ↦
-          made-more is_node_before same_node node_view (placed_node_view (g.L.Look.site c.args.look.now) (g.L.Look.state c.args.look.now)) (g.L.Look.state c.args.look.now).nodes c.loop-at.at w.in-Some.view _ _ w.in-Some.ensures c.loop-at.invariant
+          made-more is_node_before same_node node_view (placed_node_view (g.R.Rows.site c.args.rows.now) (g.R.Rows.state c.args.rows.now)) (g.R.Rows.state c.args.rows.now).nodes c.loop-at.at w.in-Some.view _ _ w.in-Some.ensures c.loop-at.invariant
           (ap (λ (m : _). m.members) w.groups-is ∙ w.in_ok-add_node.ensures)
       | in_default w ↦
-          let within : c.loop-at.at < length (g.L.Look.state c.args.look.now).nodes = omega (arith, c.nodes-at-end.ensures) in
+          let within : c.loop-at.at < length (g.R.Rows.state c.args.rows.now).nodes = omega (arith, c.nodes-at-end.ensures) in
           absurd (none_there node_view _ c.loop-at.at within (sym w.in_default.ensures))
     ]
 
 pub returns : goal.returns
-returns g c = nodes-made (g.L.Look.site c.args.look.now) (g.L.Look.state c.args.look.now) c.requires c.loop-at.at _ (omega (arith, c.nodes-at-end.ensures, c.loop-at.auto.at-end, c.loop-at-test.false)) c.loop-at.invariant
+returns g c = nodes-made (g.R.Rows.site c.args.rows.now) (g.R.Rows.state c.args.rows.now) c.requires c.loop-at.at _ (omega (arith, c.nodes-at-end.ensures, c.loop-at.auto.at-end, c.loop-at-test.false)) c.loop-at.invariant

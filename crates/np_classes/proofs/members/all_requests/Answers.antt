@@ -12,12 +12,12 @@ pub loop-at-preserved : goal.loop-at-preserved
 loop-at-preserved g c =
     elim c.match-request_view.branch [
       | in-Some+in_ok-add_request w ↦
-          made-more is_id_before same_request request_view placed_request_view (g.L.Look.state c.args.look.now).requests c.loop-at.at w.in-Some.view _ _ w.in-Some.ensures c.loop-at.invariant
+          made-more is_id_before same_request request_view placed_request_view (g.R.Rows.state c.args.rows.now).requests c.loop-at.at w.in-Some.view _ _ w.in-Some.ensures c.loop-at.invariant
           (ap (λ (m : _). m.members) w.groups-is ∙ w.in_ok-add_request.ensures)
       | in_default w ↦
-          let within : c.loop-at.at < length (g.L.Look.state c.args.look.now).requests = omega (arith, c.requests-at-end.ensures) in
+          let within : c.loop-at.at < length (g.R.Rows.state c.args.rows.now).requests = omega (arith, c.requests-at-end.ensures) in
           absurd (none_there request_view _ c.loop-at.at within (sym w.in_default.ensures))
     ]
 
 pub returns : goal.returns
-returns g c = requests-made (g.L.Look.site c.args.look.now) (g.L.Look.state c.args.look.now) c.requires c.loop-at.at _ (omega (arith, c.requests-at-end.ensures, c.loop-at.auto.at-end, c.loop-at-test.false)) c.loop-at.invariant
+returns g c = requests-made (g.R.Rows.site c.args.rows.now) (g.R.Rows.state c.args.rows.now) c.requires c.loop-at.at _ (omega (arith, c.requests-at-end.ensures, c.loop-at.auto.at-end, c.loop-at-test.false)) c.loop-at.invariant

@@ -8,4 +8,4 @@ use Rattle.np_classes.proofs.members.all_requests.Given as goal
 
 abbrev pub invariant-loop-at : goal.invariant-loop-at
 invariant-loop-at g l =
-    l.groups.members ≡ made is_id_before same_request request_view placed_request_view (g.L.Look.state l.look).requests l.at
+    l.groups.members ≡ made is_id_before same_request request_view placed_request_view (g.R.Rows.state l.rows).requests l.at

@@ -7,7 +7,7 @@ use Rattle.np_classes.proofs.members.put_requests.Given as goal
 abbrev pub invariant-loop-request : goal.invariant-loop-request
 invariant-loop-request g l = record {
   members :
-      with_all is_id_before same_request (map (placed_request (g.L.Look.state l.look)) (drop l.request-index l.requests)) l.groups.members
-      ≡ with_all is_id_before same_request (map (placed_request (g.L.Look.state l.look)) l.requests) l.initial.groups.members;
+      with_all is_id_before same_request (map (placed_request (g.R.Rows.state l.rows)) (drop l.request-index l.requests)) l.groups.members
+      ≡ with_all is_id_before same_request (map (placed_request (g.R.Rows.state l.rows)) l.requests) l.initial.groups.members;
   room : l.initial.groups.room ≤ l.groups.room + 7 * l.request-index;
 }

@@ -4,5 +4,5 @@ use Rattle.np_classes.proofs.touched.node_members.Given as goal
 
 abbrev pub invariant-loop-node : goal.invariant-loop-node
 invariant-loop-node g l =
-    then_all (map (placed_node (g.L.Look.site l.look) (g.L.Look.state l.look)) (drop l.node-index l.nodes)) l.list.items
-    ≡ members_of (map (placed_node (g.L.Look.site l.look) (g.L.Look.state l.look)) l.nodes)
+    then_all (map (placed_node (g.R.Rows.site l.rows) (g.R.Rows.state l.rows)) (drop l.node-index l.nodes)) l.list.items
+    ≡ members_of (map (placed_node (g.R.Rows.site l.rows) (g.R.Rows.state l.rows)) l.nodes)

@@ -4,7 +4,7 @@ use Rattle.np_counts.proofs.DeclinedLemmas.{first_below}
 use Rattle.np_counts.proofs.declined.first_of_sets.Given as goal
 
 abbrev pub invariant-loop-next : goal.invariant-loop-next
-invariant-loop-next g l = l.best ≡ first_below (g.L.Look.state l.look) l.next
+invariant-loop-next g l = l.best ≡ first_below (g.R.Rows.state l.rows) l.next
 
 abbrev pub decreases-loop-next : goal.decreases-loop-next
 decreases-loop-next g l = option_map_or (λ set. 18446744073709551616 - set) l.next 0

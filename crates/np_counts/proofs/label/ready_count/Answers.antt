@@ -8,22 +8,22 @@ use Rattle.np_counts.proofs.label.ready_count.Goals as goal
 
 pub overflow_add-result : goal.overflow_add-result
 overflow_add-result g c =
-    let free : c.nodes_in-free.result ≤ 262144 = omega (arith, c.nodes_in-free.ensures, few-nodes (g.L.Look.site c.args.look.now) (g.L.Look.state c.args.look.now) c.args.classes.now c.requires.classes c.free_group.result, c.requires.fits.nodes) in
-    let coming : c.requests_in-coming.result ≤ 262144 = omega (arith, c.requests_in-coming.ensures, few-requests (g.L.Look.site c.args.look.now) (g.L.Look.state c.args.look.now) c.args.classes.now c.requires.classes c.coming_group.result, c.requires.fits.requests) in
+    let free : c.nodes_in-free.result ≤ 262144 = omega (arith, c.nodes_in-free.ensures, few-nodes (g.R.Rows.site c.args.rows.now) (g.R.Rows.state c.args.rows.now) c.args.classes.now c.requires.classes c.free_group.result, c.requires.fits.nodes) in
+    let coming : c.requests_in-coming.result ≤ 262144 = omega (arith, c.requests_in-coming.ensures, few-requests (g.R.Rows.site c.args.rows.now) (g.R.Rows.state c.args.rows.now) c.args.classes.now c.requires.classes c.coming_group.result, c.requires.fits.requests) in
     omega (arith, free, coming)
 
 pub overflow_cast-result : goal.overflow_cast-result
 overflow_cast-result g c =
-    let free : c.nodes_in-free.result ≤ 262144 = omega (arith, c.nodes_in-free.ensures, few-nodes (g.L.Look.site c.args.look.now) (g.L.Look.state c.args.look.now) c.args.classes.now c.requires.classes c.free_group.result, c.requires.fits.nodes) in
-    let coming : c.requests_in-coming.result ≤ 262144 = omega (arith, c.requests_in-coming.ensures, few-requests (g.L.Look.site c.args.look.now) (g.L.Look.state c.args.look.now) c.args.classes.now c.requires.classes c.coming_group.result, c.requires.fits.requests) in
+    let free : c.nodes_in-free.result ≤ 262144 = omega (arith, c.nodes_in-free.ensures, few-nodes (g.R.Rows.site c.args.rows.now) (g.R.Rows.state c.args.rows.now) c.args.classes.now c.requires.classes c.free_group.result, c.requires.fits.nodes) in
+    let coming : c.requests_in-coming.result ≤ 262144 = omega (arith, c.requests_in-coming.ensures, few-requests (g.R.Rows.site c.args.rows.now) (g.R.Rows.state c.args.rows.now) c.args.classes.now c.requires.classes c.coming_group.result, c.requires.fits.requests) in
     omega (arith, free, coming)
 
 pub returns : goal.returns
 returns g c =
-    let free : c.nodes_in-free.result ≡ count_by (is_free_ready c.args.label) (g.L.Look.state c.args.look.now).nodes =
+    let free : c.nodes_in-free.result ≡ count_by (is_free_ready c.args.label) (g.R.Rows.state c.args.rows.now).nodes =
     c.nodes_in-free.ensures ∙ ap (λ (x : Group). length (ids_in x c.args.classes.now.nodes)) c.free_group.ensures
-    ∙ free-number (g.L.Look.site c.args.look.now) (g.L.Look.state c.args.look.now) c.args.classes.now c.requires.classes c.args.label in
-    let coming : c.requests_in-coming.result ≡ count_by (is_coming c.args.label) (g.L.Look.state c.args.look.now).requests =
+    ∙ free-number (g.R.Rows.site c.args.rows.now) (g.R.Rows.state c.args.rows.now) c.args.classes.now c.requires.classes c.args.label in
+    let coming : c.requests_in-coming.result ≡ count_by (is_coming c.args.label) (g.R.Rows.state c.args.rows.now).requests =
     c.requests_in-coming.ensures ∙ ap (λ (x : Group). length (ids_in x c.args.classes.now.requests)) c.coming_group.ensures
-    ∙ coming-number (g.L.Look.site c.args.look.now) (g.L.Look.state c.args.look.now) c.args.classes.now c.requires.classes c.args.label in
+    ∙ coming-number (g.R.Rows.site c.args.rows.now) (g.R.Rows.state c.args.rows.now) c.args.classes.now c.requires.classes c.args.label in
     omega (arith, free, coming)

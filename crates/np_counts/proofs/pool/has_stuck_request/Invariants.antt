@@ -4,7 +4,7 @@ use Rattle.np_counts.proofs.Waiting.{IsLeft}
 use Rattle.np_counts.proofs.pool.has_stuck_request.Given as goal
 
 abbrev pub invariant-loop-next : goal.invariant-loop-next
-invariant-loop-next g l = IsLeft (g.L.Look.site l.look) (g.L.Look.state l.look) l.pool l.is_pinned l.classes.requests l.next
+invariant-loop-next g l = IsLeft (g.R.Rows.site l.rows) (g.R.Rows.state l.rows) l.pool l.is_pinned l.classes.requests l.next
 
 abbrev pub decreases-loop-next : goal.decreases-loop-next
 decreases-loop-next g l = option_map_or (λ label. 65536 - label.0) l.next 0

@@ -12,14 +12,14 @@ pub loop-at-preserved : goal.loop-at-preserved
 loop-at-preserved g c =
     elim c.match-node_at.branch [
       | in-Some+in_ok-add_node w ↦
-          made-more is_node_before same_node (λ (e : NodeEntry). e.id) (placed_node (g.L.Look.site c.args.look.now) (g.L.Look.state c.args.look.now)) (g.L.Look.state c.args.look.now).nodes c.loop-at.at w.in-Some.node _ _ w.in-Some.ensures c.loop-at.invariant
+          made-more is_node_before same_node (λ (e : NodeEntry). e.id) (placed_node (g.R.Rows.site c.args.rows.now) (g.R.Rows.state c.args.rows.now)) (g.R.Rows.state c.args.rows.now).nodes c.loop-at.at w.in-Some.node _ _ w.in-Some.ensures c.loop-at.invariant
           (ap (λ (m : _). m.members) w.groups-is ∙ w.in_ok-add_node.ensures)
       | in_default w ↦
-          let within : c.loop-at.at < length (g.L.Look.state c.args.look.now).nodes = omega (arith, c.nodes-at-end.ensures) in
+          let within : c.loop-at.at < length (g.R.Rows.state c.args.rows.now).nodes = omega (arith, c.nodes-at-end.ensures) in
           absurd (none_there (λ (e : NodeEntry). e.id) _ c.loop-at.at within (sym w.in_default.ensures))
     ]
 
 pub returns : goal.returns
 returns g c =
-    given-made (g.L.Look.site c.args.look.now) (g.L.Look.state c.args.look.now) c.loop-at.at _ c.requires.reached
+    given-made (g.R.Rows.site c.args.rows.now) (g.R.Rows.state c.args.rows.now) c.loop-at.at _ c.requires.reached
     (omega (arith, c.nodes-at-end.ensures, c.loop-at.auto.at-end, c.loop-at-test.false)) c.loop-at.invariant

@@ -8,13 +8,13 @@ use Rattle.np_given.proofs.members.put_sessions.Goals as goal
 
 pub returns-in_default-clause-members : goal.returns-in_default-clause-members
 returns-in_default-clause-members g c =
-    sym (put-end is_node_before same_node c.args.node c.args.requester (node_queue c.args.node (g.L.Look.state c.args.look.now).nodes) c.args.most c.loop-at.at c.loop-at.groups.members (sym c.in_default.ensures))
+    sym (put-end is_node_before same_node c.args.node c.args.requester (node_queue c.args.node (g.R.Rows.state c.args.rows.now).nodes) c.args.most c.loop-at.at c.loop-at.groups.members (sym c.in_default.ensures))
     ∙ c.loop-at.invariant.members
 
 pub loop-at-preserved : goal.loop-at-preserved
 loop-at-preserved g c = record {
   members =
-      put-next is_node_before same_node c.args.node c.args.requester (node_queue c.args.node (g.L.Look.state c.args.look.now).nodes) c.args.most c.loop-at.at c.in-Some.session c.loop-at.groups.members _
+      put-next is_node_before same_node c.args.node c.args.requester (node_queue c.args.node (g.R.Rows.state c.args.rows.now).nodes) c.args.most c.loop-at.at c.in-Some.session c.loop-at.groups.members _
       c.loop-at-test.true (sym c.in-Some.ensures)
       (c.put.ensures.members ∙ ap (λ (group : Group). with_member is_node_before same_node group c.args.node c.loop-at.groups.members) c.locked_group.ensures)
       ∙ c.loop-at.invariant.members;

@@ -9,26 +9,26 @@ use Rattle.np_given.proofs.prepare.list_sessions.Goals as goal
 
 pub overflow_add-at : goal.overflow_add-at
 overflow_add-at g c =
-    let within : c.loop-session.at < length (node_queue c.args.node (g.L.Look.state c.args.look.now).nodes) = slice_get_within _ c.loop-session.at c.in-Some.session (sym c.in-Some.ensures) in
-    omega (arith, within, queue-fits (g.L.Look.site c.args.look.now) (g.L.Look.state c.args.look.now) c.args.node c.requires)
+    let within : c.loop-session.at < length (node_queue c.args.node (g.R.Rows.state c.args.rows.now).nodes) = slice_get_within _ c.loop-session.at c.in-Some.session (sym c.in-Some.ensures) in
+    omega (arith, within, queue-fits (g.R.Rows.site c.args.rows.now) (g.R.Rows.state c.args.rows.now) c.args.node c.requires)
 
 pub loop-session-smaller : goal.loop-session-smaller
 loop-session-smaller g c =
-    let within : c.loop-session.at < length (node_queue c.args.node (g.L.Look.state c.args.look.now).nodes) = slice_get_within _ c.loop-session.at c.in-Some.session (sym c.in-Some.ensures) in
+    let within : c.loop-session.at < length (node_queue c.args.node (g.R.Rows.state c.args.rows.now).nodes) = slice_get_within _ c.loop-session.at c.in-Some.session (sym c.in-Some.ensures) in
     omega (arith, within)
 
 pub loop-session-preserved : goal.loop-session-preserved
 loop-session-preserved g c =
-    let within : c.loop-session.at < length (node_queue c.args.node (g.L.Look.state c.args.look.now).nodes) = slice_get_within _ c.loop-session.at c.in-Some.session (sym c.in-Some.ensures) in
+    let within : c.loop-session.at < length (node_queue c.args.node (g.R.Rows.state c.args.rows.now).nodes) = slice_get_within _ c.loop-session.at c.in-Some.session (sym c.in-Some.ensures) in
     record {
       within = omega (arith, within);
       members =
-          list-next c.args.node c.args.requester (node_queue c.args.node (g.L.Look.state c.args.look.now).nodes) c.loop-session.at c.in-Some.session c.loop-session.list.items _ (sym c.in-Some.ensures)
+          list-next c.args.node c.args.requester (node_queue c.args.node (g.R.Rows.state c.args.rows.now).nodes) c.loop-session.at c.in-Some.session c.loop-session.list.items _ (sym c.in-Some.ensures)
           (c.in_ok-push.ensures.items ∙ ap (λ (group : Group). c.loop-session.list.items ++ member group c.args.node ∷ []) c.locked_group.ensures)
           ∙ c.loop-session.invariant.members;
     }
 
 pub returns : goal.returns
 returns g c =
-    sym (list-end c.args.node c.args.requester (node_queue c.args.node (g.L.Look.state c.args.look.now).nodes) c.loop-session.at c.loop-session.list.items (sym c.in_default.ensures))
+    sym (list-end c.args.node c.args.requester (node_queue c.args.node (g.R.Rows.state c.args.rows.now).nodes) c.loop-session.at c.loop-session.list.items (sym c.in_default.ensures))
     ∙ c.loop-session.invariant.members

@@ -4,4 +4,4 @@ use Rattle.np_machine.specs.Tables.{node_queue}
 use Rattle.np_given.proofs.prepare.most_queued.Given as goal
 
 abbrev pub invariant-loop-node : goal.invariant-loop-node
-invariant-loop-node g l = AllByRecursion (λ n. suc (length (node_queue n (g.L.Look.state l.look).nodes)) ≤ l.most) (take l.node-index l.nodes)
+invariant-loop-node g l = AllByRecursion (λ n. suc (length (node_queue n (g.R.Rows.state l.rows).nodes)) ≤ l.most) (take l.node-index l.nodes)

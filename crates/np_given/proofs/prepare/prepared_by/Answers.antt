@@ -10,7 +10,7 @@ use Rattle.np_given.proofs.prepare.prepared_by.Goals as goal
 
 pub returns : goal.returns
 returns g c =
-    is-prepared (g.L.Look.site c.args.look.now) (g.L.Look.state c.args.look.now) c.args.changes.now c.args.touched.now _ c.requires.touched c.in_ok-nodes.ensures
+    is-prepared (g.R.Rows.site c.args.rows.now) (g.R.Rows.state c.args.rows.now) c.args.changes.now c.args.touched.now _ c.requires.touched c.in_ok-nodes.ensures
     (c.in_ok-members.ensures
-    ∙ ap (λ (nodes : List NodeId). members_of (map (placed_node (g.L.Look.site c.args.look.now) (g.L.Look.state c.args.look.now)) nodes)) c.as_slice.ensures.value)
-    (subst (AllByRecursion (λ n. suc (length (node_queue n (g.L.Look.state c.args.look.now).nodes)) ≤ _)) c.as_slice-2.ensures.value c.most_queued-most.ensures)
+    ∙ ap (λ (nodes : List NodeId). members_of (map (placed_node (g.R.Rows.site c.args.rows.now) (g.R.Rows.state c.args.rows.now)) nodes)) c.as_slice.ensures.value)
+    (subst (AllByRecursion (λ n. suc (length (node_queue n (g.R.Rows.state c.args.rows.now).nodes)) ≤ _)) c.as_slice-2.ensures.value c.most_queued-most.ensures)

@@ -12,8 +12,8 @@ use Rattle.np_index.proofs.candidates.earlier_in_line.Goals as goal
 
 pub loop-place-init : goal.loop-place-init
 loop-place-init g c =
-    let site = g.L.Look.site c.args.look.now in
-    let state = g.L.Look.state c.args.look.now in
+    let site = g.R.Rows.site c.args.rows.now in
+    let state = g.R.Rows.state c.args.rows.now in
     let from : c.match-after.from ≡ start_of c.args.after (ranks_of c.args.line c.args.requested.now.members) = elim c.match-after.branch [
       | in-None w ↦ w.from-is ∙ sym (ap (λ (o : Option Rank). start_of o (ranks_of c.args.line c.args.requested.now.members)) w.in-None.is)
       | in-Some w ↦ w.from-is ∙ w.past-from.ensures site state c.requires.requested ∙ sym (ap (λ (o : Option Rank). start_of o (ranks_of c.args.line c.args.requested.now.members)) w.in-Some.is)
@@ -31,13 +31,13 @@ returns-then-not-is_first g c =
       | in-None-best w ↦ w.is_first-is ∙ sym (ap (λ (o : Option Rank). beats o c.in_ok-rank.rank) w.in-None-best.is)
       | in-Some-best w ↦ w.is_first-is ∙ w.is_before-is_first.ensures ∙ sym (ap (λ (o : Option Rank). beats o c.in_ok-rank.rank) w.in-Some-best.is)
     ] in
-    walk-late (g.L.Look.site c.args.look.now) (g.L.Look.state c.args.look.now) c.args.pool c.args.requested.now c.requires.requested c.args.line c.args.after c.args.best
+    walk-late (g.R.Rows.site c.args.rows.now) (g.R.Rows.state c.args.rows.now) c.args.pool c.args.requested.now c.requires.requested c.args.line c.args.after c.args.best
     c.loop-place.place c.in_ok-rank.rank (sym c.at.ensures ∙ c.in_ok-rank.was) (sym first ∙ c.if-not-is_first.true) c.loop-place.invariant
 
 pub returns-then-is_none : goal.returns-then-is_none
 returns-then-is_none g c =
-    let site = g.L.Look.site c.args.look.now in
-    let state = g.L.Look.state c.args.look.now in
+    let site = g.R.Rows.site c.args.rows.now in
+    let state = g.R.Rows.state c.args.rows.now in
     let first : c.match-best.is_first ≡ beats c.args.best c.in_ok-rank.rank = elim c.match-best.branch [
       | in-None-best w ↦ w.is_first-is ∙ sym (ap (λ (o : Option Rank). beats o c.in_ok-rank.rank) w.in-None-best.is)
       | in-Some-best w ↦ w.is_first-is ∙ w.is_before-is_first.ensures ∙ sym (ap (λ (o : Option Rank). beats o c.in_ok-rank.rank) w.in-Some-best.is)
@@ -51,8 +51,8 @@ returns-then-is_none g c =
 
 pub returns-then-are_alike : goal.returns-then-are_alike
 returns-then-are_alike g c =
-    let site = g.L.Look.site c.args.look.now in
-    let state = g.L.Look.state c.args.look.now in
+    let site = g.R.Rows.site c.args.rows.now in
+    let state = g.R.Rows.state c.args.rows.now in
     let room : is_none (blocking site state c.args.pool c.in-Some-open_record.kept) ≡ c.is_none.result =
     room-told site state c.args.pool c.in_ok-rank.rank.request c.in-Some-open_record.kept c.asked_of.result c.blocking.result c.is_none.result c.asked_of.ensures c.blocking.ensures c.is_none.ensures in
     walk-blocked site state c.args.pool c.args.requested.now c.requires.requested c.args.line c.args.after
@@ -62,13 +62,13 @@ returns-then-are_alike g c =
 pub loop-place-smaller : goal.loop-place-smaller
 loop-place-smaller g c =
     let ends : IsOpenFrom c.args.requested.now.members c.args.line c.args.pool (c.loop-place.place + 1) c.open_from-place-in-loop-place.result =
-    c.open_from-place-in-loop-place.ensures (g.L.Look.site c.args.look.now) (g.L.Look.state c.args.look.now) c.requires.requested in
+    c.open_from-place-in-loop-place.ensures (g.R.Rows.site c.args.rows.now) (g.R.Rows.state c.args.rows.now) c.requires.requested in
     omega (arith, ends.from, c.loop-place-test.true)
 
 pub loop-place-preserved : goal.loop-place-preserved
 loop-place-preserved g c =
-    let site = g.L.Look.site c.args.look.now in
-    let state = g.L.Look.state c.args.look.now in
+    let site = g.R.Rows.site c.args.rows.now in
+    let state = g.R.Rows.state c.args.rows.now in
     let fails : may_take_up site state c.args.pool c.in_ok-rank.rank.request ≡ false = elim c.match-open_record.branch [
       | in-Some-open_record+else-is_none+else-are_alike w ↦
           open-takes site state c.args.pool c.in_ok-rank.rank.request w.in-Some-open_record.kept (sym c.open_record.ensures ∙ w.in-Some-open_record.is)
@@ -82,5 +82,5 @@ loop-place-preserved g c =
 
 pub returns : goal.returns
 returns g c =
-    walk-ends (g.L.Look.site c.args.look.now) (g.L.Look.state c.args.look.now) c.args.pool c.args.requested.now c.requires.requested c.args.line c.args.after c.args.best
+    walk-ends (g.R.Rows.site c.args.rows.now) (g.R.Rows.state c.args.rows.now) c.args.pool c.args.requested.now c.requires.requested c.args.line c.args.after c.args.best
     c.loop-place.place (slice_get_past (ranks_of c.args.line c.args.requested.now.members) c.loop-place.place (omega (arith, c.len-end.ensures, c.loop-place-test.false))) c.loop-place.invariant

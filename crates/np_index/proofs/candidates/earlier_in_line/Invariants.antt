@@ -3,7 +3,7 @@ use Rattle.np_index.proofs.WalkLemmas.{IsWalked}
 use Rattle.np_index.proofs.candidates.earlier_in_line.Given as goal
 
 abbrev pub invariant-loop-place : goal.invariant-loop-place
-invariant-loop-place g l = IsWalked (g.L.Look.site l.look) (g.L.Look.state l.look) l.pool l.requested.members l.line l.fn.after l.place
+invariant-loop-place g l = IsWalked (g.R.Rows.site l.rows) (g.R.Rows.state l.rows) l.pool l.requested.members l.line l.fn.after l.place
 
 abbrev pub decreases-loop-place : goal.decreases-loop-place
 decreases-loop-place g l = l.end - l.place

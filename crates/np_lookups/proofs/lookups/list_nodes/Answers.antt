@@ -21,6 +21,6 @@ loop-at-preserved g c =
           ∙ copied-next is_node_before same_node node_one_way node_equal _ (nodes-rise _ _ c.requires c.args.session)
           c.loop-at.at w.in-Some.node (sym w.in-Some.ensures) _ c.loop-at.invariant _ w.in_ok-insert.ensures.ok
       | in_default w ↦
-          let within : c.loop-at.at < length (queued_nodes c.args.session (g.L.Look.state c.args.look.now)) = omega (arith, c.queued_nodes-at-end.ensures) in
+          let within : c.loop-at.at < length (queued_nodes c.args.session (g.R.Rows.state c.args.rows.now)) = omega (arith, c.queued_nodes-at-end.ensures) in
           absurd (none_there (λ (n : NodeId). n) _ c.loop-at.at within (ap (option_map (λ (n : NodeId). n)) (sym w.in_default.ensures)))
     ]

@@ -23,6 +23,6 @@ loop-at-preserved g c =
           ∙ copied-next is_id_before same_request request_one_way request_equal _ (requests-rise _ _ c.requires c.args.session)
           c.loop-at.at w.in-Some.request (sym w.in-Some.ensures) _ c.loop-at.invariant _ w.in_ok-insert.ensures.ok
       | in_default w ↦
-          let within : c.loop-at.at < length (queued_requests c.args.session (g.L.Look.state c.args.look.now)) = omega (arith, c.queued_requests-at-end.ensures) in
+          let within : c.loop-at.at < length (queued_requests c.args.session (g.R.Rows.state c.args.rows.now)) = omega (arith, c.queued_requests-at-end.ensures) in
           absurd (none_there (λ (r : RequestId). r) _ c.loop-at.at within (ap (option_map (λ (r : RequestId). r)) (sym w.in_default.ensures)))
     ]

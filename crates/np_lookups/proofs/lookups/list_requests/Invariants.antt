@@ -3,4 +3,4 @@ use Rattle.np_look.specs.Readers.{queued_requests}
 use Rattle.np_lookups.proofs.lookups.list_requests.Given as goal
 
 abbrev pub invariant-loop-at : goal.invariant-loop-at
-invariant-loop-at g l = l.list ≡ take l.at (queued_requests l.session (g.L.Look.state l.look))
+invariant-loop-at g l = l.list ≡ take l.at (queued_requests l.session (g.R.Rows.state l.rows))

@@ -3,4 +3,4 @@ use Rattle.np_lookups.proofs.BySession.{AreBelow}
 use Rattle.np_lookups.proofs.lookups.nodes_by_session.Given as goal
 
 abbrev pub invariant-loop-number : goal.invariant-loop-number
-invariant-loop-number g l = AreBelow (λ x. queued_nodes x (g.L.Look.state l.look)) l.number l.lists.items
+invariant-loop-number g l = AreBelow (λ x. queued_nodes x (g.R.Rows.state l.rows)) l.number l.lists.items

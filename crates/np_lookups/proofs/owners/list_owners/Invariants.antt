@@ -2,4 +2,4 @@ use Rattle.np_lookups.proofs.ByNode.{AreOwnersBelow}
 use Rattle.np_lookups.proofs.owners.list_owners.Given as goal
 
 abbrev pub invariant-loop-number : goal.invariant-loop-number
-invariant-loop-number g l = AreOwnersBelow (g.L.Look.state l.look) l.number l.owners.items
+invariant-loop-number g l = AreOwnersBelow (g.R.Rows.state l.rows) l.number l.owners.items

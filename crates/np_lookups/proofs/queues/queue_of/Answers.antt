@@ -26,16 +26,16 @@ all_read read whole at n none here so_far = so_far âˆ™ take_past whole n (rw (â†
 
 pub overflow_cast-len : goal.overflow_cast-len
 overflow_cast-len g c =
-    omega (arith, c.len.ensures, c.loop-session.invariant.within, queue-fits (g.L.Look.site c.args.look.now) (g.L.Look.state c.args.look.now) c.in-Some.node c.requires)
+    omega (arith, c.len.ensures, c.loop-session.invariant.within, queue-fits (g.R.Rows.site c.args.rows.now) (g.R.Rows.state c.args.rows.now) c.in-Some.node c.requires)
 
 pub loop-session-smaller : goal.loop-session-smaller
 loop-session-smaller g c =
-    let within : c.len.result < length (node_queue c.in-Some.node (g.L.Look.state c.args.look.now).nodes) = slice_get_within _ c.len.result c.in-Some-node_queue.session (sym c.in-Some-node_queue.ensures) in
+    let within : c.len.result < length (node_queue c.in-Some.node (g.R.Rows.state c.args.rows.now).nodes) = slice_get_within _ c.len.result c.in-Some-node_queue.session (sym c.in-Some-node_queue.ensures) in
     omega (arith, within, c.len.ensures, c.in_ok-push.ensures.len)
 
 pub loop-session-preserved : goal.loop-session-preserved
 loop-session-preserved g c =
-    let within : c.len.result < length (node_queue c.in-Some.node (g.L.Look.state c.args.look.now).nodes) = slice_get_within _ c.len.result c.in-Some-node_queue.session (sym c.in-Some-node_queue.ensures) in
+    let within : c.len.result < length (node_queue c.in-Some.node (g.R.Rows.state c.args.rows.now).nodes) = slice_get_within _ c.len.result c.in-Some-node_queue.session (sym c.in-Some-node_queue.ensures) in
     record {
       within = omega (arith, within, c.len.ensures, c.in_ok-push.ensures.len);
       all = one_more _ _ _ _ _ _ _ c.in-Some-node_queue.ensures c.len.ensures c.loop-session.invariant.all c.in_ok-push.ensures.items c.in_ok-push.ensures.len;

@@ -6,4 +6,4 @@ use Rattle.np_open.proofs.requests.all_requests.Given as goal
 
 abbrev pub invariant-loop-at : goal.invariant-loop-at
 invariant-loop-at g l =
-    AreBy (is_row_in (length (g.L.Look.site l.look).pools) (line_of (g.L.Look.site l.look) l.lines) (take l.at (g.L.Look.state l.look).requests)) l.groups.members
+    AreBy (is_row_in (length (g.R.Rows.site l.rows).pools) (line_of (g.R.Rows.site l.rows) l.lines) (take l.at (g.R.Rows.state l.rows).requests)) l.groups.members

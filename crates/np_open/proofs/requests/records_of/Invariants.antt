@@ -4,4 +4,4 @@ use Rattle.np_open.proofs.requests.records_of.Given as goal
 
 abbrev pub invariant-loop-request : goal.invariant-loop-request
 invariant-loop-request g l =
-    l.moved.items ++ map (past_of (g.L.Look.state l.look)) (drop l.request-index l.requests) ≡ map (past_of (g.L.Look.state l.look)) l.requests
+    l.moved.items ++ map (past_of (g.R.Rows.state l.rows)) (drop l.request-index l.requests) ≡ map (past_of (g.R.Rows.state l.rows)) l.requests

@@ -1,11 +1,9 @@
-use Rattle.std.proofs.Common.{◌≡◌, ◌∙◌, List, sym, ap, subst}
-use Rattle.np_amount.specs.declared.amount.Amount.{Amount}
-use Rattle.np_awaited.specs.Awaited.{AreSmall, with_rest, without_rest}
+use Rattle.std.proofs.Common.{subst}
+use Rattle.np_site.specs.Sound.{IsSound}
+use Rattle.np_awaited.proofs.Noted.{amounts-after}
 use Rattle.np_awaited.proofs.awaited.Awaited.note.Goals as goal
 
 pub returns : goal.returns
-returns c =
-    let less : c.take_off.new.amounts.items ≡ without_rest c.args.before c.args.self.now = c.take_off.ensures ∙ ap (without_rest c.args.before) c.self.view_is in
-    λ small.
-    c.add.ensures (subst (λ (list : List Amount). AreSmall (with_rest c.args.after list)) (sym less) small)
-    ∙ ap (with_rest c.args.after) less
+returns g c site s ch reached planned stay before same_site later was =
+    amounts-after site (g.R.Rows.site c.args.rows.now) s (g.R.Rows.state c.args.rows.now) ch c.args.requests.now c.args.before c.first_rest-after.result c.args.self.now _
+    (subst IsSound c.config.ensures c.soundness.ensures) reached planned stay before c.first_rest-after.ensures same_site later c.exchange.ensures was

@@ -1,28 +1,21 @@
-use Rattle.std.proofs.Common.{◌∙◌, ap, subst}
-use Rattle.std.specs.Prelude.{List}
-use Rattle.np_text.specs.declared.id.RequestId.{RequestId}
-use Rattle.np_site.specs.Sound.{IsSound}
+use Rattle.std.proofs.Common.{ap}
 use Rattle.np_keys.specs.Keys.{is_node_before, same_node}
 use Rattle.np_machine.specs.Order.{is_id_before}
 use Rattle.np_machine.specs.Tables.{same_request}
 use Rattle.np_classes.specs.Placed.{placed_node, placed_queue, placed_request}
-use Rattle.np_classes.specs.Prepared.{first_rest}
-use Rattle.np_classes.proofs.Noted.{amounts-by, classes-noted, moved-by}
+use Rattle.np_classes.proofs.Noted.{classes-noted, moved-by}
 use Rattle.np_classes.proofs.classes.Classes.note.Goals as goal
 
 pub returns : goal.returns
-returns g c site s ch reached planned prepared same_site after was =
-    classes-noted site (g.L.Look.site c.args.look.now) s (g.L.Look.state c.args.look.now) ch c.args.touched.now c.args.self.now _ _
-    (moved-by is_node_before same_node (placed_node (g.L.Look.site c.args.look.now) (g.L.Look.state c.args.look.now)) _ _ _ _ _ _ _ _ _ _
+returns g c site s ch reached prepared same_site after was =
+    classes-noted site (g.R.Rows.site c.args.rows.now) s (g.R.Rows.state c.args.rows.now) ch c.args.touched.now c.args.self.now _
+    (moved-by is_node_before same_node (placed_node (g.R.Rows.site c.args.rows.now) (g.R.Rows.state c.args.rows.now)) _ _ _ _ _ _ _ _ _ _
     (ap (λ (x : _). x.nodes) c.self.view_is) (ap (λ (x : _). x.node_members) c.touched.view_is) (ap (λ (x : _). x.nodes) c.touched.view_is)
     c.as_slice.ensures.value c.as_slice-2.ensures.value c.take_out.ensures.members c.put_nodes.ensures)
-    (moved-by is_id_before same_request (placed_queue (g.L.Look.state c.args.look.now)) _ _ _ _ _ _ _ _ _ _
-    (moved-by is_id_before same_request (placed_request (g.L.Look.state c.args.look.now)) _ _ _ _ _ _ _ _ _ _
+    (moved-by is_id_before same_request (placed_queue (g.R.Rows.state c.args.rows.now)) _ _ _ _ _ _ _ _ _ _
+    (moved-by is_id_before same_request (placed_request (g.R.Rows.state c.args.rows.now)) _ _ _ _ _ _ _ _ _ _
     (ap (λ (x : _). x.requests) c.self.view_is) (ap (λ (x : _). x.request_members) c.touched.view_is) (ap (λ (x : _). x.requests) c.touched.view_is)
     c.as_slice-3.ensures.value c.as_slice-4.ensures.value c.take_out-2.ensures.members c.put_requests.ensures.members)
     (ap (λ (x : _). x.queue_members) c.touched.view_is) (ap (λ (x : _). x.queues) c.touched.view_is)
     c.as_slice-5.ensures.value c.as_slice-6.ensures.value c.take_out-3.ensures.members c.put_queues.ensures)
-    (c.first_rest-after.ensures ∙ ap (λ (requests : List RequestId). first_rest (g.L.Look.site c.args.look.now) (g.L.Look.state c.args.look.now) requests) (c.as_slice-7.ensures.value ∙ ap (λ (x : _). x.requests) c.touched.view_is))
-    (amounts-by _ _ _ _ _ _ (ap (λ (x : _). x.before) c.touched.view_is) (ap (λ (x : _). x.awaited) c.self.view_is) c.note.ensures)
-    (subst IsSound c.config.ensures c.soundness.ensures)
-    reached planned prepared same_site after was
+    reached prepared same_site after was

@@ -11,30 +11,30 @@ use Rattle.np_index.proofs.index.Index.candidate_at.Goals as goal
 
 pub loop-next-init : goal.loop-next-init
 loop-next-init g c =
-    let site = g.L.Look.site c.args.look.now in
-    let state = g.L.Look.state c.args.look.now in
+    let site = g.R.Rows.site c.args.rows.now in
+    let state = g.R.Rows.state c.args.rows.now in
     let are : AreOpen site state c.self.inside.requested = subst (λ index. AreOpen site state index.requested) (sym c.self.view_is) c.requires.index.requested in
     best-begins site state c.args.pool c.self.inside.requested are c.loop-place.after c.first_line-next.result c.first_line-next.ensures
 
 pub loop-next-smaller : goal.loop-next-smaller
 loop-next-smaller g c =
-    let site = g.L.Look.site c.args.look.now in
-    let state = g.L.Look.state c.args.look.now in
+    let site = g.R.Rows.site c.args.rows.now in
+    let state = g.R.Rows.state c.args.rows.now in
     let are : AreOpen site state c.self.inside.requested = subst (λ index. AreOpen site state index.requested) (sym c.self.view_is) c.requires.index.requested in
     lines-fall site state c.args.pool c.self.inside.requested are c.in-Some.line c.loop-next.next c.line_after-next.result c.in-Some.is c.line_after-next.ensures (omega arith)
 
 pub loop-next-preserved : goal.loop-next-preserved
 loop-next-preserved g c =
-    let site = g.L.Look.site c.args.look.now in
-    let state = g.L.Look.state c.args.look.now in
+    let site = g.R.Rows.site c.args.rows.now in
+    let state = g.R.Rows.state c.args.rows.now in
     let are : AreOpen site state c.self.inside.requested = subst (λ index. AreOpen site state index.requested) (sym c.self.view_is) c.requires.index.requested in
     best-next site state c.args.pool c.self.inside.requested are c.in-Some.line c.loop-next.next c.line_after-next.result c.in-Some.is c.line_after-next.ensures
     c.loop-place.after c.loop-next.best c.earlier_in_line-best.result c.earlier_in_line-best.ensures c.loop-next.invariant
 
 pub returns-in_err-found : goal.returns-in_err-found
 returns-in_err-found g c =
-    let site = g.L.Look.site c.args.look.now in
-    let state = g.L.Look.state c.args.look.now in
+    let site = g.R.Rows.site c.args.rows.now in
+    let state = g.R.Rows.state c.args.rows.now in
     let are : AreOpen site state c.self.inside.requested = subst (λ index. AreOpen site state index.requested) (sym c.self.view_is) c.requires.index.requested in
     let is : c.loop-next.best ≡ slice_get (candidate_ranks site state c.args.pool) c.loop-place._place =
     best-at site state c.args.pool c.self.inside.requested are c.loop-place._place c.loop-place.after c.loop-next.best c.loop-next.next c.in_default.is c.loop-place.invariant c.loop-next.invariant in
@@ -44,8 +44,8 @@ returns-in_err-found g c =
 
 pub loop-place-preserved : goal.loop-place-preserved
 loop-place-preserved g c =
-    let site = g.L.Look.site c.args.look.now in
-    let state = g.L.Look.state c.args.look.now in
+    let site = g.R.Rows.site c.args.rows.now in
+    let state = g.R.Rows.state c.args.rows.now in
     let are : AreOpen site state c.self.inside.requested = subst (λ index. AreOpen site state index.requested) (sym c.self.view_is) c.requires.index.requested in
     let is : c.loop-next.best ≡ slice_get (candidate_ranks site state c.args.pool) c.loop-place._place =
     best-at site state c.args.pool c.self.inside.requested are c.loop-place._place c.loop-place.after c.loop-next.best c.loop-next.next c.in_default.is c.loop-place.invariant c.loop-next.invariant in
@@ -54,8 +54,8 @@ loop-place-preserved g c =
 
 pub returns : goal.returns
 returns g c =
-    let site = g.L.Look.site c.args.look.now in
-    let state = g.L.Look.state c.args.look.now in
+    let site = g.R.Rows.site c.args.rows.now in
+    let state = g.R.Rows.state c.args.rows.now in
     let are : AreOpen site state c.self.inside.requested = subst (λ index. AreOpen site state index.requested) (sym c.self.view_is) c.requires.index.requested in
     let last : c.loop-place-test.after ≡ slice_get (candidate_ranks site state c.args.pool) c.args.at = elim c.loop-place-test.branch [
       | else-loop-place-test w ↦ absurd (omega arith)

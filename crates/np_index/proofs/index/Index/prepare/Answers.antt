@@ -1,4 +1,5 @@
-use Rattle.std.proofs.Common.{subst, sym}
+use Rattle.std.proofs.Common.{◌∙◌, ap, subst, sym}
+use Rattle.np_awaited.specs.Awaited.{first_rest}
 use Rattle.np_open.specs.Prepared.{AreListed}
 use Rattle.np_classes.proofs.Noted.{classes-same}
 use Rattle.np_given.specs.Given.{AreGivenGroups}
@@ -8,17 +9,19 @@ use Rattle.np_index.proofs.index.Index.prepare.Goals as goal
 
 pub returns-clause-ok : goal.returns-clause-ok
 returns-clause-ok g c =
-    let are = subst (IsIndexOf (g.L.Look.site c.args.look.now) (g.L.Look.state c.args.look.now)) (sym c.self.view_is) c.requires.index in
+    let are = subst (IsIndexOf (g.R.Rows.site c.args.rows.now) (g.R.Rows.state c.args.rows.now)) (sym c.self.view_is) c.requires.index in
     let ready = c.in_ok-touched.ensures.prepared in
     record {
       lookups = c.in_ok-lookups.ensures.ok;
       ends = c.in_ok-lookups.ensures.ends;
-      classes = classes-same _ _ _ _ c.prepare.ensures.nodes c.prepare.ensures.requests c.prepare.ensures.awaited are.classes;
+      classes = classes-same _ _ _ _ c.prepare.ensures.nodes c.prepare.ensures.requests are.classes;
+      awaited = are.awaited;
+      before = c.first_rest-before.ensures ∙ ap (first_rest (g.R.Rows.site c.args.rows.now) (g.R.Rows.state c.args.rows.now)) c.requests.ensures;
       touched = ready;
       requested = open-same _ _ _ _ c.prepare-2.ensures.members c.prepare-2.ensures.lines are.requested;
-      moved = c.in_ok-moved.ensures.prepared c.args.changes.now (subst (AreListed c.args.changes.now (g.L.Look.state c.args.look.now)) (sym c.requests.ensures) ready.requests);
+      moved = c.in_ok-moved.ensures.prepared c.args.changes.now (subst (AreListed c.args.changes.now (g.R.Rows.state c.args.rows.now)) (sym c.requests-2.ensures) ready.requests);
       active = active-same _ _ _ _ c.prepare-3.ensures.lines c.prepare-3.ensures.jobs c.prepare-3.ensures.handles c.prepare-3.ensures.sessions are.active;
-      given = subst (AreGivenGroups (g.L.Look.site c.args.look.now) (g.L.Look.state c.args.look.now)) (sym c.prepare-4.ensures.members) are.given;
+      given = subst (AreGivenGroups (g.R.Rows.site c.args.rows.now) (g.R.Rows.state c.args.rows.now)) (sym c.prepare-4.ensures.members) are.given;
       listed = c.in_ok-given.ensures.prepared;
       asker = c.in_ok-asker.ensures.asker;
       room = record {

@@ -6,8 +6,8 @@ use Rattle.np_lookups.proofs.lookups.Lookups.prepare.Goals as goal
 
 pub returns-clause-ok : goal.returns-clause-ok
 returns-clause-ok g c =
-    let site = g.L.Look.site c.args.look.now in
-    let state = g.L.Look.state c.args.look.now in
+    let site = g.R.Rows.site c.args.rows.now in
+    let state = g.R.Rows.state c.args.rows.now in
     let room : AreLookupsOf site state c.make_room.new.self = c.in_ok-make_room.ensures.same site state c.requires.are in
     let has_room : HasRoom state c.make_room.new.self = c.in_ok-make_room.ensures.room site state c.requires.are (sym c.sessions.ensures) in
     record {
@@ -22,6 +22,6 @@ returns-clause-ok g c =
 
 pub returns-clause-ends : goal.returns-clause-ends
 returns-clause-ends g c = λ session ends.
-    let site = g.L.Look.site c.args.look.now in
-    let state = g.L.Look.state c.args.look.now in
+    let site = g.R.Rows.site c.args.rows.now in
+    let state = g.R.Rows.state c.args.rows.now in
     ends-same site state c.args.changes.now _ session c.make_room.new.self _ c.requires.planned ends (c.in_ok-make_room.ensures.same site state c.requires.are) c.in_ok-added.ensures.ok

@@ -8,8 +8,8 @@ use Rattle.np_open.proofs.requests.Open.note.Goals as goal
 
 pub returns : goal.returns
 returns g c site s ch reached prepared same_site after was =
-    let now = g.L.Look.site c.args.look.now in
-    let state = g.L.Look.state c.args.look.now in
+    let now = g.R.Rows.site c.args.rows.now in
+    let state = g.R.Rows.state c.args.rows.now in
     open-noted site now s state ch c.args.moved.now c.args.self.now _ (ap (λ kept. kept.lines) c.self.view_is)
     (subst (λ (ms : List (Member Rank)). Moves c.args.self.now.lines c.args.moved.now ms c.move_all.new.groups.members now state) (ap (λ kept. kept.members) c.self.view_is)
     (subst (λ (moved : List Past). Moves c.args.self.now.lines moved c.self.inside.groups.members c.move_all.new.groups.members now state) (c.as_slice-2.ensures.value ∙ c.moved.view_is)
