@@ -1,4 +1,2 @@
-pub mod CanChange
-pub mod LeftLast
-pub mod TakenBack
-pub mod Keeper
+pub mod Ran
+pub mod Running

@@ -1,213 +1,101 @@
-//! The changes of one request or one node under its lock, and of the handles of semaphores.
+//! The changes of an accepted event, made in store, tables and index.
 
-pub(crate) mod handles;
+ghost use Rattle.std.specs.Prelude.{◌≡◌, IfOk, OnErr, OnOk};
+ghost use Rattle.np_changes.specs.Changes.{changed};
+ghost use Rattle.np_changes.specs.Planned.{IsPlanned, IsReached};
+ghost use Rattle.np_fits.specs.Fits.{Fits};
+ghost use Rattle.np_decision.specs.Verdicts.{answer_of};
+ghost use Rattle.np_changes.specs.Plan.{plan};
+ghost use Rattle.np_index.specs.Index.{IsIndexOf};
+ghost use Rattle.np_machine.specs.Step.{judge, next, reply_of};
 
-ghost use Rattle.np_machine.specs.declared.state.Locked.{Locked};
-ghost use Rattle.np_machine.specs.Entries.{NodeEntry};
-ghost use Rattle.np_machine.specs.Node.{allocated};
-ghost use Rattle.np_machine.specs.Semaphore.{in_use};
-ghost use Rattle.np_machine.specs.Tables.{freed_from, is_request, joined, left};
-ghost use Rattle.np_changes.specs.Changes.{edited};
-ghost use Rattle.np_rules.specs.CanChange.{edited_in_room, has_room};
-ghost use Rattle.std.specs.Prelude.{◌≡◌, true};
+use np_changes::Changes;
+use np_decision::Verdict;
+use np_event::{Event, Refusal, Reply};
+use np_index::{Index, ending};
+use np_look::Store;
+use np_tables::Tables;
+use std::alloc::{AllocError, Global};
 
-use np_changes::RequestEdit;
-use np_machine::{Locked, NodeEntry, RequestEntry};
-use np_record::{Declined, NodeRow, RequestRecord};
-use np_table::RowChange;
-use np_text::{JOB_LABELS, NodeState, POOLS, RequestId, RequestState, SessionId, TenantId};
-use std::alloc::AllocError;
-use std::convert::Infallible;
-
-/// Another record.
-#[derive(Drop)]
-pub struct Put<K> {
-    pub kept: K,
-}
-
-/// The request's record is edited, if its rows have room.
-#[derive(Drop)]
-pub struct Edit {
-    pub edit: RequestEdit,
-}
-
-/// The session joins the queue, unless it is there.
-#[derive(Drop)]
-pub struct Join {
-    pub session: SessionId,
-}
-
-/// The session leaves the queue.
-#[derive(Drop)]
-pub struct Leave {
-    pub session: SessionId,
-}
-
-/// The node is allocated to the request, for the tenant, and the session joins its queue, unless it
-/// is there.
-#[derive(Drop)]
-pub struct Allocate {
-    pub request: RequestId,
-    pub tenant: Option<TenantId>,
-    pub session: SessionId,
-}
-
-/// The node is freed, if it is allocated to the request.
-#[derive(Drop)]
-pub struct Free {
-    pub request: RequestId,
-}
-
-/// The node is in use from this tick.
-#[derive(Drop)]
-pub struct TakeOver {
-    pub tick: u32,
-}
-
-impl<I, K: Copy> RowChange<Locked<I, K>> for Put<K> {
-    type Error = Infallible;
-
-    ghost after = { λ put row. record row { kept = put.kept } };
-
-    fn make(&self, row: &mut Locked<I, K>) -> Result<(), Infallible> {
-        row.kept = self.kept;
-        Ok(())
-    }
-}
-
-/// Whether the record's rows have room for the edit.
-fn has_room(edit: RequestEdit, kept: &RequestRecord) -> bool
-    ensures { result ≡ has_room edit kept.now }
+/// Makes the changes: all memory first, then in the store, then in tables and index. If memory runs
+/// out, the state stays everywhere.
+fn change<S: Store>(
+    alloc: Global,
+    tables: &mut Tables,
+    index: &mut Index,
+    store: &mut S,
+    changes: &Changes,
+) -> Result<(), AllocError>
+    requires reached { IsReached tables.old.configuration tables.old.state }
+    requires fits { Fits tables.old.configuration tables.old.state }
+    requires planned { IsPlanned tables.old.configuration tables.old.state changes.now }
+    requires index { IsIndexOf tables.old.configuration tables.old.state index.old }
+    requires held { S.holds store.old tables.old.configuration tables.old.state }
+    ensures configuration { tables.new.configuration ≡ tables.old.configuration }
+    ensures ok { OnOk result
+        (tables.new.state ≡ changed tables.old.configuration changes.now tables.old.state) }
+    ensures err { OnErr result (tables.new.state ≡ tables.old.state) }
+    ensures index { IsIndexOf tables.new.configuration tables.new.state index.new }
+    ensures held { S.holds store.new tables.new.configuration tables.new.state }
+    ensures later { S.later store.old store.new }
 {
-    match edit {
-        RequestEdit::AddNode { node: _ } => (kept.nodes.len() as usize) < JOB_LABELS,
-        RequestEdit::Decline { .. } => (kept.declined.len() as usize) < POOLS,
-        RequestEdit::Serve { pool: _ }
-        | RequestEdit::Fulfil
-        | RequestEdit::GiveBack
-        | RequestEdit::Fail
-        | RequestEdit::Revise { relative: _ } => true,
+    let prepared = index.prepare(alloc, tables, changes)?;
+    let reserved = match tables.reserve(changes) {
+        Ok(reserved) => reserved,
+        Err(fault) => {
+            index.take_back(changes, &prepared);
+            return Err(fault);
+        }
+    };
+    if let Err(_) = store.write(tables, changes) {
+        index.take_back(changes, &prepared);
+        return Err(AllocError);
     }
+    let session = ending(&changes.sessions);
+    tables.change(
+        changes,
+        reserved,
+        index.requests_of(session),
+        index.nodes_of(session),
+    );
+    index.note(tables, changes, &prepared);
+    Ok(())
 }
 
-/// The record is edited in place.
-fn edit_record(edit: RequestEdit, kept: &mut RequestRecord)
-    requires { has_room edit kept.old ≡ true }
-    ensures { kept.new ≡ edited edit kept.old }
+/// The reply to an event that is decided, with its changes made if it is accepted. If memory runs
+/// out, the state stays everywhere.
+pub(crate) fn step<S: Store>(
+    alloc: Global,
+    tables: &mut Tables,
+    index: &mut Index,
+    store: &mut S,
+    event: Event,
+    decided: Result<Verdict, Refusal>,
+) -> Result<Reply, AllocError>
+    requires reached { IsReached tables.old.configuration tables.old.state }
+    requires fits { Fits tables.old.configuration tables.old.state }
+    requires answer { answer_of decided ≡
+        judge tables.old.configuration tables.old.state event }
+    requires changes { IfOk decided
+        (λ v. v.changes ≡ plan tables.old.configuration tables.old.state event) }
+    requires index { IsIndexOf tables.old.configuration tables.old.state index.old }
+    requires held { S.holds store.old tables.old.configuration tables.old.state }
+    ensures configuration { tables.new.configuration ≡ tables.old.configuration }
+    ensures reply { IfOk result (λ r. r ≡
+        reply_of (judge tables.old.configuration tables.old.state event)) }
+    ensures ok { OnOk result
+        (tables.new.state ≡ next tables.old.configuration tables.old.state event) }
+    ensures err { OnErr result (tables.new.state ≡ tables.old.state) }
+    ensures index { IsIndexOf tables.new.configuration tables.new.state index.new }
+    ensures held { S.holds store.new tables.new.configuration tables.new.state }
+    ensures later { S.later store.old store.new }
 {
-    match edit {
-        RequestEdit::Serve { pool } => {
-            kept.pool = Some(pool);
-            kept.state = RequestState::Pending;
+    let _event = event;
+    match decided {
+        Err(refusal) => Ok(Reply::Refused(refusal)),
+        Ok(verdict) => {
+            change(alloc, tables, index, store, &verdict.changes)?;
+            Ok(Reply::Done(verdict.done))
         }
-        RequestEdit::AddNode { node } => {
-            let _room = kept.nodes.push(node);
-        }
-        RequestEdit::Decline {
-            pool,
-            reason,
-            failed,
-        } => {
-            let _room = kept.declined.push(Declined { pool, reason });
-            kept.nodes = NodeRow::new();
-            kept.pool = None;
-            kept.state = if failed {
-                RequestState::Failed
-            } else {
-                RequestState::Requested
-            };
-        }
-        RequestEdit::Fulfil => kept.state = RequestState::Fulfilled,
-        RequestEdit::GiveBack => {
-            kept.nodes = NodeRow::new();
-            kept.pool = None;
-            kept.state = RequestState::Requested;
-        }
-        RequestEdit::Fail => kept.state = RequestState::Failed,
-        RequestEdit::Revise { relative } => kept.relative_priority = relative,
-    }
-}
-
-impl RowChange<RequestEntry> for Edit {
-    type Error = Infallible;
-
-    ghost after = { λ edit row. record row { kept = edited_in_room edit.edit row.kept } };
-
-    fn make(&self, row: &mut RequestEntry) -> Result<(), Infallible> {
-        if has_room(self.edit, &row.kept) {
-            edit_record(self.edit, &mut row.kept);
-        }
-        Ok(())
-    }
-}
-
-impl<I, K> RowChange<Locked<I, K>> for Join {
-    type Error = AllocError;
-
-    ghost after = { λ join row. record row { queue = joined join.session row.queue } };
-
-    fn make(&self, row: &mut Locked<I, K>) -> Result<(), AllocError> {
-        row.queue.join(self.session)?;
-        Ok(())
-    }
-}
-
-impl<I, K> RowChange<Locked<I, K>> for Leave {
-    type Error = Infallible;
-
-    ghost after = { λ leave row. record row { queue = left leave.session row.queue } };
-
-    fn make(&self, row: &mut Locked<I, K>) -> Result<(), Infallible> {
-        row.queue.leave(self.session);
-        Ok(())
-    }
-}
-
-impl RowChange<NodeEntry> for Allocate {
-    type Error = AllocError;
-
-    ghost after = { λ allocate row. allocated allocate.request allocate.tenant allocate.session row };
-
-    fn make(&self, row: &mut NodeEntry) -> Result<(), AllocError> {
-        row.queue.join(self.session)?;
-        row.kept.allocated_to = Some(self.request);
-        row.kept.tenant = self.tenant;
-        Ok(())
-    }
-}
-
-/// Whether the allocation is to the request.
-fn is_allocated_to(request: RequestId, found: Option<RequestId>) -> bool
-    ensures { result ≡ is_request request found }
-{
-    match found {
-        None => false,
-        Some(other) => other.priority == request.priority && other.seq == request.seq,
-    }
-}
-
-impl RowChange<NodeEntry> for Free {
-    type Error = Infallible;
-
-    ghost after = { λ free row. freed_from free.request row };
-
-    fn make(&self, row: &mut NodeEntry) -> Result<(), Infallible> {
-        if is_allocated_to(self.request, row.kept.allocated_to) {
-            row.kept.allocated_to = None;
-            row.kept.tenant = None;
-        }
-        Ok(())
-    }
-}
-
-impl RowChange<NodeEntry> for TakeOver {
-    type Error = Infallible;
-
-    ghost after = { λ take_over row. in_use take_over.tick row };
-
-    fn make(&self, row: &mut NodeEntry) -> Result<(), Infallible> {
-        row.kept.since = self.tick;
-        row.kept.state = NodeState::InUse;
-        Ok(())
     }
 }

@@ -1,30 +1,20 @@
-//! The machine over vectors.
+//! The machine.
 //!
 //! np_machine defines the reply to each event and the state that it leaves, and np_decision decides
-//! both for anything that keeps a state. `keeper` keeps it in vectors: `tables` has the lists,
-//! `walk` the readers that scan every row, `grow` the changes that may take memory, `settle` those
-//! that may not fail, and `ends` how a session that ends leaves its queues. `Plain` is the machine
-//! over vectors, with its journal (np_journal).
+//! both. A `Machine` keeps the state in tables (np_tables), with an index beside them by which it
+//! answers searches (np_index), and the journal that led to it. What an accepted event changes is
+//! written to a store before the tables take it: `replay` and `audit` play the machine over no
+//! store (`Plain`), and the board (np_board) over a coordination tree.
 //!
-//! Requests, nodes and swept pairs are in the order of their keys (`keys`), and one of them is
-//! changed by one of the changes in `change`. The vectors have the rows and nothing besides: what
-//! a pool uses, or which of its nodes are unused, is read by a scan of all nodes. An index beside the
-//! vectors, or beside any other keeper, answers such readers (np_index). `specs` has only what this
-//! code needs besides the definitions.
+//! An event goes so. `decide` reads tables and index, and answers a refusal or what changes. Then
+//! index, tables and journal take all memory that the change needs; then the store writes; up to
+//! here anything may fail, and the state stays. Last tables, index and journal take the change,
+//! which can't fail (`change`).
 #![tactic(auto)]
 
 mod change;
-mod ends;
-mod grow;
-mod keeper;
-mod keys;
+mod machine;
 mod plain;
-mod queues;
-mod roles;
-mod settle;
-mod start;
-mod tables;
-mod walk;
 
-pub use keeper::VecKeeper;
+pub use machine::Machine;
 pub use plain::{Plain, new_plain};

@@ -1,21 +1,24 @@
-//! The machine over vectors.
+//! The machine over no store.
 
 ghost use Rattle.std.specs.Prelude.{◌≡◌, [], IfOk};
 ghost use Rattle.np_machine.specs.State.{start};
 
-use crate::keeper::{VecKeeper, is_sound};
+use crate::machine::Machine;
 use np_config::Config;
-use np_journal::JournalKeeper;
-use std::alloc::{AllocError, Global};
+use np_text::NoMemory;
+use std::alloc::Global;
 
-/// The machine over vectors, with its journal.
-pub type Plain = JournalKeeper<VecKeeper>;
+/// The machine over no store.
+pub type Plain = Machine<()>;
 
 /// The machine before the first event.
-pub fn new_plain(alloc: Global, config: Config) -> Result<Plain, AllocError>
-    ensures { IfOk result (λ m. m ≡ record { configuration = config; journal = []; state = start config }) }
+pub fn new_plain(alloc: Global, config: Config) -> Result<Plain, NoMemory>
+    ensures { IfOk result (λ m. m ≡ record {
+      configuration = config;
+      journal = [];
+      state = start config;
+      store = tt;
+    }) }
 {
-    is_sound(&config);
-    let keeper = VecKeeper::new(alloc, config)?;
-    Ok(JournalKeeper::begin(alloc, keeper))
+    Machine::begin(alloc, config, ())
 }

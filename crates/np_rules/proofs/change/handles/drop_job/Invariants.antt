@@ -1,9 +1,0 @@
-use Rattle.std.proofs.Common.{◌≡◌, length}
-use Rattle.np_machine.specs.Semaphore.{without_handle}
-use Rattle.np_rules.proofs.change.handles.drop_job.Given as goal
-
-abbrev pub invariant-loop-job : goal.invariant-loop-job
-invariant-loop-job l = without_handle l.job l.jobs ≡ without_handle l.job l.initial.jobs
-
-abbrev pub decreases-loop-job : goal.decreases-loop-job
-decreases-loop-job l = length l.jobs

@@ -1,0 +1,21 @@
+use Rattle.std.proofs.Common.{◌≡◌, ◌∙◌, sym, ap, true, Result}
+use Rattle.std.specs.Prelude.{is_ok}
+use Rattle.np_event.specs.declared.reply.Refusal.{Refusal}
+use Rattle.np_machine.specs.Step.{judge}
+use Rattle.np_changes.specs.declared.changes.Changes.{Changes}
+use Rattle.np_changes.specs.Changes.{changed}
+use Rattle.np_changes.specs.Plan.{plan}
+use Rattle.np_changes.proofs.PlanLaws.{plan-next}
+use Rattle.np_decision.specs.Verdicts.{answer_of}
+use Rattle.np_decision.specs.declared.verdict.Verdict.{Verdict}
+use Rattle.np_rules.proofs.change.step.Goals as goal
+
+pub returns-in_ok-change-in-Ok-clause-ok : goal.returns-in_ok-change-in-Ok-clause-ok
+returns-in_ok-change-in-Ok-clause-ok g c =
+    let site = c.args.tables.now.configuration in
+    let state = c.args.tables.now.state in
+    let accepted : is_ok (judge site state c.args.event) ≡ true = sym (ap (λ answer. is_ok answer) c.requires.answer) ∙ ap (λ (d : Result Verdict Refusal). is_ok (answer_of d)) c.in-Ok.is in
+    let changes : c.in-Ok.verdict.changes ≡ plan site state c.args.event = rw c.in-Ok.is at c.requires.changes in
+    c.in_ok-change-in-Ok.ensures.ok
+    ∙ ap (λ (ch : Changes). changed site ch state) changes
+    ∙ plan-next site state c.args.event accepted

@@ -1,7 +1,0 @@
-use Rattle.std.proofs.Common.{◌≡◌, drop}
-use Rattle.np_keys.specs.Keys.{same_node}
-use Rattle.np_rules.proofs.LeaveLemmas.{each_left}
-use Rattle.np_rules.proofs.ends.leave_nodes.Given as goal
-
-abbrev pub invariant-loop-node : goal.invariant-loop-node
-invariant-loop-node l = each_left same_node l.session (drop l.node-index l.ids) l.nodes ≡ each_left same_node l.session l.ids l.initial.nodes

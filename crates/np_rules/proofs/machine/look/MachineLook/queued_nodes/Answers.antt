@@ -1,0 +1,8 @@
+use Rattle.std.proofs.Common.{length, ap, arith}
+use Rattle.np_lookups.proofs.Few.{few-nodes}
+use Rattle.np_rules.proofs.machine.look.MachineLook.queued_nodes.Goals as goal
+
+pub number_of-requires : goal.number_of-requires
+number_of-requires g c =
+    let list = c.nodes_of-nodes.ensures c.self.inside.tables.configuration c.self.inside.tables.state c.self.invariant.index in
+    omega (arith, ap length list, few-nodes c.args.session c.self.inside.tables.state, c.nodes.ensures)

@@ -1,0 +1,8 @@
+use Rattle.std.proofs.Common.{length, ap, arith}
+use Rattle.np_lookups.proofs.Few.{few-requests}
+use Rattle.np_rules.proofs.machine.look.MachineLook.queued_requests.Goals as goal
+
+pub number_of-requires : goal.number_of-requires
+number_of-requires g c =
+    let list = c.requests_of-requests.ensures c.self.inside.tables.configuration c.self.inside.tables.state c.self.invariant.index in
+    omega (arith, ap length list, few-requests c.args.session c.self.inside.tables.state, c.requests.ensures)

@@ -1,8 +1,0 @@
-use Rattle.std.proofs.Common.{◌≡◌, drop}
-use Rattle.std.specs.Prelude.{filter, map, slice_get}
-use Rattle.np_machine.specs.Tables.{is_queued}
-use Rattle.np_rules.proofs.queues.queued_at.Given as goal
-
-abbrev pub invariant-loop-row : goal.invariant-loop-row
-invariant-loop-row g l =
-    slice_get (map (λ e. e.id) (filter (λ e. is_queued l.session e.queue) (drop l.row-index l.rows))) l.left ≡ slice_get (map (λ e. e.id) (filter (λ e. is_queued l.session e.queue) l.rows)) l.at

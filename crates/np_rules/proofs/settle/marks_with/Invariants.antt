@@ -1,6 +1,0 @@
-use Rattle.std.proofs.Common.{◌≡◌, take, map}
-use Rattle.np_machine.specs.Node.{marked}
-use Rattle.np_rules.proofs.settle.marks_with.Given as goal
-
-abbrev pub invariant-loop-mark : goal.invariant-loop-mark
-invariant-loop-mark l = l.row ≡ map (marked l.node) (take l.mark-index l.marks)

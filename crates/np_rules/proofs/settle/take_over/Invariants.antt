@@ -1,6 +1,0 @@
-use Rattle.std.proofs.Common.{◌≡◌, drop}
-use Rattle.np_machine.specs.Semaphore.{all_in_use}
-use Rattle.np_rules.proofs.settle.take_over.Given as goal
-
-abbrev pub invariant-loop-node : goal.invariant-loop-node
-invariant-loop-node l = all_in_use l.tick (drop l.node-index l.numbers) l.nodes ≡ all_in_use l.tick l.numbers l.initial.nodes
