@@ -22,7 +22,7 @@ use Rattle.np_layout.specs.Layout.{AreLaunchers, AreSemaphores, HasHandles, unde
 use Rattle.np_layout.specs.Rows.{by_name, handle_row, launcher_row}
 use Rattle.np_layout.proofs.SetLists.{at-range, within}
 use Rattle.np_layout.proofs.SetSteps.{named-other}
-use Rattle.np_enact.specs.Carried.{AreHolders}
+use Rattle.np_layout.specs.Carried.{AreHolders}
 use Rattle.np_decode.specs.Decoded.{handle_at, owner_of, registration_at}
 use Rattle.np_decode.proofs.Lists.{filter_map-range, map-places}
 use Rattle.np_decode.proofs.Named.{find-keyed}

@@ -6,7 +6,7 @@ use Rattle.np_nodes.specs.TreeState.{TreeState}
 use Rattle.np_site.specs.Configuration.{Configuration}
 use Rattle.np_machine.specs.State.{State}
 use Rattle.np_places.specs.declared.place.Place.TheVariants.{LauncherRole, JanitorRole, RequesterRole}
-use Rattle.np_enact.specs.Carried.{IsStored}
+use Rattle.np_layout.specs.Carried.{IsStored}
 use Rattle.np_decode.specs.Decoded.{TreesHaveOneState, decoded, handle_at, handles_at, janitors_at, job_at, jobs_at, launchers_at, registrations_at, requesters_at, role_at}
 use Rattle.np_decode.proofs.Entries.{nodes-same, requests-same, sessions-same}
 use Rattle.np_decode.proofs.Marks.{handles-same, registrations-same}

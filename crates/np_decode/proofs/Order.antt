@@ -9,7 +9,7 @@ use Rattle.np_machine.specs.declared.state.Swept.{Swept}
 use Rattle.np_views.specs.Views.{Row, row_before, with_row}
 use Rattle.np_layout.specs.Rows.{by_name}
 use Rattle.np_layout.proofs.FirstKinds.{rows_put}
-use Rattle.np_enact.specs.Carried.{is_pair_before}
+use Rattle.np_layout.specs.Carried.{is_pair_before}
 
 -- ## pairs
 

@@ -10,7 +10,7 @@ use Rattle.np_places.specs.Place.{IsGood}
 use Rattle.np_places.specs.declared.place.Place.TheVariants.{Swept as SweptPlace}
 use Rattle.np_layout.specs.Layout.{AreSwept}
 use Rattle.np_layout.specs.Rows.{swept_row}
-use Rattle.np_enact.specs.Carried.{is_pair_before}
+use Rattle.np_layout.specs.Carried.{is_pair_before}
 use Rattle.np_decode.specs.Decoded.{pair_named, swept_at}
 use Rattle.np_decode.proofs.Lists.{map-back}
 use Rattle.np_decode.proofs.Order.{put_all, put_all-by_name, put_all-rises}

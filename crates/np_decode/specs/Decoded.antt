@@ -35,7 +35,7 @@ use Rattle.np_places.specs.declared.place.Place.{Place}
 use Rattle.np_places.specs.declared.place.Place.TheVariants.{Requests, RequestLock, Nodes, NodeLock, Launchers, Launcher, Semaphore, Handle, Job, LauncherRole, JanitorRole, RequesterRole, Sessions, SweptPairs, Tick}
 use Rattle.np_layout.specs.Layout.{next_under, under}
 use Rattle.np_layout.specs.Rows.{places, tree_session}
-use Rattle.np_enact.specs.Carried.{IsStored, is_pair_before}
+use Rattle.np_layout.specs.Carried.{IsStored, is_pair_before}
 
 -- ## what the tree shows of a place
 

@@ -38,7 +38,8 @@ use Rattle.np_layout.proofs.DeleteEnds.{session_ends-lay-out}
 use Rattle.np_enact.specs.Events.{EventsEnact, IsEnacted, IsReady, called, in_call}
 use Rattle.np_enact.specs.Parts.{enacted, grown_parts, parts_of, settled_parts, with_begin, with_end, writer}
 use Rattle.np_enact.specs.Stands.{Enacts, Stands}
-use Rattle.np_enact.specs.Ways.{GrowthReady, GrowthsEnact, HasSpellings}
+use Rattle.np_layout.specs.Carried.{HasSpellings}
+use Rattle.np_enact.specs.Ways.{GrowthReady, GrowthsEnact}
 use Rattle.np_enact.proofs.Calls.{goes-begun, good-ended, number-of, numbered, parts-begun, room-ended, stands-numbered}
 use Rattle.np_enact.proofs.Settled.{SettledReady, TablesEnact, grown-tree, same-requests, same-tick, settled-current, settled-enact, with_all}
 use Rattle.np_enact.proofs.StandsLemmas.{enacts-joined, stands-less}

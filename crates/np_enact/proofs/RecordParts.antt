@@ -37,7 +37,8 @@ use Rattle.np_layout.proofs.SetSessions.{mutes-lay-out}
 use Rattle.np_layout.proofs.SetTicks.{ticks-lay-out}
 use Rattle.np_enact.specs.Parts.{role_parts, where_there}
 use Rattle.np_enact.specs.Stands.{Enacts, Stands}
-use Rattle.np_enact.specs.Ways.{DeedsEnact, HasSpellings, JobsEnact, SessionsEnact, TicksEnact}
+use Rattle.np_layout.specs.Carried.{HasSpellings}
+use Rattle.np_enact.specs.Ways.{DeedsEnact, JobsEnact, SessionsEnact, TicksEnact}
 use Rattle.np_enact.proofs.StandsLemmas.{enacts-none, enacts-set, stands-less}
 use Rattle.np_enact.proofs.Lengths.{job-short, role-short, session-short}
 

@@ -47,7 +47,8 @@ use Rattle.np_layout.specs.Deletes.{AreDistinct}
 use Rattle.np_enact.specs.Events.{IsApart, in_call}
 use Rattle.np_enact.specs.Parts.{deed_parts, grown_parts, handles_parts, jobs_parts, nodes_parts, requests_parts, role_parts, session_parts, settled_parts, tick_parts, where_there, with_begin, writer}
 use Rattle.np_enact.specs.Stands.{Enacts, Stands}
-use Rattle.np_enact.specs.Ways.{DeedsEnact, HandlesEnact, HasSpellings, JobsEnact, NodesEnact, NodesReady, RequestsEnact, SessionReady, SessionsEnact, TicksEnact, WaitOnce, with_deeds}
+use Rattle.np_layout.specs.Carried.{HasSpellings}
+use Rattle.np_enact.specs.Ways.{DeedsEnact, HandlesEnact, JobsEnact, NodesEnact, NodesReady, RequestsEnact, SessionReady, SessionsEnact, TicksEnact, WaitOnce, with_deeds}
 use Rattle.np_enact.proofs.StandsLemmas.{enacts-joined, enacts-none, stands-less}
 
 -- ## what grows beside a change of requests or nodes

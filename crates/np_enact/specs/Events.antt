@@ -22,7 +22,8 @@ use Rattle.np_layout.specs.Layout.{LaysOut}
 use Rattle.np_layout.specs.Sets.{HasGoodIds}
 use Rattle.np_enact.specs.Parts.{enacted, parts_of, writer}
 use Rattle.np_enact.specs.Stands.{Stands}
-use Rattle.np_enact.specs.Ways.{GrowthReady, HasSpellings, NodesReady, SessionReady, WaitOnce}
+use Rattle.np_layout.specs.Carried.{HasSpellings}
+use Rattle.np_enact.specs.Ways.{GrowthReady, NodesReady, SessionReady, WaitOnce}
 
 -- the end of a session has no part in the call
 abbrev pub in_call : SessionsChange → SessionsChange

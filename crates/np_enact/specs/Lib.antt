@@ -2,4 +2,3 @@ pub mod Parts
 pub mod Stands
 pub mod Ways
 pub mod Events
-pub mod Carried

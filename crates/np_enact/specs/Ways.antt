@@ -26,21 +26,10 @@ use Rattle.np_changes.specs.declared.changes.SessionsChange.{SessionsChange}
 use Rattle.np_changes.specs.declared.changes.SessionsChange.TheVariants as sessions
 use Rattle.np_places.specs.Place.{IsGood}
 use Rattle.np_places.specs.declared.place.Place.TheVariants.{Request, Launcher, Swept}
+use Rattle.np_layout.specs.Carried.{HasSpellings}
 use Rattle.np_layout.specs.Deletes.{AreDistinct}
 use Rattle.np_enact.specs.Parts.{deed_parts, grown_parts, handles_parts, jobs_parts, nodes_of, nodes_parts, requests_parts, session_parts, tick_parts, with_begin, writer}
 use Rattle.np_enact.specs.Stands.{Enacts, Stands}
-
--- ## records
-
--- each record of the state has a spelling
-pub record HasSpellings (s : State) : Type 0 where
-  pub requests : AllByRecursion (λ e. IsRequest e.kept) s.requests
-  pub nodes : AllByRecursion (λ e. IsNode e.kept) s.nodes
-  pub jobs : AllByRecursion IsJob s.jobs
-  pub launchers : AllByRecursion IsRole s.launchers
-  pub janitors : AllByRecursion IsRole s.janitors
-  pub requesters : AllByRecursion IsRole s.requesters
-  pub sessions : AllByRecursion (λ f. IsSessionRole f.role) s.sessions
 
 -- ## what grows
 

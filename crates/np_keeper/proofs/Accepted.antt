@@ -9,7 +9,7 @@ use Rattle.np_changes.specs.declared.changes.Changes.{Changes}
 use Rattle.np_changes.proofs.PlanLaws.{plan-next}
 use Rattle.np_fits.specs.Fits.{Fits}
 use Rattle.np_safe.proofs.Runs.{invariant-Runs}
-use Rattle.np_enact.specs.Carried.{IsCarried}
+use Rattle.np_layout.specs.Carried.{IsCarried}
 use Rattle.np_enact.specs.Events.{IsReady}
 use Rattle.np_ready.specs.Ready.{IsAccepted, IsTyped}
 use Rattle.np_ready.proofs.Carried.{steps-are-carried}

@@ -23,15 +23,15 @@ use Rattle.np_changes.specs.declared.changes.Growth.TheVariants as grow
 use Rattle.np_changes.specs.declared.changes.SessionsChange.{SessionsChange}
 use Rattle.np_changes.specs.declared.changes.SessionsChange.TheVariants as sessions
 use Rattle.np_layout.specs.Rows.{tree_session}
-use Rattle.np_enact.specs.Carried.{IsStored}
+use Rattle.np_layout.specs.Carried.{IsStored}
 use Rattle.np_enact.specs.Events.{EventsEnact, IsEnacted}
 use Rattle.np_enact.specs.Parts.{enacted, parts_of, with_begin, with_end, writer}
 use Rattle.np_enact.specs.Stands.{Stands}
 use Rattle.np_enact.proofs.Calls.{changes-after, number-of}
 use Rattle.np_enact.proofs.StandsLemmas.{room-less}
 use Rattle.np_decode.specs.Decoded.{TreesHaveOneState, decoded}
-use Rattle.np_keeper.specs.Keeper.{CanBegin, CanEnd, HasSpare, IsHeld, MayChange, most_changes, room_left}
-use Rattle.np_keeper.proofs.Lives.{live-session, session-low, writer-lives}
+use Rattle.np_keeper.specs.Keeper.{CanBegin, CanEnd, CanMake, HasSpare, Holds, IsHeld, MayChange, made, most_changes, room_left}
+use Rattle.np_keeper.proofs.Lives.{live-session, session-low, writer-lives, writer-low}
 use Rattle.np_keeper.proofs.Spared.{held-spared}
 
 -- ## the change number
@@ -167,7 +167,7 @@ end-by c t k ch (sessions.End session) premise u keeps few =
     (omega arith, ap (λ (live : List ℕ). is_in live (tree_session session)) same ∙ live-session c t session premise.facts premise.begun ∙ premise.live)
 
 -- an end does not see the spare
-end-spared : (change : SessionsChange) (u : TreeState) (k : ℕ) → with_end change (with_spare u k) ≡ with_spare (with_end change u) k
+pub end-spared : (change : SessionsChange) (u : TreeState) (k : ℕ) → with_end change (with_spare u k) ≡ with_spare (with_end change u) k
 end-spared sessions.Same u k = refl
 end-spared (sessions.Mute session) u k = refl
 end-spared (sessions.End session) u k = refl
@@ -252,14 +252,32 @@ module _ (enact : EventsEnact) (one : TreesHaveOneState) (c : Configuration) (ch
   pub can-end : (k : ℕ) → CanEnd ch.sessions (with_spare (with_begin ch.grows (after_multi t w parts)) k)
   can-end k = end-by c t k ch ch.sessions may.ready.premises.sessions (after_multi t w parts) (multi-sessions t w parts) may.few
 
-  -- the tree after them with another spare, which a session that began left
-  abbrev pub ended : ℕ → TreeState
-  ended k = with_end ch.sessions (with_spare (with_begin ch.grows (after_multi t w parts)) k)
+-- ## a tree that holds a state
 
-  -- it is held
-  pub held-ended : (k : ℕ) → IsHeld c (ended k)
-  held-ended k = subst (IsHeld c) (sym (end-spared ch.sessions (with_begin ch.grows (after_multi t w parts)) k)) (held-spared c after k held-later)
+module _ (enact : EventsEnact) (one : TreesHaveOneState) (c : Configuration) (ch : Changes) (s : State) (t : TreeState) (holds : Holds c s t) (low : t.changes < 16_777_214) (may : MayChange c ch s) where
+  may-here : MayChange c ch (decoded c t)
+  may-here = subst (MayChange c ch) (sym holds.state) may
 
-  -- the changed state is read from it
-  pub decoded-ended : (k : ℕ) → decoded c (ended k) ≡ changed c ch s
-  decoded-ended k = ap (decoded c) (end-spared ch.sessions (with_begin ch.grows (after_multi t w parts)) k) ∙ decoded-later
+  -- the parts can be made
+  pub can-make : (ops : List Op) → ops ≡ parts_of c ch s t → HasSpare ch.grows t → CanMake ch ops t
+  can-make ops is spare = subst (λ (list : List Op). CanMake ch list t) (sym is) (subst (λ (x : State). CanMake ch (parts_of c ch x t) t) holds.state (record {
+    session = writer-low (decoded c t) ch.maker may-here.ready.premises.maker may-here.few;
+    goes = goes-held enact one c ch t holds.held low may-here;
+    begins = can-begin enact one c ch t holds.held low may-here spare;
+    ends = can-end enact one c ch t holds.held low may-here;
+    number = omega arith;
+    next = number-low enact one c ch t holds.held low may-here;
+  }))
+
+  made-here : (k : ℕ) → Holds c (changed c ch (decoded c t)) (with_spare (made ch (parts_of c ch (decoded c t) t) t) k)
+  made-here k = record {
+    held = held-spared c (enacted c ch (decoded c t) t) k (held-later enact one c ch t holds.held low may-here);
+    state = decoded-later enact one c ch t holds.held low may-here;
+  }
+
+  -- and the tree after them holds the changed state, whichever spare a session that began left
+  pub holds-made : (ops : List Op) (u : TreeState) → ops ≡ parts_of c ch s t → u ≡ with_spare (made ch ops t) u.spare → Holds c (changed c ch s) u
+  holds-made ops u is after =
+      let whole : u ≡ with_spare (made ch (parts_of c ch s t) t) u.spare = after ∙ ap (λ (list : List Op). with_spare (made ch list t) u.spare) is in
+      subst (Holds c (changed c ch s)) (sym whole)
+      (subst (λ (x : State). Holds c (changed c ch x) (with_spare (made ch (parts_of c ch x t) t) u.spare)) holds.state (made-here u.spare))

@@ -24,7 +24,7 @@ use Rattle.np_spelling.specs.Spelling.{job_text, role_text}
 use Rattle.np_layout.specs.First.{first_directories, first_parts, first_tree, make, make_each}
 use Rattle.np_layout.proofs.FirstTrees.{first-goes, first-lays}
 use Rattle.np_enact.proofs.StandsLemmas.{room-after}
-use Rattle.np_enact.specs.Carried.{IsStored}
+use Rattle.np_layout.specs.Carried.{IsStored}
 use Rattle.np_enact.proofs.Calls.{changes-after}
 use Rattle.np_enact.proofs.StandsLemmas.{room-less}
 use Rattle.np_ready.proofs.Starts.{starts-are-carried}

@@ -5,3 +5,4 @@ pub mod Laws
 pub mod Accepted
 pub mod Made
 pub mod FirstParts
+pub mod Later

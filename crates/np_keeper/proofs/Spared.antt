@@ -1,5 +1,5 @@
 -- a tree with another spare: nothing of the layout sees it
-use Rattle.std.proofs.Common.{◌≡◌, ℕ, ◌+◌, List, [], ◌∷◌, Bool, true, false, cond, not, Option, Some, None, Result, Ok, Err, OnErr, refl, ap, ◌∙◌}
+use Rattle.std.proofs.Common.{◌≡◌, ℕ, ◌+◌, List, [], ◌∷◌, Bool, true, false, cond, not, Option, Some, None, Result, Ok, Err, OnErr, OnOk, refl, sym, ap, subst, ◌∙◌}
 use Rattle.std.specs.List.{list_any}
 use Rattle.np_nodes.specs.TreeState.{TreeState}
 use Rattle.np_nodes.specs.After.{after_create_under, after_part, next_change, where_found, with_new_child, with_next_number}
@@ -20,9 +20,9 @@ use Rattle.np_site.specs.Configuration.{Configuration}
 use Rattle.np_layout.specs.Layout.{LaysOut}
 use Rattle.np_layout.specs.Sets.{HasGoodIds}
 use Rattle.np_layout.proofs.Elsewhere.{Stays, frame-stays, jobs-stay, launchers-stay, live-stays, node_locks-stay, nodes-stay, request_locks-stay, requests-stay, roles-stay, semaphores-stay, sessions-stay, swept-stay}
-use Rattle.np_enact.specs.Carried.{IsStored}
+use Rattle.np_layout.specs.Carried.{IsStored}
 use Rattle.np_decode.specs.Decoded.{decoded}
-use Rattle.np_keeper.specs.Keeper.{IsHeld}
+use Rattle.np_keeper.specs.Keeper.{Holds, IsHeld}
 
 -- ## what the layout does not see
 
@@ -56,6 +56,17 @@ room-spared t k more room = record { change = room.change; versions = room.versi
 -- what holds of a tree holds of it with another spare
 pub held-spared : (c : Configuration) (t : TreeState) (k : ℕ) → IsHeld c t → IsHeld c (with_spare t k)
 held-spared c t k held = record { stored = stored-spared c _ t k held.stored; begun = held.begun; room = room-spared t k _ held.room }
+
+-- and so does a state that it holds
+pub holds-spared : (c : Configuration) (s : State) (t u : TreeState) → u ≡ with_spare t u.spare → Holds c s t → Holds c s u
+holds-spared c s t u is holds = subst (Holds c s) (sym is) (record { held = held-spared c t u.spare holds.held; state = holds.state })
+
+pub held-reserved : (c : Configuration) (t u : TreeState) → u ≡ with_spare t u.spare → IsHeld c t → Holds c (decoded c t) u
+held-reserved c t u is held = holds-spared c (decoded c t) t u is (record { held = held; state = refl })
+
+-- another spare is a tree's own
+pub own-spare : (u x : TreeState) (k : ℕ) → u ≡ with_spare x k → u ≡ with_spare x u.spare
+own-spare u x k is = is ∙ ap (with_spare x) (sym (ap (λ (t : TreeState). t.spare) is))
 
 -- ## what a call does not see
 
@@ -102,13 +113,14 @@ multi-spared t k w parts = by (list_any (λ part. not (is_check part)) parts) wh
   by true = ap with_next_number (parts-spared t k w parts)
   by false = refl
 
--- ## what is read
-
--- the state that is read is the same
-pub decoded-spared : (c : Configuration) (t u : TreeState) → u ≡ with_spare t u.spare → decoded c u ≡ decoded c t
-decoded-spared c t u is = ap (decoded c) is
+-- ## either outcome
 
 -- what holds anyway holds after an error
 pub err-always : {A B : Type 0} {P : Type 0} (r : Result A B) → P → OnErr r P
 err-always (Ok a) is = tt
 err-always (Err b) is = is
+
+-- what follows from either outcome
+pub either-way : {A B : Type 0} {X Y P : Type 0} (r : Result A B) → OnOk r X → OnErr r Y → (X → P) → (Y → P) → P
+either-way (Ok a) x y f g = f x
+either-way (Err b) x y f g = g y

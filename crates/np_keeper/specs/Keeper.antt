@@ -1,8 +1,11 @@
--- what is kept in a tree, and what holds of the tree
-use Rattle.std.specs.Prelude.{◌<◌, ◌+◌, ◌-◌, ◌*◌, ◌^◌, ◌≡◌, ℕ, true, length}
+-- what holds of a tree in which a machine writes
+use Rattle.std.specs.Prelude.{◌<◌, ◌+◌, ◌-◌, ◌*◌, ◌^◌, ◌≡◌, ℕ, true, List, length}
 use Rattle.np_session.specs.Known.{is_in}
 use Rattle.np_nodes.specs.TreeState.{TreeState}
-use Rattle.np_views.specs.Several.{HasRoomFor}
+use Rattle.np_nodes.specs.Calls.{with_spare}
+use Rattle.np_nodes.specs.Multi.{after_multi, after_parts}
+use Rattle.np_nodes.specs.declared.op.Op.{Op}
+use Rattle.np_views.specs.Several.{Goes, HasRoomFor}
 use Rattle.np_site.specs.Configuration.{Configuration}
 use Rattle.np_machine.specs.State.{State}
 use Rattle.np_changes.specs.Changes.{changed}
@@ -12,14 +15,10 @@ use Rattle.np_changes.specs.declared.changes.Growth.TheVariants as grow
 use Rattle.np_changes.specs.declared.changes.SessionsChange.{SessionsChange}
 use Rattle.np_changes.specs.declared.changes.SessionsChange.TheVariants as sessions
 use Rattle.np_layout.specs.Rows.{tree_session}
-use Rattle.np_enact.specs.Carried.{IsCarried, IsStored}
+use Rattle.np_layout.specs.Carried.{IsCarried, IsStored}
 use Rattle.np_enact.specs.Events.{IsReady}
+use Rattle.np_enact.specs.Parts.{with_begin, with_end, writer}
 use Rattle.np_decode.specs.Decoded.{decoded}
-
--- a configuration and a state; no entries are recorded here (own)
-pub record Kept : Type 0 where
-  pub configuration : Configuration
-  pub state : State
 
 -- the change numbers that a tree may take (own)
 abbrev pub most_changes : ℕ
@@ -55,3 +54,22 @@ HasSpare other t = Unit {0}
 abbrev pub CanEnd : SessionsChange → TreeState → Type 0
 CanEnd (sessions.End session) t = (session.0 < 4_294_967_295) × (is_in t.live (tree_session session) ≡ true)
 CanEnd other t = Unit {0}
+
+-- the tree holds this state of the configuration
+pub record Holds (c : Configuration) (s : State) (t : TreeState) : Type 0 where
+  pub held : IsHeld c t
+  pub state : decoded c t ≡ s
+
+-- the tree after the parts of an event's changes and the begin or the end of a session
+abbrev pub made : Changes → List Op → TreeState → TreeState
+made ch parts t = with_end ch.sessions (with_begin ch.grows (after_multi t (writer ch.maker) parts))
+
+-- the parts are accepted from a session of 32 bits, the session that is opened can begin after them or
+-- the one that expires can end, and the change numbers suffice
+pub record CanMake (ch : Changes) (parts : List Op) (t : TreeState) : Type 0 where
+  pub session : writer ch.maker < 4_294_967_296
+  pub goes : Goes t (writer ch.maker) parts (after_parts t (writer ch.maker) parts)
+  pub begins : CanBegin ch.grows (after_multi t (writer ch.maker) parts)
+  pub ends : (spare : ℕ) → CanEnd ch.sessions (with_spare (with_begin ch.grows (after_multi t (writer ch.maker) parts)) spare)
+  pub number : t.changes < 18_446_744_073_709_551_615
+  pub next : (with_begin ch.grows (after_multi t (writer ch.maker) parts)).changes < 18_446_744_073_709_551_615

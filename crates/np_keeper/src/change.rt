@@ -5,14 +5,18 @@ ghost use Rattle.std.specs.List.{list_all};
 ghost use Rattle.np_nodes.specs.Calls.{with_spare};
 ghost use Rattle.np_nodes.specs.Multi.{after_multi, after_parts, is_numbered};
 ghost use Rattle.np_views.specs.Several.{Goes};
+ghost use Rattle.np_views.specs.Dates.{IsLater};
 ghost use Rattle.np_changes.specs.Changes.{changed};
 ghost use Rattle.np_enact.specs.Parts.{with_begin, with_end, writer};
 ghost use Rattle.np_decode.specs.Decoded.{decoded};
-ghost use Rattle.np_keeper.specs.Keeper.{CanBegin, CanEnd, HasSpare, IsHeld, MayChange};
+ghost use Rattle.np_keeper.specs.Keeper.{CanBegin, CanEnd, CanMake, HasSpare, Holds, IsHeld, MayChange, made};
 
+use crate::range::parts_are_proper;
 use np_changes::{Changes, Growth, Maker, SessionsChange};
 use np_config::Config;
+use np_look::Rows;
 use np_nodes::{MultiFault, Op};
+use np_readers::TreeRows;
 use np_steps::parts;
 use np_text::NoMemory;
 use np_tree::Tree;
@@ -83,33 +87,53 @@ fn end(tree: &mut Tree, change: &SessionsChange)
     }
 }
 
-/// Makes the changes of an event, for which memory for a session is there: one call, and then the
-/// session that is opened begins or the one that expires ends. If memory runs out, nothing changes.
-fn make_changes(
-    alloc: Global,
-    tree: &mut Tree,
-    config: &Config,
-    changes: &Changes,
-) -> Result<(), NoMemory>
-    requires held { IsHeld config.now tree.old }
-    requires low { tree.old.changes < 16777214 }
-    requires ready { MayChange config.now changes.now (decoded config.now tree.old) }
-    requires spare { HasSpare changes.now.grows tree.old }
-    ensures held { IsHeld config.now tree.new }
-    ensures ok { OnOk result (decoded config.now tree.new
-        ≡ changed config.now changes.now (decoded config.now tree.old)) }
+/// Makes the parts of an event's changes in one call, and then begins the session that is opened or
+/// ends the one that expires. If memory runs out, nothing changes.
+fn make(tree: &mut Tree, changes: &Changes, ops: &[Op]) -> Result<(), NoMemory>
+    requires few { length ops.now ≤ 4294967295 }
+    requires numbered { list_all is_numbered ops.now ≡ true }
+    requires can { CanMake changes.now ops.now tree.old }
+    ensures ok { OnOk result
+        (tree.new ≡ with_spare (made changes.now ops.now tree.old) tree.new.spare) }
     ensures err { OnErr result (tree.new ≡ tree.old) }
+    ensures later { IsLater tree.old tree.new }
 {
-    let ops = parts(alloc, tree, config, changes)?;
-    call(tree, writer_of(changes.maker), ops.as_slice())?;
+    // The contract of `changes` also says what is always true of a tree.
+    let _ = tree.changes();
+    parts_are_proper(ops);
+    call(tree, writer_of(changes.maker), ops)?;
+    let _ = tree.changes();
     begin(tree, &changes.grows);
     end(tree, &changes.sessions);
     Ok(())
 }
 
-/// Makes the changes of an event: one call of the tree, and then a session begins or ends. Fewer than
-/// 16,777,214 changes were made before. An error says that memory ran out, and then the state stays.
-/// The cost is that of reading what the parts need (np_steps), and of the call.
+/// Makes the changes of an event in a tree that holds the state of the rows: one call of the tree, and
+/// then a session begins or ends. If memory runs out, only the memory for a session may be there that
+/// was not.
+pub(crate) fn write<R: Rows>(
+    alloc: Global,
+    tree: &mut Tree,
+    rows: &R,
+    changes: &Changes,
+) -> Result<(), NoMemory>
+    requires holds { Holds (R.site rows.now) (R.state rows.now) tree.old }
+    requires low { tree.old.changes < 16777214 }
+    requires ready { MayChange (R.site rows.now) changes.now (R.state rows.now) }
+    ensures ok { OnOk result (Holds (R.site rows.now)
+        (changed (R.site rows.now) changes.now (R.state rows.now)) tree.new) }
+    ensures err { OnErr result (tree.new ≡ with_spare tree.old tree.new.spare) }
+    ensures later { IsLater tree.old tree.new }
+{
+    reserve(tree, &changes.grows)?;
+    let ops = parts(alloc, tree, rows, changes)?;
+    make(tree, changes, ops.as_slice())
+}
+
+/// Makes the changes of an event in a tree that the caller has: one call of the tree, and then a
+/// session begins or ends. Fewer than 16,777,214 changes were made before. An error says that memory
+/// ran out, and then only the memory for a session may be there that was not. The cost is that of
+/// reading what the parts need from the tree (np_readers), and of the call.
 pub fn enact(
     alloc: Global,
     tree: &mut Tree,
@@ -123,7 +147,9 @@ pub fn enact(
     ensures ok { OnOk result (decoded config.now tree.new
         ≡ changed config.now changes.now (decoded config.now tree.old)) }
     ensures err { OnErr result (decoded config.now tree.new ≡ decoded config.now tree.old) }
+    ensures same { OnErr result (tree.new ≡ with_spare tree.old tree.new.spare) }
 {
     reserve(tree, &changes.grows)?;
-    make_changes(alloc, tree, config, changes)
+    let ops = parts(alloc, tree, &TreeRows::new(config, tree), changes)?;
+    make(tree, changes, ops.as_slice())
 }

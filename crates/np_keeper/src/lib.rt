@@ -1,18 +1,17 @@
-//! The machine's state, kept in a coordination tree.
+//! The machine's state, written in a coordination tree.
 //!
-//! A `TreeKeeper` is a configuration and a tree. `specs/Keeper` says what holds of the tree: it stores
-//! the state that np_decode reads from it, with room for the changes of every event to come. `start`
-//! makes the first tree, `change` makes the changes of an event, and `keeper` answers what np_look
-//! and np_decision ask of anything that keeps a state: each reader of the tree answers what the state
-//! has, and each accepted event leaves a tree of the machine's next state. `enact` makes the changes
-//! of an event in a tree that the caller has, which `first_tree` makes.
+//! A `TreeStore` is a tree in which a machine writes what each accepted event changes, before its own
+//! tables take it (np_look's `Store`). `specs/Keeper` says what holds of the tree: it stores the state
+//! that np_decode reads from it, with room for the changes of every event to come. `start` makes the
+//! first tree, and `change` makes the changes of an event: one call of the tree, and then a session
+//! begins or ends. `enact` makes them in a tree that the caller has.
 #![tactic(auto)]
 
 mod change;
-mod keeper;
 mod range;
 mod start;
+mod store;
 
 pub use change::enact;
-pub use keeper::TreeKeeper;
 pub use start::first_tree;
+pub use store::TreeStore;

@@ -1,9 +1,14 @@
-//! The numbers in changes are within their types. The functions do nothing: a caller's proof takes
-//! the facts from them.
+//! The numbers in changes are within their types, and the paths in parts are in the grammar. The
+//! functions do nothing: a caller's proof takes the facts from them.
 
+ghost use Rattle.std.specs.Prelude.{◌≡◌, true};
+ghost use Rattle.std.specs.List.{AllByRecursion, list_all};
+ghost use Rattle.np_nodes.specs.Multi.{is_numbered};
+ghost use Rattle.np_tree.specs.Whole.{IsPart};
 ghost use Rattle.np_ready.specs.Ready.{IsTyped, IsTypedEdit, IsTypedGrowth, IsTypedNodes, IsTypedRequests};
 
 use np_changes::{Changes, Growth, NodesChange, RequestEdit, RequestsChange};
+use np_nodes::Op;
 
 /// The number in an edit is within its type.
 fn edit_is_in_range(change: RequestEdit)
@@ -56,4 +61,14 @@ pub(crate) fn changes_are_in_range(changes: &Changes)
     growth_is_in_range(changes.grows);
     requests_are_in_range(changes.requests);
     nodes_are_in_range(changes.nodes);
+}
+
+/// Each part is one that can be requested of a tree.
+pub(crate) fn parts_are_proper(parts: &[Op])
+    requires { list_all is_numbered parts.now ≡ true }
+    ensures { AllByRecursion IsPart parts.now }
+{
+    for part in parts {
+        let _ = part.path().text();
+    }
 }

@@ -6,3 +6,4 @@ pub mod Laws
 pub mod Sets
 pub mod Creates
 pub mod Deletes
+pub mod Carried

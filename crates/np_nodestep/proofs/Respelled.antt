@@ -14,7 +14,7 @@ use Rattle.np_layout.specs.Layout.{LaysOut}
 use Rattle.np_layout.specs.Sets.{set}
 use Rattle.np_layout.proofs.DeleteNodeWaits.{is_node_it}
 use Rattle.np_layout.proofs.SetNodes.{nodes-lay-out}
-use Rattle.np_enact.specs.Carried.{IsStored}
+use Rattle.np_layout.specs.Carried.{IsStored}
 use Rattle.np_enact.specs.Stands.{Stands}
 use Rattle.np_enact.proofs.Calls.{stands-numbered}
 use Rattle.np_enact.proofs.StandsLemmas.{room-after, room-less}

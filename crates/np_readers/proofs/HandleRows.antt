@@ -32,7 +32,7 @@ use Rattle.np_layout.proofs.FirstKinds.{rows_put}
 use Rattle.np_layout.proofs.FirstLists.{all-numbered}
 use Rattle.np_layout.proofs.SetLists.{any-by_name, at-range}
 use Rattle.np_layout.proofs.SetSteps.{named-other}
-use Rattle.np_enact.specs.Carried.{IsStored}
+use Rattle.np_layout.specs.Carried.{IsStored}
 use Rattle.np_readers.proofs.Shown.{owner-named, rows-none}
 
 -- ## whether a place is there

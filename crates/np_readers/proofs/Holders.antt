@@ -11,7 +11,7 @@ use Rattle.np_machine.specs.Tables.{handles_of, is_among}
 use Rattle.np_site.specs.Configuration.{Configuration}
 use Rattle.np_machine.specs.State.{State}
 use Rattle.np_nodes.specs.TreeState.{TreeState}
-use Rattle.np_enact.specs.Carried.{AreHolders, IsStored}
+use Rattle.np_layout.specs.Carried.{AreHolders, IsStored}
 use Rattle.np_text.specs.declared.id.SemId.{SemId}
 use Rattle.np_readers.proofs.HandleRows.{of-handles}
 

@@ -28,7 +28,7 @@ use Rattle.np_layout.proofs.CreateNodeWaits.{node_before, rises-zip}
 use Rattle.np_layout.proofs.DeleteNodeWaits.{found-node, is_node_it, node-tells}
 use Rattle.np_layout.proofs.SetNodes.{named-by, same-self}
 use Rattle.np_look.specs.Views.{node_view}
-use Rattle.np_enact.specs.Carried.{IsStored}
+use Rattle.np_layout.specs.Carried.{IsStored}
 use Rattle.np_readers.proofs.Beside.{Beside, beside-at, beside-found, found-there, if-at, length-beside}
 use Rattle.np_readers.proofs.RequestReads.{IsRead}
 use Rattle.np_readers.proofs.Shown.{bytes-named}

@@ -24,7 +24,7 @@ use Rattle.np_places.specs.Place.{IsGood, path_of, place_name}
 use Rattle.np_places.specs.declared.place.Place.TheVariants.{Requests, Request, RequestLock, Nodes, Node, NodeLock}
 use Rattle.np_layout.specs.Layout.{HasNodeLock, IsNodeRow, IsQueue, IsWait, under}
 use Rattle.np_layout.specs.Rows.{request_row, tree_session}
-use Rattle.np_enact.specs.Carried.{IsStored}
+use Rattle.np_layout.specs.Carried.{IsStored}
 use Rattle.np_readers.specs.Queues.{node_if_queued, request_if_queued}
 use Rattle.np_readers.proofs.Shown.{name-at}
 use Rattle.np_readers.proofs.Steps.{passing_from}

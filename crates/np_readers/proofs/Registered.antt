@@ -24,7 +24,7 @@ use Rattle.np_places.specs.declared.place.Place.{Place}
 use Rattle.np_places.specs.declared.place.Place.TheVariants.{Launcher, Launchers}
 use Rattle.np_layout.specs.Rows.{launcher_row}
 use Rattle.np_layout.proofs.SetSteps.{named-other}
-use Rattle.np_enact.specs.Carried.{IsStored}
+use Rattle.np_layout.specs.Carried.{IsStored}
 use Rattle.np_readers.proofs.Shown.{IsOnly, find-ordered, owner-named}
 
 -- ## the row of a registration

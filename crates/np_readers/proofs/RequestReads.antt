@@ -29,7 +29,7 @@ use Rattle.np_layout.proofs.DeleteOnce.{Tells, tells-mapped}
 use Rattle.np_layout.proofs.DeleteRequestWaits.{is_request_it, lock-names, request-good, request-queue}
 use Rattle.np_layout.proofs.SetRequests.{named-by, same-self}
 use Rattle.np_look.specs.Views.{request_view}
-use Rattle.np_enact.specs.Carried.{IsStored}
+use Rattle.np_layout.specs.Carried.{IsStored}
 use Rattle.np_readers.proofs.Beside.{Beside, beside-at, beside-found, found-there, if-at, length-beside, rises-of, zip-map}
 use Rattle.np_readers.proofs.Shown.{bytes-named}
 use Rattle.np_readers.proofs.Waits.{nothing-under}

@@ -39,7 +39,7 @@ use Rattle.np_layout.specs.Layout.{under}
 use Rattle.np_layout.specs.Rows.{by_name, janitor_role_row, job_row, launcher_role_row, launcher_row, requester_role_row, rows_from, session_row}
 use Rattle.np_layout.proofs.FirstKinds.{rows_put}
 use Rattle.np_layout.proofs.SetSteps.{named-here, named-other}
-use Rattle.np_enact.specs.Carried.{IsStored}
+use Rattle.np_layout.specs.Carried.{IsStored}
 use Rattle.np_enact.proofs.Leaves.{all-joined}
 use Rattle.np_readers.proofs.Shown.{IsOnly, bytes-named, find-only, find-ordered, past-any, past-only, table-any, table-only}
 

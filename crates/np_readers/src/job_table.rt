@@ -4,7 +4,7 @@ ghost use Rattle.std.specs.Prelude.{◌≡◌, length, slice_get};
 ghost use Rattle.np_site.specs.Configuration.{Configuration};
 ghost use Rattle.np_machine.specs.State.{State};
 ghost use Rattle.np_machine.specs.Tables.{role_in};
-ghost use Rattle.np_enact.specs.Carried.{IsStored};
+ghost use Rattle.np_layout.specs.Carried.{IsStored};
 
 use crate::bytes::{bytes_at, count_at, counter_at};
 use np_places::Place;
@@ -14,14 +14,14 @@ use np_text::{JobId, Role};
 use np_tree::Tree;
 
 /// How many jobs there are.
-pub fn jobs(tree: &Tree) -> u32
+pub(crate) fn jobs(tree: &Tree) -> u32
     ensures { (c : Configuration) (s : State) → IsStored c s tree.now → result ≡ length s.jobs }
 {
     count_at(tree, Place::Jobs)
 }
 
 /// The job's record.
-pub fn job(tree: &Tree, job: JobId) -> Option<JobRecord>
+pub(crate) fn job(tree: &Tree, job: JobId) -> Option<JobRecord>
     ensures { (c : Configuration) (s : State) → IsStored c s tree.now →
         result ≡ slice_get s.jobs job.0 }
 {
@@ -35,7 +35,7 @@ pub fn job(tree: &Tree, job: JobId) -> Option<JobRecord>
 }
 
 /// What the role has done, or `None` if it is no role of the configuration.
-pub fn role(tree: &Tree, role: Role) -> Option<RoleRecord>
+pub(crate) fn role(tree: &Tree, role: Role) -> Option<RoleRecord>
     ensures { (c : Configuration) (s : State) → IsStored c s tree.now → result ≡ role_in role s }
 {
     let Some(place) = Place::of_role(role) else {
@@ -51,7 +51,7 @@ pub fn role(tree: &Tree, role: Role) -> Option<RoleRecord>
 }
 
 /// The number of the next request.
-pub fn next_request(tree: &Tree) -> u32
+pub(crate) fn next_request(tree: &Tree) -> u32
     ensures { (c : Configuration) (s : State) → IsStored c s tree.now →
         result ≡ s.next_request }
 {
@@ -62,7 +62,7 @@ pub fn next_request(tree: &Tree) -> u32
 }
 
 /// The number of the next node.
-pub fn next_node(tree: &Tree) -> u32
+pub(crate) fn next_node(tree: &Tree) -> u32
     ensures { (c : Configuration) (s : State) → IsStored c s tree.now → result ≡ s.next_node }
 {
     match counter_at(tree, Place::Nodes) {

@@ -6,7 +6,7 @@ ghost use Rattle.np_site.specs.Configuration.{Configuration};
 ghost use Rattle.np_machine.specs.State.{State};
 ghost use Rattle.np_machine.specs.Tables.{node_in, node_queue};
 ghost use Rattle.np_look.specs.Views.{node_view};
-ghost use Rattle.np_enact.specs.Carried.{IsStored};
+ghost use Rattle.np_layout.specs.Carried.{IsStored};
 
 use crate::bytes::{bytes_at, count_at};
 use crate::rows::{name_at, read_ten, waiting_at};
@@ -18,7 +18,7 @@ use np_text::{NodeId, SessionId};
 use np_tree::Tree;
 
 /// How many nodes there are.
-pub fn nodes(tree: &Tree) -> u32
+pub(crate) fn nodes(tree: &Tree) -> u32
     ensures { (c : Configuration) (s : State) → IsStored c s tree.now →
         result ≡ length s.nodes }
 {
@@ -26,7 +26,7 @@ pub fn nodes(tree: &Tree) -> u32
 }
 
 /// The node at a place, by number. `None` past the last one.
-pub fn node_at(tree: &Tree, at: u32) -> Option<NodeId>
+pub(crate) fn node_at(tree: &Tree, at: u32) -> Option<NodeId>
     ensures { (c : Configuration) (s : State) → IsStored c s tree.now →
         result ≡ option_map (λ e. e.id) (slice_get s.nodes at) }
 {
@@ -37,7 +37,7 @@ pub fn node_at(tree: &Tree, at: u32) -> Option<NodeId>
 
 /// The node's record, whether it is spelled with a tenant or as before there were tenants. `None` if
 /// there is no such node.
-pub fn node(tree: &Tree, node: NodeId) -> Option<NodeRecord>
+pub(crate) fn node(tree: &Tree, node: NodeId) -> Option<NodeRecord>
     ensures { (c : Configuration) (s : State) → IsStored c s tree.now →
         result ≡ node_in node s.nodes }
 {
@@ -50,7 +50,7 @@ pub fn node(tree: &Tree, node: NodeId) -> Option<NodeRecord>
 
 /// The session at a place of the node's queue; the one at 0 holds it. `None` past the queue's end,
 /// or if there is no such node.
-pub fn node_queue(tree: &Tree, node: NodeId, at: u32) -> Option<SessionId>
+pub(crate) fn node_queue(tree: &Tree, node: NodeId, at: u32) -> Option<SessionId>
     ensures { (c : Configuration) (s : State) → IsStored c s tree.now →
         result ≡ slice_get (node_queue node s.nodes) at }
 {
@@ -58,7 +58,7 @@ pub fn node_queue(tree: &Tree, node: NodeId, at: u32) -> Option<SessionId>
 }
 
 /// The node at a place, with its record and who holds it. `None` past the last one.
-pub fn node_view(tree: &Tree, at: u32) -> Option<NodeView>
+pub(crate) fn node_view(tree: &Tree, at: u32) -> Option<NodeView>
     ensures { (c : Configuration) (s : State) → IsStored c s tree.now →
         result ≡ option_map node_view (slice_get s.nodes at) }
 {

@@ -2,7 +2,7 @@
 
 ghost use Rattle.std.specs.Prelude.{◌≡◌, length, slice_get, option_and_then};
 ghost use Rattle.std.specs.List.{list_any};
-ghost use Rattle.np_enact.specs.Carried.{IsStored};
+ghost use Rattle.np_layout.specs.Carried.{IsStored};
 ghost use Rattle.np_look.specs.Readers.{queued_nodes, queued_requests};
 ghost use Rattle.np_machine.specs.State.{State};
 ghost use Rattle.np_layout.specs.Rows.{tree_session};
@@ -20,7 +20,7 @@ use np_tree::Tree;
 
 /// In how many requests' queues the session is. The cost grows with the number of requests and with
 /// the lengths of their queues.
-pub fn queued_requests(tree: &Tree, session: SessionId) -> u32
+pub(crate) fn queued_requests(tree: &Tree, session: SessionId) -> u32
     ensures { (c : Configuration) (s : State) → IsStored c s tree.now →
         result ≡ length (queued_requests session s) }
 {
@@ -37,7 +37,7 @@ pub fn queued_requests(tree: &Tree, session: SessionId) -> u32
 /// The request at a place among those in whose queues the session is, by priority and then
 /// sequence. The cost grows with the number of requests up to that one and with the lengths of
 /// their queues.
-pub fn queued_request_at(tree: &Tree, session: SessionId, at: u32) -> Option<RequestId>
+pub(crate) fn queued_request_at(tree: &Tree, session: SessionId, at: u32) -> Option<RequestId>
     ensures { (c : Configuration) (s : State) → IsStored c s tree.now →
         result ≡ slice_get (queued_requests session s) at }
 {
@@ -56,7 +56,7 @@ pub fn queued_request_at(tree: &Tree, session: SessionId, at: u32) -> Option<Req
 
 /// In how many nodes' queues the session is. The cost grows with the number of nodes and with the
 /// lengths of their queues.
-pub fn queued_nodes(tree: &Tree, session: SessionId) -> u32
+pub(crate) fn queued_nodes(tree: &Tree, session: SessionId) -> u32
     ensures { (c : Configuration) (s : State) → IsStored c s tree.now →
         result ≡ length (queued_nodes session s) }
 {
@@ -72,7 +72,7 @@ pub fn queued_nodes(tree: &Tree, session: SessionId) -> u32
 
 /// The node at a place among those in whose queues the session is, by number. The cost grows with
 /// the number of nodes up to that one and with the lengths of their queues.
-pub fn queued_node_at(tree: &Tree, session: SessionId, at: u32) -> Option<NodeId>
+pub(crate) fn queued_node_at(tree: &Tree, session: SessionId, at: u32) -> Option<NodeId>
     ensures { (c : Configuration) (s : State) → IsStored c s tree.now →
         result ≡ slice_get (queued_nodes session s) at }
 {

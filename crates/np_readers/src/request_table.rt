@@ -8,7 +8,7 @@ ghost use Rattle.np_site.specs.Configuration.{Configuration};
 ghost use Rattle.np_machine.specs.State.{State};
 ghost use Rattle.np_machine.specs.Tables.{request_in, request_queue};
 ghost use Rattle.np_look.specs.Views.{request_view};
-ghost use Rattle.np_enact.specs.Carried.{IsStored};
+ghost use Rattle.np_layout.specs.Carried.{IsStored};
 
 use crate::bytes::{bytes_at, count_at};
 use crate::rows::{name_at, waiting_at};
@@ -20,7 +20,7 @@ use np_text::{RequestId, SessionId, read_request};
 use np_tree::Tree;
 
 /// How many requests there are.
-pub fn requests(tree: &Tree) -> u32
+pub(crate) fn requests(tree: &Tree) -> u32
     ensures { (c : Configuration) (s : State) → IsStored c s tree.now →
         result ≡ length s.requests }
 {
@@ -28,7 +28,7 @@ pub fn requests(tree: &Tree) -> u32
 }
 
 /// The request at a place, by priority and then sequence. `None` past the last one.
-pub fn request_at(tree: &Tree, at: u32) -> Option<RequestId>
+pub(crate) fn request_at(tree: &Tree, at: u32) -> Option<RequestId>
     ensures request { (c : Configuration) (s : State) → IsStored c s tree.now →
         result ≡ option_map (λ e. e.id) (slice_get s.requests at) }
     ensures text { IfSome result HasText }
@@ -38,7 +38,7 @@ pub fn request_at(tree: &Tree, at: u32) -> Option<RequestId>
 }
 
 /// The request's record, or `None` if there is no such request.
-pub fn request(tree: &Tree, request: RequestId) -> Option<RequestRecord>
+pub(crate) fn request(tree: &Tree, request: RequestId) -> Option<RequestRecord>
     ensures { (c : Configuration) (s : State) → IsStored c s tree.now →
         result ≡ request_in request s.requests }
 {
@@ -54,7 +54,7 @@ pub fn request(tree: &Tree, request: RequestId) -> Option<RequestRecord>
 
 /// The session at a place of the request's queue; the one at 0 holds it. `None` past the queue's
 /// end, or if there is no such request.
-pub fn request_queue(tree: &Tree, request: RequestId, at: u32) -> Option<SessionId>
+pub(crate) fn request_queue(tree: &Tree, request: RequestId, at: u32) -> Option<SessionId>
     ensures { (c : Configuration) (s : State) → IsStored c s tree.now →
         result ≡ slice_get (request_queue request s.requests) at }
 {
@@ -65,7 +65,7 @@ pub fn request_queue(tree: &Tree, request: RequestId, at: u32) -> Option<Session
 }
 
 /// The request at a place, with its record and who holds it. `None` past the last one.
-pub fn request_view(tree: &Tree, at: u32) -> Option<RequestView>
+pub(crate) fn request_view(tree: &Tree, at: u32) -> Option<RequestView>
     ensures { (c : Configuration) (s : State) → IsStored c s tree.now →
         result ≡ option_map request_view (slice_get s.requests at) }
 {

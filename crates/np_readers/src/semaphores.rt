@@ -1,7 +1,7 @@
 //! Semaphores and swept pairs, as a tree has them.
 
 ghost use Rattle.std.specs.Prelude.{◌≡◌, length, slice_get};
-ghost use Rattle.np_enact.specs.Carried.{IsStored};
+ghost use Rattle.np_layout.specs.Carried.{IsStored};
 ghost use Rattle.np_machine.specs.Node.{is_swept};
 ghost use Rattle.np_machine.specs.State.{State};
 ghost use Rattle.np_machine.specs.Tables.{handles_of, has_handle};
@@ -14,7 +14,7 @@ use np_text::{JobId, NodeId, SemId};
 use np_tree::Tree;
 
 /// How many jobs have a handle of the semaphore.
-pub fn handles(tree: &Tree, semaphore: SemId) -> u32
+pub(crate) fn handles(tree: &Tree, semaphore: SemId) -> u32
     ensures { (c : Configuration) (s : State) → IsStored c s tree.now →
         result ≡ length (handles_of semaphore s.handles) }
 {
@@ -22,7 +22,7 @@ pub fn handles(tree: &Tree, semaphore: SemId) -> u32
 }
 
 /// Whether the job has a handle of the semaphore.
-pub fn has_handle(tree: &Tree, semaphore: SemId, job: JobId) -> bool
+pub(crate) fn has_handle(tree: &Tree, semaphore: SemId, job: JobId) -> bool
     ensures { (c : Configuration) (s : State) → IsStored c s tree.now →
         result ≡ has_handle job s.handles semaphore }
 {
@@ -32,7 +32,7 @@ pub fn has_handle(tree: &Tree, semaphore: SemId, job: JobId) -> bool
 
 /// The job at a place among those that have a handle of the semaphore, by number. Looks for the
 /// handle of each job of the configuration up to that one.
-pub fn handle_at(tree: &Tree, config: &Config, semaphore: SemId, at: u32) -> Option<JobId>
+pub(crate) fn handle_at(tree: &Tree, config: &Config, semaphore: SemId, at: u32) -> Option<JobId>
     ensures { (s : State) → IsStored config.now s tree.now →
         result ≡ slice_get (handles_of semaphore s.handles) at }
 {
@@ -54,7 +54,7 @@ pub fn handle_at(tree: &Tree, config: &Config, semaphore: SemId, at: u32) -> Opt
 }
 
 /// Whether the server of the node was swept.
-pub fn swept(tree: &Tree, node: NodeId, server: u64) -> bool
+pub(crate) fn swept(tree: &Tree, node: NodeId, server: u64) -> bool
     ensures { (c : Configuration) (s : State) → IsStored c s tree.now →
         result ≡ is_swept node server s.swept }
 {

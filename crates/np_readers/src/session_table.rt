@@ -4,7 +4,7 @@ ghost use Rattle.std.specs.Prelude.{◌≡◌, ◌<◌, ◌^◌, length, slice_g
 ghost use Rattle.np_site.specs.Configuration.{Configuration};
 ghost use Rattle.np_machine.specs.State.{State};
 ghost use Rattle.np_machine.specs.Tables.{registered, session_of};
-ghost use Rattle.np_enact.specs.Carried.{IsStored};
+ghost use Rattle.np_layout.specs.Carried.{IsStored};
 
 use crate::bytes::{bytes_at, count_at, owner_at};
 use np_config::Config;
@@ -16,7 +16,7 @@ use np_text::{PoolId, SessionId, read_number};
 use np_tree::Tree;
 
 /// How many ticks have passed.
-pub fn tick(tree: &Tree) -> u32
+pub(crate) fn tick(tree: &Tree) -> u32
     ensures { (c : Configuration) (s : State) → IsStored c s tree.now → result ≡ s.tick }
 {
     let Some(bytes) = bytes_at(tree, Place::Tick) else {
@@ -30,7 +30,7 @@ pub fn tick(tree: &Tree) -> u32
 
 /// What is known of the session, or `None` if it was never begun. The clause is about trees whose
 /// last session has a number below 2^32.
-pub fn session(tree: &Tree, session: SessionId) -> Option<SessionFacts>
+pub(crate) fn session(tree: &Tree, session: SessionId) -> Option<SessionFacts>
     ensures { (c : Configuration) (s : State) → IsStored c s tree.now →
         tree.now.begun < 2 ^ 32 → result ≡ session_of session s }
 {
@@ -51,7 +51,7 @@ pub fn session(tree: &Tree, session: SessionId) -> Option<SessionFacts>
 }
 
 /// How many sessions were begun; they count from 1.
-pub fn sessions(tree: &Tree) -> u32
+pub(crate) fn sessions(tree: &Tree) -> u32
     ensures { (c : Configuration) (s : State) → IsStored c s tree.now →
         result ≡ length s.sessions }
 {
@@ -59,7 +59,7 @@ pub fn sessions(tree: &Tree) -> u32
 }
 
 /// The session that is registered for the pool: it owns the node of the registration.
-pub fn registration(tree: &Tree, pool: PoolId) -> Option<SessionId>
+pub(crate) fn registration(tree: &Tree, pool: PoolId) -> Option<SessionId>
     ensures { (c : Configuration) (s : State) → IsStored c s tree.now →
         result ≡ registered pool s.registrations }
 {
@@ -73,7 +73,7 @@ pub fn registration(tree: &Tree, pool: PoolId) -> Option<SessionId>
 }
 
 /// How many registrations there are.
-pub fn registrations(tree: &Tree) -> u32
+pub(crate) fn registrations(tree: &Tree) -> u32
     ensures { (c : Configuration) (s : State) → IsStored c s tree.now →
         result ≡ length s.registrations }
 {
@@ -82,7 +82,7 @@ pub fn registrations(tree: &Tree) -> u32
 
 /// The registration at a place, in the order of the pools. Walks the pools of the configuration, and
 /// finds the node of each.
-pub fn registration_at(tree: &Tree, config: &Config, at: u32) -> Option<Registration>
+pub(crate) fn registration_at(tree: &Tree, config: &Config, at: u32) -> Option<Registration>
     ensures { (s : State) → IsStored config.now s tree.now →
         result ≡ slice_get s.registrations at }
 {

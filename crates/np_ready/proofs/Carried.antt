@@ -45,7 +45,7 @@ use Rattle.np_safe.proofs.Numbered.{numbered}
 use Rattle.np_places.specs.Place.{IsGood}
 use Rattle.np_places.specs.declared.place.Place.TheVariants.{Job, Launcher, Node, Request, Swept as SweptPlace}
 use Rattle.np_layout.specs.Sets.{HasGoodIds}
-use Rattle.np_enact.specs.Carried.{AreHolders, IsCarried, IsOrdered}
+use Rattle.np_layout.specs.Carried.{AreHolders, IsCarried, IsOrdered}
 use Rattle.np_ready.specs.Ready.{IsTypedGrowth, StepsAreCarried}
 use Rattle.np_ready.proofs.SoundRows.{JobRow, job-low, job-row, pool-low}
 use Rattle.np_ready.proofs.KnownRows.{IsKnown, next-text, priority-text}

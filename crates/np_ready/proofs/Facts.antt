@@ -27,7 +27,7 @@ use Rattle.np_fits.specs.Fits.{Fits}
 use Rattle.np_safe.specs.Parts.{IsNumbered}
 use Rattle.np_safe.proofs.Ids.{kept-is, row-of}
 use Rattle.np_safe.proofs.Lookups.{same_request-is}
-use Rattle.np_enact.specs.Carried.{IsCarried}
+use Rattle.np_layout.specs.Carried.{IsCarried}
 
 -- ## requests
 

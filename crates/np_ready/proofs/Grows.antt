@@ -35,7 +35,7 @@ use Rattle.np_fits.specs.Fits.{Fits}
 use Rattle.np_safe.specs.Parts.{IsNumbered}
 use Rattle.np_safe.proofs.After.{same-new}
 use Rattle.np_safe.proofs.Ids.{row-of}
-use Rattle.np_enact.specs.Carried.{IsCarried}
+use Rattle.np_layout.specs.Carried.{IsCarried}
 use Rattle.np_enact.specs.Ways.{GrowthReady}
 use Rattle.np_ready.specs.Ready.{IsTypedGrowth}
 use Rattle.np_ready.proofs.Facts.{launcher-pool, next-free, request-spelled}

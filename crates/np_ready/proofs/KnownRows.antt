@@ -34,7 +34,7 @@ use Rattle.np_safe.specs.Parts.{Invariant}
 use Rattle.np_safe.proofs.Lookups.{node_in-below, same_request-is}
 use Rattle.np_places.specs.Place.{IsGood}
 use Rattle.np_places.specs.declared.place.Place.TheVariants.{Request}
-use Rattle.np_enact.specs.Carried.{IsCarried}
+use Rattle.np_layout.specs.Carried.{IsCarried}
 use Rattle.np_ready.specs.Ready.{IsTyped}
 
 -- the state is one of a run and can be carried, and the changes are of an event that is accepted in it

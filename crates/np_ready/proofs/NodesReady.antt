@@ -18,7 +18,7 @@ use Rattle.np_changes.specs.declared.changes.RequestsChange.{RequestsChange}
 use Rattle.np_fits.specs.Fits.{Fits}
 use Rattle.np_safe.specs.Parts.{AllocationsListed, Invariant}
 use Rattle.np_safe.proofs.Lookups.{same_request-is}
-use Rattle.np_enact.specs.Carried.{IsCarried}
+use Rattle.np_layout.specs.Carried.{IsCarried}
 use Rattle.np_enact.specs.Parts.{nodes_of}
 use Rattle.np_enact.specs.Ways.{NodesReady}
 use Rattle.np_ready.proofs.Facts.{each-found, request-spelled}

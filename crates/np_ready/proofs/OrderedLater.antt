@@ -44,7 +44,7 @@ use Rattle.np_safe.proofs.After.{made-look}
 use Rattle.np_safe.proofs.Registered.{registered-still}
 use Rattle.np_safe.proofs.Rising.{rises-insert_before}
 use Rattle.np_layout.proofs.SetLists.{within}
-use Rattle.np_enact.specs.Carried.{AreHolders, IsOrdered, is_pair_before}
+use Rattle.np_layout.specs.Carried.{AreHolders, IsOrdered, is_pair_before}
 use Rattle.np_ready.proofs.KnownRows.{IsKnown, launcher-low}
 
 -- ## handles

@@ -32,7 +32,7 @@ use Rattle.np_changes.proofs.PremisesOf.{premises}
 use Rattle.np_fits.specs.Fits.{RoleFits}
 use Rattle.np_safe.proofs.After.{made-look}
 use Rattle.np_enact.specs.Events.{in_call}
-use Rattle.np_enact.specs.Ways.{HasSpellings}
+use Rattle.np_layout.specs.Carried.{HasSpellings}
 use Rattle.np_ready.specs.Ready.{IsAccepted, RecordsAreSpelled}
 use Rattle.np_ready.proofs.SoundRows.{role-low}
 use Rattle.np_ready.proofs.KnownRows.{IsKnown}

@@ -11,8 +11,8 @@ use Rattle.np_lists.proofs.Each.{all-map}
 use Rattle.np_places.specs.Place.{IsGood}
 use Rattle.np_places.specs.declared.place.Place.TheVariants.{Job}
 use Rattle.np_layout.specs.Sets.{HasGoodIds}
-use Rattle.np_enact.specs.Carried.{AreHolders, IsOrdered}
-use Rattle.np_enact.specs.Ways.{HasSpellings}
+use Rattle.np_layout.specs.Carried.{AreHolders, IsOrdered}
+use Rattle.np_layout.specs.Carried.{HasSpellings}
 use Rattle.np_ready.specs.Ready.{StartsAreCarried}
 
 -- no job has a handle

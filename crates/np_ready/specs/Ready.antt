@@ -21,11 +21,11 @@ use Rattle.np_fits.specs.Fits.{Fits}
 use Rattle.np_safe.specs.Parts.{Invariant}
 use Rattle.np_places.specs.Place.{IsGood}
 use Rattle.np_places.specs.declared.place.Place.TheVariants.{Swept}
-use Rattle.np_enact.specs.Carried.{IsCarried, IsStored}
+use Rattle.np_layout.specs.Carried.{IsCarried, IsStored}
 use Rattle.np_enact.specs.Events.{IsEnacted, IsReady, called}
 use Rattle.np_enact.specs.Parts.{enacted, writer}
 use Rattle.np_enact.specs.Stands.{Stands}
-use Rattle.np_enact.specs.Ways.{HasSpellings}
+use Rattle.np_layout.specs.Carried.{HasSpellings}
 
 -- ## numbers that come with an event are within their types
 

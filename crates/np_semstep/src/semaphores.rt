@@ -1,6 +1,7 @@
 //! Events of semaphores: the answer, and the changes.
 
 ghost use Rattle.std.specs.Prelude.{◌≡◌, ◌<◌, true, is_ok, OnOk, OnErr};
+ghost use Rattle.np_nodes.specs.Calls.{with_spare};
 ghost use Rattle.np_machine.specs.State.{State};
 ghost use Rattle.np_machine.specs.Step.{judge, next, reply_of};
 ghost use Rattle.np_changes.specs.Planned.{IsReached};
@@ -31,7 +32,8 @@ pub fn judge_semaphore(tree: &Tree, config: &Config, event: Event) -> Reply
 
 /// Decides an accepted event of semaphores, and makes its changes: one call of the tree, in which
 /// fewer than 16,777,214 changes were made before. An error says that memory ran out, and then
-/// the state stays. The cost is that of the decision (`judge_semaphore`), and of the changes.
+/// only the memory for a session may be there that was not. The cost is that of the decision
+/// (`judge_semaphore`), and of the changes.
 pub fn enact_semaphore(
     alloc: Global,
     tree: &mut Tree,
@@ -48,6 +50,7 @@ pub fn enact_semaphore(
     ensures ok { OnOk result (decoded config.now tree.new
         ≡ next config.now (decoded config.now tree.old) event) }
     ensures err { OnErr result (decoded config.now tree.new ≡ decoded config.now tree.old) }
+    ensures same { OnErr result (tree.new ≡ with_spare tree.old tree.new.spare) }
     ensures laid { (s : State) → IsStored config.now s tree.old →
         OnOk result (IsStored config.now (next config.now s event) tree.new) }
 {

@@ -7,7 +7,6 @@ use Rattle.np_text.specs.declared.id.NodeId.{NodeId}
 use Rattle.np_text.specs.declared.id.RequestId.{RequestId}
 use Rattle.np_lists.proofs.Each.{all-find}
 use Rattle.np_lists.proofs.FoundLemmas.{find-change_first}
-use Rattle.np_nodes.specs.TreeState.{TreeState}
 use Rattle.np_nodes.specs.declared.op.Op.{Op}
 use Rattle.np_site.specs.Configuration.{Configuration}
 use Rattle.np_record.specs.declared.record.NodeRecord.{NodeRecord}
@@ -21,7 +20,7 @@ use Rattle.np_changes.specs.declared.changes.RequestEdit.{RequestEdit}
 use Rattle.np_changes.specs.declared.changes.RequestsChange.TheVariants.{Edit}
 use Rattle.np_layout.proofs.DeleteNodeWaits.{is_node_it}
 use Rattle.np_layout.proofs.DeleteRequestWaits.{is_request_it, request-good}
-use Rattle.np_enact.specs.Carried.{IsStored}
+use Rattle.np_layout.specs.Carried.{IsCarried}
 use Rattle.np_enact.specs.Parts.{where_there}
 
 -- ## parts
@@ -53,10 +52,10 @@ parts-behind old more first later parts one two is then_is all =
 
 -- ## requests
 
-module _ (c : Configuration) (s : State) (t : TreeState) (stored : IsStored c s t) (r : RequestId) (kept : RequestRecord) where
+module _ (c : Configuration) (s : State) (carried : IsCarried c s) (r : RequestId) (kept : RequestRecord) where
   text-by : (o : Option RequestEntry) → request_entry r s.requests ≡ o → Some kept ≡ option_map (λ (e : RequestEntry). e.kept) o → HasText r
   text-by None there is = absurd cc
-  text-by (Some e) there is = request-good r s.requests e stored.carried.good.requests there
+  text-by (Some e) there is = request-good r s.requests e carried.good.requests there
 
   -- the id of a request that is there has a text
   pub request-text : Some kept ≡ request_in r s.requests → HasText r

@@ -40,7 +40,7 @@ use Rattle.np_layout.specs.First.{make}
 use Rattle.np_layout.specs.Layout.{HasNodeLock, IsQueue, under}
 use Rattle.np_layout.specs.Sets.{set}
 use Rattle.np_layout.proofs.SetRequests.{same-is}
-use Rattle.np_enact.specs.Carried.{IsStored}
+use Rattle.np_layout.specs.Carried.{IsStored}
 use Rattle.np_enact.specs.Parts.{acquire_parts, allocate_parts, by_session, join_parts, where_there}
 use Rattle.np_readers.proofs.QueueRows.{is_waiting, lock-any}
 

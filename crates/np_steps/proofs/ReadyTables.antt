@@ -20,7 +20,8 @@ use Rattle.np_changes.specs.declared.changes.RequestsChange.TheVariants as reque
 use Rattle.np_changes.specs.declared.changes.SessionsChange.{SessionsChange}
 use Rattle.np_changes.specs.declared.changes.SessionsChange.TheVariants as sessions
 use Rattle.np_enact.specs.Events.{IsReady, in_call}
-use Rattle.np_enact.specs.Ways.{HasSpellings, with_deeds}
+use Rattle.np_layout.specs.Carried.{HasSpellings}
+use Rattle.np_enact.specs.Ways.{with_deeds}
 use Rattle.np_enact.proofs.Settled.{edit-leaves, freeing-grows, removal-grows, same-jobs, same-requests, same-roles}
 
 -- no session ends in the call, so no queue is left

@@ -1,5 +1,5 @@
 -- the records that are set, and the handles that go
-use Rattle.std.proofs.Common.{◌≡◌, ℕ, zero, suc, Bool, true, false, ◌||◌, cond, List, [], ◌∷◌, ◌++◌, length, Option, Some, None, Result, refl, sym, ap, subst, ◌∙◌, arith, append-nil}
+use Rattle.std.proofs.Common.{◌≡◌, ℕ, zero, suc, ◌-◌, Bool, true, false, ◌||◌, cond, List, [], ◌∷◌, ◌++◌, length, Option, Some, None, Result, refl, sym, ap, subst, ◌∙◌, arith, append-nil}
 use Rattle.std.proofs.Math.Path.{ap₂}
 use Rattle.std.specs.Prelude.{◌==◌, not, slice_get, slice_set, unwrap_or, IfSome, OnOk}
 use Rattle.std.specs.List.{AllByRecursion, list_any}
@@ -10,6 +10,7 @@ use Rattle.np_text.specs.declared.id.PoolId.{PoolId}
 use Rattle.np_text.specs.declared.id.Role.{Role}
 use Rattle.np_text.specs.declared.id.Role.TheVariants as role
 use Rattle.np_text.specs.declared.id.SemId.{SemId}
+use Rattle.np_text.specs.declared.id.SessionId.{SessionId}
 use Rattle.np_text.specs.declared.memory.NoMemory.{NoMemory}
 use Rattle.np_lists.specs.Change.{change_at}
 use Rattle.np_lists.specs.EachAfter.{EachAfter}
@@ -20,15 +21,14 @@ use Rattle.np_site.specs.Configuration.{Configuration}
 use Rattle.np_site.specs.Sound.{IsSound, IsJob, IsTaken, StandsByOwner, is_untaken}
 use Rattle.np_site.specs.declared.row.Job.{Job}
 use Rattle.np_record.specs.declared.record.RoleRecord.{RoleRecord}
-use Rattle.np_record.specs.declared.record.SessionRecord.{SessionRecord}
-use Rattle.np_spelling.specs.Spelling.{IsRole, IsSession, IsSessionRole, role_text}
+use Rattle.np_spelling.specs.Spelling.{IsRole, IsSessionRole, role_text}
 use Rattle.np_machine.specs.Node.{one_more_start}
 use Rattle.np_machine.specs.Semaphore.{without_handle}
 use Rattle.np_machine.specs.Session.{struck_unless}
 use Rattle.np_machine.specs.State.{State}
 use Rattle.np_machine.specs.Step.{one_more_act}
 use Rattle.np_machine.specs.declared.state.SessionFacts.{SessionFacts}
-use Rattle.np_machine.specs.Tables.{change_role, has_handle, is_among, role_in}
+use Rattle.np_machine.specs.Tables.{change_role, has_handle, is_among, role_in, session_of}
 use Rattle.np_changes.specs.Changes.{semaphores_of}
 use Rattle.np_changes.specs.declared.changes.Deed.{Deed}
 use Rattle.np_changes.specs.declared.changes.Deed.TheVariants as deed
@@ -39,8 +39,8 @@ use Rattle.np_layout.specs.Deletes.{delete}
 use Rattle.np_layout.specs.Sets.{set}
 use Rattle.np_enact.proofs.RecordParts.{slice_get-set}
 use Rattle.np_enact.specs.Parts.{release_parts, role_parts, where_there}
-use Rattle.np_enact.specs.Ways.{HasSpellings, with_deeds}
-use Rattle.np_readers.proofs.Stored.{kept_of}
+use Rattle.np_layout.specs.Carried.{HasSpellings}
+use Rattle.np_enact.specs.Ways.{with_deeds}
 use Rattle.np_steps.specs.Releases.{each_released, released}
 
 -- ## what is there, and what is not
@@ -95,16 +95,12 @@ strikes-fit maker what who counted s is spelled = role-fits (struck_unless count
 
 -- ## sessions
 
--- the parts for a session that was begun
-pub muted-parts : (f : Role → List Op) (r : Result (Unit {0}) NoMemory) (later items : List Op) (o : Option SessionFacts) (kept : SessionRecord) → Some kept ≡ option_map kept_of o → OnOk r (later ≡ items ++ f kept.role) → OnOk r (later ≡ items ++ where_there o (λ facts. f facts.role))
-muted-parts f r later items None kept there parts = absurd cc
-muted-parts f r later items (Some facts) kept there parts =
-    let same : kept ≡ kept_of facts = cc in
-    subst (λ (k : SessionRecord). OnOk r (later ≡ items ++ f k.role)) same parts
-
--- its role may have a session
-pub muted-sound : (o : Option SessionRecord) (kept : SessionRecord) → Some kept ≡ o → IfSome o IsSession → IsSessionRole kept.role
-muted-sound o kept is sound = subst (λ (x : Option SessionRecord). IfSome x IsSession) (sym is) sound
+-- the role of a session that was begun may have a session
+pub session-role : (s : State) (k : SessionId) (facts : SessionFacts) → AllByRecursion (λ f. IsSessionRole f.role) s.sessions → Some facts ≡ session_of k s → IsSessionRole facts.role
+session-role s k facts all there = by (k.0 == 0) there where
+  by : (b : Bool) → Some facts ≡ cond b None (slice_get s.sessions (k.0 - 1)) → IsSessionRole facts.role
+  by true there = absurd cc
+  by false there = all-at (λ (f : SessionFacts). IsSessionRole f.role) s.sessions (k.0 - 1) facts all (sym there)
 
 -- ## handles
 

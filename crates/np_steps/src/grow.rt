@@ -21,18 +21,16 @@ ghost use Rattle.np_layout.specs.Creates.{node_parts, request_parts, request_pre
 ghost use Rattle.np_layout.specs.First.{make};
 ghost use Rattle.np_layout.specs.Layout.{under};
 ghost use Rattle.np_layout.specs.Rows.{tree_session};
-ghost use Rattle.np_enact.specs.Carried.{IsStored};
+ghost use Rattle.np_layout.specs.Carried.{IsStored};
 ghost use Rattle.np_enact.specs.Parts.{acquire_parts, allocate_parts, by_session, grown_parts, join_parts, where_there};
 ghost use Rattle.np_enact.specs.Ways.{GrowthReady};
-ghost use Rattle.np_decode.specs.Decoded.{decoded};
 
 use crate::ops::{child, push_make, push_set, push_wait, waits};
 use np_changes::{Asked, Growth, Maker};
-use np_config::Config;
+use np_look::Rows;
 use np_nodes::{Bytes, Mode, Op};
 use np_path::Path;
 use np_places::{Place, to_path};
-use np_readers::{has_handle, next_node, next_request, node, sessions, swept};
 use np_record::{DeclineRow, NodeRecord, RequestRecord, SessionRecord};
 use np_spelling::Record;
 use np_text::{JobId, NoMemory, NodeId, PoolId, RequestId, Role, SemId, SessionId, TenantId};
@@ -49,33 +47,33 @@ struct Allocation {
 
 /// Puts the parts for what grows behind others. What only a maker's session makes has no parts if
 /// there is no maker.
-pub(crate) fn push_growth(
+pub(crate) fn push_growth<R: Rows>(
     alloc: Global,
     ops: &mut Vec<Op>,
     tree: &Tree,
-    config: &Config,
+    rows: &R,
     maker: Option<Maker>,
     growth: &Growth,
 ) -> Result<(), NoMemory>
-    requires stored { IsStored config.now (decoded config.now tree.now) tree.now }
-    requires ready { GrowthReady config.now maker growth.now (decoded config.now tree.now) }
+    requires stored { IsStored (R.site rows.now) (R.state rows.now) tree.now }
+    requires ready { GrowthReady (R.site rows.now) maker growth.now (R.state rows.now) }
     ensures { OnOk result (ops.new.items
-        ≡ ops.old.items ++ grown_parts config.now maker growth.now (decoded config.now tree.now)) }
+        ≡ ops.old.items ++ grown_parts (R.site rows.now) maker growth.now (R.state rows.now)) }
 {
     match growth {
         Growth::Nothing => Ok(()),
         Growth::Session { role } => {
-            let session = SessionId(sessions(tree) + 1);
+            let session = SessionId(rows.sessions() + 1);
             push_session(alloc, ops, session, *role)
         }
         Growth::Registration { pool } => push_registration(alloc, ops, maker, *pool),
         Growth::Request { priority, asked } => {
             let priority = *priority;
-            let seq = next_request(tree);
+            let seq = rows.next_request();
             let kept = new_record(asked);
             push_request(alloc, ops, RequestId { priority, seq }, &kept)
         }
-        Growth::Node { kept } => push_node(alloc, ops, NodeId(next_node(tree)), kept),
+        Growth::Node { kept } => push_node(alloc, ops, NodeId(rows.next_node()), kept),
         Growth::JoinRequest { request } => push_request_wait(alloc, ops, tree, maker, *request),
         Growth::JoinNode { node } => push_node_wait(alloc, ops, tree, maker, *node),
         Growth::Allocate {
@@ -88,10 +86,10 @@ pub(crate) fn push_growth(
                 request: *request,
                 tenant: *tenant,
             };
-            push_allocation(alloc, ops, tree, config, maker, allocation)
+            push_allocation(alloc, ops, tree, rows, maker, allocation)
         }
-        Growth::Handles { job } => push_handles(alloc, ops, tree, config, *job),
-        Growth::Swept { node, server } => push_swept(alloc, ops, tree, *node, *server),
+        Growth::Handles { job } => push_handles(alloc, ops, rows, *job),
+        Growth::Swept { node, server } => push_swept(alloc, ops, rows, *node, *server),
     }
 }
 
@@ -263,26 +261,26 @@ fn push_node_wait(
 
 /// Writes a node's record with its request and tenant, and then waits at its lock, unless the maker
 /// waits there. A node that is not there has no parts.
-fn push_allocation(
+fn push_allocation<R: Rows>(
     alloc: Global,
     ops: &mut Vec<Op>,
     tree: &Tree,
-    config: &Config,
+    rows: &R,
     maker: Option<Maker>,
     allocation: Allocation,
 ) -> Result<(), NoMemory>
-    requires stored { IsStored config.now (decoded config.now tree.now) tree.now }
+    requires stored { IsStored (R.site rows.now) (R.state rows.now) tree.now }
     requires text { HasText allocation.request }
     requires tenant { IfSome allocation.tenant (λ t. t.0 < 2 ^ 16) }
     ensures { OnOk result (ops.new.items ≡ ops.old.items
         ++ by_session maker (λ session. where_there
-        (node_entry allocation.node (decoded config.now tree.now).nodes)
+        (node_entry allocation.node (R.state rows.now).nodes)
         (allocate_parts allocation.request allocation.tenant session))) }
 {
     let Some(_) = maker else {
         return Ok(());
     };
-    let Some(mut kept) = node(tree, allocation.node) else {
+    let Some(mut kept) = rows.node(allocation.node) else {
         return Ok(());
     };
     kept.allocated_to = Some(allocation.request);
@@ -292,75 +290,72 @@ fn push_allocation(
 }
 
 /// Makes a handle of each of the job's semaphores of which it has none.
-fn push_handles(
+fn push_handles<R: Rows>(
     alloc: Global,
     ops: &mut Vec<Op>,
-    tree: &Tree,
-    config: &Config,
+    rows: &R,
     job: JobId,
 ) -> Result<(), NoMemory>
-    requires stored { IsStored config.now (decoded config.now tree.now) tree.now }
     ensures { OnOk result (ops.new.items ≡ ops.old.items
-        ++ acquire_parts job (semaphores_of config.now job) (decoded config.now tree.now).handles) }
+        ++ acquire_parts job (semaphores_of (R.site rows.now) job) (R.state rows.now).handles) }
 {
+    let config = rows.config();
     // No job of a configuration names a semaphore twice.
     config.soundness();
     match config.job(job) {
-        Some(row) => push_each_handle(alloc, ops, tree, job, row.semaphores.items()),
+        Some(row) => push_each_handle(alloc, ops, rows, job, row.semaphores.items()),
         None => Ok(()),
     }
 }
 
 /// Makes a handle of each of the semaphores of which the job has none.
-fn push_each_handle(
+fn push_each_handle<R: Rows>(
     alloc: Global,
     ops: &mut Vec<Op>,
-    tree: &Tree,
+    rows: &R,
     job: JobId,
     semaphores: &[SemId],
 ) -> Result<(), NoMemory>
-    ensures { (c : Configuration) (s : State) → IsStored c s tree.now →
-        OnOk result (ops.new.items ≡ ops.old.items ++ map (λ x. make [] (Handle x job))
-        (filter (λ x. not (has_handle job s.handles x)) semaphores.now)) }
+    ensures { OnOk result (ops.new.items ≡ ops.old.items ++ map (λ x. make [] (Handle x job))
+        (filter (λ x. not (has_handle job (R.state rows.now).handles x)) semaphores.now)) }
 {
     for semaphore in semaphores {
-        push_handle(alloc, ops, tree, *semaphore, job)?;
+        push_handle(alloc, ops, rows, *semaphore, job)?;
     }
     Ok(())
 }
 
 /// Makes the job's handle of a semaphore, unless it has one.
-fn push_handle(
+fn push_handle<R: Rows>(
     alloc: Global,
     ops: &mut Vec<Op>,
-    tree: &Tree,
+    rows: &R,
     semaphore: SemId,
     job: JobId,
 ) -> Result<(), NoMemory>
-    ensures { (c : Configuration) (s : State) → IsStored c s tree.now →
-        OnOk result (ops.new.items ≡ ops.old.items
-        ++ (if has_handle job s.handles semaphore then []
+    ensures { OnOk result (ops.new.items ≡ ops.old.items
+        ++ (if has_handle job (R.state rows.now).handles semaphore then []
         else make [] (Handle semaphore job) ∷ [])) }
 {
-    if has_handle(tree, semaphore, job) {
+    if rows.has_handle(semaphore, job) {
         return Ok(());
     }
     push_make(alloc, ops, Place::Handle(semaphore, job))
 }
 
 /// Marks a server of a node as swept, unless it is.
-fn push_swept(
+fn push_swept<R: Rows>(
     alloc: Global,
     ops: &mut Vec<Op>,
-    tree: &Tree,
+    rows: &R,
     node: NodeId,
     server: u64,
 ) -> Result<(), NoMemory>
-    ensures { (c : Configuration) (s : State) → IsStored c s tree.now →
-        OnOk result (ops.new.items ≡ ops.old.items
-        ++ (if is_swept node server s.swept then [] else make [] (Swept node server) ∷ [])) }
+    ensures { OnOk result (ops.new.items ≡ ops.old.items
+        ++ (if is_swept node server (R.state rows.now).swept then []
+        else make [] (Swept node server) ∷ [])) }
 {
-    if swept(tree, node, server) {
+    if rows.swept(node, server) {
         return Ok(());
     }
     push_make(alloc, ops, Place::Swept(node, server))

@@ -8,18 +8,16 @@ ghost use Rattle.np_changes.specs.Changes.{nodes_changed};
 ghost use Rattle.np_places.specs.declared.place.Place.TheVariants.{Node, NodeLock};
 ghost use Rattle.np_layout.specs.Deletes.{node_deletes};
 ghost use Rattle.np_layout.specs.Sets.{set};
-ghost use Rattle.np_decode.specs.Decoded.{decoded};
-ghost use Rattle.np_enact.specs.Carried.{IsStored};
+ghost use Rattle.np_layout.specs.Carried.{IsCarried};
 ghost use Rattle.np_enact.specs.Parts.{change_parts, each_changed, leave_parts, nodes_of, nodes_parts, where_there};
 ghost use Rattle.np_enact.specs.Ways.{NodesReady};
 ghost use Rattle.np_steps.specs.NodeEdits.{KeepsNodes, edited_entry, edited_record};
 
 use crate::ops::{push_delete, push_deletes, push_leave, push_set};
 use np_changes::{Maker, NodesChange};
-use np_config::Config;
+use np_look::Rows;
 use np_nodes::Op;
 use np_places::Place;
-use np_readers::{node, request, tick};
 use np_record::NodeRecord;
 use np_text::{NoMemory, NodeId, NodeState, RequestId, SessionId};
 use np_tree::Tree;
@@ -36,74 +34,71 @@ pub(crate) enum NodeEdit {
 
 /// Puts the parts for a change of the nodes behind others. If memory runs out nothing is promised
 /// of them.
-pub(crate) fn push_nodes(
+pub(crate) fn push_nodes<R: Rows>(
     alloc: Global,
     ops: &mut Vec<Op>,
     tree: &Tree,
-    config: &Config,
+    rows: &R,
     maker: Option<Maker>,
     change: &NodesChange,
 ) -> Result<(), NoMemory>
-    requires stored { IsStored config.now (decoded config.now tree.now) tree.now }
-    requires spelled { let s = decoded config.now tree.now in
+    requires carried { IsCarried (R.site rows.now) (R.state rows.now) }
+    requires spelled { let s = R.state rows.now in
         AllByRecursion (λ e. IsNode e.kept) (nodes_changed maker s.tick change.now s.nodes) }
-    requires ready { let s = decoded config.now tree.now in
+    requires ready { let s = R.state rows.now in
         NodesReady change.now s.tick s.requests s.nodes }
-    ensures { let s = decoded config.now tree.now in OnOk result (ops.new.items ≡ ops.old.items
+    ensures { let s = R.state rows.now in OnOk result (ops.new.items ≡ ops.old.items
         ++ nodes_parts maker s.tick s.requests change.now s.nodes tree.now) }
 {
     match change {
         NodesChange::Same => Ok(()),
-        NodesChange::Put { node, kept } => push_record(alloc, ops, tree, config, *node, kept),
-        NodesChange::Remove { node } => push_removal(alloc, ops, tree, config, *node),
+        NodesChange::Put { node, kept } => push_record(alloc, ops, rows, *node, kept),
+        NodesChange::Remove { node } => push_removal(alloc, ops, tree, rows, *node),
         NodesChange::Leave { node } => match maker {
-            Some(maker) => push_leaving(alloc, ops, tree, config, maker.session, *node),
+            Some(maker) => push_leaving(alloc, ops, tree, rows, maker.session, *node),
             None => Ok(()),
         },
-        NodesChange::FreeAll { request } => push_freed(alloc, ops, tree, config, *request),
+        NodesChange::FreeAll { request } => push_freed(alloc, ops, rows, *request),
         NodesChange::TakeOver { nodes } => {
-            let edit = NodeEdit::TakeOver { tick: tick(tree) };
-            push_edits(alloc, ops, tree, config, edit, nodes.items())
+            let edit = NodeEdit::TakeOver { tick: rows.tick() };
+            push_edits(alloc, ops, rows, edit, nodes.items())
         }
     }
 }
 
 /// A set of the node's record to another, if the node is there.
-fn push_record(
+fn push_record<R: Rows>(
     alloc: Global,
     ops: &mut Vec<Op>,
-    tree: &Tree,
-    config: &Config,
+    rows: &R,
     id: NodeId,
     kept: &NodeRecord,
 ) -> Result<(), NoMemory>
-    requires stored { IsStored config.now (decoded config.now tree.now) tree.now }
-    requires spelled { AllByRecursion (λ e. IsNode e.kept)
-        (put_node id kept.now (decoded config.now tree.now).nodes) }
+    requires { AllByRecursion (λ e. IsNode e.kept)
+        (put_node id kept.now (R.state rows.now).nodes) }
     ensures { OnOk result (ops.new.items ≡ ops.old.items
-        ++ where_there (node_entry id (decoded config.now tree.now).nodes)
+        ++ where_there (node_entry id (R.state rows.now).nodes)
         (λ e. set (node_text kept.now) (Node id) ∷ [])) }
 {
-    let Some(_) = node(tree, id) else {
+    let Some(_) = rows.node(id) else {
         return Ok(());
     };
     push_set(alloc, ops, Place::Node(id), kept)
 }
 
 /// The deletes of the node's waits, of its lock and of its record, if the node is there.
-fn push_removal(
+fn push_removal<R: Rows>(
     alloc: Global,
     ops: &mut Vec<Op>,
     tree: &Tree,
-    config: &Config,
+    rows: &R,
     id: NodeId,
 ) -> Result<(), NoMemory>
-    requires stored { IsStored config.now (decoded config.now tree.now) tree.now }
     ensures { OnOk result (ops.new.items ≡ ops.old.items
-        ++ where_there (node_entry id (decoded config.now tree.now).nodes)
+        ++ where_there (node_entry id (R.state rows.now).nodes)
         (λ e. node_deletes id tree.now)) }
 {
-    let Some(_) = node(tree, id) else {
+    let Some(_) = rows.node(id) else {
         return Ok(());
     };
     push_deletes(alloc, ops, tree, Place::NodeLock(id))?;
@@ -112,80 +107,76 @@ fn push_removal(
 }
 
 /// The delete of the session's wait for the node, if the node is there.
-fn push_leaving(
+fn push_leaving<R: Rows>(
     alloc: Global,
     ops: &mut Vec<Op>,
     tree: &Tree,
-    config: &Config,
+    rows: &R,
     session: SessionId,
     id: NodeId,
 ) -> Result<(), NoMemory>
-    requires stored { IsStored config.now (decoded config.now tree.now) tree.now }
     ensures { OnOk result (ops.new.items ≡ ops.old.items
-        ++ where_there (node_entry id (decoded config.now tree.now).nodes)
+        ++ where_there (node_entry id (R.state rows.now).nodes)
         (λ e. leave_parts (NodeLock id) tree.now session)) }
 {
-    let Some(_) = node(tree, id) else {
+    let Some(_) = rows.node(id) else {
         return Ok(());
     };
     push_leave(alloc, ops, tree, Place::NodeLock(id), session)
 }
 
 /// A set of each of the request's nodes to its record, free.
-fn push_freed(
+fn push_freed<R: Rows>(
     alloc: Global,
     ops: &mut Vec<Op>,
-    tree: &Tree,
-    config: &Config,
+    rows: &R,
     id: RequestId,
 ) -> Result<(), NoMemory>
-    requires stored { IsStored config.now (decoded config.now tree.now) tree.now }
-    ensures { let s = decoded config.now tree.now in OnOk result (ops.new.items ≡ ops.old.items
+    requires { IsCarried (R.site rows.now) (R.state rows.now) }
+    ensures { let s = R.state rows.now in OnOk result (ops.new.items ≡ ops.old.items
         ++ each_changed (freed_from id) (nodes_of id s.requests) s.nodes) }
 {
-    let Some(kept) = request(tree, id) else {
+    let Some(kept) = rows.request(id) else {
         return Ok(());
     };
     let edit = NodeEdit::Free { request: id };
-    push_edits(alloc, ops, tree, config, edit, kept.nodes.items())
+    push_edits(alloc, ops, rows, edit, kept.nodes.items())
 }
 
 /// A set of each of the nodes that is there to its record, edited.
-fn push_edits(
+fn push_edits<R: Rows>(
     alloc: Global,
     ops: &mut Vec<Op>,
-    tree: &Tree,
-    config: &Config,
+    rows: &R,
     edit: NodeEdit,
     nodes: &[NodeId],
 ) -> Result<(), NoMemory>
-    requires stored { IsStored config.now (decoded config.now tree.now) tree.now }
+    requires carried { IsCarried (R.site rows.now) (R.state rows.now) }
     requires sound { KeepsNodes edit }
     ensures { OnOk result (ops.new.items ≡ ops.old.items
-        ++ each_changed (edited_entry edit) nodes.now (decoded config.now tree.now).nodes) }
+        ++ each_changed (edited_entry edit) nodes.now (R.state rows.now).nodes) }
 {
     for node in nodes {
-        push_edit(alloc, ops, tree, config, edit, *node)?;
+        push_edit(alloc, ops, rows, edit, *node)?;
     }
     Ok(())
 }
 
 /// A set of the node's record, edited, if the node is there.
-fn push_edit(
+fn push_edit<R: Rows>(
     alloc: Global,
     ops: &mut Vec<Op>,
-    tree: &Tree,
-    config: &Config,
+    rows: &R,
     edit: NodeEdit,
     id: NodeId,
 ) -> Result<(), NoMemory>
-    requires stored { IsStored config.now (decoded config.now tree.now) tree.now }
+    requires carried { IsCarried (R.site rows.now) (R.state rows.now) }
     requires sound { KeepsNodes edit }
     ensures { OnOk result (ops.new.items ≡ ops.old.items
-        ++ where_there (node_entry id (decoded config.now tree.now).nodes)
+        ++ where_there (node_entry id (R.state rows.now).nodes)
         (change_parts (edited_entry edit))) }
 {
-    let Some(kept) = node(tree, id) else {
+    let Some(kept) = rows.node(id) else {
         return Ok(());
     };
     let later = edited(edit, kept);

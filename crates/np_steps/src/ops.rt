@@ -18,6 +18,7 @@ ghost use Rattle.np_layout.specs.Rows.{tree_session};
 ghost use Rattle.np_layout.specs.Sets.{set};
 ghost use Rattle.np_enact.specs.Parts.{leave_parts};
 
+use np_lock::enqueue_op;
 use np_nodes::{Bytes, Expect, Mode, Op};
 use np_path::Path;
 use np_places::{PathText, Place, to_path};
@@ -78,10 +79,7 @@ pub(crate) fn push_wait(alloc: Global, ops: &mut Vec<Op>, lock: Place) -> Result
     ensures { OnOk result (ops.new.items ≡ ops.old.items ++ wait_at lock ∷ []) }
 {
     let dir = to_path(alloc, lock)?;
-    let path = child(&dir, "lock-")?;
-    let bytes = Bytes::new(Vec::new(alloc));
-    let mode = Mode::EphemeralSequential;
-    ops.push(Op::Create { path, bytes, mode })?;
+    ops.push(enqueue_op(alloc, &dir)?)?;
     Ok(())
 }
 

@@ -3,101 +3,88 @@
 ghost use Rattle.std.specs.Prelude.{◌≡◌, ◌<◌, ◌≤◌, ◌+◌, ◌^◌, ◌++◌, ◌∷◌, [], true, length, map, slice_get, IfSome, OnOk};
 ghost use Rattle.std.specs.Fmt.{decimal};
 ghost use Rattle.std.specs.List.{AllByRecursion};
-ghost use Rattle.std.specs.Option.{option_copied, option_map};
 ghost use Rattle.np_lists.specs.Change.{change_at};
-ghost use Rattle.np_site.specs.Configuration.{Configuration};
 ghost use Rattle.np_spelling.specs.Spelling.{IsJob, IsRole, IsSessionRole, job_text, role_text, session_text};
 ghost use Rattle.np_machine.specs.Node.{marked, one_more_start, with_mark};
 ghost use Rattle.np_machine.specs.Session.{struck_unless};
-ghost use Rattle.np_machine.specs.State.{State};
 ghost use Rattle.np_machine.specs.Step.{one_more_act};
-ghost use Rattle.np_machine.specs.Tables.{has_handle, put_job, role_in, session_of};
+ghost use Rattle.np_machine.specs.Tables.{has_handle, put_job, role_in};
 ghost use Rattle.np_changes.specs.Changes.{jobs_changed};
-ghost use Rattle.np_places.specs.Place.{IsGood, path_of};
-ghost use Rattle.np_tree.specs.Read.{bytes_at};
+ghost use Rattle.np_places.specs.Place.{IsGood};
 ghost use Rattle.np_places.specs.Roles.{place_of_role};
 ghost use Rattle.np_places.specs.declared.place.Place.TheVariants as place;
 ghost use Rattle.np_text.specs.declared.id.Role.TheVariants as role;
 ghost use Rattle.np_layout.specs.Sets.{set};
-ghost use Rattle.np_enact.specs.Carried.{IsStored};
 ghost use Rattle.np_enact.specs.Parts.{deed_parts, handles_parts, jobs_parts, role_parts, session_parts, tick_parts, where_there};
-ghost use Rattle.np_enact.specs.Ways.{HasSpellings, with_deeds};
-ghost use Rattle.np_decode.specs.Decoded.{decoded};
+ghost use Rattle.np_layout.specs.Carried.{HasSpellings};
+ghost use Rattle.np_enact.specs.Ways.{with_deeds};
 ghost use Rattle.np_steps.specs.Releases.{each_released, released};
 
 use crate::ops::{push_delete, push_set};
 use np_changes::{Deed, HandlesChange, JobsChange, Maker, SessionsChange};
-use np_config::Config;
+use np_look::Rows;
 use np_nodes::{Bytes, Expect, Op};
-use np_places::{PathText, Place, to_path};
-use np_readers::{has_handle, job, role, tick};
+use np_places::{Place, to_path};
 use np_record::{JobRecord, MarkRow, Marked, RoleRecord, SessionRecord};
 use np_spelling::Record;
 use np_text::{JobId, NoMemory, NodeId, Role, SemId, SessionId, put_number};
-use np_tree::Tree;
 use std::alloc::Global;
 
 /// Puts the parts for a change of the jobs behind others: a job's record is set, if it is there. If
 /// memory runs out nothing is promised of them.
-pub(crate) fn push_jobs(
+pub(crate) fn push_jobs<R: Rows>(
     alloc: Global,
     ops: &mut Vec<Op>,
-    tree: &Tree,
-    config: &Config,
+    rows: &R,
     change: &JobsChange,
 ) -> Result<(), NoMemory>
-    requires stored { IsStored config.now (decoded config.now tree.now) tree.now }
-    requires spelled { AllByRecursion IsJob
-        (jobs_changed change.now (decoded config.now tree.now).jobs) }
+    requires { AllByRecursion IsJob
+        (jobs_changed change.now (R.state rows.now).jobs) }
     ensures { OnOk result (ops.new.items ≡ ops.old.items
-        ++ jobs_parts change.now (decoded config.now tree.now).jobs) }
+        ++ jobs_parts change.now (R.state rows.now).jobs) }
 {
     match change {
         JobsChange::Same => Ok(()),
-        JobsChange::Put { job, kept } => push_job(alloc, ops, tree, config, *job, kept),
-        JobsChange::EndNode { job, node } => push_mark(alloc, ops, tree, config, *job, *node),
+        JobsChange::Put { job, kept } => push_job(alloc, ops, rows, *job, kept),
+        JobsChange::EndNode { job, node } => push_mark(alloc, ops, rows, *job, *node),
     }
 }
 
 /// Another record of the job, if it is there.
-fn push_job(
+fn push_job<R: Rows>(
     alloc: Global,
     ops: &mut Vec<Op>,
-    tree: &Tree,
-    config: &Config,
+    rows: &R,
     id: JobId,
     kept: &JobRecord,
 ) -> Result<(), NoMemory>
-    requires stored { IsStored config.now (decoded config.now tree.now) tree.now }
-    requires spelled { AllByRecursion IsJob
-        (put_job id kept.now (decoded config.now tree.now).jobs) }
+    requires { AllByRecursion IsJob
+        (put_job id kept.now (R.state rows.now).jobs) }
     ensures { OnOk result (ops.new.items ≡ ops.old.items
-        ++ where_there (slice_get (decoded config.now tree.now).jobs id.0)
+        ++ where_there (slice_get (R.state rows.now).jobs id.0)
         (λ old. set (job_text kept.now) (place.Job id) ∷ [])) }
 {
-    match job(tree, id) {
+    match rows.job(id) {
         Some(_) => push_set(alloc, ops, Place::Job(id), kept),
         None => Ok(()),
     }
 }
 
 /// The node is marked ended in the job, if the job is there.
-fn push_mark(
+fn push_mark<R: Rows>(
     alloc: Global,
     ops: &mut Vec<Op>,
-    tree: &Tree,
-    config: &Config,
+    rows: &R,
     id: JobId,
     node: NodeId,
 ) -> Result<(), NoMemory>
-    requires stored { IsStored config.now (decoded config.now tree.now) tree.now }
-    requires spelled { AllByRecursion IsJob
-        (change_at id.0 (with_mark node) (decoded config.now tree.now).jobs) }
+    requires { AllByRecursion IsJob
+        (change_at id.0 (with_mark node) (R.state rows.now).jobs) }
     ensures { OnOk result (ops.new.items ≡ ops.old.items
-        ++ where_there (slice_get (decoded config.now tree.now).jobs id.0)
+        ++ where_there (slice_get (R.state rows.now).jobs id.0)
         (λ old. set (job_text (with_mark node old)) (place.Job id) ∷ [])) }
 {
-    match job(tree, id) {
+    match rows.job(id) {
         Some(old) => push_set(alloc, ops, Place::Job(id), &with_mark(node, old)),
         None => Ok(()),
     }
@@ -131,61 +118,57 @@ fn marks_with(node: NodeId, marks: &[Marked]) -> MarkRow
 
 /// Puts the parts for a change of the handles behind others: a job gives its handles back. If
 /// memory runs out nothing is promised of them.
-pub(crate) fn push_handles(
+pub(crate) fn push_handles<R: Rows>(
     alloc: Global,
     ops: &mut Vec<Op>,
-    tree: &Tree,
-    config: &Config,
+    rows: &R,
     change: &HandlesChange,
 ) -> Result<(), NoMemory>
-    requires stored { IsStored config.now (decoded config.now tree.now) tree.now }
     ensures { OnOk result (ops.new.items ≡ ops.old.items
-        ++ handles_parts config.now change.now (decoded config.now tree.now).handles) }
+        ++ handles_parts (R.site rows.now) change.now (R.state rows.now).handles) }
 {
-    config.soundness();
     let HandlesChange::Release { job } = change else {
         return Ok(());
     };
+    let config = rows.config();
+    // No job of a configuration names a semaphore twice.
+    config.soundness();
     match config.job(*job) {
-        Some(row) => push_releases(alloc, ops, tree, config, *job, row.semaphores.items()),
+        Some(row) => push_releases(alloc, ops, rows, *job, row.semaphores.items()),
         None => Ok(()),
     }
 }
 
 /// The job's handle of each of the semaphores goes, if it has one.
-fn push_releases(
+fn push_releases<R: Rows>(
     alloc: Global,
     ops: &mut Vec<Op>,
-    tree: &Tree,
-    config: &Config,
+    rows: &R,
     job: JobId,
     semaphores: &[SemId],
 ) -> Result<(), NoMemory>
-    requires stored { IsStored config.now (decoded config.now tree.now) tree.now }
     ensures { OnOk result (ops.new.items ≡ ops.old.items
-        ++ each_released job semaphores.now (decoded config.now tree.now).handles) }
+        ++ each_released job semaphores.now (R.state rows.now).handles) }
 {
     let [semaphore, rest @ ..] = semaphores else {
         return Ok(());
     };
-    push_release(alloc, ops, tree, config, job, *semaphore)?;
-    push_releases(alloc, ops, tree, config, job, rest)
+    push_release(alloc, ops, rows, job, *semaphore)?;
+    push_releases(alloc, ops, rows, job, rest)
 }
 
 /// The job's handle of the semaphore goes, if it has one.
-fn push_release(
+fn push_release<R: Rows>(
     alloc: Global,
     ops: &mut Vec<Op>,
-    tree: &Tree,
-    config: &Config,
+    rows: &R,
     job: JobId,
     semaphore: SemId,
 ) -> Result<(), NoMemory>
-    requires stored { IsStored config.now (decoded config.now tree.now) tree.now }
     ensures { OnOk result (ops.new.items ≡ ops.old.items
-        ++ released job semaphore (decoded config.now tree.now).handles) }
+        ++ released job semaphore (R.state rows.now).handles) }
 {
-    if has_handle(tree, semaphore, job) {
+    if rows.has_handle(semaphore, job) {
         push_delete(alloc, ops, Place::Handle(semaphore, job))
     } else {
         Ok(())
@@ -194,49 +177,38 @@ fn push_release(
 
 /// Puts the parts for what is counted in one role's record behind others. If memory runs out nothing
 /// is promised of them.
-pub(crate) fn push_deed(
+pub(crate) fn push_deed<R: Rows>(
     alloc: Global,
     ops: &mut Vec<Op>,
-    tree: &Tree,
-    config: &Config,
+    rows: &R,
     maker: Option<Maker>,
     deed: Option<Deed>,
 ) -> Result<(), NoMemory>
-    requires stored { IsStored config.now (decoded config.now tree.now) tree.now }
-    requires spelled { HasSpellings (with_deeds maker deed (decoded config.now tree.now)) }
+    requires { HasSpellings (with_deeds maker deed (R.state rows.now)) }
     ensures { OnOk result (ops.new.items ≡ ops.old.items
-        ++ deed_parts maker deed (decoded config.now tree.now)) }
+        ++ deed_parts maker deed (R.state rows.now)) }
 {
     let Some(deed) = deed else {
         return Ok(());
     };
     match deed {
         Deed::Acts => match maker {
-            Some(maker) => push_act(alloc, ops, tree, config, maker.role),
+            Some(maker) => push_act(alloc, ops, rows, maker.role),
             None => Ok(()),
         },
-        Deed::StartsAndActs { pool } => {
-            push_start(alloc, ops, tree, config, Role::Launcher(pool))
-        }
-        Deed::Strikes { role, counted } => { push_strike(alloc, ops, tree, config, role, counted) }
+        Deed::StartsAndActs { pool } => { push_start(alloc, ops, rows, Role::Launcher(pool)) }
+        Deed::Strikes { role, counted } => { push_strike(alloc, ops, rows, role, counted) }
     }
 }
 
 /// One more act of the role.
-fn push_act(
-    alloc: Global,
-    ops: &mut Vec<Op>,
-    tree: &Tree,
-    config: &Config,
-    who: Role,
-) -> Result<(), NoMemory>
-    requires stored { IsStored config.now (decoded config.now tree.now) tree.now }
-    requires fits { IfSome (role_in who (decoded config.now tree.now))
+fn push_act<R: Rows>(alloc: Global, ops: &mut Vec<Op>, rows: &R, who: Role) -> Result<(), NoMemory>
+    requires { IfSome (role_in who (R.state rows.now))
         (λ old. IsRole (one_more_act old)) }
     ensures { OnOk result (ops.new.items ≡ ops.old.items
-        ++ role_parts one_more_act who (decoded config.now tree.now)) }
+        ++ role_parts one_more_act who (R.state rows.now)) }
 {
-    let Some(old) = role(tree, who) else {
+    let Some(old) = rows.role(who) else {
         return Ok(());
     };
     let acts = old.acts + 1;
@@ -244,21 +216,19 @@ fn push_act(
 }
 
 /// One more start and one more act of the role.
-fn push_start(
+fn push_start<R: Rows>(
     alloc: Global,
     ops: &mut Vec<Op>,
-    tree: &Tree,
-    config: &Config,
+    rows: &R,
     who: Role,
 ) -> Result<(), NoMemory>
-    requires stored { IsStored config.now (decoded config.now tree.now) tree.now }
-    requires fits { IfSome (role_in who (decoded config.now tree.now))
+    requires { IfSome (role_in who (R.state rows.now))
         (λ old. IsRole (one_more_act (one_more_start old))) }
     ensures { OnOk result (ops.new.items ≡ ops.old.items
         ++ role_parts (λ old. one_more_act (one_more_start old)) who
-        (decoded config.now tree.now)) }
+        (R.state rows.now)) }
 {
-    let Some(old) = role(tree, who) else {
+    let Some(old) = rows.role(who) else {
         return Ok(());
     };
     let (acts, starts) = (old.acts + 1, old.starts + 1);
@@ -275,21 +245,19 @@ fn push_start(
 }
 
 /// One more strike against the role, unless it was counted.
-fn push_strike(
+fn push_strike<R: Rows>(
     alloc: Global,
     ops: &mut Vec<Op>,
-    tree: &Tree,
-    config: &Config,
+    rows: &R,
     who: Role,
     counted: bool,
 ) -> Result<(), NoMemory>
-    requires stored { IsStored config.now (decoded config.now tree.now) tree.now }
-    requires fits { IfSome (role_in who (decoded config.now tree.now))
+    requires { IfSome (role_in who (R.state rows.now))
         (λ old. IsRole (struck_unless counted old)) }
     ensures { OnOk result (ops.new.items ≡ ops.old.items
-        ++ role_parts (struck_unless counted) who (decoded config.now tree.now)) }
+        ++ role_parts (struck_unless counted) who (R.state rows.now)) }
 {
-    let Some(old) = role(tree, who) else {
+    let Some(old) = rows.role(who) else {
         return Ok(());
     };
     push_role(alloc, ops, who, &struck(old, counted))
@@ -322,24 +290,22 @@ fn push_role(alloc: Global, ops: &mut Vec<Op>, who: Role, kept: &RoleRecord) -> 
 
 /// Puts the parts for a change of a session behind others: one that is muted has another record. If
 /// memory runs out nothing is promised of them.
-pub(crate) fn push_session(
+pub(crate) fn push_session<R: Rows>(
     alloc: Global,
     ops: &mut Vec<Op>,
-    tree: &Tree,
-    config: &Config,
+    rows: &R,
     change: &SessionsChange,
 ) -> Result<(), NoMemory>
-    requires stored { IsStored config.now (decoded config.now tree.now) tree.now }
-    requires spelled { AllByRecursion (λ f. IsSessionRole f.role)
-        (decoded config.now tree.now).sessions }
+    requires { AllByRecursion (λ f. IsSessionRole f.role)
+        (R.state rows.now).sessions }
     ensures { OnOk result (ops.new.items ≡ ops.old.items
-        ++ session_parts change.now (decoded config.now tree.now)) }
+        ++ session_parts change.now (R.state rows.now)) }
 {
     let SessionsChange::Mute { session } = change else {
         return Ok(());
     };
-    match session_record(tree, *session) {
-        Some(kept) => push_muted(alloc, ops, *session, kept.role),
+    match rows.session(*session) {
+        Some(facts) => push_muted(alloc, ops, *session, facts.role),
         None => Ok(()),
     }
 }
@@ -364,49 +330,22 @@ fn push_muted(
     )
 }
 
-/// What is in the record of the session, or `None` if it was never begun.
-fn session_record(tree: &Tree, session: SessionId) -> Option<SessionRecord>
-    ensures { (c : Configuration) (s : State) → IsStored c s tree.now → result
-        ≡ option_map (λ facts. record { mute = facts.mute; role = facts.role })
-        (session_of session s) }
-{
-    let Some(bytes) = bytes_at(tree, Place::Session(session)) else {
-        return None;
-    };
-    match SessionRecord::read(bytes) {
-        Ok(kept) => Some(kept),
-        Err(_) => None,
-    }
-}
-
-/// The bytes at a place, or `None` if there is no node.
-fn bytes_at(tree: &Tree, place: Place) -> Option<&[u8]>
-    requires { IsGood place }
-    ensures { option_copied result ≡ bytes_at tree.now (path_of place) }
-{
-    let path = PathText::of(place);
-    let (bytes, _) = tree.get(path.text())?;
-    Some(bytes)
-}
-
 /// Puts the part for a tick behind others, if one passes. If memory runs out nothing is promised of
 /// them.
-pub(crate) fn push_tick(
+pub(crate) fn push_tick<R: Rows>(
     alloc: Global,
     ops: &mut Vec<Op>,
-    tree: &Tree,
-    config: &Config,
+    rows: &R,
     ticks: bool,
 ) -> Result<(), NoMemory>
-    requires stored { IsStored config.now (decoded config.now tree.now) tree.now }
-    requires room { (decoded config.now tree.now).tick + 1 < 2 ^ 32 }
+    requires { (R.state rows.now).tick + 1 < 2 ^ 32 }
     ensures { OnOk result (ops.new.items ≡ ops.old.items
-        ++ tick_parts ticks (decoded config.now tree.now).tick) }
+        ++ tick_parts ticks (R.state rows.now).tick) }
 {
     if !ticks {
         return Ok(());
     }
-    push_number(alloc, ops, Place::Tick, tick(tree) + 1)
+    push_number(alloc, ops, Place::Tick, rows.tick() + 1)
 }
 
 /// Sets the bytes of a place to the decimal of a number, whatever the version there.

@@ -9,16 +9,14 @@ ghost use Rattle.np_changes.specs.declared.changes.RequestsChange.TheVariants as
 ghost use Rattle.np_places.specs.declared.place.Place.TheVariants.{Request, RequestLock};
 ghost use Rattle.np_layout.specs.Deletes.{request_deletes};
 ghost use Rattle.np_layout.specs.Sets.{set};
-ghost use Rattle.np_decode.specs.Decoded.{decoded};
-ghost use Rattle.np_enact.specs.Carried.{IsStored};
+ghost use Rattle.np_layout.specs.Carried.{IsCarried};
 ghost use Rattle.np_enact.specs.Parts.{leave_parts, requests_parts, where_there};
 
 use crate::ops::{push_delete, push_deletes, push_leave, push_set};
 use np_changes::{Maker, RequestEdit, RequestsChange};
-use np_config::Config;
+use np_look::Rows;
 use np_nodes::Op;
 use np_places::Place;
-use np_readers::request;
 use np_record::{Declined, NodeRow, RequestRecord};
 use np_text::{NoMemory, RequestId, RequestState, SessionId};
 use np_tree::Tree;
@@ -26,50 +24,47 @@ use std::alloc::Global;
 
 /// Puts the parts for a change of the requests behind others. If memory runs out nothing is
 /// promised of them.
-pub(crate) fn push_requests(
+pub(crate) fn push_requests<R: Rows>(
     alloc: Global,
     ops: &mut Vec<Op>,
     tree: &Tree,
-    config: &Config,
+    rows: &R,
     maker: Option<Maker>,
     change: &RequestsChange,
 ) -> Result<(), NoMemory>
-    requires stored { IsStored config.now (decoded config.now tree.now) tree.now }
+    requires carried { IsCarried (R.site rows.now) (R.state rows.now) }
     requires spelled { AllByRecursion (λ e. IsRequest e.kept)
-        (requests_changed maker change.now (decoded config.now tree.now).requests) }
+        (requests_changed maker change.now (R.state rows.now).requests) }
     ensures { OnOk result (ops.new.items ≡ ops.old.items
-        ++ requests_parts maker change.now (decoded config.now tree.now).requests tree.now) }
+        ++ requests_parts maker change.now (R.state rows.now).requests tree.now) }
 {
     match *change {
         RequestsChange::Same => Ok(()),
-        RequestsChange::Edit { request, edit } => {
-            push_edit(alloc, ops, tree, config, request, edit)
-        }
-        RequestsChange::Remove { request } => push_removal(alloc, ops, tree, config, request),
+        RequestsChange::Edit { request, edit } => { push_edit(alloc, ops, rows, request, edit) }
+        RequestsChange::Remove { request } => push_removal(alloc, ops, tree, rows, request),
         RequestsChange::Leave { request } => match maker {
-            Some(maker) => push_leaving(alloc, ops, tree, config, maker.session, request),
+            Some(maker) => push_leaving(alloc, ops, tree, rows, maker.session, request),
             None => Ok(()),
         },
     }
 }
 
 /// A set of the request's record, edited, if the request is there.
-fn push_edit(
+fn push_edit<R: Rows>(
     alloc: Global,
     ops: &mut Vec<Op>,
-    tree: &Tree,
-    config: &Config,
+    rows: &R,
     id: RequestId,
     edit: RequestEdit,
 ) -> Result<(), NoMemory>
-    requires stored { IsStored config.now (decoded config.now tree.now) tree.now }
+    requires carried { IsCarried (R.site rows.now) (R.state rows.now) }
     requires spelled { AllByRecursion (λ e. IsRequest e.kept) (requests_changed None
-        (requests.Edit id edit) (decoded config.now tree.now).requests) }
+        (requests.Edit id edit) (R.state rows.now).requests) }
     ensures { OnOk result (ops.new.items ≡ ops.old.items
-        ++ where_there (request_in id (decoded config.now tree.now).requests)
+        ++ where_there (request_in id (R.state rows.now).requests)
         (λ kept. set (request_record_text (edited edit kept)) (Request id) ∷ [])) }
 {
-    let Some(kept) = request(tree, id) else {
+    let Some(kept) = rows.request(id) else {
         return Ok(());
     };
     let later = edited(edit, kept);
@@ -77,19 +72,19 @@ fn push_edit(
 }
 
 /// The deletes of the request's waits, of its lock and of its record, if the request is there.
-fn push_removal(
+fn push_removal<R: Rows>(
     alloc: Global,
     ops: &mut Vec<Op>,
     tree: &Tree,
-    config: &Config,
+    rows: &R,
     id: RequestId,
 ) -> Result<(), NoMemory>
-    requires stored { IsStored config.now (decoded config.now tree.now) tree.now }
+    requires { IsCarried (R.site rows.now) (R.state rows.now) }
     ensures { OnOk result (ops.new.items ≡ ops.old.items
-        ++ where_there (request_in id (decoded config.now tree.now).requests)
+        ++ where_there (request_in id (R.state rows.now).requests)
         (λ kept. request_deletes id tree.now)) }
 {
-    let Some(_) = request(tree, id) else {
+    let Some(_) = rows.request(id) else {
         return Ok(());
     };
     push_deletes(alloc, ops, tree, Place::RequestLock(id))?;
@@ -98,20 +93,20 @@ fn push_removal(
 }
 
 /// The delete of the session's wait for the request, if the request is there.
-fn push_leaving(
+fn push_leaving<R: Rows>(
     alloc: Global,
     ops: &mut Vec<Op>,
     tree: &Tree,
-    config: &Config,
+    rows: &R,
     session: SessionId,
     id: RequestId,
 ) -> Result<(), NoMemory>
-    requires stored { IsStored config.now (decoded config.now tree.now) tree.now }
+    requires { IsCarried (R.site rows.now) (R.state rows.now) }
     ensures { OnOk result (ops.new.items ≡ ops.old.items
-        ++ where_there (request_in id (decoded config.now tree.now).requests)
+        ++ where_there (request_in id (R.state rows.now).requests)
         (λ kept. leave_parts (RequestLock id) tree.now session)) }
 {
-    let Some(_) = request(tree, id) else {
+    let Some(_) = rows.request(id) else {
         return Ok(());
     };
     push_leave(alloc, ops, tree, Place::RequestLock(id), session)

@@ -1,1 +1,1 @@
-pub use Rattle.np_enact.specs.Carried
+pub use Rattle.np_layout.specs.Carried

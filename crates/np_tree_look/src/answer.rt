@@ -6,14 +6,15 @@ ghost use Rattle.np_machine.specs.Step.{judge, reply_of};
 ghost use Rattle.np_changes.specs.Plan.{plan};
 ghost use Rattle.np_fits.specs.Fits.{Fits};
 ghost use Rattle.np_decision.specs.Verdicts.{answer_of};
-ghost use Rattle.np_enact.specs.Carried.{IsStored};
+ghost use Rattle.np_layout.specs.Carried.{IsStored};
 ghost use Rattle.np_decode.specs.Decoded.{decoded};
 ghost use Rattle.np_keeper.specs.Keeper.{IsHeld};
 
-use crate::look::TreeLook;
 use np_config::Config;
 use np_decision::{Verdict, decide};
 use np_event::{Event, Refusal, Reply};
+use np_look::Scan;
+use np_readers::TreeRows;
 use np_tree::Tree;
 
 /// The decision on an event, over the state that the tree stores.
@@ -24,11 +25,13 @@ pub(crate) fn verdict_on(tree: &Tree, config: &Config, event: Event) -> Result<V
     ensures changes { IfOk result (λ v. v.changes ≡
         plan config.now (decoded config.now tree.now) event) }
 {
-    decide(&TreeLook::new(config, tree), event)
+    let rows = TreeRows::new(config, tree);
+    let scan = Scan::over(&rows);
+    decide(&scan, event)
 }
 
-/// What the machine answers to an event in the state that the tree stores. It takes no memory, and
-/// costs what the readers cost that the event's row calls (np_readers).
+/// What the machine answers to an event in the state that the tree stores. It takes no memory. It
+/// reads the tree's rows (np_readers), and searches by walking them.
 pub fn judge(tree: &Tree, config: &Config, event: Event) -> Reply
     requires held { IsHeld config.now tree.now }
     requires fits { Fits config.now (decoded config.now tree.now) }

@@ -1,10 +1,11 @@
 //! What an accepted event changes, made in the tree.
 
 ghost use Rattle.std.specs.Prelude.{◌≡◌, ◌<◌, true, is_ok, OnOk, OnErr};
+ghost use Rattle.np_nodes.specs.Calls.{with_spare};
 ghost use Rattle.np_machine.specs.State.{State};
 ghost use Rattle.np_machine.specs.Step.{judge, next};
 ghost use Rattle.np_changes.specs.Planned.{IsReached};
-ghost use Rattle.np_enact.specs.Carried.{IsStored};
+ghost use Rattle.np_layout.specs.Carried.{IsStored};
 ghost use Rattle.np_decode.specs.Decoded.{decoded};
 ghost use Rattle.np_keeper.specs.Keeper.{IsHeld};
 
@@ -16,8 +17,9 @@ use np_tree::Tree;
 use std::alloc::Global;
 
 /// Decides an accepted event, and makes its changes: one call of the tree, in which fewer than
-/// 16,777,214 changes were made before. An error says that memory ran out, and then the state
-/// stays. The cost is that of the decision (`judge`), and of np_keeper's `enact`.
+/// 16,777,214 changes were made before. An error says that memory ran out, and then only the memory
+/// for a session may be there that was not. The cost is that of the decision (`judge`), and of
+/// np_keeper's `enact`.
 pub fn enact(alloc: Global, tree: &mut Tree, config: &Config, event: Event) -> Result<(), NoMemory>
     requires held { IsHeld config.now tree.old }
     // A run of the configuration reaches the state.
@@ -28,6 +30,7 @@ pub fn enact(alloc: Global, tree: &mut Tree, config: &Config, event: Event) -> R
     ensures ok { OnOk result (decoded config.now tree.new
         ≡ next config.now (decoded config.now tree.old) event) }
     ensures err { OnErr result (decoded config.now tree.new ≡ decoded config.now tree.old) }
+    ensures same { OnErr result (tree.new ≡ with_spare tree.old tree.new.spare) }
     ensures laid { (s : State) → IsStored config.now s tree.old →
         OnOk result (IsStored config.now (next config.now s event) tree.new) }
 {

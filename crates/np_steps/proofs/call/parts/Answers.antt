@@ -3,16 +3,15 @@ use Rattle.std.specs.List.{list_all}
 use Rattle.np_nodes.specs.Multi.{is_numbered}
 use Rattle.np_nodes.specs.declared.op.Op.{Op}
 use Rattle.np_enact.specs.Parts.{grown_parts, settled_parts}
-use Rattle.np_decode.specs.Decoded.{decoded}
 use Rattle.np_steps.proofs.NumberedParts.{parts-numbered}
 use Rattle.np_steps.proofs.call.parts.Goals as goal
 
 pub returns-clause-numbered : goal.returns-clause-numbered
-returns-clause-numbered c =
-    let configuration = c.args.config.now in
+returns-clause-numbered g c =
+    let configuration = g.R.Rows.site c.args.rows.now in
     let changes = c.args.changes.now in
     let t = c.args.tree.now in
-    let s = decoded configuration t in
+    let s = g.R.Rows.state c.args.rows.now in
     let all =
     c.in_ok-push_settled.ensures
     ∙ ap (λ (parts : List Op). parts ++ settled_parts configuration changes s t)

@@ -6,7 +6,6 @@ use Rattle.np_machine.specs.Entries.{NodeEntry}
 use Rattle.np_machine.specs.Tables.{node_entry}
 use Rattle.np_places.specs.declared.place.Place.TheVariants.{Node}
 use Rattle.np_layout.specs.Sets.{set}
-use Rattle.np_decode.specs.Decoded.{decoded}
 use Rattle.np_enact.specs.Parts.{change_parts}
 use Rattle.np_steps.specs.NodeEdits.{edited_entry}
 use Rattle.np_steps.proofs.Found.{row-none}
@@ -14,18 +13,18 @@ use Rattle.np_steps.proofs.NodeEdits.{edit-parts, edit-sound}
 use Rattle.np_steps.proofs.nodes.push_edit.Goals as goal
 
 pub returns-in_default : goal.returns-in_default
-returns-in_default c =
-    let s = decoded c.args.config.now c.args.tree.now in
-    row-none (λ (e : NodeEntry). e.kept) (node_entry c.args.id s.nodes) (change_parts (edited_entry c.args.edit)) c.args.ops.now.items (c.in_default.ensures c.args.config.now s c.requires.stored)
+returns-in_default g c =
+    let s = g.R.Rows.state c.args.rows.now in
+    row-none (λ (e : NodeEntry). e.kept) (node_entry c.args.id s.nodes) (change_parts (edited_entry c.args.edit)) c.args.ops.now.items c.in_default.ensures
 
 pub push_set-requires-clause-sound : goal.push_set-requires-clause-sound
-push_set-requires-clause-sound c =
-    let s = decoded c.args.config.now c.args.tree.now in
-    subst IsNode (sym c.edited-later.ensures) (edit-sound c.args.edit c.args.id c.in-Some.kept s.nodes c.requires.sound c.requires.stored.carried.spelled.nodes (c.in-Some.ensures c.args.config.now s c.requires.stored))
+push_set-requires-clause-sound g c =
+    let s = g.R.Rows.state c.args.rows.now in
+    subst IsNode (sym c.edited-later.ensures) (edit-sound c.args.edit c.args.id c.in-Some.kept s.nodes c.requires.sound c.requires.carried.spelled.nodes c.in-Some.ensures)
 
 pub returns : goal.returns
-returns c =
-    let s = decoded c.args.config.now c.args.tree.now in
-    let is = c.in-Some.ensures c.args.config.now s c.requires.stored in
+returns g c =
+    let s = g.R.Rows.state c.args.rows.now in
+    let is = c.in-Some.ensures in
     let written = subst (λ (later : NodeRecord). OnOk c.push_set.result (c.push_set.new.ops.items ≡ c.args.ops.now.items ++ set (node_text later) (Node c.args.id) ∷ [])) c.edited-later.ensures c.push_set.ensures in
     subst (λ (parts : List Op). OnOk c.push_set.result (c.push_set.new.ops.items ≡ c.args.ops.now.items ++ parts)) (edit-parts c.args.edit c.args.id c.in-Some.kept s.nodes is) written

@@ -2,17 +2,16 @@ use Rattle.std.proofs.Common.{◌<◌, ◌+◌, ◌++◌, List, ap, arith, drop,
 use Rattle.std.proofs.lemmas.List.{drop_more}
 use Rattle.np_text.specs.declared.id.NodeId.{NodeId}
 use Rattle.np_nodes.specs.declared.op.Op.{Op}
-use Rattle.np_decode.specs.Decoded.{nodes_at}
 use Rattle.np_enact.specs.Parts.{each_changed}
 use Rattle.np_steps.specs.NodeEdits.{edited_entry}
 use Rattle.np_steps.proofs.NodeEdits.{each-behind}
 use Rattle.np_steps.proofs.nodes.push_edits.Goals as goal
 
 pub loop-node-preserved : goal.loop-node-preserved
-loop-node-preserved c =
+loop-node-preserved g c =
     let what = c.args.edit in
     let nodes = c.args.nodes.now in
-    let rows = nodes_at c.args.tree.now in
+    let rows = (g.R.Rows.state c.args.rows.now).nodes in
     let at = c.loop-node.node-index in
     let blank : NodeId = record { 0 = 0 } in
     let within : at < length nodes = omega (arith, c.loop-node-test.true) in

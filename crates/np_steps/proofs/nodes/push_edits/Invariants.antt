@@ -1,10 +1,9 @@
 use Rattle.std.proofs.Common.{◌≡◌, ◌++◌, drop}
-use Rattle.np_decode.specs.Decoded.{nodes_at}
 use Rattle.np_enact.specs.Parts.{each_changed}
 use Rattle.np_steps.specs.NodeEdits.{edited_entry}
 use Rattle.np_steps.proofs.nodes.push_edits.Given as goal
 
 abbrev pub invariant-loop-node : goal.invariant-loop-node
-invariant-loop-node l =
-    l.ops.items ++ each_changed (edited_entry l.edit) (drop l.node-index l.nodes) (nodes_at l.tree)
-    ≡ l.fn.ops.items ++ each_changed (edited_entry l.edit) l.nodes (nodes_at l.tree)
+invariant-loop-node g l =
+    l.ops.items ++ each_changed (edited_entry l.edit) (drop l.node-index l.nodes) (g.R.Rows.state l.rows).nodes
+    ≡ l.fn.ops.items ++ each_changed (edited_entry l.edit) l.nodes (g.R.Rows.state l.rows).nodes

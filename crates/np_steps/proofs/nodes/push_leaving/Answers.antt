@@ -3,18 +3,17 @@ use Rattle.np_nodes.specs.declared.op.Op.{Op}
 use Rattle.np_machine.specs.Entries.{NodeEntry}
 use Rattle.np_machine.specs.Tables.{node_entry}
 use Rattle.np_places.specs.declared.place.Place.TheVariants.{NodeLock}
-use Rattle.np_decode.specs.Decoded.{decoded}
 use Rattle.np_enact.specs.Parts.{leave_parts}
 use Rattle.np_steps.proofs.Found.{row-none, row-some}
 use Rattle.np_steps.proofs.nodes.push_leaving.Goals as goal
 
 pub returns-in_default : goal.returns-in_default
-returns-in_default c =
-    let s = decoded c.args.config.now c.args.tree.now in
-    row-none (λ (e : NodeEntry). e.kept) (node_entry c.args.id s.nodes) (λ e. leave_parts (NodeLock c.args.id) c.args.tree.now c.args.session) c.args.ops.now.items (c.in_default.ensures c.args.config.now s c.requires.stored)
+returns-in_default g c =
+    let s = g.R.Rows.state c.args.rows.now in
+    row-none (λ (e : NodeEntry). e.kept) (node_entry c.args.id s.nodes) (λ e. leave_parts (NodeLock c.args.id) c.args.tree.now c.args.session) c.args.ops.now.items c.in_default.ensures
 
 pub returns : goal.returns
-returns c =
-    let s = decoded c.args.config.now c.args.tree.now in
+returns g c =
+    let s = g.R.Rows.state c.args.rows.now in
     subst (λ (parts : List Op). OnOk c.push_leave.result (c.push_leave.new.ops.items ≡ c.args.ops.now.items ++ parts))
-    (row-some (λ (e : NodeEntry). e.kept) (node_entry c.args.id s.nodes) c.in-Some.field-0 (leave_parts (NodeLock c.args.id) c.args.tree.now c.args.session) (c.in-Some.ensures c.args.config.now s c.requires.stored)) c.push_leave.ensures
+    (row-some (λ (e : NodeEntry). e.kept) (node_entry c.args.id s.nodes) c.in-Some.field-0 (leave_parts (NodeLock c.args.id) c.args.tree.now c.args.session) c.in-Some.ensures) c.push_leave.ensures

@@ -2,22 +2,21 @@ use Rattle.std.proofs.Common.{◌≡◌, ◌++◌, List, OnOk, subst}
 use Rattle.np_nodes.specs.declared.op.Op.{Op}
 use Rattle.np_machine.specs.Entries.{NodeEntry}
 use Rattle.np_machine.specs.Tables.{node_entry}
-use Rattle.np_decode.specs.Decoded.{decoded}
 use Rattle.np_steps.proofs.Found.{node-put, row-none, row-some}
 use Rattle.np_steps.proofs.nodes.push_record.Goals as goal
 
 pub returns-in_default : goal.returns-in_default
-returns-in_default c =
-    let s = decoded c.args.config.now c.args.tree.now in
-    row-none (λ (e : NodeEntry). e.kept) (node_entry c.args.id s.nodes) _ c.args.ops.now.items (c.in_default.ensures c.args.config.now s c.requires.stored)
+returns-in_default g c =
+    let s = g.R.Rows.state c.args.rows.now in
+    row-none (λ (e : NodeEntry). e.kept) (node_entry c.args.id s.nodes) _ c.args.ops.now.items c.in_default.ensures
 
 pub push_set-requires-clause-sound : goal.push_set-requires-clause-sound
-push_set-requires-clause-sound c =
-    let s = decoded c.args.config.now c.args.tree.now in
-    node-put s.nodes c.args.id c.args.kept.now c.in-Some.field-0 c.requires.spelled (c.in-Some.ensures c.args.config.now s c.requires.stored)
+push_set-requires-clause-sound g c =
+    let s = g.R.Rows.state c.args.rows.now in
+    node-put s.nodes c.args.id c.args.kept.now c.in-Some.field-0 c.requires c.in-Some.ensures
 
 pub returns : goal.returns
-returns c =
-    let s = decoded c.args.config.now c.args.tree.now in
-    let is = c.in-Some.ensures c.args.config.now s c.requires.stored in
+returns g c =
+    let s = g.R.Rows.state c.args.rows.now in
+    let is = c.in-Some.ensures in
     subst (λ (parts : List Op). OnOk c.push_set.result (c.push_set.new.ops.items ≡ c.args.ops.now.items ++ parts)) (row-some (λ (e : NodeEntry). e.kept) (node_entry c.args.id s.nodes) c.in-Some.field-0 _ is) c.push_set.ensures

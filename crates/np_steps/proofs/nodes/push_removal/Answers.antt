@@ -7,21 +7,20 @@ use Rattle.np_places.specs.Place.{path_of}
 use Rattle.np_places.specs.declared.place.Place.TheVariants.{Node, NodeLock}
 use Rattle.np_layout.specs.Deletes.{delete, node_deletes}
 use Rattle.np_layout.specs.Layout.{under}
-use Rattle.np_decode.specs.Decoded.{decoded}
 use Rattle.np_enact.specs.Parts.{where_there}
 use Rattle.np_steps.proofs.Found.{parts-behind, row-none, row-some}
 use Rattle.np_steps.proofs.nodes.push_removal.Goals as goal
 
 pub returns-in_default : goal.returns-in_default
-returns-in_default c =
-    let s = decoded c.args.config.now c.args.tree.now in
-    row-none (λ (e : NodeEntry). e.kept) (node_entry c.args.id s.nodes) (λ e. node_deletes c.args.id c.args.tree.now) c.args.ops.now.items (c.in_default.ensures c.args.config.now s c.requires.stored)
+returns-in_default g c =
+    let s = g.R.Rows.state c.args.rows.now in
+    row-none (λ (e : NodeEntry). e.kept) (node_entry c.args.id s.nodes) (λ e. node_deletes c.args.id c.args.tree.now) c.args.ops.now.items c.in_default.ensures
 
 pub returns : goal.returns
-returns c =
-    let s = decoded c.args.config.now c.args.tree.now in
+returns g c =
+    let s = g.R.Rows.state c.args.rows.now in
     let lock = NodeLock c.args.id in
-    let is = c.in-Some.ensures c.args.config.now s c.requires.stored in
+    let is = c.in-Some.ensures in
     let all = row-some (λ (e : NodeEntry). e.kept) (node_entry c.args.id s.nodes) c.in-Some.field-0 (node_deletes c.args.id c.args.tree.now) is in
     let behind = parts-behind c.args.ops.now.items (delete_parts (path_of lock) (under lock c.args.tree.now)) c.push_deletes.new.ops.items c.push_delete.new.ops.items
     (where_there (node_entry c.args.id s.nodes) (λ e. node_deletes c.args.id c.args.tree.now)) (delete lock) (delete (Node c.args.id)) c.in_ok-push_deletes.ensures c.in_ok-push_delete.ensures all in

@@ -2,4 +2,4 @@ use Rattle.std.proofs.Common.{length}
 use Rattle.np_steps.proofs.records.+push_releases.Given as goal
 
 abbrev pub decreases-push_releases : goal.decreases-push_releases
-decreases-push_releases l = length l.semaphores.now
+decreases-push_releases g l = length l.semaphores.now

@@ -1,15 +1,14 @@
 use Rattle.std.proofs.Common.{true, false, sym, append-nil}
 use Rattle.std.specs.Prelude.{Ok}
-use Rattle.np_decode.specs.Decoded.{decoded}
 use Rattle.np_steps.proofs.RecordRows.{released-by}
 use Rattle.np_steps.proofs.records.push_release.Goals as goal
 
 pub returns-then-has_handle : goal.returns-then-has_handle
-returns-then-has_handle c =
-    let s = decoded c.args.config.now c.args.tree.now in
-    released-by c.args.job c.args.semaphore s.handles true _ _ _ (c.if-has_handle.ensures c.args.config.now s c.requires.stored) c.push_delete.ensures
+returns-then-has_handle g c =
+    let s = g.R.Rows.state c.args.rows.now in
+    released-by c.args.job c.args.semaphore s.handles true _ _ _ c.if-has_handle.ensures c.push_delete.ensures
 
 pub returns-else-has_handle : goal.returns-else-has_handle
-returns-else-has_handle c =
-    let s = decoded c.args.config.now c.args.tree.now in
-    released-by c.args.job c.args.semaphore s.handles false (Ok tt) _ _ (c.if-has_handle.ensures c.args.config.now s c.requires.stored) (sym (append-nil _))
+returns-else-has_handle g c =
+    let s = g.R.Rows.state c.args.rows.now in
+    released-by c.args.job c.args.semaphore s.handles false (Ok tt) _ _ c.if-has_handle.ensures (sym (append-nil _))

@@ -1,6 +1,5 @@
 use Rattle.std.proofs.Common.{◌≡◌, ◌++◌, [], ◌∷◌, true, subst, sym}
 use Rattle.std.specs.Prelude.{OnOk}
-use Rattle.np_text.specs.declared.id.Role.{Role}
 use Rattle.np_spelling.specs.Spelling.{session_text}
 use Rattle.np_machine.specs.Tables.{session_of}
 use Rattle.np_machine.specs.declared.state.SessionFacts.{SessionFacts}
@@ -8,24 +7,20 @@ use Rattle.np_changes.specs.declared.changes.SessionsChange.{SessionsChange}
 use Rattle.np_places.specs.declared.place.Place.TheVariants.{Session}
 use Rattle.np_layout.specs.Sets.{set}
 use Rattle.np_enact.specs.Parts.{session_parts}
-use Rattle.np_decode.specs.Decoded.{decoded}
-use Rattle.np_readers.proofs.Stored.{session-none, session-sound}
-use Rattle.np_steps.proofs.RecordRows.{muted-parts, muted-sound, none-parts}
+use Rattle.np_steps.proofs.RecordRows.{none-parts, session-role, there-parts}
 use Rattle.np_steps.proofs.records.push_session.Goals as goal
 
 pub push_muted-requires : goal.push_muted-requires
-push_muted-requires c =
-    let s = decoded c.args.config.now c.args.tree.now in
-    muted-sound _ c.in-Some.kept (c.in-Some.ensures c.args.config.now s c.requires.stored) (session-sound c.args.config.now s c.args.tree.now c.requires.stored c.in-Mute.session)
+push_muted-requires g c = session-role (g.R.Rows.state c.args.rows.now) c.in-Mute.session c.in-Some.facts c.requires c.in-Some.ensures
 
 pub returns-in-Some : goal.returns-in-Some
-returns-in-Some c =
-    let s = decoded c.args.config.now c.args.tree.now in
+returns-in-Some g c =
+    let s = g.R.Rows.state c.args.rows.now in
     subst (λ (change : SessionsChange). OnOk c.push_muted.result (c.push_muted.new.ops.items ≡ c.args.ops.now.items ++ session_parts change s)) (sym c.in-Mute.is)
-    (muted-parts (λ (who : Role). set (session_text (record { mute = true; role = who })) (Session c.in-Mute.session) ∷ []) _ _ _ (session_of c.in-Mute.session s) c.in-Some.kept (c.in-Some.ensures c.args.config.now s c.requires.stored) c.push_muted.ensures)
+    (there-parts (λ (facts : SessionFacts). set (session_text (record { mute = true; role = facts.role })) (Session c.in-Mute.session) ∷ []) _ _ _ (session_of c.in-Mute.session s) c.in-Some.facts c.in-Some.ensures c.push_muted.ensures)
 
 pub returns-in-None : goal.returns-in-None
-returns-in-None c =
-    let s = decoded c.args.config.now c.args.tree.now in
+returns-in-None g c =
+    let s = g.R.Rows.state c.args.rows.now in
     subst (λ (change : SessionsChange). c.args.ops.now.items ≡ c.args.ops.now.items ++ session_parts change s) (sym c.in-Mute.is)
-    (none-parts (λ (facts : SessionFacts). set (session_text (record { mute = true; role = facts.role })) (Session c.in-Mute.session) ∷ []) _ (session_of c.in-Mute.session s) (session-none (session_of c.in-Mute.session s) (c.in-None.ensures c.args.config.now s c.requires.stored)))
+    (none-parts (λ (facts : SessionFacts). set (session_text (record { mute = true; role = facts.role })) (Session c.in-Mute.session) ∷ []) _ (session_of c.in-Mute.session s) c.in-None.ensures)

@@ -4,18 +4,17 @@ use Rattle.std.specs.Fmt.{decimal}
 use Rattle.np_places.specs.declared.place.Place.TheVariants.{Tick}
 use Rattle.np_layout.specs.Sets.{set}
 use Rattle.np_enact.specs.Parts.{tick_parts}
-use Rattle.np_decode.specs.Decoded.{decoded}
 use Rattle.np_steps.proofs.records.push_tick.Goals as goal
 
 pub overflow_add-tick : goal.overflow_add-tick
-overflow_add-tick c =
-    let same = c.tick.ensures c.args.config.now (decoded c.args.config.now c.args.tree.now) c.requires.stored in
-    let room = c.requires.room in
+overflow_add-tick g c =
+    let same = c.tick.ensures in
+    let room = c.requires in
     omega arith
 
 pub returns : goal.returns
-returns c =
-    let s = decoded c.args.config.now c.args.tree.now in
-    let same = c.tick.ensures c.args.config.now s c.requires.stored in
+returns g c =
+    let s = g.R.Rows.state c.args.rows.now in
+    let same = c.tick.ensures in
     subst (λ (b : Bool). OnOk c.push_number.result (c.push_number.new.ops.items ≡ c.args.ops.now.items ++ tick_parts b s.tick)) (sym c.if-not-ticks.false)
     (subst (λ (n : ℕ). OnOk c.push_number.result (c.push_number.new.ops.items ≡ c.args.ops.now.items ++ set (decimal (n + 1)) Tick ∷ [])) same c.push_number.ensures)

@@ -5,34 +5,33 @@ use Rattle.np_machine.specs.Tables.{request_in}
 use Rattle.np_changes.specs.Changes.{edited}
 use Rattle.np_places.specs.declared.place.Place.TheVariants.{Request}
 use Rattle.np_layout.specs.Sets.{set}
-use Rattle.np_decode.specs.Decoded.{decoded}
 use Rattle.np_enact.specs.Parts.{where_there}
 use Rattle.np_steps.proofs.Found.{parts-none, request-edited, request-text}
 use Rattle.np_steps.proofs.requests.push_edit.Goals as goal
 
 pub returns-in_default : goal.returns-in_default
-returns-in_default c =
-    let s = decoded c.args.config.now c.args.tree.now in
-    parts-none (request_in c.args.id s.requests) (λ kept. set (request_record_text (edited c.args.edit kept)) (Request c.args.id) ∷ []) c.args.ops.now.items (c.in_default.ensures c.args.config.now s c.requires.stored)
+returns-in_default g c =
+    let s = g.R.Rows.state c.args.rows.now in
+    parts-none (request_in c.args.id s.requests) (λ kept. set (request_record_text (edited c.args.edit kept)) (Request c.args.id) ∷ []) c.args.ops.now.items c.in_default.ensures
 
 pub edited-later-requires : goal.edited-later-requires
-edited-later-requires c =
-    let s = decoded c.args.config.now c.args.tree.now in
-    request-edited s.requests c.args.id c.args.edit c.in-Some.kept c.requires.spelled (c.in-Some.ensures c.args.config.now s c.requires.stored)
+edited-later-requires g c =
+    let s = g.R.Rows.state c.args.rows.now in
+    request-edited s.requests c.args.id c.args.edit c.in-Some.kept c.requires.spelled c.in-Some.ensures
 
 pub push_set-requires-clause-good : goal.push_set-requires-clause-good
-push_set-requires-clause-good c =
-    let s = decoded c.args.config.now c.args.tree.now in
-    request-text c.args.config.now s c.args.tree.now c.requires.stored c.args.id c.in-Some.kept (c.in-Some.ensures c.args.config.now s c.requires.stored)
+push_set-requires-clause-good g c =
+    let s = g.R.Rows.state c.args.rows.now in
+    request-text (g.R.Rows.site c.args.rows.now) s c.requires.carried c.args.id c.in-Some.kept c.in-Some.ensures
 
 pub push_set-requires-clause-sound : goal.push_set-requires-clause-sound
-push_set-requires-clause-sound c =
-    let s = decoded c.args.config.now c.args.tree.now in
-    subst IsRequest (sym c.edited-later.ensures) (request-edited s.requests c.args.id c.args.edit c.in-Some.kept c.requires.spelled (c.in-Some.ensures c.args.config.now s c.requires.stored))
+push_set-requires-clause-sound g c =
+    let s = g.R.Rows.state c.args.rows.now in
+    subst IsRequest (sym c.edited-later.ensures) (request-edited s.requests c.args.id c.args.edit c.in-Some.kept c.requires.spelled c.in-Some.ensures)
 
 pub returns : goal.returns
-returns c =
-    let s = decoded c.args.config.now c.args.tree.now in
-    let is = c.in-Some.ensures c.args.config.now s c.requires.stored in
+returns g c =
+    let s = g.R.Rows.state c.args.rows.now in
+    let is = c.in-Some.ensures in
     let written = subst (λ (later : RequestRecord). OnOk c.push_set.result (c.push_set.new.ops.items ≡ c.args.ops.now.items ++ set (request_record_text later) (Request c.args.id) ∷ [])) c.edited-later.ensures c.push_set.ensures in
     subst (λ (o : Option RequestRecord). OnOk c.push_set.result (c.push_set.new.ops.items ≡ c.args.ops.now.items ++ where_there o (λ kept. set (request_record_text (edited c.args.edit kept)) (Request c.args.id) ∷ []))) is written

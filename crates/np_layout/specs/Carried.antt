@@ -11,7 +11,7 @@ use Rattle.np_nodes.specs.TreeState.{TreeState}
 use Rattle.np_tree.specs.Whole.{IsWhole}
 use Rattle.np_layout.specs.Layout.{LaysOut}
 use Rattle.np_layout.specs.Sets.{HasGoodIds}
-use Rattle.np_enact.specs.Ways.{HasSpellings}
+use Rattle.np_spelling.specs.Spelling.{IsJob, IsNode, IsRequest, IsRole, IsSessionRole}
 
 -- by node, and then by server
 abbrev pub is_pair_before : Swept → Swept → Bool
@@ -28,6 +28,16 @@ pub record IsOrdered (c : Configuration) (s : State) : Type 0 where
   pub pools : AllByRecursion (λ g. g.pool.0 < length c.pools) s.registrations
   pub handles : AllByRecursion (AreHolders (length c.jobs)) s.handles
   pub swept : Rises is_pair_before s.swept
+
+-- each record of the state has a spelling
+pub record HasSpellings (s : State) : Type 0 where
+  pub requests : AllByRecursion (λ e. IsRequest e.kept) s.requests
+  pub nodes : AllByRecursion (λ e. IsNode e.kept) s.nodes
+  pub jobs : AllByRecursion IsJob s.jobs
+  pub launchers : AllByRecursion IsRole s.launchers
+  pub janitors : AllByRecursion IsRole s.janitors
+  pub requesters : AllByRecursion IsRole s.requesters
+  pub sessions : AllByRecursion (λ f. IsSessionRole f.role) s.sessions
 
 -- ids and records have texts, the order of each table is that of its numbers, and there is a record for
 -- each semaphore, job and role of the configuration

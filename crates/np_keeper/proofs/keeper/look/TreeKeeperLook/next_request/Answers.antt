@@ -1,9 +1,0 @@
-use Rattle.std.proofs.Common.{ap, ◌∙◌}
-use Rattle.np_decode.specs.Decoded.{decoded}
-use Rattle.np_keeper.specs.Keeper.{Kept}
-use Rattle.np_keeper.proofs.keeper.look.TreeKeeperLook.next_request.Goals as goal
-
-pub returns : goal.returns
-returns c =
-    c.next_request.ensures c.self.inside.config (decoded c.self.inside.config c.self.inside.tree) c.self.invariant.stored
-    ∙ ap (λ (k : Kept). k.state.next_request) c.self.view_is
