@@ -16,7 +16,7 @@ use Rattle.np_machine.specs.State.{State}
 use Rattle.np_machine.specs.Step.{judge, reply_of}
 use Rattle.np_machine.specs.History.{after, Runs}
 use Rattle.np_machine.specs.Node.{is_swept}
-use Rattle.np_journal.specs.Ran.{Ran, answer_of, applied, has_room}
+use Rattle.np_rules.specs.Ran.{Ran, answer_of, applied, has_room}
 use Rattle.np_desk.specs.Turned.{entries_of}
 use Rattle.np_useful.specs.Sessions.{is_current}
 use Rattle.np_useful.specs.Useful.{IsUseful}

@@ -1,7 +1,7 @@
 -- what a turn at a board leaves
 use Rattle.std.specs.Prelude.{◌≡◌, ◌++◌}
 use Rattle.np_desk.specs.Turned.{entries_of}
-use Rattle.np_journal.specs.Ran.{Ran}
+use Rattle.np_rules.specs.Ran.{Ran}
 use Rattle.np_answers.specs.declared.ask.Ask.{Ask}
 use Rattle.np_answers.specs.declared.ask.Turn.{Turn}
 use Rattle.np_answers.specs.Answers.{answers}

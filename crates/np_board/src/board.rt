@@ -4,44 +4,41 @@ ghost use Rattle.std.specs.Prelude.{◌≡◌, ◌↔◌, [], true, IfOk, OnErr,
 ghost use Rattle.np_machine.specs.History.{Runs};
 ghost use Rattle.np_machine.specs.State.{start};
 ghost use Rattle.np_fits.specs.Fits.{IsFitSite};
-ghost use Rattle.np_index.specs.Index.{IsIndexOf};
-ghost use Rattle.np_journal.specs.Ran.{answer_of, applied};
+ghost use Rattle.np_decode.specs.Decoded.{decoded};
+ghost use Rattle.np_keeper.specs.Keeper.{IsHeld};
+ghost use Rattle.np_rules.specs.Ran.{answer_of, applied};
+ghost use Rattle.np_rules.specs.Running.{ran_of};
 ghost use Rattle.np_useful.specs.Settled.{IsSettled};
-ghost use Rattle.np_answers.specs.Answers.{answers_due};
 ghost use Rattle.np_board.specs.Taken.{IsTaken};
 ghost use Rattle.np_answers.specs.declared.ask.Ask.TheVariants as asks;
 
-mod look;
 mod object;
 
-use crate::due::{due_node, is_wanted};
+use crate::turns::{act, has_settled, take_turn};
 use np_answers::{Ask, Turn};
-use np_choices::{choose, is_settled};
 use np_config::Config;
 use np_event::{Entry, Event, Reply};
-use np_index::Index;
-use np_indexed::Indexed;
-use np_journal::JournalKeeper;
-use np_keeper::TreeKeeper;
-use np_look::Look;
-use np_roles::current_session;
-use np_text::{JOURNAL_ENTRIES, NoMemory, NodeId, PoolId, Role};
+use np_keeper::TreeStore;
+use np_rules::Machine;
+use np_text::{NoMemory, Role};
+use np_tree::Tree;
 use std::alloc::Global;
 use std::marker::Model;
 
-/// The machine's state in a coordination tree, with its journal. It changes by entries of the journal
-/// alone, and keeps an index beside its state, with which it answers readers.
+/// The machine over a coordination tree, in which its state is after every call. It changes by
+/// entries of the journal alone.
 #[derive(Drop)]
 pub struct Board {
-    machine: JournalKeeper<Indexed<TreeKeeper>>,
+    machine: Machine<TreeStore>,
 }
 
 impl Model for Board {
-    ghost use Rattle.np_journal.specs.Ran.{Ran};
+    ghost use Rattle.np_rules.specs.Ran.{Ran};
+    ghost use Rattle.np_rules.specs.Running.{ran_of};
 
     ghost Value = { Ran };
 
-    ghost view = { λ b. b.machine };
+    ghost view = { λ b. ran_of b.machine };
 }
 
 impl Board {
@@ -53,10 +50,8 @@ impl Board {
           state = start config;
         }) }
     {
-        config.soundness();
-        let keeper = TreeKeeper::new(alloc, config)?;
-        let indexed = Indexed::new(alloc, keeper)?;
-        let machine = JournalKeeper::begin(alloc, indexed);
+        let store = TreeStore::new(alloc, &config)?;
+        let machine = Machine::begin(alloc, config, store)?;
         Ok(Board { machine })
     }
 
@@ -76,22 +71,19 @@ impl Board {
         self.machine.journal()
     }
 
-    /// The index of the state. It takes no memory.
-    pub fn index(&self) -> &Index
-        ensures { IsIndexOf self.now.configuration self.now.state result.now }
+    /// The machine, which reads and searches the state.
+    pub fn machine(&self) -> &Machine<TreeStore>
+        ensures { ran_of result.now ≡ self.now }
     {
-        self.machine.keeper().index()
+        &self.machine
     }
 
-    /// What keeps the state beside the index. Most readers ask it, and not the machine over it: a call
-    /// on that type is proved with all readers of each type that it is made of.
-    fn tree(&self) -> &TreeKeeper
-        ensures { result.now ≡ record {
-          configuration = self.now.configuration;
-          state = self.now.state;
-        } }
+    /// The tree, which lays the state out.
+    pub fn tree(&self) -> &Tree
+        ensures held { IsHeld self.now.configuration result.now }
+        ensures state { decoded self.now.configuration result.now ≡ self.now.state }
     {
-        self.machine.keeper().keeper()
+        self.machine.store().tree()
     }
 
     /// The reply to the event: `Full` if the journal has 262,144 entries. It takes no memory.
@@ -109,16 +101,14 @@ impl Board {
         ensures err { OnErr result (self.new ≡ self.old) }
         ensures runs { Runs self.new.configuration self.new.journal self.new.state }
     {
-        let reply = self.machine.apply(event)?;
-        Ok(reply)
+        self.machine.apply(event)
     }
 
     /// Whether no role has a useful event. It takes no memory, and costs a choice of each role.
     pub fn settled(&self) -> bool
         ensures { (result ≡ true) ↔ IsSettled self.now.configuration self.now.state }
     {
-        self.soundness();
-        is_settled(self)
+        has_settled(&self.machine)
     }
 
     /// Records one useful event of the role: `Did`. `Idle` if and only if the role has none, and
@@ -128,70 +118,7 @@ impl Board {
         ensures turn { IfOk result (λ t. IsTaken self.old (asks.Act role) t self.new) }
         ensures err { OnErr result (self.new ≡ self.old) }
     {
-        self.soundness();
-        match choose(self, role) {
-            None => Ok(Turn::Idle),
-            Some(event) => self.record(event),
-        }
-    }
-
-    /// Records the event with its reply: `Did`, or `Full` if and only if there are 262,144 entries.
-    fn record(&mut self, event: Event) -> Result<Turn, NoMemory>
-        ensures turn { IfOk result (λ t. IsTaken self.old (asks.Do event) t self.new) }
-        ensures err { OnErr result (self.new ≡ self.old) }
-    {
-        self.soundness();
-        if self.machine.journal().len() >= JOURNAL_ENTRIES {
-            return Ok(Turn::Full);
-        }
-        let reply = self.apply(event)?;
-        Ok(Turn::Did(Entry { event, reply }))
-    }
-
-    /// A node of the pool that is being deleted and held by the pool's janitor, or `Idle` if and
-    /// only if there is none. It looks up the janitor's session, and then the nodes in whose queues
-    /// that session is, up to the due one.
-    fn due(&self, pool: PoolId) -> Turn
-        ensures { answers_due self.now.configuration self.now.journal pool result }
-    {
-        self.soundness();
-        let Some(session) = current_session(self, Role::Janitor(pool)) else {
-            return Turn::Idle;
-        };
-        let Some(node) = due_node(self, pool, session) else {
-            return Turn::Idle;
-        };
-        match self.node(node) {
-            None => Turn::Idle,
-            Some(kept) => Turn::DueNode {
-                node,
-                server: kept.server,
-            },
-        }
-    }
-
-    /// Records that the pool's janitor sweeps the server, unless the server is kept or was swept
-    /// before. It looks up the janitor's session, and finds the node and the pair by binary search.
-    fn sweep(&mut self, pool: PoolId, node: NodeId, server: u64) -> Result<Turn, NoMemory>
-        ensures turn { IfOk result
-            (λ t. IsTaken self.old (asks.Sweep pool node server) t self.new) }
-        ensures err { OnErr result (self.new ≡ self.old) }
-    {
-        self.soundness();
-        let Some(session) = current_session(self, Role::Janitor(pool)) else {
-            return Ok(Turn::Idle);
-        };
-        if is_wanted(self, node, server) {
-            return Ok(Turn::Idle);
-        }
-        if self.swept(node, server) {
-            return Ok(Turn::Swept);
-        }
-        self.record(Event::Sweep {
-            session,
-            node,
-            server,
-        })
+        act(&mut self.machine, role)
     }
 
     /// Takes the turn that the ask names.
@@ -199,11 +126,6 @@ impl Board {
         ensures turn { IfOk result (λ t. IsTaken self.old ask t self.new) }
         ensures err { OnErr result (self.new ≡ self.old) }
     {
-        match ask {
-            Ask::Act(role) => self.act(role),
-            Ask::Do(event) => self.record(event),
-            Ask::Due(pool) => Ok(self.due(pool)),
-            Ask::Sweep { pool, node, server } => self.sweep(pool, node, server),
-        }
+        take_turn(&mut self.machine, ask)
     }
 }

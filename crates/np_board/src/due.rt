@@ -2,11 +2,12 @@
 
 ghost use Rattle.std.specs.Prelude.{◌≡◌, false, true, IfSome, None};
 ghost use Rattle.np_text.specs.declared.id.NodeId.{NodeId};
-ghost use Rattle.np_machine.specs.Tables.{is_session_of};
-ghost use Rattle.np_machine.specs.Node.{is_server, is_wanted};
+ghost use Rattle.np_machine.specs.Tables.{is_session_of, node_holder, node_in};
+ghost use Rattle.np_machine.specs.Node.{is_server, is_swept, is_wanted};
 ghost use Rattle.np_board.specs.Due.{is_due};
 
-use np_look::Look;
+use np_look::{Look, Rows, node_holder};
+use np_record::NodeRecord;
 use np_text::{NodeId, NodeState, PoolId, SessionId};
 
 /// Whether the option names this session.
@@ -19,16 +20,37 @@ fn is_session_of(session: SessionId, found: Option<SessionId>) -> bool
     }
 }
 
-/// Whether the node is there, is of the pool and is being deleted, and is held by the session.
-fn is_due<L: Look>(look: &L, pool: PoolId, session: SessionId, node: NodeId) -> bool
-    ensures { result ≡ is_due pool session node (L.state look.now) }
+/// The node's record.
+pub(crate) fn node<L: Look>(look: &L, node: NodeId) -> Option<NodeRecord>
+    ensures { result ≡ node_in node (L.state look.now).nodes }
 {
-    match look.node(node) {
+    look.rows().node(node)
+}
+
+/// Who holds the node.
+fn holder<L: Look>(look: &L, node: NodeId) -> Option<SessionId>
+    ensures { result ≡ node_holder node (L.state look.now).nodes }
+{
+    node_holder(look.rows(), node)
+}
+
+/// Whether the server of the node was swept.
+pub(crate) fn was_swept<L: Look>(look: &L, node: NodeId, server: u64) -> bool
+    ensures { result ≡ is_swept node server (L.state look.now).swept }
+{
+    look.rows().swept(node, server)
+}
+
+/// Whether the node is there, is of the pool and is being deleted, and is held by the session.
+fn is_due<L: Look>(look: &L, pool: PoolId, session: SessionId, id: NodeId) -> bool
+    ensures { result ≡ is_due pool session id (L.state look.now) }
+{
+    match node(look, id) {
         None => false,
         Some(kept) => {
             kept.pool.0 == pool.0
                 && kept.state == NodeState::Deleting
-                && is_session_of(session, look.node_holder(node))
+                && is_session_of(session, holder(look, id))
         }
     }
 }
@@ -61,10 +83,10 @@ fn is_server(server: u64, found: Option<u64>) -> bool
 }
 
 /// Whether the node is there, and is building or has this server.
-pub(crate) fn is_wanted<L: Look>(look: &L, node: NodeId, server: u64) -> bool
-    ensures { result ≡ is_wanted (L.state look.now) node server }
+pub(crate) fn is_wanted<L: Look>(look: &L, id: NodeId, server: u64) -> bool
+    ensures { result ≡ is_wanted (L.state look.now) id server }
 {
-    match look.node(node) {
+    match node(look, id) {
         None => false,
         Some(kept) => kept.state == NodeState::Building || is_server(server, kept.server),
     }

@@ -10,7 +10,7 @@ use Rattle.np_event_lines.specs.Line.{HasEventLine}
 use Rattle.np_machine.specs.State.{State, start}
 use Rattle.np_machine.specs.Step.{judge, next, reply_of}
 use Rattle.np_machine.specs.History.{state_after, after}
-use Rattle.np_journal.specs.Ran.{Ran, applied, has_room}
+use Rattle.np_rules.specs.Ran.{Ran, applied, has_room}
 use Rattle.np_machine.proofs.Runs.{state_after-push}
 use Rattle.np_report.specs.Played.{played_from, played, ran}
 

@@ -14,7 +14,7 @@ use Rattle.np_caused.proofs.Journals.{caused-every_step}
 use Rattle.np_kept.proofs.Made.{kept-every_step}
 use Rattle.np_kept.proofs.Rightful.{fenced-every_step}
 use Rattle.np_report.specs.declared.script.Script.{Script}
-use Rattle.np_journal.specs.Ran.{Ran}
+use Rattle.np_rules.specs.Ran.{Ran}
 use Rattle.np_report.specs.Played.{played_from, played, ran}
 use Rattle.np_report.specs.Printed.{HoldsThroughout, IsPrinted}
 use Rattle.np_report.specs.Script.{IsPlayable}

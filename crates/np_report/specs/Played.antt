@@ -6,7 +6,7 @@ use Rattle.np_event.specs.declared.event.Event.{Event}
 use Rattle.np_machine.specs.State.{State, start}
 use Rattle.np_machine.specs.Step.{judge, next, reply_of}
 use Rattle.np_machine.specs.History.{after}
-use Rattle.np_journal.specs.Ran.{Ran}
+use Rattle.np_rules.specs.Ran.{Ran}
 
 -- the events, each with the machine's reply in the state that those before it left
 abbrev pub played_from : Configuration → State → List Event → List Entry

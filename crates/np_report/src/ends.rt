@@ -4,7 +4,7 @@ ghost use Rattle.std.specs.Prelude.{◌≡◌, ◌≤◌, ◌++◌, codes, lengt
 ghost use Rattle.np_machine.specs.Fates.{fates, fate_of};
 ghost use Rattle.np_report.specs.Summary.{is_end, summary_of, count_line};
 
-use np_look::Look;
+use np_look::Rows;
 use np_record::JobRecord;
 use np_text::{Ending, JobId, NoMemory, put_number};
 use std::alloc::Global;
@@ -21,8 +21,8 @@ enum End {
 }
 
 /// Whether the job came to this end.
-fn is_end<L: Look>(look: &L, end: End, job: &JobRecord) -> bool
-    ensures { result ≡ is_end end (fate_of (L.state look.now) job.now) }
+fn is_end<R: Rows>(rows: &R, end: End, job: &JobRecord) -> bool
+    ensures { result ≡ is_end end (fate_of (R.state rows.now) job.now) }
 {
     match end {
         End::Served => matches!(job.ending, Some(Ending::Served)),
@@ -40,25 +40,25 @@ fn one_if(counted: bool) -> u32
     if counted { 1 } else { 0 }
 }
 
-fn count_jobs<L: Look>(look: &L) -> u32
-    requires { length (L.state look.now).jobs ≤ 4096 }
-    ensures { result ≡ length (L.state look.now).jobs }
+fn count_jobs<R: Rows>(rows: &R) -> u32
+    requires { length (R.state rows.now).jobs ≤ 4096 }
+    ensures { result ≡ length (R.state rows.now).jobs }
 {
     let mut at = 0;
-    while let Some(_) = look.job(JobId(at)) {
+    while let Some(_) = rows.job(JobId(at)) {
         at += 1;
     }
     at
 }
 
-fn count_ends<L: Look>(look: &L, end: End) -> u32
-    requires { length (L.state look.now).jobs ≤ 4096 }
-    ensures { result ≡ count_by (is_end end) (fates (L.state look.now)) }
+fn count_ends<R: Rows>(rows: &R, end: End) -> u32
+    requires { length (R.state rows.now).jobs ≤ 4096 }
+    ensures { result ≡ count_by (is_end end) (fates (R.state rows.now)) }
 {
     let mut at = 0;
     let mut count = 0;
-    while let Some(job) = look.job(JobId(at)) {
-        count += one_if(is_end(look, end, &job));
+    while let Some(job) = rows.job(JobId(at)) {
+        count += one_if(is_end(rows, end, &job));
         at += 1;
     }
     count
@@ -77,17 +77,17 @@ fn put_count(out: &mut Vec<u8>, word: &[u8], count: u32) -> Result<(), NoMemory>
 /// The summary of a state: how many jobs there are, and how many were served, failed, lost and
 /// withdrawn, and are waiting, a line each. The time grows with the number of jobs.
 #[tactic(auto, unfolding(crate::specs::Summary::summary_of))]
-pub fn summary<L: Look>(alloc: Global, look: &L) -> Result<Vec<u8>, NoMemory>
-    requires jobs { length (L.state look.now).jobs ≡ length (L.site look.now).jobs }
-    ensures { IfOk result (λ text. text.items ≡ summary_of (fates (L.state look.now))) }
+pub fn summary<R: Rows>(alloc: Global, rows: &R) -> Result<Vec<u8>, NoMemory>
+    requires jobs { length (R.state rows.now).jobs ≡ length (R.site rows.now).jobs }
+    ensures { IfOk result (λ text. text.items ≡ summary_of (fates (R.state rows.now))) }
 {
-    look.config().soundness();
+    rows.config().soundness();
     let mut out = Vec::new(alloc);
-    put_count(&mut out, b"jobs", count_jobs(look))?;
-    put_count(&mut out, b"served", count_ends(look, End::Served))?;
-    put_count(&mut out, b"failed", count_ends(look, End::Failed))?;
-    put_count(&mut out, b"lost", count_ends(look, End::Lost))?;
-    put_count(&mut out, b"withdrawn", count_ends(look, End::Withdrawn))?;
-    put_count(&mut out, b"waiting", count_ends(look, End::Waiting))?;
+    put_count(&mut out, b"jobs", count_jobs(rows))?;
+    put_count(&mut out, b"served", count_ends(rows, End::Served))?;
+    put_count(&mut out, b"failed", count_ends(rows, End::Failed))?;
+    put_count(&mut out, b"lost", count_ends(rows, End::Lost))?;
+    put_count(&mut out, b"withdrawn", count_ends(rows, End::Withdrawn))?;
+    put_count(&mut out, b"waiting", count_ends(rows, End::Waiting))?;
     Ok(out)
 }

@@ -5,7 +5,7 @@ ghost use Rattle.std.specs.List.{flat_map};
 ghost use Rattle.np_machine.specs.Fates.{declines_of, fate_of};
 ghost use Rattle.np_report.specs.Text.{decline_text, fate_text, node_text, pool_text};
 
-use np_look::Look;
+use np_look::Rows;
 use np_record::{Declined, JobRecord, Marked};
 use np_text::{Ending, NoMemory, PoolId, put_number, put_reason};
 
@@ -48,25 +48,25 @@ fn put_nodes(out: &mut Vec<u8>, nodes: &[Marked]) -> Result<(), NoMemory>
 }
 
 /// The declines of the job's request, if it has one that still exists.
-fn put_failed<L: Look>(out: &mut Vec<u8>, look: &L, job: &JobRecord) -> Result<(), NoMemory>
-    ensures { OnOk result (out.new.items ≡ out.old.items ++ flat_map decline_text (declines_of (L.state look.now) job.now)) }
+fn put_failed<R: Rows>(out: &mut Vec<u8>, rows: &R, job: &JobRecord) -> Result<(), NoMemory>
+    ensures { OnOk result (out.new.items ≡ out.old.items ++ flat_map decline_text (declines_of (R.state rows.now) job.now)) }
 {
     let Some(request) = job.request else {
         return Ok(());
     };
-    match look.request(request) {
+    match rows.request(request) {
         None => Ok(()),
         Some(kept) => put_declines(out, kept.declined.items()),
     }
 }
 
 /// A job's end, or how far it has come.
-pub(crate) fn put_fate<L: Look>(
+pub(crate) fn put_fate<R: Rows>(
     out: &mut Vec<u8>,
-    look: &L,
+    rows: &R,
     job: &JobRecord,
 ) -> Result<(), NoMemory>
-    ensures { OnOk result (out.new.items ≡ out.old.items ++ fate_text (fate_of (L.state look.now) job.now)) }
+    ensures { OnOk result (out.new.items ≡ out.old.items ++ fate_text (fate_of (R.state rows.now) job.now)) }
 {
     match job.ending {
         Some(Ending::Served) => {
@@ -76,7 +76,7 @@ pub(crate) fn put_fate<L: Look>(
         }
         Some(Ending::Failed) => {
             out.extend_from_slice(b"failed")?;
-            put_failed(out, look, job)
+            put_failed(out, rows, job)
         }
         Some(Ending::Lost) => {
             out.extend_from_slice(b"lost")?;

@@ -3,8 +3,8 @@
 //! A script is a configuration, a line `%%` and event lines. The Text is the canonical configuration,
 //! a line `%%`, one line for each entry, a line `%%`, and one line for each job's fate, in job order.
 //! `specs/Script` and `specs/Text` say both as functions on lists of bytes, `specs/Played` which
-//! journal the machine makes of a script's events, and `specs/Printed` what the Text shows. `Machine`
-//! is whatever takes the events, and `FromLine` whatever is read line by line.
+//! journal the machine makes of a script's events, and `specs/Printed` what the Text shows.
+//! `FromLine` is whatever is read line by line.
 #![tactic(auto)]
 
 mod ends;
@@ -18,6 +18,6 @@ mod script;
 pub use ends::summary;
 pub use law::{a_script_plays_safely, a_text_tells_its_run, the_first_line_at_fault_is_told};
 pub use lines::{FromLine, LinesFault, read_lines};
-pub use played::{Machine, play, text_of_script};
+pub use played::{play, text_of_script};
 pub use print::text;
 pub use script::{EventList, Script, ScriptFault, read_config, read_script};

@@ -16,7 +16,7 @@ use np_config::Config;
 use np_config_text::config_text;
 use np_event::Entry;
 use np_event_lines::put_entry;
-use np_look::Look;
+use np_look::Rows;
 use np_site::Job;
 use np_text::{JobId, NoMemory, put_number};
 use std::alloc::Global;
@@ -56,18 +56,18 @@ fn put_entries(out: &mut Vec<u8>, journal: &[Entry]) -> Result<(), NoMemory>
     Ok(())
 }
 
-fn put_fates<L: Look>(out: &mut Vec<u8>, look: &L) -> Result<(), NoMemory>
-    ensures { OnOk result (out.new.items ≡ out.old.items ++ fate_lines (L.site look.now) 0 (L.site look.now).jobs (fates (L.state look.now))) }
+fn put_fates<R: Rows>(out: &mut Vec<u8>, rows: &R) -> Result<(), NoMemory>
+    ensures { OnOk result (out.new.items ≡ out.old.items ++ fate_lines (R.site rows.now) 0 (R.site rows.now).jobs (fates (R.state rows.now))) }
 {
-    let config = look.config();
+    let config = rows.config();
     config.soundness();
     let mut at = 0;
     while let Some(job) = config.job(JobId(at)) {
-        let Some(kept) = look.job(JobId(at)) else {
+        let Some(kept) = rows.job(JobId(at)) else {
             return Ok(());
         };
         put_job(out, config, at, job)?;
-        put_fate(out, look, &kept)?;
+        put_fate(out, rows, &kept)?;
         out.push(b'\n')?;
         at += 1;
     }
@@ -75,38 +75,38 @@ fn put_fates<L: Look>(out: &mut Vec<u8>, look: &L) -> Result<(), NoMemory>
 }
 
 /// It does nothing: a configuration that can be looked at is sound.
-fn is_sound<L: Look>(look: &L)
-    ensures { IsSound (L.site look.now) }
+fn is_sound<R: Rows>(rows: &R)
+    ensures { IsSound (R.site rows.now) }
 {
-    look.config().soundness();
+    rows.config().soundness();
 }
 
 #[tactic(auto, unfolding(crate::specs::Text::text_of))]
-fn parts<L: Look>(alloc: Global, look: &L, journal: &[Entry]) -> Result<Vec<u8>, NoMemory>
-    requires runs { Runs (L.site look.now) journal.now (L.state look.now) }
+fn parts<R: Rows>(alloc: Global, rows: &R, journal: &[Entry]) -> Result<Vec<u8>, NoMemory>
+    requires runs { Runs (R.site rows.now) journal.now (R.state rows.now) }
     requires lines { AllByRecursion (λ e. HasEventLine e.event) journal.now }
-    ensures { IfOk result (λ text. text.items ≡ text_of (L.site look.now) journal.now) }
+    ensures { IfOk result (λ text. text.items ≡ text_of (R.site rows.now) journal.now) }
 {
-    let config = look.config();
+    let config = rows.config();
     config.soundness();
     let mut out = config_text(alloc, config)?;
     out.extend_from_slice(b"\n%%\n")?;
     put_entries(&mut out, journal)?;
     out.extend_from_slice(b"%%\n")?;
-    put_fates(&mut out, look)?;
+    put_fates(&mut out, rows)?;
     Ok(out)
 }
 
 /// The whole Text of a run: the canonical configuration, a line `%%`, a line for each entry, refused
 /// ones too, a line `%%`, and a line for what became of each job, in job order. The time grows with
 /// the length of the Text.
-pub fn text<L: Look>(alloc: Global, look: &L, journal: &[Entry]) -> Result<Vec<u8>, NoMemory>
-    requires runs { Runs (L.site look.now) journal.now (L.state look.now) }
+pub fn text<R: Rows>(alloc: Global, rows: &R, journal: &[Entry]) -> Result<Vec<u8>, NoMemory>
+    requires runs { Runs (R.site rows.now) journal.now (R.state rows.now) }
     requires lines { AllByRecursion (λ e. HasEventLine e.event) journal.now }
-    ensures { IfOk result (λ text. IsPrinted (L.site look.now) journal.now text.items) }
+    ensures { IfOk result (λ text. IsPrinted (R.site rows.now) journal.now text.items) }
 {
-    is_sound(look);
-    match parts(alloc, look, journal) {
+    is_sound(rows);
+    match parts(alloc, rows, journal) {
         Ok(text) => Ok(text),
         Err(want) => Err(want),
     }

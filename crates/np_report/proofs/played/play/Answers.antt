@@ -1,6 +1,6 @@
 use Rattle.std.proofs.Common.{◌<◌, ◌∙◌, ap, arith, length, get_or}
 use Rattle.np_event.specs.declared.event.Event.TheVariants.{Tick}
-use Rattle.np_journal.specs.Ran.{Ran, applied}
+use Rattle.np_rules.specs.Ran.{Ran, applied}
 use Rattle.np_report.proofs.Playing.{ran-next}
 use Rattle.np_report.proofs.played.play.Goals as goal
 
@@ -12,5 +12,5 @@ loop-event-preserved g c =
     record {
       ran = c.in_ok-apply.ensures.ok
           ∙ ap (λ (m : Ran). applied m (get_or events at Tick)) c.loop-event.invariant.ran
-          ∙ ran-next (g.M.Machine.so_far c.args.machine.now).configuration events at Tick within c.requires.few;
+          ∙ ran-next c.args.machine.now.configuration events at Tick within c.requires.few;
     }

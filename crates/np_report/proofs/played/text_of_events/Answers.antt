@@ -3,20 +3,21 @@ use Rattle.std.specs.List.{AllByRecursion}
 use Rattle.np_event.specs.declared.entry.Entry.{Entry}
 use Rattle.np_event_lines.specs.Line.{HasEventLine}
 use Rattle.np_machine.specs.State.{start}
-use Rattle.np_journal.specs.Ran.{Ran}
+use Rattle.np_rules.specs.Running.{ran_of}
+use Rattle.np_rules.specs.Ran.{Ran}
 use Rattle.np_report.proofs.Playing.{lines-played_from}
 use Rattle.np_report.proofs.SafePlay.{runs-same}
 use Rattle.np_report.proofs.played.text_of_events.Goals as goal
 
 pub text-requires-clause-runs : goal.text-requires-clause-runs
 text-requires-clause-runs g c =
-    let conf = (g.M.Machine.so_far c.args.machine.now).configuration in
-    runs-same (g.M.Machine.so_far c.play.new.machine) conf c.args.events.now _ _ _
-    c.in_ok-play.ensures c.journal.ensures.site c.journal.ensures.journal c.journal.ensures.state c.requires.few
+    let conf = c.args.machine.now.configuration in
+    runs-same (ran_of c.play.new.machine) conf c.args.events.now _ _ _
+    c.in_ok-play.ensures c.rows.ensures.site c.journal.ensures c.rows.ensures.state c.requires.few
 
 pub text-requires-clause-lines : goal.text-requires-clause-lines
 text-requires-clause-lines g c =
-    let conf = (g.M.Machine.so_far c.args.machine.now).configuration in
-    let journal = c.journal.ensures.journal ∙ ap (λ (m : Ran). m.journal) c.in_ok-play.ensures in
+    let conf = c.args.machine.now.configuration in
+    let journal = c.journal.ensures ∙ ap (λ (m : Ran). m.journal) c.in_ok-play.ensures in
     subst (λ (entries : List Entry). AllByRecursion (λ (e : Entry). HasEventLine e.event) entries) (sym journal)
     (lines-played_from conf (start conf) c.args.events.now c.requires.lines)

@@ -6,8 +6,8 @@ abbrev pub invariant-loop-job : goal.invariant-loop-job
 invariant-loop-job g l = record {
   within : l.at ≤ length l.config.jobs;
   few : length l.config.jobs ≤ 4096;
-  put : l.out.items ++ lines_from l.config (g.L.Look.state l.look) l.at (drop l.at l.config.jobs) (drop l.at (g.L.Look.state l.look).jobs)
-      ≡ l.fn.out.items ++ lines_from l.config (g.L.Look.state l.look) 0 l.config.jobs (g.L.Look.state l.look).jobs;
+  put : l.out.items ++ lines_from l.config (g.R.Rows.state l.rows) l.at (drop l.at l.config.jobs) (drop l.at (g.R.Rows.state l.rows).jobs)
+      ≡ l.fn.out.items ++ lines_from l.config (g.R.Rows.state l.rows) 0 l.config.jobs (g.R.Rows.state l.rows).jobs;
 }
 
 abbrev pub decreases-loop-job : goal.decreases-loop-job

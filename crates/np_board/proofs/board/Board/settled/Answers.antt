@@ -1,8 +1,8 @@
-use Rattle.np_fits.proofs.FitsRuns.{Fits-Runs}
+use Rattle.std.proofs.Common.{◌≡◌, subst, true}
+use Rattle.std.specs.Prelude.{◌↔◌}
+use Rattle.np_useful.specs.Settled.{IsSettled}
+use Rattle.np_rules.specs.Ran.{Ran}
 use Rattle.np_board.proofs.board.Board.settled.Goals as goal
 
-pub is_settled-requires-clause-reached : goal.is_settled-requires-clause-reached
-is_settled-requires-clause-reached c = record { journal = c.args.self.now.journal; runs = c.soundness.ensures.runs }
-
-pub is_settled-requires-clause-fits : goal.is_settled-requires-clause-fits
-is_settled-requires-clause-fits c = Fits-Runs _ _ _ c.soundness.ensures.site c.soundness.ensures.runs
+pub returns : goal.returns
+returns c = subst (λ (m : Ran). (c.has_settled.result ≡ true) ↔ IsSettled m.configuration m.state) c.self.view_is c.has_settled.ensures

@@ -1,18 +1,19 @@
+use Rattle.np_rules.specs.Running.{ran_of}
 -- the event that was chosen is useful
 use Rattle.std.proofs.lemmas.Result.{IfOk-weaker}
 use Rattle.np_fits.proofs.FitsRuns.{Fits-Runs}
 use Rattle.np_board.proofs.TurnLemmas.{act-taken, idle-taken}
-use Rattle.np_board.proofs.board.Board.act.Goals as goal
+use Rattle.np_board.proofs.turns.act.Goals as goal
 
 pub choose-requires-clause-reached : goal.choose-requires-clause-reached
-choose-requires-clause-reached c = record { journal = c.args.self.now.journal; runs = c.soundness.ensures.runs }
+choose-requires-clause-reached c = record { journal = c.args.machine.now.journal; runs = c.soundness.ensures.runs }
 
 pub choose-requires-clause-fits : goal.choose-requires-clause-fits
 choose-requires-clause-fits c = Fits-Runs _ _ _ c.soundness.ensures.site c.soundness.ensures.runs
 
 pub returns-in-None-clause-turn : goal.returns-in-None-clause-turn
-returns-in-None-clause-turn c = idle-taken c.args.self.now c.args.role c.soundness.ensures.runs c.in-None.ensures
+returns-in-None-clause-turn c = idle-taken (ran_of c.args.machine.now) c.args.role c.soundness.ensures.runs c.in-None.ensures
 
 pub returns-in-Some-clause-turn : goal.returns-in-Some-clause-turn
 returns-in-Some-clause-turn c =
-    IfOk-weaker c.record.result _ _ (λ t taken. act-taken c.args.self.now c.record.new.self c.args.role c.in-Some.event t c.soundness.ensures.runs c.in-Some.ensures taken) c.record.ensures.turn
+    IfOk-weaker c.record.result _ _ (λ t taken. act-taken (ran_of c.args.machine.now) (ran_of c.record.new.machine) c.args.role c.in-Some.event t c.soundness.ensures.runs c.in-Some.ensures taken) c.record.ensures.turn
