@@ -7,7 +7,7 @@ use Rattle.np_desk.specs.Pass.{Sight}
 use Rattle.np_answers.specs.Answers.{answers}
 use Rattle.np_trace.specs.Drive.{Drove}
 use Rattle.np_trace.specs.Move.{Move}
-use Rattle.np_trace.specs.Phase.{Phase, Leads, first_phase, owes_report, ended}
+use Rattle.np_trace.specs.Phase.{Phase, Leads, first_phase, owes_launch, owes_report, ended}
 use Rattle.np_trace.specs.Walk.{Walk}
 use Rattle.np_driven.specs.Players.{Player}
 
@@ -44,9 +44,10 @@ pub record IsMade (ends : List PlayerEnd) (x : ℕ) : Type 0 where
   pub there : Contains ends end
   pub made : Contains end.sight.mine x
 
--- the round was cut off: the report of a launch is still to come, or a turn found no room in the
--- journal (own)
+-- the round was cut off: the launch of a start or its report is still to come, or a turn found no
+-- room in the journal (own)
 abbrev pub IsCutOff : Phase → Type 0
+IsCutOff (owes_launch pool n s) = Unit {0}
 IsCutOff (owes_report pool n s o) = Unit {0}
 IsCutOff ended = Unit {0}
 IsCutOff _ = ⊥

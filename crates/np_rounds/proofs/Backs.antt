@@ -17,16 +17,16 @@ use Rattle.np_rounds.specs.Plays.{Plays, Pairwise}
 use Rattle.np_rounds.specs.Backs.{IsBack, AreBack}
 use Rattle.np_rounds.proofs.Fulls.{full_round}
 
-module _ {D : Type 0} (facts : D → DriverFacts) (plan : D → Plan) where
+module _ {D : Type 0} (facts : D → DriverFacts) (plan : D → Plan) (sound : D → List ℕ → Bool) (room : D → ℕ) where
   -- a round that ended full saw a journal without room
   full_of : (full : Bool) (to : Phase) (P : Type 0) → MatchBool full (to ≡ ended) P → full ≡ true → to ≡ ended
   full_of true to P h is = h
   full_of false to P h is = absurd cc
 
-  ends_full : (desk : DeskView Configuration Entry) (crew : Crew D) (e : CrewEnd D) → Plays facts plan desk crew e → (r : Result RoundEnd NoMemory) → e.end ≡ r → IfOk r (λ end. end.full ≡ true → IsFull e.crew.pass.seen)
+  ends_full : (desk : DeskView Configuration Entry) (crew : Crew D) (e : CrewEnd D) → Plays facts plan sound room desk crew e → (r : Result RoundEnd NoMemory) → e.end ≡ r → IfOk r (λ end. end.full ≡ true → IsFull e.crew.pass.seen)
   ends_full desk crew e h (Err fault) is = tt
   ends_full desk crew e h (Ok end) is = λ full.
-      let before = driving_of facts plan crew.worker in let now = driving_of facts plan e.crew.worker in
+      let before = driving_of facts plan sound room crew.worker in let now = driving_of facts plan sound room e.crew.worker in
       let ends = subst (λ (r : Result RoundEnd NoMemory). EndsAs (work_of crew.worker) before now r h.round.trace h.round.to) is h.round.holds in
       let to = full_of end.full h.round.to (Rests (work_of crew.worker) before now h.round.trace h.round.to) ends full in
       full_round desk.origin.fixed (work_of crew.worker) h.round.trace (sight_of crew.pass) (sight_of e.crew.pass)
@@ -36,7 +36,7 @@ module _ {D : Type 0} (facts : D → DriverFacts) (plan : D → Plan) where
   with_no_places (Err fault) mine later none h = tt
   with_no_places (Ok end) mine later none h = omega (arith, h, ap length none)
 
-  back_of : (desk : DeskView Configuration Entry) (p : PassView Configuration Entry) (n : ℕ) (crew : Crew D) (e : CrewEnd D) → crew.pass ≡ given_pass n p → Plays facts plan desk crew e → IsBack desk n e
+  back_of : (desk : DeskView Configuration Entry) (p : PassView Configuration Entry) (n : ℕ) (crew : Crew D) (e : CrewEnd D) → crew.pass ≡ given_pass n p → Plays facts plan sound room desk crew e → IsBack desk n e
   back_of desk p n crew e given h = record {
     own = h.own;
     part = h.part ∙ ap (λ (q : PassView Configuration Entry). q.part) given;
@@ -44,7 +44,7 @@ module _ {D : Type 0} (facts : D → DriverFacts) (plan : D → Plan) where
     full = ends_full desk crew e h e.end refl;
   }
 
-  pub are_back : (desk : DeskView Configuration Entry) (p : PassView Configuration Entry) (n : ℕ) (crews : List (Crew D)) (ends : List (CrewEnd D)) → AreGiven p n crews → Pairwise (Plays facts plan desk) crews ends → AreBack desk n ends
+  pub are_back : (desk : DeskView Configuration Entry) (p : PassView Configuration Entry) (n : ℕ) (crews : List (Crew D)) (ends : List (CrewEnd D)) → AreGiven p n crews → Pairwise (Plays facts plan sound room desk) crews ends → AreBack desk n ends
   are_back desk p n [] [] given h = tt
   are_back desk p n [] (e ∷ ends) given h = absurd h
   are_back desk p n (c ∷ crews) [] given h = absurd h

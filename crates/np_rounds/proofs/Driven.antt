@@ -1,5 +1,5 @@
 -- Journals that the players drove, from one round to the next.
-use Rattle.std.proofs.Common.{◌≡◌, ◌<◌, List, [], ◌∷◌, ◌++◌, length, length-append, refl, sym, ap, ◌∙◌, subst, arith, Bool, true, false}
+use Rattle.std.proofs.Common.{◌≡◌, ◌<◌, ℕ, List, [], ◌∷◌, ◌++◌, length, length-append, refl, sym, ap, ◌∙◌, subst, arith, Bool, true, false}
 use Rattle.std.specs.Prelude.{All, Some, map, not}
 use Rattle.std.proofs.lemmas.List.Elements.{All-map, All-same}
 use Rattle.np_event.specs.declared.entry.Entry.{Entry}
@@ -29,15 +29,15 @@ not_false true h = refl
 not_false false h = absurd cc
 
 -- the drivers in the end
-pub driven_end : {D : Type 0} (facts : D → DriverFacts) (plan : D → Plan) (c : Configuration) (full : Bool) (journal : List Entry) (players : List Player) (ds : List D) → map (driving facts plan) ds ≡ drivings_of players → IsDriven c full journal players → DrivenBy (WasAnswered (map (driving facts plan) ds)) c journal
-driven_end facts plan c true journal players ds same h = subst (λ (l : List Driving). DrivenBy (WasAnswered l) c journal) (sym same) h.driven
-driven_end facts plan c false journal players ds same h = subst (λ (l : List Driving). DrivenBy (WasAnswered l) c journal) (sym same) h.driven
+pub driven_end : {D : Type 0} (facts : D → DriverFacts) (plan : D → Plan) (sound : D → List ℕ → Bool) (room : D → ℕ) (c : Configuration) (full : Bool) (journal : List Entry) (players : List Player) (ds : List D) → map (driving facts plan sound room) ds ≡ drivings_of players → IsDriven c full journal players → DrivenBy (WasAnswered (map (driving facts plan sound room) ds)) c journal
+driven_end facts plan sound room c true journal players ds same h = subst (λ (l : List Driving). DrivenBy (WasAnswered l) c journal) (sym same) h.driven
+driven_end facts plan sound room c false journal players ds same h = subst (λ (l : List Driving). DrivenBy (WasAnswered l) c journal) (sym same) h.driven
 
 -- before the first round
-pub driven_start : {D : Type 0} (facts : D → DriverFacts) (plan : D → Plan) (c : Configuration) (players : List Player) (ds : List D) → AreNumbered 0 players → drivings_of players ≡ map (driving facts plan) ds → All (λ (d : D). (facts d).servers ≡ Some []) ds → HaveDriven c [] players
-driven_start facts plan c players ds numbered same none = start-have-driven c players numbered
-    (All-same (λ (d : Driving). d.facts.servers ≡ Some []) (drivings_of players) (map (driving facts plan) ds) same
-    (All-map (λ (d : Driving). d.facts.servers ≡ Some []) (driving facts plan) ds none))
+pub driven_start : {D : Type 0} (facts : D → DriverFacts) (plan : D → Plan) (sound : D → List ℕ → Bool) (room : D → ℕ) (c : Configuration) (players : List Player) (ds : List D) → AreNumbered 0 players → drivings_of players ≡ map (driving facts plan sound room) ds → All (λ (d : D). (facts d).servers ≡ Some []) ds → HaveDriven c [] players
+driven_start facts plan sound room c players ds numbered same none = start-have-driven c players numbered
+    (All-same (λ (d : Driving). d.facts.servers ≡ Some []) (drivings_of players) (map (driving facts plan sound room) ds) same
+    (All-map (λ (d : Driving). d.facts.servers ≡ Some []) (driving facts plan sound room) ds none))
 
 -- after a round
 pub driven_round : (c : Configuration) (history later : List Entry) (players now : List Player) (full : Bool) → IsRound c history later players now full → Runs c later (after c later) → HaveDriven c history players → IsDriven c full later now

@@ -8,3 +8,4 @@ mod Taken
 mod OneRound
 mod Ticks
 mod Driven
+mod Hosted

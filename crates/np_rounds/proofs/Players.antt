@@ -25,37 +25,37 @@ map-length : {A B : Type 0} (f : A → B) (xs : List A) → length (map f xs) �
 map-length f [] = refl
 map-length f (x ∷ xs) = ap suc (map-length f xs)
 
-module _ {D : Type 0} (facts : D → DriverFacts) (plan : D → Plan) where
-  pub players-push : (workers : List (Worker D)) (w : Worker D) → players_of facts plan (workers ++ w ∷ []) ≡ player_of facts plan w ∷ players_of facts plan workers
+module _ {D : Type 0} (facts : D → DriverFacts) (plan : D → Plan) (sound : D → List ℕ → Bool) (room : D → ℕ) where
+  pub players-push : (workers : List (Worker D)) (w : Worker D) → players_of facts plan sound room (workers ++ w ∷ []) ≡ player_of facts plan sound room w ∷ players_of facts plan sound room workers
   players-push [] w = refl
-  players-push (v ∷ workers) w = ap (λ (l : List Player). l ++ player_of facts plan v ∷ []) (players-push workers w)
+  players-push (v ∷ workers) w = ap (λ (l : List Player). l ++ player_of facts plan sound room v ∷ []) (players-push workers w)
 
-  crew-push : (crews : List (Crew D)) (c : Crew D) → crew_players facts plan (crews ++ c ∷ []) ≡ crew_players facts plan crews ++ player_of facts plan c.worker ∷ []
+  crew-push : (crews : List (Crew D)) (c : Crew D) → crew_players facts plan sound room (crews ++ c ∷ []) ≡ crew_players facts plan sound room crews ++ player_of facts plan sound room c.worker ∷ []
   crew-push [] c = refl
-  crew-push (d ∷ crews) c = ap (λ (l : List Player). player_of facts plan d.worker ∷ l) (crew-push crews c)
+  crew-push (d ∷ crews) c = ap (λ (l : List Player). player_of facts plan sound room d.worker ∷ l) (crew-push crews c)
 
   -- a worker was given a pass
-  pub handed : (crews crews' : List (Crew D)) (c : Crew D) (ws ws' : List (Worker D)) → crews' ≡ crews ++ c ∷ [] → ws ≡ ws' ++ c.worker ∷ [] → crew_players facts plan crews' ++ players_of facts plan ws' ≡ crew_players facts plan crews ++ players_of facts plan ws
+  pub handed : (crews crews' : List (Crew D)) (c : Crew D) (ws ws' : List (Worker D)) → crews' ≡ crews ++ c ∷ [] → ws ≡ ws' ++ c.worker ∷ [] → crew_players facts plan sound room crews' ++ players_of facts plan sound room ws' ≡ crew_players facts plan sound room crews ++ players_of facts plan sound room ws
   handed crews crews' c ws ws' more less =
-      ap (λ (l : List (Crew D)). crew_players facts plan l ++ players_of facts plan ws') more
-      ∙ (ap (λ (l : List Player). l ++ players_of facts plan ws') (crew-push crews c)
-      ∙ (append_assoc (crew_players facts plan crews) (player_of facts plan c.worker ∷ []) (players_of facts plan ws')
-      ∙ ap (λ (l : List Player). crew_players facts plan crews ++ l) (sym (players-push ws' c.worker) ∙ ap (players_of facts plan) (sym less))))
+      ap (λ (l : List (Crew D)). crew_players facts plan sound room l ++ players_of facts plan sound room ws') more
+      ∙ (ap (λ (l : List Player). l ++ players_of facts plan sound room ws') (crew-push crews c)
+      ∙ (append_assoc (crew_players facts plan sound room crews) (player_of facts plan sound room c.worker ∷ []) (players_of facts plan sound room ws')
+      ∙ ap (λ (l : List Player). crew_players facts plan sound room crews ++ l) (sym (players-push ws' c.worker) ∙ ap (players_of facts plan sound room) (sym less))))
 
   -- ## drivers
 
   abbrev all_drivings : List D → List (Worker D) → List Driving
-  all_drivings ds ws = map (driving facts plan) ds ++ drivings_of (players_of facts plan ws)
+  all_drivings ds ws = map (driving facts plan sound room) ds ++ drivings_of (players_of facts plan sound room ws)
 
-  pool_pushed : (ws : List (Worker D)) (p : PoolId) (d : D) → drivings_of (players_of facts plan (ws ++ worker.Pool p d ∷ [])) ≡ driving facts plan d ∷ drivings_of (players_of facts plan ws)
+  pool_pushed : (ws : List (Worker D)) (p : PoolId) (d : D) → drivings_of (players_of facts plan sound room (ws ++ worker.Pool p d ∷ [])) ≡ driving facts plan sound room d ∷ drivings_of (players_of facts plan sound room ws)
   pool_pushed ws p d = ap drivings_of (players-push ws (worker.Pool p d))
 
   -- a driver moves from the drivers to a worker, or back
   moved_over : (ds : List D) (d : D) (p : PoolId) (ws : List (Worker D)) → all_drivings ds (ws ++ worker.Pool p d ∷ []) ≡ all_drivings (ds ++ d ∷ []) ws
   moved_over ds d p ws =
-      ap (λ (l : List Driving). map (driving facts plan) ds ++ l) (pool_pushed ws p d)
-      ∙ (sym (append_assoc (map (driving facts plan) ds) (driving facts plan d ∷ []) (drivings_of (players_of facts plan ws)))
-      ∙ ap (λ (l : List Driving). l ++ drivings_of (players_of facts plan ws)) (sym (map-push (driving facts plan) ds d)))
+      ap (λ (l : List Driving). map (driving facts plan sound room) ds ++ l) (pool_pushed ws p d)
+      ∙ (sym (append_assoc (map (driving facts plan sound room) ds) (driving facts plan sound room d ∷ []) (drivings_of (players_of facts plan sound room ws)))
+      ∙ ap (λ (l : List Driving). l ++ drivings_of (players_of facts plan sound room ws)) (sym (map-push (driving facts plan sound room) ds d)))
 
   -- a driver found its worker
   pub placed : (ds ds' : List D) (d : D) (p : PoolId) (ws ws' : List (Worker D)) → ds ≡ ds' ++ d ∷ [] → ws' ≡ ws ++ worker.Pool p d ∷ [] → all_drivings ds' ws' ≡ all_drivings ds ws
@@ -68,11 +68,11 @@ module _ {D : Type 0} (facts : D → DriverFacts) (plan : D → Plan) where
       ap (λ (l : List D). all_drivings l ws') more ∙ (sym (moved_over ds d p ws') ∙ ap (all_drivings ds) (sym less))
 
   -- a worker had none
-  pub without : (ws ws' : List (Worker D)) (w : Worker D) → driving_of facts plan w ≡ None → ws ≡ ws' ++ w ∷ [] → drivings_of (players_of facts plan ws') ≡ drivings_of (players_of facts plan ws)
-  without ws ws' w none less = sym (ap (λ (l : List (Worker D)). drivings_of (players_of facts plan l)) less ∙ (ap drivings_of (players-push ws' w) ∙ ap (λ (o : Option Driving). driving_in o ++ drivings_of (players_of facts plan ws')) none))
+  pub without : (ws ws' : List (Worker D)) (w : Worker D) → driving_of facts plan sound room w ≡ None → ws ≡ ws' ++ w ∷ [] → drivings_of (players_of facts plan sound room ws') ≡ drivings_of (players_of facts plan sound room ws)
+  without ws ws' w none less = sym (ap (λ (l : List (Worker D)). drivings_of (players_of facts plan sound room l)) less ∙ (ap drivings_of (players-push ws' w) ∙ ap (λ (o : Option Driving). driving_in o ++ drivings_of (players_of facts plan sound room ws')) none))
 
   -- a worker that is not a pool's has none
-  pub no_driver : (w : Worker D) → ((p : PoolId) (d : D) → w ≡ worker.Pool p d → ⊥) → driving_of facts plan w ≡ None
+  pub no_driver : (w : Worker D) → ((p : PoolId) (d : D) → w ≡ worker.Pool p d → ⊥) → driving_of facts plan sound room w ≡ None
   no_driver (worker.Pool p d) other = absurd (other p d refl)
   no_driver (worker.Requester q) other = refl
   no_driver worker.Reaper other = refl
@@ -80,30 +80,30 @@ module _ {D : Type 0} (facts : D → DriverFacts) (plan : D → Plan) where
   -- ## numbers
 
   -- a driver's worker has the number of its place
-  pub numbered : (ds ds' : List D) (d : D) (p : PoolId) (ws ws' : List (Worker D)) → ds ≡ ds' ++ d ∷ [] → ws' ≡ ws ++ worker.Pool p d ∷ [] → p.0 ≡ length ds' → AreNumbered (length ds) (players_of facts plan ws) → AreNumbered (length ds') (players_of facts plan ws')
+  pub numbered : (ds ds' : List D) (d : D) (p : PoolId) (ws ws' : List (Worker D)) → ds ≡ ds' ++ d ∷ [] → ws' ≡ ws ++ worker.Pool p d ∷ [] → p.0 ≡ length ds' → AreNumbered (length ds) (players_of facts plan sound room ws) → AreNumbered (length ds') (players_of facts plan sound room ws')
   numbered ds ds' d p ws ws' less more number had =
       let next : length ds ≡ suc (length ds') = omega (arith, ap length less, length-append ds' (d ∷ [])) in
-      subst (λ (l : List Player). AreNumbered (length ds') l) (sym (ap (players_of facts plan) more ∙ players-push ws (worker.Pool p d)))
-      (number, subst (λ (n : ℕ). AreNumbered n (players_of facts plan ws)) next had)
+      subst (λ (l : List Player). AreNumbered (length ds') l) (sym (ap (players_of facts plan sound room) more ∙ players-push ws (worker.Pool p d)))
+      (number, subst (λ (n : ℕ). AreNumbered n (players_of facts plan sound room ws)) next had)
 
   -- no worker is a pool's
   pub record NoPools (ws : List (Worker D)) : Type 0 where
-    pub drivings : drivings_of (players_of facts plan ws) ≡ []
-    pub numbered : (n : ℕ) → AreNumbered n (players_of facts plan ws)
+    pub drivings : drivings_of (players_of facts plan sound room ws) ≡ []
+    pub numbered : (n : ℕ) → AreNumbered n (players_of facts plan sound room ws)
 
   pub reaper_alone : (ws : List (Worker D)) → ws ≡ worker.Reaper ∷ [] → NoPools ws
   reaper_alone ws is = subst NoPools (sym is) (record { drivings = refl; numbered = λ n. (tt, tt) })
 
   pub requester_more : (ws ws' : List (Worker D)) (q : RequesterId) → ws' ≡ ws ++ worker.Requester q ∷ [] → NoPools ws → NoPools ws'
   requester_more ws ws' q more had =
-      let players : players_of facts plan ws' ≡ player_of facts plan (worker.Requester q) ∷ players_of facts plan ws = ap (players_of facts plan) more ∙ players-push ws (worker.Requester q) in record {
+      let players : players_of facts plan sound room ws' ≡ player_of facts plan sound room (worker.Requester q) ∷ players_of facts plan sound room ws = ap (players_of facts plan sound room) more ∙ players-push ws (worker.Requester q) in record {
         drivings = ap drivings_of players ∙ had.drivings;
         numbered = λ n. subst (AreNumbered n) (sym players) (tt, had.numbered n);
       }
 
   -- ## plans
 
-  pub plans_of_drivers : (ds : List D) → map (λ (d : Driving). d.plan) (map (driving facts plan) ds) ≡ map plan ds
+  pub plans_of_drivers : (ds : List D) → map (λ (d : Driving). d.plan) (map (driving facts plan sound room) ds) ≡ map plan ds
   plans_of_drivers [] = refl
   plans_of_drivers (d ∷ ds) = ap (λ (l : List Plan). plan d ∷ l) (plans_of_drivers ds)
 

@@ -67,8 +67,8 @@ one_more s t (Ok end) is = record { end = end; is = refl; moved = ap moved_in is
 
 -- ## crews
 
-module _ {D : Type 0} (facts : D → DriverFacts) (plan : D → Plan) where
-  pub took_none : (p : PassView Configuration Entry) (ws : List (Worker D)) → TookBack facts plan p p ws ws (record { moved = false; full = false }) []
+module _ {D : Type 0} (facts : D → DriverFacts) (plan : D → Plan) (sound : D → List ℕ → Bool) (room : D → ℕ) where
+  pub took_none : (p : PassView Configuration Entry) (ws : List (Worker D)) → TookBack facts plan sound room p p ws ws (record { moved = false; full = false }) []
   took_none p ws = record {
     seen = starts_same p.seen;
     told = All-nil (λ (e : CrewEnd D). StartsWith p.seen e.crew.pass.seen);
@@ -111,8 +111,8 @@ module _ {D : Type 0} (facts : D → DriverFacts) (plan : D → Plan) where
 
   -- one crew more came back
   pub took_more : (desk : DeskView Configuration Entry) (n : ℕ) (old mid new : PassView Configuration Entry) (ws ws' ws'' : List (Worker D)) (s t : Together) (ends : List (CrewEnd D)) (e : CrewEnd D)
-      → TookBack facts plan old mid ws ws' s ends → IsBack desk n e → StartsWith new.seen mid.seen → StartsWith new.seen e.crew.pass.seen → new.mine ≡ merged mid.mine e.crew.pass.mine → Ok t ≡ with_end s e.end → ws'' ≡ ws' ++ e.crew.worker ∷ []
-      → TookBack facts plan old new ws ws'' t (e ∷ ends)
+      → TookBack facts plan sound room old mid ws ws' s ends → IsBack desk n e → StartsWith new.seen mid.seen → StartsWith new.seen e.crew.pass.seen → new.mine ≡ merged mid.mine e.crew.pass.mine → Ok t ≡ with_end s e.end → ws'' ≡ ws' ++ e.crew.worker ∷ []
+      → TookBack facts plan sound room old new ws ws'' t (e ∷ ends)
   took_more desk n old mid new ws ws' ws'' s t ends e had back seen told mine sum more =
       let one = one_more s t e.end sum in record {
         seen = starts_on new.seen mid.seen old.seen seen had.seen;
@@ -125,5 +125,5 @@ module _ {D : Type 0} (facts : D → DriverFacts) (plan : D → Plan) where
         full = more_full desk n old mid new e s t back mine one seen told had.full;
         uncut = λ room. let parts = nor_parts s.full one.end.full (sym one.full ∙ room) in
             All-cons IsUncut e ends (one.end, one.is, parts.1) (had.uncut parts.0);
-        players = ap (players_of facts plan) more ∙ (players-push facts plan ws' e.crew.worker ∙ ap (λ (l : List Player). player_of facts plan e.crew.worker ∷ l) had.players);
+        players = ap (players_of facts plan sound room) more ∙ (players-push facts plan sound room ws' e.crew.worker ∙ ap (λ (l : List Player). player_of facts plan sound room e.crew.worker ∷ l) had.players);
       }

@@ -1,5 +1,5 @@
 -- crews that come back after a round
-use Rattle.std.specs.Prelude.{◌≡◌, ◌<◌, ℕ, suc, length, List, [], ◌∷◌, ◌++◌, All, true, false, Ok, IfOk}
+use Rattle.std.specs.Prelude.{◌≡◌, ◌<◌, ℕ, suc, length, List, [], ◌∷◌, ◌++◌, All, Bool, true, false, Ok, IfOk}
 use Rattle.np_event.specs.declared.entry.Entry.{Entry}
 use Rattle.np_cloud.specs.Facts.{DriverFacts}
 use Rattle.np_site.specs.Configuration.{Configuration}
@@ -36,11 +36,11 @@ abbrev pub merged_ends : {D : Type 0} → List ℕ → List (CrewEnd D) → List
 merged_ends mine [] = mine
 merged_ends mine (e ∷ ends) = merged (merged_ends mine ends) e.crew.pass.mine
 
-module _ {D : Type 0} (facts : D → DriverFacts) (plan : D → Plan) where
+module _ {D : Type 0} (facts : D → DriverFacts) (plan : D → Plan) (sound : D → List ℕ → Bool) (room : D → ℕ) where
   -- the crews' workers as players, the first crew first (own)
   abbrev pub end_players : List (CrewEnd D) → List Player
   end_players [] = []
-  end_players (e ∷ ends) = player_of facts plan e.crew.worker ∷ end_players ends
+  end_players (e ∷ ends) = player_of facts plan sound room e.crew.worker ∷ end_players ends
 
   -- the crews came back, the last of them first: the pass has seen what they saw and made what they
   -- made, their workers come after those from before, and the sum is that of their rounds (own)
@@ -52,4 +52,4 @@ module _ {D : Type 0} (facts : D → DriverFacts) (plan : D → Plan) where
     pub moved : sum.moved ≡ true → length old.mine < length new.mine
     pub full : sum.full ≡ true → IsFull new.seen
     pub uncut : sum.full ≡ false → All IsUncut ends
-    pub players : players_of facts plan now ≡ end_players ends ++ players_of facts plan before
+    pub players : players_of facts plan sound room now ≡ end_players ends ++ players_of facts plan sound room before

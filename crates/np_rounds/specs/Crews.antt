@@ -39,10 +39,10 @@ AreGiven p n (crew ∷ crews) = (crew.pass ≡ given_pass n p) × AreGiven p (su
 abbrev pub Plan : Type 0
 Plan = Tag → Option Outcome
 
-module _ {D : Type 0} (facts : D → DriverFacts) (plan : D → Plan) where
+module _ {D : Type 0} (facts : D → DriverFacts) (plan : D → Plan) (sound : D → List ℕ → Bool) (room : D → ℕ) where
   -- whose the worker is, and what it drives (own)
   abbrev pub player_of : Worker D → Player
-  player_of worker = record { work = work_of worker; driving = driving_of facts plan worker }
+  player_of worker = record { work = work_of worker; driving = driving_of facts plan sound room worker }
 
   -- the workers as players, the last worker first (own)
   abbrev pub players_of : List (Worker D) → List Player

@@ -1,5 +1,5 @@
 -- what a crew did in a round
-use Rattle.std.specs.Prelude.{◌≡◌, ◌+◌, length, List, [], ◌∷◌, IfOk}
+use Rattle.std.specs.Prelude.{◌≡◌, ◌+◌, length, ℕ, Bool, List, [], ◌∷◌, IfOk}
 use Rattle.np_event.specs.declared.entry.Entry.{Entry}
 use Rattle.np_cloud.specs.Facts.{DriverFacts}
 use Rattle.np_site.specs.Configuration.{Configuration}
@@ -19,13 +19,13 @@ Pairwise R [] (y ∷ ys) = ⊥
 Pairwise R (x ∷ xs) [] = ⊥
 Pairwise R (x ∷ xs) (y ∷ ys) = R x y × Pairwise R xs ys
 
-module _ {D : Type 0} (facts : D → DriverFacts) (plan : D → Plan) where
+module _ {D : Type 0} (facts : D → DriverFacts) (plan : D → Plan) (sound : D → List ℕ → Bool) (room : D → ℕ) where
   -- the crew's worker played a round at the desk through its pass, and this is left of both (own)
   pub record Plays (desk : DeskView Configuration Entry) (crew : Crew D) (e : CrewEnd D) : Type 0 where
     pub own : IsOf e.crew.pass desk
     pub part : e.crew.pass.part ≡ crew.pass.part
     pub work : work_of e.crew.worker ≡ work_of crew.worker
-    pub round : let before = driving_of facts plan crew.worker in let now = driving_of facts plan e.crew.worker in
+    pub round : let before = driving_of facts plan sound room crew.worker in let now = driving_of facts plan sound room e.crew.worker in
         Part answers desk.origin.fixed (first_phase (work_of crew.worker))
         (sight_of crew.pass) (sight_of e.crew.pass) before now (EndsAs (work_of crew.worker) before now e.end)
     pub entries : IfOk e.end (λ end. length e.crew.pass.mine ≡ length crew.pass.mine + end.entries)

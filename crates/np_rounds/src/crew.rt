@@ -38,7 +38,7 @@ pub(crate) fn play<R: Wait, D: Driver, G: Gate>(
     crew: Crew<D>,
 ) -> CrewEnd<D>
     requires own { IsOf crew.pass desk.now }
-    ensures { Plays D.facts D.plan desk.now crew result }
+    ensures { Plays D.facts D.plan D.sound D.room desk.now crew result }
 {
     let Crew { mut worker, pass } = crew;
     let mut turns = OnDesk { rt, desk, pass };
@@ -58,9 +58,11 @@ pub(crate) fn workers_of<D: Driver + Drop>(
     mut drivers: Vec<D>,
 ) -> Result<Vec<Worker<D>>, NoMemory>
     requires drivers { length drivers.items ≡ length config.now.pools }
-    ensures numbered { IfOk result (λ v. AreNumbered 0 (players_of D.facts D.plan v.items)) }
-    ensures drivings { IfOk result (λ v. drivings_of (players_of D.facts D.plan v.items)
-        ≡ map (driving D.facts D.plan) drivers.items) }
+    ensures numbered { IfOk result (λ v.
+        AreNumbered 0 (players_of D.facts D.plan D.sound D.room v.items)) }
+    ensures drivings { IfOk result (λ v.
+        drivings_of (players_of D.facts D.plan D.sound D.room v.items)
+        ≡ map (driving D.facts D.plan D.sound D.room) drivers.items) }
 {
     config.soundness();
     let mut workers = Vec::new(alloc);
@@ -83,8 +85,8 @@ pub(crate) fn drivers_of<D: Driver + Drop>(
     alloc: Global,
     mut workers: Vec<Worker<D>>,
 ) -> Result<Vec<D>, NoMemory>
-    ensures { IfOk result (λ v. map (driving D.facts D.plan) v.items
-        ≡ drivings_of (players_of D.facts D.plan workers.items)) }
+    ensures { IfOk result (λ v. map (driving D.facts D.plan D.sound D.room) v.items
+        ≡ drivings_of (players_of D.facts D.plan D.sound D.room workers.items)) }
 {
     let mut drivers = Vec::new(alloc);
     while let Some(worker) = workers.pop() {

@@ -3,27 +3,30 @@
 
 ghost use Rattle.std.specs.Thread.{IsSend, IsSync};
 ghost use Rattle.np_active.specs.contracts.active.Active as active;
+ghost use Rattle.np_awaited.specs.contracts.awaited.Awaited as awaited;
 ghost use Rattle.np_board.specs.contracts.board.Board as board;
 ghost use Rattle.np_classes.specs.contracts.classes.Classes as classes;
 ghost use Rattle.np_config.specs.contracts.config.Config as config;
 ghost use Rattle.np_given.specs.contracts.given.Given as given;
 ghost use Rattle.np_index.specs.contracts.index.Index as index;
-ghost use Rattle.np_keeper.specs.contracts.keeper.TreeKeeper as keeper;
+ghost use Rattle.np_keeper.specs.contracts.store.TreeStore as store;
 ghost use Rattle.np_lookups.specs.contracts.lookups.Lookups as lookups;
 ghost use Rattle.np_open.specs.contracts.requests.Open as requested;
+ghost use Rattle.np_tables.specs.contracts.tables.Tables as tables;
 ghost use Rattle.np_tree.specs.contracts.tree.Tree as tree;
 
 use np_active::Active;
+use np_awaited::Awaited;
 use np_board::Board;
 use np_classes::Classes;
 use np_config::Config;
 use np_given::Given;
 use np_index::Index;
-use np_indexed::Indexed;
-use np_journal::JournalKeeper;
-use np_keeper::TreeKeeper;
+use np_keeper::TreeStore;
 use np_lookups::Lookups;
 use np_open::Open;
+use np_rules::Machine;
+use np_tables::Tables;
 use np_tree::Tree;
 
 /// A type with these bounds may be moved to other threads, and shared with them.
@@ -51,6 +54,13 @@ fn lookups_cross()
     ensures sync { IsSync lookups.the_row }
 {
     crosses::<Lookups>();
+}
+
+fn awaited_cross()
+    ensures send { IsSend awaited.the_row }
+    ensures sync { IsSync awaited.the_row }
+{
+    crosses::<Awaited>();
 }
 
 fn classes_cross()
@@ -86,6 +96,7 @@ fn index_crosses()
     ensures sync { IsSync index.the_row }
 {
     lookups_cross();
+    awaited_cross();
     classes_cross();
     requested_crosses();
     active_crosses();
@@ -93,13 +104,20 @@ fn index_crosses()
     crosses::<Index>();
 }
 
-fn keeper_crosses()
-    ensures send { IsSend keeper.the_row }
-    ensures sync { IsSync keeper.the_row }
+fn tables_cross()
+    ensures send { IsSend tables.the_row }
+    ensures sync { IsSync tables.the_row }
 {
     config_crosses();
+    crosses::<Tables>();
+}
+
+fn store_crosses()
+    ensures send { IsSend store.the_row }
+    ensures sync { IsSync store.the_row }
+{
     tree_crosses();
-    crosses::<TreeKeeper>();
+    crosses::<TreeStore>();
 }
 
 /// A board may be moved to other threads, and shared with them.
@@ -107,8 +125,9 @@ pub(crate) fn board_crosses()
     ensures send { IsSend board.the_row }
     ensures sync { IsSync board.the_row }
 {
-    keeper_crosses();
+    tables_cross();
     index_crosses();
-    crosses::<JournalKeeper<Indexed<TreeKeeper>>>();
+    store_crosses();
+    crosses::<Machine<TreeStore>>();
     crosses::<Board>();
 }

@@ -42,9 +42,9 @@ fn hand_out<D: Driver + Drop>(
     requires whole { IsWhole pass.old.part }
     ensures pass { IfOk result (λ v. pass.new ≡ split_pass (length v.items) pass.old) }
     ensures given { IfOk result (λ v. AreGiven pass.old 0 v.items) }
-    ensures players { IfOk result (λ v. crew_players D.facts D.plan v.items
-        ++ players_of D.facts D.plan workers.new.items
-        ≡ players_of D.facts D.plan workers.old.items) }
+    ensures players { IfOk result (λ v. crew_players D.facts D.plan D.sound D.room v.items
+        ++ players_of D.facts D.plan D.sound D.room workers.new.items
+        ≡ players_of D.facts D.plan D.sound D.room workers.old.items) }
     ensures all { IfOk result (λ _. workers.new.items ≡ []) }
 {
     let mut crews = Vec::new(alloc);
@@ -66,7 +66,8 @@ fn play_all<R: Threads + Wait + Sync, D: Driver + Send + Drop, G: Gate + Sync>(
     crews: Vec<Crew<D>>,
 ) -> Result<Vec<CrewEnd<D>>, NoMemory>
     requires own { All (λ crew. IsOf crew.pass desk.now) crews.items }
-    ensures { IfOk result (λ v. Pairwise (Plays D.facts D.plan desk.now) crews.items v.items) }
+    ensures { IfOk result (λ v. Pairwise (Plays D.facts D.plan D.sound D.room desk.now)
+        crews.items v.items) }
 {
     board_crosses();
     let ends = thread::map_vec(
@@ -74,7 +75,7 @@ fn play_all<R: Threads + Wait + Sync, D: Driver + Send + Drop, G: Gate + Sync>(
         crews,
         &|crew: Crew<D>| -> CrewEnd<D>
             requires { IsOf crew.pass desk.now }
-            ensures { Plays D.facts D.plan desk.entry.now crew result }
+            ensures { Plays D.facts D.plan D.sound D.room desk.entry.now crew result }
         { play(rt, desk, gate, crew) },
     )?;
     Ok(ends)
@@ -103,7 +104,7 @@ fn take_back<D: Driver + Drop>(
     requires back { AreBack desk.now 0 ends.items }
     ensures own { IsOf pass.new desk.now }
     ensures whole { IfOk result (λ _. IsWhole pass.new.part) }
-    ensures took { IfOk result (λ t. TookBack D.facts D.plan pass.old pass.new
+    ensures took { IfOk result (λ t. TookBack D.facts D.plan D.sound D.room pass.old pass.new
         workers.old.items workers.new.items t ends.items) }
 {
     let mut sum = Together {
@@ -142,8 +143,8 @@ pub(crate) fn play_round<R: Threads + Wait + Sync, D: Driver + Send + Drop, G: G
         length pass.old.seen < length pass.new.seen) }
     ensures legal { IfOk result (λ _. is_legal desk.now.origin.fixed pass.new.seen ≡ true) }
     ensures round { IfOk result (λ t. IsRound desk.now.origin.fixed pass.old.seen pass.new.seen
-        (players_of D.facts D.plan workers.old.items)
-        (players_of D.facts D.plan workers.new.items) t.full) }
+        (players_of D.facts D.plan D.sound D.room workers.old.items)
+        (players_of D.facts D.plan D.sound D.room workers.new.items) t.full) }
 {
     pass.know();
     let crews = hand_out(alloc, desk, pass, workers)?;

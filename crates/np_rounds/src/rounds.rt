@@ -7,6 +7,8 @@ ghost use Rattle.np_useful.specs.Settled.{IsSettled};
 ghost use Rattle.np_trace.specs.Drive.{driving};
 ghost use Rattle.np_useful.specs.Driven.{DrivenBy};
 ghost use Rattle.np_driven.specs.Players.{WasAnswered, HaveDriven};
+ghost use Rattle.np_hosts.specs.Carried.{AreCarried, BeginsEmpty, BeginsNew, FailOnlyFull};
+ghost use Rattle.np_hosts.specs.Hosting.{Earlier, HaveHosted, IsHosted};
 ghost use Rattle.np_rounds.specs.Crews.{players_of};
 ghost use Rattle.np_rounds.specs.Played.{
   EndsWithTick,
@@ -80,11 +82,18 @@ fn play_at<R: Threads + Wait + Sync, D: Driver + Send + Drop, G: Gate + Sync>(
     ensures own { IfOk result (λ _. IsOf pass.new desk.now) }
     ensures whole { IfOk result (λ _. IsWhole pass.new.part) }
     ensures stops { IfOk result (λ full. Stops full pass.new.seen) }
-    ensures plans { IfOk result (λ _. plans_in (players_of D.facts D.plan workers.new.items)
-        ≡ plans_in (players_of D.facts D.plan workers.old.items)) }
+    ensures plans { IfOk result (λ _.
+        plans_in (players_of D.facts D.plan D.sound D.room workers.new.items)
+        ≡ plans_in (players_of D.facts D.plan D.sound D.room workers.old.items)) }
     ensures driven { IfOk result (λ full. let c = desk.now.origin.fixed in
-        HaveDriven c pass.old.seen (players_of D.facts D.plan workers.old.items) →
-        IsDriven c full pass.new.seen (players_of D.facts D.plan workers.new.items)) }
+        HaveDriven c pass.old.seen (players_of D.facts D.plan D.sound D.room workers.old.items) →
+        IsDriven c full pass.new.seen
+        (players_of D.facts D.plan D.sound D.room workers.new.items)) }
+    ensures hosted { IfOk result (λ full. let c = desk.now.origin.fixed in
+        let before = players_of D.facts D.plan D.sound D.room workers.old.items in
+        let now = players_of D.facts D.plan D.sound D.room workers.new.items in
+        (earlier : Earlier) → HaveHosted earlier c pass.old.seen before →
+        IsHosted earlier c full pass.new.seen now) }
 {
     for _ in rt.forever() {
         let together = play_round(rt, alloc, desk, pass, workers, gate)?;
@@ -112,11 +121,17 @@ fn play_board<R: Threads + Wait + Sync, D: Driver + Send + Drop, G: Gate + Sync>
     requires rested { IsRested board.journal }
     ensures configuration { IfOk result (λ r. r.0.configuration ≡ board.configuration) }
     ensures stops { IfOk result (λ r. Stops r.1 r.0.journal) }
-    ensures plans { IfOk result (λ _. plans_in (players_of D.facts D.plan workers.new.items)
-        ≡ plans_in (players_of D.facts D.plan workers.old.items)) }
+    ensures plans { IfOk result (λ _.
+        plans_in (players_of D.facts D.plan D.sound D.room workers.new.items)
+        ≡ plans_in (players_of D.facts D.plan D.sound D.room workers.old.items)) }
     ensures driven { IfOk result (λ r. let c = board.configuration in
-        HaveDriven c board.journal (players_of D.facts D.plan workers.old.items) →
-        IsDriven c r.1 r.0.journal (players_of D.facts D.plan workers.new.items)) }
+        HaveDriven c board.journal (players_of D.facts D.plan D.sound D.room workers.old.items) →
+        IsDriven c r.1 r.0.journal (players_of D.facts D.plan D.sound D.room workers.new.items)) }
+    ensures hosted { IfOk result (λ r. let c = board.configuration in
+        let before = players_of D.facts D.plan D.sound D.room workers.old.items in
+        let now = players_of D.facts D.plan D.sound D.room workers.new.items in
+        (earlier : Earlier) → HaveHosted earlier c board.journal before →
+        IsHosted earlier c r.1 r.0.journal now) }
 {
     board.soundness();
     let Ok((desk, mut pass)) = Desk::set_up(alloc, board) else {
@@ -145,8 +160,15 @@ pub fn run_rounds<R: Threads + Wait + Sync, D: Driver + Send + Drop, G: Gate + S
     ensures drivers { IfOk result (λ e. length e.drivers.items ≡ length config.pools) }
     ensures plans { IfOk result (λ e. map D.plan e.drivers.items ≡ map D.plan drivers.items) }
     ensures driven { All (λ (d : D). (D.facts d).servers ≡ Some []) drivers.items →
-        IfOk result (λ e. DrivenBy (WasAnswered (map (driving D.facts D.plan) e.drivers.items))
+        IfOk result (λ e. DrivenBy
+        (WasAnswered (map (driving D.facts D.plan D.sound D.room) e.drivers.items))
         config e.board.journal) }
+    ensures carried { All (λ (d : D). BeginsEmpty (D.facts d)) drivers.items →
+        IfOk result (λ e. AreCarried config e.board.journal
+        (map (driving D.facts D.plan D.sound D.room) e.drivers.items)) }
+    ensures failed { All (λ (d : D). BeginsNew (D.facts d)) drivers.items →
+        IfOk result (λ e. FailOnlyFull config e.board.journal
+        (map (driving D.facts D.plan D.sound D.room) e.drivers.items)) }
 {
     config.soundness();
     let mut workers = workers_of(alloc, &config, drivers)?;

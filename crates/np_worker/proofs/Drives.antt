@@ -1,6 +1,7 @@
 -- What a part of a round did with its driver.
-use Rattle.std.proofs.Common.{◌≡◌, ℕ, ◌≤◌, List, [], ◌∷◌, ◌++◌, sym, refl, ap, ◌∙◌, arith, subst, append_assoc, append-nil}
-use Rattle.std.specs.Prelude.{Option, Some, None, IfSome, Ok, Err}
+use Rattle.std.proofs.Common.{◌≡◌, ℕ, ◌≤◌, List, [], ◌∷◌, ◌++◌, sym, refl, ap, ◌∙◌, arith, subst, append_assoc, append-nil, true, eq-eqb}
+use Rattle.std.specs.Prelude.{Bool, ◌==◌, IsTrue, Option, Some, None, IfSome, Ok, Err}
+use Rattle.std.proofs.lemmas.Bool.{or_left, or_right}
 use Rattle.std.specs.Option.{option_map}
 use Rattle.np_io.specs.Counts.{Rose}
 use Rattle.np_event.specs.declared.event.Outcome.{Outcome}
@@ -10,13 +11,14 @@ use Rattle.np_cloud.specs.declared.driver.Server.{Server}
 use Rattle.np_cloud.specs.declared.driver.LaunchFault.TheVariants as fault
 use Rattle.np_cloud.specs.Facts.{DriverFacts}
 use Rattle.np_cloud.specs.declared.driver.Launch.{Launch}
-use Rattle.np_cloud.specs.Calls.{Answers, IsAsPlanned, without_number, KeepsCounts}
+use Rattle.np_cloud.specs.Calls.{Answers, IsAsPlanned, with_launched, without_number, KeepsCounts}
+use Rattle.np_cloud.specs.Sound.{numbers_of, is_number, Soundness, IsFull}
 use Rattle.np_answers.specs.declared.ask.Ask.{Ask}
 use Rattle.np_answers.specs.declared.ask.Turn.{Turn}
 use Rattle.np_trace.specs.Move.{Move, asked, launched, removed, launches_of}
-use Rattle.np_trace.specs.Drive.{Driving, servers_after, IsOfServer, SweepsServers, FollowsPlan, Drives, Drove}
+use Rattle.np_trace.specs.Drive.{Driving, servers_after, IsOfServer, SweepsServers, FollowsPlan, IsSoundAlone, AreSoundAlone, FailsFull, FailFull, Drives, Drove}
 use Rattle.np_worker.specs.Part.{IsOfDriver, RemovalFailed}
-use Rattle.np_trace.proofs.Traces.{launches-append, servers-append, sweeps-append, plan-append}
+use Rattle.np_trace.proofs.Traces.{launches-append, servers-append, sweeps-append, plan-append, alone-append, full-append}
 
 map_twice : {A : Type 0} (f g h : A → A) → ((x : A) → g (f x) ≡ h x) → (o : Option A) → option_map g (option_map f o) ≡ option_map h o
 map_twice f g h e None = refl
@@ -38,6 +40,20 @@ swept_ask : (a : Ask) (o : Option (List Server)) → IfSome o (λ s. IsOfServer 
 swept_ask a None h = tt
 swept_ask a (Some s) h = (h, tt)
 
+alone_both : (sound : List ℕ → Bool) (ms ns : List Move) (o : Option (List Server)) → IfSome o (λ s. AreSoundAlone sound ms) → IfSome (option_map (servers_after ms) o) (λ s. AreSoundAlone sound ns) → IfSome o (λ s. AreSoundAlone sound (ms ++ ns))
+alone_both sound ms ns None h k = h
+alone_both sound ms ns (Some s) h k = alone-append sound ms ns h k
+
+alone_now : (a b : Driving) (ms ns : List Move) → b.facts.servers ≡ option_map (servers_after ms) a.facts.servers → b.sound ≡ a.sound → IfSome b.facts.servers (λ s. AreSoundAlone b.sound ns) → IfSome (option_map (servers_after ms) a.facts.servers) (λ s. AreSoundAlone a.sound ns)
+alone_now a b ms ns e f h = subst (λ (g : List ℕ → Bool). IfSome (option_map (servers_after ms) a.facts.servers) (λ s. AreSoundAlone g ns)) f (subst (λ (o : Option (List Server)). IfSome o (λ s. AreSoundAlone b.sound ns)) e h)
+
+full_now : (a b : Driving) (ms ns : List Move) → b.facts.answered ≡ option_map (λ (ls : List Launch). ls ++ launches_of ms) a.facts.answered → b.facts.servers ≡ option_map (servers_after ms) a.facts.servers → b.room ≡ a.room → FailFull b.room ns b.facts.answered b.facts.servers
+    → FailFull a.room ns (option_map (λ (ls : List Launch). ls ++ launches_of ms) a.facts.answered) (option_map (servers_after ms) a.facts.servers)
+full_now a b ms ns e f g h =
+    subst (λ (n : ℕ). FailFull n ns (option_map (λ (ls : List Launch). ls ++ launches_of ms) a.facts.answered) (option_map (servers_after ms) a.facts.servers)) g
+    (subst (λ (o : Option (List Server)). FailFull b.room ns (option_map (λ (ls : List Launch). ls ++ launches_of ms) a.facts.answered) o) f
+    (subst (λ (o : Option (List Launch)). FailFull b.room ns o b.facts.servers) e h))
+
 keeps_counts : (a : DriverFacts) → KeepsCounts a a
 keeps_counts a = record { launches = omega arith; removals = omega arith }
 
@@ -47,7 +63,11 @@ drives-append a b c ms ns h k = record {
   servers = k.servers ∙ (ap (option_map (servers_after ns)) h.servers ∙ map_twice (servers_after ms) (servers_after ns) (servers_after (ms ++ ns)) (λ s. sym (servers-append ms ns s)) a.facts.servers);
   swept = swept_both ms ns a.facts.servers h.swept (subst (λ (o : Option (List Server)). IfSome o (λ s. SweepsServers ns s)) h.servers k.swept);
   planned = plan-append a.plan ms ns h.planned (subst (λ (p : Tag → Option Outcome). FollowsPlan p ns) h.plan k.planned);
+  alone = alone_both a.sound ms ns a.facts.servers h.alone (alone_now a b ms ns h.servers h.sound k.alone);
+  full = full-append a.room ns ms a.facts.answered a.facts.servers h.full (full_now a b ms ns h.answered h.servers h.room k.full);
   plan = k.plan ∙ h.plan;
+  sound = k.sound ∙ h.sound;
+  room = k.room ∙ h.room;
   counts = let i = h.counts.launches in let j = k.counts.launches in let m = h.counts.removals in let n = k.counts.removals in record { launches = omega arith; removals = omega arith };
 }
 
@@ -65,7 +85,11 @@ drives_none d = record {
   servers = map_same (λ (s : List Server). s) (λ s. refl) d.facts.servers;
   swept = swept_none d.facts.servers;
   planned = tt;
+  alone = swept_none d.facts.servers;
+  full = tt;
   plan = refl;
+  sound = refl;
+  room = refl;
   counts = keeps_counts d.facts;
 }
 
@@ -75,7 +99,11 @@ drives_ask d a t h = record {
   servers = map_same (λ (s : List Server). s) (λ s. refl) d.facts.servers;
   swept = swept_ask a d.facts.servers h;
   planned = tt;
+  alone = swept_none d.facts.servers;
+  full = tt;
   plan = refl;
+  sound = refl;
+  room = refl;
   counts = keeps_counts d.facts;
 }
 
@@ -87,14 +115,29 @@ pub drove_ask : (d : Option Driving) (a : Ask) (t : Turn) → IsOfDriver a d →
 drove_ask None a t h = tt
 drove_ask (Some d) a t h = drives_ask d a t h
 
-drives_launched : (a b : Driving) (tag : Tag) (o : Outcome) → Answers a.facts tag o b.facts → IfSome (a.plan tag) (λ planned. planned ≡ o) → b.plan ≡ a.plan → KeepsCounts a.facts b.facts → Drives (launched tag o ∷ []) a b
-drives_launched a b tag o h p e k = record {
+-- what is sound and how much room there is stayed
+pub record StaysSame (a b : Driving) : Type 0 where
+  pub plan : b.plan ≡ a.plan
+  pub sound : b.sound ≡ a.sound
+  pub room : b.room ≡ a.room
+  pub counts : KeepsCounts a.facts b.facts
+
+alone_one : (sound : List ℕ → Bool) (o : Outcome) (s : Option (List Server)) → IfSome s (λ _. IsSoundAlone sound o) → IfSome s (λ _. IsSoundAlone sound o × Unit {0})
+alone_one sound o None h = tt
+alone_one sound o (Some s) h = (h, tt)
+
+drives_launched : (a b : Driving) (tag : Tag) (o : Outcome) → Answers a.facts tag o b.facts → IfSome (a.plan tag) (λ planned. planned ≡ o) → IfSome a.facts.servers (λ _. IsSoundAlone a.sound o) → FailsFull a.room o a.facts.answered a.facts.servers → StaysSame a b → Drives (launched tag o ∷ []) a b
+drives_launched a b tag o h p alone full k = record {
   answered = h.answered;
   servers = h.servers;
   swept = swept_none a.facts.servers;
   planned = (p, tt);
-  plan = e;
-  counts = k;
+  alone = alone_one a.sound o a.facts.servers alone;
+  full = (full, tt);
+  plan = k.plan;
+  sound = k.sound;
+  room = k.room;
+  counts = k.counts;
 }
 
 launched_as_planned : (p : Option Outcome) (x : ℕ) → IsAsPlanned p (Ok x) → IfSome p (λ planned. planned ≡ outcome.Launched x)
@@ -105,30 +148,54 @@ failed_as_planned : (p : Option Outcome) → IsAsPlanned p (Err fault.Failed) �
 failed_as_planned None h = tt
 failed_as_planned (Some p) h = h
 
-pub drives_launch : (a b : Driving) (tag : Tag) (x : ℕ) → Answers a.facts tag (outcome.Launched x) b.facts → IsAsPlanned (a.plan tag) (Ok x) → b.plan ≡ a.plan → KeepsCounts a.facts b.facts → Drives (launched tag (outcome.Launched x) ∷ []) a b
-drives_launch a b tag x h p e k = drives_launched a b tag (outcome.Launched x) h (launched_as_planned (a.plan tag) x p) e k
+-- the number of the last server is one of the numbers
+last_number : (x : ℕ) (tag : Tag) (servers : List Server) → is_number x (numbers_of (with_launched tag (outcome.Launched x) servers)) ≡ true
+last_number x tag [] = or_left (x == x) (is_number x []) (eq-eqb x x refl)
+last_number x tag (s ∷ servers) = or_right (s.number == x) (is_number x (numbers_of (with_launched tag (outcome.Launched x) servers))) (last_number x tag servers)
 
-pub drives_failed : (a b : Driving) (tag : Tag) → Answers a.facts tag outcome.Failed b.facts → IsAsPlanned (a.plan tag) (Err fault.Failed) → b.plan ≡ a.plan → KeepsCounts a.facts b.facts → Drives (launched tag outcome.Failed ∷ []) a b
-drives_failed a b tag h p e k = drives_launched a b tag outcome.Failed h (failed_as_planned (a.plan tag) p) e k
+-- a server that was launched just now is sound by itself
+alone_launched : (a b : Driving) (tag : Tag) (x : ℕ) (s : Option (List Server)) → b.facts.servers ≡ option_map (with_launched tag (outcome.Launched x)) s → b.sound ≡ a.sound → Soundness b.facts b.sound → IfSome s (λ _. IsTrue (a.sound (x ∷ [])))
+alone_launched a b tag x None e f h = tt
+alone_launched a b tag x (Some s) e f h =
+    let now : List Server = with_launched tag (outcome.Launched x) s in
+    let sound : IsTrue (b.sound (numbers_of now)) = subst (λ (o : Option (List Server)). IfSome o (λ servers. IsTrue (b.sound (numbers_of servers)))) e h.servers in
+    subst (λ (g : List ℕ → Bool). IsTrue (g (x ∷ []))) f (h.fewer (numbers_of now) (x ∷ []) sound (refl, tt) (last_number x tag s, tt))
 
-pub drives_removed : (a b : Driving) (x : ℕ) → b.facts.answered ≡ a.facts.answered → b.facts.servers ≡ option_map (without_number x) a.facts.servers → b.plan ≡ a.plan → KeepsCounts a.facts b.facts → Drives (removed x ∷ []) a b
-drives_removed a b x h s e k = record {
+none_alone : (s : Option (List Server)) → IfSome s (λ _. Unit {0})
+none_alone s = swept_none s
+
+pub drives_launch : (a b : Driving) (tag : Tag) (x : ℕ) → Answers a.facts tag (outcome.Launched x) b.facts → IsAsPlanned (a.plan tag) (Ok x) → Soundness b.facts b.sound → StaysSame a b → Drives (launched tag (outcome.Launched x) ∷ []) a b
+drives_launch a b tag x h p sound k = drives_launched a b tag (outcome.Launched x) h (launched_as_planned (a.plan tag) x p) (alone_launched a b tag x a.facts.servers h.servers k.sound sound) tt k
+
+pub drives_failed : (a b : Driving) (tag : Tag) → Answers a.facts tag outcome.Failed b.facts → IsAsPlanned (a.plan tag) (Err fault.Failed) → IsFull a.facts a.room → StaysSame a b → Drives (launched tag outcome.Failed ∷ []) a b
+drives_failed a b tag h p full k = drives_launched a b tag outcome.Failed h (failed_as_planned (a.plan tag) p) (none_alone a.facts.servers) full k
+
+pub drives_removed : (a b : Driving) (x : ℕ) → b.facts.answered ≡ a.facts.answered → b.facts.servers ≡ option_map (without_number x) a.facts.servers → StaysSame a b → Drives (removed x ∷ []) a b
+drives_removed a b x h s k = record {
   answered = h ∙ map_same (λ (ls : List Launch). ls ++ []) (λ ls. sym (append-nil ls)) a.facts.answered;
   servers = s;
   swept = swept_none a.facts.servers;
   planned = tt;
-  plan = e;
-  counts = k;
+  alone = swept_none a.facts.servers;
+  full = tt;
+  plan = k.plan;
+  sound = k.sound;
+  room = k.room;
+  counts = k.counts;
 }
 
-pub drives_kept : (a b : Driving) → b.facts.answered ≡ a.facts.answered → b.facts.servers ≡ a.facts.servers → b.plan ≡ a.plan → KeepsCounts a.facts b.facts → Drives [] a b
-drives_kept a b h s e k = record {
+pub drives_kept : (a b : Driving) → b.facts.answered ≡ a.facts.answered → b.facts.servers ≡ a.facts.servers → StaysSame a b → Drives [] a b
+drives_kept a b h s k = record {
   answered = h ∙ map_same (λ (ls : List Launch). ls ++ []) (λ ls. sym (append-nil ls)) a.facts.answered;
   servers = s ∙ map_same (λ (l : List Server). l) (λ l. refl) a.facts.servers;
   swept = swept_none a.facts.servers;
   planned = tt;
-  plan = e;
-  counts = k;
+  alone = swept_none a.facts.servers;
+  full = tt;
+  plan = k.plan;
+  sound = k.sound;
+  room = k.room;
+  counts = k.counts;
 }
 
 rose_before : (a b c : ℕ) → a ≤ b → Rose b c → Rose a c
@@ -141,11 +208,15 @@ failed_before (Some a) None c ms k h = absurd k
 failed_before (Some a) (Some b) None ms k h = absurd h
 failed_before (Some a) (Some b) (Some c) ms k h = rose_before a.facts.remove_faults b.facts.remove_faults c.facts.remove_faults k.counts.removals h
 
-abbrev driving_with : DriverFacts → (Tag → Option Outcome) → Driving
-driving_with facts plan = record { facts = facts; plan = plan }
+abbrev driving_with : DriverFacts → (Tag → Option Outcome) → (List ℕ → Bool) → ℕ → Driving
+driving_with facts plan sound room = record { facts = facts; plan = plan; sound = sound; room = room }
 
-pub same_driving : (a b : Driving) → a.facts ≡ b.facts → a.plan ≡ b.plan → a ≡ b
-same_driving a b h k = ap (λ (x : DriverFacts). driving_with x a.plan) h ∙ ap (λ (p : Tag → Option Outcome). driving_with b.facts p) k
+pub same_driving : (a b : Driving) → a.facts ≡ b.facts → a.plan ≡ b.plan → a.sound ≡ b.sound → a.room ≡ b.room → a ≡ b
+same_driving a b h k l m =
+    ap (λ (x : DriverFacts). driving_with x a.plan a.sound a.room) h
+    ∙ (ap (λ (p : Tag → Option Outcome). driving_with b.facts p a.sound a.room) k
+    ∙ (ap (λ (f : List ℕ → Bool). driving_with b.facts b.plan f a.room) l
+    ∙ ap (λ (n : ℕ). driving_with b.facts b.plan b.sound n) m))
 
 pub drove_same : (a b : Driving) → b ≡ a → Drove [] (Some a) (Some b)
 drove_same a b h = subst (λ (d : Driving). Drove [] (Some a) (Some d)) (sym h) (drives_none a)

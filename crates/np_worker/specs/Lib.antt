@@ -1,2 +1,3 @@
 pub mod Part
 pub mod Round
+pub mod Moves

@@ -1,5 +1,5 @@
 -- what a round came to
-use Rattle.std.specs.Prelude.{◌≡◌, ◌⊎◌, List, MatchBool, Option, Some, None, Result, Ok, Err}
+use Rattle.std.specs.Prelude.{◌≡◌, ◌⊎◌, ℕ, Bool, List, MatchBool, Option, Some, None, Result, Ok, Err}
 use Rattle.np_text.specs.declared.memory.NoMemory.{NoMemory}
 use Rattle.np_cloud.specs.declared.driver.Tag.{Tag}
 use Rattle.np_cloud.specs.Facts.{DriverFacts}
@@ -33,7 +33,7 @@ work_of (worker.Requester q) = of_requester q
 work_of worker.Reaper = of_reaper
 
 -- what it drives (own)
-abbrev pub driving_of : {D : Type 0} → (D → DriverFacts) → (D → Tag → Option Outcome) → Worker D → Option Driving
-driving_of facts plan (worker.Pool pool driver) = Some (driving facts plan driver)
-driving_of facts plan (worker.Requester q) = None
-driving_of facts plan worker.Reaper = None
+abbrev pub driving_of : {D : Type 0} → (D → DriverFacts) → (D → Tag → Option Outcome) → (D → List ℕ → Bool) → (D → ℕ) → Worker D → Option Driving
+driving_of facts plan sound room (worker.Pool pool driver) = Some (driving facts plan sound room driver)
+driving_of facts plan sound room (worker.Requester q) = None
+driving_of facts plan sound room worker.Reaper = None

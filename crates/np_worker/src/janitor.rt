@@ -17,8 +17,8 @@ use np_text::{NoMemory, PoolId, Role};
 
 /// Removes the servers of a number.
 pub(crate) fn remove_server<D: Driver>(driver: &mut D, number: u64) -> Next
-    ensures { RemovalEnds number (driving D.facts D.plan driver.old)
-        (driving D.facts D.plan driver.new) result }
+    ensures { RemovalEnds number (driving D.facts D.plan D.sound D.room driver.old)
+        (driving D.facts D.plan D.sound D.room driver.new) result }
 {
     match driver.remove(number) {
         Ok(()) => Next::Go,
@@ -38,8 +38,9 @@ fn clear_due<D: Driver, T: Turns<Ask = Ask, Entry = Entry, Turn = Turn>>(
     ensures ready { T.ready turns.new }
     ensures fixed { T.fixed turns.new ≡ T.fixed turns.old }
     ensures place { T.place turns.new ≡ T.place turns.old }
-    ensures part { (n : ℕ) (idle : Phase) → let d = Some (driving D.facts D.plan driver.old) in
-        let e = Some (driving D.facts D.plan driver.new) in
+    ensures part { (n : ℕ) (idle : Phase) →
+        let d = Some (driving D.facts D.plan D.sound D.room driver.old) in
+        let e = Some (driving D.facts D.plan D.sound D.room driver.new) in
         Part T.answers (T.fixed turns.old) (looks pool n)
         (T.sight turns.old) (T.sight turns.new) d e
         (Comes (acts (Janitor pool) n) idle d e result) }
@@ -68,8 +69,8 @@ fn janitor_turn<D: Driver, T: Turns<Ask = Ask, Entry = Entry, Turn = Turn>>(
     ensures ready { T.ready turns.new }
     ensures fixed { T.fixed turns.new ≡ T.fixed turns.old }
     ensures place { T.place turns.new ≡ T.place turns.old }
-    ensures part { (n : ℕ) → let d = Some (driving D.facts D.plan driver.old) in
-        let e = Some (driving D.facts D.plan driver.new) in
+    ensures part { (n : ℕ) → let d = Some (driving D.facts D.plan D.sound D.room driver.old) in
+        let e = Some (driving D.facts D.plan D.sound D.room driver.new) in
         Part T.answers (T.fixed turns.old) (looks pool n)
         (T.sight turns.old) (T.sight turns.new) d e
         (Comes (acting (Janitor pool) n) (sweeps pool) d e result) }
@@ -95,8 +96,8 @@ pub(crate) fn janitor<D: Driver, T: Turns<Ask = Ask, Entry = Entry, Turn = Turn>
     ensures ready { T.ready turns.new }
     ensures fixed { T.fixed turns.new ≡ T.fixed turns.old }
     ensures place { T.place turns.new ≡ T.place turns.old }
-    ensures part { let d = Some (driving D.facts D.plan driver.old) in
-        let e = Some (driving D.facts D.plan driver.new) in
+    ensures part { let d = Some (driving D.facts D.plan D.sound D.room driver.old) in
+        let e = Some (driving D.facts D.plan D.sound D.room driver.new) in
         Part T.answers (T.fixed turns.old) (acting (Janitor pool) 16)
         (T.sight turns.old) (T.sight turns.new) d e
         (Comes (sweeps pool) (sweeps pool) d e result) }

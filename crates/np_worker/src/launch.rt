@@ -40,8 +40,10 @@ fn start_of(pool: PoolId, entry: Entry) -> Option<Start>
 fn launch_server<D: Driver>(driver: &mut D, tag: Tag) -> Result<Outcome, NoMemory>
     ensures { MatchResult result
         (λ o. Drives (launched tag o ∷ [])
-        (driving D.facts D.plan driver.old) (driving D.facts D.plan driver.new))
-        (λ _. driving D.facts D.plan driver.new ≡ driving D.facts D.plan driver.old) }
+        (driving D.facts D.plan D.sound D.room driver.old)
+        (driving D.facts D.plan D.sound D.room driver.new))
+        (λ _. driving D.facts D.plan D.sound D.room driver.new
+        ≡ driving D.facts D.plan D.sound D.room driver.old) }
 {
     match driver.launch(tag) {
         Ok(number) => Ok(Outcome::Launched(number)),
@@ -65,8 +67,8 @@ fn launch<D: Driver, T: Turns<Ask = Ask, Entry = Entry, Turn = Turn>, G: Gate>(
     ensures fixed { T.fixed turns.new ≡ T.fixed turns.old }
     ensures place { T.place turns.new ≡ T.place turns.old }
     ensures part { (pool : PoolId) (n : ℕ) (idle : Phase) →
-        let d = Some (driving D.facts D.plan driver.old) in
-        let e = Some (driving D.facts D.plan driver.new) in
+        let d = Some (driving D.facts D.plan D.sound D.room driver.old) in
+        let e = Some (driving D.facts D.plan D.sound D.room driver.new) in
         Part T.answers (T.fixed turns.old) (owes_launch pool n start)
         (T.sight turns.old) (T.sight turns.new) d e
         (Goes (acting (Launcher pool) n) idle result) }
@@ -100,8 +102,8 @@ fn launcher_turn<D: Driver, T: Turns<Ask = Ask, Entry = Entry, Turn = Turn>, G: 
     ensures ready { T.ready turns.new }
     ensures fixed { T.fixed turns.new ≡ T.fixed turns.old }
     ensures place { T.place turns.new ≡ T.place turns.old }
-    ensures part { (n : ℕ) → let d = Some (driving D.facts D.plan driver.old) in
-        let e = Some (driving D.facts D.plan driver.new) in
+    ensures part { (n : ℕ) → let d = Some (driving D.facts D.plan D.sound D.room driver.old) in
+        let e = Some (driving D.facts D.plan D.sound D.room driver.new) in
         Part T.answers (T.fixed turns.old) (acts (Launcher pool) n)
         (T.sight turns.old) (T.sight turns.new) d e
         (Goes (acting (Launcher pool) n) (looks pool 15) result) }
@@ -131,8 +133,8 @@ pub(crate) fn launcher<D: Driver, T: Turns<Ask = Ask, Entry = Entry, Turn = Turn
     ensures ready { T.ready turns.new }
     ensures fixed { T.fixed turns.new ≡ T.fixed turns.old }
     ensures place { T.place turns.new ≡ T.place turns.old }
-    ensures part { let d = Some (driving D.facts D.plan driver.old) in
-        let e = Some (driving D.facts D.plan driver.new) in
+    ensures part { let d = Some (driving D.facts D.plan D.sound D.room driver.old) in
+        let e = Some (driving D.facts D.plan D.sound D.room driver.new) in
         Part T.answers (T.fixed turns.old) (acting (Launcher pool) 16)
         (T.sight turns.old) (T.sight turns.new) d e
         (Goes (looks pool 15) (looks pool 15) result) }

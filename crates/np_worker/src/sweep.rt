@@ -53,8 +53,8 @@ fn sweep_one<D: Driver, T: Turns<Ask = Ask, Entry = Entry, Turn = Turn>>(
     ensures ready { T.ready turns.new }
     ensures fixed { T.fixed turns.new ≡ T.fixed turns.old }
     ensures place { T.place turns.new ≡ T.place turns.old }
-    ensures part { let d = driving D.facts D.plan driver.old in
-        let e = driving D.facts D.plan driver.new in
+    ensures part { let d = driving D.facts D.plan D.sound D.room driver.old in
+        let e = driving D.facts D.plan D.sound D.room driver.new in
         Part T.answers (T.fixed turns.old) (sweeps pool)
         (T.sight turns.old) (T.sight turns.new) (Some d) (Some e)
         (SweepsOne pool server d e result) }
@@ -92,8 +92,8 @@ pub(crate) fn sweep<D: Driver, T: Turns<Ask = Ask, Entry = Entry, Turn = Turn>>(
     ensures ready { T.ready turns.new }
     ensures fixed { T.fixed turns.new ≡ T.fixed turns.old }
     ensures place { T.place turns.new ≡ T.place turns.old }
-    ensures part { let d = driving D.facts D.plan driver.old in
-        let e = driving D.facts D.plan driver.new in
+    ensures part { let d = driving D.facts D.plan D.sound D.room driver.old in
+        let e = driving D.facts D.plan D.sound D.room driver.new in
         Part T.answers (T.fixed turns.old) (sweeps pool)
         (T.sight turns.old) (T.sight turns.new) (Some d) (Some e) (SweepsAll pool d e result) }
     ensures count { IfOk result

@@ -6,6 +6,7 @@ ghost use Rattle.np_answers.specs.Asks.{recorded};
 ghost use Rattle.np_trace.specs.Drive.{driving};
 ghost use Rattle.np_worker.specs.Part.{Counts, Part, SweepsAll, is_full};
 ghost use Rattle.np_trace.specs.Phase.{acting, first_phase};
+ghost use Rattle.np_worker.specs.Moves.{HasMoves};
 ghost use Rattle.np_worker.specs.Round.{EndsAs, work_of, driving_of};
 
 use crate::act::act_often;
@@ -59,8 +60,8 @@ fn play_pool<D: Driver, T: Turns<Ask = Ask, Entry = Entry, Turn = Turn>, G: Gate
     ensures ready { T.ready turns.new }
     ensures fixed { T.fixed turns.new ≡ T.fixed turns.old }
     ensures place { T.place turns.new ≡ T.place turns.old }
-    ensures part { let d = driving D.facts D.plan driver.old in
-        let e = driving D.facts D.plan driver.new in
+    ensures part { let d = driving D.facts D.plan D.sound D.room driver.old in
+        let e = driving D.facts D.plan D.sound D.room driver.new in
         Part T.answers (T.fixed turns.old) (acting (Launcher pool) 16)
         (T.sight turns.old) (T.sight turns.new) (Some d) (Some e) (SweepsAll pool d e result) }
     ensures count { IfOk result
@@ -93,8 +94,34 @@ impl<D: Driver> Worker<D> {
         ensures fixed { T.fixed turns.new ≡ T.fixed turns.old }
         ensures place { T.place turns.new ≡ T.place turns.old }
         ensures work { work_of self.new ≡ work_of self.old }
-        ensures round { let d = driving_of D.facts D.plan self.old in
-            let e = driving_of D.facts D.plan self.new in
+        ensures round { let d = driving_of D.facts D.plan D.sound D.room self.old in
+            let e = driving_of D.facts D.plan D.sound D.room self.new in
+            Part T.answers (T.fixed turns.old) (first_phase (work_of self.old))
+            (T.sight turns.old) (T.sight turns.new) d e (EndsAs (work_of self.old) d e result) }
+        ensures entries { IfOk result (λ end. length (T.sight turns.new).mine
+            ≡ length (T.sight turns.old).mine + end.entries) }
+        ensures moves { HasMoves T.answers (T.fixed turns.old) (work_of self.old)
+            (T.sight turns.old) (T.sight turns.new)
+            (driving_of D.facts D.plan D.sound D.room self.old)
+            (driving_of D.facts D.plan D.sound D.room self.new) }
+    {
+        self.play(turns, gate)
+    }
+
+    /// The turns of each role in their order, with the launches and removals that they call for.
+    fn play<T: Turns<Ask = Ask, Entry = Entry, Turn = Turn>, G: Gate>(
+        &mut self,
+        turns: &mut T,
+        gate: &G,
+    ) -> Result<RoundEnd, NoMemory>
+        requires ready { T.ready turns.old }
+        requires recorded { T.recorded ≡ recorded }
+        ensures ready { T.ready turns.new }
+        ensures fixed { T.fixed turns.new ≡ T.fixed turns.old }
+        ensures place { T.place turns.new ≡ T.place turns.old }
+        ensures work { work_of self.new ≡ work_of self.old }
+        ensures round { let d = driving_of D.facts D.plan D.sound D.room self.old in
+            let e = driving_of D.facts D.plan D.sound D.room self.new in
             Part T.answers (T.fixed turns.old) (first_phase (work_of self.old))
             (T.sight turns.old) (T.sight turns.new) d e (EndsAs (work_of self.old) d e result) }
         ensures entries { IfOk result (λ end. length (T.sight turns.new).mine

@@ -21,5 +21,5 @@ loop-worker-preserved g c =
       own = (ap (λ q. q.table) kept ∙ before.own.0, ap (λ q. q.origin) kept ∙ before.own.1);
       pass = kept ∙ (ap (λ (q : PassView Configuration Entry). record q { part = first_half q.part }) before.pass ∙ ap (λ (k : ℕ). split_pass k p) (sym count));
       given = subst (AreGiven p 0) (sym more) (given_more p 0 crews crew before.given (given ∙ ap (λ (k : ℕ). given_pass k p) (omega arith)));
-      players = handed g.D.Driver.facts g.D.Driver.plan crews c.push.new.self.items crew c.loop-worker.workers.items c.pop.new.self.items more c.in-Some.ensures.items ∙ before.players;
+      players = handed g.D.Driver.facts g.D.Driver.plan g.D.Driver.sound g.D.Driver.room crews c.push.new.self.items crew c.loop-worker.workers.items c.pop.new.self.items more c.in-Some.ensures.items ∙ before.players;
     }

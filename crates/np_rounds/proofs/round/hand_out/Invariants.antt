@@ -8,7 +8,7 @@ invariant-loop-worker g l = record {
   own : IsOf l.pass l.desk;
   pass : l.pass ≡ split_pass (length l.crews.items) l.initial.pass;
   given : AreGiven l.initial.pass 0 l.crews.items;
-  players : crew_players g.D.Driver.facts g.D.Driver.plan l.crews.items ++ players_of g.D.Driver.facts g.D.Driver.plan l.workers.items ≡ players_of g.D.Driver.facts g.D.Driver.plan l.initial.workers.items;
+  players : crew_players g.D.Driver.facts g.D.Driver.plan g.D.Driver.sound g.D.Driver.room l.crews.items ++ players_of g.D.Driver.facts g.D.Driver.plan g.D.Driver.sound g.D.Driver.room l.workers.items ≡ players_of g.D.Driver.facts g.D.Driver.plan g.D.Driver.sound g.D.Driver.room l.initial.workers.items;
 }
 
 abbrev pub decreases-loop-worker : goal.decreases-loop-worker

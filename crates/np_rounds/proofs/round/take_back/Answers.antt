@@ -14,7 +14,7 @@ loop-last-init g c = record {
   back = c.requires.back;
   came = [];
   all = sym (append-nil c.args.ends.items);
-  took = took_none g.D.Driver.facts g.D.Driver.plan c.args.pass.now c.args.workers.now.items;
+  took = took_none g.D.Driver.facts g.D.Driver.plan g.D.Driver.sound g.D.Driver.room c.args.pass.now c.args.workers.now.items;
 }
 
 pub loop-last-preserved : goal.loop-last-preserved
@@ -31,7 +31,7 @@ loop-last-preserved g c =
       back = cut.0;
       came = last ∷ before.came;
       all = before.all ∙ (ap (λ (l : List (CrewEnd g.row.D.Denot)). l ++ before.came) is ∙ append_assoc rest (last ∷ []) before.came);
-      took = took_more g.D.Driver.facts g.D.Driver.plan desk (0 + length rest) c.args.pass.now old new c.args.workers.now.items c.loop-last.workers.items c.push.new.self.items
+      took = took_more g.D.Driver.facts g.D.Driver.plan g.D.Driver.sound g.D.Driver.room desk (0 + length rest) c.args.pass.now old new c.args.workers.now.items c.loop-last.workers.items c.push.new.self.items
           c.loop-last.sum c.in_ok-sum.sum before.came last before.took cut.1 join.seen join.told join.mine c.in_ok-sum.ensures c.in_ok-push.ensures.items;
     }
 

@@ -12,7 +12,7 @@ invariant-loop-last g l = record {
   back : AreBack l.desk 0 l.ends.items;
   came : List (CrewEnd g.row.D.Denot);
   all : l.fn.ends.items ≡ l.ends.items ++ came;
-  took : TookBack g.D.Driver.facts g.D.Driver.plan l.initial.pass l.pass l.initial.workers.items l.workers.items l.sum came;
+  took : TookBack g.D.Driver.facts g.D.Driver.plan g.D.Driver.sound g.D.Driver.room l.initial.pass l.pass l.initial.workers.items l.workers.items l.sum came;
 }
 
 abbrev pub decreases-loop-last : goal.decreases-loop-last

@@ -1,25 +1,28 @@
 use Rattle.std.proofs.Common.{◌∙◌, true, false, subst}
 use Rattle.np_answers.proofs.LegalLemmas.{legal-Runs}
+use Rattle.np_hosts.specs.Hosting.{IsHosted}
+use Rattle.np_hosts.proofs.Hosted.{round-hosted}
 use Rattle.np_rounds.specs.Crews.{players_of}
 use Rattle.np_rounds.specs.Played.{IsDriven, Stops, Ticks}
 use Rattle.np_rounds.proofs.Driven.{driven_round, driven_whole, driven_tick, not_false}
+use Rattle.np_rounds.proofs.Hosted.{hosted_whole, hosted_tick, workers_sound}
 use Rattle.np_rounds.proofs.Players.{same_plans}
 use Rattle.np_rounds.proofs.rounds.play_at.Goals as goal
 
 pub returns-then-together-clause-plans : goal.returns-then-together-clause-plans
-returns-then-together-clause-plans g c = same_plans c.args.desk.now.origin.fixed c.loop.pass.seen c.play_round.new.pass.seen (players_of g.D.Driver.facts g.D.Driver.plan c.loop.workers.items) (players_of g.D.Driver.facts g.D.Driver.plan c.play_round.new.workers.items) c.in_ok-together.together.full c.in_ok-together.ensures.round ∙ c.loop.invariant.plans
+returns-then-together-clause-plans g c = same_plans c.args.desk.now.origin.fixed c.loop.pass.seen c.play_round.new.pass.seen (players_of g.D.Driver.facts g.D.Driver.plan g.D.Driver.sound g.D.Driver.room c.loop.workers.items) (players_of g.D.Driver.facts g.D.Driver.plan g.D.Driver.sound g.D.Driver.room c.play_round.new.workers.items) c.in_ok-together.together.full c.in_ok-together.ensures.round ∙ c.loop.invariant.plans
 
 pub returns-then-not-together-clause-plans : goal.returns-then-not-together-clause-plans
-returns-then-not-together-clause-plans g c = same_plans c.args.desk.now.origin.fixed c.loop.pass.seen c.play_round.new.pass.seen (players_of g.D.Driver.facts g.D.Driver.plan c.loop.workers.items) (players_of g.D.Driver.facts g.D.Driver.plan c.play_round.new.workers.items) c.in_ok-together.together.full c.in_ok-together.ensures.round ∙ c.loop.invariant.plans
+returns-then-not-together-clause-plans g c = same_plans c.args.desk.now.origin.fixed c.loop.pass.seen c.play_round.new.pass.seen (players_of g.D.Driver.facts g.D.Driver.plan g.D.Driver.sound g.D.Driver.room c.loop.workers.items) (players_of g.D.Driver.facts g.D.Driver.plan g.D.Driver.sound g.D.Driver.room c.play_round.new.workers.items) c.in_ok-together.together.full c.in_ok-together.ensures.round ∙ c.loop.invariant.plans
 
 pub returns-then-branch-clause-plans : goal.returns-then-branch-clause-plans
-returns-then-branch-clause-plans g c = same_plans c.args.desk.now.origin.fixed c.loop.pass.seen c.play_round.new.pass.seen (players_of g.D.Driver.facts g.D.Driver.plan c.loop.workers.items) (players_of g.D.Driver.facts g.D.Driver.plan c.play_round.new.workers.items) c.in_ok-together.together.full c.in_ok-together.ensures.round ∙ c.loop.invariant.plans
+returns-then-branch-clause-plans g c = same_plans c.args.desk.now.origin.fixed c.loop.pass.seen c.play_round.new.pass.seen (players_of g.D.Driver.facts g.D.Driver.plan g.D.Driver.sound g.D.Driver.room c.loop.workers.items) (players_of g.D.Driver.facts g.D.Driver.plan g.D.Driver.sound g.D.Driver.room c.play_round.new.workers.items) c.in_ok-together.together.full c.in_ok-together.ensures.round ∙ c.loop.invariant.plans
 
 pub returns-then-together-clause-driven : goal.returns-then-together-clause-driven
 returns-then-together-clause-driven g c = λ had.
     let fixed = c.args.desk.now.origin.fixed in
-    let before = players_of g.D.Driver.facts g.D.Driver.plan c.loop.workers.items in
-    let now = players_of g.D.Driver.facts g.D.Driver.plan c.play_round.new.workers.items in
+    let before = players_of g.D.Driver.facts g.D.Driver.plan g.D.Driver.sound g.D.Driver.room c.loop.workers.items in
+    let now = players_of g.D.Driver.facts g.D.Driver.plan g.D.Driver.sound g.D.Driver.room c.play_round.new.workers.items in
     subst (λ b. IsDriven fixed b c.play_round.new.pass.seen now) c.if-together.true
     (driven_round fixed c.loop.pass.seen c.play_round.new.pass.seen before now c.in_ok-together.together.full c.in_ok-together.ensures.round
     (legal-Runs fixed c.play_round.new.pass.seen c.in_ok-together.ensures.legal) (c.loop.invariant.driven had))
@@ -27,33 +30,66 @@ returns-then-together-clause-driven g c = λ had.
 pub returns-then-not-together-clause-driven : goal.returns-then-not-together-clause-driven
 returns-then-not-together-clause-driven g c = λ had.
     let fixed = c.args.desk.now.origin.fixed in
-    let before = players_of g.D.Driver.facts g.D.Driver.plan c.loop.workers.items in
-    let now = players_of g.D.Driver.facts g.D.Driver.plan c.play_round.new.workers.items in
+    let before = players_of g.D.Driver.facts g.D.Driver.plan g.D.Driver.sound g.D.Driver.room c.loop.workers.items in
+    let now = players_of g.D.Driver.facts g.D.Driver.plan g.D.Driver.sound g.D.Driver.room c.play_round.new.workers.items in
     driven_whole fixed c.loop.pass.seen c.play_round.new.pass.seen before now c.in_ok-together.together.full c.in_ok-together.ensures.round c.if-together.false
     (legal-Runs fixed c.play_round.new.pass.seen c.in_ok-together.ensures.legal) (c.loop.invariant.driven had)
 
 pub returns-then-branch-clause-driven : goal.returns-then-branch-clause-driven
 returns-then-branch-clause-driven g c = λ had.
     let fixed = c.args.desk.now.origin.fixed in
-    let before = players_of g.D.Driver.facts g.D.Driver.plan c.loop.workers.items in
-    let now = players_of g.D.Driver.facts g.D.Driver.plan c.play_round.new.workers.items in
+    let before = players_of g.D.Driver.facts g.D.Driver.plan g.D.Driver.sound g.D.Driver.room c.loop.workers.items in
+    let now = players_of g.D.Driver.facts g.D.Driver.plan g.D.Driver.sound g.D.Driver.room c.play_round.new.workers.items in
     driven_tick fixed c.loop.pass.seen c.play_round.new.pass.seen c.tick.new.pass.seen before now c.in_ok-together.together.full true c.in_ok-together.ensures.round c.if-together.false
     (legal-Runs fixed c.play_round.new.pass.seen c.in_ok-together.ensures.legal) (c.loop.invariant.driven had)
     (c.in_ok-together.ensures.moved (not_false c.in_ok-together.together.moved c.if-not-together.false))
     (subst (λ b. Ticks b c.play_round.new.pass.seen c.tick.new.pass.seen) c.if-branch.true c.in_ok-tick.ensures.ticks)
 
+pub returns-then-together-clause-hosted : goal.returns-then-together-clause-hosted
+returns-then-together-clause-hosted g c = λ earlier had.
+    let fixed = c.args.desk.now.origin.fixed in
+    let before = players_of g.D.Driver.facts g.D.Driver.plan g.D.Driver.sound g.D.Driver.room c.loop.workers.items in
+    let now = players_of g.D.Driver.facts g.D.Driver.plan g.D.Driver.sound g.D.Driver.room c.play_round.new.workers.items in
+    subst (λ b. IsHosted earlier fixed b c.play_round.new.pass.seen now) c.if-together.true
+    (round-hosted earlier fixed c.loop.pass.seen c.play_round.new.pass.seen before now c.in_ok-together.together.full c.in_ok-together.ensures.round
+    (legal-Runs fixed c.play_round.new.pass.seen c.in_ok-together.ensures.legal) (c.loop.invariant.hosted earlier had))
+
+pub returns-then-not-together-clause-hosted : goal.returns-then-not-together-clause-hosted
+returns-then-not-together-clause-hosted g c = λ earlier had.
+    let fixed = c.args.desk.now.origin.fixed in
+    let before = players_of g.D.Driver.facts g.D.Driver.plan g.D.Driver.sound g.D.Driver.room c.loop.workers.items in
+    let now = players_of g.D.Driver.facts g.D.Driver.plan g.D.Driver.sound g.D.Driver.room c.play_round.new.workers.items in
+    hosted_whole earlier fixed c.loop.pass.seen c.play_round.new.pass.seen before now c.in_ok-together.together.full c.in_ok-together.ensures.round c.if-together.false
+    (legal-Runs fixed c.play_round.new.pass.seen c.in_ok-together.ensures.legal) (c.loop.invariant.hosted earlier had)
+
+pub returns-then-branch-clause-hosted : goal.returns-then-branch-clause-hosted
+returns-then-branch-clause-hosted g c = λ earlier had.
+    let fixed = c.args.desk.now.origin.fixed in
+    let before = players_of g.D.Driver.facts g.D.Driver.plan g.D.Driver.sound g.D.Driver.room c.loop.workers.items in
+    let now = players_of g.D.Driver.facts g.D.Driver.plan g.D.Driver.sound g.D.Driver.room c.play_round.new.workers.items in
+    hosted_tick earlier fixed c.loop.pass.seen c.play_round.new.pass.seen c.tick.new.pass.seen before now c.in_ok-together.together.full true c.in_ok-together.ensures.round c.if-together.false
+    (legal-Runs fixed c.play_round.new.pass.seen c.in_ok-together.ensures.legal) (c.loop.invariant.hosted earlier had)
+    (c.in_ok-together.ensures.moved (not_false c.in_ok-together.together.moved c.if-not-together.false))
+    (subst (λ b. Ticks b c.play_round.new.pass.seen c.tick.new.pass.seen) c.if-branch.true c.in_ok-tick.ensures.ticks)
+    (workers_sound g.D.Driver.facts g.D.Driver.plan g.D.Driver.sound g.D.Driver.room g.D.Driver.soundness c.play_round.new.workers.items)
+
 pub loop-preserved : goal.loop-preserved
 loop-preserved g c =
     let fixed = c.args.desk.now.origin.fixed in
-    let before = players_of g.D.Driver.facts g.D.Driver.plan c.loop.workers.items in
-    let now = players_of g.D.Driver.facts g.D.Driver.plan c.play_round.new.workers.items in
+    let before = players_of g.D.Driver.facts g.D.Driver.plan g.D.Driver.sound g.D.Driver.room c.loop.workers.items in
+    let now = players_of g.D.Driver.facts g.D.Driver.plan g.D.Driver.sound g.D.Driver.room c.play_round.new.workers.items in
     record {
       own = c.in_ok-tick.ensures.own;
       whole = c.in_ok-tick.ensures.part ∙ c.in_ok-together.ensures.whole;
       rested = subst (λ b. Stops b c.tick.new.pass.seen) c.if-branch.false c.in_ok-tick.ensures.stops;
-      plans = same_plans c.args.desk.now.origin.fixed c.loop.pass.seen c.play_round.new.pass.seen (players_of g.D.Driver.facts g.D.Driver.plan c.loop.workers.items) (players_of g.D.Driver.facts g.D.Driver.plan c.play_round.new.workers.items) c.in_ok-together.together.full c.in_ok-together.ensures.round ∙ c.loop.invariant.plans;
+      plans = same_plans c.args.desk.now.origin.fixed c.loop.pass.seen c.play_round.new.pass.seen (players_of g.D.Driver.facts g.D.Driver.plan g.D.Driver.sound g.D.Driver.room c.loop.workers.items) (players_of g.D.Driver.facts g.D.Driver.plan g.D.Driver.sound g.D.Driver.room c.play_round.new.workers.items) c.in_ok-together.together.full c.in_ok-together.ensures.round ∙ c.loop.invariant.plans;
       driven = λ had. driven_tick fixed c.loop.pass.seen c.play_round.new.pass.seen c.tick.new.pass.seen before now c.in_ok-together.together.full false c.in_ok-together.ensures.round c.if-together.false
           (legal-Runs fixed c.play_round.new.pass.seen c.in_ok-together.ensures.legal) (c.loop.invariant.driven had)
           (c.in_ok-together.ensures.moved (not_false c.in_ok-together.together.moved c.if-not-together.false))
           (subst (λ b. Ticks b c.play_round.new.pass.seen c.tick.new.pass.seen) c.if-branch.false c.in_ok-tick.ensures.ticks);
+      hosted = λ earlier had. hosted_tick earlier fixed c.loop.pass.seen c.play_round.new.pass.seen c.tick.new.pass.seen before now c.in_ok-together.together.full false c.in_ok-together.ensures.round c.if-together.false
+          (legal-Runs fixed c.play_round.new.pass.seen c.in_ok-together.ensures.legal) (c.loop.invariant.hosted earlier had)
+          (c.in_ok-together.ensures.moved (not_false c.in_ok-together.together.moved c.if-not-together.false))
+          (subst (λ b. Ticks b c.play_round.new.pass.seen c.tick.new.pass.seen) c.if-branch.false c.in_ok-tick.ensures.ticks)
+          (workers_sound g.D.Driver.facts g.D.Driver.plan g.D.Driver.sound g.D.Driver.room g.D.Driver.soundness c.play_round.new.workers.items);
     }

@@ -3,6 +3,7 @@ use Rattle.np_event.specs.declared.entry.Entry.{Entry}
 use Rattle.np_site.specs.Configuration.{Configuration}
 use Rattle.np_answers.proofs.LegalLemmas.{Runs-legal}
 use Rattle.np_driven.specs.Players.{HaveDriven}
+use Rattle.np_hosts.specs.Hosting.{HaveHosted, IsHosted}
 use Rattle.np_rounds.specs.Crews.{players_of}
 use Rattle.np_rounds.specs.Played.{IsDriven, Stops}
 use Rattle.np_rounds.proofs.OneRound.{closed_seen}
@@ -22,10 +23,23 @@ returns-clause-driven g c = λ had.
     let is = closed_seen c.in-Ok.desk c.play_at.new.pass c.close.result.journal c.in_ok-full.ensures.own
     (c.know.ensures.whole c.in_ok-full.ensures.whole) c.know.ensures.begins c.close.ensures.history c.close.ensures.mine in
     let site = ap (λ o. o.fixed) c.in-Ok.ensures.desk in
-    let before = players_of g.D.Driver.facts g.D.Driver.plan c.args.workers.now.items in
-    let now = players_of g.D.Driver.facts g.D.Driver.plan c.play_at.new.workers.items in
+    let before = players_of g.D.Driver.facts g.D.Driver.plan g.D.Driver.sound g.D.Driver.room c.args.workers.now.items in
+    let now = players_of g.D.Driver.facts g.D.Driver.plan g.D.Driver.sound g.D.Driver.room c.play_at.new.workers.items in
     subst (λ (d : Configuration). IsDriven d c.in_ok-full.full c.close.result.journal now) site
     (subst (λ (j : List Entry). IsDriven c.in-Ok.desk.origin.fixed c.in_ok-full.full j now) (sym is)
     (c.in_ok-full.ensures.driven
     (subst (λ (j : List Entry). HaveDriven c.in-Ok.desk.origin.fixed j before) (sym c.in-Ok.ensures.seen.0)
     (subst (λ (d : Configuration). HaveDriven d c.args.board.journal before) (sym site) had))))
+
+pub returns-clause-hosted : goal.returns-clause-hosted
+returns-clause-hosted g c = λ earlier had.
+    let is = closed_seen c.in-Ok.desk c.play_at.new.pass c.close.result.journal c.in_ok-full.ensures.own
+    (c.know.ensures.whole c.in_ok-full.ensures.whole) c.know.ensures.begins c.close.ensures.history c.close.ensures.mine in
+    let site = ap (λ o. o.fixed) c.in-Ok.ensures.desk in
+    let before = players_of g.D.Driver.facts g.D.Driver.plan g.D.Driver.sound g.D.Driver.room c.args.workers.now.items in
+    let now = players_of g.D.Driver.facts g.D.Driver.plan g.D.Driver.sound g.D.Driver.room c.play_at.new.workers.items in
+    subst (λ (d : Configuration). IsHosted earlier d c.in_ok-full.full c.close.result.journal now) site
+    (subst (λ (j : List Entry). IsHosted earlier c.in-Ok.desk.origin.fixed c.in_ok-full.full j now) (sym is)
+    (c.in_ok-full.ensures.hosted earlier
+    (subst (λ (j : List Entry). HaveHosted earlier c.in-Ok.desk.origin.fixed j before) (sym c.in-Ok.ensures.seen.0)
+    (subst (λ (d : Configuration). HaveHosted earlier d c.args.board.journal before) (sym site) had))))

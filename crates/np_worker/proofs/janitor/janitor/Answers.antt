@@ -14,15 +14,15 @@ loop-turn-init g c = record {
   ready = c.requires.ready;
   fixed = refl;
   place = refl;
-  part = no_turn (acting (role.Janitor c.args.pool) 16) (g.T.Turns.sight c.args.turns.now) (g.T.Turns.sight c.args.turns.now) (Some (driving g.D.Driver.facts g.D.Driver.plan c.args.driver.now)) (unturned_same (g.T.Turns.sight c.args.turns.now)) refl;
+  part = no_turn (acting (role.Janitor c.args.pool) 16) (g.T.Turns.sight c.args.turns.now) (g.T.Turns.sight c.args.turns.now) (Some (driving g.D.Driver.facts g.D.Driver.plan g.D.Driver.sound g.D.Driver.room c.args.driver.now)) (unturned_same (g.T.Turns.sight c.args.turns.now)) refl;
   count = refl;
 }
 
 pub loop-turn-preserved : goal.loop-turn-preserved
 loop-turn-preserved g c =
-    let d = Some (driving g.D.Driver.facts g.D.Driver.plan c.args.driver.now) in
-    let b = Some (driving g.D.Driver.facts g.D.Driver.plan c.loop-turn.driver) in
-    let x = Some (driving g.D.Driver.facts g.D.Driver.plan c.janitor_turn.new.driver) in
+    let d = Some (driving g.D.Driver.facts g.D.Driver.plan g.D.Driver.sound g.D.Driver.room c.args.driver.now) in
+    let b = Some (driving g.D.Driver.facts g.D.Driver.plan g.D.Driver.sound g.D.Driver.room c.loop-turn.driver) in
+    let x = Some (driving g.D.Driver.facts g.D.Driver.plan g.D.Driver.sound g.D.Driver.room c.janitor_turn.new.driver) in
     let i = c.loop-turn.invariant in
     let h : c.loop-turn._turn < 16 = omega arith in
     let p = i.part in
@@ -44,8 +44,8 @@ pub returns-in_err-next-clause-part : goal.returns-in_err-next-clause-part
 returns-in_err-next-clause-part g c =
     let i = c.loop-turn.invariant in
     let h : c.loop-turn._turn < 16 = omega arith in
-    let d = Some (driving g.D.Driver.facts g.D.Driver.plan c.args.driver.now) in
-    let x = Some (driving g.D.Driver.facts g.D.Driver.plan c.janitor_turn.new.driver) in
+    let d = Some (driving g.D.Driver.facts g.D.Driver.plan g.D.Driver.sound g.D.Driver.room c.args.driver.now) in
+    let x = Some (driving g.D.Driver.facts g.D.Driver.plan g.D.Driver.sound g.D.Driver.room c.janitor_turn.new.driver) in
     let e = err_from_is_err_and c.from_residual.result c.from_residual.ensures.1 in
     let p = i.part in
     let q = same_fixed i.fixed (c.janitor_turn.ensures.part (15 - c.loop-turn._turn)) in
@@ -53,9 +53,9 @@ returns-in_err-next-clause-part g c =
 
 pub returns-in_default-clause-part : goal.returns-in_default-clause-part
 returns-in_default-clause-part g c =
-    let d = Some (driving g.D.Driver.facts g.D.Driver.plan c.args.driver.now) in
-    let b = Some (driving g.D.Driver.facts g.D.Driver.plan c.loop-turn.driver) in
-    let x = Some (driving g.D.Driver.facts g.D.Driver.plan c.janitor_turn.new.driver) in
+    let d = Some (driving g.D.Driver.facts g.D.Driver.plan g.D.Driver.sound g.D.Driver.room c.args.driver.now) in
+    let b = Some (driving g.D.Driver.facts g.D.Driver.plan g.D.Driver.sound g.D.Driver.room c.loop-turn.driver) in
+    let x = Some (driving g.D.Driver.facts g.D.Driver.plan g.D.Driver.sound g.D.Driver.room c.janitor_turn.new.driver) in
     let i = c.loop-turn.invariant in
     let h : c.loop-turn._turn < 16 = omega arith in
     let p = i.part in

@@ -11,6 +11,6 @@ invariant-loop-turn g l = record {
   ready : g.T.Turns.ready l.turns;
   fixed : g.T.Turns.fixed l.turns ≡ g.T.Turns.fixed l.fn.turns;
   place : g.T.Turns.place l.turns ≡ g.T.Turns.place l.fn.turns;
-  part : Part g.T.Turns.answers (g.T.Turns.fixed l.fn.turns) (acting (role.Janitor l.pool) 16) (g.T.Turns.sight l.fn.turns) (g.T.Turns.sight l.turns) (Some (driving g.D.Driver.facts g.D.Driver.plan l.fn.driver)) (Some (driving g.D.Driver.facts g.D.Driver.plan l.driver)) (λ trace to. to ≡ acting (role.Janitor l.pool) (16 - l._turn));
+  part : Part g.T.Turns.answers (g.T.Turns.fixed l.fn.turns) (acting (role.Janitor l.pool) 16) (g.T.Turns.sight l.fn.turns) (g.T.Turns.sight l.turns) (Some (driving g.D.Driver.facts g.D.Driver.plan g.D.Driver.sound g.D.Driver.room l.fn.driver)) (Some (driving g.D.Driver.facts g.D.Driver.plan g.D.Driver.sound g.D.Driver.room l.driver)) (λ trace to. to ≡ acting (role.Janitor l.pool) (16 - l._turn));
   count : Counts l.fn.entries (g.T.Turns.sight l.fn.turns) l.entries (g.T.Turns.sight l.turns);
 }

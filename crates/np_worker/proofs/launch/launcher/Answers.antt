@@ -13,7 +13,7 @@ loop-turn-init g c = record {
   ready = c.requires.ready;
   fixed = refl;
   place = refl;
-  part = no_turn (acting (role.Launcher c.args.pool) 16) (g.T.Turns.sight c.args.turns.now) (g.T.Turns.sight c.args.turns.now) (Some (driving g.D.Driver.facts g.D.Driver.plan c.args.driver.now)) (unturned_same (g.T.Turns.sight c.args.turns.now)) refl;
+  part = no_turn (acting (role.Launcher c.args.pool) 16) (g.T.Turns.sight c.args.turns.now) (g.T.Turns.sight c.args.turns.now) (Some (driving g.D.Driver.facts g.D.Driver.plan g.D.Driver.sound g.D.Driver.room c.args.driver.now)) (unturned_same (g.T.Turns.sight c.args.turns.now)) refl;
   count = refl;
 }
 

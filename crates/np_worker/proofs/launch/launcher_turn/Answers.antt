@@ -11,32 +11,32 @@ use Rattle.np_worker.proofs.launch.launcher_turn.Goals as goal
 
 pub returns-in_err-entry-clause-part : goal.returns-in_err-entry-clause-part
 returns-in_err-entry-clause-part g c = λ n.
-    let d = Some (driving g.D.Driver.facts g.D.Driver.plan c.args.driver.now) in
+    let d = Some (driving g.D.Driver.facts g.D.Driver.plan g.D.Driver.sound g.D.Driver.room c.args.driver.now) in
     let e = err_from_is_err_and c.from_residual.result c.from_residual.ensures.1 in
     let p = c.take_turn.ensures.part (acts (role.Launcher c.args.pool) n) d refl (of_no_server (ask.Act (role.Launcher c.args.pool)) (λ _. tt) d) in
     of_part p (at_err (λ r. Goes (acting (role.Launcher c.args.pool) n) (looks c.args.pool 15) r p.trace p.to) e.1 tt)
 
 pub returns-in-Some-clause-part : goal.returns-in-Some-clause-part
 returns-in-Some-clause-part g c = λ n.
-    let d = Some (driving g.D.Driver.facts g.D.Driver.plan c.args.driver.now) in
+    let d = Some (driving g.D.Driver.facts g.D.Driver.plan g.D.Driver.sound g.D.Driver.room c.args.driver.now) in
     let p = c.in_ok-entry.ensures.part (acts (role.Launcher c.args.pool) n) d refl (of_no_server (ask.Act (role.Launcher c.args.pool)) (λ _. tt) d) in
     let q = same_fixed c.take_turn.ensures.fixed (c.launch.ensures.part c.args.pool n (looks c.args.pool 15)) in
     follow p (p.holds.1 ∙ (ap (λ t. after_act (role.Launcher c.args.pool) n t) c.in-Did.is ∙ ap (after_start c.args.pool n) (sym c.start_of.ensures ∙ c.in-Some.is))) q (goes_from (acting (role.Launcher c.args.pool) n) (looks c.args.pool 15) c.launch.result q.trace (p.trace ++ q.trace) q.to q.holds)
 
 pub returns-in-None-clause-part : goal.returns-in-None-clause-part
 returns-in-None-clause-part g c = λ n.
-    let d = Some (driving g.D.Driver.facts g.D.Driver.plan c.args.driver.now) in
+    let d = Some (driving g.D.Driver.facts g.D.Driver.plan g.D.Driver.sound g.D.Driver.room c.args.driver.now) in
     let p = c.in_ok-entry.ensures.part (acts (role.Launcher c.args.pool) n) d refl (of_no_server (ask.Act (role.Launcher c.args.pool)) (λ _. tt) d) in
     of_part p (p.holds.1 ∙ (ap (λ t. after_act (role.Launcher c.args.pool) n t) c.in-Did.is ∙ ap (after_start c.args.pool n) (sym c.start_of.ensures ∙ c.in-None.is)))
 
 pub returns-in-Full-clause-part : goal.returns-in-Full-clause-part
 returns-in-Full-clause-part g c = λ n.
-    let d = Some (driving g.D.Driver.facts g.D.Driver.plan c.args.driver.now) in
+    let d = Some (driving g.D.Driver.facts g.D.Driver.plan g.D.Driver.sound g.D.Driver.room c.args.driver.now) in
     let p = c.in_ok-entry.ensures.part (acts (role.Launcher c.args.pool) n) d refl (of_no_server (ask.Act (role.Launcher c.args.pool)) (λ _. tt) d) in
     of_part p (p.holds.1 ∙ ap (λ t. after_act (role.Launcher c.args.pool) n t) c.in-Full.is)
 
 pub returns-in_default-clause-part : goal.returns-in_default-clause-part
 returns-in_default-clause-part g c = λ n.
-    let d = Some (driving g.D.Driver.facts g.D.Driver.plan c.args.driver.now) in
+    let d = Some (driving g.D.Driver.facts g.D.Driver.plan g.D.Driver.sound g.D.Driver.room c.args.driver.now) in
     let p = c.in_ok-entry.ensures.part (acts (role.Launcher c.args.pool) n) d refl (of_no_server (ask.Act (role.Launcher c.args.pool)) (λ _. tt) d) in
     of_part p (p.holds.1 ∙ after_idle (role.Launcher c.args.pool) n _ c.in_default.not-Did c.in_default.not-Full)

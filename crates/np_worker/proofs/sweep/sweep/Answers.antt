@@ -11,7 +11,7 @@ use Rattle.np_worker.proofs.sweep.sweep.Goals as goal
 
 pub returns-in_err-count-clause-part : goal.returns-in_err-count-clause-part
 returns-in_err-count-clause-part g c =
-    let d = driving g.D.Driver.facts g.D.Driver.plan c.args.driver.now in
+    let d = driving g.D.Driver.facts g.D.Driver.plan g.D.Driver.sound g.D.Driver.room c.args.driver.now in
     let e = err_from_is_err_and c.from_residual.result c.from_residual.ensures.1 in
     no_turn (sweeps c.args.pool) (g.T.Turns.sight c.args.turns.now) (g.T.Turns.sight c.args.turns.now) (Some d) (unturned_same (g.T.Turns.sight c.args.turns.now)) (at_err (λ r. SweepsAll c.args.pool d d r [] (sweeps c.args.pool)) e.1 tt)
 
@@ -20,7 +20,7 @@ loop-at-init g c = record {
   ready = c.requires.ready;
   fixed = refl;
   place = refl;
-  part = no_turn (sweeps c.args.pool) (g.T.Turns.sight c.args.turns.now) (g.T.Turns.sight c.args.turns.now) (Some (driving g.D.Driver.facts g.D.Driver.plan c.args.driver.now)) (unturned_same (g.T.Turns.sight c.args.turns.now)) (refl, kept_start c.args.pool [] c.in_ok-count.count (g.D.Driver.facts c.args.driver.now).servers c.in_ok-count.ensures);
+  part = no_turn (sweeps c.args.pool) (g.T.Turns.sight c.args.turns.now) (g.T.Turns.sight c.args.turns.now) (Some (driving g.D.Driver.facts g.D.Driver.plan g.D.Driver.sound g.D.Driver.room c.args.driver.now)) (unturned_same (g.T.Turns.sight c.args.turns.now)) (refl, kept_start c.args.pool [] c.in_ok-count.count (g.D.Driver.facts c.args.driver.now).servers c.in_ok-count.ensures);
   count = refl;
 }
 
@@ -38,9 +38,9 @@ loop-at-preserved g c =
 
 pub loop-at-preserved-in-Go : goal.loop-at-preserved-in-Go
 loop-at-preserved-in-Go g c =
-    let d = driving g.D.Driver.facts g.D.Driver.plan c.args.driver.now in
-    let b = driving g.D.Driver.facts g.D.Driver.plan c.loop-at.driver in
-    let x = driving g.D.Driver.facts g.D.Driver.plan c.sweep_one.new.driver in
+    let d = driving g.D.Driver.facts g.D.Driver.plan g.D.Driver.sound g.D.Driver.room c.args.driver.now in
+    let b = driving g.D.Driver.facts g.D.Driver.plan g.D.Driver.sound g.D.Driver.room c.loop-at.driver in
+    let x = driving g.D.Driver.facts g.D.Driver.plan g.D.Driver.sound g.D.Driver.room c.sweep_one.new.driver in
     let i = c.loop-at.invariant in
     let l : 0 < c.loop-at.at = c.loop-at-test.true in
     let h : c.loop-at.at ≡ suc (c.loop-at.at - 1) = omega arith in
@@ -59,13 +59,13 @@ loop-at-preserved-in-Go g c =
 pub returns-clause-part : goal.returns-clause-part
 returns-clause-part g c = let p = c.loop-at.invariant.part in
     let h : c.loop-at.at ≡ 0 = omega arith in
-    of_part p (p.holds.0, kept_end c.args.pool p.trace (driving g.D.Driver.facts g.D.Driver.plan c.loop-at.driver) (subst (λ n. KeptFrom c.args.pool p.trace n (g.D.Driver.facts c.loop-at.driver).servers) h p.holds.1))
+    of_part p (p.holds.0, kept_end c.args.pool p.trace (driving g.D.Driver.facts g.D.Driver.plan g.D.Driver.sound g.D.Driver.room c.loop-at.driver) (subst (λ n. KeptFrom c.args.pool p.trace n (g.D.Driver.facts c.loop-at.driver).servers) h p.holds.1))
 
 pub returns-in_err-next-clause-part : goal.returns-in_err-next-clause-part
 returns-in_err-next-clause-part g c =
-    let d = driving g.D.Driver.facts g.D.Driver.plan c.args.driver.now in
-    let b = driving g.D.Driver.facts g.D.Driver.plan c.loop-at.driver in
-    let x = driving g.D.Driver.facts g.D.Driver.plan c.sweep_one.new.driver in
+    let d = driving g.D.Driver.facts g.D.Driver.plan g.D.Driver.sound g.D.Driver.room c.args.driver.now in
+    let b = driving g.D.Driver.facts g.D.Driver.plan g.D.Driver.sound g.D.Driver.room c.loop-at.driver in
+    let x = driving g.D.Driver.facts g.D.Driver.plan g.D.Driver.sound g.D.Driver.room c.sweep_one.new.driver in
     let i = c.loop-at.invariant in
     let e = err_from_is_err_and c.from_residual-in_err-next.result c.from_residual-in_err-next.ensures.1 in
     let p = i.part in
@@ -74,9 +74,9 @@ returns-in_err-next-clause-part g c =
 
 pub returns-in_default-2-clause-part : goal.returns-in_default-2-clause-part
 returns-in_default-2-clause-part g c =
-    let d = driving g.D.Driver.facts g.D.Driver.plan c.args.driver.now in
-    let b = driving g.D.Driver.facts g.D.Driver.plan c.loop-at.driver in
-    let x = driving g.D.Driver.facts g.D.Driver.plan c.sweep_one.new.driver in
+    let d = driving g.D.Driver.facts g.D.Driver.plan g.D.Driver.sound g.D.Driver.room c.args.driver.now in
+    let b = driving g.D.Driver.facts g.D.Driver.plan g.D.Driver.sound g.D.Driver.room c.loop-at.driver in
+    let x = driving g.D.Driver.facts g.D.Driver.plan g.D.Driver.sound g.D.Driver.room c.sweep_one.new.driver in
     let i = c.loop-at.invariant in
     let p = i.part in
     let q = same_fixed i.fixed c.in_ok-next.ensures.part in

@@ -12,8 +12,8 @@ use Rattle.np_worker.proofs.worker.play_pool.Goals as goal
 
 pub returns-in_err-launcher-clause-part : goal.returns-in_err-launcher-clause-part
 returns-in_err-launcher-clause-part g c =
-    let d = driving g.D.Driver.facts g.D.Driver.plan c.args.driver.now in
-    let x = driving g.D.Driver.facts g.D.Driver.plan c.launcher.new.driver in
+    let d = driving g.D.Driver.facts g.D.Driver.plan g.D.Driver.sound g.D.Driver.room c.args.driver.now in
+    let x = driving g.D.Driver.facts g.D.Driver.plan g.D.Driver.sound g.D.Driver.room c.launcher.new.driver in
     let e = err_from_is_err_and c.from_residual.result c.from_residual.ensures.1 in
     let p = c.launcher.ensures.part in
     of_part p (at_err (λ r. SweepsAll c.args.pool d x r p.trace p.to) e.1 tt)
@@ -23,8 +23,8 @@ returns-in-Full-clause-part g c = let p = c.in_ok-launcher.ensures.part in of_pa
 
 pub returns-in_err-janitor-clause-part : goal.returns-in_err-janitor-clause-part
 returns-in_err-janitor-clause-part g c =
-    let d = driving g.D.Driver.facts g.D.Driver.plan c.args.driver.now in
-    let x = driving g.D.Driver.facts g.D.Driver.plan c.janitor.new.driver in
+    let d = driving g.D.Driver.facts g.D.Driver.plan g.D.Driver.sound g.D.Driver.room c.args.driver.now in
+    let x = driving g.D.Driver.facts g.D.Driver.plan g.D.Driver.sound g.D.Driver.room c.janitor.new.driver in
     let e = err_from_is_err_and c.from_residual-in_err-janitor.result c.from_residual-in_err-janitor.ensures.1 in
     let p = c.in_ok-launcher.ensures.part in
     let q = same_fixed c.launcher.ensures.fixed c.janitor.ensures.part in
@@ -32,17 +32,17 @@ returns-in_err-janitor-clause-part g c =
 
 pub returns-in-Full-2-clause-part : goal.returns-in-Full-2-clause-part
 returns-in-Full-2-clause-part g c =
-    let b = driving g.D.Driver.facts g.D.Driver.plan c.launcher.new.driver in
-    let x = driving g.D.Driver.facts g.D.Driver.plan c.janitor.new.driver in
+    let b = driving g.D.Driver.facts g.D.Driver.plan g.D.Driver.sound g.D.Driver.room c.launcher.new.driver in
+    let x = driving g.D.Driver.facts g.D.Driver.plan g.D.Driver.sound g.D.Driver.room c.janitor.new.driver in
     let p = c.in_ok-launcher.ensures.part in
     let q = same_fixed c.launcher.ensures.fixed c.in_ok-janitor.ensures.part in
     follow p (goes_to (looks c.args.pool 15) _ p.trace p.to c.in_default.not-Full p.holds) q (comes_at (sweeps c.args.pool) (sweeps c.args.pool) (Some b) (Some x) _ next.Full q.trace q.to c.in-Full-2.is q.holds)
 
 pub returns-in-Failed-clause-part : goal.returns-in-Failed-clause-part
 returns-in-Failed-clause-part g c =
-    let d = driving g.D.Driver.facts g.D.Driver.plan c.args.driver.now in
-    let b = driving g.D.Driver.facts g.D.Driver.plan c.launcher.new.driver in
-    let x = driving g.D.Driver.facts g.D.Driver.plan c.janitor.new.driver in
+    let d = driving g.D.Driver.facts g.D.Driver.plan g.D.Driver.sound g.D.Driver.room c.args.driver.now in
+    let b = driving g.D.Driver.facts g.D.Driver.plan g.D.Driver.sound g.D.Driver.room c.launcher.new.driver in
+    let x = driving g.D.Driver.facts g.D.Driver.plan g.D.Driver.sound g.D.Driver.room c.janitor.new.driver in
     let p = c.in_ok-launcher.ensures.part in
     let q = same_fixed c.launcher.ensures.fixed c.in_ok-janitor.ensures.part in
     let h = comes_at (sweeps c.args.pool) (sweeps c.args.pool) (Some b) (Some x) _ next.Failed q.trace q.to c.in-Failed.is q.holds in
@@ -50,10 +50,10 @@ returns-in-Failed-clause-part g c =
 
 pub returns-in_default-2-clause-part : goal.returns-in_default-2-clause-part
 returns-in_default-2-clause-part g c =
-    let d = driving g.D.Driver.facts g.D.Driver.plan c.args.driver.now in
-    let b = driving g.D.Driver.facts g.D.Driver.plan c.launcher.new.driver in
-    let x = driving g.D.Driver.facts g.D.Driver.plan c.janitor.new.driver in
-    let y = driving g.D.Driver.facts g.D.Driver.plan c.sweep.new.driver in
+    let d = driving g.D.Driver.facts g.D.Driver.plan g.D.Driver.sound g.D.Driver.room c.args.driver.now in
+    let b = driving g.D.Driver.facts g.D.Driver.plan g.D.Driver.sound g.D.Driver.room c.launcher.new.driver in
+    let x = driving g.D.Driver.facts g.D.Driver.plan g.D.Driver.sound g.D.Driver.room c.janitor.new.driver in
+    let y = driving g.D.Driver.facts g.D.Driver.plan g.D.Driver.sound g.D.Driver.room c.sweep.new.driver in
     let p = c.in_ok-launcher.ensures.part in
     let q = same_fixed c.launcher.ensures.fixed c.in_ok-janitor.ensures.part in
     let r = same_fixed (c.janitor.ensures.fixed ∙ c.launcher.ensures.fixed) c.sweep.ensures.part in

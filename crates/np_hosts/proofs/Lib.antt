@@ -1,0 +1,14 @@
+pub mod Back
+pub mod Idle
+pub mod Puts
+pub mod Waiting
+pub mod Pools
+pub mod Numbers
+pub mod Stage
+pub mod Stands
+pub mod Acts
+pub mod Asked
+pub mod Drives
+pub mod Walked
+pub mod Others
+pub mod Hosted

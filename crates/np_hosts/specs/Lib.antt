@@ -1,0 +1,4 @@
+pub mod Nodes
+pub mod Reports
+pub mod Carried
+pub mod Hosting

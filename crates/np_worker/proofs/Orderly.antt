@@ -1,0 +1,62 @@
+-- The moves of a round are orderly.
+use Rattle.std.proofs.Common.{◌≡◌, ◌∙◌, ap, subst, List, ◌++◌}
+use Rattle.std.specs.Prelude.{Option, map}
+use Rattle.np_desk.specs.Pass.{Sight}
+use Rattle.np_event.specs.declared.entry.Entry.{Entry}
+use Rattle.np_cloud.specs.declared.driver.Tag.{Tag}
+use Rattle.np_cloud.specs.declared.driver.Launch.{Launch}
+use Rattle.np_answers.specs.declared.ask.Ask.{Ask}
+use Rattle.np_answers.specs.declared.ask.Turn.{Turn}
+use Rattle.np_trace.specs.Drive.{Driving}
+use Rattle.np_trace.specs.Move.{Move, launches_of}
+use Rattle.np_trace.specs.Phase.{Work, of_pool, of_requester, of_reaper, Phase, OwesRemoval, first_phase, Leads}
+use Rattle.np_trace.specs.Trace.{starts_of, tags_launched, owed_tags}
+use Rattle.np_trace.proofs.Ends.{is_at_end, ends_where_full}
+use Rattle.np_trace.proofs.Gained.{walk_gains}
+use Rattle.np_trace.proofs.Order.{in_order}
+use Rattle.np_trace.proofs.Removals.{are_named}
+use Rattle.np_trace.proofs.Starts.{starts_launched, tags_of_launches, are_reported}
+use Rattle.np_trace.proofs.Taken.{launcher_took, janitor_took, requester_took, reaper_took}
+use Rattle.np_trace.proofs.Works.{asks_of}
+use Rattle.np_worker.specs.Moves.{RolesTook, AreOrderly, HasMoves}
+use Rattle.np_worker.specs.Part.{Part}
+
+first_owes_none : (work : Work) → OwesRemoval (first_phase work) → ⊥
+first_owes_none (of_pool pool) owes = owes
+first_owes_none (of_requester q) owes = owes
+first_owes_none of_reaper owes = owes
+
+first_launches : (work : Work) (trace : List Move) (to : Phase) → Leads (first_phase work) trace to → starts_of trace ≡ map (λ (l : Launch). l.tag) (launches_of trace) ++ owed_tags to
+first_launches work trace to led = by work (starts_launched (first_phase work) to trace led) ∙ ap (λ (l : List Tag). l ++ owed_tags to) (tags_of_launches trace) where
+  by : (w : Work) → owed_tags (first_phase w) ++ starts_of trace ≡ tags_launched trace ++ owed_tags to → starts_of trace ≡ tags_launched trace ++ owed_tags to
+  by (of_pool pool) is = is
+  by (of_requester q) is = is
+  by of_reaper is = is
+
+roles_took : (work : Work) (trace : List Move) (to : Phase) → Leads (first_phase work) trace to → RolesTook work trace to
+roles_took (of_pool pool) trace to led = (launcher_took pool to trace led, janitor_took pool to trace led)
+roles_took (of_requester q) trace to led = λ is. requester_took q trace (subst (λ (p : Phase). Leads (first_phase (of_requester q)) trace p) is led)
+roles_took of_reaper trace to led = λ is. reaper_took trace (subst (λ (p : Phase). Leads (first_phase of_reaper) trace p) is led)
+
+orderly : (work : Work) (trace : List Move) (to : Phase) → Leads (first_phase work) trace to → AreOrderly work trace to
+orderly work trace to led = record {
+  asks = asks_of work to trace led;
+  order = in_order (first_phase work) to trace led;
+  launched = first_launches work trace to led;
+  reported = are_reported (first_phase work) to trace led;
+  removed = are_named (first_phase work) to trace (first_owes_none work) led;
+  took = roles_took work trace to led;
+  last = ends_where_full (first_phase work) to trace led;
+  full = is_at_end (first_phase work) to trace led;
+}
+
+-- those of a part from the first phase on
+pub has_moves : {F : Type 0} {answers : F → List Entry → Ask → Turn → Type 0} {f : F} {v w : Sight Entry} {before now : Option Driving} {Holds : List Move → Phase → Type 0} (work : Work) → Part answers f (first_phase work) v w before now Holds → HasMoves answers f work v w before now
+has_moves {answers} {f} {v} {w} work p = record {
+  trace = p.trace;
+  to = p.to;
+  walked = p.walked;
+  gained = walk_gains answers f p.trace v w p.walked;
+  drove = p.drove;
+  orderly = orderly work p.trace p.to p.led;
+}
