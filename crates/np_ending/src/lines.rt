@@ -1,7 +1,7 @@
 //! The lines that report a script's fault.
 
 ghost use Rattle.std.specs.Prelude.{◌≡◌, ◌++◌, codes, IfOk, OnOk};
-ghost use Rattle.np_ending.specs.Lines.{kind_text, config_line, fault_text, event_line, lines_line, script_line, script_status};
+ghost use Rattle.np_ending.specs.Lines.{kind_text, config_line, fault_text, numbered_line, lines_line, script_line, script_status};
 
 use np_event_lines::LineFault;
 use np_json::{ConfigFault, ConfigKind};
@@ -58,12 +58,17 @@ fn put_fault(line: &mut Vec<u8>, fault: LineFault) -> Result<(), NoMemory>
     }
 }
 
-/// The line of an event line's fault.
-#[tactic(auto, unfolding(crate::specs::Lines::event_line))]
-fn line_of_event(alloc: Global, number: u32, fault: LineFault) -> Result<Vec<u8>, NoMemory>
-    ensures { IfOk result (λ line. line.items ≡ event_line number (fault_text fault)) }
+/// The line that says what is wrong with the line of a number. It begins so.
+#[tactic(auto, unfolding(crate::specs::Lines::numbered_line))]
+pub(crate) fn line_of_number(
+    alloc: Global,
+    start: &[u8],
+    number: u32,
+    fault: LineFault,
+) -> Result<Vec<u8>, NoMemory>
+    ensures { IfOk result (λ line. line.items ≡ numbered_line start.now number (fault_text fault)) }
 {
-    let mut line = Vec::from_slice(alloc, b"poolsim: script: line ")?;
+    let mut line = Vec::from_slice(alloc, start)?;
     put_number(&mut line, u64::from(number))?;
     line.extend_from_slice(b": ")?;
     put_fault(&mut line, fault)?;
@@ -71,12 +76,16 @@ fn line_of_event(alloc: Global, number: u32, fault: LineFault) -> Result<Vec<u8>
     Ok(line)
 }
 
-/// The line of an event line that is one too many.
-#[tactic(auto, unfolding(crate::specs::Lines::event_line))]
-fn line_of_too_many(alloc: Global, number: u32) -> Result<Vec<u8>, NoMemory>
-    ensures { IfOk result (λ line. line.items ≡ event_line number (codes "too-many")) }
+/// The line that says that the line of a number is one too many. It begins so.
+#[tactic(auto, unfolding(crate::specs::Lines::numbered_line))]
+pub(crate) fn line_of_too_many(
+    alloc: Global,
+    start: &[u8],
+    number: u32,
+) -> Result<Vec<u8>, NoMemory>
+    ensures { IfOk result (λ line. line.items ≡ numbered_line start.now number (codes "too-many")) }
 {
-    let mut line = Vec::from_slice(alloc, b"poolsim: script: line ")?;
+    let mut line = Vec::from_slice(alloc, start)?;
     put_number(&mut line, u64::from(number))?;
     line.extend_from_slice(b": too-many\n")?;
     Ok(line)
@@ -87,8 +96,10 @@ pub fn line_of_lines(alloc: Global, fault: &LinesFault<LineFault>) -> Result<Vec
     ensures { IfOk result (λ line. line.items ≡ lines_line fault.now) }
 {
     match fault {
-        LinesFault::Line { line, fault } => line_of_event(alloc, *line, *fault),
-        LinesFault::TooMany { line } => line_of_too_many(alloc, *line),
+        LinesFault::Line { line, fault } => {
+            line_of_number(alloc, b"poolsim: script: line ", *line, *fault)
+        }
+        LinesFault::TooMany { line } => line_of_too_many(alloc, b"poolsim: script: line ", *line),
     }
 }
 

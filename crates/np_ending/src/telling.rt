@@ -1,9 +1,17 @@
 //! Writing how a command ended.
 
-ghost use Rattle.np_ending.specs.Told.{IsSaid, IsShown, IsShownFull, IsTold, write_line};
+ghost use Rattle.std.specs.Prelude.{◌≡◌};
+ghost use Rattle.np_ending.specs.Told.{IsSaid, IsShown, IsShownFull, IsTold, usage_line, write_line};
 
 use crate::ending::Ending;
 use np_io::{Sink, write_all};
+
+/// The line that says which words are a command.
+fn usage() -> &'static [u8]
+    ensures { result.now ≡ usage_line }
+{
+    b"poolsim: usage: poolsim replay | run [hosts] | audit | drill N | keep FILE | resume FILE\n"
+}
 
 /// Writes a line to err, and returns the status, or 6 if err failed.
 fn say<E: Sink>(err: &mut E, line: &[u8], status: u8) -> u8
@@ -53,11 +61,7 @@ pub fn tell<K: Sink, E: Sink>(out: &mut K, err: &mut E, ending: &Ending) -> u8
         Ending::Prints { text, status } => show(out, err, text.as_slice(), *status),
         Ending::Full { text } => show_full(out, err, text.as_slice()),
         Ending::Says { line, status } => say(err, line.as_slice(), *status),
-        Ending::NoCommand => say(
-            err,
-            b"poolsim: usage: poolsim replay | run | audit | drill N | keep FILE | resume FILE\n",
-            2,
-        ),
+        Ending::NoCommand => say(err, usage(), 2),
         Ending::ReadFault => say(err, b"poolsim: read fault\n", 5),
         Ending::TooLong => say(err, b"poolsim: input is longer than 67108864 bytes\n", 5),
         Ending::NoMemory => say(err, b"poolsim: out of memory\n", 7),

@@ -5,7 +5,7 @@ use np_words::{Command, command_of};
 use std::alloc::Global;
 
 // Words, and the word and the argument of their command, both empty if they are none.
-const LISTS: [(&[&str], &str, &str); 44] = [
+const LISTS: [(&[&str], &str, &str); 49] = [
     (&[], "", ""),
     (&["replay"], "replay", ""),
     (&["--", "replay"], "replay", ""),
@@ -25,6 +25,11 @@ const LISTS: [(&[&str], &str, &str); 44] = [
     (&["help"], "", ""),
     (&["--version"], "", ""),
     (&["--", "--help"], "", ""),
+    (&["run", "hosts"], "run", "hosts"),
+    (&["run", "--", "hosts"], "run", "hosts"),
+    (&["run", "host"], "", ""),
+    (&["run", "hosts", "hosts"], "", ""),
+    (&["hosts"], "", ""),
     (&["drill", "12"], "drill", "12"),
     (&["drill", "1"], "drill", "1"),
     (&["drill", "4000"], "drill", "4000"),
@@ -80,6 +85,7 @@ fn is_command(found: &Option<Command>, word: &str, argument: &str) -> bool {
         None => word == "" && argument == "",
         Some(Command::Replay) => word == "replay" && argument == "",
         Some(Command::Run) => word == "run" && argument == "",
+        Some(Command::RunHosts) => word == "run" && argument == "hosts",
         Some(Command::Audit) => word == "audit" && argument == "",
         Some(Command::Drill { jobs }) => {
             word == "drill" && read_number(argument.as_bytes(), 4_000) == Some(u64::from(*jobs))

@@ -7,7 +7,6 @@ use Rattle.np_site.specs.Configuration.{Configuration}
 use Rattle.np_site.specs.declared.row.Pool.{Pool}
 use Rattle.np_event_lines.specs.declared.fault.LineFault.{LineFault}
 use Rattle.np_report.specs.declared.lines.LinesFault.{LinesFault}
-use Rattle.np_report.specs.declared.lines.LinesFault.TheVariants as lines
 use Rattle.np_cloud.specs.Inventory.{told_nothing}
 use Rattle.np_cloud.specs.Sim.{simulation_of}
 use Rattle.np_static.specs.declared.fault.HostsFault.{HostsFault}
@@ -27,7 +26,7 @@ pub record Parts (first : Result Site HostsFault) (later : Result (List Site) Ho
   pub after : later ≡ Ok rest
   pub all : site ∷ rest ≡ sites
 
-parts-of : (first : Result Site HostsFault) (later : Result (List Site) HostsFault) (sites : List Site) → with_site first later ≡ Ok sites → Parts first later sites
+pub parts-of : (first : Result Site HostsFault) (later : Result (List Site) HostsFault) (sites : List Site) → with_site first later ≡ Ok sites → Parts first later sites
 parts-of (Err why) later sites are = absurd cc
 parts-of (Ok site) (Err why) sites are = absurd cc
 parts-of (Ok site) (Ok rest) sites are = let same : site ∷ rest ≡ sites = cc in record { site = site; rest = rest; here = refl; after = refl; all = same }
@@ -98,6 +97,5 @@ pub record Read (c : Configuration) (r : Result (List HostLine) (LinesFault Line
   pub sites_are : sites_from c hosts 0 c.pools ≡ Ok sites
 
 pub read-of : (c : Configuration) (r : Result (List HostLine) (LinesFault LineFault)) (sites : List Site) → sites_with c r ≡ Ok sites → Read c r sites
-read-of c (Err (lines.Line n why)) sites are = absurd cc
-read-of c (Err (lines.TooMany n)) sites are = absurd cc
+read-of c (Err why) sites are = absurd cc
 read-of c (Ok hosts) sites are = record { hosts = hosts; read = refl; sites_are = are }

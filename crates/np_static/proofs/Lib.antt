@@ -6,4 +6,5 @@ pub mod Words
 pub mod Sites
 pub mod Sound
 pub mod Drivers
+pub mod HostedSites
 pub mod First

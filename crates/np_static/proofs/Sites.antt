@@ -5,7 +5,8 @@ use Rattle.np_text.specs.declared.id.PoolId.{PoolId}
 use Rattle.np_site.specs.Configuration.{Configuration}
 use Rattle.np_site.specs.declared.row.Pool.{Pool}
 use Rattle.np_static.specs.declared.fault.HostsFault.{HostsFault}
-use Rattle.np_static.specs.declared.fault.HostsFault.TheVariants as fault
+use Rattle.np_static.specs.declared.fault.HostsRead.{HostsRead}
+use Rattle.np_static.specs.declared.fault.HostsRead.TheVariants as read
 use Rattle.np_static.specs.declared.line.HostLine.{HostLine}
 use Rattle.std.proofs.lemmas.List.{map-append}
 use Rattle.np_text.specs.Lines.{lines_of}
@@ -79,12 +80,10 @@ module _ (c : Configuration) (lines : List HostLine) where
       let step : rest_at k ≡ Err why = rest-at k row at ∙ ap (λ (r : Result Site HostsFault). with_site r (rest_at (suc k))) said in
       sym was ∙ (ap (λ (n : ℕ). sites_before (map site_of drivers) (rest_at n)) (sym same) ∙ ap (sites_before (map site_of drivers)) step)
 
-  pub sites-tell : (drivers : List SiteDriver) (why : HostsFault) (k : ℕ) (row : Pool) (whole : Result (List Site) HostsFault) → k ≡ length drivers → slice_get c.pools k ≡ Some row →
+  pub sites-tell : (drivers : List SiteDriver) (why : HostsRead) (k : ℕ) (row : Pool) (whole : Result (List Site) HostsFault) → k ≡ length drivers → slice_get c.pools k ≡ Some row →
       Tells (said_at k row) why → sites_before (map site_of drivers) (rest_at (length drivers)) ≡ whole → Tells whole why
-  sites-tell drivers fault.NoMemory k row whole same at tells was = tt
-  sites-tell drivers (fault.Line n why) k row whole same at tells was = sites-fault drivers (fault.Line n why) k row whole same at tells was
-  sites-tell drivers (fault.TooMany n) k row whole same at tells was = sites-fault drivers (fault.TooMany n) k row whole same at tells was
-  sites-tell drivers (fault.Room p room) k row whole same at tells was = sites-fault drivers (fault.Room p room) k row whole same at tells was
+  sites-tell drivers (read.Fault why) k row whole same at tells was = sites-fault drivers why k row whole same at tells was
+  sites-tell drivers read.NoMemory k row whole same at tells was = tt
 
   pub sites-end : (drivers : List SiteDriver) (k : ℕ) (whole : Result (List Site) HostsFault) → k ≡ length drivers → slice_get c.pools k ≡ None → sites_before (map site_of drivers) (rest_at (length drivers)) ≡ whole → whole ≡ Ok (map site_of drivers)
   sites-end drivers k whole same at was =

@@ -5,4 +5,5 @@ pub mod Hosting
 pub mod Site
 pub mod Line
 pub mod Read
+pub mod Hosted
 pub mod Worked

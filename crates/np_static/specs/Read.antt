@@ -12,6 +12,8 @@ use Rattle.np_report.specs.declared.lines.LinesFault.TheVariants as lines
 use Rattle.np_cloud.specs.Sim.{simulation_of}
 use Rattle.np_static.specs.declared.fault.HostsFault.{HostsFault}
 use Rattle.np_static.specs.declared.fault.HostsFault.TheVariants as fault
+use Rattle.np_static.specs.declared.fault.HostsRead.{HostsRead}
+use Rattle.np_static.specs.declared.fault.HostsRead.TheVariants as read
 use Rattle.np_static.specs.declared.limit.TheConstants.{HOSTS}
 use Rattle.np_static.specs.declared.line.HostLine.{HostLine}
 use Rattle.np_static.specs.Line.{host_in}
@@ -64,10 +66,14 @@ sites_from c lines n (pool ∷ pools) =
 
 -- ## all
 
+-- what is wrong with the lines, as a fault of hosts
+abbrev pub hosts_fault : LinesFault LineFault → HostsFault
+hosts_fault (lines.Line n why) = fault.Line n why
+hosts_fault (lines.TooMany n) = fault.TooMany n
+
 -- lines come before room
 abbrev pub sites_with : Configuration → Result (List HostLine) (LinesFault LineFault) → Result (List Site) HostsFault
-sites_with c (Err (lines.Line n why)) = Err (fault.Line n why)
-sites_with c (Err (lines.TooMany n)) = Err (fault.TooMany n)
+sites_with c (Err why) = Err (hosts_fault why)
 sites_with c (Ok hosts) = sites_from c hosts 0 c.pools
 
 -- the drivers of all pools by these host lines, or the first fault (own)
@@ -75,8 +81,6 @@ abbrev pub hosts_of : Configuration → List ℕ → Result (List Site) HostsFau
 hosts_of c bytes = sites_with c (hosts_read (length c.pools) bytes)
 
 -- the fault is the one that is said, unless memory ran out (own)
-abbrev pub Tells : {A : Type 0} → Result A HostsFault → HostsFault → Type 0
-Tells said fault.NoMemory = Unit {0}
-Tells said (fault.Line n why) = said ≡ Err (fault.Line n why)
-Tells said (fault.TooMany n) = said ≡ Err (fault.TooMany n)
-Tells said (fault.Room p room) = said ≡ Err (fault.Room p room)
+abbrev pub Tells : {A : Type 0} → Result A HostsFault → HostsRead → Type 0
+Tells said (read.Fault why) = said ≡ Err why
+Tells said read.NoMemory = Unit {0}

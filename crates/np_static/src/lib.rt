@@ -5,11 +5,13 @@
 //! server numbers which host is next and which lists are sound, and `specs/Hosting` what a launch
 //! comes to. `SiteDriver` is the driver of a pool that may have hosts or not. `read_hosts` makes
 //! the drivers of all pools from host lines; `specs/Read` says of all bytes which these are, or
-//! which fault comes first.
+//! which fault comes first. `read_hosted` reads a configuration with its host lines
+//! (`specs/Hosted`).
 #![tactic(auto)]
 
 mod driver;
 mod fault;
+mod hosted;
 mod law;
 mod limit;
 mod line;
@@ -17,7 +19,8 @@ mod read;
 mod site;
 
 pub use driver::HostDriver;
-pub use fault::HostsFault;
+pub use fault::{HostedFault, HostsFault, HostsRead};
+pub use hosted::{HostedSite, read_hosted};
 pub use law::{
     a_freed_host_is_taken_again, a_launch_fails_where_all_hosts_are_full,
     a_launch_takes_the_first_free_host, a_pool_with_hosts_has_room, a_site_tells_all,

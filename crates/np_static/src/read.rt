@@ -1,11 +1,11 @@
 //! The drivers of all pools, by host lines.
 
 ghost use Rattle.std.specs.Prelude.{◌≡◌, ◌≤◌, length, map, sum, IfOk, MatchResult};
-ghost use Rattle.np_static.specs.Read.{Tells, hosts_in, hosts_of, hosts_read, is_room_for, site_with, sites_from};
+ghost use Rattle.np_static.specs.Read.{Tells, hosts_fault, hosts_in, hosts_of, hosts_read, is_room_for, site_with, sites_from};
 ghost use Rattle.np_static.specs.Site.{site_of};
 
 use crate::driver::HostDriver;
-use crate::fault::HostsFault;
+use crate::fault::{HostsFault, HostsRead};
 use crate::limit::HOSTS;
 use crate::line::{HostLine, read_host};
 use crate::site::SiteDriver;
@@ -41,6 +41,16 @@ fn read_lines(
         line += 1;
     }
     Ok(Ok(Items::new(read)))
+}
+
+/// The fault of the lines, as one of hosts.
+fn fault_of(fault: LinesFault<LineFault>) -> HostsFault
+    ensures { result ≡ hosts_fault fault }
+{
+    match fault {
+        LinesFault::Line { line, fault } => HostsFault::Line { line, fault },
+        LinesFault::TooMany { line } => HostsFault::TooMany { line },
+    }
 }
 
 /// How many servers each host of the pool carries, in the order of its lines.
@@ -81,7 +91,7 @@ fn site_driver(
     pool: PoolId,
     limit: Option<u64>,
     hosts: Vec<u32>,
-) -> Result<SiteDriver, HostsFault>
+) -> Result<SiteDriver, HostsRead>
     requires { length hosts.items ≤ HOSTS }
     ensures { let said = site_with config.now pool limit hosts.items in
         MatchResult result (λ driver. said ≡ Ok (site_of driver)) (Tells said) }
@@ -91,7 +101,7 @@ fn site_driver(
     }
     let room = room_of(&hosts);
     if !is_room_for(limit, room) {
-        return Err(HostsFault::Room { pool, room });
+        return Err(HostsRead::Fault(HostsFault::Room { pool, room }));
     }
     Ok(SiteDriver::Hosts(HostDriver::new(alloc, pool, hosts)?))
 }
@@ -101,7 +111,7 @@ fn site_drivers(
     alloc: Global,
     config: &Config,
     lines: &[HostLine],
-) -> Result<Vec<SiteDriver>, HostsFault>
+) -> Result<Vec<SiteDriver>, HostsRead>
     requires { length lines.now ≤ HOSTS }
     ensures { let said = sites_from config.now lines.now 0 config.now.pools in
         MatchResult result (λ drivers. said ≡ Ok (map site_of drivers.items)) (Tells said) }
@@ -126,14 +136,13 @@ pub fn read_hosts(
     alloc: Global,
     config: &Config,
     bytes: &[u8],
-) -> Result<Vec<SiteDriver>, HostsFault>
+) -> Result<Vec<SiteDriver>, HostsRead>
     ensures { let said = hosts_of config.now bytes.now in
         MatchResult result (λ drivers. said ≡ Ok (map site_of drivers.items)) (Tells said) }
 {
     let lines = match read_lines(alloc, bytes, config.pools().len())? {
         Ok(lines) => lines,
-        Err(LinesFault::Line { line, fault }) => return Err(HostsFault::Line { line, fault }),
-        Err(LinesFault::TooMany { line }) => return Err(HostsFault::TooMany { line }),
+        Err(fault) => return Err(HostsRead::Fault(fault_of(fault))),
     };
     site_drivers(alloc, config, lines.items())
 }

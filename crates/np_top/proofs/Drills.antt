@@ -12,7 +12,7 @@ use Rattle.np_useful.specs.Driven.{Driven}
 use Rattle.np_report.specs.Summary.{summary_of}
 use Rattle.np_report.specs.Text.{text_of}
 use Rattle.np_report.proofs.SafePlay.{printed-Runs}
-use Rattle.np_top.specs.Run.{HasEnded}
+use Rattle.np_top.specs.Play.{HasEnded}
 use Rattle.np_top.specs.Drill.{IsDrill}
 
 pub drill_shown : (c d : Configuration) (journal : List Entry) (s : State) (text : List ℕ) (full : Bool) → d ≡ c → IsSound c → Runs d journal s →

@@ -1,23 +1,30 @@
 -- how a run ends, by how its input was read and how the site was played
-use Rattle.std.proofs.Common.{◌≡◌, ℕ, List, Ok, Err}
+use Rattle.std.proofs.Common.{◌≡◌, ℕ, List, Result, Ok, Err}
+use Rattle.std.specs.Prelude.{IfOk}
 use Rattle.np_io.specs.Facts.{SourceFacts}
-use Rattle.np_json.specs.declared.fault.ConfigFault.{ConfigFault}
-use Rattle.np_site.specs.Configuration.{Configuration}
+use Rattle.np_event.specs.declared.entry.Entry.{Entry}
 use Rattle.np_ending.specs.declared.ending.Ending.{Ending}
 use Rattle.np_ending.specs.declared.ending.Ending.TheVariants as ending
-use Rattle.np_ending.specs.Lines.{config_line}
-use Rattle.np_top.specs.Run.{EndsRun, HasCome, IsNoSite, IsPlayed}
+use Rattle.np_top.specs.Play.{EndsPlay}
+use Rattle.np_top.specs.Run.{SiteCommand, EndsRun, EndsSite, HasCome, IsNoSite}
 
-module _ (source source_now : SourceFacts) where
-  pub run_ends : (c : Configuration) (e : Ending) → HasCome source source_now (Ok c) → IsPlayed c e → EndsRun source source_now e
-  run_ends c (ending.Prints text status) come played =
-      (record { came = come.came; config = c; journal = played.0; input = come.input; read = come.reads; played = played.1 }, played.2)
-  run_ends c (ending.Full text) come played = record { came = come.came; config = c; journal = played.0; input = come.input; read = come.reads; played = played.1 }
-  run_ends c (ending.Says line status) come played = absurd played
-  run_ends c ending.NoCommand come played = absurd played
-  run_ends c ending.ReadFault come played = absurd played
-  run_ends c ending.TooLong come played = absurd played
-  run_ends c ending.NoMemory come played = absurd played
+module _ (r : SiteCommand) where
+  -- playing ended with a journal that was driven
+  pub ends_site : {N : Type 0} (site : r.Site) (journal : List Entry) (end : Result Ending N) → r.IsDriven site journal → IfOk end (EndsPlay (r.configuration site) journal) → IfOk end (EndsSite r site)
+  ends_site site journal (Ok end) driven ends = (journal, driven, ends)
+  ends_site site journal (Err none) driven ends = tt
 
-  pub no_site : (fault : ConfigFault) (line : List ℕ) → HasCome source source_now (Err fault) → line ≡ config_line fault → IsNoSite source source_now line
-  no_site fault line come told = record { came = come.came; fault = fault; input = come.input; read = come.reads; told = told }
+  module _ (source source_now : SourceFacts) where
+    pub run_ends : (site : r.Site) (e : Ending) → HasCome r source source_now (Ok site) → EndsSite r site e → EndsRun r source source_now e
+    run_ends site (ending.Prints text status) come ends =
+        (record { came = come.came; site = site; journal = ends.0; input = come.input; read = come.reads; driven = ends.1; played = ends.2.0 }, ends.2.1)
+    run_ends site (ending.Full text) come ends =
+        record { came = come.came; site = site; journal = ends.0; input = come.input; read = come.reads; driven = ends.1; played = ends.2 }
+    run_ends site (ending.Says line status) come ends = absurd ends.2
+    run_ends site ending.NoCommand come ends = absurd ends.2
+    run_ends site ending.ReadFault come ends = absurd ends.2
+    run_ends site ending.TooLong come ends = absurd ends.2
+    run_ends site ending.NoMemory come ends = absurd ends.2
+
+    pub no_site : (fault : r.Fault) (line : List ℕ) (status : ℕ) → HasCome r source source_now (Err fault) → line ≡ r.line_of fault → status ≡ r.status_of fault → IsNoSite r source source_now line status
+    no_site fault line status come told ends = record { came = come.came; fault = fault; input = come.input; read = come.reads; told = told; ends = ends }

@@ -18,27 +18,33 @@ use Rattle.np_trace.specs.Drive.{Driving, driving}
 use Rattle.np_driven.specs.Players.{WasAnswered}
 use Rattle.np_driven.proofs.Plans.{planned-driven}
 use Rattle.np_report.specs.Printed.{IsPrinted}
+use Rattle.np_rules.specs.Ran.{Ran}
 use Rattle.np_rounds.specs.Played.{EndsWithTick}
-use Rattle.np_top.specs.Run.{HasEnded, IsPlayedTo, status_of_fates}
+use Rattle.np_top.specs.Play.{HasEnded, IsPlayedTo, status_of_fates}
 
 -- ## the clouds
 
 pub fresh : (c : Configuration) (clouds : List Simulation) → clouds ≡ simulations c (length c.pools) → All (λ (cloud : Simulation). (simulation_facts cloud).servers ≡ Some []) clouds
 fresh c clouds are = subst (All (λ (cloud : Simulation). (simulation_facts cloud).servers ≡ Some [])) (sym are) (simulations-fresh c (length c.pools))
 
-plans_of : {D : Type 0} (facts : D → DriverFacts) (plan : D → Tag → Option Outcome) (ds : List D) → map (λ (d : Driving). d.plan) (map (driving facts plan) ds) ≡ map plan ds
-plans_of facts plan [] = refl
-plans_of facts plan (d ∷ ds) = ap (λ (plans : List (Tag → Option Outcome)). plan d ∷ plans) (plans_of facts plan ds)
+pub plans_of : {D : Type 0} (facts : D → DriverFacts) (plan : D → Tag → Option Outcome) (sound : D → List ℕ → Bool) (room : D → ℕ) (ds : List D) →
+    map (λ (d : Driving). d.plan) (map (driving facts plan sound room) ds) ≡ map plan ds
+plans_of facts plan sound room [] = refl
+plans_of facts plan sound room (d ∷ ds) = ap (λ (plans : List (Tag → Option Outcome)). plan d ∷ plans) (plans_of facts plan sound room ds)
 
 -- what the clouds answered is what the configuration plans
-pub driven_of : (c : Configuration) (journal : List Entry) (clouds now : List Simulation) → clouds ≡ simulations c (length c.pools) →
-    map simulation_plan now ≡ map simulation_plan clouds → DrivenBy (WasAnswered (map (driving simulation_facts simulation_plan) now)) c journal → Driven c journal
-driven_of c journal clouds now are same driven = planned-driven c (map (driving simulation_facts simulation_plan) now) planned journal driven where
-  plans : map (λ (d : Driving). d.plan) (map (driving simulation_facts simulation_plan) now) ≡ map simulation_plan (simulations c (length c.pools))
-  plans = plans_of simulation_facts simulation_plan now ∙ same ∙ ap (map simulation_plan) are
+module _ (sound : Simulation → List ℕ → Bool) (room : Simulation → ℕ) where
+  abbrev pub clouds_driving : List Simulation → List Driving
+  clouds_driving = map (driving simulation_facts simulation_plan sound room)
 
-  planned : ArePlanned c 0 (map (λ (d : Driving). d.plan) (map (driving simulation_facts simulation_plan) now))
-  planned = subst (ArePlanned c 0) (sym plans) (simulations-planned c (length c.pools))
+  pub driven_of : (c : Configuration) (journal : List Entry) (clouds now : List Simulation) → clouds ≡ simulations c (length c.pools) →
+      map simulation_plan now ≡ map simulation_plan clouds → DrivenBy (WasAnswered (clouds_driving now)) c journal → Driven c journal
+  driven_of c journal clouds now are same driven = planned-driven c (clouds_driving now) planned journal driven where
+    plans : map (λ (d : Driving). d.plan) (clouds_driving now) ≡ map simulation_plan (simulations c (length c.pools))
+    plans = plans_of simulation_facts simulation_plan sound room now ∙ same ∙ ap (map simulation_plan) are
+
+    planned : ArePlanned c 0 (map (λ (d : Driving). d.plan) (clouds_driving now))
+    planned = subst (ArePlanned c 0) (sym plans) (simulations-planned c (length c.pools))
 
 -- ## the journal
 
@@ -49,10 +55,9 @@ module _ (c d : Configuration) (journal : List Entry) (s : State) (same : d ≡ 
   pub settled_end : IsSettled c s × EndsWithTick journal → HasEnded c journal false
   settled_end settled = (subst (IsSettled c) (sym reached) settled.0, settled.1)
 
-  pub played_to : (text : List ℕ) (full : Bool) → IsPrinted d journal text → Driven c journal → HasEnded c journal full → IsPlayedTo c journal text full
-  played_to text full printed driven ended = record {
+  pub played_to : (text : List ℕ) (full : Bool) → IsPrinted d journal text → HasEnded c journal full → IsPlayedTo c journal text full
+  played_to text full printed ended = record {
     printed = subst (λ (x : Configuration). IsPrinted x journal text) same printed;
-    driven = driven;
     ended = ended;
   }
 
@@ -67,3 +72,25 @@ ended_is c journal full b is ended = subst (HasEnded c journal) is ended
 pub ended_so : (c d : Configuration) (journal : List Entry) (s : State) (full : Bool) → d ≡ c → Runs d journal s → (full ≡ false → IsSettled c s × EndsWithTick journal) → (full ≡ true → length journal ≡ 262144) → HasEnded c journal full
 ended_so c d journal s true same runs settled full = full refl
 ended_so c d journal s false same runs settled full = settled_end c d journal s same runs (settled refl)
+
+-- ## the rows of a board
+
+-- the rows are those of a machine that a board has
+module _ (b m : Ran) (same : m ≡ b) (site : Configuration) (state : State) (is_site : site ≡ m.configuration) (is_state : state ≡ m.state) where
+  rows_site : site ≡ b.configuration
+  rows_site = is_site ∙ ap (λ (r : Ran). r.configuration) same
+
+  pub rows_state : state ≡ b.state
+  rows_state = is_state ∙ ap (λ (r : Ran). r.state) same
+
+  pub rows_runs : (journal : List Entry) → journal ≡ b.journal → Runs b.configuration b.journal b.state → Runs site journal state
+  rows_runs journal is runs =
+      subst (λ (x : Configuration). Runs x journal state) (sym rows_site)
+      (subst (λ (j : List Entry). Runs b.configuration j state) (sym is) (subst (Runs b.configuration b.journal) (sym rows_state) runs))
+
+  pub rows_printed : (journal : List Entry) (text : List ℕ) → journal ≡ b.journal → IsPrinted site journal text → IsPrinted b.configuration b.journal text
+  rows_printed journal text is printed =
+      subst (λ (x : Configuration). IsPrinted x b.journal text) rows_site (subst (λ (j : List Entry). IsPrinted site j text) is printed)
+
+  pub rows_jobs : length b.state.jobs ≡ length b.configuration.jobs → length state.jobs ≡ length site.jobs
+  rows_jobs jobs = ap (λ (s : State). length s.jobs) rows_state ∙ (jobs ∙ sym (ap (λ (c : Configuration). length c.jobs) rows_site))

@@ -12,7 +12,7 @@ use Rattle.np_report.specs.Printed.{HoldsThroughout}
 use Rattle.np_report.specs.Summary.{summary_of}
 use Rattle.np_ending.specs.declared.ending.Ending.{Ending}
 use Rattle.np_ending.specs.declared.ending.Ending.TheVariants as ending
-use Rattle.np_top.specs.Run.{HasEnded}
+use Rattle.np_top.specs.Play.{HasEnded}
 use Rattle.np_ending.specs.Told.{IsTold, memory_line, full_line}
 
 -- ## how a drill may end

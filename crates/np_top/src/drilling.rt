@@ -6,14 +6,15 @@ ghost use Rattle.np_site.specs.Sound.{IsSound};
 ghost use Rattle.np_event_lines.specs.Line.{HasEventLine};
 ghost use Rattle.np_useful.specs.Driven.{Driven};
 ghost use Rattle.np_gen.specs.Site.{drill_site};
-ghost use Rattle.np_top.specs.Run.{HasEnded};
 ghost use Rattle.np_top.specs.Drill.{Drills, EndsDrill};
+ghost use Rattle.np_top.specs.Play.{HasEnded};
 
 use crate::playing::play_site;
 use np_board::Board;
 use np_cloud::Gate;
 use np_ending::{Ending, tell};
 use np_io::Sink;
+use np_look::Look;
 use np_report::summary;
 use np_text::NoMemory;
 use std::alloc::Global;
@@ -29,7 +30,7 @@ fn ending_at(alloc: Global, board: &Board, full: bool) -> Result<Ending, NoMemor
     ensures { IfOk result (EndsDrill board.now.configuration) }
 {
     board.soundness();
-    let text = summary(alloc, board)?;
+    let text = summary(alloc, board.machine().rows())?;
     if full {
         return Ok(Ending::Full { text });
     }

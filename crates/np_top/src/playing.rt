@@ -1,20 +1,51 @@
 //! Playing a site by threads to its end.
 
-ghost use Rattle.std.specs.Prelude.{◌≡◌, IfOk};
+ghost use Rattle.std.specs.Prelude.{◌≡◌, length, map, All, IfOk, Some, []};
 ghost use Rattle.std.specs.List.{AllByRecursion};
 ghost use Rattle.np_event_lines.specs.Line.{HasEventLine};
-ghost use Rattle.np_useful.specs.Driven.{Driven};
-ghost use Rattle.np_top.specs.Run.{HasEnded};
+ghost use Rattle.np_trace.specs.Drive.{driving};
+ghost use Rattle.np_driven.specs.Players.{WasAnswered};
+ghost use Rattle.np_useful.specs.Driven.{Driven, DrivenBy};
+ghost use Rattle.np_static.specs.Hosted.{HasHostLines, hosted_view};
+ghost use Rattle.np_top.specs.Play.{HasEnded};
+ghost use Rattle.np_top.specs.RunHosts.{IsDrivenWithHosts};
 
 use crate::typed::numbers_are_within_their_types;
 use np_board::Board;
-use np_cloud::{Gate, simulated_clouds};
+use np_cloud::{Driver, Gate, simulated_clouds};
 use np_config::Config;
 use np_rounds::{Ended, run_rounds};
+use np_static::HostedSite;
 use np_text::NoMemory;
 use std::alloc::Global;
 use std::sync::Wait;
 use std::thread::Threads;
+
+/// Plays the site over these drivers, one for each pool, which have no server yet.
+fn play_over<R: Threads + Wait + Sync, D: Driver + Send + Drop, G: Gate + Sync>(
+    rt: &R,
+    alloc: Global,
+    config: Config,
+    drivers: Vec<D>,
+    gate: &G,
+) -> Result<Ended<D>, NoMemory>
+    requires count { length drivers.items ≡ length config.pools }
+    requires fresh { All (λ (d : D). (D.facts d).servers ≡ Some []) drivers.items }
+    ensures configuration { IfOk result (λ e. e.board.configuration ≡ config) }
+    ensures lines { IfOk result (λ e.
+        AllByRecursion (λ entry. HasEventLine entry.event) e.board.journal) }
+    ensures driven { IfOk result (λ e.
+        DrivenBy (WasAnswered (map (driving D.facts D.plan D.sound D.room) e.drivers.items))
+        config e.board.journal) }
+    ensures plans { IfOk result (λ e. map D.plan e.drivers.items ≡ map D.plan drivers.items) }
+    ensures ended { IfOk result (λ e. HasEnded config e.board.journal e.full) }
+{
+    config.soundness();
+    let ended = run_rounds(rt, alloc, config, drivers, gate)?;
+    ended.board.soundness();
+    numbers_are_within_their_types(ended.board.journal());
+    Ok(ended)
+}
 
 /// Plays the site over the simulated clouds, and returns the board, and whether its journal was
 /// full.
@@ -29,11 +60,28 @@ pub(crate) fn play_site<R: Threads + Wait + Sync, G: Gate + Sync>(
     ensures driven { IfOk result (λ r. Driven config r.0.journal) }
     ensures ended { IfOk result (λ r. HasEnded config r.0.journal r.1) }
 {
-    config.soundness();
     let clouds = simulated_clouds(alloc, &config)?;
-    let ended = run_rounds(rt, alloc, config, clouds, gate)?;
+    let ended = play_over(rt, alloc, config, clouds, gate)?;
     let Ended { board, full, .. } = ended;
-    board.soundness();
-    numbers_are_within_their_types(board.journal());
+    Ok((board, full))
+}
+
+/// Plays the site over its hosts, and the simulated clouds of the pools without hosts, and returns
+/// the board, and whether its journal was full.
+pub(crate) fn play_hosts<R: Threads + Wait + Sync, G: Gate + Sync>(
+    rt: &R,
+    alloc: Global,
+    site: HostedSite,
+    gate: &G,
+) -> Result<(Board, bool), NoMemory>
+    requires { HasHostLines (hosted_view site) }
+    ensures configuration { IfOk result (λ r. r.0.configuration ≡ site.config) }
+    ensures lines { IfOk result (λ r. AllByRecursion (λ e. HasEventLine e.event) r.0.journal) }
+    ensures driven { IfOk result (λ r. IsDrivenWithHosts (hosted_view site) r.0.journal) }
+    ensures ended { IfOk result (λ r. HasEnded site.config r.0.journal r.1) }
+{
+    let HostedSite { config, drivers } = site;
+    let ended = play_over(rt, alloc, config, drivers, gate)?;
+    let Ended { board, full, .. } = ended;
     Ok((board, full))
 }

@@ -1,19 +1,11 @@
-//! The command `run`.
+//! The command `run`, and how a site that was played ends.
 
 ghost use Rattle.std.specs.Prelude.{◌≡◌, length, IfOk, IfErr};
 ghost use Rattle.std.specs.List.{AllByRecursion};
 ghost use Rattle.np_event_lines.specs.Line.{HasEventLine};
 ghost use Rattle.np_machine.specs.Fates.{fate_of, fates};
-ghost use Rattle.np_useful.specs.Driven.{Driven};
-ghost use Rattle.np_top.specs.Run.{
-  EndsRun,
-  HasCome,
-  HasEnded,
-  IsPlayed,
-  RunsSite,
-  is_waiting,
-  status_of_fates,
-};
+ghost use Rattle.np_top.specs.Play.{EndsPlay, HasEnded, is_waiting, status_of_fates};
+ghost use Rattle.np_top.specs.Run.{EndsRun, EndsSite, HasCome, RunsSite, plain_run};
 
 use crate::playing::play_site;
 use np_board::Board;
@@ -23,7 +15,7 @@ use np_config_read::read_config;
 use np_ending::{Ending, input, line_of_config, tell};
 use np_io::{Sink, Source};
 use np_json::{ConfigFault, ConfigRead};
-use np_look::Look;
+use np_look::{Look, Rows};
 use np_record::JobRecord;
 use np_report::text;
 use np_text::{JobId, NoMemory};
@@ -37,8 +29,8 @@ fn configuration<S: Source>(
     source: &mut S,
 ) -> Result<Result<Config, ConfigFault>, Ending>
     ensures read { IfOk result (λ read.
-        HasCome (S.facts source.old) (S.facts source.new) read) }
-    ensures stops { IfErr result (EndsRun (S.facts source.old) (S.facts source.new)) }
+        HasCome plain_run (S.facts source.old) (S.facts source.new) read) }
+    ensures stops { IfErr result (EndsRun plain_run (S.facts source.old) (S.facts source.new)) }
 {
     let bytes = input(alloc, source)?;
     match read_config(alloc, bytes.as_slice()) {
@@ -49,21 +41,21 @@ fn configuration<S: Source>(
 }
 
 /// Whether the job isn't over.
-fn is_waiting<L: Look>(look: &L, job: &JobRecord) -> bool
-    ensures { result ≡ is_waiting (fate_of (L.state look.now) job.now) }
+fn is_waiting<R: Rows>(rows: &R, job: &JobRecord) -> bool
+    ensures { result ≡ is_waiting (fate_of (R.state rows.now) job.now) }
 {
     job.ending.is_none()
 }
 
 /// The status of a run that came to its end: 1 if a job's fate is waiting.
-fn status_of<L: Look>(look: &L) -> u8
-    requires jobs { length (L.state look.now).jobs ≡ length (L.site look.now).jobs }
-    ensures { result ≡ status_of_fates (fates (L.state look.now)) }
+fn status_of<R: Rows>(rows: &R) -> u8
+    requires jobs { length (R.state rows.now).jobs ≡ length (R.site rows.now).jobs }
+    ensures { result ≡ status_of_fates (fates (R.state rows.now)) }
 {
-    look.config().soundness();
+    rows.config().soundness();
     let mut at = 0;
-    while let Some(job) = look.job(JobId(at)) {
-        if is_waiting(look, &job) {
+    while let Some(job) = rows.job(JobId(at)) {
+        if is_waiting(rows, &job) {
             return 1;
         }
         at += 1;
@@ -73,20 +65,20 @@ fn status_of<L: Look>(look: &L) -> u8
 
 /// How a run that ended with this board ends: with its Text, and with the status of its jobs' fates
 /// unless its journal was full.
-fn ending_at(alloc: Global, board: &Board, full: bool) -> Result<Ending, NoMemory>
+pub(crate) fn ending_at(alloc: Global, board: &Board, full: bool) -> Result<Ending, NoMemory>
     requires lines { AllByRecursion (λ e. HasEventLine e.event) board.now.journal }
-    requires driven { Driven board.now.configuration board.now.journal }
     requires ended { HasEnded board.now.configuration board.now.journal full }
-    ensures { IfOk result (IsPlayed board.now.configuration) }
+    ensures { IfOk result (EndsPlay board.now.configuration board.now.journal) }
 {
     board.soundness();
-    let text = text(alloc, board, board.journal())?;
+    let rows = board.machine().rows();
+    let text = text(alloc, rows, board.journal())?;
     if full {
         return Ok(Ending::Full { text });
     }
     Ok(Ending::Prints {
         text,
-        status: status_of(board),
+        status: status_of(rows),
     })
 }
 
@@ -97,7 +89,7 @@ fn played<R: Threads + Wait + Sync, G: Gate + Sync>(
     config: Config,
     gate: &G,
 ) -> Result<Ending, NoMemory>
-    ensures { IfOk result (IsPlayed config) }
+    ensures { IfOk result (EndsSite plain_run config) }
 {
     let (board, full) = play_site(rt, alloc, config, gate)?;
     ending_at(alloc, &board, full)
@@ -110,8 +102,8 @@ fn ran<R: Threads + Wait + Sync, S: Source, G: Gate + Sync>(
     source: &mut S,
     gate: &G,
 ) -> Result<Ending, Ending>
-    ensures ok { IfOk result (EndsRun (S.facts source.old) (S.facts source.new)) }
-    ensures err { IfErr result (EndsRun (S.facts source.old) (S.facts source.new)) }
+    ensures ok { IfOk result (EndsRun plain_run (S.facts source.old) (S.facts source.new)) }
+    ensures err { IfErr result (EndsRun plain_run (S.facts source.old) (S.facts source.new)) }
 {
     match configuration(alloc, source)? {
         Ok(config) => Ok(played(rt, alloc, config, gate)?),
@@ -129,7 +121,7 @@ fn ending_of<R: Threads + Wait + Sync, S: Source, G: Gate + Sync>(
     source: &mut S,
     gate: &G,
 ) -> Ending
-    ensures { EndsRun (S.facts source.old) (S.facts source.new) result }
+    ensures { EndsRun plain_run (S.facts source.old) (S.facts source.new) result }
 {
     match ran(rt, alloc, source, gate) {
         Ok(ending) => ending,
@@ -152,8 +144,8 @@ pub fn run<R: Threads + Wait + Sync, S: Source, K: Sink, E: Sink, G: Gate + Sync
     err: &mut E,
     gate: &G,
 ) -> u8
-    ensures { RunsSite S.facts K.facts E.facts source.old source.new out.old out.new err.old err.new
-        result }
+    ensures { RunsSite plain_run S.facts K.facts E.facts source.old source.new out.old out.new
+        err.old err.new result }
 {
     let ending = ending_of(rt, alloc, source, gate);
     tell(out, err, &ending)

@@ -6,13 +6,15 @@ ghost use Rattle.np_replay.specs.Replay.{Replays};
 ghost use Rattle.np_replay.specs.Resume.{Resumes};
 ghost use Rattle.np_top.specs.Audit.{Audits};
 ghost use Rattle.np_top.specs.Drill.{Drills};
-ghost use Rattle.np_top.specs.Run.{RunsSite};
+ghost use Rattle.np_top.specs.Run.{RunsSite, plain_run};
+ghost use Rattle.np_top.specs.RunHosts.{hosted_run};
 ghost use Rattle.np_top.specs.Words.{IsNoCommand};
 ghost use Rattle.np_words.specs.Command.{command};
 ghost use Rattle.np_words.specs.declared.command.Command.TheVariants as the;
 
 use crate::auditing::audit;
 use crate::drilling::drill;
+use crate::hosting::run_hosts;
 use crate::running::run;
 use np_cloud::Gate;
 use np_disk::Disk;
@@ -45,8 +47,11 @@ pub fn poolsim<R: Threads + Wait + Sync, S: Source, K: Sink, E: Sink, G: Gate + 
         × Replays S.facts K.facts E.facts source.old source.new out.old out.new err.old err.new
         result }
     ensures run { command (map string_bytes words.now) ≡ Some the.Run → (disk.new ≡ disk.old)
-        × RunsSite S.facts K.facts E.facts source.old source.new out.old out.new err.old err.new
-        result }
+        × RunsSite plain_run S.facts K.facts E.facts source.old source.new out.old out.new
+        err.old err.new result }
+    ensures run_hosts { command (map string_bytes words.now) ≡ Some the.RunHosts →
+        (disk.new ≡ disk.old) × RunsSite hosted_run S.facts K.facts E.facts source.old source.new
+        out.old out.new err.old err.new result }
     ensures audit { command (map string_bytes words.now) ≡ Some the.Audit → (disk.new ≡ disk.old)
         × Audits S.facts K.facts E.facts source.old source.new out.old out.new err.old err.new
         result }
@@ -66,6 +71,7 @@ pub fn poolsim<R: Threads + Wait + Sync, S: Source, K: Sink, E: Sink, G: Gate + 
         Ok(None) => tell(out, err, &Ending::NoCommand),
         Ok(Some(Command::Replay)) => replay(alloc, source, out, err),
         Ok(Some(Command::Run)) => run(rt, alloc, source, out, err, gate),
+        Ok(Some(Command::RunHosts)) => run_hosts(rt, alloc, source, out, err, gate),
         Ok(Some(Command::Audit)) => audit(alloc, source, out, err),
         Ok(Some(Command::Drill { jobs })) => drill(rt, alloc, jobs, out, err, gate),
         Ok(Some(Command::Keep { file })) => keep(alloc, source, out, err, disk, file.as_str()),

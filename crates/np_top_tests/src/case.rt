@@ -25,6 +25,7 @@
 //!     meet            each launch waits until one of another pool waits, too
 //!     text            standard output is a Text that `audit` accepts, with a line `job` for each job
 //!     job END | END   what the job comes to: what its line goes on with after its names
+//!     done END        the Text's next entry `done` ends so, and there is one for each such line
 //!     then            one more run, over the file that the last one left; the lines after it say how
 
 use std::alloc::{AllocError, Global};
@@ -54,6 +55,8 @@ pub struct Case<'a> {
     pub is_text: bool,
     /// A line for each job.
     pub jobs: Vec<u8>,
+    /// A line for each entry `done`, if they are told.
+    pub reports: Vec<u8>,
     /// Whether each line began with a word that is known.
     pub is_clear: bool,
     /// How often the next line stands.
@@ -147,6 +150,7 @@ impl<'a> Case<'a> {
             meets: false,
             is_text: false,
             jobs: Vec::new(alloc),
+            reports: Vec::new(alloc),
             is_clear: true,
             repeat: 1,
         }
@@ -220,6 +224,7 @@ impl<'a> Case<'a> {
             }
             "!" => put(&mut self.err, rest, self.repeat)?,
             "job" => put(&mut self.jobs, rest, self.repeat)?,
+            "done" => put(&mut self.reports, rest, self.repeat)?,
             "spaces" => put_spaces(&mut self.input, size(rest))?,
             "byte" => self.input.push(byte(rest))?,
             _ => return Ok(false),

@@ -2,7 +2,7 @@
 
 use np_cloud::{Driver, OpenGate, ScriptDriver, Tag, simulated_clouds};
 use np_config_read::read_config;
-use np_look::Look;
+use np_look::{Look, Rows};
 use np_rounds::{Ended, run_rounds};
 use np_text::{Ending, JobId, NoMemory, NodeId, PoolId};
 use std::alloc::Global;
@@ -30,9 +30,10 @@ fn cloud(alloc: Global) -> Result<ScriptDriver, NoMemory> {
 
 /// Whether the one job was served, no node and no server is left, and nothing is left to do.
 fn is_done(ended: &Ended<ScriptDriver>) -> bool {
-    let ending = ended.board.job(JobId(0)).and_then(|job| job.ending);
+    let rows = ended.board.machine().rows();
+    let ending = rows.job(JobId(0)).and_then(|job| job.ending);
     ending == Some(Ending::Served)
-        && ended.board.nodes() == 0
+        && rows.nodes() == 0
         && ended.drivers.iter().all(|cloud| cloud.server(0).is_none())
         && !ended.full
 }

@@ -1,4 +1,4 @@
-//! What became of each job, by the last part of a Text.
+//! What became of each job and of each launch, by a Text.
 
 /// Whether the line of a job goes on, after the job's names, with one of the ends that are said.
 fn is_as_said(line: &str, ends: &str) -> bool {
@@ -17,4 +17,23 @@ pub fn are_as_said(text: &[u8], jobs: &[u8]) -> bool {
             .lines()
             .zip(jobs.lines())
             .all(|(line, ends)| is_as_said(line, ends))
+}
+
+/// Whether the entries `done` of a Text end as is said, one after another.
+pub fn reports_are_as_said(text: &[u8], reports: &[u8]) -> bool {
+    let (Ok(text), Ok(reports)) = (std::str::from_utf8(text), std::str::from_utf8(reports)) else {
+        return false;
+    };
+    let mut told = reports.lines();
+    for line in text.lines() {
+        if line.starts_with("done ") {
+            let Some(end) = told.next() else {
+                return false;
+            };
+            if !line.ends_with(end) {
+                return false;
+            }
+        }
+    }
+    told.next().is_none()
 }

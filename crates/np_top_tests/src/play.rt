@@ -149,7 +149,9 @@ fn ends_as_said(case: &Case, ran: &Ran) -> bool {
 /// Whether a run printed what the case says.
 fn prints_as_said(case: &Case, out: &[u8]) -> bool {
     if case.is_text {
-        return fates::are_as_said(out, case.jobs.as_slice());
+        return fates::are_as_said(out, case.jobs.as_slice())
+            && (case.reports.is_empty()
+                || fates::reports_are_as_said(out, case.reports.as_slice()));
     }
     out == written(case.out.as_slice(), case.write, case.piece)
 }

@@ -61,13 +61,14 @@ number_of-dash [] = refl
 number_of-dash (d ∷ ds) = refl
 
 command_pair-dash : (x rest : Text) → command_pair x (45 ∷ rest) ≡ None
-command_pair-dash x rest = rw (number_of-dash rest) (go (bytes_eq x (codes "drill")) (bytes_eq x (codes "keep")) (bytes_eq x (codes "resume")))
+command_pair-dash x rest = rw (number_of-dash rest) (go (bytes_eq x (codes "run")) (bytes_eq x (codes "drill")) (bytes_eq x (codes "keep")) (bytes_eq x (codes "resume")))
   where
-    go : (a b c : Bool) → (if a then drill_of None else if b then None else if c then None else None) ≡ None
-    go true b c = refl
-    go false true c = refl
-    go false false true = refl
-    go false false false = refl
+    go : (r a b c : Bool) → (if r then None else if a then drill_of None else if b then None else if c then None else None) ≡ None
+    go true a b c = refl
+    go false true b c = refl
+    go false false true c = refl
+    go false false false true = refl
+    go false false false false = refl
 
 bare_command-first_dash : (rest : Text) (ws : List Text) → bare_command ((45 ∷ rest) ∷ ws) ≡ None
 bare_command-first_dash rest [] = refl

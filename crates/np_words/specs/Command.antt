@@ -24,11 +24,16 @@ abbrev pub drill_of : Option ℕ → Option Command
 drill_of None = None
 drill_of (Some n) = if n == 0 then None else Some (the.Drill n)
 
--- the command of two words: `drill` and a decimal number of at most 4,000 without leading zeros, or
--- `keep` or `resume` and the name of a file
+-- what is run, by the word after `run`
+abbrev pub run_of : List ℕ → Option Command
+run_of w = if bytes_eq w (codes "hosts") then Some the.RunHosts else None
+
+-- the command of two words: `run` and what is run, `drill` and a decimal number of at most 4,000
+-- without leading zeros, or `keep` or `resume` and the name of a file
 abbrev pub command_pair : List ℕ → List ℕ → Option Command
 command_pair w v =
-    if bytes_eq w (codes "drill") then drill_of (number_of 4000 v)
+    if bytes_eq w (codes "run") then run_of v
+    else if bytes_eq w (codes "drill") then drill_of (number_of 4000 v)
     else if bytes_eq w (codes "keep") then (if is_file_name v then Some (the.Keep v) else None)
     else if bytes_eq w (codes "resume") then (if is_file_name v then Some (the.Resume v) else None)
     else None
@@ -48,6 +53,7 @@ command words = bare_command (without_dashes words)
 abbrev pub HasJobs : Command → Type 0
 HasJobs the.Replay = Unit {0}
 HasJobs the.Run = Unit {0}
+HasJobs the.RunHosts = Unit {0}
 HasJobs the.Audit = Unit {0}
 HasJobs (the.Drill jobs) = (1 ≤ jobs) × (jobs ≤ 4000)
 HasJobs (the.Keep file) = Unit {0}

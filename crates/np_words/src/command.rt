@@ -2,7 +2,7 @@
 
 ghost use Rattle.std.specs.Prelude.{◌≡◌, IfOk, IfSome};
 ghost use Rattle.np_text.specs.Number.{number_of};
-ghost use Rattle.np_words.specs.Command.{command_pair, command_word, drill_of, HasJobs};
+ghost use Rattle.np_words.specs.Command.{command_pair, command_word, drill_of, run_of, HasJobs};
 
 use crate::file_name::FileName;
 use np_text::{NoMemory, read_number};
@@ -18,6 +18,9 @@ pub enum Command {
     Replay,
     /// Plays a site by threads to its end, and prints the Text of the run.
     Run,
+    /// Plays a site by threads to its end, of which some pools are served by fixed hosts, and
+    /// prints the Text of the run.
+    RunHosts,
     /// Says whether its input is the Text of a run.
     Audit,
     /// Plays the generated site of this number of jobs, from 1 to 4,000, by threads to its end, and
@@ -55,6 +58,17 @@ fn drill_of(count: &str) -> Option<Command>
     Some(Command::Drill { jobs: jobs as u32 })
 }
 
+/// What is run, by the word after `run`.
+fn run_of(what: &str) -> Option<Command>
+    ensures command { result ≡ run_of what.now }
+    ensures jobs { IfSome result HasJobs }
+{
+    match what {
+        "hosts" => Some(Command::RunHosts),
+        _ => None,
+    }
+}
+
 /// The command of two words. The time grows with their length.
 pub(crate) fn command_pair(
     alloc: Global,
@@ -65,6 +79,7 @@ pub(crate) fn command_pair(
     ensures jobs { IfOk result (λ found. IfSome found HasJobs) }
 {
     match word {
+        "run" => Ok(run_of(argument)),
         "drill" => Ok(drill_of(argument)),
         "keep" => match FileName::new(alloc, argument)? {
             Some(file) => Ok(Some(Command::Keep { file })),

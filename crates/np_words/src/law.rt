@@ -9,6 +9,12 @@ pub fn worked_commands()
     ensures bare { (command (codes "replay" ∷ []) ≡ Some the.Replay)
         × (command (codes "run" ∷ []) ≡ Some the.Run)
         × (command (codes "audit" ∷ []) ≡ Some the.Audit) }
+    ensures hosts { (command (codes "run" ∷ codes "hosts" ∷ []) ≡ Some the.RunHosts)
+        × (command (codes "run" ∷ codes "--" ∷ codes "hosts" ∷ []) ≡ Some the.RunHosts)
+        × (command (codes "run" ∷ codes "host" ∷ []) ≡ None)
+        × (command (codes "hosts" ∷ []) ≡ None)
+        × (command (codes "replay" ∷ codes "hosts" ∷ []) ≡ None)
+        × (command (codes "run" ∷ codes "hosts" ∷ codes "x" ∷ []) ≡ None) }
     ensures drill { (command (codes "drill" ∷ codes "12" ∷ []) ≡ Some (the.Drill 12))
         × (command (codes "drill" ∷ codes "4000" ∷ []) ≡ Some (the.Drill 4000))
         × (command (codes "drill" ∷ codes "4001" ∷ []) ≡ None)

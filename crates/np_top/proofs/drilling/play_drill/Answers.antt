@@ -4,7 +4,7 @@ use Rattle.np_site.specs.Configuration.{Configuration}
 use Rattle.np_site.specs.Sound.{IsSound}
 use Rattle.np_useful.specs.Driven.{Driven}
 use Rattle.np_top.specs.Drill.{EndsDrill}
-use Rattle.np_top.specs.Run.{HasEnded}
+use Rattle.np_top.specs.Play.{HasEnded}
 use Rattle.np_top.proofs.drilling.play_drill.Goals as goal
 
 pub ending_at-requires-clause-sound : goal.ending_at-requires-clause-sound

@@ -1,14 +1,10 @@
 use Rattle.std.proofs.Common.{sym, subst}
 use Rattle.std.specs.Prelude.{IfOk}
 use Rattle.np_site.specs.Configuration.{Configuration}
-use Rattle.np_useful.specs.Driven.{Driven}
-use Rattle.np_top.specs.Run.{HasEnded, IsPlayed}
+use Rattle.np_top.specs.Play.{EndsPlay, HasEnded}
+use Rattle.np_top.specs.Run.{plain_run}
+use Rattle.np_top.proofs.Endings.{ends_site}
 use Rattle.np_top.proofs.running.played.Goals as goal
-
-pub ending_at-requires-clause-driven : goal.ending_at-requires-clause-driven
-ending_at-requires-clause-driven g c =
-    let board = c.in_ok-board.board in let told = c.in_ok-board.ensures in
-    subst (λ (x : Configuration). Driven x board.journal) (sym told.configuration) told.driven
 
 pub ending_at-requires-clause-ended : goal.ending_at-requires-clause-ended
 ending_at-requires-clause-ended g c =
@@ -16,4 +12,7 @@ ending_at-requires-clause-ended g c =
     subst (λ (x : Configuration). HasEnded x board.journal c.in_ok-board.full) (sym told.configuration) told.ended
 
 pub returns : goal.returns
-returns g c = subst (λ (x : Configuration). IfOk c.ending_at.result (IsPlayed x)) c.in_ok-board.ensures.configuration c.ending_at.ensures
+returns g c =
+    let board = c.in_ok-board.board in let told = c.in_ok-board.ensures in
+    ends_site plain_run c.args.config board.journal c.ending_at.result told.driven
+    (subst (λ (x : Configuration). IfOk c.ending_at.result (EndsPlay x board.journal)) told.configuration c.ending_at.ensures)

@@ -1,9 +1,9 @@
 use Rattle.std.proofs.Common.{subst}
-use Rattle.np_top.specs.Run.{HasCome}
+use Rattle.np_top.specs.Run.{HasCome, plain_run}
 use Rattle.np_top.proofs.Endings.{run_ends}
 use Rattle.np_top.proofs.running.ran.Goals as goal
 
 pub returns-in_ok-played-in-Ok-clause-ok : goal.returns-in_ok-played-in-Ok-clause-ok
 returns-in_ok-played-in-Ok-clause-ok g c =
     let before = g.S.Source.facts c.args.source.now in let now = g.S.Source.facts c.configuration.new.source in
-    run_ends before now c.in-Ok.config c.in_ok-played-in-Ok.field-0 (subst (HasCome before now) c.in-Ok.is c.in_ok-config.ensures.read) c.in_ok-played-in-Ok.ensures
+    run_ends plain_run before now c.in-Ok.config c.in_ok-played-in-Ok.field-0 (subst (HasCome plain_run before now) c.in-Ok.is c.in_ok-config.ensures.read) c.in_ok-played-in-Ok.ensures

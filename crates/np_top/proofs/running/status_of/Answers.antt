@@ -2,14 +2,14 @@ use Rattle.std.proofs.Common.{◌≡◌, ◌<◌, ◌∙◌, sym, ap, add-one, a
 use Rattle.std.specs.Prelude.{slice_get}
 use Rattle.std.proofs.lemmas.Option.{slice_get_within}
 use Rattle.np_machine.specs.Fates.{fate_of}
-use Rattle.np_top.specs.Run.{is_waiting}
+use Rattle.np_top.specs.Play.{is_waiting}
 use Rattle.np_top.proofs.Waiting.{any-next, any-end, such-first, such-later}
 use Rattle.np_top.proofs.running.status_of.Goals as goal
 
 pub loop-job-preserved : goal.loop-job-preserved
 loop-job-preserved g c =
-    let f = fate_of (g.L.Look.state c.args.look.now) in
-    let jobs = (g.L.Look.state c.args.look.now).jobs in
+    let f = fate_of (g.R.Rows.state c.args.rows.now) in
+    let jobs = (g.R.Rows.state c.args.rows.now).jobs in
     let at = c.loop-job.at in
     let found : slice_get jobs at ≡ Some c.in-Some.job = sym c.job.ensures ∙ c.in-Some.is in
     let within : at < length jobs = slice_get_within jobs at c.in-Some.job found in
@@ -21,8 +21,8 @@ loop-job-preserved g c =
 
 pub returns-then-is_waiting : goal.returns-then-is_waiting
 returns-then-is_waiting g c =
-    let f = fate_of (g.L.Look.state c.args.look.now) in
-    let jobs = (g.L.Look.state c.args.look.now).jobs in
+    let f = fate_of (g.R.Rows.state c.args.rows.now) in
+    let jobs = (g.R.Rows.state c.args.rows.now).jobs in
     let at = c.loop-job.at in
     let found : slice_get jobs at ≡ Some c.in-Some.job = sym c.job.ensures ∙ c.in-Some.is in
     let some = such-first _ _ _ (any-next is_waiting f jobs at c.in-Some.job found) (sym c.is_waiting.ensures ∙ c.if-is_waiting.true) in
@@ -30,5 +30,5 @@ returns-then-is_waiting g c =
 
 pub returns : goal.returns
 returns g c =
-    let none = any-end is_waiting (fate_of (g.L.Look.state c.args.look.now)) (g.L.Look.state c.args.look.now).jobs c.loop-job.at (sym c.job.ensures ∙ c.in_default.is) in
+    let none = any-end is_waiting (fate_of (g.R.Rows.state c.args.rows.now)) (g.R.Rows.state c.args.rows.now).jobs c.loop-job.at (sym c.job.ensures ∙ c.in_default.is) in
     ap (λ (b : Bool). if b then 1 else 0) (sym none ∙ c.loop-job.invariant.left)

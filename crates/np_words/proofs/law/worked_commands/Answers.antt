@@ -6,6 +6,7 @@ pub returns : goal.returns
 unfolding number_of digits_within
 returns c = record {
   bare = (refl, refl, refl);
+  hosts = (refl, refl, refl, refl, refl, refl);
   drill = (refl, refl, refl, refl, refl);
   file = (refl, refl, refl, refl, refl, refl);
   dashes = (refl, refl, refl, refl, refl, refl);

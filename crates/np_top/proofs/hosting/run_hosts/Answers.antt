@@ -1,0 +1,8 @@
+use Rattle.np_top.specs.RunHosts.{hosted_run}
+use Rattle.np_top.proofs.RunStatuses.{faults-hosted, runs_site}
+use Rattle.np_top.proofs.hosting.run_hosts.Goals as goal
+
+pub returns : goal.returns
+returns g c =
+    runs_site hosted_run faults-hosted g.S.Source.facts g.K.Sink.facts g.E.Sink.facts c.args.source.now c.ending_of-ending.new.source c.args.out.now c.tell.new.out c.args.err.now c.tell.new.err
+    c.tell.result c.ending_of-ending.result c.ending_of-ending.ensures c.tell.ensures

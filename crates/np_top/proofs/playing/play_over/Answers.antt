@@ -1,0 +1,22 @@
+use Rattle.std.proofs.Common.{map, subst}
+use Rattle.std.specs.List.{AllByRecursion}
+use Rattle.np_event.specs.declared.entry.Entry.{Entry}
+use Rattle.np_trace.specs.Drive.{driving}
+use Rattle.np_driven.specs.Players.{WasAnswered}
+use Rattle.np_top.specs.Typed.{IsTyped}
+use Rattle.np_top.proofs.DrivenLines.{driven_lines}
+use Rattle.np_top.proofs.Sites.{ended_so}
+use Rattle.np_top.proofs.playing.play_over.Goals as goal
+
+pub returns-clause-lines : goal.returns-clause-lines
+returns-clause-lines g c =
+    let ended = c.in_ok-ended.ended in
+    driven_lines (WasAnswered (map (driving g.D.Driver.facts g.D.Driver.plan g.D.Driver.sound g.D.Driver.room) ended.drivers.items)) c.args.config c.soundness.ensures ended.board.journal
+    (c.in_ok-ended.ensures.driven c.requires.fresh)
+    (subst (AllByRecursion (λ (e : Entry). IsTyped e.event)) c.journal.ensures c.numbers_are_within_their_types.ensures)
+
+pub returns-clause-ended : goal.returns-clause-ended
+returns-clause-ended g c =
+    let board = c.in_ok-ended.ended.board in
+    ended_so c.args.config board.configuration board.journal board.state c.in_ok-ended.ended.full c.in_ok-ended.ensures.configuration c.soundness-2.ensures.runs
+    c.in_ok-ended.ensures.settled c.in_ok-ended.ensures.full

@@ -1,0 +1,54 @@
+-- how a site was played, by whichever drivers
+use Rattle.std.specs.Prelude.{◌≡◌, ℕ, Bool, true, false, List, length, if◌then◌else◌}
+use Rattle.std.specs.List.{list_any}
+use Rattle.np_site.specs.Configuration.{Configuration}
+use Rattle.np_event.specs.declared.entry.Entry.{Entry}
+use Rattle.np_machine.specs.Fates.{Fate, fates}
+use Rattle.np_machine.specs.Fates as fate
+use Rattle.np_machine.specs.History.{after}
+use Rattle.np_useful.specs.Settled.{IsSettled}
+use Rattle.np_report.specs.Printed.{IsPrinted}
+use Rattle.np_rounds.specs.Played.{EndsWithTick}
+use Rattle.np_ending.specs.declared.ending.Ending.{Ending}
+use Rattle.np_ending.specs.declared.ending.Ending.TheVariants as ending
+
+-- if the run came to its end, no role has a useful event, and the last entry is a tick; otherwise
+-- the journal is as long as it may be (own)
+abbrev pub HasEnded : Configuration → List Entry → Bool → Type 0
+HasEnded c journal false = IsSettled c (after c journal) × EndsWithTick journal
+HasEnded c journal true = length journal ≡ 262144
+
+-- the text is that of a journal over this configuration, which was played to its end, or until it was full (own)
+pub record IsPlayedTo (c : Configuration) (journal : List Entry) (text : List ℕ) (full : Bool) : Type 0 where
+  pub printed : IsPrinted c journal text
+  pub ended : HasEnded c journal full
+
+-- ## the fates of its jobs
+
+-- the job isn't over
+abbrev pub is_waiting : Fate → Bool
+is_waiting (fate.served p nodes) = false
+is_waiting (fate.failed declined) = false
+is_waiting fate.lost = false
+is_waiting fate.withdrawn = false
+is_waiting (fate.waiting phase) = true
+
+-- one of these fates is waiting (own)
+abbrev pub some_waits : List Fate → Bool
+some_waits ends = list_any is_waiting ends
+
+-- the status of a run that came to its end: 1 if a fate is waiting, otherwise 0
+abbrev pub status_of_fates : List Fate → ℕ
+status_of_fates ends = if some_waits ends then 1 else 0
+
+-- ## how playing may end
+
+-- how playing a site may end, with this journal
+abbrev pub EndsPlay : Configuration → List Entry → Ending → Type 0
+EndsPlay c journal (ending.Prints text status) = IsPlayedTo c journal text.items false × (status ≡ status_of_fates (fates (after c journal)))
+EndsPlay c journal (ending.Full text) = IsPlayedTo c journal text.items true
+EndsPlay c journal (ending.Says line status) = ⊥
+EndsPlay c journal ending.NoCommand = ⊥
+EndsPlay c journal ending.ReadFault = ⊥
+EndsPlay c journal ending.TooLong = ⊥
+EndsPlay c journal ending.NoMemory = ⊥

@@ -1,0 +1,40 @@
+-- what the command `run hosts` does: it plays a site of which some pools are served by hosts
+use Rattle.std.specs.Prelude.{◌≡◌, ℕ, List, slice_get, Option, Some, None}
+use Rattle.np_text.specs.declared.id.PoolId.{PoolId}
+use Rattle.np_site.specs.Configuration.{Configuration}
+use Rattle.np_event.specs.declared.event.Outcome.{Outcome}
+use Rattle.np_event.specs.declared.entry.Entry.{Entry}
+use Rattle.np_machine.specs.Plan.{outcome_of}
+use Rattle.np_useful.specs.Driven.{Says, DrivenBy}
+use Rattle.np_static.specs.Site.{Site, simulated, hosted}
+use Rattle.np_static.specs.declared.fault.HostedFault.{HostedFault}
+use Rattle.np_static.specs.Hosted.{Hosted, hosted_of}
+use Rattle.np_ending.specs.Lines.{hosted_line, hosted_status}
+use Rattle.np_top.specs.Run.{SiteCommand}
+
+-- the outcome of a start is the planned one where the pool has a simulated cloud; of hosts nothing is said
+abbrev pub IsPlannedAt : Configuration → Option Site → PoolId → ℕ → Outcome → Type 0
+IsPlannedAt c None pool start o = ⊥
+IsPlannedAt c (Some (simulated cloud)) pool start o = outcome_of c pool start ≡ o
+IsPlannedAt c (Some (hosted hosts)) pool start o = Unit {0}
+
+-- each launch of a pool without host lines was answered as it is planned (own)
+abbrev pub planned_without_hosts : Hosted → Says
+planned_without_hosts h pool n attempt start o = IsPlannedAt h.configuration (slice_get h.sites pool.0) pool start o
+
+-- what holds of the journal of a site with hosts (own)
+pub record IsDrivenWithHosts (h : Hosted) (journal : List Entry) : Type 0 where
+  -- its parties, its hosts, and the simulated clouds of the other pools drove it
+  pub driven : DrivenBy (planned_without_hosts h) h.configuration journal
+
+-- `run hosts`: the input is a configuration with host lines (own)
+abbrev pub hosted_run : SiteCommand
+hosted_run = record {
+  Site = Hosted;
+  Fault = HostedFault;
+  reads = hosted_of;
+  configuration = λ h. h.configuration;
+  IsDriven = IsDrivenWithHosts;
+  line_of = hosted_line;
+  status_of = hosted_status;
+}
