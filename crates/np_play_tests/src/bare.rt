@@ -204,17 +204,6 @@ impl Bare {
         self.journal.as_slice()
     }
 
-    /// The tree alone.
-    pub fn into_tree(self) -> Tree {
-        let Bare {
-            alloc: _,
-            config: _,
-            tree,
-            journal: _,
-        } = self;
-        tree
-    }
-
     /// The event happens: the journal takes it with its reply, and the tree has the state after it.
     pub fn apply(&mut self, event: Event) -> Result<Reply, NoMemory> {
         soundness(&self.tree, &self.config, &self.journal);

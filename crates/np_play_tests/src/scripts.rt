@@ -5,10 +5,11 @@ use crate::bare::Bare;
 use crate::lines::is_line;
 use np_event::Entry;
 use np_event_lines::read_entry;
-use np_path::Path;
+use np_record::NodeRecord;
 use np_semstep::each_event_is_of_one_group;
-use np_text::{NodeId, TenantId};
-use np_tree::{Expect, Tree};
+use np_spelling::Record;
+use np_text::TenantId;
+use np_tree::Tree;
 use std::alloc::Global;
 
 /// What happens at a tree, or what it shows.
@@ -292,47 +293,15 @@ const SPELLINGS: [(&str, Option<TenantId>); 4] = [
     (USED, Some(TenantId(0))),
 ];
 
-/// Whether the node has this tenant, by the tree's reader.
-fn has_tenant(tree: &Tree, tenant: Option<TenantId>) -> bool {
-    match np_readers::node(tree, NodeId(0)) {
-        Some(kept) => kept.tenant == tenant,
-        None => false,
-    }
-}
-
-/// Whether the bytes are read as of this tenant, where they are the node's.
-fn reads(alloc: Global, tree: &mut Tree, bytes: &str, tenant: Option<TenantId>) -> bool {
-    match Path::new(alloc, NODE) {
-        Err(_) => false,
-        Ok(path) => {
-            tree.set(1, &path, bytes.as_bytes(), Expect::Any).is_ok() && has_tenant(tree, tenant)
-        }
-    }
-}
-
-/// Whether each spelling is read as it says, in a tree that has the node.
-fn reads_spellings(alloc: Global, tree: &mut Tree) -> bool {
+/// Whether each spelling is read as it says.
+fn spellings_are_read() -> bool {
     for (bytes, tenant) in SPELLINGS {
-        if !reads(alloc, tree, bytes, tenant) {
-            return false;
+        match NodeRecord::read(bytes.as_bytes()) {
+            Ok(kept) if kept.tenant == tenant => {}
+            _ => return false,
         }
     }
     true
-}
-
-/// The tree after the script in which a node is freed.
-fn tree_with_node(alloc: Global) -> Option<Tree> {
-    let mut bare = Bare::new(alloc, SITE)?;
-    let _right = count_right(alloc, &mut bare, &FREED);
-    Some(bare.into_tree())
-}
-
-/// Whether spellings of a node's record are read as they say.
-fn spellings_are_read(alloc: Global) -> bool {
-    match tree_with_node(alloc) {
-        None => false,
-        Some(mut tree) => reads_spellings(alloc, &mut tree),
-    }
 }
 
 #[test]
@@ -341,5 +310,5 @@ fn scripts_are_played_over_a_tree(rt: HostRuntime) {
     for (name, site, steps) in SCRIPTS {
         assert_eq!(rt; play(rt.alloc(), site, steps), steps.len(), "{name}");
     }
-    assert!(rt; spellings_are_read(rt.alloc()), "spellings");
+    assert!(rt; spellings_are_read(), "spellings");
 }

@@ -2,12 +2,12 @@
 //! their jobs end, and that tables and a bare tree give the journal of the board.
 
 use crate::bare::Bare;
-use crate::index::is_rebuilt;
+use crate::index::{answers_as_a_walk_does, answers_as_its_tree_does};
 use crate::lines::{config_of, have_equal_lines};
 use np_answers::Turn;
 use np_board::Board;
 use np_event::{Done, Entry, Event, Reply};
-use np_look::Look;
+use np_look::{Look, Rows};
 use np_rules::{Plain, new_plain};
 use np_text::{Ending, JobId, PoolId, RequesterId, Role};
 use std::alloc::Global;
@@ -96,29 +96,30 @@ const SITES: [Site; 10] = [
     },
 ];
 
-/// The role makes a useful event at the board, whose index is then that of its state. Whether it had
-/// one; none if the index differs, or memory runs out.
-fn act(alloc: Global, board: &mut Board, role: Role) -> Option<bool> {
+/// The role makes a useful event at the board, whose index then answers as a walk of its rows does. Whether
+/// it had one; none if an answer differs, or memory runs out.
+fn act(board: &mut Board, role: Role) -> Option<bool> {
     match board.act(role) {
-        Ok(Turn::Did(_)) => is_rebuilt(alloc, board).then_some(true),
+        Ok(Turn::Did(_)) => answers_as_a_walk_does(board).then_some(true),
         Ok(_) => Some(false),
         Err(_) => None,
     }
 }
 
-/// Each role makes at most one event. Whether one did.
-fn play_round(alloc: Global, board: &mut Board) -> Option<bool> {
+/// Each role makes at most one event, and the machine then answers as its tree does. Whether one
+/// did.
+fn play_round(board: &mut Board) -> Option<bool> {
     let mut acted = false;
     for role in ROLES {
-        acted = act(alloc, board, role)? || acted;
+        acted = act(board, role)? || acted;
     }
-    Some(acted)
+    answers_as_its_tree_does(board).then_some(acted)
 }
 
 /// Plays rounds, with a tick after each, until no role has a useful event. Whether that came.
-fn play(alloc: Global, board: &mut Board) -> bool {
+fn play(board: &mut Board) -> bool {
     for _round in 0..ROUNDS {
-        match play_round(alloc, board) {
+        match play_round(board) {
             Some(true) => {}
             Some(false) => return true,
             None => return false,
@@ -132,24 +133,23 @@ fn play(alloc: Global, board: &mut Board) -> bool {
 
 /// How the job ended.
 fn ending_of(board: &Board, job: JobId) -> Option<Ending> {
-    board.job(job)?.ending
+    board.machine().rows().job(job)?.ending
 }
 
 /// Whether the jobs ended, and nodes are left, as the site says.
 fn ends_as(board: &Board, site: &Site) -> bool {
-    for at in 0..board.jobs() {
+    let rows = board.machine().rows();
+    for at in 0..rows.jobs() {
         if ending_of(board, JobId(at)) != site.endings.get(at as usize).copied() {
             return false;
         }
     }
-    board.jobs() as usize == site.endings.len() && board.nodes() == site.nodes
+    rows.jobs() as usize == site.endings.len() && rows.nodes() == site.nodes
 }
 
-/// Whether the board is settled and its readers agree on what it recorded.
+/// Whether the board is settled, and time may go on.
 fn is_at_rest(board: &Board) -> bool {
-    board.settled()
-        && board.journal().len() == board.entries() as usize
-        && matches!(board.judge(Event::Tick), Reply::Done(Done::Plain))
+    board.settled() && matches!(board.judge(Event::Tick), Reply::Done(Done::Plain))
 }
 
 /// The events of the journal happen at the tables. Whether memory was ample.
@@ -213,7 +213,7 @@ pub fn new_board(alloc: Global, site: &str) -> Option<Board> {
 /// journal.
 fn is_played_at(alloc: Global, board: &mut Board, site: &Site) -> bool {
     !is_at_rest(board)
-        && play(alloc, board)
+        && play(board)
         && is_at_rest(board)
         && ends_as(board, site)
         && is_journal_of_tables(alloc, site.text, board.journal())

@@ -1,6 +1,6 @@
 //! What no clause says: that a board answers each kind of ask with ample memory.
 
-use crate::index::is_rebuilt;
+use crate::index::{answers_as_a_walk_does, answers_as_its_tree_does};
 use crate::lines::is_line;
 use crate::sites::new_board;
 use np_answers::{Ask, Turn};
@@ -110,11 +110,16 @@ fn is_told(alloc: Global, turn: Turn, text: &str) -> bool {
     }
 }
 
-/// Whether the turn of the board is as the text says. Its index is then that of the state.
+/// Whether the turn of the board is as the text says. Searches by the index and by walks
+/// then agree.
 fn takes(alloc: Global, board: &mut Board, ask: Ask, text: &str) -> bool {
     board.soundness();
     match board.turn(ask) {
-        Ok(turn) => is_told(alloc, turn, text) && is_rebuilt(alloc, board),
+        Ok(turn) => {
+            is_told(alloc, turn, text)
+                && answers_as_a_walk_does(board)
+                && answers_as_its_tree_does(board)
+        }
         Err(_) => false,
     }
 }
