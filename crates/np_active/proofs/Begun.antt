@@ -17,7 +17,7 @@ use Rattle.np_changes.specs.Planned.{IsPlanned}
 use Rattle.np_changes.specs.declared.changes.Changes.{Changes}
 use Rattle.np_changes.specs.declared.changes.SessionsChange.{SessionsChange}
 use Rattle.np_changes.specs.declared.changes.SessionsChange.TheVariants as sessions
-use Rattle.np_safe.proofs.Through.{plan-found, plan-given, plan-made}
+use Rattle.np_laws.proofs.Through.{plan-found, plan-given, plan-made}
 
 -- sessions count from 1
 abbrev pub IsBegun : SessionsChange → Type 0

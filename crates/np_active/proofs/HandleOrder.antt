@@ -39,10 +39,10 @@ use Rattle.np_changes.specs.declared.changes.HandlesChange.TheVariants as handle
 use Rattle.np_changes.specs.declared.changes.Maker.{Maker}
 use Rattle.np_changes.proofs.PlanLaws.{plan-next}
 use Rattle.np_changes.proofs.PremisesOf.{premises}
-use Rattle.np_safe.specs.Parts.{Invariant}
-use Rattle.np_safe.proofs.After.{made-look}
-use Rattle.np_safe.proofs.Rising.{rises-insert_before}
-use Rattle.np_safe.proofs.Runs.{invariant-changed, invariant-Runs}
+use Rattle.np_laws.specs.Parts.{Invariant}
+use Rattle.np_laws.proofs.After.{made-look}
+use Rattle.np_laws.proofs.Rising.{rises-insert_before}
+use Rattle.np_laws.proofs.Runs.{invariant-changed, invariant-Runs}
 
 -- one list
 abbrev pub InOrder : List JobId → Type 0

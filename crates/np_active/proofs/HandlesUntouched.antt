@@ -23,7 +23,7 @@ use Rattle.np_changes.specs.declared.changes.Growth.TheVariants as grow
 use Rattle.np_changes.specs.declared.changes.HandlesChange.{HandlesChange}
 use Rattle.np_changes.specs.declared.changes.HandlesChange.TheVariants as handles
 use Rattle.np_changes.specs.declared.changes.Maker.{Maker}
-use Rattle.np_safe.proofs.After.{made-look}
+use Rattle.np_laws.proofs.After.{made-look}
 
 -- the semaphore is one of these
 abbrev pub is_of : SemId → List SemId → Bool

@@ -22,8 +22,8 @@ use Rattle.np_changes.specs.declared.changes.Growth.{Growth}
 use Rattle.np_changes.specs.declared.changes.Growth.TheVariants as grow
 use Rattle.np_changes.specs.declared.changes.HandlesChange.{HandlesChange}
 use Rattle.np_changes.specs.declared.changes.HandlesChange.TheVariants as handles
-use Rattle.np_safe.proofs.Ids.{same_semaphore}
-use Rattle.np_safe.proofs.Runs.{invariant-Runs}
+use Rattle.np_laws.proofs.Ids.{same_semaphore}
+use Rattle.np_laws.proofs.Runs.{invariant-Runs}
 use Rattle.np_active.specs.Active.{AreGroups, AreHandleGroups, handle_group}
 use Rattle.np_active.specs.Members.{with_handles, with_holders, with_new_handles, without_handles}
 use Rattle.np_active.proofs.HandleOrder.{lists-changed, few-changed, lists-reached, list-few, list-order}

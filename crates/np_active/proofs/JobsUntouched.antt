@@ -29,10 +29,10 @@ use Rattle.np_changes.specs.declared.changes.HandlesChange.{HandlesChange}
 use Rattle.np_changes.specs.declared.changes.HandlesChange.TheVariants as handles
 use Rattle.np_changes.specs.declared.changes.JobsChange.{JobsChange}
 use Rattle.np_changes.specs.declared.changes.JobsChange.TheVariants as jobs
-use Rattle.np_safe.specs.Parts.{Invariant, JobIn}
-use Rattle.np_safe.proofs.JobsLater.{jobs-grown}
-use Rattle.np_safe.proofs.Lookups.{request_in-below}
-use Rattle.np_safe.proofs.Runs.{invariant-Runs}
+use Rattle.np_laws.specs.Parts.{Invariant, JobIn}
+use Rattle.np_laws.proofs.JobsLater.{jobs-grown}
+use Rattle.np_laws.proofs.Lookups.{request_in-below}
+use Rattle.np_laws.proofs.Runs.{invariant-Runs}
 use Rattle.np_look.specs.Jobs.{is_own, is_supplied, was_given}
 use Rattle.np_look.specs.Readers.{request_state_of}
 use Rattle.np_active.specs.Active.{JobKind, asker_of, ending_ones, is_job_in, is_job_of, is_prompt, lacking_ones, prompt_ones, releasing_ones, supplied_ones, waiting_ones}

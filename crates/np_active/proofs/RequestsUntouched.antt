@@ -24,8 +24,8 @@ use Rattle.np_changes.specs.declared.changes.RequestEdit.TheVariants as edit
 use Rattle.np_changes.specs.declared.changes.RequestsChange.{RequestsChange}
 use Rattle.np_changes.specs.declared.changes.RequestsChange.TheVariants as requests
 use Rattle.np_changes.proofs.PremisesOf.{premises}
-use Rattle.np_safe.proofs.After.{calm-request, found-grown, left-request}
-use Rattle.np_safe.proofs.Lookups.{request_in-edit, request_in-remove, same_request-is}
+use Rattle.np_laws.proofs.After.{calm-request, found-grown, left-request}
+use Rattle.np_laws.proofs.Lookups.{request_in-edit, request_in-remove, same_request-is}
 use Rattle.np_active.specs.Active.{answers, asker_of, asker_of_request}
 
 -- ## who asks for a request that is answered or removed

@@ -20,8 +20,8 @@ use Rattle.np_changes.specs.declared.changes.Growth.TheVariants as grow
 use Rattle.np_changes.specs.declared.changes.Maker.{Maker}
 use Rattle.np_changes.specs.declared.changes.SessionsChange.{SessionsChange}
 use Rattle.np_changes.specs.declared.changes.SessionsChange.TheVariants as sessions
-use Rattle.np_safe.proofs.After.{made-look}
-use Rattle.np_safe.proofs.Sessions.{facts-grown, facts_in}
+use Rattle.np_laws.proofs.After.{made-look}
+use Rattle.np_laws.proofs.Sessions.{facts-grown, facts_in}
 use Rattle.np_active.proofs.Begun.{IsBegun}
 
 -- ## sessions

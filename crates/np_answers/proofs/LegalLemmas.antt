@@ -9,7 +9,7 @@ use Rattle.np_machine.specs.State.{State, start}
 use Rattle.np_machine.specs.Step.{judge, next, reply_of}
 use Rattle.np_machine.specs.History.{state_after, replayed, after, Runs}
 use Rattle.np_machine.proofs.Runs.{Runs-prefix}
-use Rattle.np_safe.proofs.Replies.{head-reply, tail-replies}
+use Rattle.np_laws.proofs.Replies.{head-reply, tail-replies}
 use Rattle.np_fits.proofs.RunSteps.{Runs-next}
 use Rattle.np_answers.specs.Answers.{IsReplied}
 use Rattle.np_answers.specs.Legal.{has_replies, is_legal}

@@ -2,3 +2,13 @@ pub mod ReplyLemmas
 pub mod LegalLemmas
 pub mod SweepLemmas
 pub mod Recorded
+pub mod Steps
+pub mod Traces
+pub mod Starts
+pub mod Order
+pub mod Removals
+pub mod Gained
+pub mod Taken
+pub mod Ends
+pub mod Works
+pub mod Leaving

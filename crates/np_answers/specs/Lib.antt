@@ -2,3 +2,8 @@ pub mod Asks
 pub mod Answers
 pub mod Replies
 pub mod Legal
+pub mod Move
+pub mod Phase
+pub mod Drive
+pub mod Walk
+pub mod Trace

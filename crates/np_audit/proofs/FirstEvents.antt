@@ -12,7 +12,7 @@ use Rattle.np_event_lines.specs.Line.{HasEventLine, entry_in}
 use Rattle.np_event_lines.proofs.EntryLemmas.{entry_in-told}
 use Rattle.np_site.specs.Configuration.{Configuration}
 use Rattle.np_site.specs.Sound.{IsSound}
-use Rattle.np_report.specs.Script.{IsPlayable}
+use Rattle.np_script.specs.Script.{IsPlayable}
 use Rattle.np_audit.specs.Entries.{event_told, events_told, first_line, later_lines, leading_events, with_event}
 
 -- ## one line

@@ -12,8 +12,8 @@ use Rattle.np_machine.specs.Tables.{same_request}
 use Rattle.np_changes.specs.Changes.{changed}
 use Rattle.np_changes.specs.Planned.{IsPlanned, IsReached}
 use Rattle.np_changes.specs.declared.changes.Changes.{Changes}
-use Rattle.np_safe.proofs.Numbered.{numbered}
-use Rattle.np_safe.proofs.Runs.{invariant-Runs}
+use Rattle.np_laws.proofs.Numbered.{numbered}
+use Rattle.np_laws.proofs.Runs.{invariant-Runs}
 use Rattle.np_awaited.specs.declared.awaited.Rest.{Rest}
 use Rattle.np_awaited.specs.Awaited.{AreAwaited, AreSmall, OthersStay, exchange, first_rest}
 use Rattle.np_awaited.proofs.Moved.{awaited-noted, awaited-same, small-amounts}

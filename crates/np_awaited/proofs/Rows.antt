@@ -8,7 +8,7 @@ use Rattle.np_lists.specs.Rising.{Rises}
 use Rattle.np_amount.specs.declared.amount.Amount.{Amount}
 use Rattle.np_amount.specs.Amounts.{minus, nothing, plus, total}
 use Rattle.np_amount.proofs.Sums.{plus-assoc, plus-comm, nothing-plus, minus-plus}
-use Rattle.np_safe.proofs.Rising.{rises-remove_first}
+use Rattle.np_laws.proofs.Rising.{rises-remove_first}
 
 plus-turned : (a b d : Amount) → plus a (plus b d) ≡ plus b (plus a d)
 plus-turned a b d = sym (plus-assoc a b d) ∙ ap (λ (x : Amount). plus x d) (plus-comm a b) ∙ plus-assoc b a d

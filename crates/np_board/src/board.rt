@@ -4,7 +4,7 @@ ghost use Rattle.std.specs.Prelude.{◌≡◌, ◌↔◌, [], true, IfOk, OnErr,
 ghost use Rattle.np_machine.specs.History.{Runs};
 ghost use Rattle.np_machine.specs.State.{start};
 ghost use Rattle.np_fits.specs.Fits.{IsFitSite};
-ghost use Rattle.np_decode.specs.Decoded.{decoded};
+ghost use Rattle.np_layout.specs.Decoded.{decoded};
 ghost use Rattle.np_keeper.specs.Keeper.{IsHeld};
 ghost use Rattle.np_rules.specs.Ran.{answer_of, applied};
 ghost use Rattle.np_rules.specs.Running.{ran_of};

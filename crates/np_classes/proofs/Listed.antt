@@ -34,8 +34,8 @@ use Rattle.np_changes.specs.Premises.{Premises, NodesPremise, RequestsPremise, E
 use Rattle.np_changes.specs.Plan.{new_node}
 use Rattle.np_changes.proofs.PremisesOf.{premises}
 use Rattle.np_look.specs.Readers.{queued_nodes, queued_requests}
-use Rattle.np_safe.specs.Parts.{AllocationsListed, Invariant, IsAsking, JobIn, JobsStand}
-use Rattle.np_safe.proofs.Runs.{invariant-Runs}
+use Rattle.np_laws.specs.Parts.{AllocationsListed, Invariant, IsAsking, JobIn, JobsStand}
+use Rattle.np_laws.proofs.Runs.{invariant-Runs}
 use Rattle.np_classes.specs.Touched.{grows_node, changes_node, ends_at_node, unclaims_node, touches_node, grows_request, changes_request, touches_request, grows_request_queue, leaves_request_queue, ends_at_request, touches_request_queue}
 use Rattle.np_classes.specs.Placed.{members_of, placed_node, placed_queue, placed_request}
 use Rattle.np_classes.specs.Prepared.{IsPrepared, TouchedOf, ended, grown_nodes, changed_nodes, unclaimed_nodes, touched_nodes, grown_requests, changed_requests, touched_requests, grown_queues, left_queues, touched_queues}

@@ -21,9 +21,9 @@ use Rattle.np_changes.specs.Changes.{changed}
 use Rattle.np_changes.specs.Planned.{IsReached}
 use Rattle.np_changes.specs.declared.changes.Changes.{Changes}
 use Rattle.np_look.specs.Readers.{is_unclaimed}
-use Rattle.np_safe.specs.Parts.{IsNumbered}
-use Rattle.np_safe.proofs.Numbered.{numbered}
-use Rattle.np_safe.proofs.Runs.{invariant-Runs}
+use Rattle.np_laws.specs.Parts.{IsNumbered}
+use Rattle.np_laws.proofs.Numbered.{numbered}
+use Rattle.np_laws.proofs.Runs.{invariant-Runs}
 use Rattle.np_classes.specs.Classes.{ClassesOf, AreClasses, AreNodeGroups, AreRequestGroups, is_among, node_groups, node_is_in, request_groups, request_is_in}
 use Rattle.np_classes.specs.Placed.{Placed, groups_of_node, groups_of_request, members_of, no_node_groups, no_request_groups, placed_node, placed_queue, placed_request, unheld_group_of_request, with_all, without_all}
 use Rattle.np_classes.specs.Prepared.{IsPrepared, TouchedOf}

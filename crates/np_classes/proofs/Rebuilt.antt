@@ -16,8 +16,8 @@ use Rattle.np_machine.specs.Order.{is_id_before}
 use Rattle.np_machine.specs.State.{State}
 use Rattle.np_machine.specs.Tables.{holder, same_request}
 use Rattle.np_changes.specs.Planned.{IsReached}
-use Rattle.np_safe.specs.Parts.{IsNumbered}
-use Rattle.np_safe.proofs.Runs.{invariant-Runs}
+use Rattle.np_laws.specs.Parts.{IsNumbered}
+use Rattle.np_laws.proofs.Runs.{invariant-Runs}
 use Rattle.np_look.specs.Readers.{is_unclaimed}
 use Rattle.np_look.specs.Views.{node_view, request_view}
 use Rattle.np_look.proofs.Walks.{take_there}

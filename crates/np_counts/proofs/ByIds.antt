@@ -7,7 +7,7 @@ use Rattle.np_machine.specs.Entries.{RequestEntry, NodeEntry}
 use Rattle.np_machine.specs.Order.{is_id_before}
 use Rattle.np_machine.specs.State.{State}
 use Rattle.np_machine.specs.Tables.{node_entry, request_entry, same_request}
-use Rattle.np_safe.proofs.Lookups.{same_request-self}
+use Rattle.np_laws.proofs.Lookups.{same_request-self}
 use Rattle.np_classes.specs.Classes.{ClassesOf, AreClasses}
 use Rattle.np_classes.proofs.Rows.{rows-found}
 use Rattle.np_classes.proofs.Apart.{same_node-self, node-apart, request-apart}

@@ -17,7 +17,7 @@ use Rattle.np_machine.specs.Kinds.{is_failed, is_requested, is_pending}
 use Rattle.np_machine.specs.Reasons.{next_label}
 use Rattle.np_machine.specs.State.{State}
 use Rattle.np_machine.specs.Tables.{request_holder, request_in, same_request}
-use Rattle.np_safe.proofs.Lookups.{same_request-self}
+use Rattle.np_laws.proofs.Lookups.{same_request-self}
 use Rattle.np_classes.specs.Classes.{pending_group, unheld_pending_group, coming_group, spent_group, declined_group, decline_set, is_still_requested, next_label_group, pinned_label_group, request_groups, is_among, AreRequestGroups}
 use Rattle.np_counts.specs.Waiting.{is_beside}
 use Rattle.np_counts.proofs.Any.{or_true}

@@ -16,7 +16,7 @@ use Rattle.np_machine.specs.State.{State}
 use Rattle.np_machine.specs.Tables.{holder, node_entry, request_entry, same_request}
 use Rattle.np_classes.specs.Classes.{node_groups, request_groups, is_among, AreNodeGroups, AreRequestGroups}
 use Rattle.np_look.specs.Readers.{is_unclaimed}
-use Rattle.np_safe.proofs.Lookups.{same_request-self}
+use Rattle.np_laws.proofs.Lookups.{same_request-self}
 use Rattle.np_groups.proofs.Ids.{ids-rise, ids-has, same-list}
 use Rattle.np_classes.proofs.Apart.{node-apart, request-apart, same_node-self}
 use Rattle.np_classes.proofs.Rows.{filter-each, ids-in_order, row-passes}

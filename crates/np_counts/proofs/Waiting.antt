@@ -24,7 +24,7 @@ use Rattle.np_machine.specs.Order.{is_id_before, is_pending_by}
 use Rattle.np_machine.specs.Reasons.{next_label, is_spare, is_stuck_at}
 use Rattle.np_machine.specs.State.{State}
 use Rattle.np_machine.specs.Tables.{holder, request_entry, same_request}
-use Rattle.np_safe.proofs.Lookups.{same_request-self}
+use Rattle.np_laws.proofs.Lookups.{same_request-self}
 use Rattle.np_classes.specs.Classes.{request_groups, is_among, request_is_in, AreRequestGroups, ClassesOf, AreClasses}
 use Rattle.np_counts.specs.Waiting.{label_group, is_beside, label_if, is_pinned_as, is_stuck_label, is_stuck_as, is_under_way_as}
 use Rattle.np_counts.proofs.Any.{and-both, and-first, and-second, both, any-either, any-find, any-same, find-any, any-weaker}

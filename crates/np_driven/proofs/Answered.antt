@@ -7,8 +7,8 @@ use Rattle.std.specs.Prelude.{All}
 use Rattle.np_event.specs.declared.event.Outcome.{Outcome}
 use Rattle.np_cloud.specs.declared.driver.Tag.{Tag}
 use Rattle.np_cloud.specs.declared.driver.Launch.{Launch}
-use Rattle.np_trace.specs.Move.{Move, asked, launched, removed, launches_of}
-use Rattle.np_trace.specs.Drive.{Driving, FollowsPlan, Drives}
+use Rattle.np_answers.specs.Move.{Move, asked, launched, removed, launches_of}
+use Rattle.np_answers.specs.Drive.{Driving, FollowsPlan, Drives}
 
 -- the driver answered this, if it reports its answers
 abbrev pub HasAnswered : Driving → Launch → Type 0

@@ -9,9 +9,9 @@ use Rattle.np_event.specs.declared.entry.Entry.{Entry}
 use Rattle.np_event.specs.declared.event.Outcome.{Outcome}
 use Rattle.np_cloud.specs.declared.driver.Tag.{Tag}
 use Rattle.np_cloud.specs.declared.driver.Launch.{Launch}
-use Rattle.np_trace.specs.Drive.{Driving, Drove, Drives, FollowsPlan}
-use Rattle.np_trace.specs.Move.{Move, asked, launched, removed, launches_of}
-use Rattle.np_trace.specs.Phase.{Work, of_pool, of_requester, of_reaper}
+use Rattle.np_answers.specs.Drive.{Driving, Drove, Drives, FollowsPlan}
+use Rattle.np_answers.specs.Move.{Move, asked, launched, removed, launches_of}
+use Rattle.np_answers.specs.Phase.{Work, of_pool, of_requester, of_reaper}
 use Rattle.np_driven.specs.Players.{Player, driving_in, drivings_of, IsNumbered, next_number, AreNumbered, WasAnswered, launch_of}
 use Rattle.np_driven.specs.Round.{PlayerEnd, PlaysFrom, EachPlaysFrom}
 use Rattle.np_driven.proofs.Splits.{member-cases, no-member}

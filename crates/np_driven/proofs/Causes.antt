@@ -8,7 +8,7 @@ use Rattle.np_cloud.specs.declared.driver.Launch.{Launch}
 use Rattle.np_desk.specs.History.{StartsWith}
 use Rattle.np_desk.specs.Pass.{Sight}
 use Rattle.np_desk.specs.Turned.{Unturned}
-use Rattle.np_trace.specs.Phase.{Work}
+use Rattle.np_answers.specs.Phase.{Work}
 use Rattle.np_desk.proofs.HistoryLemmas.{starts_more, starts_on}
 use Rattle.np_driven.proofs.Histories.{starts_equal, contains_later}
 use Rattle.np_driven.proofs.Made.{Follows, IsActed, IsSwept, IsReported, Made}

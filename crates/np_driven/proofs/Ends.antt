@@ -3,9 +3,9 @@ use Rattle.std.proofs.Common.{◌≡◌, ⊎_elim, ℕ, suc, ◌≤◌, List, []
 use Rattle.np_text.specs.declared.id.PoolId.{PoolId}
 use Rattle.np_site.specs.Configuration.{Configuration}
 use Rattle.np_event.specs.declared.entry.Entry.{Entry}
-use Rattle.np_trace.specs.Drive.{Driving, Drove}
-use Rattle.np_trace.specs.Move.{Move}
-use Rattle.np_trace.specs.Phase.{Work, of_pool, of_requester, of_reaper}
+use Rattle.np_answers.specs.Drive.{Driving, Drove}
+use Rattle.np_answers.specs.Move.{Move}
+use Rattle.np_answers.specs.Phase.{Work, of_pool, of_requester, of_reaper}
 use Rattle.np_driven.specs.Players.{Player, driving_in, drivings_of, IsNumbered, next_number, AreNumbered, AreNamed}
 use Rattle.np_driven.specs.Round.{PlayerEnd, PlaysFrom, EachPlaysFrom}
 use Rattle.np_driven.proofs.Servers.{HasDriver, numbered_driver}

@@ -18,9 +18,9 @@ use Rattle.np_machine.specs.Tables.{is_session}
 use Rattle.np_machine.specs.LiveHolder.{is_node}
 use Rattle.np_useful.specs.Driven.{is_tick, is_report_of}
 use Rattle.np_answers.specs.declared.ask.Ask.TheVariants as ask
-use Rattle.np_trace.specs.declared.start.Start.{Start}
-use Rattle.np_trace.specs.Phase.{Work, of_pool, of_requester, of_reaper, start_in}
-use Rattle.np_trace.specs.Trace.{IsAskOf}
+use Rattle.np_answers.specs.declared.start.Start.{Start}
+use Rattle.np_answers.specs.Phase.{Work, of_pool, of_requester, of_reaper, start_in}
+use Rattle.np_answers.specs.Trace.{IsAskOf}
 
 -- the event and the reply of an accepted start
 pub record StartParts (pool : PoolId) (e : Event) (r : Reply) (s : Start) : Type 0 where

@@ -20,7 +20,7 @@ use Rattle.np_machine.specs.Tables.{role_of, node_in}
 use Rattle.np_machine.specs.Turns.{turns}
 use Rattle.np_useful.specs.Driven.{Says, IsDrivenTurn, IsOfUse, IsTickBetween, IsSweepOfServer, IsReportOfLaunch, BeginsLaunch}
 use Rattle.np_useful.specs.Useful.{IsUseful}
-use Rattle.np_trace.specs.Phase.{Work, of_pool}
+use Rattle.np_answers.specs.Phase.{Work, of_pool}
 use Rattle.np_driven.proofs.Made.{IsActed, IsSwept, IsReported}
 use Rattle.np_driven.proofs.Splits.{split-outer, split-within, length-split}
 use Rattle.np_driven.proofs.Places.{turn_after, some-place}

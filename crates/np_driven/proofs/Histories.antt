@@ -10,8 +10,8 @@ use Rattle.np_event.specs.declared.entry.Entry.{Entry}
 use Rattle.np_answers.specs.declared.ask.Ask.{Ask}
 use Rattle.np_answers.specs.declared.ask.Turn.{Turn}
 use Rattle.np_answers.specs.Asks.{recorded}
-use Rattle.np_trace.specs.Move.{Move, asked, launched, removed}
-use Rattle.np_trace.specs.Walk.{Walk}
+use Rattle.np_answers.specs.Move.{Move, asked, launched, removed}
+use Rattle.np_answers.specs.Walk.{Walk}
 
 -- ## what a history begins with
 

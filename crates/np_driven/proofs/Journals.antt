@@ -8,7 +8,7 @@ use Rattle.np_cloud.specs.declared.driver.Server.{Server}
 use Rattle.np_machine.specs.History.{after}
 use Rattle.np_machine.specs.State.{start}
 use Rattle.np_machine.specs.Turns.{Turn, turns, turns_from, SomeTurn}
-use Rattle.np_trace.specs.Drive.{Driving}
+use Rattle.np_answers.specs.Drive.{Driving}
 use Rattle.np_useful.specs.Driven.{Says, DrivenFrom, DrivenBy, IsDrivenTurn, NamesServer, is_tick}
 use Rattle.np_driven.specs.Players.{Player, drivings_of, AreNumbered, HaveDriven, WasAnswered, WasNamed, AreNamed}
 use Rattle.np_driven.proofs.Places.{turn_after, turns-append, some-left}

@@ -5,7 +5,7 @@ use Rattle.np_site.specs.Configuration.{Configuration}
 use Rattle.np_event.specs.declared.entry.Entry.{Entry}
 use Rattle.np_desk.specs.History.{StartsWith}
 use Rattle.np_machine.specs.History.{Runs, after}
-use Rattle.np_trace.specs.Drive.{Driving}
+use Rattle.np_answers.specs.Drive.{Driving}
 use Rattle.np_driven.specs.Players.{Player, driving_in, drivings_of, AreNamed, HaveDriven}
 use Rattle.np_driven.specs.Round.{PlayerEnd, IsCutOff, IsRound}
 use Rattle.np_driven.proofs.Ends.{player_of, round-of}

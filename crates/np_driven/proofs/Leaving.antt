@@ -23,16 +23,16 @@ use Rattle.np_answers.specs.declared.ask.Turn.{Turn}
 use Rattle.np_answers.specs.declared.ask.Turn.TheVariants as turn
 use Rattle.np_answers.specs.Answers.{IsDue, answers, answers_sweep}
 use Rattle.np_answers.specs.Asks.{recorded}
-use Rattle.np_trace.specs.Drive.{IsOfServer, SweepsServers, servers_after}
-use Rattle.np_trace.specs.Move.{Move, asked, launched, removed, launches_of}
-use Rattle.np_trace.specs.Phase.{of_pool, is_unwanted}
-use Rattle.np_trace.specs.Trace.{IsAskOf, AreAsksOf, NamesServer, AreNamed, WasRemoved}
-use Rattle.np_trace.specs.Walk.{Walk}
-use Rattle.np_trace.proofs.Leaving.{stays_or_goes}
+use Rattle.np_answers.specs.Drive.{IsOfServer, SweepsServers, servers_after}
+use Rattle.np_answers.specs.Move.{Move, asked, launched, removed, launches_of}
+use Rattle.np_answers.specs.Phase.{of_pool, is_unwanted}
+use Rattle.np_answers.specs.Trace.{IsAskOf, AreAsksOf, NamesServer, AreNamed, WasRemoved}
+use Rattle.np_answers.specs.Walk.{Walk}
+use Rattle.np_answers.proofs.Leaving.{stays_or_goes}
 use Rattle.np_driven.specs.Servers.{WasLaunched, IsOfRound, WasDue, WasSwept}
 use Rattle.np_driven.proofs.Swept.{swept-stays, swept-after}
 use Rattle.np_desk.proofs.HistoryLemmas.{starts_on}
-use Rattle.np_trace.proofs.Gained.{turn_seen, walk_seen}
+use Rattle.np_answers.proofs.Gained.{turn_seen, walk_seen}
 
 -- ## members of lists
 

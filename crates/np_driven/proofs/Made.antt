@@ -12,9 +12,9 @@ use Rattle.np_desk.specs.History.{StartsWith}
 use Rattle.np_answers.specs.declared.ask.Ask.TheVariants as ask
 use Rattle.np_answers.specs.declared.ask.Turn.TheVariants as turn
 use Rattle.np_answers.specs.Answers.{answers_act, answers_sweep}
-use Rattle.np_trace.specs.declared.start.Start.{Start}
-use Rattle.np_trace.specs.Phase.{Work, of_pool, report_of, start_of}
-use Rattle.np_trace.specs.Trace.{IsAskOf}
+use Rattle.np_answers.specs.declared.start.Start.{Start}
+use Rattle.np_answers.specs.Phase.{Work, of_pool, report_of, start_of}
+use Rattle.np_answers.specs.Trace.{IsAskOf}
 use Rattle.np_driven.specs.Players.{WasNamed}
 
 -- the second place comes right after the first

@@ -15,8 +15,8 @@ use Rattle.np_machine.specs.History.{after}
 use Rattle.np_machine.specs.State.{start}
 use Rattle.np_machine.specs.Turns.{Turn, turns, turns_from, SomeTurn}
 use Rattle.np_useful.specs.Driven.{NamesServer}
-use Rattle.np_trace.specs.declared.start.Start.{Start}
-use Rattle.np_trace.specs.Phase.{report_of}
+use Rattle.np_answers.specs.declared.start.Start.{Start}
+use Rattle.np_answers.specs.Phase.{report_of}
 use Rattle.np_driven.specs.Players.{WasNamed}
 use Rattle.np_driven.proofs.Places.{turn_of, turns-append, some-left}
 

@@ -5,8 +5,8 @@ use Rattle.np_site.specs.Configuration.{Configuration}
 use Rattle.np_event.specs.declared.entry.Entry.{Entry}
 use Rattle.np_cloud.specs.declared.driver.Launch.{Launch}
 use Rattle.np_desk.specs.History.{StartsWith}
-use Rattle.np_trace.specs.Move.{launches_of}
-use Rattle.np_trace.specs.Phase.{Work}
+use Rattle.np_answers.specs.Move.{launches_of}
+use Rattle.np_answers.specs.Phase.{Work}
 use Rattle.np_driven.specs.Players.{Player, HaveDriven, driving_in, AreNamed, AreNumbered}
 use Rattle.np_driven.specs.Round.{PlayerEnd, PlaysFrom, IsRound}
 use Rattle.np_driven.proofs.Made.{IsActed, IsSwept, IsReported}

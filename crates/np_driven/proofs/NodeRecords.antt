@@ -31,14 +31,14 @@ use Rattle.np_changes.specs.declared.changes.SessionsChange.{SessionsChange}
 use Rattle.np_changes.specs.declared.changes.SessionsChange.TheVariants as sessions
 use Rattle.np_changes.proofs.PlanLaws.{plan-next}
 use Rattle.np_changes.proofs.PremisesOf.{premises}
-use Rattle.np_safe.specs.Parts.{RunsWhileBuilding, Invariant}
-use Rattle.np_safe.proofs.Lookups.{same_node-is, node_in-put, node_in-allocated, node_in-queue, node_in-left, node_in-freed, used_from, node_in-in_use, node_in-other, node_in-remove, node_in-removed}
-use Rattle.np_safe.proofs.NextNumbers.{above}
-use Rattle.np_safe.proofs.Numbered.{grown-numbered}
-use Rattle.np_safe.proofs.After.{next-more}
-use Rattle.np_safe.proofs.Puts.{Way}
-use Rattle.np_safe.proofs.Runs.{invariant-next, invariant-after}
-use Rattle.np_safe.proofs.Start.{invariant-start}
+use Rattle.np_laws.specs.Parts.{RunsWhileBuilding, Invariant}
+use Rattle.np_laws.proofs.Lookups.{same_node-is, node_in-put, node_in-allocated, node_in-queue, node_in-left, node_in-freed, used_from, node_in-in_use, node_in-other, node_in-remove, node_in-removed}
+use Rattle.np_laws.proofs.NextNumbers.{above}
+use Rattle.np_laws.proofs.Numbered.{grown-numbered}
+use Rattle.np_laws.proofs.After.{next-more}
+use Rattle.np_laws.proofs.Puts.{Way}
+use Rattle.np_laws.proofs.Runs.{invariant-next, invariant-after}
+use Rattle.np_laws.proofs.Start.{invariant-start}
 
 -- no change of a node takes it away from a record (own)
 pub record IsSteady (P : NodeRecord → Type 0) : Type 0 where

@@ -30,14 +30,14 @@ use Rattle.np_answers.specs.declared.ask.Turn.{Turn}
 use Rattle.np_answers.specs.declared.ask.Turn.TheVariants as turn
 use Rattle.np_answers.specs.Asks.{recorded}
 use Rattle.np_answers.specs.Answers.{answers, answers_act, answers_do, answers_due, answers_sweep}
-use Rattle.np_trace.specs.declared.start.Start.{Start}
-use Rattle.np_trace.specs.Move.{Move, asked, launched, removed}
-use Rattle.np_trace.specs.Phase.{Work, of_pool, of_requester, of_reaper, Phase, owes_launch, owes_report, acting, first_phase, after_turn, after_launch, after_removal, start_of, report_of, Leads}
-use Rattle.np_trace.specs.Trace.{IsAskOf, AreAsksOf}
-use Rattle.np_trace.specs.Walk.{Walk}
-use Rattle.np_trace.proofs.Gained.{walk_seen}
-use Rattle.np_trace.proofs.Steps.{TurnCases, of_turn, of_launch, of_removal, goes_on}
-use Rattle.np_trace.proofs.Works.{asks_of}
+use Rattle.np_answers.specs.declared.start.Start.{Start}
+use Rattle.np_answers.specs.Move.{Move, asked, launched, removed}
+use Rattle.np_answers.specs.Phase.{Work, of_pool, of_requester, of_reaper, Phase, owes_launch, owes_report, acting, first_phase, after_turn, after_launch, after_removal, start_of, report_of, Leads}
+use Rattle.np_answers.specs.Trace.{IsAskOf, AreAsksOf}
+use Rattle.np_answers.specs.Walk.{Walk}
+use Rattle.np_answers.proofs.Gained.{walk_seen}
+use Rattle.np_answers.proofs.Steps.{TurnCases, of_turn, of_launch, of_removal, goes_on}
+use Rattle.np_answers.proofs.Works.{asks_of}
 use Rattle.np_driven.specs.Makers.{IsOfRole, IsOfWorker}
 use Rattle.np_driven.specs.Players.{Player}
 use Rattle.np_driven.specs.Round.{PlayerEnd, PlaysFrom, IsRound, fresh_sight}

@@ -13,8 +13,8 @@ use Rattle.np_event.specs.declared.reply.Reply.TheVariants as reply
 use Rattle.np_machine.specs.State.{State, start}
 use Rattle.np_machine.specs.Step.{judge, next, reply_of}
 use Rattle.np_machine.specs.History.{state_after, replayed, after, Runs}
-use Rattle.np_safe.proofs.Replies.{head-reply, tail-replies}
-use Rattle.np_safe.proofs.Runs.{invariant-next}
+use Rattle.np_laws.proofs.Replies.{head-reply, tail-replies}
+use Rattle.np_laws.proofs.Runs.{invariant-next}
 use Rattle.np_driven.proofs.NodeRecords.{IsSpent, spent-over, state_after-append, holds-after}
 use Rattle.np_driven.proofs.Starts.{start-spends, start-fresh, done-spends}
 

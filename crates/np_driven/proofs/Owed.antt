@@ -15,9 +15,9 @@ use Rattle.np_desk.specs.Turned.{Unturned}
 use Rattle.np_answers.specs.declared.ask.Ask.TheVariants as ask
 use Rattle.np_answers.specs.declared.ask.Turn.TheVariants as turn
 use Rattle.np_answers.specs.Answers.{IsFull, answers_act}
-use Rattle.np_trace.specs.declared.start.Start.{Start}
-use Rattle.np_trace.specs.Phase.{Work, of_pool, of_requester, of_reaper, Phase, acts, owes_launch, owes_report, looks, owes_due, sweeps, owes_swept, rests, ended, acting, after_role, first_phase, start_of}
-use Rattle.np_trace.specs.Trace.{IsAskOf}
+use Rattle.np_answers.specs.declared.start.Start.{Start}
+use Rattle.np_answers.specs.Phase.{Work, of_pool, of_requester, of_reaper, Phase, acts, owes_launch, owes_report, looks, owes_due, sweeps, owes_swept, rests, ended, acting, after_role, first_phase, start_of}
+use Rattle.np_answers.specs.Trace.{IsAskOf}
 use Rattle.np_driven.specs.Players.{WasNamed}
 use Rattle.np_driven.proofs.Histories.{starts_length}
 use Rattle.np_driven.proofs.Named.{all_named_later}

@@ -9,7 +9,7 @@ use Rattle.np_cloud.specs.declared.driver.Tag.{Tag}
 use Rattle.np_cloud.specs.Clouds.{ArePlanned}
 use Rattle.np_machine.specs.Plan.{outcome_of}
 use Rattle.np_machine.specs.Turns.{turns}
-use Rattle.np_trace.specs.Drive.{Driving}
+use Rattle.np_answers.specs.Drive.{Driving}
 use Rattle.np_useful.specs.Driven.{DrivenBy, Driven, as_planned}
 use Rattle.np_driven.specs.Players.{WasAnswered, launch_of}
 use Rattle.np_driven.proofs.Places.{driven-more}

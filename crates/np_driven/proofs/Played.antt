@@ -8,12 +8,12 @@ use Rattle.np_cloud.specs.declared.driver.Server.{Server}
 use Rattle.np_desk.specs.History.{StartsWith, AreRising}
 use Rattle.np_desk.specs.Pass.{Sight}
 use Rattle.np_answers.specs.Answers.{answers}
-use Rattle.np_trace.specs.Drive.{Driving, Drives, Drove, servers_after}
-use Rattle.np_trace.specs.Move.{launches_of}
-use Rattle.np_trace.specs.Phase.{Work, Phase, acts, owes_launch, owes_report, looks, owes_due, sweeps, owes_swept, rests, ended, first_phase}
+use Rattle.np_answers.specs.Drive.{Driving, Drives, Drove, servers_after}
+use Rattle.np_answers.specs.Move.{launches_of}
+use Rattle.np_answers.specs.Phase.{Work, Phase, acts, owes_launch, owes_report, looks, owes_due, sweeps, owes_swept, rests, ended, first_phase}
 use Rattle.np_driven.specs.Players.{Player, WasNamed, AreNamed, driving_in}
 use Rattle.np_driven.specs.Round.{PlayerEnd, PlaysFrom, IsCutOff, fresh_sight}
-use Rattle.np_trace.proofs.Gained.{walk_seen}
+use Rattle.np_answers.proofs.Gained.{walk_seen}
 use Rattle.np_driven.proofs.Histories.{starts_equal, Rises, walk_rises, rising_lower, rising_least}
 use Rattle.np_driven.proofs.Answered.{HasAnswered, IsPlanned, answer_stays, answers_launches, launches_planned, launches_planned_now}
 use Rattle.np_driven.proofs.Causes.{HasMade}

@@ -36,8 +36,8 @@ use Rattle.np_changes.specs.declared.changes.SessionsChange.TheVariants as sessi
 use Rattle.np_changes.proofs.Makers.{launcher-role}
 use Rattle.np_changes.proofs.PlanLaws.{plan-next}
 use Rattle.np_changes.proofs.Tested.{ok-is, on-given, on-found, on-need}
-use Rattle.np_safe.proofs.Ids.{same_pool, row-of}
-use Rattle.np_safe.proofs.Sessions.{facts_in, facts-grown}
+use Rattle.np_laws.proofs.Ids.{same_pool, row-of}
+use Rattle.np_laws.proofs.Sessions.{facts_in, facts-grown}
 use Rattle.np_useful.specs.Sessions.{is_current}
 use Rattle.np_useful.specs.Launcher.{is_by_registrant}
 use Rattle.np_useful.specs.Useful.{IsUseful}

@@ -14,8 +14,8 @@ use Rattle.np_machine.specs.State.{start as start_state}
 use Rattle.np_machine.specs.Turns.{turns, EachTurn, SomeTurn}
 use Rattle.np_useful.specs.Driven.{DrivenBy, IsDrivenTurn, IsSweepOfServer, IsReportOfLaunch, BeginsLaunch, is_tick, is_report_of}
 use Rattle.np_useful.specs.Useful.{IsUseful}
-use Rattle.np_trace.specs.Move.{launches_of}
-use Rattle.np_trace.specs.Phase.{Work, of_pool}
+use Rattle.np_answers.specs.Move.{launches_of}
+use Rattle.np_answers.specs.Phase.{Work, of_pool}
 use Rattle.np_driven.specs.Players.{Player, HaveDriven, drivings_of, AreNumbered, WasAnswered, launch_of}
 use Rattle.np_driven.specs.Round.{PlayerEnd, IsRound}
 use Rattle.np_driven.proofs.Made.{IsActed, IsSwept, IsReported, Follows}

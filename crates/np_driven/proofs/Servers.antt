@@ -8,9 +8,9 @@ use Rattle.np_text.specs.declared.id.RequesterId.{RequesterId}
 use Rattle.np_site.specs.Configuration.{Configuration}
 use Rattle.np_event.specs.declared.entry.Entry.{Entry}
 use Rattle.np_cloud.specs.declared.driver.Server.{Server}
-use Rattle.np_trace.specs.Drive.{Driving, servers_after, SweepsServers, Drives, Drove}
-use Rattle.np_trace.specs.Move.{Move}
-use Rattle.np_trace.specs.Phase.{Work, of_pool, of_requester, of_reaper}
+use Rattle.np_answers.specs.Drive.{Driving, servers_after, SweepsServers, Drives, Drove}
+use Rattle.np_answers.specs.Move.{Move}
+use Rattle.np_answers.specs.Phase.{Work, of_pool, of_requester, of_reaper}
 use Rattle.np_driven.specs.Players.{WasNamed, AreNamed, driving_in, IsNumbered}
 
 -- a pool's worker has a driver

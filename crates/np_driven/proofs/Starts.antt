@@ -23,9 +23,9 @@ use Rattle.np_machine.specs.Tests.{Answer, launcher, after_found, after_given}
 use Rattle.np_machine.specs.Node.{starts_of, judge_start, judge_done, started, start_by}
 use Rattle.np_machine.specs.Step.{judge, next, acting, with_act, reply_of}
 use Rattle.np_changes.proofs.Tested.{ok-is, on-given, on-found, on-need}
-use Rattle.np_safe.specs.Parts.{IsNumbered}
-use Rattle.np_safe.proofs.Lookups.{node_in-put, node_in-below}
-use Rattle.np_safe.proofs.Replies.{accepted-state}
+use Rattle.np_laws.specs.Parts.{IsNumbered}
+use Rattle.np_laws.proofs.Lookups.{node_in-put, node_in-below}
+use Rattle.np_laws.proofs.Replies.{accepted-state}
 use Rattle.np_driven.proofs.NodeRecords.{IsSpent}
 
 -- an answer with the reply of what was done

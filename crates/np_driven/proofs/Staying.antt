@@ -18,13 +18,13 @@ use Rattle.np_answers.specs.declared.ask.Turn.{Turn}
 use Rattle.np_answers.specs.declared.ask.Turn.TheVariants as turn
 use Rattle.np_answers.specs.Answers.{answers, answers_sweep}
 use Rattle.np_answers.specs.Asks.{recorded}
-use Rattle.np_trace.specs.Move.{Move, asked, launched, removed}
-use Rattle.np_trace.specs.Phase.{is_remove, is_unwanted}
-use Rattle.np_trace.specs.Trace.{AreInOrder, WasFull, stage_of}
-use Rattle.np_trace.specs.Walk.{Walk}
+use Rattle.np_answers.specs.Move.{Move, asked, launched, removed}
+use Rattle.np_answers.specs.Phase.{is_remove, is_unwanted}
+use Rattle.np_answers.specs.Trace.{AreInOrder, WasFull, stage_of}
+use Rattle.np_answers.specs.Walk.{Walk}
 use Rattle.np_driven.specs.Servers.{IsSweepAt, StaysKept}
 use Rattle.np_desk.proofs.HistoryLemmas.{starts_on}
-use Rattle.np_trace.proofs.Gained.{get_last, turn_seen, walk_seen}
+use Rattle.np_answers.proofs.Gained.{get_last, turn_seen, walk_seen}
 
 -- ## one's own places
 

@@ -21,9 +21,9 @@ use Rattle.np_answers.specs.declared.ask.Turn.{Turn}
 use Rattle.np_answers.specs.declared.ask.Turn.TheVariants as turn
 use Rattle.np_answers.specs.Asks.{recorded}
 use Rattle.np_answers.specs.Answers.{IsFull, answers, answers_act, answers_sweep}
-use Rattle.np_trace.specs.declared.start.Start.{Start}
-use Rattle.np_trace.specs.Drive.{IsOfServer}
-use Rattle.np_trace.specs.Phase.{Work, of_pool, Phase, acts, owes_launch, owes_report, looks, owes_due, sweeps, owes_swept, rests, ended, after_start, after_entry, after_act, after_report, after_look, after_sweep, after_turn, is_remove, start_of, report_of, MayAsk}
+use Rattle.np_answers.specs.declared.start.Start.{Start}
+use Rattle.np_answers.specs.Drive.{IsOfServer}
+use Rattle.np_answers.specs.Phase.{Work, of_pool, Phase, acts, owes_launch, owes_report, looks, owes_due, sweeps, owes_swept, rests, ended, after_start, after_entry, after_act, after_report, after_look, after_sweep, after_turn, is_remove, start_of, report_of, MayAsk}
 use Rattle.np_driven.specs.Players.{WasNamed}
 use Rattle.np_driven.proofs.Histories.{starts_equal}
 use Rattle.np_driven.proofs.Named.{all_named_later, named_later, report_names}

@@ -23,7 +23,7 @@ use Rattle.np_machine.specs.Session.{crashed, expired}
 use Rattle.np_machine.specs.Step.{judge, effect, acting, with_act, next, reply_of}
 use Rattle.np_machine.specs.History.{state_after, after}
 use Rattle.np_machine.proofs.Steps.{after_found-keeps, after_given-keeps, next-keeps}
-use Rattle.np_trace.specs.Phase.{is_remove}
+use Rattle.np_answers.specs.Phase.{is_remove}
 use Rattle.np_driven.proofs.NodeRecords.{state_after-append}
 
 -- ## a pair more

@@ -24,12 +24,12 @@ use Rattle.np_machine.specs.Step.{judge}
 use Rattle.np_machine.specs.Tables.{node_in}
 use Rattle.np_machine.specs.Turns.{turns}
 use Rattle.np_changes.specs.declared.changes.Changes.{Changes}
-use Rattle.np_safe.proofs.Lookups.{node_in-below}
-use Rattle.np_safe.proofs.Puts.{Way}
+use Rattle.np_laws.proofs.Lookups.{node_in-below}
+use Rattle.np_laws.proofs.Puts.{Way}
 use Rattle.np_useful.specs.Driven.{Says, DrivenBy, IsDrivenTurn, IsOfUse, IsTickBetween, IsSweepOfServer, IsReportOfLaunch, BeginsLaunch, NamesServer}
 use Rattle.np_answers.specs.Answers.{IsKept}
-use Rattle.np_trace.specs.Phase.{ended}
-use Rattle.np_trace.specs.Trace.{WasKept}
+use Rattle.np_answers.specs.Phase.{ended}
+use Rattle.np_answers.specs.Trace.{WasKept}
 use Rattle.np_driven.specs.Players.{Player, WasNamed}
 use Rattle.np_driven.specs.Round.{PlayerEnd, PlaysFrom}
 use Rattle.np_driven.specs.Servers.{StaysKept, WasUnwanted, KeepsJanitor}

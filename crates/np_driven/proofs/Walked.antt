@@ -13,10 +13,10 @@ use Rattle.np_cloud.specs.Calls.{with_launched, without_number}
 use Rattle.np_desk.specs.Pass.{Sight}
 use Rattle.np_desk.specs.Turned.{Unturned}
 use Rattle.np_answers.specs.Answers.{answers}
-use Rattle.np_trace.specs.Drive.{servers_after, SweepsServers}
-use Rattle.np_trace.specs.Move.{Move, asked, launched, removed, launches_of}
-use Rattle.np_trace.specs.Phase.{Work, of_pool, Phase, acts, owes_launch, owes_report, looks, owes_due, sweeps, owes_swept, rests, ended, after_turn, after_launch, after_removal, MayLaunch, MayRemove, Leads}
-use Rattle.np_trace.specs.Walk.{Walk}
+use Rattle.np_answers.specs.Drive.{servers_after, SweepsServers}
+use Rattle.np_answers.specs.Move.{Move, asked, launched, removed, launches_of}
+use Rattle.np_answers.specs.Phase.{Work, of_pool, Phase, acts, owes_launch, owes_report, looks, owes_due, sweeps, owes_swept, rests, ended, after_turn, after_launch, after_removal, MayLaunch, MayRemove, Leads}
+use Rattle.np_answers.specs.Walk.{Walk}
 use Rattle.np_driven.specs.Players.{WasNamed}
 use Rattle.np_driven.proofs.Histories.{starts_equal}
 use Rattle.np_driven.proofs.Causes.{quiet_made}

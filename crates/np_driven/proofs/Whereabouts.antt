@@ -9,15 +9,15 @@ use Rattle.np_event.specs.declared.entry.Entry.{Entry}
 use Rattle.np_cloud.specs.declared.driver.Server.{Server}
 use Rattle.np_desk.specs.Pass.{Sight}
 use Rattle.np_answers.specs.Answers.{answers}
-use Rattle.np_trace.specs.Drive.{Driving, Drives, Drove, SweepsServers, servers_after}
-use Rattle.np_trace.specs.Move.{Move}
-use Rattle.np_trace.specs.Phase.{Work, of_pool, Phase, Leads, ended, first_phase}
-use Rattle.np_trace.specs.Walk.{Walk}
-use Rattle.np_trace.proofs.Ends.{is_at_end}
-use Rattle.np_trace.proofs.Order.{in_order}
-use Rattle.np_trace.proofs.Removals.{are_named}
-use Rattle.np_trace.proofs.Works.{asks_of}
-use Rattle.np_trace.specs.Trace.{WasKept}
+use Rattle.np_answers.specs.Drive.{Driving, Drives, Drove, SweepsServers, servers_after}
+use Rattle.np_answers.specs.Move.{Move}
+use Rattle.np_answers.specs.Phase.{Work, of_pool, Phase, Leads, ended, first_phase}
+use Rattle.np_answers.specs.Walk.{Walk}
+use Rattle.np_answers.proofs.Ends.{is_at_end}
+use Rattle.np_answers.proofs.Order.{in_order}
+use Rattle.np_answers.proofs.Removals.{are_named}
+use Rattle.np_answers.proofs.Works.{asks_of}
+use Rattle.np_answers.specs.Trace.{WasKept}
 use Rattle.np_driven.specs.Players.{Player}
 use Rattle.np_driven.specs.Round.{PlayerEnd, PlaysFrom, fresh_sight}
 use Rattle.np_driven.specs.Servers.{HasServers, IsOfRound, IsOnlyOfItsNumber, IsOnlyNodeOfItsNumber, WasDue, IsSweptAfter, LeftWithCause, StaysKept}

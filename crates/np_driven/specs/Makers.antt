@@ -13,8 +13,8 @@ use Rattle.np_machine.specs.Tables.{role_of}
 use Rattle.np_machine.specs.History.{after}
 use Rattle.np_desk.specs.History.{StartsWith}
 use Rattle.np_answers.specs.declared.ask.Ask.TheVariants as ask
-use Rattle.np_trace.specs.Phase.{Work}
-use Rattle.np_trace.specs.Trace.{IsAskOf}
+use Rattle.np_answers.specs.Phase.{Work}
+use Rattle.np_answers.specs.Trace.{IsAskOf}
 
 -- the event is the role's: the session that makes it is of the role, a session that it opens is of the role, and sessions are crashed and expired by the reaper alone (own)
 pub record IsOfRole (role : Role) (s : State) (e : Event) : Type 0 where

@@ -9,8 +9,8 @@ use Rattle.np_cloud.specs.declared.driver.Launch.{Launch}
 use Rattle.np_cloud.specs.declared.driver.Server.{Server}
 use Rattle.np_machine.specs.Turns.{turns, SomeTurn}
 use Rattle.np_useful.specs.Driven.{NamesServer, DrivenBy}
-use Rattle.np_trace.specs.Drive.{Driving}
-use Rattle.np_trace.specs.Phase.{Work, of_pool, of_requester, of_reaper}
+use Rattle.np_answers.specs.Drive.{Driving}
+use Rattle.np_answers.specs.Phase.{Work, of_pool, of_requester, of_reaper}
 
 -- a worker: whose it is, and what it drives (own)
 pub record Player : Type 0 where

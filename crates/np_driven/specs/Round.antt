@@ -5,10 +5,10 @@ use Rattle.np_event.specs.declared.entry.Entry.{Entry}
 use Rattle.np_desk.specs.History.{StartsWith}
 use Rattle.np_desk.specs.Pass.{Sight}
 use Rattle.np_answers.specs.Answers.{answers}
-use Rattle.np_trace.specs.Drive.{Drove}
-use Rattle.np_trace.specs.Move.{Move}
-use Rattle.np_trace.specs.Phase.{Phase, Leads, first_phase, owes_launch, owes_report, ended}
-use Rattle.np_trace.specs.Walk.{Walk}
+use Rattle.np_answers.specs.Drive.{Drove}
+use Rattle.np_answers.specs.Move.{Move}
+use Rattle.np_answers.specs.Phase.{Phase, Leads, first_phase, owes_launch, owes_report, ended}
+use Rattle.np_answers.specs.Walk.{Walk}
 use Rattle.np_driven.specs.Players.{Player}
 
 -- a player after its round: what it saw and made of the history, and the phase that its moves led

@@ -17,8 +17,8 @@ use Rattle.np_useful.specs.Sessions.{has_current}
 use Rattle.np_desk.specs.History.{StartsWith}
 use Rattle.np_desk.specs.Pass.{Sight}
 use Rattle.np_answers.specs.Answers.{IsDue, IsKept}
-use Rattle.np_trace.specs.Drive.{Driving}
-use Rattle.np_trace.specs.Move.{Move, launches_of}
+use Rattle.np_answers.specs.Drive.{Driving}
+use Rattle.np_answers.specs.Move.{Move, launches_of}
 use Rattle.np_driven.specs.Players.{Player, WasNamed}
 
 -- ## which servers

@@ -3,7 +3,7 @@
 //! np_useful says when a journal was driven (`Driven`, and `DrivenBy` over any clouds). The laws
 //! here say that rounds of all players drive one. `specs/Players` says who plays and what is known
 //! of what they drive, `specs/Round` what a round of all players is, as lists of moves at one
-//! history (np_trace) and without threads, `specs/Servers` what became of a driver's servers in it,
+//! history (np_answers) and without threads, `specs/Servers` what became of a driver's servers in it,
 //! `specs/Makers` which role its entries are of. `law` states that such a round continues a driven
 //! journal, that each entry of a worker's round is of a role that the worker acts for, and why
 //! servers left or stayed. np_rounds plays such rounds over threads.

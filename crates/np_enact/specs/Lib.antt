@@ -2,3 +2,4 @@ pub mod Parts
 pub mod Stands
 pub mod Ways
 pub mod Events
+pub mod Ready

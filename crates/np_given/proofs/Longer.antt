@@ -26,10 +26,10 @@ use Rattle.np_changes.specs.declared.changes.NodesChange.{NodesChange}
 use Rattle.np_changes.specs.declared.changes.NodesChange.TheVariants as nodes
 use Rattle.np_changes.specs.declared.changes.SessionsChange.{SessionsChange}
 use Rattle.np_changes.specs.declared.changes.SessionsChange.TheVariants as sessions
-use Rattle.np_safe.specs.Parts.{IsNumbered}
-use Rattle.np_safe.proofs.Lookups.{node_in-later, node_in-queue, node_in-allocated, node_queue-allocated, node_queue-freed, node_queue-in_use, node_queue-left, node_queue-new, node_queue-nowhere, node_queue-other, node_queue-put, node_queue-queue, node_queue-remove, node_queue-removed, same_node-is}
-use Rattle.np_safe.proofs.Numbered.{grown-numbered}
-use Rattle.np_safe.proofs.Runs.{invariant-Runs}
+use Rattle.np_laws.specs.Parts.{IsNumbered}
+use Rattle.np_laws.proofs.Lookups.{node_in-later, node_in-queue, node_in-allocated, node_queue-allocated, node_queue-freed, node_queue-in_use, node_queue-left, node_queue-new, node_queue-nowhere, node_queue-other, node_queue-put, node_queue-queue, node_queue-remove, node_queue-removed, same_node-is}
+use Rattle.np_laws.proofs.Numbered.{grown-numbered}
+use Rattle.np_laws.proofs.Runs.{invariant-Runs}
 
 -- ## one queue
 

@@ -14,8 +14,8 @@ use Rattle.np_machine.specs.Tables.{node_in, node_queue}
 use Rattle.np_changes.specs.Changes.{changed}
 use Rattle.np_changes.specs.Planned.{IsReached}
 use Rattle.np_changes.specs.declared.changes.Changes.{Changes}
-use Rattle.np_safe.proofs.Numbered.{numbered}
-use Rattle.np_safe.proofs.Runs.{invariant-Runs}
+use Rattle.np_laws.proofs.Numbered.{numbered}
+use Rattle.np_laws.proofs.Runs.{invariant-Runs}
 use Rattle.np_classes.specs.Classes.{is_among}
 use Rattle.np_classes.specs.Placed.{Placed, members_of, with_all, without_all}
 use Rattle.np_classes.proofs.Folds.{moved, rises-with_all, rises-without_all}

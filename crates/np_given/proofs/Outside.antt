@@ -25,7 +25,7 @@ use Rattle.np_look.specs.Readers.{queued_nodes}
 use Rattle.np_classes.specs.Classes.{is_among}
 use Rattle.np_classes.proofs.Apart.{node-apart, same_node-self}
 use Rattle.np_classes.proofs.Rows.{ids-in_order, row-passes, rows-found}
-use Rattle.np_ranks.specs.Ranks.{outside}
+use Rattle.np_groups.specs.Ranks.{outside}
 use Rattle.np_given.specs.Given.{AreGivenGroups, given_group, given_groups, groups_by, locked_group}
 
 -- ## the groups of one node

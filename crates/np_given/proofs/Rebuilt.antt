@@ -15,7 +15,7 @@ use Rattle.np_machine.specs.Entries.{NodeEntry}
 use Rattle.np_machine.specs.State.{State}
 use Rattle.np_machine.specs.Tables.{node_entry, node_queue}
 use Rattle.np_changes.specs.Planned.{IsReached}
-use Rattle.np_safe.proofs.Runs.{invariant-Runs}
+use Rattle.np_laws.proofs.Runs.{invariant-Runs}
 use Rattle.np_classes.specs.Classes.{is_among}
 use Rattle.np_classes.specs.Placed.{Placed, members_of, with_all, without_all}
 use Rattle.np_classes.proofs.Folds.{moved, rises-with_all}

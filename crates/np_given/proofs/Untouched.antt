@@ -31,11 +31,11 @@ use Rattle.np_changes.specs.declared.changes.RequestEdit.{RequestEdit}
 use Rattle.np_changes.specs.declared.changes.RequestEdit.TheVariants as edit
 use Rattle.np_changes.specs.declared.changes.RequestsChange.{RequestsChange}
 use Rattle.np_changes.specs.declared.changes.RequestsChange.TheVariants as requests
-use Rattle.np_safe.specs.Parts.{Invariant, IsListed}
-use Rattle.np_safe.proofs.After.{calm-request, found-grown, left-request}
-use Rattle.np_safe.proofs.JobsLater.{jobs-grown}
-use Rattle.np_safe.proofs.Lookups.{request_in-edit, request_in-remove, same_request-is, same_request-self}
-use Rattle.np_safe.proofs.Runs.{invariant-Runs}
+use Rattle.np_laws.specs.Parts.{Invariant, IsListed}
+use Rattle.np_laws.proofs.After.{calm-request, found-grown, left-request}
+use Rattle.np_laws.proofs.JobsLater.{jobs-grown}
+use Rattle.np_laws.proofs.Lookups.{request_in-edit, request_in-remove, same_request-is, same_request-self}
+use Rattle.np_laws.proofs.Runs.{invariant-Runs}
 use Rattle.np_look.specs.Given.{asker, given_to, handed_to}
 use Rattle.np_classes.specs.Touched.{changes_node, ends_at_node, grows_node, touches_node, unclaims_node}
 use Rattle.np_classes.proofs.Untouched.{node-untouched}

@@ -4,3 +4,5 @@ pub mod Ids
 pub mod Search
 pub mod Walk
 mod RowLemmas
+pub mod RankLemmas
+pub mod MemberLemmas

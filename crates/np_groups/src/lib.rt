@@ -1,12 +1,18 @@
 //! Ids in groups: each group has its ids in order, and the room for more is taken beforehand.
 //!
 //! Contracts see a `Groups` as the list of its members and the room that is left. `specs/Groups`
-//! says what each call changes of it, `proofs/` what is then in each group.
+//! says what each call changes of it, `proofs/` what is then in each group. The members are in a
+//! `Shelf`, and the memory for more is in pieces of another (`stock`).
 //!
-//! The members are in a `Shelf`, and the memory for more is in pieces of another (`stock`).
+//! `ranks` finds the ids of a list, or of a group, that are not in another group, by binary search:
+//! both are in order, so the ids of the inner group before a place of the outer are counted without
+//! visiting them. `specs/Ranks` defines which ids are outside.
 #![tactic(auto)]
 
 mod groups;
+mod listing;
+mod ranks;
 mod stock;
 
 pub use groups::{Group, Groups, Member};
+pub use ranks::{outside_at, outside_list_at};

@@ -31,10 +31,10 @@ use Rattle.np_useful.specs.Useful.{IsUseful}
 use Rattle.np_answers.specs.declared.ask.Ask.TheVariants as ask
 use Rattle.np_answers.specs.declared.ask.Turn.TheVariants as turn
 use Rattle.np_answers.specs.Answers.{IsReplied}
-use Rattle.np_trace.specs.declared.start.Start.{Start}
-use Rattle.np_trace.specs.Drive.{IsSoundAlone}
-use Rattle.np_trace.specs.Phase.{start_in, start_of, report_of}
-use Rattle.np_trace.specs.Trace.{start_made}
+use Rattle.np_answers.specs.declared.start.Start.{Start}
+use Rattle.np_answers.specs.Drive.{IsSoundAlone}
+use Rattle.np_answers.specs.Phase.{start_in, start_of, report_of}
+use Rattle.np_answers.specs.Trace.{start_made}
 use Rattle.np_driven.proofs.Events.{start-parts}
 use Rattle.np_driven.proofs.Roles.{useful-start, useful-done, useful-start_role}
 use Rattle.np_hosts.specs.Reports.{reported, number_in, numbers_in, reports_of, AreAloneSound, FailAfter}

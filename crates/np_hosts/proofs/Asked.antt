@@ -27,11 +27,11 @@ use Rattle.np_answers.specs.declared.ask.Turn.{Turn}
 use Rattle.np_answers.specs.declared.ask.Turn.TheVariants as turn
 use Rattle.np_answers.specs.Asks.{recorded}
 use Rattle.np_answers.specs.Answers.{answers, answers_sweep}
-use Rattle.np_trace.specs.declared.start.Start.{Start}
-use Rattle.np_trace.specs.Drive.{IsOfServer}
-use Rattle.np_trace.specs.Phase.{of_pool, Phase, acts, owes_launch, owes_report, looks, owes_due, sweeps, owes_swept, ended, acting, start_of, report_of, is_unwanted}
-use Rattle.np_trace.specs.Trace.{IsAskOf, start_made, is_idle}
-use Rattle.np_trace.proofs.Steps.{TurnCases, goes_on}
+use Rattle.np_answers.specs.declared.start.Start.{Start}
+use Rattle.np_answers.specs.Drive.{IsOfServer}
+use Rattle.np_answers.specs.Phase.{of_pool, Phase, acts, owes_launch, owes_report, looks, owes_due, sweeps, owes_swept, ended, acting, start_of, report_of, is_unwanted}
+use Rattle.np_answers.specs.Trace.{IsAskOf, start_made, is_idle}
+use Rattle.np_answers.proofs.Steps.{TurnCases, goes_on}
 use Rattle.np_driven.proofs.Roles.{current-role}
 use Rattle.np_hosts.specs.Reports.{reported}
 use Rattle.np_hosts.proofs.Idle.{NoLauncherWaits}

@@ -40,11 +40,11 @@ use Rattle.np_machine.specs.Semaphore.{judge_take, all_in_use, acquired, take_fo
 use Rattle.np_machine.specs.Session.{node_left, crashed, expired}
 use Rattle.np_machine.specs.Step.{judge, effect, next}
 use Rattle.np_machine.proofs.Steps.{after_found-keeps, after_given-keeps, next-keeps}
-use Rattle.np_safe.specs.Parts.{RunsWhileBuilding, Invariant}
-use Rattle.np_safe.proofs.Accepted.{take_ready-stands, take_ready-free}
-use Rattle.np_safe.proofs.StandsOn.{owns-if, owned-node}
+use Rattle.np_laws.specs.Parts.{RunsWhileBuilding, Invariant}
+use Rattle.np_laws.proofs.Accepted.{take_ready-stands, take_ready-free}
+use Rattle.np_laws.proofs.StandsOn.{owns-if, owned-node}
 use Rattle.np_changes.proofs.Tested.{on-given, on-found, on-need}
-use Rattle.np_safe.proofs.Lookups.{same_node-is, node_in-put, node_in-allocated, node_in-queue, node_in-left, node_in-freed, used_from, node_in-in_use, node_in-other, node_in-new, node_in-later, node_in-remove, node_in-removed, node_queue-put, node_queue-freed, node_queue-in_use, node_queue-allocated, node_queue-queue, node_queue-nowhere, node_queue-left, node_queue-other, node_queue-new, node_queue-remove}
+use Rattle.np_laws.proofs.Lookups.{same_node-is, node_in-put, node_in-allocated, node_in-queue, node_in-left, node_in-freed, used_from, node_in-in_use, node_in-other, node_in-new, node_in-later, node_in-remove, node_in-removed, node_queue-put, node_queue-freed, node_queue-in_use, node_queue-allocated, node_queue-queue, node_queue-nowhere, node_queue-left, node_queue-other, node_queue-new, node_queue-remove}
 use Rattle.np_hosts.specs.Nodes.{is_up}
 
 -- ## one record

@@ -24,8 +24,8 @@ use Rattle.np_machine.specs.Kinds.{is_building, is_deleting}
 use Rattle.np_machine.specs.Node.{is_server, is_wanted}
 use Rattle.np_machine.specs.Tables.{node_in}
 use Rattle.np_machine.specs.History.{after}
-use Rattle.np_trace.specs.declared.start.Start.{Start}
-use Rattle.np_trace.specs.Drive.{IsSoundAlone, FailsFull}
+use Rattle.np_answers.specs.declared.start.Start.{Start}
+use Rattle.np_answers.specs.Drive.{IsSoundAlone, FailsFull}
 use Rattle.np_hosts.specs.Nodes.{is_up}
 use Rattle.np_hosts.specs.Reports.{number_in, numbers_in, reports_of}
 use Rattle.np_hosts.specs.Hosting.{IsServerOf}

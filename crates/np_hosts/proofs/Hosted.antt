@@ -26,11 +26,11 @@ use Rattle.np_machine.specs.Turns.{turns}
 use Rattle.np_changes.proofs.Makers.{launcher-role}
 use Rattle.np_useful.specs.Driven.{Says, DrivenBy, is_tick}
 use Rattle.np_answers.specs.Answers.{answers}
-use Rattle.np_trace.specs.Drive.{Driving, Drives, Drove, servers_after, SweepsServers, AreSoundAlone, FailFull}
-use Rattle.np_trace.specs.Move.{launches_of}
-use Rattle.np_trace.specs.Phase.{Work, of_pool, of_requester, of_reaper, Phase, acts, owes_launch, owes_report, looks, owes_due, sweeps, owes_swept, rests, ended, first_phase, Leads}
-use Rattle.np_trace.proofs.Works.{asks_of}
-use Rattle.np_trace.proofs.Gained.{walk_seen}
+use Rattle.np_answers.specs.Drive.{Driving, Drives, Drove, servers_after, SweepsServers, AreSoundAlone, FailFull}
+use Rattle.np_answers.specs.Move.{launches_of}
+use Rattle.np_answers.specs.Phase.{Work, of_pool, of_requester, of_reaper, Phase, acts, owes_launch, owes_report, looks, owes_due, sweeps, owes_swept, rests, ended, first_phase, Leads}
+use Rattle.np_answers.proofs.Works.{asks_of}
+use Rattle.np_answers.proofs.Gained.{walk_seen}
 use Rattle.np_driven.specs.Players.{Player, driving_in, drivings_of, IsNumbered, next_number, AreNumbered, HaveDriven, WasAnswered}
 use Rattle.np_driven.specs.Round.{PlayerEnd, PlaysFrom, EachPlaysFrom, IsCutOff, IsRound, fresh_sight}
 use Rattle.np_driven.proofs.Ends.{player_of}

@@ -38,10 +38,10 @@ use Rattle.np_changes.specs.declared.changes.SessionsChange.TheVariants as sessi
 use Rattle.np_changes.proofs.Makers.{launcher-role}
 use Rattle.np_changes.proofs.PlanLaws.{plan-next}
 use Rattle.np_changes.proofs.Tested.{ok-is, on-given, on-found, on-need}
-use Rattle.np_safe.specs.Parts.{IsLive, IsQueue, Invariant}
-use Rattle.np_safe.proofs.Firsts.{session-is, is_first}
-use Rattle.np_safe.proofs.Lookups.{same_node-is, node_in-queue, node_queue-queue, node_queue-nowhere}
-use Rattle.np_safe.proofs.Sessions.{facts_in, facts-grown}
+use Rattle.np_laws.specs.Parts.{IsLive, IsQueue, Invariant}
+use Rattle.np_laws.proofs.Firsts.{session-is, is_first}
+use Rattle.np_laws.proofs.Lookups.{same_node-is, node_in-queue, node_queue-queue, node_queue-nowhere}
+use Rattle.np_laws.proofs.Sessions.{facts_in, facts-grown}
 use Rattle.np_hosts.proofs.Back.{Had, IsLess, behind, Back, is_plain, back-next}
 
 -- ## sessions

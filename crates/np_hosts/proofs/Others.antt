@@ -16,11 +16,11 @@ use Rattle.np_machine.specs.Tables.{role_of, node_in}
 use Rattle.np_machine.specs.Step.{maker_of}
 use Rattle.np_machine.specs.History.{after}
 use Rattle.np_machine.specs.Turns.{Turn, turns}
-use Rattle.np_safe.proofs.Ids.{same_pool}
+use Rattle.np_laws.proofs.Ids.{same_pool}
 use Rattle.np_useful.specs.Driven.{DrivenBy}
 use Rattle.np_useful.specs.Useful.{IsUseful}
-use Rattle.np_trace.specs.Move.{launches_of}
-use Rattle.np_trace.specs.Phase.{of_pool}
+use Rattle.np_answers.specs.Move.{launches_of}
+use Rattle.np_answers.specs.Phase.{of_pool}
 use Rattle.np_driven.specs.Makers.{IsOfWorker}
 use Rattle.np_driven.specs.Players.{Player, HaveDriven, drivings_of, WasAnswered}
 use Rattle.np_driven.specs.Round.{PlayerEnd, IsRound}

@@ -22,8 +22,8 @@ use Rattle.np_machine.specs.History.{state_after, after}
 use Rattle.np_machine.specs.Turns.{Turn, turns, turns_from, SomeTurn}
 use Rattle.np_useful.specs.Driven.{BeginsLaunch}
 use Rattle.np_changes.specs.declared.changes.Changes.{Changes}
-use Rattle.np_safe.proofs.Lookups.{node_in-below}
-use Rattle.np_safe.proofs.Puts.{Way}
+use Rattle.np_laws.proofs.Lookups.{node_in-below}
+use Rattle.np_laws.proofs.Puts.{Way}
 use Rattle.np_driven.proofs.NodeRecords.{IsSteady, given-stays, holds-after}
 use Rattle.np_driven.proofs.Places.{turn_of, turn_after, turns-append}
 use Rattle.np_driven.proofs.Splits.{split-within}

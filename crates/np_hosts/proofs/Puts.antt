@@ -26,11 +26,11 @@ use Rattle.np_machine.specs.Node.{judge_start, judge_done, starts_of, started, s
 use Rattle.np_machine.specs.Step.{judge, effect, acting, with_act, next}
 use Rattle.np_machine.proofs.Steps.{after_found-keeps, after_given-keeps, next-keeps}
 use Rattle.np_changes.proofs.Tested.{ok-is, on-given, on-found, on-need}
-use Rattle.np_safe.specs.Parts.{Invariant}
-use Rattle.np_safe.proofs.Firsts.{one-named}
-use Rattle.np_safe.proofs.Ids.{same_pool}
-use Rattle.np_safe.proofs.Lookups.{same_node-is, node_in-put, node_in-queue, node_queue-put}
-use Rattle.np_safe.proofs.Replies.{accepted-state}
+use Rattle.np_laws.specs.Parts.{Invariant}
+use Rattle.np_laws.proofs.Firsts.{one-named}
+use Rattle.np_laws.proofs.Ids.{same_pool}
+use Rattle.np_laws.proofs.Lookups.{same_node-is, node_in-put, node_in-queue, node_queue-put}
+use Rattle.np_laws.proofs.Replies.{accepted-state}
 use Rattle.np_hosts.specs.Nodes.{is_up}
 use Rattle.np_hosts.proofs.Back.{Had, Back, is_plain, back-next}
 use Rattle.np_hosts.proofs.Idle.{MayReport, may-same, IsNoLauncher}

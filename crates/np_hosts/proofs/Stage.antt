@@ -24,8 +24,8 @@ use Rattle.np_machine.specs.History.{after}
 use Rattle.np_machine.specs.Turns.{turns}
 use Rattle.np_changes.proofs.Makers.{launcher-role}
 use Rattle.np_changes.proofs.Tested.{ok-is}
-use Rattle.np_safe.specs.Parts.{Invariant}
-use Rattle.np_safe.proofs.Ids.{same_pool}
+use Rattle.np_laws.specs.Parts.{Invariant}
+use Rattle.np_laws.proofs.Ids.{same_pool}
 use Rattle.np_driven.proofs.NodeRecords.{holds-after, state_after-append}
 use Rattle.np_hosts.specs.Reports.{reported, reports_of}
 use Rattle.np_hosts.specs.Hosting.{WasLaunchedFor, IsServerOf, WereLaunched, ArePresent}

@@ -16,9 +16,9 @@ use Rattle.np_machine.specs.Node.{is_wanted}
 use Rattle.np_machine.specs.Tables.{node_in}
 use Rattle.np_machine.specs.History.{after}
 use Rattle.np_answers.specs.declared.ask.Ask.{Ask}
-use Rattle.np_trace.specs.declared.start.Start.{Start}
-use Rattle.np_trace.specs.Drive.{IsSoundAlone}
-use Rattle.np_trace.specs.Phase.{Phase, acts, owes_launch, owes_report, looks, owes_due, sweeps, owes_swept, rests, ended, MayAsk}
+use Rattle.np_answers.specs.declared.start.Start.{Start}
+use Rattle.np_answers.specs.Drive.{IsSoundAlone}
+use Rattle.np_answers.specs.Phase.{Phase, acts, owes_launch, owes_report, looks, owes_due, sweeps, owes_swept, rests, ended, MayAsk}
 use Rattle.np_hosts.specs.Reports.{number_in, numbers_in, reports_of, AreAloneSound, FailAfter}
 use Rattle.np_hosts.proofs.Numbers.{outcomes, numbers-append}
 use Rattle.np_hosts.proofs.Stage.{Reportable, At, AreForeign, at-gap, reports-gap}

@@ -16,9 +16,9 @@ use Rattle.np_machine.specs.Tables.{node_queue}
 use Rattle.np_machine.specs.Step.{next}
 use Rattle.np_machine.specs.History.{state_after, after}
 use Rattle.np_machine.specs.Turns.{Turn, turns, turns_from}
-use Rattle.np_safe.specs.Parts.{Invariant}
-use Rattle.np_safe.proofs.Runs.{invariant-next}
-use Rattle.np_safe.proofs.Start.{invariant-start}
+use Rattle.np_laws.specs.Parts.{Invariant}
+use Rattle.np_laws.proofs.Runs.{invariant-next}
+use Rattle.np_laws.proofs.Start.{invariant-start}
 use Rattle.np_useful.specs.Driven.{Says, DrivenFrom, DrivenBy, IsDrivenTurn, IsOfUse, IsTickBetween, IsSweepOfServer, IsReportOfLaunch}
 use Rattle.np_useful.specs.Launcher.{is_by_registrant}
 use Rattle.np_useful.specs.Useful.{IsUseful}

@@ -19,13 +19,13 @@ use Rattle.np_answers.specs.declared.ask.Turn.{Turn}
 use Rattle.np_answers.specs.declared.ask.Turn.TheVariants as turn
 use Rattle.np_answers.specs.Asks.{recorded}
 use Rattle.np_answers.specs.Answers.{answers}
-use Rattle.np_trace.specs.Drive.{servers_after, SweepsServers, AreSoundAlone, FailFull, IsSoundAlone, FailsFull}
-use Rattle.np_trace.specs.Move.{Move, asked, launched, removed, launches_of}
-use Rattle.np_trace.specs.Phase.{of_pool, Phase, acts, owes_launch, owes_report, looks, owes_due, sweeps, owes_swept, rests, ended, after_turn, after_launch, after_removal, MayAsk, MayLaunch, MayRemove, Leads}
-use Rattle.np_trace.specs.Trace.{AreAsksOf}
-use Rattle.np_trace.specs.Walk.{Walk}
-use Rattle.np_trace.proofs.Gained.{turn_seen, walk_seen}
-use Rattle.np_trace.proofs.Steps.{of_turn}
+use Rattle.np_answers.specs.Drive.{servers_after, SweepsServers, AreSoundAlone, FailFull, IsSoundAlone, FailsFull}
+use Rattle.np_answers.specs.Move.{Move, asked, launched, removed, launches_of}
+use Rattle.np_answers.specs.Phase.{of_pool, Phase, acts, owes_launch, owes_report, looks, owes_due, sweeps, owes_swept, rests, ended, after_turn, after_launch, after_removal, MayAsk, MayLaunch, MayRemove, Leads}
+use Rattle.np_answers.specs.Trace.{AreAsksOf}
+use Rattle.np_answers.specs.Walk.{Walk}
+use Rattle.np_answers.proofs.Gained.{turn_seen, walk_seen}
+use Rattle.np_answers.proofs.Steps.{of_turn}
 use Rattle.np_hosts.proofs.Stage.{IsForeign, AreForeign}
 use Rattle.np_hosts.proofs.Stands.{Never, Tells, Rest, Stands, Leaves, stands-gap, tells-gap, leaves-gap}
 use Rattle.np_hosts.proofs.Asked.{Sees, IsReady, Turned, turns-stand}

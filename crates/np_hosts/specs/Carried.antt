@@ -7,7 +7,7 @@ use Rattle.np_event.specs.declared.event.Event.TheVariants as ev
 use Rattle.np_cloud.specs.Facts.{DriverFacts}
 use Rattle.np_cloud.specs.Sound.{DistinctNumbers}
 use Rattle.np_machine.specs.History.{after}
-use Rattle.np_trace.specs.Drive.{Driving}
+use Rattle.np_answers.specs.Drive.{Driving}
 use Rattle.np_hosts.specs.Nodes.{servers_up}
 use Rattle.np_hosts.specs.Reports.{reports_of, numbers_in, AreAloneSound, FailAfter}
 

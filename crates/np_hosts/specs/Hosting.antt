@@ -18,7 +18,7 @@ use Rattle.np_machine.specs.History.{after}
 use Rattle.np_machine.specs.State.{State}
 use Rattle.np_machine.specs.Step.{judge}
 use Rattle.np_machine.specs.Tables.{role_of, node_in}
-use Rattle.np_trace.specs.Drive.{Driving}
+use Rattle.np_answers.specs.Drive.{Driving}
 use Rattle.np_driven.specs.Players.{Player, drivings_of, HaveDriven}
 use Rattle.np_hosts.specs.Nodes.{is_up, servers_up}
 use Rattle.np_hosts.specs.Reports.{reports_of, numbers_in, AreAloneSound, FailAfter}

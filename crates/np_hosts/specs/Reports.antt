@@ -13,7 +13,7 @@ use Rattle.np_event.specs.declared.entry.Entry.{Entry}
 use Rattle.np_machine.specs.State.{State}
 use Rattle.np_machine.specs.Tables.{node_in}
 use Rattle.np_machine.specs.Turns.{Turn, turns}
-use Rattle.np_trace.specs.Drive.{IsSoundAlone}
+use Rattle.np_answers.specs.Drive.{IsSoundAlone}
 
 -- ## of which pool a report is
 

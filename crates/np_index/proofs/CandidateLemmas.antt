@@ -19,8 +19,8 @@ use Rattle.np_machine.specs.Kinds.{is_requested}
 use Rattle.np_machine.specs.Order.{comes_before, is_declined_by, is_id_before, is_pinned_away}
 use Rattle.np_machine.specs.State.{State}
 use Rattle.np_machine.specs.Tables.{holder, same_request, request_entry}
-use Rattle.np_safe.proofs.Lookups.{same_request-is}
-use Rattle.np_safe.proofs.Rising.{rises-insert_before}
+use Rattle.np_laws.proofs.Lookups.{same_request-is}
+use Rattle.np_laws.proofs.Rising.{rises-insert_before}
 use Rattle.np_open.specs.declared.ranks.Rank.{Rank}
 use Rattle.np_open.specs.Lines.{line_of}
 use Rattle.np_open.specs.Moves.{rank_of}

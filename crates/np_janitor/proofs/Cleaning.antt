@@ -20,7 +20,7 @@ use Rattle.np_machine.specs.State.{State}
 use Rattle.np_machine.specs.Tables.{holder, node_entry}
 use Rattle.np_changes.specs.Planned.{IsReached}
 use Rattle.np_fits.specs.Fits.{most}
-use Rattle.np_safe.proofs.Ids.{same_pool}
+use Rattle.np_laws.proofs.Ids.{same_pool}
 use Rattle.np_look.specs.Readers.{due_after, due_of, first_due, is_unclaimed, is_unheld, is_unheld_as, same_kind, unheld_kind, unheld_kind_as}
 use Rattle.np_look.specs.declared.asked.UnheldKind.{UnheldKind}
 use Rattle.np_look.specs.declared.asked.UnheldKind.TheVariants as unheld

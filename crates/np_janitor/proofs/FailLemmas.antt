@@ -20,7 +20,7 @@ use Rattle.np_machine.specs.Tables.{request_entry, request_in}
 use Rattle.np_machine.specs.Tests.{janitor}
 use Rattle.np_changes.specs.Planned.{IsReached}
 use Rattle.np_changes.proofs.Tested.{ok-is, on-given, on-found, on-need, on-not}
-use Rattle.np_safe.proofs.Ids.{row-of, kept-is}
+use Rattle.np_laws.proofs.Ids.{row-of, kept-is}
 use Rattle.np_look.specs.Readers.{first_declined_by_all, is_declined_by_all}
 use Rattle.np_useful.specs.Sessions.{is_current}
 use Rattle.np_useful.specs.Useful.{IsUseful}

@@ -15,9 +15,9 @@ use Rattle.np_machine.specs.Order.{is_id_before}
 use Rattle.np_machine.specs.State.{State}
 use Rattle.np_machine.specs.Tables.{same_request, request_entry, node_entry}
 use Rattle.np_changes.specs.Planned.{IsReached}
-use Rattle.np_safe.specs.Parts.{IsNumbered}
-use Rattle.np_safe.proofs.Lookups.{same_request-self}
-use Rattle.np_safe.proofs.Runs.{invariant-Runs}
+use Rattle.np_laws.specs.Parts.{IsNumbered}
+use Rattle.np_laws.proofs.Lookups.{same_request-self}
+use Rattle.np_laws.proofs.Runs.{invariant-Runs}
 
 -- if one that was found passes another test, there is a first that passes it
 some-by : {X : Type 0} (p q : X → Bool) (x y : X) (xs : List X) (b d : Bool) → p y ≡ d → cond b (Some y) (find q xs) ≡ Some x → p x ≡ true → (find q xs ≡ Some x → (z : X) × (find p xs ≡ Some z)) → (z : X) × (cond d (Some y) (find p xs) ≡ Some z)

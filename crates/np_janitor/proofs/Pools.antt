@@ -9,7 +9,7 @@ use Rattle.np_text.specs.declared.id.PoolId.{PoolId}
 use Rattle.np_lists.specs.Rising.{Rises}
 use Rattle.np_lists.proofs.Each.{all-weaker}
 use Rattle.np_machine.specs.declared.state.Registration.{Registration}
-use Rattle.np_safe.proofs.Ids.{same_pool}
+use Rattle.np_laws.proofs.Ids.{same_pool}
 
 -- ## members of a list
 

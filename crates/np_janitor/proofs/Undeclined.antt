@@ -55,10 +55,10 @@ use Rattle.np_changes.specs.declared.changes.SessionsChange.TheVariants as sessi
 use Rattle.np_changes.proofs.PlanLaws.{plan-next}
 use Rattle.np_changes.proofs.PremisesOf.{premises}
 use Rattle.np_changes.proofs.Tested.{on-given, on-found, on-need, on-not, ok-is}
-use Rattle.np_safe.specs.Parts.{IsLauncher, IsRegistered}
-use Rattle.np_safe.proofs.Ids.{row-of, kept-is}
-use Rattle.np_safe.proofs.Options.{some-is}
-use Rattle.np_safe.proofs.Registered.{registered-still}
+use Rattle.np_laws.specs.Parts.{IsLauncher, IsRegistered}
+use Rattle.np_laws.proofs.Ids.{row-of, kept-is}
+use Rattle.np_laws.proofs.Options.{some-is}
+use Rattle.np_laws.proofs.Registered.{registered-still}
 use Rattle.np_roles.specs.declared.kind.EventKind.TheVariants as kind_of
 use Rattle.np_roles.specs.declared.kind.RequestKind.TheVariants as of_request
 use Rattle.np_roles.specs.Choices.{NoneOf}

@@ -19,10 +19,10 @@ use Rattle.np_machine.specs.Safe.{OwnsItsLabels, IsGiven}
 use Rattle.np_machine.specs.State.{State}
 use Rattle.np_machine.specs.Tables.{is_request, same_request, request_entry, request_in, node_in}
 use Rattle.np_changes.specs.Planned.{IsReached}
-use Rattle.np_safe.specs.Parts.{Invariant}
-use Rattle.np_safe.proofs.Runs.{invariant-Runs, fulfilled-Runs}
-use Rattle.np_safe.proofs.Places.{PassesAt, any-place, node-place, place-there}
-use Rattle.np_safe.proofs.Lookups.{same_request-is}
+use Rattle.np_laws.specs.Parts.{Invariant}
+use Rattle.np_laws.proofs.Runs.{invariant-Runs, fulfilled-Runs}
+use Rattle.np_laws.proofs.Places.{PassesAt, any-place, node-place, place-there}
+use Rattle.np_laws.proofs.Lookups.{same_request-is}
 use Rattle.np_look.specs.Given.{asker, handed_to, is_given_to}
 use Rattle.np_useful.specs.Rows.{is_listed}
 use Rattle.np_useful.specs.Requester.{is_asked_by, is_handed_over, is_for}

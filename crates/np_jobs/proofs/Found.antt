@@ -9,7 +9,7 @@ use Rattle.np_lists.proofs.Each.{all-at}
 use Rattle.np_machine.specs.Entries.{RequestEntry, NodeEntry}
 use Rattle.np_machine.specs.Order.{is_id_before}
 use Rattle.np_machine.specs.Tables.{same_request, request_entry, node_entry}
-use Rattle.np_safe.proofs.Lookups.{same_request-self, same_node}
+use Rattle.np_laws.proofs.Lookups.{same_request-self, same_node}
 
 -- ## a search that finds nothing
 

@@ -27,7 +27,7 @@ use Rattle.np_machine.specs.State.{State}
 use Rattle.np_machine.specs.Step.{judge}
 use Rattle.np_machine.specs.Tables.{is_queued, node_entry, node_in, node_queue}
 use Rattle.np_machine.specs.Tests.{requester, by_node_holder}
-use Rattle.np_safe.proofs.Lookups.{same_node, same_node-is}
+use Rattle.np_laws.proofs.Lookups.{same_node, same_node-is}
 use Rattle.np_look.specs.Given.{is_given_to, is_to_leave, node_to_leave}
 use Rattle.np_useful.specs.Requester.{is_for}
 use Rattle.np_useful.specs.Rows.{node_is}

@@ -14,8 +14,8 @@ use Rattle.np_changes.specs.Planned.{IsReached}
 use Rattle.np_machine.specs.Entries.{NodeEntry}
 use Rattle.np_machine.specs.State.{State}
 use Rattle.np_machine.specs.Tables.{is_queued, node_entry, node_in, node_queue}
-use Rattle.np_safe.proofs.Lookups.{same_node, same_node-is}
-use Rattle.np_safe.proofs.Runs.{invariant-Runs}
+use Rattle.np_laws.proofs.Lookups.{same_node, same_node-is}
+use Rattle.np_laws.proofs.Runs.{invariant-Runs}
 use Rattle.np_look.specs.Given.{is_given_to, is_to_lock, node_to_lock}
 use Rattle.np_useful.specs.Requester.{is_for}
 use Rattle.np_useful.specs.Sessions.{is_current}

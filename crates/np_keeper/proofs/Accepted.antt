@@ -8,13 +8,13 @@ use Rattle.np_changes.specs.Planned.{IsPlanned, IsReached}
 use Rattle.np_changes.specs.declared.changes.Changes.{Changes}
 use Rattle.np_changes.proofs.PlanLaws.{plan-next}
 use Rattle.np_fits.specs.Fits.{Fits}
-use Rattle.np_safe.proofs.Runs.{invariant-Runs}
+use Rattle.np_laws.proofs.Runs.{invariant-Runs}
 use Rattle.np_layout.specs.Carried.{IsCarried}
 use Rattle.np_enact.specs.Events.{IsReady}
-use Rattle.np_ready.specs.Ready.{IsAccepted, IsTyped}
-use Rattle.np_ready.proofs.Carried.{steps-are-carried}
-use Rattle.np_ready.proofs.Readies.{events-are-ready}
-use Rattle.np_ready.proofs.Spelled.{records-are-spelled}
+use Rattle.np_enact.specs.Ready.{IsAccepted, IsTyped}
+use Rattle.np_enact.proofs.Carried.{steps-are-carried}
+use Rattle.np_enact.proofs.Readies.{events-are-ready}
+use Rattle.np_enact.proofs.Spelled.{records-are-spelled}
 use Rattle.np_keeper.specs.Keeper.{MayChange}
 
 -- the plan of an accepted event may be made in a state that a run reaches

@@ -29,7 +29,7 @@ use Rattle.np_enact.specs.Parts.{enacted, parts_of, with_begin, with_end, writer
 use Rattle.np_enact.specs.Stands.{Stands}
 use Rattle.np_enact.proofs.Calls.{changes-after, number-of}
 use Rattle.np_enact.proofs.StandsLemmas.{room-less}
-use Rattle.np_decode.specs.Decoded.{TreesHaveOneState, decoded}
+use Rattle.np_layout.specs.Decoded.{TreesHaveOneState, decoded}
 use Rattle.np_keeper.specs.Keeper.{CanBegin, CanEnd, CanMake, HasSpare, Holds, IsHeld, MayChange, made, most_changes, room_left}
 use Rattle.np_keeper.proofs.Lives.{live-session, session-low, writer-lives, writer-low}
 use Rattle.np_keeper.proofs.Spared.{held-spared}

@@ -27,9 +27,9 @@ use Rattle.np_enact.proofs.StandsLemmas.{room-after}
 use Rattle.np_layout.specs.Carried.{IsStored}
 use Rattle.np_enact.proofs.Calls.{changes-after}
 use Rattle.np_enact.proofs.StandsLemmas.{room-less}
-use Rattle.np_ready.proofs.Starts.{starts-are-carried}
-use Rattle.np_decode.specs.Decoded.{decoded}
-use Rattle.np_decode.proofs.OneState.{trees-have-one_state}
+use Rattle.np_enact.proofs.Starts.{starts-are-carried}
+use Rattle.np_layout.specs.Decoded.{decoded}
+use Rattle.np_layout.proofs.OneState.{trees-have-one_state}
 use Rattle.np_keeper.specs.Keeper.{IsHeld, room_left}
 use Rattle.np_keeper.proofs.Made.{zero-text}
 use Rattle.np_keeper.proofs.Spared.{answers-spared, held-spared, multi-spared}

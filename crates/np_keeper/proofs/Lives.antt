@@ -17,7 +17,7 @@ use Rattle.np_layout.specs.Layout.{under}
 use Rattle.np_layout.specs.Rows.{tree_session}
 use Rattle.np_places.specs.declared.place.Place.TheVariants.{Sessions}
 use Rattle.np_enact.specs.Parts.{writer}
-use Rattle.np_decode.specs.Decoded.{decoded, session_at, sessions_from}
+use Rattle.np_layout.specs.Decoded.{decoded, session_at, sessions_from}
 use Rattle.np_keeper.specs.Keeper.{IsHeld}
 
 -- the session at a place of the list

@@ -18,7 +18,7 @@ use Rattle.np_layout.specs.Rows.{tree_session}
 use Rattle.np_layout.specs.Carried.{IsCarried, IsStored}
 use Rattle.np_enact.specs.Events.{IsReady}
 use Rattle.np_enact.specs.Parts.{with_begin, with_end, writer}
-use Rattle.np_decode.specs.Decoded.{decoded}
+use Rattle.np_layout.specs.Decoded.{decoded}
 
 -- the change numbers that a tree may take (own)
 abbrev pub most_changes : ℕ

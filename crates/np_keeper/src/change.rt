@@ -8,7 +8,7 @@ ghost use Rattle.np_views.specs.Several.{Goes};
 ghost use Rattle.np_views.specs.Dates.{IsLater};
 ghost use Rattle.np_changes.specs.Changes.{changed};
 ghost use Rattle.np_enact.specs.Parts.{with_begin, with_end, writer};
-ghost use Rattle.np_decode.specs.Decoded.{decoded};
+ghost use Rattle.np_layout.specs.Decoded.{decoded};
 ghost use Rattle.np_keeper.specs.Keeper.{CanBegin, CanEnd, CanMake, HasSpare, Holds, IsHeld, MayChange, made};
 
 use crate::range::parts_are_proper;

@@ -5,7 +5,7 @@ ghost use Rattle.std.specs.Prelude.{◌≡◌, true};
 ghost use Rattle.std.specs.List.{AllByRecursion, list_all};
 ghost use Rattle.np_nodes.specs.Multi.{is_numbered};
 ghost use Rattle.np_tree.specs.Whole.{IsPart};
-ghost use Rattle.np_ready.specs.Ready.{IsTyped, IsTypedEdit, IsTypedGrowth, IsTypedNodes, IsTypedRequests};
+ghost use Rattle.np_enact.specs.Ready.{IsTyped, IsTypedEdit, IsTypedGrowth, IsTypedNodes, IsTypedRequests};
 
 use np_changes::{Changes, Growth, NodesChange, RequestEdit, RequestsChange};
 use np_nodes::Op;

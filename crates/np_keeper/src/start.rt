@@ -8,7 +8,7 @@ ghost use Rattle.np_places.specs.Place.{IsGood};
 ghost use Rattle.np_machine.specs.State.{new_job, no_deeds, start};
 ghost use Rattle.np_spelling.specs.Spelling.{job_text, role_text};
 ghost use Rattle.np_layout.specs.First.{first_directories, first_parts, make, make_each};
-ghost use Rattle.np_decode.specs.Decoded.{decoded};
+ghost use Rattle.np_layout.specs.Decoded.{decoded};
 ghost use Rattle.np_keeper.specs.Keeper.{IsHeld};
 
 use crate::change::call;

@@ -25,10 +25,10 @@ use Rattle.np_machine.specs.Order.{is_id_before, is_pool, is_pending_by}
 use Rattle.np_machine.specs.State.{State}
 use Rattle.np_machine.specs.Tables.{is_request, same_request, request_entry, request_in, node_in}
 use Rattle.np_changes.specs.Planned.{IsReached}
-use Rattle.np_safe.specs.Parts.{IsServed, StandsIn, Invariant}
-use Rattle.np_safe.proofs.Lookups.{same_request-is, same_request-self}
-use Rattle.np_safe.proofs.Places.{any-place, node-place, place-there}
-use Rattle.np_safe.proofs.Runs.{invariant-Runs}
+use Rattle.np_laws.specs.Parts.{IsServed, StandsIn, Invariant}
+use Rattle.np_laws.proofs.Lookups.{same_request-is, same_request-self}
+use Rattle.np_laws.proofs.Places.{any-place, node-place, place-there}
+use Rattle.np_laws.proofs.Runs.{invariant-Runs}
 use Rattle.np_useful.specs.Launcher.{is_wanted_by, is_to_launch}
 use Rattle.np_useful.specs.Rows.{node_is, is_listed, has_failed_node}
 use Rattle.np_roles.proofs.Places.{find-place}

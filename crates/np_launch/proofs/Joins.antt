@@ -25,8 +25,8 @@ use Rattle.np_changes.specs.declared.changes.Changes.{Changes}
 use Rattle.np_changes.specs.declared.changes.Growth.{Growth}
 use Rattle.np_changes.specs.declared.changes.Growth.TheVariants as grow
 use Rattle.np_changes.proofs.Tested.{ok-is, on-given, on-found, on-need}
-use Rattle.np_safe.proofs.Firsts.{session-is}
-use Rattle.np_safe.proofs.Through.{plan-found, plan-given, plan-made}
+use Rattle.np_laws.proofs.Firsts.{session-is}
+use Rattle.np_laws.proofs.Through.{plan-found, plan-given, plan-made}
 
 -- a launcher that joins the queue of a request is registered for its pool
 pub record JoinsRegistered (s : State) (ch : Changes) : Type 0 where

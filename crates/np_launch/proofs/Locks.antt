@@ -25,7 +25,7 @@ use Rattle.np_machine.specs.Step.{judge}
 use Rattle.np_machine.specs.Tables.{holder, registered, request_entry, request_holder, request_in, same_request, is_session_of}
 use Rattle.np_machine.specs.Tests.{request_at, wrong_request}
 use Rattle.np_changes.proofs.Tested.{ok-is, on-given, on-need, on-not, on-vacant}
-use Rattle.np_safe.proofs.Lookups.{same_request-is}
+use Rattle.np_laws.proofs.Lookups.{same_request-is}
 use Rattle.np_useful.specs.Sessions.{is_current}
 use Rattle.np_useful.specs.Useful.{IsUseful}
 use Rattle.np_roles.specs.declared.kind.EventKind.TheVariants.{Request}

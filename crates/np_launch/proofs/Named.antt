@@ -13,7 +13,7 @@ use Rattle.np_machine.specs.Order.{is_declined_by}
 use Rattle.np_machine.specs.State.{State}
 use Rattle.np_machine.specs.Tables.{request_entry, is_queued, is_session_of, holder}
 use Rattle.np_changes.specs.Planned.{IsReached}
-use Rattle.np_safe.proofs.Runs.{invariant-Runs}
+use Rattle.np_laws.proofs.Runs.{invariant-Runs}
 use Rattle.np_look.specs.Readers.{queued_requests}
 use Rattle.np_useful.specs.Launcher.{is_in_hand}
 use Rattle.np_roles.proofs.Queues.{holder-queued}

@@ -27,10 +27,10 @@ use Rattle.np_machine.specs.Order.{is_pool, is_pending_by}
 use Rattle.np_machine.specs.State.{State}
 use Rattle.np_machine.specs.Tables.{is_session, is_queued, holder, registered, role_of}
 use Rattle.np_changes.specs.Planned.{IsReached}
-use Rattle.np_safe.specs.Parts.{IsLauncher, Invariant}
-use Rattle.np_safe.proofs.Firsts.{session-is}
-use Rattle.np_safe.proofs.Ids.{same_pool, row-of, kept-is}
-use Rattle.np_safe.proofs.Runs.{invariant-Runs}
+use Rattle.np_laws.specs.Parts.{IsLauncher, Invariant}
+use Rattle.np_laws.proofs.Firsts.{session-is}
+use Rattle.np_laws.proofs.Ids.{same_pool, row-of, kept-is}
+use Rattle.np_laws.proofs.Runs.{invariant-Runs}
 use Rattle.np_look.specs.Readers.{queued_requests, pending_requests}
 use Rattle.np_useful.specs.Launcher.{provider_of, is_sister, is_sister_launcher, is_served_near, is_held_near, requests_near}
 use Rattle.np_useful.specs.Rows.{request_is}

@@ -34,7 +34,7 @@ use Rattle.np_machine.specs.Tests.{launcher, as_launcher, maker, wrong_request, 
 use Rattle.np_changes.specs.Planned.{IsReached}
 use Rattle.np_changes.proofs.Tested.{ok-is, on-found, on-need, on-not}
 use Rattle.np_look.specs.Readers.{free_ready_of}
-use Rattle.np_safe.proofs.Runs.{invariant-Runs}
+use Rattle.np_laws.proofs.Runs.{invariant-Runs}
 use Rattle.np_useful.specs.Launcher.{may_take_ready}
 use Rattle.np_launch.specs.Computed.{pool_of_role, pool_of, first_free, is_takable, first_takable}
 use Rattle.np_launch.proofs.Finds.{any-find, map-some, find-none, find-there, first-tested}

@@ -33,7 +33,7 @@ use Rattle.np_machine.specs.State.{State}
 use Rattle.np_machine.specs.Step.{judge, maker_of}
 use Rattle.np_machine.specs.Tables.{session_of, is_session_of, request_in, request_queue, request_holder, node_entry, node_in, node_queue, node_holder}
 use Rattle.np_machine.specs.Tests.{maker, launcher, as_launcher}
-use Rattle.np_safe.proofs.Lookups.{same_node-is}
+use Rattle.np_laws.proofs.Lookups.{same_node-is}
 use Rattle.np_look.specs.Readers.{queued_requests, queued_nodes}
 use Rattle.np_useful.specs.Launcher.{is_by_registrant, same_outcome, is_as_planned, is_first_reason}
 use Rattle.np_useful.specs.Rows.{request_is, node_is}

@@ -37,3 +37,12 @@ pub mod DeleteEnds
 pub mod DeleteParts
 pub mod DeleteRequests
 pub mod DeleteNodes
+pub mod Lists
+pub mod Texts
+pub mod Named
+pub mod Tables
+pub mod Entries
+pub mod Marks
+pub mod Order
+pub mod Swept
+pub mod OneState

@@ -7,3 +7,4 @@ pub mod Sets
 pub mod Creates
 pub mod Deletes
 pub mod Carried
+pub mod Decoded

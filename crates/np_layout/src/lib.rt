@@ -1,4 +1,4 @@
-//! How the coordination tree lays a state of the machine out.
+//! How the coordination tree lays a state of the machine out, and which state a tree has.
 //!
 //! `specs/Layout` says when a tree lays a state out: the rows of each directory are those of one
 //! table of the state, with their bytes and owners, and nothing else is there. `specs/Rows` has the
@@ -10,11 +10,17 @@
 //! `specs/Deletes` says the same of what goes: a handle, a wait, a request or a node with its waits, and
 //! a session that ends.
 //!
+//! `specs/Decoded` reads a state from what a tree shows, table by table: names and bytes are read as
+//! the texts that they are, owners as sessions, and what is in the order of names in the tree is put in
+//! the order of numbers. That is the state, if the tree lays out one that it can carry.
+//!
 //! The laws are public functions that do nothing: their contracts are the laws.
 #![tactic(auto)]
 
+mod decode;
 mod laws;
 
+pub use decode::a_tree_has_one_state;
 pub use laws::{
     a_worked_tree_lays_out_its_state, begun_sessions_lay_out, creates_of_handles_lay_out,
     creates_of_registrations_lay_out, creates_of_swept_pairs_lay_out, deletes_of_handles_lay_out,

@@ -13,7 +13,7 @@ use Rattle.np_event_lines.specs.Line.{HasReplyLine}
 use Rattle.np_lists.specs.Refusals.{◌>>=◌, ◌>>◌, need, found, vacant}
 use Rattle.np_machine.specs.Tests.{Answer, Check}
 use Rattle.np_machine.specs.Step.{reply_of}
-use Rattle.np_told.specs.Told.{has_digits, is_told_done, is_told_refusal, is_told_answer}
+use Rattle.np_lines.specs.Told.{has_digits, is_told_done, is_told_refusal, is_told_answer}
 
 -- ## ranges
 

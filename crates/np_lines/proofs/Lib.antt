@@ -1,3 +1,6 @@
+pub mod Ids
+pub mod Replies
+pub mod ToldRuns
 pub mod Chains
 pub mod Sums
 pub mod Labels

@@ -11,10 +11,10 @@ use Rattle.np_machine.specs.Step.{judge, next, reply_of}
 use Rattle.np_machine.specs.History.{replayed, Runs}
 use Rattle.np_fits.proofs.ShapeRuns.{shape-next, shape-Runs}
 use Rattle.np_fits.proofs.Sites.{sound_fits}
-use Rattle.np_safe.proofs.Start.{invariant-start}
-use Rattle.np_safe.proofs.Runs.{invariant-next}
-use Rattle.np_told.proofs.Ids.{HasIds-start, HasIds-next}
-use Rattle.np_told.proofs.Replies.{judge-told}
+use Rattle.np_laws.proofs.Start.{invariant-start}
+use Rattle.np_laws.proofs.Runs.{invariant-next}
+use Rattle.np_lines.proofs.Ids.{HasIds-start, HasIds-next}
+use Rattle.np_lines.proofs.Replies.{judge-told}
 use Rattle.np_lines.proofs.Chains.{answer-line}
 use Rattle.np_lines.proofs.Labels.{labels-next}
 use Rattle.np_lines.proofs.Named.{Reached}

@@ -33,8 +33,8 @@ use Rattle.np_machine.specs.Semaphore.{first_full}
 use Rattle.np_fits.specs.Fits.{IsFitSite}
 use Rattle.np_fits.proofs.Shape.{Shaped}
 use Rattle.np_fits.proofs.Shaping.{node-queue}
-use Rattle.np_safe.specs.Parts.{IsLive, IsQueue, IsLauncher, Invariant}
-use Rattle.np_told.proofs.Ids.{HasIds}
+use Rattle.np_laws.specs.Parts.{IsLive, IsQueue, IsLauncher, Invariant}
+use Rattle.np_lines.proofs.Ids.{HasIds}
 use Rattle.np_lines.proofs.Labels.{LabelsInRange, AsksInRange}
 
 -- what holds of a state that n events lead to

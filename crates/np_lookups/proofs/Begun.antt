@@ -10,7 +10,7 @@ use Rattle.np_lists.proofs.FilterLemmas.{list_any-none}
 use Rattle.np_machine.specs.declared.state.SessionFacts.{SessionFacts}
 use Rattle.np_machine.specs.State.{State}
 use Rattle.np_machine.specs.Tables.{session_of, is_session, is_queued}
-use Rattle.np_safe.specs.Parts.{IsLive}
+use Rattle.np_laws.specs.Parts.{IsLive}
 
 -- a session that was begun has a number up to that of the last one
 pub begun-within : (x : SessionId) (s : State) (facts : SessionFacts) → session_of x s ≡ Some facts → x.0 ≤ length s.sessions

@@ -11,8 +11,8 @@ use Rattle.np_lists.proofs.Each.{all-weaker}
 use Rattle.np_machine.specs.State.{State}
 use Rattle.np_machine.specs.Tables.{is_queued}
 use Rattle.np_changes.specs.Planned.{IsReached}
-use Rattle.np_safe.specs.Parts.{IsQueue, IsQueued}
-use Rattle.np_safe.proofs.Runs.{invariant-Runs}
+use Rattle.np_laws.specs.Parts.{IsQueue, IsQueued}
+use Rattle.np_laws.proofs.Runs.{invariant-Runs}
 use Rattle.np_look.specs.Readers.{queued_requests, queued_nodes}
 use Rattle.np_lookups.specs.Lookups.{AreRequestsOf, AreNodesOf}
 use Rattle.np_lookups.specs.Lists.{list_at}

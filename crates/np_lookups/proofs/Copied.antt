@@ -12,8 +12,8 @@ use Rattle.np_machine.specs.Order.{is_id_before}
 use Rattle.np_machine.specs.State.{State}
 use Rattle.np_machine.specs.Tables.{is_queued}
 use Rattle.np_changes.specs.Planned.{IsReached}
-use Rattle.np_safe.specs.Parts.{Invariant}
-use Rattle.np_safe.proofs.Runs.{invariant-Runs}
+use Rattle.np_laws.specs.Parts.{Invariant}
+use Rattle.np_laws.proofs.Runs.{invariant-Runs}
 use Rattle.np_keys.specs.Keys.{is_node_before}
 use Rattle.np_look.specs.Readers.{queued_requests, queued_nodes}
 use Rattle.np_look.proofs.Walks.{take_there}

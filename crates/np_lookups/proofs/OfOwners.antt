@@ -25,8 +25,8 @@ use Rattle.np_changes.specs.declared.changes.Growth.TheVariants as grow
 use Rattle.np_changes.specs.declared.changes.JobsChange.{JobsChange}
 use Rattle.np_changes.specs.declared.changes.JobsChange.TheVariants as jobs
 use Rattle.np_changes.specs.declared.changes.Maker.{Maker}
-use Rattle.np_safe.specs.Parts.{Invariant}
-use Rattle.np_safe.proofs.JobsLater.{jobs-grown}
+use Rattle.np_laws.specs.Parts.{Invariant}
+use Rattle.np_laws.proofs.JobsLater.{jobs-grown}
 use Rattle.np_lookups.specs.Changed.{owners_grown, owners_with, owners_changed}
 use Rattle.np_lookups.specs.Lookups.{owner_at, AreOwners}
 use Rattle.np_lookups.proofs.Firsts.{none-first, first-set, first-same, first-changed}

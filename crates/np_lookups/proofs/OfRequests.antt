@@ -20,8 +20,8 @@ use Rattle.np_changes.specs.declared.changes.RequestsChange.{RequestsChange}
 use Rattle.np_changes.specs.declared.changes.RequestsChange.TheVariants as requests
 use Rattle.np_changes.specs.declared.changes.SessionsChange.{SessionsChange}
 use Rattle.np_changes.specs.declared.changes.SessionsChange.TheVariants as sessions
-use Rattle.np_safe.specs.Parts.{IsNumbered}
-use Rattle.np_safe.proofs.Ids.{row-of}
+use Rattle.np_laws.specs.Parts.{IsNumbered}
+use Rattle.np_laws.proofs.Ids.{row-of}
 use Rattle.np_keys.specs.Keys.{request_one_way, request_equal}
 use Rattle.np_lookups.specs.declared.waits.Wait.{Wait}
 use Rattle.np_lookups.specs.Waits.{by, joins_request, removed_request, ending}

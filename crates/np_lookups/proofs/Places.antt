@@ -7,7 +7,7 @@ use Rattle.np_text.specs.declared.id.SessionId.{SessionId}
 use Rattle.np_lists.specs.Change.{change_at}
 use Rattle.np_lists.proofs.ChangeLemmas.{length-change_at, slice_get-change_at, slice_get-change_at_other}
 use Rattle.np_machine.specs.Tables.{is_session, is_queued}
-use Rattle.np_safe.specs.Parts.{DistinctSessions}
+use Rattle.np_laws.specs.Parts.{DistinctSessions}
 use Rattle.np_lookups.specs.declared.waits.Wait.{Wait}
 use Rattle.np_lookups.specs.Changed.{lists_joined, lists_left, lists_without, lists_removed, lists_ended}
 use Rattle.np_lookups.specs.Lists.{list_at, with_id, without_id}

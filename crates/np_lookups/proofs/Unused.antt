@@ -41,16 +41,16 @@ use Rattle.np_changes.specs.declared.changes.NodesChange.{NodesChange}
 use Rattle.np_changes.specs.declared.changes.NodesChange.TheVariants as nodes
 use Rattle.np_changes.proofs.PlanLaws.{plan-next}
 use Rattle.np_changes.proofs.PremisesOf.{premises}
-use Rattle.np_safe.specs.Parts.{Invariant}
-use Rattle.np_safe.proofs.After.{grown-node, leave-node, nodes-after, next-more}
-use Rattle.np_safe.proofs.JobsLater.{jobs-grown}
-use Rattle.np_safe.proofs.Lookups.{node_in-put, node_in-remove, node_in-removed, node_in-freed, node_in-in_use, node_in-allocated, node_in-other, node_in-below, used_from}
-use Rattle.np_safe.proofs.NodeKept.{found-same}
-use Rattle.np_safe.proofs.Numbered.{grown-numbered}
-use Rattle.np_safe.proofs.Places.{node-place, place-there}
-use Rattle.np_safe.proofs.Runs.{invariant-changed}
-use Rattle.np_safe.proofs.Start.{invariant-start}
-use Rattle.np_safe.proofs.StandsOn.{owns-if}
+use Rattle.np_laws.specs.Parts.{Invariant}
+use Rattle.np_laws.proofs.After.{grown-node, leave-node, nodes-after, next-more}
+use Rattle.np_laws.proofs.JobsLater.{jobs-grown}
+use Rattle.np_laws.proofs.Lookups.{node_in-put, node_in-remove, node_in-removed, node_in-freed, node_in-in_use, node_in-allocated, node_in-other, node_in-below, used_from}
+use Rattle.np_laws.proofs.NodeKept.{found-same}
+use Rattle.np_laws.proofs.Numbered.{grown-numbered}
+use Rattle.np_laws.proofs.Places.{node-place, place-there}
+use Rattle.np_laws.proofs.Runs.{invariant-changed}
+use Rattle.np_laws.proofs.Start.{invariant-start}
+use Rattle.np_laws.proofs.StandsOn.{owns-if}
 use Rattle.np_lookups.proofs.Firsts.{none-there, none-set, any-changed}
 use Rattle.np_lookups.proofs.JobNodes.{is_early, KeepsNodes, TakesNodes, put-nodes, marked-has, unended-has}
 

@@ -18,8 +18,8 @@ use Rattle.np_layout.specs.Carried.{IsStored}
 use Rattle.np_enact.specs.Stands.{Stands}
 use Rattle.np_enact.proofs.Calls.{stands-numbered}
 use Rattle.np_enact.proofs.StandsLemmas.{room-after, room-less}
-use Rattle.np_decode.specs.Decoded.{decoded}
-use Rattle.np_decode.proofs.OneState.{trees-have-one_state}
+use Rattle.np_layout.specs.Decoded.{decoded}
+use Rattle.np_layout.proofs.OneState.{trees-have-one_state}
 use Rattle.np_keeper.specs.Keeper.{IsHeld, most_changes, room_left}
 use Rattle.np_nodestep.specs.Spelling.{IsSpelling, respelled}
 

@@ -9,7 +9,7 @@ use Rattle.np_spelling.specs.Spelling.{SpellsNode}
 use Rattle.np_machine.specs.Tables.{node_in}
 use Rattle.np_places.specs.Place.{path_of}
 use Rattle.np_places.specs.declared.place.Place.TheVariants.{Node}
-use Rattle.np_decode.specs.Decoded.{decoded}
+use Rattle.np_layout.specs.Decoded.{decoded}
 
 -- the bytes are a spelling of the record that the node has
 pub record IsSpelling (c : Configuration) (t : TreeState) (n : NodeId) (bytes : List ℕ) : Type 0 where

@@ -5,7 +5,7 @@ ghost use Rattle.np_text.specs.declared.id.NodeId.{NodeId};
 ghost use Rattle.np_nodes.specs.TreeState.{TreeState};
 ghost use Rattle.np_tree.specs.Whole.{IsWhole};
 ghost use Rattle.np_site.specs.Configuration.{Configuration};
-ghost use Rattle.np_decode.specs.Decoded.{decoded};
+ghost use Rattle.np_layout.specs.Decoded.{decoded};
 ghost use Rattle.np_keeper.specs.Keeper.{IsHeld};
 ghost use Rattle.np_nodestep.specs.Spelling.{IsSpelling, respelled};
 

@@ -16,8 +16,8 @@ use Rattle.np_machine.specs.Tables.{request_in, same_request}
 use Rattle.np_changes.specs.Changes.{changed}
 use Rattle.np_changes.specs.Planned.{IsReached}
 use Rattle.np_changes.specs.declared.changes.Changes.{Changes}
-use Rattle.np_safe.proofs.Numbered.{numbered}
-use Rattle.np_safe.proofs.Runs.{invariant-Runs}
+use Rattle.np_laws.proofs.Numbered.{numbered}
+use Rattle.np_laws.proofs.Runs.{invariant-Runs}
 use Rattle.np_look.proofs.Walks.{take_there}
 use Rattle.np_classes.specs.Touched.{touches_request}
 use Rattle.np_classes.proofs.Untouched.{request-untouched}

@@ -18,8 +18,8 @@ use Rattle.np_machine.specs.State.{State}
 use Rattle.np_machine.specs.Tables.{request_in, same_request}
 use Rattle.np_changes.specs.Planned.{IsReached}
 use Rattle.np_table.proofs.KeyLemmas.{apart}
-use Rattle.np_safe.proofs.Locked.{find-push_other, find-push_new}
-use Rattle.np_safe.proofs.Runs.{invariant-Runs}
+use Rattle.np_laws.proofs.Locked.{find-push_other, find-push_new}
+use Rattle.np_laws.proofs.Runs.{invariant-Runs}
 use Rattle.np_look.specs.Views.{request_view}
 use Rattle.np_look.specs.declared.asked.RequestView.{RequestView}
 use Rattle.np_look.proofs.Walks.{take_there}

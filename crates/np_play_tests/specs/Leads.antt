@@ -4,7 +4,7 @@ use Rattle.np_nodes.specs.TreeState.{TreeState}
 use Rattle.np_site.specs.Configuration.{Configuration}
 use Rattle.np_event.specs.declared.entry.Entry.{Entry}
 use Rattle.np_machine.specs.History.{Runs}
-use Rattle.np_decode.specs.Decoded.{decoded}
+use Rattle.np_layout.specs.Decoded.{decoded}
 use Rattle.np_keeper.specs.Keeper.{IsHeld}
 
 -- the tree stores the state that the journal leads to, with room for the events to come

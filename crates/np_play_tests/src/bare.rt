@@ -5,7 +5,7 @@ ghost use Rattle.std.specs.Prelude.{◌≡◌, ◌<◌, true, is_ok, OnOk, OnErr
 ghost use Rattle.np_machine.specs.Step.{judge, next, reply_of};
 ghost use Rattle.np_changes.specs.Planned.{IsReached};
 ghost use Rattle.np_fits.specs.Fits.{Fits};
-ghost use Rattle.np_decode.specs.Decoded.{decoded};
+ghost use Rattle.np_layout.specs.Decoded.{decoded};
 ghost use Rattle.np_keeper.specs.Keeper.{IsHeld};
 ghost use Rattle.np_reqstep.specs.Requests.{is_request_event};
 ghost use Rattle.np_nodestep.specs.Nodes.{is_node_event};

@@ -4,7 +4,7 @@ use Rattle.np_nodes.specs.TreeState.{TreeState}
 use Rattle.np_site.specs.Configuration.{Configuration}
 use Rattle.np_machine.specs.State.{State}
 use Rattle.np_layout.specs.Carried.{IsStored}
-use Rattle.np_decode.specs.Decoded.{decoded}
+use Rattle.np_layout.specs.Decoded.{decoded}
 
 -- a configuration and a state of its machine
 pub record SiteState : Type 0 where

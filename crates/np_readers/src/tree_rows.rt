@@ -1,7 +1,7 @@
 //! The rows of the state that a tree stores.
 
 ghost use Rattle.std.specs.Prelude.{◌≡◌, ◌<◌, ◌^◌};
-ghost use Rattle.np_decode.specs.Decoded.{decoded};
+ghost use Rattle.np_layout.specs.Decoded.{decoded};
 ghost use Rattle.np_layout.specs.Carried.{IsStored};
 
 use crate::{job_table, node_table, queues, request_table, semaphores, session_table};
@@ -22,7 +22,7 @@ pub struct TreeRows<'a> {
 }
 
 impl<'a> Model for TreeRows<'a> {
-    ghost use Rattle.np_decode.specs.Decoded.{decoded};
+    ghost use Rattle.np_layout.specs.Decoded.{decoded};
     ghost use Rattle.np_readers.specs.Rows.{IsReadable, SiteState};
 
     ghost Value = { SiteState };

@@ -5,19 +5,19 @@ use Rattle.np_io.specs.Counts.{Rose}
 use Rattle.np_io.specs.Facts.{SourceFacts, SinkFacts, IsWritten}
 use Rattle.np_disk.specs.Disk.{DiskFacts, LeavesOnly}
 use Rattle.np_disk.proofs.Moments.{LeavesOnly-weaker}
-use Rattle.np_report.specs.declared.script.Script.{Script}
-use Rattle.np_report.specs.declared.script.ScriptFault.{ScriptFault}
-use Rattle.np_report.specs.Script.{script_of}
-use Rattle.np_ending.specs.declared.ending.Ending.{Ending}
-use Rattle.np_ending.specs.declared.ending.Ending.TheVariants as ending
-use Rattle.np_ending.specs.Input.{IsInput, Stops, most}
-use Rattle.np_ending.specs.Told.{IsTold, long_line, read_line}
+use Rattle.np_script.specs.declared.script.Script.{Script}
+use Rattle.np_script.specs.declared.script.ScriptFault.{ScriptFault}
+use Rattle.np_script.specs.Script.{script_of}
+use Rattle.np_replay.specs.declared.ending.Ending.{Ending}
+use Rattle.np_replay.specs.declared.ending.Ending.TheVariants as ending
+use Rattle.np_replay.specs.Input.{IsInput, Stops, most}
+use Rattle.np_replay.specs.Told.{IsTold, long_line, read_line}
 use Rattle.np_replay.specs.Faults.{TellsScript}
 use Rattle.np_replay.specs.Keep.{EndsKeep, HasScript, IsBegun, IsBroken, IsKept, IsOccupied, IsNotKept, IsStatusBy, IsStatusIf, Keeps, KeepsWhole, WasNotEmpty}
 use Rattle.np_replay.specs.Keeping.{EndsKeeping, HasCome, IsBegunBy}
 use Rattle.np_replay.specs.Logged.{disk_line, not_empty_line}
 use Rattle.np_replay.specs.Replay.{IsFaulty}
-use Rattle.np_ending.proofs.Told.{HasOwn, IsOwn, ShowsOwn, tells, complete-read}
+use Rattle.np_replay.proofs.Told.{HasOwn, IsOwn, ShowsOwn, tells, complete-read}
 use Rattle.np_replay.proofs.Statuses.{faulty-status, few, not-zero}
 
 -- ## how a keep ends

@@ -1,3 +1,4 @@
+pub mod Told
 pub mod Statuses
 pub mod KeepStatuses
 pub mod GoingOn

@@ -7,12 +7,12 @@ use Rattle.np_disk.specs.Disk.{DiskFacts}
 use Rattle.np_event.specs.declared.event.Event.{Event}
 use Rattle.np_event_lines.specs.declared.fault.LineFault.{LineFault}
 use Rattle.np_site.specs.Configuration.{Configuration}
-use Rattle.np_report.specs.declared.lines.LinesFault.{LinesFault}
-use Rattle.np_ending.specs.declared.ending.Ending.{Ending}
-use Rattle.np_ending.specs.declared.ending.Ending.TheVariants as ending
-use Rattle.np_ending.specs.Input.{IsInput, Stops}
-use Rattle.np_ending.specs.Told.{IsTold, long_line, read_line}
-use Rattle.np_ending.proofs.Told.{HasOwn, ShowsOwn, tells, complete-read}
+use Rattle.np_script.specs.declared.lines.LinesFault.{LinesFault}
+use Rattle.np_replay.specs.declared.ending.Ending.{Ending}
+use Rattle.np_replay.specs.declared.ending.Ending.TheVariants as ending
+use Rattle.np_replay.specs.Input.{IsInput, Stops}
+use Rattle.np_replay.specs.Told.{IsTold, long_line, read_line}
+use Rattle.np_replay.proofs.Told.{HasOwn, ShowsOwn, tells, complete-read}
 use Rattle.np_replay.specs.Logged.{IsDamagedAt, disk_line, more_of}
 use Rattle.np_replay.specs.Resume.{EndsResume, IsDamaged, IsMisread, IsNotResumed, IsReadLogOf, IsResumed, IsStatusBy, IsStatusIf, Resumes, ResumesWhole}
 

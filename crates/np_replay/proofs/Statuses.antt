@@ -2,15 +2,15 @@
 use Rattle.std.proofs.Common.{◌≡◌, ◌<◌, ℕ, List, Bool, false, if◌then◌else◌, refl, sym, ap, ◌∙◌, subst, arith, inl, inr}
 use Rattle.std.specs.Prelude.{◌⊎◌}
 use Rattle.np_io.specs.Facts.{SourceFacts, SinkFacts, IsWritten}
-use Rattle.np_report.specs.declared.script.ScriptFault.{ScriptFault}
-use Rattle.np_report.specs.declared.script.ScriptFault.TheVariants as script
-use Rattle.np_report.specs.Script.{script_of}
-use Rattle.np_ending.specs.declared.ending.Ending.{Ending}
-use Rattle.np_ending.specs.Input.{IsInput}
-use Rattle.np_ending.specs.Lines.{script_status}
-use Rattle.np_ending.specs.Told.{IsTold}
+use Rattle.np_script.specs.declared.script.ScriptFault.{ScriptFault}
+use Rattle.np_script.specs.declared.script.ScriptFault.TheVariants as script
+use Rattle.np_script.specs.Script.{script_of}
+use Rattle.np_replay.specs.declared.ending.Ending.{Ending}
+use Rattle.np_replay.specs.Input.{IsInput}
+use Rattle.np_replay.specs.Lines.{script_status}
+use Rattle.np_replay.specs.Told.{IsTold}
 use Rattle.np_replay.specs.Replay.{IsReplayed, IsFaulty, EndsReplay, Replays, status_by}
-use Rattle.np_ending.proofs.Told.{HasOwn, ShowsOwn, tells, complete-read}
+use Rattle.np_replay.proofs.Told.{HasOwn, ShowsOwn, tells, complete-read}
 
 -- ## a fault's status
 

@@ -6,10 +6,10 @@ use Rattle.np_log.specs.declared.fault.CreateFault.{CreateFault}
 use Rattle.np_log.specs.declared.fault.CreateFault.TheVariants as create
 use Rattle.np_log.specs.declared.fault.LoadFault.{LoadFault}
 use Rattle.np_log.specs.declared.fault.LoadFault.TheVariants as load
-use Rattle.np_report.specs.declared.script.ScriptFault.{ScriptFault}
-use Rattle.np_ending.specs.declared.ending.Ending.{Ending}
-use Rattle.np_ending.specs.declared.ending.Ending.TheVariants as ending
-use Rattle.np_ending.specs.Lines.{script_line, script_status}
+use Rattle.np_script.specs.declared.script.ScriptFault.{ScriptFault}
+use Rattle.np_replay.specs.declared.ending.Ending.{Ending}
+use Rattle.np_replay.specs.declared.ending.Ending.TheVariants as ending
+use Rattle.np_replay.specs.Lines.{script_line, script_status}
 use Rattle.np_replay.specs.declared.fault.LogFault.{LogFault}
 use Rattle.np_replay.specs.declared.fault.LogFault.TheVariants as log
 use Rattle.np_replay.specs.Logged.{damaged_line, disk_line, not_empty_line}

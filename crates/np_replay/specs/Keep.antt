@@ -4,15 +4,15 @@ use Rattle.np_io.specs.Counts.{Rose}
 use Rattle.np_io.specs.Facts.{SourceFacts, SinkFacts, IsWritten}
 use Rattle.np_disk.specs.Disk.{DiskFacts, LeavesOnly}
 use Rattle.np_log.specs.Log.{content_of}
-use Rattle.np_report.specs.declared.script.Script.{Script}
-use Rattle.np_report.specs.declared.script.ScriptFault.{ScriptFault}
-use Rattle.np_report.specs.Script.{script_of}
-use Rattle.np_ending.specs.declared.ending.Ending.{Ending}
-use Rattle.np_ending.specs.declared.ending.Ending.TheVariants as ending
-use Rattle.np_ending.specs.Input.{IsInput, Stops, most}
-use Rattle.np_ending.specs.Lines.{script_status}
-use Rattle.np_ending.specs.Failures.{ShowsFailures}
-use Rattle.np_ending.specs.Told.{IsTold, EndsSo}
+use Rattle.np_script.specs.declared.script.Script.{Script}
+use Rattle.np_script.specs.declared.script.ScriptFault.{ScriptFault}
+use Rattle.np_script.specs.Script.{script_of}
+use Rattle.np_replay.specs.declared.ending.Ending.{Ending}
+use Rattle.np_replay.specs.declared.ending.Ending.TheVariants as ending
+use Rattle.np_replay.specs.Input.{IsInput, Stops, most}
+use Rattle.np_replay.specs.Lines.{script_status}
+use Rattle.np_replay.specs.Failures.{ShowsFailures}
+use Rattle.np_replay.specs.Told.{IsTold, EndsSo}
 use Rattle.np_replay.specs.Replay.{IsFaulty, IsReplayed}
 use Rattle.np_replay.specs.Logged.{HoldsLog, IsPartOfLog, disk_line, not_empty_line}
 

@@ -4,14 +4,14 @@ use Rattle.np_io.specs.Counts.{Rose}
 use Rattle.np_io.specs.Facts.{SourceFacts}
 use Rattle.np_disk.specs.Disk.{DiskFacts}
 use Rattle.np_log.specs.Log.{content_of}
-use Rattle.np_report.specs.declared.script.Script.{Script}
-use Rattle.np_report.specs.declared.script.ScriptFault.{ScriptFault}
-use Rattle.np_report.specs.Script.{script_of}
+use Rattle.np_script.specs.declared.script.Script.{Script}
+use Rattle.np_script.specs.declared.script.ScriptFault.{ScriptFault}
+use Rattle.np_script.specs.Script.{script_of}
 use Rattle.np_report.specs.Played.{played}
 use Rattle.np_report.specs.Printed.{IsPrinted}
-use Rattle.np_ending.specs.declared.ending.Ending.{Ending}
-use Rattle.np_ending.specs.declared.ending.Ending.TheVariants as ending
-use Rattle.np_ending.specs.Input.{IsInput}
+use Rattle.np_replay.specs.declared.ending.Ending.{Ending}
+use Rattle.np_replay.specs.declared.ending.Ending.TheVariants as ending
+use Rattle.np_replay.specs.Input.{IsInput}
 use Rattle.np_replay.specs.declared.fault.LogFault.{LogFault}
 use Rattle.np_replay.specs.declared.fault.LogFault.TheVariants as log
 use Rattle.np_replay.specs.Keep.{IsNotKept, WasEmpty, WasNotEmpty}

@@ -1,3 +1,7 @@
+pub mod Told
+pub mod Input
+pub mod Failures
+pub mod Lines
 pub mod Replay
 pub mod Logged
 pub mod Faults

@@ -2,17 +2,17 @@
 use Rattle.std.specs.Prelude.{◌≡◌, ◌⊎◌, ℕ, List, IfSome, Result, Ok, Err, length, nat_lt, if◌then◌else◌}
 use Rattle.np_io.specs.Counts.{Rose}
 use Rattle.np_io.specs.Facts.{SourceFacts, SinkFacts, IsWritten}
-use Rattle.np_report.specs.declared.script.Script.{Script}
-use Rattle.np_report.specs.declared.script.ScriptFault.{ScriptFault}
-use Rattle.np_report.specs.Script.{script_of}
+use Rattle.np_script.specs.declared.script.Script.{Script}
+use Rattle.np_script.specs.declared.script.ScriptFault.{ScriptFault}
+use Rattle.np_script.specs.Script.{script_of}
 use Rattle.np_report.specs.Played.{played}
 use Rattle.np_report.specs.Printed.{IsPrinted}
-use Rattle.np_ending.specs.declared.ending.Ending.{Ending}
-use Rattle.np_ending.specs.declared.ending.Ending.TheVariants as ending
-use Rattle.np_ending.specs.Input.{IsInput, Stops, most}
-use Rattle.np_ending.specs.Lines.{script_line, script_status}
-use Rattle.np_ending.specs.Failures.{ShowsFailures}
-use Rattle.np_ending.specs.Told.{IsTold, EndsAs}
+use Rattle.np_replay.specs.declared.ending.Ending.{Ending}
+use Rattle.np_replay.specs.declared.ending.Ending.TheVariants as ending
+use Rattle.np_replay.specs.Input.{IsInput, Stops, most}
+use Rattle.np_replay.specs.Lines.{script_line, script_status}
+use Rattle.np_replay.specs.Failures.{ShowsFailures}
+use Rattle.np_replay.specs.Told.{IsTold, EndsAs}
 
 -- ## how a replay may end
 

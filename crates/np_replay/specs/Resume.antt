@@ -8,15 +8,15 @@ use Rattle.np_event_lines.specs.declared.fault.LineFault.{LineFault}
 use Rattle.np_site.specs.Configuration.{Configuration}
 use Rattle.np_config_read.specs.Walk.{reads}
 use Rattle.np_config_text.specs.Canonical.{canonical}
-use Rattle.np_report.specs.declared.lines.LinesFault.{LinesFault}
+use Rattle.np_script.specs.declared.lines.LinesFault.{LinesFault}
 use Rattle.np_report.specs.Played.{played}
 use Rattle.np_report.specs.Printed.{IsPrinted}
-use Rattle.np_ending.specs.declared.ending.Ending.{Ending}
-use Rattle.np_ending.specs.declared.ending.Ending.TheVariants as ending
-use Rattle.np_ending.specs.Input.{IsInput, Stops, most}
-use Rattle.np_ending.specs.Lines.{lines_line}
-use Rattle.np_ending.specs.Failures.{ShowsFailures}
-use Rattle.np_ending.specs.Told.{IsTold, EndsSo}
+use Rattle.np_replay.specs.declared.ending.Ending.{Ending}
+use Rattle.np_replay.specs.declared.ending.Ending.TheVariants as ending
+use Rattle.np_replay.specs.Input.{IsInput, Stops, most}
+use Rattle.np_replay.specs.Lines.{lines_line}
+use Rattle.np_replay.specs.Failures.{ShowsFailures}
+use Rattle.np_replay.specs.Told.{IsTold, EndsSo}
 use Rattle.np_replay.specs.Keep.{IsBroken}
 use Rattle.np_replay.specs.Logged.{HoldsLog, IsDamagedAt, IsLogOf, IsPartOfLog, damaged_line, disk_line, more_of}
 

@@ -8,14 +8,14 @@ use Rattle.np_site.specs.Configuration.{Configuration}
 use Rattle.np_config_read.specs.Walk.{reads}
 use Rattle.np_config_text.specs.Canonical.{canonical}
 use Rattle.np_log.specs.Place.{IsSettled, Place}
-use Rattle.np_report.specs.declared.lines.LinesFault.{LinesFault}
-use Rattle.np_report.specs.declared.script.Script.{Script}
-use Rattle.np_report.specs.Script.{IsPlayable}
+use Rattle.np_script.specs.declared.lines.LinesFault.{LinesFault}
+use Rattle.np_script.specs.declared.script.Script.{Script}
+use Rattle.np_script.specs.Script.{IsPlayable}
 use Rattle.np_report.specs.Played.{played}
 use Rattle.np_report.specs.Printed.{IsPrinted}
-use Rattle.np_ending.specs.declared.ending.Ending.{Ending}
-use Rattle.np_ending.specs.declared.ending.Ending.TheVariants as ending
-use Rattle.np_ending.specs.Lines.{lines_line}
+use Rattle.np_replay.specs.declared.ending.Ending.{Ending}
+use Rattle.np_replay.specs.declared.ending.Ending.TheVariants as ending
+use Rattle.np_replay.specs.Lines.{lines_line}
 use Rattle.np_replay.specs.declared.fault.LogFault.{LogFault}
 use Rattle.np_replay.specs.declared.fault.LogFault.TheVariants as log
 use Rattle.np_replay.specs.declared.resuming.ResumeFault.{ResumeFault}

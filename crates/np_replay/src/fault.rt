@@ -4,8 +4,8 @@ ghost use Rattle.std.specs.Prelude.{◌≡◌, IfOk};
 ghost use Rattle.np_replay.specs.Faults.{IsSaidOf, TellsFault};
 ghost use Rattle.np_replay.specs.Logged.{damaged_line};
 
+use crate::Ending;
 use np_disk::DiskFailed;
-use np_ending::Ending;
 use np_log::{AppendFault, CreateFault, LoadFault};
 use np_text::{NoMemory, put_number};
 use std::alloc::{AllocError, Global};

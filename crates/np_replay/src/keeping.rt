@@ -6,20 +6,21 @@ ghost use Rattle.np_config_text.specs.Canonical.{canonical};
 ghost use Rattle.np_disk.specs.Disk.{LeavesOnly};
 ghost use Rattle.np_log.specs.Log.{content_of};
 ghost use Rattle.np_log.specs.Place.{IsSettled, SaysNewLog};
-ghost use Rattle.np_report.specs.Script.{IsPlayable};
+ghost use Rattle.np_script.specs.Script.{IsPlayable};
 ghost use Rattle.np_replay.specs.Keep.{EndsKeep, Keeps, KeepsWhole, WasEmpty};
 ghost use Rattle.np_replay.specs.Keeping.{EndsKeeping, IsBegunBy, WhyNotWritten};
 ghost use Rattle.np_replay.specs.Logged.{HoldsLog};
 
 use crate::fault::{LogFault, ending_of_fault};
 use crate::script::{ending_of_script_fault, script_come};
+use crate::{Ending, tell};
 use np_config::Config;
 use np_config_text::config_text;
 use np_disk::Disk;
-use np_ending::{Ending, tell};
 use np_io::{Sink, Source};
 use np_log::Log;
-use np_report::{Script, text_of_script};
+use np_report::text_of_script;
+use np_script::Script;
 use np_text::NoMemory;
 use std::alloc::Global;
 

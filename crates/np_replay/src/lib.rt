@@ -1,18 +1,34 @@
-//! The commands over scripts: `replay` plays one, `keep` also writes it to a transaction log, and
-//! `resume` goes on with a log.
+//! How a command of the program ends, and the commands over scripts: `replay` plays one, `keep` also
+//! writes it to a transaction log, and `resume` goes on with a log.
 //!
-//! Each is a public function with a record of clauses in a file of its own, as `specs/Replay`: it
-//! works out an `Ending`, and `tell` of np_ending writes that to the sinks. `specs/Logged` says
-//! what a log says of a site and its events. Nothing is printed to out before all of the input was
-//! read, all events are in the log, and the whole text is in memory.
+//! A command works out an `Ending`, and `tell` writes that to the sinks (`specs/Told`). A command
+//! that reads takes its whole `input` first (`specs/Input`), so that a failed source is found
+//! before anything else. The statuses 5, 6 and 7 mean the same for each of them
+//! (`specs/Failures`). The lines that report what is wrong with a script, or with a site with
+//! hosts, are in `specs/Lines`. `proofs/Told` goes from an ending and what was written of it to
+//! what each status means, for any command.
+//!
+//! Each command is a public function with a record of clauses in a file of its own, as
+//! `specs/Replay`. `specs/Logged` says what a log says of a site and its events. Nothing is printed to
+//! out before all of the input was read, all events are in the log, and the whole text is in memory.
 #![tactic(auto)]
 
+mod ending;
 mod fault;
+mod hosts;
 mod keeping;
+mod lines;
+mod reading;
 mod replaying;
 mod resuming;
 mod script;
+mod telling;
 
+pub use ending::Ending;
+pub use hosts::{line_of_hosted, status_of_hosted};
 pub use keeping::keep;
+pub use lines::{line_of_config, line_of_lines, line_of_script, status_of_script};
+pub use reading::input;
 pub use replaying::replay;
 pub use resuming::resume;
+pub use telling::tell;

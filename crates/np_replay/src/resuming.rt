@@ -9,16 +9,17 @@ ghost use Rattle.np_replay.specs.Resume.{EndsResume, IsGoingOn, Resumes, Resumes
 ghost use Rattle.np_replay.specs.Resuming.{IsCanonical, IsPlayedOn, IsReady, TellsResumeFault, WhyNotAppended, WhyNotLoaded, WhyNotRead, WhyNotResumed};
 
 use crate::fault::{LogFault, ending_of_fault};
+use crate::{Ending, input, line_of_lines, tell};
 use np_config::Config;
 use np_config_read::{ConfigRead, read_config};
 use np_config_text::config_text;
 use np_disk::Disk;
-use np_ending::{Ending, input, line_of_lines, tell};
 use np_event_lines::LineFault;
 use np_io::{Sink, Source};
 use np_lists::Items;
 use np_log::{Loaded, Log};
-use np_report::{EventList, LinesFault, Script, read_lines, text_of_script};
+use np_report::text_of_script;
+use np_script::{EventList, LinesFault, Script, read_lines};
 use np_text::{JOURNAL_ENTRIES, NoMemory};
 use std::alloc::Global;
 

@@ -9,6 +9,3 @@ pub mod FateLines
 pub mod OneRun
 pub mod Playing
 pub mod SafePlay
-pub mod LinesRead
-pub mod FirstFault
-pub mod Playable

@@ -1,5 +1,3 @@
-pub mod Lines
-pub mod Script
 pub mod Text
 pub mod Played
 pub mod Printed

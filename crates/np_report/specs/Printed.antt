@@ -11,7 +11,7 @@ use Rattle.np_machine.specs.Safe.{Safe}
 use Rattle.np_machine.specs.Caused.{Caused}
 use Rattle.np_machine.specs.Kept.{Kept}
 use Rattle.np_machine.specs.Fenced.{Fenced}
-use Rattle.np_safe.specs.Steps.{AfterEveryStep}
+use Rattle.np_laws.specs.Steps.{AfterEveryStep}
 use Rattle.np_report.specs.Text.{text_of}
 
 -- after every step of the journal: no node and no request has two live holders, no pool, tenant or semaphore passes its limit, a fulfilled request owns its labels in order from one pool; a request failed only with its cause; no crash and no expiry lost a record; each node was changed by its holder alone

@@ -7,7 +7,7 @@ ghost use Rattle.np_site.specs.Sound.{IsSound};
 ghost use Rattle.np_event_lines.specs.Line.{HasEventLine, entry_line};
 ghost use Rattle.np_machine.specs.Fates.{fates};
 ghost use Rattle.np_machine.specs.History.{Runs};
-ghost use Rattle.np_told.specs.Told.{IsToldEntry};
+ghost use Rattle.np_lines.specs.Told.{IsToldEntry};
 ghost use Rattle.np_report.specs.Printed.{IsPrinted};
 ghost use Rattle.np_report.specs.Text.{text_of, job_text, entry_lines, fate_lines};
 

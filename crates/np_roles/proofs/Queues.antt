@@ -9,7 +9,7 @@ use Rattle.np_lists.proofs.FoundLemmas.{find-passes}
 use Rattle.np_machine.specs.Entries.{RequestEntry, NodeEntry}
 use Rattle.np_machine.specs.State.{State}
 use Rattle.np_machine.specs.Tables.{holder, is_queued, is_session_of, same_request, request_entry, request_queue, node_entry, node_queue}
-use Rattle.np_safe.proofs.Lookups.{same_request-is, same_node-is}
+use Rattle.np_laws.proofs.Lookups.{same_request-is, same_node-is}
 use Rattle.np_look.specs.Readers.{queued_requests, queued_nodes}
 use Rattle.np_roles.proofs.Places.{StandsIn, named-place}
 

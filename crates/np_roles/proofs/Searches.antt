@@ -17,7 +17,7 @@ use Rattle.np_machine.specs.State.{State}
 use Rattle.np_machine.specs.Step.{judge, maker_of}
 use Rattle.np_changes.proofs.Tested.{ok-is}
 use Rattle.np_machine.specs.Tables.{same_request, request_entry, node_entry}
-use Rattle.np_safe.proofs.Lookups.{same_request-is, same_node-is}
+use Rattle.np_laws.proofs.Lookups.{same_request-is, same_node-is}
 use Rattle.np_useful.specs.Sessions.{is_current}
 use Rattle.np_useful.specs.Useful.{IsUseful, row_holds, is_maker_of}
 use Rattle.np_roles.specs.declared.kind.EventKind.{EventKind}

@@ -8,7 +8,7 @@ use Rattle.np_cloud.specs.Facts.{DriverFacts}
 use Rattle.np_desk.specs.Pass.{PassView, DeskView, sight_of}
 use Rattle.np_answers.specs.Answers.{IsFull}
 use Rattle.np_worker.specs.declared.worker.RoundEnd.{RoundEnd}
-use Rattle.np_trace.specs.Phase.{Phase, Leads, first_phase, ended}
+use Rattle.np_answers.specs.Phase.{Phase, Leads, first_phase, ended}
 use Rattle.np_worker.specs.Round.{EndsAs, Rests, work_of, driving_of}
 use Rattle.np_rounds.specs.declared.crew.Crew.{Crew}
 use Rattle.np_rounds.specs.declared.crew.CrewEnd.{CrewEnd}

@@ -6,7 +6,7 @@ use Rattle.np_event.specs.declared.entry.Entry.{Entry}
 use Rattle.np_site.specs.Configuration.{Configuration}
 use Rattle.np_cloud.specs.Facts.{DriverFacts}
 use Rattle.np_machine.specs.History.{Runs, after}
-use Rattle.np_trace.specs.Drive.{Driving, driving}
+use Rattle.np_answers.specs.Drive.{Driving, driving}
 use Rattle.np_useful.specs.Driven.{DrivenBy}
 use Rattle.np_driven.specs.Players.{Player, drivings_of, AreNumbered, WasAnswered, HaveDriven}
 use Rattle.np_driven.specs.Round.{IsRound}

@@ -17,10 +17,10 @@ use Rattle.np_answers.specs.declared.ask.Turn.{Turn}
 use Rattle.np_answers.specs.declared.ask.Turn.TheVariants as turn
 use Rattle.np_answers.specs.Answers.{answers, IsFull}
 use Rattle.np_answers.specs.Asks.{recorded}
-use Rattle.np_trace.specs.declared.start.Start.{Start}
-use Rattle.np_trace.specs.Move.{Move, asked, launched, removed}
-use Rattle.np_trace.specs.Phase.{Work, of_pool, of_requester, of_reaper, Phase, acts, owes_launch, owes_report, looks, owes_due, sweeps, owes_swept, rests, ended, Leads, first_phase, acting, after_role, after_start, after_entry, after_turn, after_launch, after_removal, start_of, is_unwanted}
-use Rattle.np_trace.specs.Walk.{Walk}
+use Rattle.np_answers.specs.declared.start.Start.{Start}
+use Rattle.np_answers.specs.Move.{Move, asked, launched, removed}
+use Rattle.np_answers.specs.Phase.{Work, of_pool, of_requester, of_reaper, Phase, acts, owes_launch, owes_report, looks, owes_due, sweeps, owes_swept, rests, ended, Leads, first_phase, acting, after_role, after_start, after_entry, after_turn, after_launch, after_removal, start_of, is_unwanted}
+use Rattle.np_answers.specs.Walk.{Walk}
 
 -- the round goes on
 abbrev pub GoesOn : Phase → Type 0

@@ -7,7 +7,7 @@ use Rattle.np_site.specs.Configuration.{Configuration}
 use Rattle.np_cloud.specs.Facts.{DriverFacts}
 use Rattle.np_cloud.specs.Sound.{Soundness}
 use Rattle.np_machine.specs.History.{Runs, after}
-use Rattle.np_trace.specs.Drive.{Driving, driving}
+use Rattle.np_answers.specs.Drive.{Driving, driving}
 use Rattle.np_driven.specs.Players.{Player, driving_in, drivings_of, AreNumbered, HaveDriven}
 use Rattle.np_driven.specs.Round.{IsRound}
 use Rattle.np_hosts.specs.Carried.{AreCarried, BeginsEmpty, BeginsNew, FailOnlyFull}

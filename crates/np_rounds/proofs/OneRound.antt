@@ -12,10 +12,10 @@ use Rattle.np_desk.specs.Share.{times}
 use Rattle.np_desk.specs.declared.view.Origin.{Origin}
 use Rattle.np_desk.proofs.HistoryLemmas.{starts_on}
 use Rattle.np_answers.specs.Answers.{answers}
-use Rattle.np_trace.specs.Drive.{Driving}
-use Rattle.np_trace.specs.Move.{Move}
-use Rattle.np_trace.specs.Phase.{Work, of_pool, of_requester, of_reaper, Phase, acts, owes_launch, owes_report, looks, owes_due, sweeps, owes_swept, rests, ended, OwesRemoval}
-use Rattle.np_trace.specs.Walk.{Walk}
+use Rattle.np_answers.specs.Drive.{Driving}
+use Rattle.np_answers.specs.Move.{Move}
+use Rattle.np_answers.specs.Phase.{Work, of_pool, of_requester, of_reaper, Phase, acts, owes_launch, owes_report, looks, owes_due, sweeps, owes_swept, rests, ended, OwesRemoval}
+use Rattle.np_answers.specs.Walk.{Walk}
 use Rattle.np_driven.specs.Players.{Player}
 use Rattle.np_driven.specs.Round.{PlayerEnd, PlaysFrom, EachPlaysFrom, IsMade, IsCutOff, IsRound}
 use Rattle.np_worker.specs.declared.worker.RoundEnd.{RoundEnd}

@@ -4,8 +4,8 @@ use Rattle.std.specs.Prelude.{map, Bool, Option, Some, None}
 use Rattle.np_cloud.specs.Facts.{DriverFacts}
 use Rattle.np_text.specs.declared.id.PoolId.{PoolId}
 use Rattle.np_text.specs.declared.id.RequesterId.{RequesterId}
-use Rattle.np_trace.specs.Drive.{Driving, Drove, driving}
-use Rattle.np_trace.specs.Move.{Move}
+use Rattle.np_answers.specs.Drive.{Driving, Drove, driving}
+use Rattle.np_answers.specs.Move.{Move}
 use Rattle.np_site.specs.Configuration.{Configuration}
 use Rattle.np_event.specs.declared.entry.Entry.{Entry}
 use Rattle.np_driven.specs.Players.{Player, driving_in, drivings_of, AreNumbered}

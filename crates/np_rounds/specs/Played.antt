@@ -4,7 +4,7 @@ use Rattle.np_text.specs.declared.memory.NoMemory.{NoMemory}
 use Rattle.np_event.specs.declared.entry.Entry.{Entry}
 use Rattle.np_event.specs.declared.event.Event.TheVariants as ev
 use Rattle.np_site.specs.Configuration.{Configuration}
-use Rattle.np_trace.specs.Drive.{Driving}
+use Rattle.np_answers.specs.Drive.{Driving}
 use Rattle.np_useful.specs.Driven.{DrivenBy}
 use Rattle.np_driven.specs.Players.{Player, drivings_of, AreNumbered, WasAnswered, HaveDriven}
 use Rattle.np_worker.specs.declared.worker.RoundEnd.{RoundEnd}

@@ -6,7 +6,7 @@ use Rattle.np_site.specs.Configuration.{Configuration}
 use Rattle.np_desk.specs.Pass.{DeskView, IsOf, sight_of}
 use Rattle.np_answers.specs.Answers.{answers}
 use Rattle.np_worker.specs.Part.{Part}
-use Rattle.np_trace.specs.Phase.{first_phase}
+use Rattle.np_answers.specs.Phase.{first_phase}
 use Rattle.np_worker.specs.Round.{EndsAs, work_of, driving_of}
 use Rattle.np_rounds.specs.declared.crew.Crew.{Crew}
 use Rattle.np_rounds.specs.declared.crew.CrewEnd.{CrewEnd}

@@ -2,7 +2,7 @@
 
 ghost use Rattle.std.specs.Prelude.{◌≡◌, length, map, IfOk};
 ghost use Rattle.np_desk.specs.Pass.{IsOf};
-ghost use Rattle.np_trace.specs.Drive.{driving};
+ghost use Rattle.np_answers.specs.Drive.{driving};
 ghost use Rattle.np_driven.specs.Players.{drivings_of, AreNumbered};
 ghost use Rattle.np_rounds.specs.Crews.{players_of};
 ghost use Rattle.np_rounds.specs.Plays.{Plays};

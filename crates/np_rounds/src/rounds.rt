@@ -4,7 +4,7 @@ ghost use Rattle.std.specs.Prelude.{◌≡◌, [], length, map, All, IfOk, Some,
 ghost use Rattle.np_desk.specs.Part.{IsWhole};
 ghost use Rattle.np_desk.specs.Pass.{IsOf};
 ghost use Rattle.np_useful.specs.Settled.{IsSettled};
-ghost use Rattle.np_trace.specs.Drive.{driving};
+ghost use Rattle.np_answers.specs.Drive.{driving};
 ghost use Rattle.np_useful.specs.Driven.{DrivenBy};
 ghost use Rattle.np_driven.specs.Players.{WasAnswered, HaveDriven};
 ghost use Rattle.np_hosts.specs.Carried.{AreCarried, BeginsEmpty, BeginsNew, FailOnlyFull};

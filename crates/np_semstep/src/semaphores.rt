@@ -7,7 +7,7 @@ ghost use Rattle.np_machine.specs.Step.{judge, next, reply_of};
 ghost use Rattle.np_changes.specs.Planned.{IsReached};
 ghost use Rattle.np_fits.specs.Fits.{Fits};
 ghost use Rattle.np_tree_look.specs.Carried.{IsStored};
-ghost use Rattle.np_decode.specs.Decoded.{decoded};
+ghost use Rattle.np_layout.specs.Decoded.{decoded};
 ghost use Rattle.np_keeper.specs.Keeper.{IsHeld};
 ghost use Rattle.np_semstep.specs.Semaphores.{is_semaphore_event};
 

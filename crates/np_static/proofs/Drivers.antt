@@ -6,7 +6,7 @@ use Rattle.np_text.specs.declared.id.PoolId.{PoolId}
 use Rattle.np_site.specs.Configuration.{Configuration}
 use Rattle.np_site.specs.declared.row.Pool.{Pool}
 use Rattle.np_event_lines.specs.declared.fault.LineFault.{LineFault}
-use Rattle.np_report.specs.declared.lines.LinesFault.{LinesFault}
+use Rattle.np_script.specs.declared.lines.LinesFault.{LinesFault}
 use Rattle.np_cloud.specs.Inventory.{told_nothing}
 use Rattle.np_cloud.specs.Sim.{simulation_of}
 use Rattle.np_static.specs.declared.fault.HostsFault.{HostsFault}

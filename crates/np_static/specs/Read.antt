@@ -6,9 +6,9 @@ use Rattle.np_site.specs.Configuration.{Configuration}
 use Rattle.np_site.specs.declared.row.Pool.{Pool}
 use Rattle.np_event_lines.specs.Words.{words_of}
 use Rattle.np_event_lines.specs.declared.fault.LineFault.{LineFault}
-use Rattle.np_report.specs.Lines.{lines_read}
-use Rattle.np_report.specs.declared.lines.LinesFault.{LinesFault}
-use Rattle.np_report.specs.declared.lines.LinesFault.TheVariants as lines
+use Rattle.np_script.specs.Lines.{lines_read}
+use Rattle.np_script.specs.declared.lines.LinesFault.{LinesFault}
+use Rattle.np_script.specs.declared.lines.LinesFault.TheVariants as lines
 use Rattle.np_cloud.specs.Sim.{simulation_of}
 use Rattle.np_static.specs.declared.fault.HostsFault.{HostsFault}
 use Rattle.np_static.specs.declared.fault.HostsFault.TheVariants as fault

@@ -20,8 +20,8 @@ use Rattle.np_changes.specs.declared.changes.RequestsChange.{RequestsChange}
 use Rattle.np_changes.specs.declared.changes.SessionsChange.{SessionsChange}
 use Rattle.np_changes.specs.declared.changes.SessionsChange.TheVariants as sessions
 use Rattle.np_changes.proofs.PremisesOf.{premises}
-use Rattle.np_safe.specs.Parts.{IsNumbered}
-use Rattle.np_safe.proofs.Runs.{invariant-Runs}
+use Rattle.np_laws.specs.Parts.{IsNumbered}
+use Rattle.np_laws.proofs.Runs.{invariant-Runs}
 use Rattle.np_keys.specs.Keys.{is_node_before}
 use Rattle.np_tables.specs.Queues.{AreQueuesOf}
 use Rattle.np_tables.specs.LeftLast.{CanEnd, changed_in_queues}

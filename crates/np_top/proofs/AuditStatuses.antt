@@ -1,11 +1,11 @@
 -- what each status of an audit shows
 use Rattle.std.proofs.Common.{◌≡◌, ℕ, List, Bool, false, refl, subst, arith, inl, inr}
 use Rattle.np_io.specs.Facts.{SourceFacts, SinkFacts, IsWritten}
-use Rattle.np_ending.specs.declared.ending.Ending.{Ending}
-use Rattle.np_ending.specs.Input.{IsInput}
-use Rattle.np_ending.specs.Told.{IsTold}
+use Rattle.np_replay.specs.declared.ending.Ending.{Ending}
+use Rattle.np_replay.specs.Input.{IsInput}
+use Rattle.np_replay.specs.Told.{IsTold}
 use Rattle.np_top.specs.Audit.{InputIsText, InputIsNoText, EndsAudit, Audits, IsAuditStatusIf, yes_line}
-use Rattle.np_ending.proofs.Told.{HasOwn, ShowsOwn, tells, complete-read}
+use Rattle.np_replay.proofs.Told.{HasOwn, ShowsOwn, tells, complete-read}
 
 -- 0 and 8 are statuses of its own
 own : (source source_now : SourceFacts) → HasOwn (EndsAudit source source_now)

@@ -4,10 +4,10 @@ use Rattle.std.specs.Prelude.{◌⊎◌}
 use Rattle.np_io.specs.Facts.{SinkFacts, IsWritten}
 use Rattle.np_site.specs.Configuration.{Configuration}
 use Rattle.np_gen.specs.Site.{drill_site}
-use Rattle.np_ending.specs.declared.ending.Ending.{Ending}
-use Rattle.np_ending.specs.Told.{IsTold, EndsSo, full_line}
+use Rattle.np_replay.specs.declared.ending.Ending.{Ending}
+use Rattle.np_replay.specs.Told.{IsTold, EndsSo, full_line}
 use Rattle.np_top.specs.Drill.{IsDrill, EndsDrill, Drills}
-use Rattle.np_ending.proofs.Told.{HasOwn, ShowsOwn, tells, complete-shown}
+use Rattle.np_replay.proofs.Told.{HasOwn, ShowsOwn, tells, complete-shown}
 
 -- 0 is a status of its own
 own : (c : Configuration) → HasOwn (EndsDrill c)

@@ -29,8 +29,8 @@ use Rattle.np_machine.specs.Tests.{Answer, maker, launcher, janitor, request_at}
 use Rattle.np_machine.specs.Request.{lock_request_as, unlock_request_as}
 use Rattle.np_machine.specs.Turns.{Turn, turns_from}
 use Rattle.np_useful.specs.Useful.{IsUseful, row_holds}
-use Rattle.np_told.specs.Told.{has_digits}
-use Rattle.np_told.proofs.Ids.{IdHasDigits, HasIds, request-digits, HasIds-start, HasIds-next}
+use Rattle.np_lines.specs.Told.{has_digits}
+use Rattle.np_lines.proofs.Ids.{IdHasDigits, HasIds, request-digits, HasIds-start, HasIds-next}
 use Rattle.np_useful.specs.Driven.{Says, IsDrivenTurn, DrivenFrom, DrivenBy}
 use Rattle.np_top.specs.Typed.{IsTyped}
 

@@ -3,8 +3,8 @@ use Rattle.std.proofs.Common.{◌≡◌, ℕ, List, Result, Ok, Err}
 use Rattle.std.specs.Prelude.{IfOk}
 use Rattle.np_io.specs.Facts.{SourceFacts}
 use Rattle.np_event.specs.declared.entry.Entry.{Entry}
-use Rattle.np_ending.specs.declared.ending.Ending.{Ending}
-use Rattle.np_ending.specs.declared.ending.Ending.TheVariants as ending
+use Rattle.np_replay.specs.declared.ending.Ending.{Ending}
+use Rattle.np_replay.specs.declared.ending.Ending.TheVariants as ending
 use Rattle.np_top.specs.Play.{EndsPlay}
 use Rattle.np_top.specs.Run.{SiteCommand, EndsRun, EndsSite, HasCome, IsNoSite}
 

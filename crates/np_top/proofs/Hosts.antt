@@ -14,7 +14,7 @@ use Rattle.np_useful.specs.Driven.{DrivenBy}
 use Rattle.np_cloud.specs.declared.driver.Tag.{Tag}
 use Rattle.np_cloud.specs.Inventory.{Told}
 use Rattle.np_cloud.specs.Sim.{Simulation, simulated_outcome}
-use Rattle.np_trace.specs.Drive.{Driving, driving}
+use Rattle.np_answers.specs.Drive.{Driving, driving}
 use Rattle.np_driven.specs.Players.{WasAnswered, launch_of}
 use Rattle.np_driven.proofs.Places.{driven-more}
 use Rattle.np_static.specs.declared.site.SiteDriver.{SiteDriver}

@@ -3,14 +3,14 @@ use Rattle.std.proofs.Common.{◌≡◌, ◌≤◌, ℕ, List, Result, Ok, Err, 
 use Rattle.std.specs.Prelude.{◌⊎◌}
 use Rattle.np_io.specs.Facts.{SourceFacts, SinkFacts, IsWritten}
 use Rattle.np_machine.specs.Fates.{Fate}
-use Rattle.np_ending.specs.declared.ending.Ending.{Ending}
-use Rattle.np_ending.specs.Input.{IsInput}
-use Rattle.np_ending.specs.Told.{IsTold, full_line}
+use Rattle.np_replay.specs.declared.ending.Ending.{Ending}
+use Rattle.np_replay.specs.Input.{IsInput}
+use Rattle.np_replay.specs.Told.{IsTold, full_line}
 use Rattle.np_static.specs.declared.fault.HostedFault.TheVariants as hosted
 use Rattle.np_top.specs.Play.{some_waits, status_of_fates}
 use Rattle.np_top.specs.Run.{SiteCommand, IsRun, IsNoSite, EndsRun, RunsSite, IsStatusBy, IsStatusIf, fates_of_run, plain_run}
 use Rattle.np_top.specs.RunHosts.{hosted_run}
-use Rattle.np_ending.proofs.Told.{HasOwn, IsOwn, ShowsOwn, tells, complete-read}
+use Rattle.np_replay.proofs.Told.{HasOwn, IsOwn, ShowsOwn, tells, complete-read}
 
 -- ## the fates' status
 

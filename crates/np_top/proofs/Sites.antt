@@ -14,7 +14,7 @@ use Rattle.np_cloud.specs.Facts.{DriverFacts}
 use Rattle.np_cloud.specs.Sim.{Simulation, simulation_facts, simulation_plan}
 use Rattle.np_cloud.specs.Clouds.{ArePlanned, simulations}
 use Rattle.np_cloud.proofs.CloudLemmas.{simulations-planned, simulations-fresh}
-use Rattle.np_trace.specs.Drive.{Driving, driving}
+use Rattle.np_answers.specs.Drive.{Driving, driving}
 use Rattle.np_driven.specs.Players.{WasAnswered}
 use Rattle.np_driven.proofs.Plans.{planned-driven}
 use Rattle.np_report.specs.Printed.{IsPrinted}

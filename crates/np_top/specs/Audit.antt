@@ -4,11 +4,11 @@ use Rattle.np_io.specs.Counts.{Rose}
 use Rattle.np_io.specs.Facts.{SourceFacts, SinkFacts, IsWritten}
 use Rattle.np_text.specs.Lines.{line}
 use Rattle.np_audit.specs.Audit.{IsAText, IsNoText}
-use Rattle.np_ending.specs.declared.ending.Ending.{Ending}
-use Rattle.np_ending.specs.declared.ending.Ending.TheVariants as ending
-use Rattle.np_ending.specs.Input.{IsInput, Stops, most}
-use Rattle.np_ending.specs.Failures.{ShowsFailures}
-use Rattle.np_ending.specs.Told.{IsTold, EndsSo}
+use Rattle.np_replay.specs.declared.ending.Ending.{Ending}
+use Rattle.np_replay.specs.declared.ending.Ending.TheVariants as ending
+use Rattle.np_replay.specs.Input.{IsInput, Stops, most}
+use Rattle.np_replay.specs.Failures.{ShowsFailures}
+use Rattle.np_replay.specs.Told.{IsTold, EndsSo}
 
 -- ## the lines
 

@@ -10,10 +10,10 @@ use Rattle.np_useful.specs.Driven.{Driven}
 use Rattle.np_gen.specs.Site.{drill_site}
 use Rattle.np_report.specs.Printed.{HoldsThroughout}
 use Rattle.np_report.specs.Summary.{summary_of}
-use Rattle.np_ending.specs.declared.ending.Ending.{Ending}
-use Rattle.np_ending.specs.declared.ending.Ending.TheVariants as ending
+use Rattle.np_replay.specs.declared.ending.Ending.{Ending}
+use Rattle.np_replay.specs.declared.ending.Ending.TheVariants as ending
 use Rattle.np_top.specs.Play.{HasEnded}
-use Rattle.np_ending.specs.Told.{IsTold, memory_line, full_line}
+use Rattle.np_replay.specs.Told.{IsTold, memory_line, full_line}
 
 -- ## how a drill may end
 

@@ -9,8 +9,8 @@ use Rattle.np_machine.specs.History.{after}
 use Rattle.np_useful.specs.Settled.{IsSettled}
 use Rattle.np_report.specs.Printed.{IsPrinted}
 use Rattle.np_rounds.specs.Played.{EndsWithTick}
-use Rattle.np_ending.specs.declared.ending.Ending.{Ending}
-use Rattle.np_ending.specs.declared.ending.Ending.TheVariants as ending
+use Rattle.np_replay.specs.declared.ending.Ending.{Ending}
+use Rattle.np_replay.specs.declared.ending.Ending.TheVariants as ending
 
 -- if the run came to its end, no role has a useful event, and the last entry is a tick; otherwise
 -- the journal is as long as it may be (own)

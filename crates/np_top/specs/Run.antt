@@ -9,12 +9,12 @@ use Rattle.np_event.specs.declared.entry.Entry.{Entry}
 use Rattle.np_machine.specs.Fates.{Fate, fates}
 use Rattle.np_machine.specs.History.{after}
 use Rattle.np_useful.specs.Driven.{Driven}
-use Rattle.np_ending.specs.declared.ending.Ending.{Ending}
-use Rattle.np_ending.specs.declared.ending.Ending.TheVariants as ending
-use Rattle.np_ending.specs.Input.{IsInput, Stops, most}
-use Rattle.np_ending.specs.Lines.{config_line}
-use Rattle.np_ending.specs.Failures.{ShowsFailures}
-use Rattle.np_ending.specs.Told.{IsTold, EndsSo, full_line}
+use Rattle.np_replay.specs.declared.ending.Ending.{Ending}
+use Rattle.np_replay.specs.declared.ending.Ending.TheVariants as ending
+use Rattle.np_replay.specs.Input.{IsInput, Stops, most}
+use Rattle.np_replay.specs.Lines.{config_line}
+use Rattle.np_replay.specs.Failures.{ShowsFailures}
+use Rattle.np_replay.specs.Told.{IsTold, EndsSo, full_line}
 use Rattle.np_top.specs.Play.{IsPlayedTo, EndsPlay, some_waits, status_of_fates}
 
 -- ## the commands

@@ -9,7 +9,7 @@ use Rattle.np_useful.specs.Driven.{Says, DrivenBy}
 use Rattle.np_static.specs.Site.{Site, simulated, hosted}
 use Rattle.np_static.specs.declared.fault.HostedFault.{HostedFault}
 use Rattle.np_static.specs.Hosted.{Hosted, hosted_of}
-use Rattle.np_ending.specs.Lines.{hosted_line, hosted_status}
+use Rattle.np_replay.specs.Lines.{hosted_line, hosted_status}
 use Rattle.np_top.specs.Run.{SiteCommand}
 
 -- the outcome of a start is the planned one where the pool has a simulated cloud; of hosts nothing is said

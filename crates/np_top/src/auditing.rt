@@ -4,8 +4,8 @@ ghost use Rattle.std.specs.Prelude.{◌≡◌, IfOk, IfErr};
 ghost use Rattle.np_top.specs.Audit.{Audits, EndsAudit, no_line, yes_line};
 
 use np_audit::Finding;
-use np_ending::{Ending, input, tell};
 use np_io::{Sink, Source};
+use np_replay::{Ending, input, tell};
 use np_text::{NoMemory, put_number};
 use std::alloc::Global;
 

@@ -3,7 +3,7 @@
 ghost use Rattle.std.specs.Prelude.{◌≡◌, length, map, All, IfOk, Some, []};
 ghost use Rattle.std.specs.List.{AllByRecursion};
 ghost use Rattle.np_event_lines.specs.Line.{HasEventLine};
-ghost use Rattle.np_trace.specs.Drive.{driving};
+ghost use Rattle.np_answers.specs.Drive.{driving};
 ghost use Rattle.np_driven.specs.Players.{WasAnswered};
 ghost use Rattle.np_useful.specs.Driven.{Driven, DrivenBy};
 ghost use Rattle.np_static.specs.Hosted.{HasHostLines, hosted_view};

@@ -7,8 +7,8 @@ use Rattle.np_event.specs.declared.reply.Reply.{Reply}
 use Rattle.np_machine.specs.State.{State}
 use Rattle.np_machine.specs.Step.{judge, next, reply_of}
 use Rattle.np_layout.specs.Carried.{IsStored}
-use Rattle.np_decode.specs.Decoded.{decoded}
-use Rattle.np_decode.proofs.OneState.{trees-have-one_state}
+use Rattle.np_layout.specs.Decoded.{decoded}
+use Rattle.np_layout.proofs.OneState.{trees-have-one_state}
 use Rattle.np_keeper.specs.Keeper.{IsHeld}
 
 -- a reply by the state that is read is one by the state that is stored

@@ -7,7 +7,7 @@ ghost use Rattle.np_changes.specs.Plan.{plan};
 ghost use Rattle.np_fits.specs.Fits.{Fits};
 ghost use Rattle.np_decision.specs.Verdicts.{answer_of};
 ghost use Rattle.np_layout.specs.Carried.{IsStored};
-ghost use Rattle.np_decode.specs.Decoded.{decoded};
+ghost use Rattle.np_layout.specs.Decoded.{decoded};
 ghost use Rattle.np_keeper.specs.Keeper.{IsHeld};
 
 use np_config::Config;

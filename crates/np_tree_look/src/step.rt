@@ -6,7 +6,7 @@ ghost use Rattle.np_machine.specs.State.{State};
 ghost use Rattle.np_machine.specs.Step.{judge, next};
 ghost use Rattle.np_changes.specs.Planned.{IsReached};
 ghost use Rattle.np_layout.specs.Carried.{IsStored};
-ghost use Rattle.np_decode.specs.Decoded.{decoded};
+ghost use Rattle.np_layout.specs.Decoded.{decoded};
 ghost use Rattle.np_keeper.specs.Keeper.{IsHeld};
 
 use crate::answer::verdict_on;

@@ -3,11 +3,8 @@
 //! Each function is a theorem with an empty body: on its site, the machine's replies are those of
 //! the journal, one by one, and each job has its fate. The file of the same name in `specs/` has
 //! the site, the journal and the fates; the checker computes them from the definitions alone.
-//! `journals` has the same in printed form, for the tests of the code that plays and prints them.
 #![tactic(auto)]
 
-mod journal;
-mod journals;
 mod property;
 
 ghost use Rattle.np_worked.specs.Site.{Plays};
@@ -53,10 +50,6 @@ ghost use Rattle.np_worked.specs.HalfBuiltRequests as half_built_requests;
 ghost use Rattle.np_worked.specs.TenantLimit as tenant_limit;
 ghost use Rattle.np_worked.specs.Revise as revise;
 
-pub use journal::Journal;
-pub use journals::{
-    FAILURE_JOURNALS, JOB_JOURNALS, NODE_JOURNALS, RARE_JOURNALS, REQUEST_JOURNALS, TENANT_JOURNALS,
-};
 pub use property::{
     a_failure_needs_its_decline, a_false_reason_is_no_cause, a_lost_node_is_not_kept,
     a_lost_session_is_one_strike, a_nodes_age_counts_from_its_last_change, a_removed_node_is_gone,

@@ -15,10 +15,10 @@ use Rattle.np_cloud.specs.Calls.{Answers, IsAsPlanned, with_launched, without_nu
 use Rattle.np_cloud.specs.Sound.{numbers_of, is_number, Soundness, IsFull}
 use Rattle.np_answers.specs.declared.ask.Ask.{Ask}
 use Rattle.np_answers.specs.declared.ask.Turn.{Turn}
-use Rattle.np_trace.specs.Move.{Move, asked, launched, removed, launches_of}
-use Rattle.np_trace.specs.Drive.{Driving, servers_after, IsOfServer, SweepsServers, FollowsPlan, IsSoundAlone, AreSoundAlone, FailsFull, FailFull, Drives, Drove}
+use Rattle.np_answers.specs.Move.{Move, asked, launched, removed, launches_of}
+use Rattle.np_answers.specs.Drive.{Driving, servers_after, IsOfServer, SweepsServers, FollowsPlan, IsSoundAlone, AreSoundAlone, FailsFull, FailFull, Drives, Drove}
 use Rattle.np_worker.specs.Part.{IsOfDriver, RemovalFailed}
-use Rattle.np_trace.proofs.Traces.{launches-append, servers-append, sweeps-append, plan-append, alone-append, full-append}
+use Rattle.np_answers.proofs.Traces.{launches-append, servers-append, sweeps-append, plan-append, alone-append, full-append}
 
 map_twice : {A : Type 0} (f g h : A → A) → ((x : A) → g (f x) ≡ h x) → (o : Option A) → option_map g (option_map f o) ≡ option_map h o
 map_twice f g h e None = refl

@@ -7,17 +7,17 @@ use Rattle.np_cloud.specs.declared.driver.Tag.{Tag}
 use Rattle.np_cloud.specs.declared.driver.Launch.{Launch}
 use Rattle.np_answers.specs.declared.ask.Ask.{Ask}
 use Rattle.np_answers.specs.declared.ask.Turn.{Turn}
-use Rattle.np_trace.specs.Drive.{Driving}
-use Rattle.np_trace.specs.Move.{Move, launches_of}
-use Rattle.np_trace.specs.Phase.{Work, of_pool, of_requester, of_reaper, Phase, OwesRemoval, first_phase, Leads}
-use Rattle.np_trace.specs.Trace.{starts_of, tags_launched, owed_tags}
-use Rattle.np_trace.proofs.Ends.{is_at_end, ends_where_full}
-use Rattle.np_trace.proofs.Gained.{walk_gains}
-use Rattle.np_trace.proofs.Order.{in_order}
-use Rattle.np_trace.proofs.Removals.{are_named}
-use Rattle.np_trace.proofs.Starts.{starts_launched, tags_of_launches, are_reported}
-use Rattle.np_trace.proofs.Taken.{launcher_took, janitor_took, requester_took, reaper_took}
-use Rattle.np_trace.proofs.Works.{asks_of}
+use Rattle.np_answers.specs.Drive.{Driving}
+use Rattle.np_answers.specs.Move.{Move, launches_of}
+use Rattle.np_answers.specs.Phase.{Work, of_pool, of_requester, of_reaper, Phase, OwesRemoval, first_phase, Leads}
+use Rattle.np_answers.specs.Trace.{starts_of, tags_launched, owed_tags}
+use Rattle.np_answers.proofs.Ends.{is_at_end, ends_where_full}
+use Rattle.np_answers.proofs.Gained.{walk_gains}
+use Rattle.np_answers.proofs.Order.{in_order}
+use Rattle.np_answers.proofs.Removals.{are_named}
+use Rattle.np_answers.proofs.Starts.{starts_launched, tags_of_launches, are_reported}
+use Rattle.np_answers.proofs.Taken.{launcher_took, janitor_took, requester_took, reaper_took}
+use Rattle.np_answers.proofs.Works.{asks_of}
 use Rattle.np_worker.specs.Moves.{RolesTook, AreOrderly, HasMoves}
 use Rattle.np_worker.specs.Part.{Part}
 

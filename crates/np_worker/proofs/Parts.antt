@@ -12,16 +12,16 @@ use Rattle.np_answers.specs.declared.ask.Turn.TheVariants as turn
 use Rattle.np_answers.specs.Asks.{recorded}
 use Rattle.np_event.specs.declared.event.Outcome.{Outcome}
 use Rattle.np_cloud.specs.declared.driver.Tag.{Tag}
-use Rattle.np_trace.specs.Move.{Move, asked, launched, removed}
-use Rattle.np_trace.specs.Phase.{Phase, MayAsk, MayLaunch, MayRemove, Leads, after_turn, after_launch, after_removal, after_act, after_role, after_report, after_sweep, after_look, acting, acts, looks, sweeps, owes_due, owes_swept, rests, is_unwanted, OwesRemoval, Work}
+use Rattle.np_answers.specs.Move.{Move, asked, launched, removed}
+use Rattle.np_answers.specs.Phase.{Phase, MayAsk, MayLaunch, MayRemove, Leads, after_turn, after_launch, after_removal, after_act, after_role, after_report, after_sweep, after_look, acting, acts, looks, sweeps, owes_due, owes_swept, rests, is_unwanted, OwesRemoval, Work}
 use Rattle.np_cloud.specs.declared.driver.Server.{Server}
 use Rattle.np_text.specs.declared.id.Role.{Role}
 use Rattle.np_text.specs.declared.id.Role.TheVariants as role
 use Rattle.np_text.specs.declared.id.PoolId.{PoolId}
 use Rattle.np_worker.specs.declared.next.Next.{Next}
 use Rattle.np_worker.specs.declared.next.Next.TheVariants as next
-use Rattle.np_trace.specs.Drive.{Driving, Drove, IsOfServer}
-use Rattle.np_trace.specs.Trace.{WasKept}
+use Rattle.np_answers.specs.Drive.{Driving, Drove, IsOfServer}
+use Rattle.np_answers.specs.Trace.{WasKept}
 use Rattle.np_worker.specs.Part.{Part, Comes, Goes, Counts, entry_count, IsOfDriver, RemovalEnds, SweepsOne, SweepsAll, IsDealtWith, is_full}
 use Rattle.np_worker.specs.Round.{EndsAs, Rests}
 use Rattle.np_worker.proofs.Sweeps.{are_kept_after}
@@ -29,7 +29,7 @@ use Rattle.std.specs.Prelude.{Contains, false}
 use Rattle.std.proofs.lemmas.List.Elements.{Contains-push}
 use Rattle.np_answers.specs.declared.ask.Ask.TheVariants as ask
 use Rattle.np_text.specs.declared.id.NodeId.{NodeId}
-use Rattle.np_trace.proofs.Traces.{leads-append, walk-append}
+use Rattle.np_answers.proofs.Traces.{leads-append, walk-append}
 use Rattle.np_worker.proofs.Drives.{drove-append, drove_none, drove_ask, failed_before}
 
 pub unturned_same : (v : Sight Entry) → Unturned v v

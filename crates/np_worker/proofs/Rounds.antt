@@ -15,7 +15,7 @@ use Rattle.np_worker.specs.declared.worker.RoundEnd.{RoundEnd}
 use Rattle.np_worker.specs.declared.worker.Worker.{Worker}
 use Rattle.np_worker.specs.declared.worker.Worker.TheVariants as worker
 use Rattle.np_worker.specs.Part.{Part}
-use Rattle.np_trace.specs.Phase.{acting, first_phase, of_requester, of_reaper}
+use Rattle.np_answers.specs.Phase.{acting, first_phase, of_requester, of_reaper}
 use Rattle.np_worker.specs.Round.{EndsAs, work_of, driving_of}
 
 module _ {F : Type 0} {answers : F → List Entry → Ask → Turn → Type 0} {f : F} {D : Type 0} (facts : D → DriverFacts) (plan : D → Tag → Option Outcome) (sound : D → List ℕ → Bool) (room : D → ℕ) where

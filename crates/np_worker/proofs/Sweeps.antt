@@ -8,9 +8,9 @@ use Rattle.np_text.specs.declared.id.PoolId.{PoolId}
 use Rattle.np_cloud.specs.declared.driver.Server.{Server}
 use Rattle.np_cloud.specs.Calls.{without_number}
 use Rattle.np_answers.specs.declared.ask.Ask.TheVariants as ask
-use Rattle.np_trace.specs.Move.{Move, asked}
-use Rattle.np_trace.specs.Drive.{Driving}
-use Rattle.np_trace.specs.Trace.{WasKept}
+use Rattle.np_answers.specs.Move.{Move, asked}
+use Rattle.np_answers.specs.Drive.{Driving}
+use Rattle.np_answers.specs.Trace.{WasKept}
 use Rattle.np_worker.specs.Part.{AreKept, IsDealtWith}
 
 -- the servers from a place on were asked about and kept

@@ -13,12 +13,12 @@ use Rattle.np_answers.specs.declared.ask.Turn.{Turn}
 use Rattle.np_answers.specs.declared.ask.Turn.TheVariants as turn
 use Rattle.np_worker.specs.declared.next.Next.{Next}
 use Rattle.np_worker.specs.declared.next.Next.TheVariants as next
-use Rattle.np_trace.specs.Drive.{Driving, Drives, Drove, IsOfServer}
-use Rattle.np_trace.specs.Move.{Move, asked, removed}
-use Rattle.np_trace.specs.Phase.{Phase, Leads, OwesRemoval, after_turn}
-use Rattle.np_trace.specs.Phase as phase
-use Rattle.np_trace.specs.Trace.{WasKept}
-use Rattle.np_trace.specs.Walk.{Walk}
+use Rattle.np_answers.specs.Drive.{Driving, Drives, Drove, IsOfServer}
+use Rattle.np_answers.specs.Move.{Move, asked, removed}
+use Rattle.np_answers.specs.Phase.{Phase, Leads, OwesRemoval, after_turn}
+use Rattle.np_answers.specs.Phase as phase
+use Rattle.np_answers.specs.Trace.{WasKept}
+use Rattle.np_answers.specs.Walk.{Walk}
 
 -- how many entries a turn made (own)
 abbrev pub entry_count : Turn → ℕ

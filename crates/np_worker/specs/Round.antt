@@ -7,10 +7,10 @@ use Rattle.np_event.specs.declared.event.Outcome.{Outcome}
 use Rattle.np_worker.specs.declared.worker.RoundEnd.{RoundEnd}
 use Rattle.np_worker.specs.declared.worker.Worker.{Worker}
 use Rattle.np_worker.specs.declared.worker.Worker.TheVariants as worker
-use Rattle.np_trace.specs.Drive.{Driving, driving}
-use Rattle.np_trace.specs.Move.{Move}
+use Rattle.np_answers.specs.Drive.{Driving, driving}
+use Rattle.np_answers.specs.Move.{Move}
 use Rattle.np_worker.specs.Part.{RemovalFailed, AreKept}
-use Rattle.np_trace.specs.Phase.{Work, of_pool, of_requester, of_reaper, Phase, sweeps, rests, ended, OwesRemoval}
+use Rattle.np_answers.specs.Phase.{Work, of_pool, of_requester, of_reaper, Phase, sweeps, rests, ended, OwesRemoval}
 
 -- a round that was not cut off: all servers were asked about, or a removal failed (own)
 abbrev pub Rests : Work → Option Driving → Option Driving → List Move → Phase → Type 0

@@ -3,9 +3,9 @@
 ghost use Rattle.std.specs.Prelude.{◌≡◌, ℕ, suc, ◌+◌, IfOk, Option};
 ghost use Rattle.np_event.specs.declared.entry.Entry.{Entry};
 ghost use Rattle.np_answers.specs.Asks.{recorded};
-ghost use Rattle.np_trace.specs.Drive.{Driving};
+ghost use Rattle.np_answers.specs.Drive.{Driving};
 ghost use Rattle.np_worker.specs.Part.{Counts, entry_count, Part, Came, Goes, IsOfDriver};
-ghost use Rattle.np_trace.specs.Phase.{Phase, MayAsk, acts, acting, after_role, after_entry};
+ghost use Rattle.np_answers.specs.Phase.{Phase, MayAsk, acts, acting, after_role, after_entry};
 
 use crate::next::Next;
 use np_answers::{Ask, Turn};

@@ -3,9 +3,9 @@
 ghost use Rattle.std.specs.Prelude.{◌≡◌, ℕ, IfOk, Some};
 ghost use Rattle.np_text.specs.declared.id.Role.TheVariants.{Janitor};
 ghost use Rattle.np_answers.specs.Asks.{recorded};
-ghost use Rattle.np_trace.specs.Drive.{driving};
+ghost use Rattle.np_answers.specs.Drive.{driving};
 ghost use Rattle.np_worker.specs.Part.{Counts, Part, Comes, RemovalEnds};
-ghost use Rattle.np_trace.specs.Phase.{Phase, acts, acting, looks, sweeps};
+ghost use Rattle.np_answers.specs.Phase.{Phase, acts, acting, looks, sweeps};
 
 use crate::act::{ACTS, act, take_turn};
 use crate::next::Next;

@@ -4,19 +4,18 @@ ghost use Rattle.std.specs.Prelude.{◌≡◌, ℕ, [], ◌∷◌, IfOk, Some, M
 ghost use Rattle.np_text.specs.declared.id.PoolId.{PoolId};
 ghost use Rattle.np_text.specs.declared.id.Role.TheVariants.{Launcher};
 ghost use Rattle.np_answers.specs.Asks.{recorded};
-ghost use Rattle.np_trace.specs.Drive.{Drives, driving};
-ghost use Rattle.np_trace.specs.Move.{launched};
+ghost use Rattle.np_answers.specs.Drive.{Drives, driving};
+ghost use Rattle.np_answers.specs.Move.{launched};
 ghost use Rattle.np_worker.specs.Part.{Counts, Part, Goes};
-ghost use Rattle.np_trace.specs.Phase.{Phase, acts, acting, looks, owes_launch, start_of};
+ghost use Rattle.np_answers.specs.Phase.{Phase, acts, acting, looks, owes_launch, start_of};
 
 use crate::act::{ACTS, take_turn};
 use crate::next::Next;
-use np_answers::{Ask, Turn};
+use np_answers::{Ask, Start, Turn};
 use np_cloud::{Driver, Gate, LaunchFault, Tag};
 use np_desk::Turns;
 use np_event::{Done, Entry, Event, Outcome, Reply};
 use np_text::{NoMemory, PoolId, Role};
-use np_trace::Start;
 
 /// The start that an entry of the pool's launcher accepted, if it is one.
 fn start_of(pool: PoolId, entry: Entry) -> Option<Start>

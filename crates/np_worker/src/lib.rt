@@ -6,9 +6,9 @@
 //! an accepted start is launched and reported, a due node's server is removed before its record
 //! goes, and at the end the servers that nobody wants are removed.
 //!
-//! Contracts describe a round by one list of moves (np_trace): its turns with their answers, and
+//! Contracts describe a round by one list of moves (np_answers): its turns with their answers, and
 //! what its driver did. Read `specs/Part` for what one part of a round is, and `specs/Round` for
-//! how a round ends. np_trace's laws say what holds of the moves of every round.
+//! how a round ends. np_answers's laws say what holds of the moves of every round.
 //!
 //! An answer of a wrong kind to a role's turn (say, that a node is due) counts as nothing to do,
 //! and ends the role's part. One to a sweep counts as keeping the server.

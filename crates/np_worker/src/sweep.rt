@@ -2,9 +2,9 @@
 
 ghost use Rattle.std.specs.Prelude.{◌≡◌, ◌≤◌, length, Contains, IfOk, IfSome, Some};
 ghost use Rattle.np_answers.specs.Asks.{recorded};
-ghost use Rattle.np_trace.specs.Drive.{driving};
+ghost use Rattle.np_answers.specs.Drive.{driving};
 ghost use Rattle.np_worker.specs.Part.{Counts, Part, SweepsOne, SweepsAll};
-ghost use Rattle.np_trace.specs.Phase.{sweeps, is_unwanted};
+ghost use Rattle.np_answers.specs.Phase.{sweeps, is_unwanted};
 
 use crate::act::take_turn;
 use crate::janitor::remove_server;

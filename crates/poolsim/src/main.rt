@@ -3,8 +3,8 @@
 
 use np_cloud::OpenGate;
 use np_disk::FileDisk;
-use np_ending::{Ending, tell};
 use np_io::{StdSink, StdSource};
+use np_replay::{Ending, tell};
 use np_top::poolsim;
 use std::io::ErrorKind;
 use std::process::ExitCode;

@@ -7,7 +7,7 @@ ghost use Rattle.np_event.specs.declared.event.Event.TheVariants as ev;
 ghost use Rattle.np_cloud.specs.Clouds.{ArePlanned};
 ghost use Rattle.np_machine.specs.History.{Runs, after};
 ghost use Rattle.np_useful.specs.Driven.{Driven, DrivenBy, is_tick};
-ghost use Rattle.np_trace.specs.Drive.{Driving};
+ghost use Rattle.np_answers.specs.Drive.{Driving};
 ghost use Rattle.np_driven.specs.Players.{AreNumbered, HaveDriven, Player, WasAnswered, drivings_of};
 ghost use Rattle.np_driven.specs.Round.{IsRound};
 

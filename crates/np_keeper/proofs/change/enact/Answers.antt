@@ -5,8 +5,8 @@ use Rattle.np_machine.specs.State.{State}
 use Rattle.np_layout.specs.Carried.{IsStored}
 use Rattle.np_enact.specs.Events.{IsReady}
 use Rattle.np_enact.specs.Parts.{parts_of}
-use Rattle.np_decode.specs.Decoded.{decoded}
-use Rattle.np_decode.proofs.OneState.{trees-have-one_state}
+use Rattle.np_layout.specs.Decoded.{decoded}
+use Rattle.np_layout.proofs.OneState.{trees-have-one_state}
 use Rattle.np_readers.specs.Rows.{SiteState}
 use Rattle.np_keeper.specs.Keeper.{IsHeld}
 use Rattle.np_keeper.proofs.Enacted.{can-make, holds-made}

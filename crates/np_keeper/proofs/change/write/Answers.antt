@@ -4,7 +4,7 @@ use Rattle.np_nodes.specs.TreeState.{TreeState}
 use Rattle.np_views.proofs.LaterLemmas.{later-joined}
 use Rattle.np_machine.specs.State.{State}
 use Rattle.np_layout.specs.Carried.{IsStored}
-use Rattle.np_decode.proofs.OneState.{trees-have-one_state}
+use Rattle.np_layout.proofs.OneState.{trees-have-one_state}
 use Rattle.np_keeper.proofs.Enacted.{can-make, holds-made}
 use Rattle.np_keeper.proofs.Later.{later-spared}
 use Rattle.np_keeper.proofs.Laws.{enact}

@@ -1,7 +1,7 @@
 use Rattle.std.proofs.Common.{◌∙◌, inl, List, map, ap, sym, subst}
 use Rattle.np_event.specs.declared.entry.Entry.{Entry}
 use Rattle.np_site.specs.Configuration.{Configuration}
-use Rattle.np_trace.specs.Drive.{Driving, driving}
+use Rattle.np_answers.specs.Drive.{Driving, driving}
 use Rattle.np_driven.specs.Players.{HaveDriven}
 use Rattle.np_hosts.specs.Hosting.{Earlier, HaveHosted, IsHosted}
 use Rattle.np_hosts.proofs.Hosted.{counted}

@@ -1,7 +1,7 @@
 use Rattle.std.proofs.Common.{◌≡◌, [], map}
 use Rattle.std.specs.Prelude.{All, Some}
 use Rattle.np_driven.specs.Players.{HaveDriven}
-use Rattle.np_trace.specs.Drive.{driving}
+use Rattle.np_answers.specs.Drive.{driving}
 use Rattle.np_hosts.specs.Hosting.{BeginAfter, Earlier, HaveHosted}
 use Rattle.np_rounds.specs.Crews.{players_of}
 use Rattle.np_rounds.specs.Played.{IsRested, plans_in}

@@ -1,5 +1,5 @@
 use Rattle.std.proofs.Common.{inl, refl}
-use Rattle.np_ending.specs.declared.ending.Ending.TheVariants as ending
+use Rattle.np_replay.specs.declared.ending.Ending.TheVariants as ending
 use Rattle.np_top.specs.Run.{plain_run}
 use Rattle.np_top.specs.RunHosts.{hosted_run}
 use Rattle.np_replay.proofs.Statuses.{replays}

@@ -6,8 +6,8 @@ use Rattle.np_changes.proofs.PlanLaws.{plan-next}
 use Rattle.np_fits.specs.Fits.{Fits}
 use Rattle.np_fits.proofs.FitsRuns.{Fits-Runs}
 use Rattle.np_fits.proofs.Sites.{sound_fits}
-use Rattle.np_ready.specs.Ready.{IsTyped}
-use Rattle.np_decode.specs.Decoded.{decoded}
+use Rattle.np_enact.specs.Ready.{IsTyped}
+use Rattle.np_layout.specs.Decoded.{decoded}
 use Rattle.np_keeper.proofs.Accepted.{may-change}
 use Rattle.np_tree_look.proofs.Laid.{next-laid}
 use Rattle.np_tree_look.proofs.step.enact.Goals as goal

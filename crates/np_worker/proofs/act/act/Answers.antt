@@ -1,7 +1,7 @@
 use Rattle.std.proofs.Common.{refl, ap, ◌∙◌}
 use Rattle.std.proofs.lemmas.Result.{err_from_is_err_and}
 use Rattle.np_answers.specs.declared.ask.Ask.TheVariants as ask
-use Rattle.np_trace.specs.Phase.{acts, acting, after_act, after_role}
+use Rattle.np_answers.specs.Phase.{acts, acting, after_act, after_role}
 use Rattle.np_worker.specs.Part.{Goes}
 use Rattle.np_worker.proofs.Parts.{of_part, of_no_server, after_idle, at_err}
 use Rattle.np_worker.proofs.act.act.Goals as goal

@@ -1,6 +1,6 @@
 use Rattle.std.proofs.Common.{refl, ◌∙◌, ◌<◌, ◌≤◌, ◌-◌, ◌++◌, arith}
 use Rattle.std.proofs.lemmas.Result.{err_from_is_err_and}
-use Rattle.np_trace.specs.Phase.{acting, after_role}
+use Rattle.np_answers.specs.Phase.{acting, after_role}
 use Rattle.np_worker.specs.Part.{Goes}
 use Rattle.np_worker.proofs.Parts.{no_turn, unturned_same, follow, of_part, same_fixed, goes_on, goes_at, acting_alone, acting_next, acting_last, counts_on, at_err}
 use Rattle.np_worker.proofs.act.act_often.Goals as goal

@@ -1,8 +1,8 @@
 use Rattle.std.proofs.Common.{◌≡◌, ◌-◌}
 use Rattle.std.specs.Prelude.{Option}
-use Rattle.np_trace.specs.Drive.{Driving}
+use Rattle.np_answers.specs.Drive.{Driving}
 use Rattle.np_worker.specs.Part.{Counts, Part}
-use Rattle.np_trace.specs.Phase.{acting}
+use Rattle.np_answers.specs.Phase.{acting}
 use Rattle.np_worker.proofs.act.act_often.Given as goal
 
 abbrev pub invariant-loop-turn : goal.invariant-loop-turn

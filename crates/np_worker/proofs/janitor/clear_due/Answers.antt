@@ -3,8 +3,8 @@ use Rattle.std.specs.Prelude.{Some, Ok}
 use Rattle.std.proofs.lemmas.Result.{err_from_is_err_and}
 use Rattle.np_text.specs.declared.id.Role.TheVariants as role
 use Rattle.np_answers.specs.declared.ask.Ask.TheVariants as ask
-use Rattle.np_trace.specs.Drive.{driving}
-use Rattle.np_trace.specs.Phase.{looks, acts, owes_due, after_look}
+use Rattle.np_answers.specs.Drive.{driving}
+use Rattle.np_answers.specs.Phase.{looks, acts, owes_due, after_look}
 use Rattle.np_worker.specs.Part.{Comes, Part}
 use Rattle.np_worker.proofs.Parts.{follow, of_part, of_no_server, removal, comes_from, after_look_turn, after_look_due, after_look_bare, at_err}
 use Rattle.np_worker.proofs.janitor.clear_due.Goals as goal

@@ -3,8 +3,8 @@ use Rattle.std.specs.Prelude.{Some}
 use Rattle.std.proofs.lemmas.Result.{err_from_is_err_and}
 use Rattle.np_text.specs.declared.id.Role.TheVariants as role
 use Rattle.np_worker.specs.declared.next.Next.TheVariants as next
-use Rattle.np_trace.specs.Drive.{driving}
-use Rattle.np_trace.specs.Phase.{acts, acting, sweeps}
+use Rattle.np_answers.specs.Drive.{driving}
+use Rattle.np_answers.specs.Phase.{acts, acting, sweeps}
 use Rattle.np_worker.specs.Part.{Comes}
 use Rattle.np_worker.proofs.Parts.{follow, of_part, same_fixed, comes_at, comes_to, goes_comes, at_err}
 use Rattle.np_worker.proofs.janitor.janitor_turn.Goals as goal

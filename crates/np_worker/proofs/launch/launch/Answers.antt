@@ -3,8 +3,8 @@ use Rattle.std.specs.Prelude.{Some}
 use Rattle.std.proofs.lemmas.Result.{err_from_is_err_and}
 use Rattle.np_text.specs.declared.id.Role.TheVariants as role
 use Rattle.np_answers.specs.declared.ask.Ask.TheVariants as ask
-use Rattle.np_trace.specs.Drive.{driving}
-use Rattle.np_trace.specs.Phase.{owes_launch, owes_report, acting, report_of, after_report}
+use Rattle.np_answers.specs.Drive.{driving}
+use Rattle.np_answers.specs.Phase.{owes_launch, owes_report, acting, report_of, after_report}
 use Rattle.np_worker.specs.Part.{Goes, Part}
 use Rattle.np_worker.proofs.Drives.{drove_same}
 use Rattle.np_worker.proofs.Parts.{one_launch, no_move, follow, of_no_server, after_report_turn, at_err}

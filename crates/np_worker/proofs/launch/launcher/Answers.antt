@@ -2,8 +2,8 @@ use Rattle.std.proofs.Common.{refl, ◌∙◌, ◌<◌, ◌≤◌, ◌-◌, ◌+
 use Rattle.std.specs.Prelude.{Some}
 use Rattle.std.proofs.lemmas.Result.{err_from_is_err_and}
 use Rattle.np_text.specs.declared.id.Role.TheVariants as role
-use Rattle.np_trace.specs.Drive.{driving}
-use Rattle.np_trace.specs.Phase.{acting, looks}
+use Rattle.np_answers.specs.Drive.{driving}
+use Rattle.np_answers.specs.Phase.{acting, looks}
 use Rattle.np_worker.specs.Part.{Goes}
 use Rattle.np_worker.proofs.Parts.{no_turn, unturned_same, follow, of_part, same_fixed, goes_on, goes_at, acting_launcher, acting_next, acting_last, counts_on, at_err}
 use Rattle.np_worker.proofs.launch.launcher.Goals as goal

@@ -1,9 +1,9 @@
 use Rattle.std.proofs.Common.{◌≡◌, ◌-◌}
 use Rattle.std.specs.Prelude.{Some}
 use Rattle.np_text.specs.declared.id.Role.TheVariants as role
-use Rattle.np_trace.specs.Drive.{driving}
+use Rattle.np_answers.specs.Drive.{driving}
 use Rattle.np_worker.specs.Part.{Counts, Part}
-use Rattle.np_trace.specs.Phase.{acting}
+use Rattle.np_answers.specs.Phase.{acting}
 use Rattle.np_worker.proofs.launch.launcher.Given as goal
 
 abbrev pub invariant-loop-turn : goal.invariant-loop-turn

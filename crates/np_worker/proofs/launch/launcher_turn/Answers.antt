@@ -3,8 +3,8 @@ use Rattle.std.specs.Prelude.{Some}
 use Rattle.std.proofs.lemmas.Result.{err_from_is_err_and}
 use Rattle.np_text.specs.declared.id.Role.TheVariants as role
 use Rattle.np_answers.specs.declared.ask.Ask.TheVariants as ask
-use Rattle.np_trace.specs.Drive.{driving}
-use Rattle.np_trace.specs.Phase.{acts, acting, looks, after_act, after_start}
+use Rattle.np_answers.specs.Drive.{driving}
+use Rattle.np_answers.specs.Phase.{acts, acting, looks, after_act, after_start}
 use Rattle.np_worker.specs.Part.{Goes}
 use Rattle.np_worker.proofs.Parts.{follow, of_part, of_no_server, same_fixed, after_idle, goes_from, at_err}
 use Rattle.np_worker.proofs.launch.launcher_turn.Goals as goal

@@ -3,8 +3,8 @@ use Rattle.std.specs.Prelude.{Some}
 use Rattle.std.proofs.lemmas.Result.{err_from_is_err_and}
 use Rattle.np_text.specs.declared.id.Role.TheVariants as role
 use Rattle.np_worker.specs.declared.next.Next.TheVariants as next
-use Rattle.np_trace.specs.Drive.{driving}
-use Rattle.np_trace.specs.Phase.{acting, looks, sweeps}
+use Rattle.np_answers.specs.Drive.{driving}
+use Rattle.np_answers.specs.Phase.{acting, looks, sweeps}
 use Rattle.np_worker.specs.Part.{Part, SweepsAll}
 use Rattle.np_worker.proofs.Drives.{failed_before}
 use Rattle.np_worker.proofs.Parts.{follow, of_part, same_fixed, goes_at, goes_to, comes_at, comes_to, sweeps_before, at_err}

@@ -1,6 +1,6 @@
 use Rattle.std.proofs.Common.{◌≡◌, ◌<◌, ◌++◌, ◌∷◌, [], ◌∙◌, List, length, ap, arith}
 use Rattle.np_event.specs.declared.entry.Entry.{Entry}
-use Rattle.np_decode.specs.Decoded.{decoded}
+use Rattle.np_layout.specs.Decoded.{decoded}
 use Rattle.np_fits.proofs.RunSteps.{Runs-next}
 use Rattle.np_play_tests.proofs.bare.Bare.apply.Goals as goal
 

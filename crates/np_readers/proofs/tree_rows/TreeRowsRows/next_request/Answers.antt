@@ -1,5 +1,5 @@
 use Rattle.std.proofs.Common.{ap, ◌∙◌}
-use Rattle.np_decode.specs.Decoded.{decoded}
+use Rattle.np_layout.specs.Decoded.{decoded}
 use Rattle.np_readers.specs.Rows.{SiteState}
 use Rattle.np_readers.proofs.tree_rows.TreeRowsRows.next_request.Goals as goal
 

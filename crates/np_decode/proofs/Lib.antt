@@ -1,9 +1,0 @@
-pub mod Lists
-pub mod Texts
-pub mod Named
-pub mod Tables
-pub mod Entries
-pub mod Marks
-pub mod Order
-pub mod Swept
-pub mod OneState

@@ -1,8 +1,0 @@
-//! The law. The function does nothing: its contract is the law.
-
-ghost use Rattle.np_decode.specs.Decoded.{TreesHaveOneState};
-
-/// The state that is read from a tree is the one that the tree lays out.
-pub fn a_tree_has_one_state()
-    ensures { TreesHaveOneState }
-{}

@@ -1,0 +1,90 @@
+-- what happens to the nodes by an accepted event is ready for the tree
+use Rattle.std.proofs.Common.{◌≡◌, ◌≤◌, ℕ, List, [], length, true, Option, Some, None, sym, ap, ◌∙◌, subst, arith, inl, inr}
+use Rattle.std.specs.Prelude.{◌==◌, ◌⊎◌}
+use Rattle.std.specs.Option.{option_map, option_map_or}
+use Rattle.std.specs.List.{AllByRecursion, list_any}
+use Rattle.np_text.specs.declared.id.NodeId.{NodeId}
+use Rattle.np_text.specs.declared.id.RequestId.{RequestId}
+use Rattle.np_site.specs.Configuration.{Configuration}
+use Rattle.np_record.specs.declared.record.RequestRecord.{RequestRecord}
+use Rattle.np_machine.specs.Entries.{NodeEntry}
+use Rattle.np_machine.specs.State.{State}
+use Rattle.np_machine.specs.Tables.{is_request, node_entry, node_in, request_in}
+use Rattle.np_changes.specs.Premises.{EmptiesRequest, GoesFulfilled, GoesWithdrawn, NodesPremise, RequestsPremise, TakesOver}
+use Rattle.np_changes.specs.declared.changes.Changes.{Changes}
+use Rattle.np_changes.specs.declared.changes.NodesChange.{NodesChange}
+use Rattle.np_changes.specs.declared.changes.NodesChange.TheVariants as nodes
+use Rattle.np_changes.specs.declared.changes.RequestsChange.{RequestsChange}
+use Rattle.np_fits.specs.Fits.{Fits}
+use Rattle.np_laws.specs.Parts.{AllocationsListed, Invariant}
+use Rattle.np_laws.proofs.Lookups.{same_request-is}
+use Rattle.np_layout.specs.Carried.{IsCarried}
+use Rattle.np_enact.specs.Parts.{nodes_of}
+use Rattle.np_enact.specs.Ways.{NodesReady}
+use Rattle.np_enact.proofs.Facts.{each-found, request-spelled}
+
+-- ## the request whose nodes are free
+
+-- the record is in the state
+abbrev Stands : State → RequestId → Type 0
+Stands s r = (request : RequestRecord) × (request_in r s.requests ≡ Some request)
+
+module _ (c : Configuration) (s : State) (ch : Changes) (r : RequestId) (frees : ch.nodes ≡ nodes.FreeAll r) where
+  -- a request that goes while its nodes are free is fulfilled
+  goes-stands : GoesFulfilled s ch r ⊎ (TakesOver c s ch r ⊎ GoesWithdrawn s ch r) → Stands s r
+  goes-stands (inl goes) = (goes.fulfils.request, goes.fulfils.worked_on.stands)
+  goes-stands (inr (inl takes)) = absurd (let e : nodes.FreeAll r ≡ nodes.TakeOver takes.request.nodes = sym frees ∙ takes.takes in cc)
+  goes-stands (inr (inr goes)) = absurd (let e : nodes.FreeAll r ≡ nodes.Same = sym frees ∙ goes.withdraws.same_nodes in cc)
+
+  -- a request whose nodes are free was there
+  emptied-stands : RequestsPremise c s ch ch.requests → EmptiesRequest r ch.requests → Stands s r
+  emptied-stands premise (inl is) = goes-stands (subst (λ (change : RequestsChange). RequestsPremise c s ch change) is premise)
+  emptied-stands premise (inr (inl is)) = let gives = subst (λ (change : RequestsChange). RequestsPremise c s ch change) is premise in (gives.request, gives.stands)
+  emptied-stands premise (inr (inr declines)) =
+      let may = subst (λ (change : RequestsChange). RequestsPremise c s ch change) declines.3 premise in
+      (may.request, may.worked_on.stands)
+
+-- ## its nodes
+
+-- a request that an option names
+named : (r : RequestId) (o : Option RequestId) → is_request r o ≡ true → o ≡ Some r
+named r None is = absurd cc
+named r (Some other) is = ap (λ (x : RequestId). Some x) (same_request-is other r is)
+
+-- the nodes of a request that stands are those of its record
+nodes-are : (s : State) (r : RequestId) (request : RequestRecord) → request_in r s.requests ≡ Some request → request.nodes ≡ nodes_of r s.requests
+nodes-are s r request stands = ap (λ (o : Option RequestRecord). option_map_or (λ k. k.nodes) o []) (sym stands)
+
+-- the node has a place in the list if it is allocated to the request
+abbrev IsAmong : RequestId → List NodeId → NodeEntry → Type 0
+IsAmong r numbers e = is_request r e.kept.allocated_to ≡ true → list_any (λ n. n.0 == e.id.0) numbers ≡ true
+
+-- each node that is allocated to a request that stands is in its list
+each-listed : (s : State) → AllocationsListed s → (r : RequestId) (request : RequestRecord) → request_in r s.requests ≡ Some request → (e : NodeEntry) → node_entry e.id s.nodes ≡ Some e → IsAmong r request.nodes e
+each-listed s listed r request stands e found is =
+    let record_found : node_in e.id s.nodes ≡ Some e.kept = ap (λ (o : Option NodeEntry). option_map (λ x. x.kept) o) found in
+    (listed e.id e.kept r record_found (named r e.kept.allocated_to is)).listed request stands
+
+module _ (c : Configuration) (s : State) (fits : Fits c s) (invariant : Invariant c s) (carried : IsCarried c s) where
+  -- the nodes of a request are free
+  free-ready : (tick : ℕ) (r : RequestId) → Stands s r → NodesReady (nodes.FreeAll r) tick s.requests s.nodes
+  free-ready tick r stands =
+      let request = stands.0 in
+      let same = nodes-are s r request stands.1 in
+      let rises = invariant.numbered.nodes_rise in
+      let few = (request-spelled c s carried r request stands.1).kept.few_nodes in
+      let listed : AllByRecursion (IsAmong r request.nodes) s.nodes = each-found (IsAmong r request.nodes) s.nodes rises (each-listed s invariant.owned.allocations r request stands.1) in
+      (subst (λ (numbers : List NodeId). length numbers ≤ 32) same few, (rises, subst (λ (numbers : List NodeId). AllByRecursion (IsAmong r numbers) s.nodes) same listed))
+
+  -- what happens to the nodes is ready for the tree
+  pub nodes-ready : (ch : Changes) (change : NodesChange) → ch.nodes ≡ change → RequestsPremise c s ch ch.requests → NodesPremise c s ch change → NodesReady change s.tick s.requests s.nodes
+  nodes-ready ch nodes.Same is premise of_nodes = tt
+  nodes-ready ch (nodes.Put n kept) is premise of_nodes = tt
+  nodes-ready ch (nodes.Remove n) is premise of_nodes = tt
+  nodes-ready ch (nodes.Leave n) is premise of_nodes = tt
+  nodes-ready ch (nodes.FreeAll r) is premise of_nodes = free-ready s.tick r (emptied-stands c s ch r is premise of_nodes)
+  nodes-ready ch (nodes.TakeOver numbers) is premise of_nodes =
+      let takes = of_nodes.1 in
+      let few = (request-spelled c s carried of_nodes.0 takes.request takes.request_stands).kept.few_nodes in
+      let tick = fits.tick in
+      (subst (λ (list : List NodeId). length list ≤ 32) (sym of_nodes.2.1) few, omega arith)

@@ -1,4 +1,0 @@
-pub mod Told
-pub mod Input
-pub mod Failures
-pub mod Lines

@@ -1,4 +1,0 @@
-pub mod Goes
-pub mod Records
-pub mod Made
-pub mod Rightful

@@ -1,0 +1,32 @@
+//! What holds of every journal that the machine produces, after every step of it.
+//!
+//! `safe`: every run is safe. `specs/Parts` says what holds of every state that a run leads to, part
+//! by part (`Invariant`). Each part is kept by what an accepted event changes; a file of `proofs` has
+//! the lemmas of one part, by the kind of change.
+//!
+//! `kept`: no crash and no expiry loses a record, and a node is changed by its holder alone (`Kept`
+//! and `Fenced` of np_machine). `proofs/Goes` says what each event removes.
+//!
+//! `caused`: a request fails only with its cause (`Caused` of np_machine). `proofs/Due` says what
+//! holds for the past turns and the state after them: that each decline was made, how a pinned
+//! request is, and how many reports each node had. A file of `proofs` shows that each of them is kept,
+//! and `proofs/Causes` finds the cause of a turn by them.
+#![tactic(auto)]
+
+mod caused;
+mod kept;
+mod safe;
+
+pub use caused::{
+    a_request_failed_only_with_its_cause, a_request_failed_only_with_its_cause_after_every_step,
+};
+pub use kept::{
+    each_change_of_a_node_is_its_holders, every_run_is_kept_and_fenced_after_every_step,
+    no_crash_and_no_expiry_loses_a_record,
+};
+pub use safe::{
+    a_fulfilled_request_owns_its_labels_in_order_from_one_pool, a_live_holder_is_the_holder,
+    every_run_is_safe_after_every_step, every_state_of_a_run_is_as_the_parts_say,
+    no_node_and_no_request_has_two_live_holders, no_pool_passes_its_limit,
+    no_semaphore_passes_its_max, no_tenant_passes_its_limit,
+};

@@ -1,5 +1,0 @@
-use Rattle.np_safe.proofs.Runs.{safe-every_step}
-use Rattle.np_safe.proofs.law.every_run_is_safe_after_every_step.Goals as goal
-
-pub returns : goal.returns
-returns c = safe-every_step

@@ -1,3 +1,0 @@
-pub mod Ids
-pub mod Replies
-pub mod ToldRuns
