@@ -4,7 +4,7 @@ use Rattle.std.specs.Prelude.{map, Bool, Option, Some, None}
 use Rattle.np_cloud.specs.Facts.{DriverFacts}
 use Rattle.np_text.specs.declared.id.PoolId.{PoolId}
 use Rattle.np_text.specs.declared.id.RequesterId.{RequesterId}
-use Rattle.np_answers.specs.Drive.{Driving, Drove, driving}
+use Rattle.np_answers.specs.Drive.{Driving, Drives, Drove, driving}
 use Rattle.np_answers.specs.Move.{Move}
 use Rattle.np_site.specs.Configuration.{Configuration}
 use Rattle.np_event.specs.declared.entry.Entry.{Entry}
@@ -13,8 +13,8 @@ use Rattle.np_driven.specs.Round.{PlayerEnd, EachPlaysFrom, IsRound}
 use Rattle.np_worker.specs.Round.{driving_of}
 use Rattle.np_worker.specs.declared.worker.Worker.{Worker}
 use Rattle.np_worker.specs.declared.worker.Worker.TheVariants as worker
-use Rattle.np_rounds.specs.Crews.{Plan, player_of, players_of, crew_players}
-use Rattle.np_rounds.specs.Played.{plans_in}
+use Rattle.np_rounds.specs.Crews.{Plan, Terms, terms_of, player_of, players_of, crew_players}
+use Rattle.np_rounds.specs.Played.{terms_in}
 use Rattle.np_rounds.specs.declared.crew.Crew.{Crew}
 
 map-push : {A B : Type 0} (f : A → B) (xs : List A) (x : A) → map f (xs ++ x ∷ []) ≡ map f xs ++ f x ∷ []
@@ -101,27 +101,42 @@ module _ {D : Type 0} (facts : D → DriverFacts) (plan : D → Plan) (sound : D
         numbered = λ n. subst (AreNumbered n) (sym players) (tt, had.numbered n);
       }
 
-  -- ## plans
+  -- ## what no call changes
 
-  pub plans_of_drivers : (ds : List D) → map (λ (d : Driving). d.plan) (map (driving facts plan sound room) ds) ≡ map plan ds
-  plans_of_drivers [] = refl
-  plans_of_drivers (d ∷ ds) = ap (λ (l : List Plan). plan d ∷ l) (plans_of_drivers ds)
+  abbrev pub driver_terms : D → Terms
+  driver_terms d = record { plan = plan d; sound = sound d; room = room d }
 
-  pub as_many : (ds es : List D) → map plan ds ≡ map plan es → length ds ≡ length es
-  as_many ds es same = sym (map-length plan ds) ∙ (ap length same ∙ map-length plan es)
+  pub terms_of_drivers : (ds : List D) → map terms_of (map (driving facts plan sound room) ds) ≡ map driver_terms ds
+  terms_of_drivers [] = refl
+  terms_of_drivers (d ∷ ds) = ap (λ (l : List Terms). driver_terms d ∷ l) (terms_of_drivers ds)
 
--- a round keeps what was planned
-plans_more : (d e : Option Driving) (ds es : List Driving) (trace : List Move) → Drove trace d e → map (λ (x : Driving). x.plan) es ≡ map (λ (x : Driving). x.plan) ds → map (λ (x : Driving). x.plan) (driving_in e ++ es) ≡ map (λ (x : Driving). x.plan) (driving_in d ++ ds)
-plans_more None None ds es trace h same = same
-plans_more None (Some e) ds es trace h same = absurd h
-plans_more (Some d) None ds es trace h same = absurd h
-plans_more (Some d) (Some e) ds es trace h same = ap (λ (x : Plan). x ∷ map (λ (y : Driving). y.plan) es) h.plan ∙ ap (λ (l : List Plan). d.plan ∷ l) same
+  one_term : {A : Type 0} (f : Terms → A) (g : D → A) → ((d : D) → f (driver_terms d) ≡ g d) → (ds : List D) → map f (map driver_terms ds) ≡ map g ds
+  one_term f g same [] = refl
+  one_term f g same (d ∷ ds) = ap (λ x. x ∷ map f (map driver_terms ds)) (same d) ∙ ap (λ l. g d ∷ l) (one_term f g same ds)
 
-plans_kept : (c : Configuration) (history : List Entry) (players : List Player) (ends : List PlayerEnd) → EachPlaysFrom c history players ends → plans_in (map (λ (end : PlayerEnd). end.player) ends) ≡ plans_in players
-plans_kept c history [] [] h = refl
-plans_kept c history [] (end ∷ ends) h = absurd h
-plans_kept c history (player ∷ players) [] h = absurd h
-plans_kept c history (player ∷ players) (end ∷ ends) h = plans_more player.driving end.player.driving (drivings_of players) (drivings_of (map (λ (e : PlayerEnd). e.player) ends)) h.0.trace h.0.drove (plans_kept c history players ends h.1)
+  -- the drivers that came back are on the same terms, so one of these is the same of each
+  pub kept_term : {A : Type 0} (f : Terms → A) (g : D → A) → ((d : D) → f (driver_terms d) ≡ g d) → (players : List Player) (ds es : List D) → map (driving facts plan sound room) ds ≡ drivings_of players → terms_in players ≡ map driver_terms es → map g ds ≡ map g es
+  kept_term f g same players ds es back kept =
+      sym (one_term f g same ds) ∙ (ap (map f) (sym (terms_of_drivers ds) ∙ (ap (map terms_of) back ∙ kept)) ∙ one_term f g same es)
 
-pub same_plans : (c : Configuration) (history later : List Entry) (players now : List Player) (is_cut : Bool) → IsRound c history later players now is_cut → plans_in now ≡ plans_in players
-same_plans c history later players now is_cut h = ap plans_in (sym h.players_now) ∙ plans_kept c history players h.ends h.plays
+  pub as_many : {A : Type 0} (g : D → A) (ds es : List D) → map g ds ≡ map g es → length ds ≡ length es
+  as_many g ds es same = sym (map-length g ds) ∙ (ap length same ∙ map-length g es)
+
+-- a round keeps what no call changes
+same_terms_of : (trace : List Move) (d e : Driving) → Drives trace d e → terms_of e ≡ terms_of d
+same_terms_of trace d e h = cc (h.plan, h.sound, h.room)
+
+terms_more : (d e : Option Driving) (ds es : List Driving) (trace : List Move) → Drove trace d e → map terms_of es ≡ map terms_of ds → map terms_of (driving_in e ++ es) ≡ map terms_of (driving_in d ++ ds)
+terms_more None None ds es trace h same = same
+terms_more None (Some e) ds es trace h same = absurd h
+terms_more (Some d) None ds es trace h same = absurd h
+terms_more (Some d) (Some e) ds es trace h same = ap (λ (x : Terms). x ∷ map terms_of es) (same_terms_of trace d e h) ∙ ap (λ (l : List Terms). terms_of d ∷ l) same
+
+terms_kept : (c : Configuration) (history : List Entry) (players : List Player) (ends : List PlayerEnd) → EachPlaysFrom c history players ends → terms_in (map (λ (end : PlayerEnd). end.player) ends) ≡ terms_in players
+terms_kept c history [] [] h = refl
+terms_kept c history [] (end ∷ ends) h = absurd h
+terms_kept c history (player ∷ players) [] h = absurd h
+terms_kept c history (player ∷ players) (end ∷ ends) h = terms_more player.driving end.player.driving (drivings_of players) (drivings_of (map (λ (e : PlayerEnd). e.player) ends)) h.0.trace h.0.drove (terms_kept c history players ends h.1)
+
+pub same_terms : (c : Configuration) (history later : List Entry) (players now : List Player) (is_cut : Bool) → IsRound c history later players now is_cut → terms_in now ≡ terms_in players
+same_terms c history later players now is_cut h = ap terms_in (sym h.players_now) ∙ terms_kept c history players h.ends h.plays

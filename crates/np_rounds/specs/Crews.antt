@@ -5,6 +5,7 @@ use Rattle.np_event.specs.declared.event.Outcome.{Outcome}
 use Rattle.np_cloud.specs.declared.driver.Tag.{Tag}
 use Rattle.np_cloud.specs.Facts.{DriverFacts}
 use Rattle.np_site.specs.Configuration.{Configuration}
+use Rattle.np_answers.specs.Drive.{Driving}
 use Rattle.np_desk.specs.Part.{second_half}
 use Rattle.np_desk.specs.Pass.{PassView}
 use Rattle.np_driven.specs.Players.{Player}
@@ -38,6 +39,15 @@ AreGiven p n (crew ∷ crews) = (crew.pass ≡ given_pass n p) × AreGiven p (su
 -- what a driver plans (own)
 abbrev pub Plan : Type 0
 Plan = Tag → Option Outcome
+
+-- what no call of a driver changes: its plan, which lists of server numbers are sound for it, and for how many servers it has room (own)
+pub record Terms : Type 0 where
+  pub plan : Plan
+  pub sound : List ℕ → Bool
+  pub room : ℕ
+
+abbrev pub terms_of : Driving → Terms
+terms_of d = record { plan = d.plan; sound = d.sound; room = d.room }
 
 module _ {D : Type 0} (facts : D → DriverFacts) (plan : D → Plan) (sound : D → List ℕ → Bool) (room : D → ℕ) where
   -- whose the worker is, and what it drives (own)

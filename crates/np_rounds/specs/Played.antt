@@ -4,7 +4,6 @@ use Rattle.np_text.specs.declared.memory.NoMemory.{NoMemory}
 use Rattle.np_event.specs.declared.entry.Entry.{Entry}
 use Rattle.np_event.specs.declared.event.Event.TheVariants as ev
 use Rattle.np_site.specs.Configuration.{Configuration}
-use Rattle.np_answers.specs.Drive.{Driving}
 use Rattle.np_useful.specs.Driven.{DrivenBy}
 use Rattle.np_driven.specs.Players.{Player, drivings_of, AreNumbered, WasAnswered, HaveDriven}
 use Rattle.np_worker.specs.declared.worker.RoundEnd.{RoundEnd}
@@ -12,7 +11,7 @@ use Rattle.np_answers.specs.declared.ask.Turn.{Turn}
 use Rattle.np_answers.specs.declared.ask.Turn.TheVariants as turn
 use Rattle.np_answers.specs.Answers.{IsFull}
 use Rattle.np_rounds.specs.declared.round.Together.{Together}
-use Rattle.np_rounds.specs.Crews.{Plan}
+use Rattle.np_rounds.specs.Crews.{Terms, terms_of}
 
 -- with what one more worker's round came to; if one ran out of memory, all did (own)
 abbrev pub with_end : Together → Result RoundEnd NoMemory → Result Together NoMemory
@@ -47,9 +46,9 @@ Ticks false old new = (e : Entry) × (e.event ≡ ev.Tick) × (new ≡ old ++ e 
 
 -- ## players
 
--- what the players' drivers plan, in order (own)
-abbrev pub plans_in : List Player → List Plan
-plans_in players = map (λ (driving : Driving). driving.plan) (drivings_of players)
+-- what no call changes of the players' drivers, in order (own)
+abbrev pub terms_in : List Player → List Terms
+terms_in players = map terms_of (drivings_of players)
 
 -- the players drove the journal; nothing is known of the servers that they have (own)
 pub record WereDriven (c : Configuration) (journal : List Entry) (players : List Player) : Type 0 where

@@ -17,7 +17,7 @@ ghost use Rattle.np_rounds.specs.Played.{
   Stops,
   Ticks,
   is_full,
-  plans_in,
+  terms_in,
 };
 
 use crate::crew::{drivers_of, workers_of};
@@ -82,9 +82,9 @@ fn play_at<R: Threads + Wait + Sync, D: Driver + Send + Drop, G: Gate + Sync>(
     ensures own { IfOk result (λ _. IsOf pass.new desk.now) }
     ensures whole { IfOk result (λ _. IsWhole pass.new.part) }
     ensures stops { IfOk result (λ full. Stops full pass.new.seen) }
-    ensures plans { IfOk result (λ _.
-        plans_in (players_of D.facts D.plan D.sound D.room workers.new.items)
-        ≡ plans_in (players_of D.facts D.plan D.sound D.room workers.old.items)) }
+    ensures terms { IfOk result (λ _.
+        terms_in (players_of D.facts D.plan D.sound D.room workers.new.items)
+        ≡ terms_in (players_of D.facts D.plan D.sound D.room workers.old.items)) }
     ensures driven { IfOk result (λ full. let c = desk.now.origin.fixed in
         HaveDriven c pass.old.seen (players_of D.facts D.plan D.sound D.room workers.old.items) →
         IsDriven c full pass.new.seen
@@ -121,9 +121,9 @@ fn play_board<R: Threads + Wait + Sync, D: Driver + Send + Drop, G: Gate + Sync>
     requires rested { IsRested board.journal }
     ensures configuration { IfOk result (λ r. r.0.configuration ≡ board.configuration) }
     ensures stops { IfOk result (λ r. Stops r.1 r.0.journal) }
-    ensures plans { IfOk result (λ _.
-        plans_in (players_of D.facts D.plan D.sound D.room workers.new.items)
-        ≡ plans_in (players_of D.facts D.plan D.sound D.room workers.old.items)) }
+    ensures terms { IfOk result (λ _.
+        terms_in (players_of D.facts D.plan D.sound D.room workers.new.items)
+        ≡ terms_in (players_of D.facts D.plan D.sound D.room workers.old.items)) }
     ensures driven { IfOk result (λ r. let c = board.configuration in
         HaveDriven c board.journal (players_of D.facts D.plan D.sound D.room workers.old.items) →
         IsDriven c r.1 r.0.journal (players_of D.facts D.plan D.sound D.room workers.new.items)) }
@@ -159,6 +159,8 @@ pub fn run_rounds<R: Threads + Wait + Sync, D: Driver + Send + Drop, G: Gate + S
     ensures full { IfOk result (λ e. e.full ≡ true → length e.board.journal ≡ 262144) }
     ensures drivers { IfOk result (λ e. length e.drivers.items ≡ length config.pools) }
     ensures plans { IfOk result (λ e. map D.plan e.drivers.items ≡ map D.plan drivers.items) }
+    ensures sounds { IfOk result (λ e. map D.sound e.drivers.items ≡ map D.sound drivers.items) }
+    ensures rooms { IfOk result (λ e. map D.room e.drivers.items ≡ map D.room drivers.items) }
     ensures driven { All (λ (d : D). (D.facts d).servers ≡ Some []) drivers.items →
         IfOk result (λ e. DrivenBy
         (WasAnswered (map (driving D.facts D.plan D.sound D.room) e.drivers.items))

@@ -1,6 +1,7 @@
 -- a site that was played: from what the rounds left to what a run shows
-use Rattle.std.proofs.Common.{◌≡◌, ◌∙◌, refl, sym, ap, subst, true, false, Bool, ℕ, List, [], ◌∷◌, length, map}
-use Rattle.std.specs.Prelude.{All, Option, Some}
+use Rattle.std.proofs.Common.{◌≡◌, ◌∙◌, refl, sym, ap, subst, true, false, Bool, ℕ, zero, suc, List, [], ◌∷◌, length, map}
+use Rattle.std.specs.Prelude.{All, Option, is_some}
+use Rattle.std.proofs.lemmas.List.Elements.{All-nil, All-cons, All-append, All-weaker}
 use Rattle.np_site.specs.Configuration.{Configuration}
 use Rattle.np_event.specs.declared.event.Outcome.{Outcome}
 use Rattle.np_event.specs.declared.entry.Entry.{Entry}
@@ -11,9 +12,10 @@ use Rattle.np_useful.specs.Driven.{Driven, DrivenBy}
 use Rattle.np_useful.specs.Settled.{IsSettled}
 use Rattle.np_cloud.specs.declared.driver.Tag.{Tag}
 use Rattle.np_cloud.specs.Facts.{DriverFacts}
-use Rattle.np_cloud.specs.Sim.{Simulation, simulation_facts, simulation_plan}
+use Rattle.np_cloud.specs.Sim.{Simulation, simulation_of, simulation_facts, simulation_plan}
 use Rattle.np_cloud.specs.Clouds.{ArePlanned, simulations}
-use Rattle.np_cloud.proofs.CloudLemmas.{simulations-planned, simulations-fresh}
+use Rattle.np_cloud.proofs.CloudLemmas.{simulations-planned}
+use Rattle.np_hosts.specs.Carried.{BeginsEmpty, BeginsNew}
 use Rattle.np_answers.specs.Drive.{Driving, driving}
 use Rattle.np_driven.specs.Players.{WasAnswered}
 use Rattle.np_driven.proofs.Plans.{planned-driven}
@@ -24,8 +26,21 @@ use Rattle.np_top.specs.Play.{HasEnded, IsPlayedTo, status_of_fates}
 
 -- ## the clouds
 
-pub fresh : (c : Configuration) (clouds : List Simulation) → clouds ≡ simulations c (length c.pools) → All (λ (cloud : Simulation). (simulation_facts cloud).servers ≡ Some []) clouds
-fresh c clouds are = subst (All (λ (cloud : Simulation). (simulation_facts cloud).servers ≡ Some [])) (sym are) (simulations-fresh c (length c.pools))
+abbrev IsNew : Simulation → Type 0
+IsNew cloud = BeginsNew (simulation_facts cloud)
+
+simulations-new : (c : Configuration) (n : ℕ) → All IsNew (simulations c n)
+simulations-new c zero = All-nil IsNew
+simulations-new c (suc n) =
+    let cloud : Simulation = simulation_of c (record { 0 = n }) in
+    All-append IsNew (simulations c n) (cloud ∷ []) (simulations-new c n) (All-cons IsNew cloud [] (record { answered = refl; servers = refl }) (All-nil IsNew))
+
+pub new_clouds : (c : Configuration) (clouds : List Simulation) → clouds ≡ simulations c (length c.pools) → All (λ (cloud : Simulation). BeginsNew (simulation_facts cloud)) clouds
+new_clouds c clouds are = subst (All IsNew) (sym are) (simulations-new c (length c.pools))
+
+-- a driver that launched nothing reports its answers, and has no servers
+pub new_empty : {D : Type 0} (facts : D → DriverFacts) (ds : List D) → All (λ (d : D). BeginsNew (facts d)) ds → All (λ (d : D). BeginsEmpty (facts d)) ds
+new_empty facts ds all = All-weaker (λ d. BeginsNew (facts d)) (λ d. BeginsEmpty (facts d)) (λ d b. record { answered = ap is_some b.answered; servers = b.servers }) ds all
 
 pub plans_of : {D : Type 0} (facts : D → DriverFacts) (plan : D → Tag → Option Outcome) (sound : D → List ℕ → Bool) (room : D → ℕ) (ds : List D) →
     map (λ (d : Driving). d.plan) (map (driving facts plan sound room) ds) ≡ map plan ds

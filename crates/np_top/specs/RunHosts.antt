@@ -1,11 +1,17 @@
 -- what the command `run hosts` does: it plays a site of which some pools are served by hosts
-use Rattle.std.specs.Prelude.{◌≡◌, ℕ, List, slice_get, Option, Some, None}
+use Rattle.std.specs.Prelude.{◌≡◌, ℕ, List, [], ◌∷◌, ◌++◌, slice_get, sum, IsTrue, Option, Some, None}
 use Rattle.np_text.specs.declared.id.PoolId.{PoolId}
 use Rattle.np_site.specs.Configuration.{Configuration}
 use Rattle.np_event.specs.declared.event.Outcome.{Outcome}
 use Rattle.np_event.specs.declared.entry.Entry.{Entry}
+use Rattle.np_event.specs.declared.event.Event.TheVariants as ev
 use Rattle.np_machine.specs.Plan.{outcome_of}
+use Rattle.np_machine.specs.History.{after}
 use Rattle.np_useful.specs.Driven.{Says, DrivenBy}
+use Rattle.np_hosts.specs.Nodes.{servers_up}
+use Rattle.np_hosts.specs.Reports.{AreAloneSound, FailAfter, reports_of}
+use Rattle.np_static.specs.Hosting.{Hosting}
+use Rattle.np_static.specs.Loads.{is_sound}
 use Rattle.np_static.specs.Site.{Site, simulated, hosted}
 use Rattle.np_static.specs.declared.fault.HostedFault.{HostedFault}
 use Rattle.np_static.specs.Hosted.{Hosted, hosted_of}
@@ -22,10 +28,22 @@ IsPlannedAt c (Some (hosted hosts)) pool start o = Unit {0}
 abbrev pub planned_without_hosts : Hosted → Says
 planned_without_hosts h pool n attempt start o = IsPlannedAt h.configuration (slice_get h.sites pool.0) pool start o
 
+-- what these hosts of a pool carried, each at once no more than its number (own)
+pub record AreHosted (c : Configuration) (journal : List Entry) (p : PoolId) (hosts : List ℕ) : Type 0 where
+  -- after each tick no host has more servers of the pool's nodes that are up than it carries, and each of these servers has a host
+  pub carried : (before rest : List Entry) (e : Entry) → journal ≡ before ++ e ∷ rest → e.event ≡ ev.Tick
+      → IsTrue (is_sound hosts (servers_up p (after c (before ++ e ∷ [])).nodes))
+  -- each server that is reported has a host of this pool
+  pub reported : AreAloneSound (is_sound hosts) (reports_of c p journal)
+  -- a launch is reported as failed only after reports of as many servers as the hosts carry together
+  pub failed : FailAfter (sum hosts) 0 (reports_of c p journal)
+
 -- what holds of the journal of a site with hosts (own)
 pub record IsDrivenWithHosts (h : Hosted) (journal : List Entry) : Type 0 where
   -- its parties, its hosts, and the simulated clouds of the other pools drove it
   pub driven : DrivenBy (planned_without_hosts h) h.configuration journal
+  -- the hosts of each pool that has some carried it
+  pub hosted : (p : PoolId) (hosts : Hosting) → slice_get h.sites p.0 ≡ Some (hosted hosts) → AreHosted h.configuration journal p hosts.hosts
 
 -- `run hosts`: the input is a configuration with host lines (own)
 abbrev pub hosted_run : SiteCommand

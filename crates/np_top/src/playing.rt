@@ -1,11 +1,12 @@
 //! Playing a site by threads to its end.
 
-ghost use Rattle.std.specs.Prelude.{◌≡◌, length, map, All, IfOk, Some, []};
+ghost use Rattle.std.specs.Prelude.{◌≡◌, length, map, All, IfOk};
 ghost use Rattle.std.specs.List.{AllByRecursion};
 ghost use Rattle.np_event_lines.specs.Line.{HasEventLine};
 ghost use Rattle.np_answers.specs.Drive.{driving};
 ghost use Rattle.np_driven.specs.Players.{WasAnswered};
 ghost use Rattle.np_useful.specs.Driven.{Driven, DrivenBy};
+ghost use Rattle.np_hosts.specs.Carried.{AreCarried, BeginsNew, FailOnlyFull};
 ghost use Rattle.np_static.specs.Hosted.{HasHostLines, hosted_view};
 ghost use Rattle.np_top.specs.Play.{HasEnded};
 ghost use Rattle.np_top.specs.RunHosts.{IsDrivenWithHosts};
@@ -15,13 +16,13 @@ use np_board::Board;
 use np_cloud::{Driver, Gate, simulated_clouds};
 use np_config::Config;
 use np_rounds::{Ended, run_rounds};
-use np_static::HostedSite;
+use np_static::{HostedSite, hosts_answer_no_number_twice};
 use np_text::NoMemory;
 use std::alloc::Global;
 use std::sync::Wait;
 use std::thread::Threads;
 
-/// Plays the site over these drivers, one for each pool, which have no server yet.
+/// Plays the site over these drivers, one for each pool, which have launched nothing yet.
 fn play_over<R: Threads + Wait + Sync, D: Driver + Send + Drop, G: Gate + Sync>(
     rt: &R,
     alloc: Global,
@@ -30,14 +31,20 @@ fn play_over<R: Threads + Wait + Sync, D: Driver + Send + Drop, G: Gate + Sync>(
     gate: &G,
 ) -> Result<Ended<D>, NoMemory>
     requires count { length drivers.items ≡ length config.pools }
-    requires fresh { All (λ (d : D). (D.facts d).servers ≡ Some []) drivers.items }
+    requires new { All (λ (d : D). BeginsNew (D.facts d)) drivers.items }
     ensures configuration { IfOk result (λ e. e.board.configuration ≡ config) }
     ensures lines { IfOk result (λ e.
         AllByRecursion (λ entry. HasEventLine entry.event) e.board.journal) }
     ensures driven { IfOk result (λ e.
         DrivenBy (WasAnswered (map (driving D.facts D.plan D.sound D.room) e.drivers.items))
         config e.board.journal) }
+    ensures carried { IfOk result (λ e. AreCarried config e.board.journal
+        (map (driving D.facts D.plan D.sound D.room) e.drivers.items)) }
+    ensures failed { IfOk result (λ e. FailOnlyFull config e.board.journal
+        (map (driving D.facts D.plan D.sound D.room) e.drivers.items)) }
     ensures plans { IfOk result (λ e. map D.plan e.drivers.items ≡ map D.plan drivers.items) }
+    ensures sounds { IfOk result (λ e. map D.sound e.drivers.items ≡ map D.sound drivers.items) }
+    ensures rooms { IfOk result (λ e. map D.room e.drivers.items ≡ map D.room drivers.items) }
     ensures ended { IfOk result (λ e. HasEnded config e.board.journal e.full) }
 {
     config.soundness();
@@ -82,6 +89,7 @@ pub(crate) fn play_hosts<R: Threads + Wait + Sync, G: Gate + Sync>(
 {
     let HostedSite { config, drivers } = site;
     let ended = play_over(rt, alloc, config, drivers, gate)?;
+    hosts_answer_no_number_twice();
     let Ended { board, full, .. } = ended;
     Ok((board, full))
 }

@@ -6,17 +6,17 @@ use Rattle.np_rounds.specs.Crews.{players_of}
 use Rattle.np_rounds.specs.Played.{IsDriven, Stops, Ticks}
 use Rattle.np_rounds.proofs.Driven.{driven_round, driven_whole, driven_tick, not_false}
 use Rattle.np_rounds.proofs.Hosted.{hosted_whole, hosted_tick, workers_sound}
-use Rattle.np_rounds.proofs.Players.{same_plans}
+use Rattle.np_rounds.proofs.Players.{same_terms}
 use Rattle.np_rounds.proofs.rounds.play_at.Goals as goal
 
-pub returns-then-together-clause-plans : goal.returns-then-together-clause-plans
-returns-then-together-clause-plans g c = same_plans c.args.desk.now.origin.fixed c.loop.pass.seen c.play_round.new.pass.seen (players_of g.D.Driver.facts g.D.Driver.plan g.D.Driver.sound g.D.Driver.room c.loop.workers.items) (players_of g.D.Driver.facts g.D.Driver.plan g.D.Driver.sound g.D.Driver.room c.play_round.new.workers.items) c.in_ok-together.together.full c.in_ok-together.ensures.round ∙ c.loop.invariant.plans
+pub returns-then-together-clause-terms : goal.returns-then-together-clause-terms
+returns-then-together-clause-terms g c = same_terms c.args.desk.now.origin.fixed c.loop.pass.seen c.play_round.new.pass.seen (players_of g.D.Driver.facts g.D.Driver.plan g.D.Driver.sound g.D.Driver.room c.loop.workers.items) (players_of g.D.Driver.facts g.D.Driver.plan g.D.Driver.sound g.D.Driver.room c.play_round.new.workers.items) c.in_ok-together.together.full c.in_ok-together.ensures.round ∙ c.loop.invariant.terms
 
-pub returns-then-not-together-clause-plans : goal.returns-then-not-together-clause-plans
-returns-then-not-together-clause-plans g c = same_plans c.args.desk.now.origin.fixed c.loop.pass.seen c.play_round.new.pass.seen (players_of g.D.Driver.facts g.D.Driver.plan g.D.Driver.sound g.D.Driver.room c.loop.workers.items) (players_of g.D.Driver.facts g.D.Driver.plan g.D.Driver.sound g.D.Driver.room c.play_round.new.workers.items) c.in_ok-together.together.full c.in_ok-together.ensures.round ∙ c.loop.invariant.plans
+pub returns-then-not-together-clause-terms : goal.returns-then-not-together-clause-terms
+returns-then-not-together-clause-terms g c = same_terms c.args.desk.now.origin.fixed c.loop.pass.seen c.play_round.new.pass.seen (players_of g.D.Driver.facts g.D.Driver.plan g.D.Driver.sound g.D.Driver.room c.loop.workers.items) (players_of g.D.Driver.facts g.D.Driver.plan g.D.Driver.sound g.D.Driver.room c.play_round.new.workers.items) c.in_ok-together.together.full c.in_ok-together.ensures.round ∙ c.loop.invariant.terms
 
-pub returns-then-branch-clause-plans : goal.returns-then-branch-clause-plans
-returns-then-branch-clause-plans g c = same_plans c.args.desk.now.origin.fixed c.loop.pass.seen c.play_round.new.pass.seen (players_of g.D.Driver.facts g.D.Driver.plan g.D.Driver.sound g.D.Driver.room c.loop.workers.items) (players_of g.D.Driver.facts g.D.Driver.plan g.D.Driver.sound g.D.Driver.room c.play_round.new.workers.items) c.in_ok-together.together.full c.in_ok-together.ensures.round ∙ c.loop.invariant.plans
+pub returns-then-branch-clause-terms : goal.returns-then-branch-clause-terms
+returns-then-branch-clause-terms g c = same_terms c.args.desk.now.origin.fixed c.loop.pass.seen c.play_round.new.pass.seen (players_of g.D.Driver.facts g.D.Driver.plan g.D.Driver.sound g.D.Driver.room c.loop.workers.items) (players_of g.D.Driver.facts g.D.Driver.plan g.D.Driver.sound g.D.Driver.room c.play_round.new.workers.items) c.in_ok-together.together.full c.in_ok-together.ensures.round ∙ c.loop.invariant.terms
 
 pub returns-then-together-clause-driven : goal.returns-then-together-clause-driven
 returns-then-together-clause-driven g c = λ had.
@@ -82,7 +82,7 @@ loop-preserved g c =
       own = c.in_ok-tick.ensures.own;
       whole = c.in_ok-tick.ensures.part ∙ c.in_ok-together.ensures.whole;
       rested = subst (λ b. Stops b c.tick.new.pass.seen) c.if-branch.false c.in_ok-tick.ensures.stops;
-      plans = same_plans c.args.desk.now.origin.fixed c.loop.pass.seen c.play_round.new.pass.seen (players_of g.D.Driver.facts g.D.Driver.plan g.D.Driver.sound g.D.Driver.room c.loop.workers.items) (players_of g.D.Driver.facts g.D.Driver.plan g.D.Driver.sound g.D.Driver.room c.play_round.new.workers.items) c.in_ok-together.together.full c.in_ok-together.ensures.round ∙ c.loop.invariant.plans;
+      terms = same_terms c.args.desk.now.origin.fixed c.loop.pass.seen c.play_round.new.pass.seen (players_of g.D.Driver.facts g.D.Driver.plan g.D.Driver.sound g.D.Driver.room c.loop.workers.items) (players_of g.D.Driver.facts g.D.Driver.plan g.D.Driver.sound g.D.Driver.room c.play_round.new.workers.items) c.in_ok-together.together.full c.in_ok-together.ensures.round ∙ c.loop.invariant.terms;
       driven = λ had. driven_tick fixed c.loop.pass.seen c.play_round.new.pass.seen c.tick.new.pass.seen before now c.in_ok-together.together.full false c.in_ok-together.ensures.round c.if-together.false
           (legal-Runs fixed c.play_round.new.pass.seen c.in_ok-together.ensures.legal) (c.loop.invariant.driven had)
           (c.in_ok-together.ensures.moved (not_false c.in_ok-together.together.moved c.if-not-together.false))

@@ -4,7 +4,7 @@ use Rattle.np_desk.specs.Pass.{IsOf}
 use Rattle.np_driven.specs.Players.{HaveDriven}
 use Rattle.np_hosts.specs.Hosting.{Earlier, HaveHosted}
 use Rattle.np_rounds.specs.Crews.{players_of}
-use Rattle.np_rounds.specs.Played.{IsRested, plans_in}
+use Rattle.np_rounds.specs.Played.{IsRested, terms_in}
 use Rattle.np_rounds.proofs.rounds.play_at.Given as goal
 
 abbrev pub invariant-loop : goal.invariant-loop
@@ -12,7 +12,7 @@ invariant-loop g l = let before = players_of g.D.Driver.facts g.D.Driver.plan g.
   own : IsOf l.pass l.desk;
   whole : IsWhole l.pass.part;
   rested : IsRested l.pass.seen;
-  plans : plans_in now ≡ plans_in before;
+  terms : terms_in now ≡ terms_in before;
   driven : HaveDriven l.desk.origin.fixed l.initial.pass.seen before → HaveDriven l.desk.origin.fixed l.pass.seen now;
   hosted : (earlier : Earlier) → HaveHosted earlier l.desk.origin.fixed l.initial.pass.seen before → HaveHosted earlier l.desk.origin.fixed l.pass.seen now;
 }

@@ -1,9 +1,9 @@
 use Rattle.np_cloud.specs.Sound.{every_list}
-use Rattle.np_top.proofs.Sites.{fresh, driven_of}
+use Rattle.np_top.proofs.Sites.{new_clouds, driven_of}
 use Rattle.np_top.proofs.playing.play_site.Goals as goal
 
-pub play_over-requires-clause-fresh : goal.play_over-requires-clause-fresh
-play_over-requires-clause-fresh g c κs within = fresh c.args.config c.in_ok-clouds.clouds.items c.in_ok-clouds.ensures.clouds
+pub play_over-requires-clause-new : goal.play_over-requires-clause-new
+play_over-requires-clause-new g c κs within = new_clouds c.args.config c.in_ok-clouds.clouds.items c.in_ok-clouds.ensures.clouds
 
 pub returns-clause-driven : goal.returns-clause-driven
 returns-clause-driven g c =
