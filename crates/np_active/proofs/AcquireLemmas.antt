@@ -35,20 +35,20 @@ module _ (c : Configuration) (s : State) (q : RequesterId) (active : ActiveOf) (
   lined : AreLined c s active (is_job_to_acquire c s q) (lacking_group q 0) (λ line. lacking_ones q line)
   lined = record {
     groups = λ line. refl;
-    in_line = λ line j is. lined-in c s q active are given (is_supplied s) (may_acquire c s) waits line j (sym (lacking-such line j) ∙ is);
-    free = λ line j is. acquires-such j ∙ lined-free c s q active are given (is_supplied s) (may_acquire c s) waits line j (sym (lacking-such line j) ∙ is);
+    in_line = λ line j is. lined-in c s q active.lines given (is_supplied s) (may_acquire c s) waits line j (sym (lacking-such line j) ∙ is);
+    free = λ line j is. acquires-such j ∙ lined-free c s q active.lines given (is_supplied s) (may_acquire c s) waits line j (sym (lacking-such line j) ∙ is);
   }
 
   others : (i : JobId) → is_passed s (is_job_to_acquire c s q) i ≡ true → (comes_first None i ≡ false) ⊎ ((line : ℕ) × (is_job_in c s active.lines (lacking_ones q line) i ≡ true))
   others i ok = by (such-own c s q given i (may_acquire c s i) (sym (acquires-such i) ∙ ok)) where
     by : (own : IsOwn c s q given i) × (may_acquire c s i own.row ≡ true) → (comes_first None i ≡ false) ⊎ ((line : ℕ) × (is_job_in c s active.lines (lacking_ones q line) i ≡ true))
-    by (own, may) = of_row (own-where c s q active are given (is_supplied s) (may_acquire c s) waits i own) where
+    by (own, may) = of_row (own-where c s q active.lines given (is_supplied s) (may_acquire c s) waits i own) where
       of_row : (is_supplied s i own.row ≡ true) ⊎ ((line : ℕ) × (is_lined c s active.lines q given (is_supplied s) line i ≡ true))
           → (comes_first None i ≡ false) ⊎ ((line : ℕ) × (is_job_in c s active.lines (lacking_ones q line) i ≡ true))
       of_row (inl supplied) = let out : false ≡ true = sym (ap (λ (b : Bool). not b && is_none (first_full c s i own.row)) supplied) ∙ may in absurd cc
       of_row (inr (line, is)) = inr (line, lacking-such line i ∙ is)
 
   -- the earliest of the first jobs of lines
-  pub first-acquires : (best : Option JobId) → IsBest c active.handles active.jobs (lacking_group q 0) None None best → best ≡ job_to_acquire c q s
+  pub first-acquires : (best : Option JobId) → IsBest c s active.jobs (lacking_group q 0) None None best → best ≡ job_to_acquire c q s
   first-acquires best best_is =
       best-all c s active are (is_job_to_acquire c s q) (lacking_group q 0) (λ line. lacking_ones q line) lined None (record { one = λ b this. absurd cc; others = others }) best best_is

@@ -1,6 +1,6 @@
--- which jobs a full semaphore blocks: by the groups, by the state, and that of a line it blocks all
+-- which jobs a full semaphore blocks: of a line it blocks all
 use Rattle.std.proofs.Common.{◌≡◌, ◌∙◌, ℕ, Bool, true, false, cond, List, [], ◌∷◌, length, not, Option, Some, None, refl, sym, ap, subst, arith}
-use Rattle.std.specs.Prelude.{◌==◌, ◌&&◌, ◌||◌, find, is_none, nat_le, slice_get}
+use Rattle.std.specs.Prelude.{◌==◌, ◌&&◌, ◌||◌, find, is_none, slice_get}
 use Rattle.std.specs.Bool.{Decides}
 use Rattle.std.specs.List.{list_any}
 use Rattle.std.specs.Option.{option_map_or}
@@ -11,52 +11,22 @@ use Rattle.np_text.specs.declared.id.JobId.{JobId}
 use Rattle.np_text.specs.declared.id.SemId.{SemId}
 use Rattle.np_site.specs.Configuration.{Configuration}
 use Rattle.np_site.specs.declared.row.Job.{Job}
-use Rattle.np_groups.specs.Groups.{has_member}
-use Rattle.np_keys.specs.Keys.{same_job}
-use Rattle.np_machine.specs.Semaphore.{first_full, is_full, max_of}
+use Rattle.np_machine.specs.Semaphore.{first_full, is_full}
 use Rattle.np_machine.specs.State.{State}
 use Rattle.np_machine.specs.Tables.{has_handle}
+use Rattle.np_laws.proofs.Ids.{same_semaphore}
 use Rattle.np_look.specs.Jobs.{is_supplied, may_begin}
-use Rattle.np_active.specs.Active.{ActiveOf, AreActive, handle_group}
-use Rattle.np_active.specs.Begin.{blocks, is_free_by, is_full_by, may_begin_by}
+use Rattle.np_active.specs.Begin.{is_free, may_begin_of}
 use Rattle.np_active.specs.Lines.{is_like, line_of, same_semaphores}
-use Rattle.np_active.proofs.Holders.{handles-grouped, same-id}
-use Rattle.np_active.proofs.JobsUntouched.{any-alike}
-use Rattle.np_active.proofs.OwnJobs.{and_turned}
 
--- none is found if none passes
-none-any : {X : Type 0} (p : X → Bool) (xs : List X) → is_none (find p xs) ≡ not (list_any p xs)
-none-any p [] = refl
-none-any p (x ∷ xs) = by (p x) (none-any p xs) where
-  by : (b : Bool) → is_none (find p xs) ≡ not (list_any p xs) → is_none (cond b (Some x) (find p xs)) ≡ not (b || list_any p xs)
-  by true later = refl
-  by false later = later
+-- ## by the row of a job
 
--- ## by the groups and by the state
+module _ (c : Configuration) (s : State) (j : JobId) (row : Job) (is : slice_get c.jobs j.0 ≡ Some row) where
+  pub free-is : is_free c s j ≡ is_none (first_full c s j row)
+  free-is = ap (λ (o : Option Job). option_map_or (λ r. is_none (first_full c s j r)) o false) is
 
-module _ (c : Configuration) (s : State) (active : ActiveOf) (are : AreActive c s active) where
-  full-is : (x : SemId) → is_full_by c active.handles x ≡ is_full c s x
-  full-is x = ap (λ (jobs : List JobId). nat_le (max_of c x) (length jobs)) (handles-grouped c s x active.handles are.handles)
-
-  blocks-is : (j : JobId) (x : SemId) → blocks c active.handles j x ≡ (not (has_handle j s.handles x) && is_full c s x)
-  blocks-is j x =
-      ap (λ (b : Bool). b && not (has_member same_job (handle_group x) j active.handles)) (full-is x)
-      ∙ ap (λ (b : Bool). is_full c s x && not b) (are.handles.groups.each x j)
-      ∙ and_turned (is_full c s x) (not (has_handle j s.handles x))
-
-  unblocked-is : (j : JobId) (row : Job) → not (list_any (blocks c active.handles j) row.semaphores) ≡ is_none (first_full c s j row)
-  unblocked-is j row =
-      ap not (any-alike (blocks c active.handles j) (λ x. not (has_handle j s.handles x) && is_full c s x) (blocks-is j) row.semaphores)
-      ∙ sym (none-any (λ x. not (has_handle j s.handles x) && is_full c s x) row.semaphores)
-
-  module _ (j : JobId) (row : Job) (is : slice_get c.jobs j.0 ≡ Some row) where
-    pub free-is : is_free_by c active.handles j ≡ is_none (first_full c s j row)
-    free-is = ap (λ (o : Option Job). option_map_or (λ r. not (list_any (blocks c active.handles j) r.semaphores)) o false) is ∙ unblocked-is j row
-
-    pub may-is : may_begin_by c active.handles j ≡ may_begin c s j row
-    may-is =
-        ap (λ (o : Option Job). option_map_or (λ r. r.resources_first || not (list_any (blocks c active.handles j) r.semaphores)) o false) is
-        ∙ ap (λ (b : Bool). row.resources_first || b) (unblocked-is j row)
+  pub may-is : may_begin_of c s j ≡ may_begin c s j row
+  may-is = ap (λ (o : Option Job). option_map_or (may_begin c s j) o false) is
 
 -- ## the jobs of a line
 
@@ -76,6 +46,9 @@ module _ (c : Configuration) (s : State) (j : JobId) (row : Job) (lacks : is_sup
 
   lacks-any : is_none (first_full c s j row) ≡ not (list_any (is_full c s) row.semaphores)
   lacks-any = let parts = or_parts (length row.semaphores == 0) (list_any (has_handle j s.handles) row.semaphores) lacks in free-any row.semaphores parts.1
+
+same-id : (x y : SemId) → (x.0 == y.0) ≡ true → x ≡ y
+same-id x y is = let number : x.0 ≡ y.0 = grind (arith, nat_tests) in same_semaphore x y number
 
 semaphore-decides : (a b : SemId) → Decides (a.0 == b.0) (a ≡ b)
 semaphore-decides a b = (λ is. same-id a b is, λ is. same (ap (λ (x : SemId). x.0) is)) where
@@ -106,15 +79,15 @@ pub record IsInLine (c : Configuration) (s : State) (lines : List JobId) (line :
   pub lacks : is_supplied s j row ≡ false
   pub number : line_of c lines j row ≡ line
 
-module _ (c : Configuration) (s : State) (active : ActiveOf) (are : AreActive c s active) (line : ℕ) where
+module _ (c : Configuration) (s : State) (lines : List JobId) (line : ℕ) where
   -- none of its semaphores blocks it if none of those of the job with the number of the line is full
-  line-free : (j : JobId) → IsInLine c s active.lines line j → (other : Job) × (slice_get c.jobs line ≡ Some other) × (is_free_by c active.handles j ≡ not (list_any (is_full c s) other.semaphores))
+  line-free : (j : JobId) → IsInLine c s lines line j → (other : Job) × (slice_get c.jobs line ≡ Some other) × (is_free c s j ≡ not (list_any (is_full c s) other.semaphores))
   line-free j is =
-      let of = line-row c active.lines j is.row line is.of_site is.number in
-      (of.0, of.1, free-is c s active are j is.row is.of_site ∙ lacks-any c s j is.row is.lacks ∙ ap (λ (xs : List SemId). not (list_any (is_full c s) xs)) (sym of.2))
+      let of = line-row c lines j is.row line is.of_site is.number in
+      (of.0, of.1, free-is c s j is.row is.of_site ∙ lacks-any c s j is.row is.lacks ∙ ap (λ (xs : List SemId). not (list_any (is_full c s) xs)) (sym of.2))
 
   -- so a semaphore that is full blocks all jobs of a line
-  pub line-alike : (j i : JobId) → IsInLine c s active.lines line j → IsInLine c s active.lines line i → is_free_by c active.handles j ≡ is_free_by c active.handles i
+  pub line-alike : (j i : JobId) → IsInLine c s lines line j → IsInLine c s lines line i → is_free c s j ≡ is_free c s i
   line-alike j i is also =
       let one = line-free j is in
       let two = line-free i also in

@@ -14,7 +14,7 @@ use Rattle.np_keys.specs.Keys.{is_job_before, same_job, job_one_way, job_some_wa
 use Rattle.np_machine.specs.State.{State}
 use Rattle.np_look.specs.Readers.{jobs_from}
 use Rattle.np_active.specs.Active.{ActiveOf, AreActive, JobKind, is_job_in, job_group}
-use Rattle.np_active.specs.Begin.{IsBest, at_line, comes_first, first_of_line, is_free_by}
+use Rattle.np_active.specs.Begin.{IsBest, at_line, comes_first, first_of_line, is_free}
 use Rattle.np_active.proofs.BestLemmas.{beaten-later}
 use Rattle.np_active.proofs.Blocked.{IsInLine, line-alike}
 use Rattle.np_active.proofs.Firsts.{find-always, found-least, found-there, none-found}
@@ -55,7 +55,7 @@ is_passed s passes j = option_map_or (passes j) (slice_get s.jobs j.0) false
 pub record AreLined (c : Configuration) (s : State) (active : ActiveOf) (passes : JobId → JobRecord → Bool) (lines : Group) (of_line : ℕ → JobKind) : Type 0 where
   pub groups : (line : ℕ) → at_line lines line ≡ job_group (of_line line)
   pub in_line : (line : ℕ) (j : JobId) → is_job_in c s active.lines (of_line line) j ≡ true → IsInLine c s active.lines line j
-  pub free : (line : ℕ) (j : JobId) → is_job_in c s active.lines (of_line line) j ≡ true → is_passed s passes j ≡ is_free_by c active.handles j
+  pub free : (line : ℕ) (j : JobId) → is_job_in c s active.lines (of_line line) j ≡ true → is_passed s passes j ≡ is_free c s j
 
 -- the job passes, if there is one, and no other that passes comes before it unless that one waits in a line
 pub record IsAhead (c : Configuration) (s : State) (active : ActiveOf) (passes : JobId → JobRecord → Bool) (of_line : ℕ → JobKind) (old : Option JobId) : Type 0 where
@@ -90,22 +90,22 @@ module _ (c : Configuration) (s : State) (active : ActiveOf) (are : AreActive c 
 
   -- once the search is past all lines, the best is the first of all that pass
   module _ (old : Option JobId) (ahead : IsAhead c s active passes of_line old) where
-    best-passes : (best : Option JobId) → IsBest c active.handles active.jobs lines old None best → (b : JobId) → best ≡ Some b → is_passed s passes b ≡ true
+    best-passes : (best : Option JobId) → IsBest c s active.jobs lines old None best → (b : JobId) → best ≡ Some b → is_passed s passes b ≡ true
     best-passes best is b this = by (is.one b this) where
-      by : (old ≡ Some b) ⊎ ((line : ℕ) × (first_of_line lines line active.jobs ≡ Some b) × (is_free_by c active.handles b ≡ true)) → is_passed s passes b ≡ true
+      by : (old ≡ Some b) ⊎ ((line : ℕ) × (first_of_line lines line active.jobs ≡ Some b) × (is_free c s b ≡ true)) → is_passed s passes b ≡ true
       by (inl same) = ahead.one b same
       by (inr (line, there, free)) = lined.free line b (first-waits line (Some b) there b refl) ∙ free
 
     -- none of them comes before it
-    none-earlier : (best : Option JobId) → IsBest c active.handles active.jobs lines old None best → (i : JobId) → is_passed s passes i ≡ true → comes_first best i ≡ false
+    none-earlier : (best : Option JobId) → IsBest c s active.jobs lines old None best → (i : JobId) → is_passed s passes i ≡ true → comes_first best i ≡ false
     none-earlier best is i ok = by (ahead.others i ok) where
       by : (comes_first old i ≡ false) ⊎ ((line : ℕ) × (is_job_in c s active.lines (of_line line) i ≡ true)) → comes_first best i ≡ false
       by (inl past) = is.keeps i past
       by (inr (line, waits)) =
           let first = first-of line (first_of_line lines line active.jobs) refl i waits in
           let also : is_job_in c s active.lines (of_line line) first.0 ≡ true = first-waits line (first_of_line lines line active.jobs) refl first.0 first.1 in
-          let free : is_free_by c active.handles first.0 ≡ true =
-          line-alike c s active are line first.0 i (lined.in_line line first.0 also) (lined.in_line line i waits) ∙ sym (lined.free line i waits) ∙ ok in
+          let free : is_free c s first.0 ≡ true =
+          line-alike c s active.lines line first.0 i (lined.in_line line first.0 also) (lined.in_line line i waits) ∙ sym (lined.free line i waits) ∙ ok in
           beaten-later best first.0 i (is.leads line first.0 tt first.1 free) first.2
 
     abbrev all : List JobId
@@ -120,9 +120,9 @@ module _ (c : Configuration) (s : State) (active : ActiveOf) (are : AreActive c 
       by true is = sym (job_equal j b is)
       by false other = absurd (let first : is_job_before b j ≡ true = job_some_way j b past other in cc)
 
-    pub best-all : (best : Option JobId) → IsBest c active.handles active.jobs lines old None best → best ≡ slice_get (jobs_from passes 0 s.jobs) 0
+    pub best-all : (best : Option JobId) → IsBest c s active.jobs lines old None best → best ≡ slice_get (jobs_from passes 0 s.jobs) 0
     best-all best is = by best is (find (λ i. true) all) refl ∙ sym (find-always all) where
-      by : (b : Option JobId) → IsBest c active.handles active.jobs lines old None b → (o : Option JobId) → find (λ i. true) all ≡ o → b ≡ o
+      by : (b : Option JobId) → IsBest c s active.jobs lines old None b → (o : Option JobId) → find (λ i. true) all ≡ o → b ≡ o
       by None best_is None first = refl
       by None best_is (Some j) first = absurd (let out : true ≡ false = none-earlier None best_is j (first-passes j first) in cc)
       by (Some b) best_is None first =

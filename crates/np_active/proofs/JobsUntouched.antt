@@ -20,13 +20,9 @@ use Rattle.np_machine.specs.Kinds.{is_asked, is_failed, is_fulfilled, is_new, is
 use Rattle.np_machine.specs.Node.{with_mark}
 use Rattle.np_machine.specs.State.{State}
 use Rattle.np_machine.specs.Tables.{has_handle}
-use Rattle.np_changes.specs.Changes.{changed, grown, jobs_changed, semaphores_of}
+use Rattle.np_changes.specs.Changes.{changed, grown, jobs_changed}
 use Rattle.np_changes.specs.Planned.{IsPlanned, IsReached}
 use Rattle.np_changes.specs.declared.changes.Changes.{Changes}
-use Rattle.np_changes.specs.declared.changes.Growth.{Growth}
-use Rattle.np_changes.specs.declared.changes.Growth.TheVariants as grow
-use Rattle.np_changes.specs.declared.changes.HandlesChange.{HandlesChange}
-use Rattle.np_changes.specs.declared.changes.HandlesChange.TheVariants as handles
 use Rattle.np_changes.specs.declared.changes.JobsChange.{JobsChange}
 use Rattle.np_changes.specs.declared.changes.JobsChange.TheVariants as jobs
 use Rattle.np_laws.specs.Parts.{Invariant, JobIn}
@@ -38,10 +34,9 @@ use Rattle.np_look.specs.Readers.{request_state_of}
 use Rattle.np_active.specs.Active.{JobKind, asker_of, ending_ones, is_job_in, is_job_of, is_prompt, lacking_ones, prompt_ones, releasing_ones, supplied_ones, waiting_ones}
 use Rattle.np_active.specs.Lines.{line_of}
 use Rattle.np_active.specs.Members.{job_put, job_releasing, job_taking}
-use Rattle.np_active.proofs.HandlesUntouched.{handle-untouched, is_of, releases, takes}
+use Rattle.np_active.proofs.HandlesUntouched.{handle-untouched}
 use Rattle.np_active.proofs.OwnJobs.{waits_in}
 use Rattle.np_active.proofs.RequestsUntouched.{OfAnswered, is_named, of-failed, of-fulfilled, request-untouched}
-use Rattle.np_active.proofs.Roles.{and_false}
 
 -- a put at another place
 set-other : {X : Type 0} (xs : List X) (i j : ℕ) (x : X) → i ≢ j → slice_get (slice_set xs i x) j ≡ slice_get xs j
@@ -73,7 +68,7 @@ rows-untouched c t lines (jobs.EndNode j n) kind i rows out = kept-change_at (ki
 -- ## handles
 
 -- tests of a list that are alike
-pub any-alike : {X : Type 0} (p q : X → Bool) → ((x : X) → p x ≡ q x) → (xs : List X) → list_any p xs ≡ list_any q xs
+any-alike : {X : Type 0} (p q : X → Bool) → ((x : X) → p x ≡ q x) → (xs : List X) → list_any p xs ≡ list_any q xs
 any-alike p q alike [] = refl
 any-alike p q alike (x ∷ xs) = rw (alike x, any-alike p q alike xs) refl
 
@@ -86,17 +81,9 @@ own-alike c q i such also alike = by (slice_get c.jobs i.0) where
 
 -- a job has the handles that it had, unless it takes them or gives them back
 module _ (c : Configuration) (ch : Changes) (s : State) (i : JobId) (old : is_named (job_taking ch.grows) i ≡ false) (kept : is_named (job_releasing ch.handles) i ≡ false) where
-  not-taken : (g : Growth) (x : SemId) → is_named (job_taking g) i ≡ false → takes c g x i ≡ false
-  not-taken (grow.Handles j) x out = ap (λ (b : Bool). is_of x (semaphores_of c j) && b) out ∙ and_false (is_of x (semaphores_of c j))
-  not-taken _ x out = refl
-
-  not-released : (change : HandlesChange) (x : SemId) → is_named (job_releasing change) i ≡ false → releases c change x i ≡ false
-  not-released handles.Same x out = refl
-  not-released (handles.Release j) x out = ap (λ (b : Bool). is_of x (semaphores_of c j) && b) out ∙ and_false (is_of x (semaphores_of c j))
-
   handles-untouched : (semaphores : List SemId) → list_any (has_handle i (changed c ch s).handles) semaphores ≡ list_any (has_handle i s.handles) semaphores
   handles-untouched semaphores =
-      any-alike (has_handle i (changed c ch s).handles) (has_handle i s.handles) (λ x. handle-untouched c x i ch s (not-taken ch.grows x old) (not-released ch.handles x kept)) semaphores
+      any-alike (has_handle i (changed c ch s).handles) (has_handle i s.handles) (λ x. handle-untouched c i x ch s old kept) semaphores
 
   supplied-untouched : (row : Job) → is_supplied (changed c ch s) i row ≡ is_supplied s i row
   supplied-untouched row = ap (λ (b : Bool). (length row.semaphores == 0) || b) (handles-untouched row.semaphores)

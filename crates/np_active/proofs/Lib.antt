@@ -12,9 +12,7 @@ pub mod RequestsUntouched
 pub mod JobsUntouched
 pub mod SessionsUntouched
 pub mod Noted
-pub mod HandleOrder
 pub mod HandlesUntouched
-pub mod Holders
 pub mod OwnJobs
 pub mod Blocked
 pub mod BestLemmas

@@ -11,8 +11,7 @@ use Rattle.np_site.specs.declared.row.Job.{Job}
 use Rattle.np_machine.specs.Semaphore.{first_full}
 use Rattle.np_machine.specs.State.{State}
 use Rattle.np_look.specs.Jobs.{is_supplied}
-use Rattle.np_active.specs.Active.{ActiveOf, AreActive}
-use Rattle.np_active.specs.Begin.{is_free_by}
+use Rattle.np_active.specs.Begin.{is_free}
 use Rattle.np_active.specs.Lines.{line_of}
 use Rattle.np_active.proofs.Blocked.{IsInLine, free-is}
 use Rattle.np_active.proofs.JobKinds.{number-equal}
@@ -31,31 +30,31 @@ number-itself a = grind (arith, nat_tests)
 abbrev pub is_lined : Configuration → State → List JobId → RequesterId → (JobRecord → Bool) → (JobId → Job → Bool) → ℕ → JobId → Bool
 is_lined c s lines q at prompt line j = is_such c s q at j (waits_in c lines prompt line j)
 
-module _ (c : Configuration) (s : State) (q : RequesterId) (active : ActiveOf) (are : AreActive c s active) (at : JobRecord → Bool) (prompt may : JobId → Job → Bool) (waits : Waits c s prompt may) where
+module _ (c : Configuration) (s : State) (q : RequesterId) (lines : List JobId) (at : JobRecord → Bool) (prompt may : JobId → Job → Bool) (waits : Waits c s prompt may) where
   -- by its row
-  lined-row : (line : ℕ) (j : JobId) → is_lined c s active.lines q at prompt line j ≡ true → (own : IsOwn c s q at j) × (prompt j own.row ≡ false) × (line_of c active.lines j own.row ≡ line)
-  lined-row line j is = by (such-own c s q at j (waits_in c active.lines prompt line j) is) where
-    by : (own : IsOwn c s q at j) × (waits_in c active.lines prompt line j own.row ≡ true) → (own : IsOwn c s q at j) × (prompt j own.row ≡ false) × (line_of c active.lines j own.row ≡ line)
+  lined-row : (line : ℕ) (j : JobId) → is_lined c s lines q at prompt line j ≡ true → (own : IsOwn c s q at j) × (prompt j own.row ≡ false) × (line_of c lines j own.row ≡ line)
+  lined-row line j is = by (such-own c s q at j (waits_in c lines prompt line j) is) where
+    by : (own : IsOwn c s q at j) × (waits_in c lines prompt line j own.row ≡ true) → (own : IsOwn c s q at j) × (prompt j own.row ≡ false) × (line_of c lines j own.row ≡ line)
     by (own, tests) =
-        let parts = and_parts (not (prompt j own.row)) (line_of c active.lines j own.row == line) tests in
-        (own, not-true (prompt j own.row) parts.0, number-equal (line_of c active.lines j own.row) line parts.1)
+        let parts = and_parts (not (prompt j own.row)) (line_of c lines j own.row == line) tests in
+        (own, not-true (prompt j own.row) parts.0, number-equal (line_of c lines j own.row) line parts.1)
 
-  pub lined-in : (line : ℕ) (j : JobId) → is_lined c s active.lines q at prompt line j ≡ true → IsInLine c s active.lines line j
+  pub lined-in : (line : ℕ) (j : JobId) → is_lined c s lines q at prompt line j ≡ true → IsInLine c s lines line j
   lined-in line j is =
       let of = lined-row line j is in
       record { row = of.0.row; of_site = of.0.of_site; lacks = waits.lacks j of.0.row of.1; number = of.2 }
 
   -- it may go on if none of its semaphores blocks it
-  pub lined-free : (line : ℕ) (j : JobId) → is_lined c s active.lines q at prompt line j ≡ true → is_such c s q at j (may j) ≡ is_free_by c active.handles j
+  pub lined-free : (line : ℕ) (j : JobId) → is_lined c s lines q at prompt line j ≡ true → is_such c s q at j (may j) ≡ is_free c s j
   lined-free line j is =
       let of = lined-row line j is in
-      own-such c s q at j (may j) of.0 ∙ waits.goes_on j of.0.row of.1 ∙ sym (free-is c s active are j of.0.row of.0.of_site)
+      own-such c s q at j (may j) of.0 ∙ waits.goes_on j of.0.row of.1 ∙ sym (free-is c s j of.0.row of.0.of_site)
 
   -- a job whose row does not pass is in a line
-  pub own-where : (j : JobId) (own : IsOwn c s q at j) → (prompt j own.row ≡ true) ⊎ ((line : ℕ) × (is_lined c s active.lines q at prompt line j ≡ true))
+  pub own-where : (j : JobId) (own : IsOwn c s q at j) → (prompt j own.row ≡ true) ⊎ ((line : ℕ) × (is_lined c s lines q at prompt line j ≡ true))
   own-where j own = by (prompt j own.row) refl where
-    by : (b : Bool) → prompt j own.row ≡ b → (prompt j own.row ≡ true) ⊎ ((line : ℕ) × (is_lined c s active.lines q at prompt line j ≡ true))
+    by : (b : Bool) → prompt j own.row ≡ b → (prompt j own.row ≡ true) ⊎ ((line : ℕ) × (is_lined c s lines q at prompt line j ≡ true))
     by true is = inl is
     by false out =
-        let line = line_of c active.lines j own.row in
-        inr (line, own-such c s q at j (waits_in c active.lines prompt line j) own ∙ ap (λ (b : Bool). not b && (line == line)) out ∙ number-itself line)
+        let line = line_of c lines j own.row in
+        inr (line, own-such c s q at j (waits_in c lines prompt line j) own ∙ ap (λ (b : Bool). not b && (line == line)) out ∙ number-itself line)

@@ -17,13 +17,12 @@ use Rattle.np_changes.specs.declared.changes.Growth.{Growth}
 use Rattle.np_changes.specs.declared.changes.Growth.TheVariants as grow
 use Rattle.np_changes.specs.declared.changes.SessionsChange.{SessionsChange}
 use Rattle.np_changes.specs.declared.changes.SessionsChange.TheVariants as sessions
-use Rattle.np_active.specs.Active.{ActiveOf, AreActive, AreGroups, AreHandleGroups, AreJobGroups, AreSessionGroups, JobKind, SessionKind, asker_of, is_job_in, is_kind_in, is_of_kind, job_group, session_group}
-use Rattle.np_active.specs.Members.{job_put, job_releasing, job_taking, kinds_of, kinds_of_job, with_changed_session, with_if_any, with_job, with_named, with_new_handles, with_new_session, with_session, without_handles}
+use Rattle.np_active.specs.Active.{ActiveOf, AreActive, AreGroups, AreJobGroups, AreSessionGroups, JobKind, SessionKind, asker_of, is_job_in, is_kind_in, is_of_kind, job_group, session_group}
+use Rattle.np_active.specs.Members.{job_put, job_releasing, job_taking, kinds_of, kinds_of_job, with_changed_session, with_if_any, with_job, with_named, with_new_session, with_session}
 use Rattle.np_active.proofs.Own.{groups-by, put-own}
 use Rattle.np_active.proofs.JobKinds.{same_job_kind, job-groups, job_kind-equal, is_among_job_kinds, job-own}
 use Rattle.np_active.proofs.Roles.{same_kind, session-groups, kind-equal, is_among_kinds, session-own, session-own_now}
 use Rattle.np_active.proofs.Begun.{planned-begun}
-use Rattle.np_active.proofs.Holders.{handles-noted}
 use Rattle.np_active.proofs.RequestsUntouched.{is_named}
 use Rattle.np_active.proofs.JobsUntouched.{IsUnnamed, job-untouched}
 use Rattle.np_active.proofs.SessionsUntouched.{begins, stops, session-untouched, role-stays}
@@ -136,17 +135,15 @@ module _ (s t : State) (stays : (x : SessionId) (facts : SessionFacts) → sessi
 
 -- ## all groups
 
-pub active-noted : (c site : Configuration) (s t : State) (ch : Changes) (asker : Option JobId) (old new : ActiveOf) (handles : List (Member JobId)) (more : List (Member SessionId))
+pub active-noted : (c site : Configuration) (s t : State) (ch : Changes) (asker : Option JobId) (old new : ActiveOf) (more : List (Member SessionId))
     → new.lines ≡ old.lines → new.jobs ≡ with_named site t old.lines asker ch old.jobs
-    → handles ≡ with_new_handles site t ch.grows old.handles → new.handles ≡ without_handles site ch.handles handles
     → more ≡ with_new_session t ch.grows old.sessions → new.sessions ≡ with_changed_session t ch.sessions more
     → IsReached c s → IsPlanned c s ch → asker ≡ asker_of ch.requests s → site ≡ c → t ≡ changed c ch s → AreActive c s old → AreActive c (changed c ch s) new
-active-noted c site s t ch asker old new handles more lines_are jobs_are taken_are handles_are more_are sessions_are reached planned asks_are site_is after was = record {
+active-noted c site s t ch asker old new more lines_are jobs_are more_are sessions_are reached planned asks_are site_is after was = record {
   jobs =
       subst (λ (lines : List JobId). AreJobGroups c (changed c ch s) lines new.jobs) (sym lines_are)
       (subst (AreJobGroups c (changed c ch s) old.lines) (sym (jobs_are ∙ rw (asks_are, site_is, after) refl))
       (jobs-noted c s (changed c ch s) old.lines (asker_of ch.requests s) ch old.jobs (λ q i unnamed. job-untouched c ch s old.lines reached planned i unnamed q) was.jobs));
-  handles = subst (AreHandleGroups c (changed c ch s)) (sym (handles_are ∙ rw (taken_are, site_is, after) refl)) (handles-noted c s ch old.handles reached planned was.handles);
   sessions =
       subst (AreSessionGroups (changed c ch s)) (sym (sessions_are ∙ rw (more_are, after) refl))
       (sessions-noted s (changed c ch s) (λ x facts is. role-stays c ch s x facts is) ch old.sessions

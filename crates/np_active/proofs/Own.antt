@@ -59,7 +59,7 @@ module _ {K : Type 0} (before same : K → K → Bool)
     }
 
     -- the id is where it passes in the groups of these, and all others are where they were
-    pub put-each : (passes : Q → Bool) (j : K) (these : List Q) (was : Q → K → Bool) (ms : List (Member K)) → AreGroups before same group was ms
+    put-each : (passes : Q → Bool) (j : K) (these : List Q) (was : Q → K → Bool) (ms : List (Member K)) → AreGroups before same group was ms
         → AreGroups before same group (λ q i. cond (is_among q these && same j i) (passes q) (was q i)) (with_each before same group passes j these ms)
     put-each passes j [] was ms are = are
     put-each passes j (r ∷ these) was ms are =

@@ -1,13 +1,11 @@
 -- the groups of jobs and of sessions, and what a state says of them
-use Rattle.std.specs.Prelude.{◌≡◌, ◌≤◌, ◌==◌, ◌&&◌, ◌||◌, ℕ, List, [], Bool, true, false, not, if◌then◌else◌, Option, Some, None, option_and_then, length, slice_get}
-use Rattle.std.specs.List.{AllByRecursion}
+use Rattle.std.specs.Prelude.{◌≡◌, ◌≤◌, ◌==◌, ◌&&◌, ◌||◌, ℕ, List, Bool, true, false, not, if◌then◌else◌, Option, Some, None, option_and_then, slice_get}
 use Rattle.std.specs.Option.{option_map_or}
 use Rattle.np_text.specs.declared.id.JobId.{JobId}
 use Rattle.np_text.specs.declared.id.RequestId.{RequestId}
 use Rattle.np_text.specs.declared.id.RequesterId.{RequesterId}
 use Rattle.np_text.specs.declared.id.Role.{Role}
 use Rattle.np_text.specs.declared.id.Role.TheVariants.{Launcher, Janitor, Requester, Reaper}
-use Rattle.np_text.specs.declared.id.SemId.{SemId}
 use Rattle.np_text.specs.declared.id.SessionId.{SessionId}
 use Rattle.np_record.specs.declared.record.JobRecord.{JobRecord}
 use Rattle.np_site.specs.Configuration.{Configuration}
@@ -19,14 +17,10 @@ use Rattle.np_groups.specs.Groups.{has_member, is_member_before}
 use Rattle.np_keys.specs.Keys.{is_job_before, is_session_before, same_job, same_session}
 use Rattle.np_machine.specs.Kinds.{is_new}
 use Rattle.np_machine.specs.Laws.{speaks_for}
-use Rattle.np_machine.specs.Semaphore.{is_requesters, max_of}
+use Rattle.np_machine.specs.Semaphore.{is_requesters}
 use Rattle.np_machine.specs.State.{State}
-use Rattle.np_machine.specs.Tables.{handles_of, has_handle, request_in, session_of}
+use Rattle.np_machine.specs.Tables.{request_in, session_of}
 use Rattle.np_machine.specs.declared.state.SessionFacts.{SessionFacts}
-use Rattle.np_changes.specs.Changes.{semaphores_of}
-use Rattle.np_changes.specs.declared.changes.Changes.{Changes}
-use Rattle.np_changes.specs.declared.changes.Growth.{Growth}
-use Rattle.np_changes.specs.declared.changes.Growth.TheVariants as grow
 use Rattle.np_changes.specs.declared.changes.RequestEdit.{RequestEdit}
 use Rattle.np_changes.specs.declared.changes.RequestEdit.TheVariants as edit
 use Rattle.np_changes.specs.declared.changes.RequestsChange.{RequestsChange}
@@ -84,10 +78,6 @@ job_group (waiting_ones q line) = waiting_group q line
 job_group (ending_ones q) = ending_group q
 job_group (releasing_ones q) = releasing_group q
 job_group (lacking_ones q line) = lacking_group q line
-
--- the jobs that have a handle of the semaphore
-abbrev pub handle_group : SemId → Group
-handle_group x = record { class = 0; first = x.0; second = 0; third = 0 }
 
 -- the sessions that speak for the role
 abbrev pub role_group : Role → Group
@@ -171,13 +161,6 @@ pub record AreGroups {K Q : Type 0} (before same : K → K → Bool) (group : Q 
 abbrev pub AreJobGroups : Configuration → State → List JobId → List (Member JobId) → Type 0
 AreJobGroups c s lines members = AreGroups is_job_before same_job job_group (is_job_in c s lines) members
 
--- the members of a semaphore's group are the jobs that have a handle of it, which a state has in order
--- and which are no more than may
-pub record AreHandleGroups (c : Configuration) (s : State) (members : List (Member JobId)) : Type 0 where
-  pub groups : AreGroups is_job_before same_job handle_group (λ x j. has_handle j s.handles x) members
-  pub once : AllByRecursion (λ jobs. Rises is_job_before jobs) s.handles
-  pub few : (x : SemId) → length (handles_of x s.handles) ≤ max_of c x
-
 -- the members of the group of each kind are the sessions of the kind
 abbrev pub AreSessionGroups : State → List (Member SessionId) → Type 0
 AreSessionGroups s members = AreGroups is_session_before same_session session_group (is_kind_in s) members
@@ -187,16 +170,13 @@ AreSessionGroups s members = AreGroups is_session_before same_session session_gr
 pub record ActiveOf : Type 0 where
   pub lines : List JobId
   pub jobs : List (Member JobId)
-  pub handles : List (Member JobId)
   pub sessions : List (Member SessionId)
   pub job_room : ℕ
-  pub handle_room : ℕ
   pub session_room : ℕ
 
 -- each part says what the state says
 pub record AreActive (c : Configuration) (s : State) (active : ActiveOf) : Type 0 where
   pub jobs : AreJobGroups c s active.lines active.jobs
-  pub handles : AreHandleGroups c s active.handles
   pub sessions : AreSessionGroups s active.sessions
 
 -- ## the changes of an event (own)
@@ -221,15 +201,9 @@ asker_of (requests.Edit r change) s = if answers change then asker_of_request r 
 asker_of (requests.Remove r) s = asker_of_request r s
 asker_of change s = None
 
--- the semaphores of which the job is to have handles
-abbrev pub new_semaphores : Configuration → Growth → List SemId
-new_semaphores c (grow.Handles j) = semaphores_of c j
-new_semaphores c growth = []
-
 -- there is room in six groups each for a job that asks, one whose record is put, one that takes handles and
--- one that gives them back, for a job's handles, and in three groups each for a session that begins and for
--- one that is mute or over
-pub record HasRoom (c : Configuration) (changes : Changes) (active : ActiveOf) : Type 0 where
+-- one that gives them back, and in three groups each for a session that begins and for one that is mute or
+-- over
+pub record HasRoom (active : ActiveOf) : Type 0 where
   pub jobs : 24 ≤ active.job_room
-  pub handles : length (new_semaphores c changes.grows) ≤ active.handle_room
   pub sessions : 6 ≤ active.session_room

@@ -1,35 +1,26 @@
--- the first of a requester's jobs that may begin, and the first that may acquire its handles, by the groups: the
--- search through lines is for both
-use Rattle.std.specs.Prelude.{◌≡◌, ◌<◌, ◌⊎◌, ℕ, List, Bool, true, false, ◌&&◌, ◌||◌, not, if◌then◌else◌, Option, Some, None, length, nat_le, option_and_then, slice_get}
-use Rattle.std.specs.List.{list_any}
+-- the first of a requester's jobs that may begin, and the first that may acquire its handles, by the groups and
+-- the handles of a state: the search through lines is for both
+use Rattle.std.specs.Prelude.{◌≡◌, ◌<◌, ◌⊎◌, ℕ, List, Bool, true, false, ◌&&◌, if◌then◌else◌, Option, Some, None, is_none, option_and_then, slice_get}
 use Rattle.std.specs.Option.{option_map_or}
 use Rattle.np_text.specs.declared.id.JobId.{JobId}
-use Rattle.np_text.specs.declared.id.SemId.{SemId}
 use Rattle.np_site.specs.Configuration.{Configuration}
 use Rattle.np_groups.specs.declared.groups.Group.{Group}
 use Rattle.np_groups.specs.declared.groups.Member.{Member}
-use Rattle.np_groups.specs.Groups.{group_after, group_from, has_member, ids_in, same_group}
-use Rattle.np_keys.specs.Keys.{is_job_before, same_job}
-use Rattle.np_machine.specs.Semaphore.{max_of}
-use Rattle.np_active.specs.Active.{handle_group}
+use Rattle.np_groups.specs.Groups.{group_after, group_from, ids_in, same_group}
+use Rattle.np_keys.specs.Keys.{is_job_before}
+use Rattle.np_machine.specs.Semaphore.{first_full}
+use Rattle.np_machine.specs.State.{State}
+use Rattle.np_look.specs.Jobs.{may_begin}
 
 -- ## one job
 
--- as many jobs have a handle of the semaphore as may
-abbrev pub is_full_by : Configuration → List (Member JobId) → SemId → Bool
-is_full_by c handles x = nat_le (max_of c x) (length (ids_in (handle_group x) handles))
+-- the job is there, and none of its semaphores blocks it: none is full of which it has no handle
+abbrev pub is_free : Configuration → State → JobId → Bool
+is_free c s j = option_map_or (λ row. is_none (first_full c s j row)) (slice_get c.jobs j.0) false
 
--- the semaphore is full, and the job has no handle of it
-abbrev pub blocks : Configuration → List (Member JobId) → JobId → SemId → Bool
-blocks c handles j x = is_full_by c handles x && not (has_member same_job (handle_group x) j handles)
-
--- the job is there, and none of its semaphores blocks it
-abbrev pub is_free_by : Configuration → List (Member JobId) → JobId → Bool
-is_free_by c handles j = option_map_or (λ row. not (list_any (blocks c handles j) row.semaphores)) (slice_get c.jobs j.0) false
-
--- the job asks for its nodes first, or none of its semaphores blocks it
-abbrev pub may_begin_by : Configuration → List (Member JobId) → JobId → Bool
-may_begin_by c handles j = option_map_or (λ row. row.resources_first || not (list_any (blocks c handles j) row.semaphores)) (slice_get c.jobs j.0) false
+-- the job is there, and asks for its nodes first or is free
+abbrev pub may_begin_of : Configuration → State → JobId → Bool
+may_begin_of c s j = option_map_or (may_begin c s j) (slice_get c.jobs j.0) false
 
 -- ## lines, one after another
 
@@ -62,9 +53,9 @@ comes_first (Some best) j = is_job_before j best
 
 -- the first job of a line, if it comes before the best so far and none of its semaphores blocks it, and
 -- otherwise the best so far
-abbrev pub earlier_job : Configuration → List (Member JobId) → Option JobId → Option JobId → Option JobId
-earlier_job c handles best None = best
-earlier_job c handles best (Some first) = if comes_first best first && is_free_by c handles first then Some first else best
+abbrev pub earlier_job : Configuration → State → Option JobId → Option JobId → Option JobId
+earlier_job c s best None = best
+earlier_job c s best (Some first) = if comes_first best first && is_free c s first then Some first else best
 
 -- the search is past the line, where this one is the next; if there is none, it is past all
 abbrev pub IsPast : Option ℕ → ℕ → Type 0
@@ -73,10 +64,10 @@ IsPast (Some next) line = line < next
 
 -- the best of these: the one that the search began with, if there is one, and of each line that it is past the
 -- first job, if none of its semaphores blocks it
-pub record IsBest (c : Configuration) (handles members : List (Member JobId)) (lines : Group) (old : Option JobId) (next : Option ℕ) (best : Option JobId) : Type 0 where
+pub record IsBest (c : Configuration) (s : State) (members : List (Member JobId)) (lines : Group) (old : Option JobId) (next : Option ℕ) (best : Option JobId) : Type 0 where
   -- it is one of them
-  pub one : (b : JobId) → best ≡ Some b → (old ≡ Some b) ⊎ ((line : ℕ) × (first_of_line lines line members ≡ Some b) × (is_free_by c handles b ≡ true))
+  pub one : (b : JobId) → best ≡ Some b → (old ≡ Some b) ⊎ ((line : ℕ) × (first_of_line lines line members ≡ Some b) × (is_free c s b ≡ true))
   -- a job that does not come before the old one does not come before it
   pub keeps : (i : JobId) → comes_first old i ≡ false → comes_first best i ≡ false
   -- nor does the first job of one of these lines
-  pub leads : (line : ℕ) (i : JobId) → IsPast next line → first_of_line lines line members ≡ Some i → is_free_by c handles i ≡ true → comes_first best i ≡ false
+  pub leads : (line : ℕ) (i : JobId) → IsPast next line → first_of_line lines line members ≡ Some i → is_free c s i ≡ true → comes_first best i ≡ false

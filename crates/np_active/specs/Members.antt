@@ -1,11 +1,10 @@
 -- what a job or a session makes of the members of groups, and what the changes of an event do (own)
-use Rattle.std.specs.Prelude.{ℕ, Bool, false, List, [], ◌∷◌, if◌then◌else◌, Option, Some, None, fold, slice_get, length}
+use Rattle.std.specs.Prelude.{ℕ, Bool, List, [], ◌∷◌, if◌then◌else◌, Option, Some, None, fold, slice_get, length}
 use Rattle.std.specs.Option.{option_map_or}
 use Rattle.np_text.specs.declared.id.JobId.{JobId}
 use Rattle.np_text.specs.declared.id.RequesterId.{RequesterId}
 use Rattle.np_text.specs.declared.id.Role.{Role}
 use Rattle.np_text.specs.declared.id.Role.TheVariants.{Requester}
-use Rattle.np_text.specs.declared.id.SemId.{SemId}
 use Rattle.np_text.specs.declared.id.SessionId.{SessionId}
 use Rattle.np_site.specs.Configuration.{Configuration}
 use Rattle.np_groups.specs.declared.groups.Group.{Group}
@@ -13,8 +12,7 @@ use Rattle.np_groups.specs.declared.groups.Member.{Member}
 use Rattle.np_groups.specs.Groups.{with_member, without_member}
 use Rattle.np_keys.specs.Keys.{is_job_before, is_session_before, same_job, same_session}
 use Rattle.np_machine.specs.State.{State}
-use Rattle.np_machine.specs.Tables.{has_handle, role_of}
-use Rattle.np_changes.specs.Changes.{semaphores_of}
+use Rattle.np_machine.specs.Tables.{role_of}
 use Rattle.np_changes.specs.declared.changes.Changes.{Changes}
 use Rattle.np_changes.specs.declared.changes.Growth.{Growth}
 use Rattle.np_changes.specs.declared.changes.Growth.TheVariants as grow
@@ -24,7 +22,7 @@ use Rattle.np_changes.specs.declared.changes.JobsChange.{JobsChange}
 use Rattle.np_changes.specs.declared.changes.JobsChange.TheVariants as jobs
 use Rattle.np_changes.specs.declared.changes.SessionsChange.{SessionsChange}
 use Rattle.np_changes.specs.declared.changes.SessionsChange.TheVariants as sessions
-use Rattle.np_active.specs.Active.{JobKind, SessionKind, ending_ones, handle_group, is_job_in, is_kind_in, job_group, lacking_ones, live_ones, mute_ones, prompt_ones, releasing_ones, session_group, speakers, supplied_ones, waiting_ones}
+use Rattle.np_active.specs.Active.{JobKind, SessionKind, ending_ones, is_job_in, is_kind_in, job_group, lacking_ones, live_ones, mute_ones, prompt_ones, releasing_ones, session_group, speakers, supplied_ones, waiting_ones}
 use Rattle.np_active.specs.Lines.{line_of}
 
 -- ## one id
@@ -64,14 +62,6 @@ abbrev pub with_session : State → SessionId → List (Member SessionId) → Li
 with_session s session ms =
     with_each is_session_before same_session session_group (λ kind. is_kind_in s kind session) session (option_map_or kinds_of (role_of session s) []) ms
 
--- the job among those with a handle of each of the semaphores, or not
-abbrev pub with_handles : (SemId → Bool) → JobId → List SemId → List (Member JobId) → List (Member JobId)
-with_handles has j semaphores ms = with_each is_job_before same_job handle_group has j semaphores ms
-
--- all of these jobs with a handle of the semaphore
-abbrev pub with_holders : SemId → List JobId → List (Member JobId) → List (Member JobId)
-with_holders x jobs ms = fold (λ xs j. with_member is_job_before same_job (handle_group x) j xs) ms jobs
-
 -- ## the changes of an event, by the state after them
 
 -- the job whose record was put; a mark at one of its nodes leaves a job where it is
@@ -93,16 +83,6 @@ job_releasing (handles.Release j) = Some j
 -- these jobs, and the one that asks for the request that was answered or removed, where the state has them
 abbrev pub with_named : Configuration → State → List JobId → Option JobId → Changes → List (Member JobId) → List (Member JobId)
 with_named c s lines asker ch ms = fold (with_if_any c s lines) ms (asker ∷ job_put ch.jobs ∷ job_taking ch.grows ∷ job_releasing ch.handles ∷ [])
-
--- the job that takes handles, where the state has it
-abbrev pub with_new_handles : Configuration → State → Growth → List (Member JobId) → List (Member JobId)
-with_new_handles c s (grow.Handles j) ms = with_handles (λ x. has_handle j s.handles x) j (semaphores_of c j) ms
-with_new_handles c s growth ms = ms
-
--- the job that gives its handles back, with no handle
-abbrev pub without_handles : Configuration → HandlesChange → List (Member JobId) → List (Member JobId)
-without_handles c handles.Same ms = ms
-without_handles c (handles.Release j) ms = with_handles (λ x. false) j (semaphores_of c j) ms
 
 -- the session that began, which is the last
 abbrev pub with_new_session : State → Growth → List (Member SessionId) → List (Member SessionId)

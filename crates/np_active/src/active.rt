@@ -1,17 +1,15 @@
-//! The groups of a state's jobs, of its handles and of its sessions, kept as events change it.
+//! The groups of a state's jobs and of its sessions, kept as events change it.
 
-ghost use Rattle.std.specs.Prelude.{◌≡◌, IfOk, OnOk, length, slice_get};
+ghost use Rattle.std.specs.Prelude.{◌≡◌, IfOk, OnOk};
 ghost use Rattle.np_site.specs.Configuration.{Configuration};
 ghost use Rattle.np_machine.specs.Semaphore.{has_live_session};
 ghost use Rattle.np_machine.specs.State.{State};
-ghost use Rattle.np_machine.specs.Tables.{handles_of, has_handle};
 ghost use Rattle.np_changes.specs.Changes.{changed};
 ghost use Rattle.np_changes.specs.Planned.{IsPlanned, IsReached};
 ghost use Rattle.np_look.specs.Jobs.{job_to_finish, job_to_release, job_to_take};
 ghost use Rattle.np_look.specs.Readers.{current_of, first_mute};
 ghost use Rattle.np_active.specs.Active.{AreActive, HasRoom, asker_of};
 
-use crate::handles::{all_handles, handle_group, new_handles, put_new_handles, take_handles};
 use crate::jobs::{all_jobs, asker_of, ending_group, put_named, releasing_group, supplied_group};
 use crate::lines::lines_of;
 use crate::members::{
@@ -21,20 +19,19 @@ use np_changes::Changes;
 use np_groups::Groups;
 use np_keys::{ByJob, BySession};
 use np_look::Rows;
-use np_text::{JobId, RequesterId, Role, SemId, SessionId};
+use np_text::{JobId, RequesterId, Role, SessionId};
 use std::alloc::{AllocError, Global};
 use std::marker::Model;
 
 /// Which jobs of each requester are new and wait for semaphores or for none, which were given their
 /// nodes and wait for handles or for none, which are to finish, which are over and have handles,
-/// which jobs have a handle of each semaphore, which sessions speak for each role, which live ones
-/// are mute, and which live ones each requester has.
+/// which sessions speak for each role, which live ones are mute, and which live ones each requester
+/// has.
 #[derive(Drop)]
 pub struct Active {
     /// For each job the first of its requester that has the same semaphores.
     lines: Vec<JobId>,
     pub(crate) jobs: Groups<ByJob>,
-    pub(crate) handles: Groups<ByJob>,
     sessions: Groups<BySession>,
 }
 
@@ -46,10 +43,8 @@ impl Model for Active {
     ghost view = { λ active. record {
       lines = active.lines.items;
       jobs = active.jobs.members;
-      handles = active.handles.members;
       sessions = active.sessions.members;
       job_room = active.jobs.room;
-      handle_room = active.handles.room;
       session_room = active.sessions.room;
     } };
 }
@@ -57,20 +52,17 @@ impl Model for Active {
 impl Active {
     /// The groups of the state. For each job it finds the first of its requester that has the same
     /// semaphores, which costs the number of jobs times that of the different lists of semaphores
-    /// of a requester. Then it reads each job, each handle and each session once, with six binary
-    /// searches for each job, one for each handle, and up to three for each session.
+    /// of a requester. Then it reads each job and each session once, with six binary searches for
+    /// each job, a lookup for each of its semaphores, and up to three for each session.
     pub fn rebuild<R: Rows>(alloc: Global, rows: &R) -> Result<Active, AllocError>
-        requires { IsReached (R.site rows.now) (R.state rows.now) }
         ensures { IfOk result (λ x. AreActive (R.site rows.now) (R.state rows.now) x) }
     {
         let lines = lines_of(alloc, rows.config())?;
         let jobs = all_jobs(alloc, rows, lines.as_slice())?;
-        let handles = all_handles(alloc, rows)?;
         let sessions = all_sessions(alloc, rows)?;
         Ok(Active {
             lines,
             jobs,
-            handles,
             sessions,
         })
     }
@@ -104,31 +96,6 @@ impl Active {
         self.jobs.at(releasing_group(requester), at as usize)
     }
 
-    /// How many jobs have a handle of the semaphore. Two binary searches.
-    pub fn handles(&self, semaphore: SemId) -> usize
-        ensures { (c : Configuration) (s : State) → AreActive c s self.now
-            → result ≡ length (handles_of semaphore s.handles) }
-    {
-        self.handles.count(handle_group(semaphore))
-    }
-
-    /// The job at a place among those that have a handle of the semaphore, in order of their
-    /// numbers, counted from 0; `None` if there are no more. One binary search.
-    pub fn handle_at(&self, semaphore: SemId, at: u32) -> Option<JobId>
-        ensures { (c : Configuration) (s : State) → AreActive c s self.now
-            → result ≡ slice_get (handles_of semaphore s.handles) at }
-    {
-        self.handles.at(handle_group(semaphore), at as usize)
-    }
-
-    /// Whether the job has a handle of the semaphore. One binary search.
-    pub fn has_handle(&self, semaphore: SemId, job: JobId) -> bool
-        ensures { (c : Configuration) (s : State) → AreActive c s self.now
-            → result ≡ has_handle job s.handles semaphore }
-    {
-        self.handles.has(handle_group(semaphore), job)
-    }
-
     /// The role's current session: the last that speaks for it. Three binary searches.
     pub fn current_session(&self, role: Role) -> Option<SessionId>
         ensures { (c : Configuration) (s : State) → AreActive c s self.now
@@ -160,8 +127,8 @@ impl Active {
 
     /// Takes the memory that `note` needs for the changes, before the state changes, and returns
     /// the job that asks for the request that they answer or remove, if it has one. The members
-    /// stay as they are. One lookup of a request if they answer or remove it, and one of a job if
-    /// they add handles; any other edit of a request costs no lookup.
+    /// stay as they are. One lookup of a request if they answer or remove it; any other edit of a
+    /// request costs no lookup.
     pub fn prepare<R: Rows>(
         &mut self,
         rows: &R,
@@ -169,15 +136,12 @@ impl Active {
     ) -> Result<Option<JobId>, AllocError>
         ensures lines { self.new.lines ≡ self.old.lines }
         ensures jobs { self.new.jobs ≡ self.old.jobs }
-        ensures handles { self.new.handles ≡ self.old.handles }
         ensures sessions { self.new.sessions ≡ self.old.sessions }
         ensures asker { IfOk result (λ asker.
             asker ≡ asker_of changes.now.requests (R.state rows.now)) }
-        ensures room { OnOk result (HasRoom (R.site rows.now) changes.now self.new) }
+        ensures room { OnOk result (HasRoom self.new) }
     {
         self.jobs.reserve(24)?;
-        self.handles
-            .reserve(new_handles(rows.config(), &changes.grows))?;
         self.sessions.reserve(6)?;
         Ok(asker_of(rows, &changes.requests))
     }
@@ -186,19 +150,16 @@ impl Active {
     /// where they are now, after the state has changed. It takes no memory. It costs two lookups
     /// and six binary searches for a job whose record is put, for one that takes handles or gives
     /// them back, and for the one that `prepare` returned, if there is one; a lookup more for each
-    /// semaphore of such a job that is new or over, or was given its nodes; a lookup and a binary
-    /// search for each handle that is taken or given back; and a lookup and up to three binary
-    /// searches for a session.
+    /// semaphore of such a job that is new or over, or was given its nodes; and a lookup and up to
+    /// three binary searches for a session.
     pub fn note<R: Rows>(&mut self, rows: &R, changes: &Changes, asker: Option<JobId>)
-        requires { HasRoom (R.site rows.now) changes.now self.old }
+        requires { HasRoom self.old }
         ensures { (c : Configuration) (s : State) → IsReached c s → IsPlanned c s changes.now
             → asker ≡ asker_of changes.now.requests s
             → R.site rows.now ≡ c → R.state rows.now ≡ changed c changes.now s
             → AreActive c s self.old → AreActive c (changed c changes.now s) self.new }
     {
         put_named(&mut self.jobs, rows, self.lines.as_slice(), asker, changes);
-        put_new_handles(&mut self.handles, rows, &changes.grows);
-        take_handles(&mut self.handles, rows.config(), &changes.handles);
         put_new_session(&mut self.sessions, rows, &changes.grows);
         put_changed_session(&mut self.sessions, rows, &changes.sessions);
     }

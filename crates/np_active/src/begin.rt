@@ -1,94 +1,56 @@
 //! The first of a requester's jobs that may begin, and the first that may acquire its handles,
-//! found by the groups.
+//! found by the groups and the handles of the state.
 
 ghost use Rattle.std.specs.Prelude.{◌≡◌, None, find};
-ghost use Rattle.std.specs.List.{list_any};
 ghost use Rattle.np_lists.specs.Rising.{Rises};
 ghost use Rattle.np_groups.specs.Groups.{ids_in, is_member_before};
 ghost use Rattle.np_keys.specs.Keys.{is_job_before};
-ghost use Rattle.np_machine.specs.State.{State};
 ghost use Rattle.np_look.specs.Jobs.{job_to_acquire, job_to_begin};
 ghost use Rattle.np_active.specs.Active.{AreActive, prompt_group};
-ghost use Rattle.np_active.specs.Begin.{IsBest, at_line, blocks, earlier_job, first_line, first_of_line, is_free_by, is_full_by, line_after, line_if, may_begin_by};
+ghost use Rattle.np_active.specs.Begin.{IsBest, at_line, earlier_job, first_line, first_of_line, is_free, line_after, line_if, may_begin_of};
 
 use crate::active::Active;
-use crate::handles::handle_group;
 use crate::jobs::{lacking_group, prompt_group, waiting_group};
-use np_config::Config;
 use np_groups::{Group, Groups};
 use np_keys::ByJob;
-use np_site::Job;
-use np_text::{JobId, RequesterId, SemId};
+use np_look::{Rows, first_full};
+use np_text::{JobId, RequesterId};
 
 // ## one job
 
-/// Whether as many jobs have a handle of the semaphore as may. Two binary searches.
-fn is_full(config: &Config, handles: &Groups<ByJob>, semaphore: SemId) -> bool
-    ensures { result ≡ is_full_by config.now handles.now.members semaphore }
+/// Whether there is such a job and none of its semaphores blocks it: none is full of which it has no
+/// handle. A lookup for each semaphore, and a second for one of which it has no handle.
+fn is_free<R: Rows>(rows: &R, job: JobId) -> bool
+    ensures { result ≡ is_free (R.site rows.now) (R.state rows.now) job }
 {
-    let max = match config.semaphore(semaphore) {
-        None => 0,
-        Some(row) => row.max,
-    };
-    max as usize <= handles.count(handle_group(semaphore))
-}
-
-/// Whether the semaphore is full and the job has no handle of it. Two binary searches, and a third
-/// if it is full.
-fn blocks(config: &Config, handles: &Groups<ByJob>, job: JobId, semaphore: SemId) -> bool
-    ensures { result ≡ blocks config.now handles.now.members job semaphore }
-{
-    is_full(config, handles, semaphore) && !handles.has(handle_group(semaphore), job)
-}
-
-/// Whether one of the job's semaphores blocks it.
-fn is_blocked(config: &Config, handles: &Groups<ByJob>, job: JobId, row: &Job) -> bool
-    ensures { result ≡ list_any (blocks config.now handles.now.members job) row.now.semaphores }
-{
-    row.semaphores
-        .items()
-        .iter()
-        .any(|x| blocks(config, handles, job, *x))
-}
-
-/// Whether there is such a job and none of its semaphores blocks it. Two binary searches for each
-/// semaphore, and a third for one that is full.
-fn is_free(config: &Config, handles: &Groups<ByJob>, job: JobId) -> bool
-    ensures { result ≡ is_free_by config.now handles.now.members job }
-{
-    match config.job(job) {
+    match rows.config().job(job) {
         None => false,
-        Some(row) => !is_blocked(config, handles, job, row),
+        Some(row) => first_full(rows, job, row).is_none(),
     }
 }
 
-/// Whether the job asks for its nodes first, or none of its semaphores blocks it. Two binary
-/// searches for each semaphore, and a third for one that is full.
-fn may_begin(config: &Config, handles: &Groups<ByJob>, job: JobId) -> bool
-    ensures { result ≡ may_begin_by config.now handles.now.members job }
+/// Whether there is such a job, and it asks for its nodes first or none of its semaphores blocks
+/// it. It costs what `is_free` does.
+fn may_begin<R: Rows>(rows: &R, job: JobId) -> bool
+    ensures { result ≡ may_begin_of (R.site rows.now) (R.state rows.now) job }
 {
-    match config.job(job) {
+    match rows.config().job(job) {
         None => false,
-        Some(row) => row.resources_first || !is_blocked(config, handles, job, row),
+        Some(row) => row.resources_first || first_full(rows, job, row).is_none(),
     }
 }
 
 /// The first that may begin of the requester's new jobs that wait for no semaphore. Three binary
 /// searches, and what `may_begin` costs. Only one job is tested in a state that a run reaches:
 /// there a job has handles of all its semaphores or of none, so each of these jobs may begin.
-fn first_prompt(
-    config: &Config,
-    jobs: &Groups<ByJob>,
-    handles: &Groups<ByJob>,
-    requester: RequesterId,
-) -> Option<JobId>
-    ensures { result ≡ find (may_begin_by config.now handles.now.members)
+fn first_prompt<R: Rows>(rows: &R, jobs: &Groups<ByJob>, requester: RequesterId) -> Option<JobId>
+    ensures { result ≡ find (may_begin_of (R.site rows.now) (R.state rows.now))
         (ids_in (prompt_group requester) jobs.now.members) }
 {
     let group = prompt_group(requester);
     for at in 0..jobs.count(group) {
         let job = jobs.at(group, at)?;
-        if may_begin(config, handles, job) {
+        if may_begin(rows, job) {
             return Some(job);
         }
     }
@@ -139,15 +101,14 @@ fn line_after(jobs: &Groups<ByJob>, lines: Group, line: u64) -> Option<u64>
 /// semaphores blocks it; otherwise the best so far. Those after it have the same semaphores and no
 /// handles, so it speaks for all of them. One binary search, and what `is_free` costs if the job
 /// comes before the best so far.
-fn earlier_in_line(
-    config: &Config,
+fn earlier_in_line<R: Rows>(
+    rows: &R,
     jobs: &Groups<ByJob>,
-    handles: &Groups<ByJob>,
     lines: Group,
     line: u64,
     best: Option<JobId>,
 ) -> Option<JobId>
-    ensures { result ≡ earlier_job config.now handles.now.members best
+    ensures { result ≡ earlier_job (R.site rows.now) (R.state rows.now) best
         (first_of_line lines line jobs.now.members) }
 {
     let Some(first) = jobs.at(at_line(lines, line), 0) else {
@@ -157,7 +118,7 @@ fn earlier_in_line(
         None => true,
         Some(other) => first.0 < other.0,
     };
-    if comes_first && is_free(config, handles, first) {
+    if comes_first && is_free(rows, first) {
         return Some(first);
     }
     best
@@ -166,20 +127,19 @@ fn earlier_in_line(
 /// The earliest of these jobs: `old`, if it is one, and the first job of each line, if none of its
 /// semaphores blocks it. One binary search, two for each line in which a job waits, and what
 /// `is_free` costs for each first job that comes before the earliest so far.
-fn earliest(
-    config: &Config,
+fn earliest<R: Rows>(
+    rows: &R,
     jobs: &Groups<ByJob>,
-    handles: &Groups<ByJob>,
     lines: Group,
     old: Option<JobId>,
 ) -> Option<JobId>
     ensures { Rises (is_member_before is_job_before) jobs.now.members
-        → IsBest config.now handles.now.members jobs.now.members lines old None result }
+        → IsBest (R.site rows.now) (R.state rows.now) jobs.now.members lines old None result }
 {
     let mut best = old;
     let mut next = first_line(jobs, lines);
     while let Some(line) = next {
-        best = earlier_in_line(config, jobs, handles, lines, line, best);
+        best = earlier_in_line(rows, jobs, lines, line, best);
         next = line_after(jobs, lines, line);
     }
     best
@@ -188,27 +148,25 @@ fn earliest(
 impl Active {
     /// The first of the requester's jobs that is new and need not wait for semaphores: it asks for
     /// its nodes first, or none of those that it lacks is full. It costs a few binary searches for
-    /// each different list of semaphores for which new jobs of the requester wait, and for each
-    /// semaphore of such a list. It does not grow with the number of jobs, except that binary
-    /// searches do.
-    pub fn job_to_begin(&self, config: &Config, requester: RequesterId) -> Option<JobId>
-        ensures { (s : State) → AreActive config.now s self.now
-            → result ≡ job_to_begin config.now requester s }
+    /// each different list of semaphores for which new jobs of the requester wait, and a lookup or
+    /// two for each semaphore of such a list. It does not grow with the number of jobs, except that
+    /// binary searches do.
+    pub fn job_to_begin<R: Rows>(&self, rows: &R, requester: RequesterId) -> Option<JobId>
+        ensures { AreActive (R.site rows.now) (R.state rows.now) self.now
+            → result ≡ job_to_begin (R.site rows.now) requester (R.state rows.now) }
     {
-        let first = first_prompt(config, &self.jobs, &self.handles, requester);
-        let lines = waiting_group(requester, 0);
-        earliest(config, &self.jobs, &self.handles, lines, first)
+        let first = first_prompt(rows, &self.jobs, requester);
+        earliest(rows, &self.jobs, waiting_group(requester, 0), first)
     }
 
     /// The first of the requester's jobs that was given its nodes, waits for handles and finds room
     /// in all its semaphores. It costs a few binary searches for each different list of semaphores
-    /// for which such jobs of the requester wait, and for each semaphore of such a list. It does
-    /// not grow with the number of jobs, except that binary searches do.
-    pub fn job_to_acquire(&self, config: &Config, requester: RequesterId) -> Option<JobId>
-        ensures { (s : State) → AreActive config.now s self.now
-            → result ≡ job_to_acquire config.now requester s }
+    /// for which such jobs of the requester wait, and a lookup or two for each semaphore of such a
+    /// list. It does not grow with the number of jobs, except that binary searches do.
+    pub fn job_to_acquire<R: Rows>(&self, rows: &R, requester: RequesterId) -> Option<JobId>
+        ensures { AreActive (R.site rows.now) (R.state rows.now) self.now
+            → result ≡ job_to_acquire (R.site rows.now) requester (R.state rows.now) }
     {
-        let lines = lacking_group(requester, 0);
-        earliest(config, &self.jobs, &self.handles, lines, None)
+        earliest(rows, &self.jobs, lacking_group(requester, 0), None)
     }
 }

@@ -1,8 +1,9 @@
-//! The jobs of each requester by what is next for them, the jobs that have a handle of each
-//! semaphore, the sessions that speak for each role, the live sessions that are mute, and the live
-//! sessions of each requester. A job was given its nodes if it has asked for them and its request
-//! is fulfilled. A job to take was given its nodes and need not wait for handles: it has one, or no
-//! semaphores. A job to finish uses its nodes, or has asked for them and its request failed.
+//! The jobs of each requester by what is next for them, the sessions that speak for each role, the
+//! live sessions that are mute, and the live sessions of each requester. A job was given its nodes
+//! if it has asked for them and its request is fulfilled. A job to take was given its nodes and
+//! need not wait for handles: it has one, or no semaphores. A job to finish uses its nodes, or has
+//! asked for them and its request failed. Which jobs have a handle of a semaphore, the rows of the
+//! state say.
 //!
 //! A new job waits for its semaphores unless it asks for its nodes first, has no semaphores or has
 //! its handles already. A job that was given its nodes waits for them unless it is one to take. The
@@ -23,13 +24,11 @@
 //!
 //! | reader | members of which group | binary searches |
 //! |---|---|---|
-//! | `job_to_begin` | the requester's new jobs that wait for no semaphore, and those that wait in each line | 4, 2 for each line, and up to 3 for each semaphore of a job that is tested |
-//! | `job_to_acquire` | the requester's jobs that were given their nodes and wait in each line | 1, 2 for each line, and up to 3 for each semaphore of a job that is tested |
+//! | `job_to_begin` | the requester's new jobs that wait for no semaphore, and those that wait in each line | 4, 2 for each line, and a lookup or two of handles for each semaphore of a job that is tested |
+//! | `job_to_acquire` | the requester's jobs that were given their nodes and wait in each line | 1, 2 for each line, and a lookup or two of handles for each semaphore of a job that is tested |
 //! | `job_to_take` | the requester's jobs to take | 1 |
 //! | `job_to_finish` | the requester's jobs to finish | 1 |
 //! | `job_to_release` | the requester's jobs that are over and have handles | 1 |
-//! | `handles` | the jobs that have a handle of the semaphore | 2 |
-//! | `handle_at`, `has_handle` | the same | 1 |
 //! | `current_session` | the sessions that speak for the role | 3 |
 //! | `first_mute` | the live sessions that are mute | 1 |
 //! | `has_live_session` | the live sessions of the requester, mute or not | 1 |
@@ -37,7 +36,6 @@
 
 mod active;
 mod begin;
-mod handles;
 mod jobs;
 mod lines;
 mod members;

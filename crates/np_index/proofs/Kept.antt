@@ -10,7 +10,7 @@ use Rattle.np_awaited.specs.Awaited.{OthersStay}
 use Rattle.np_classes.specs.Prepared.{TouchedOf, IsPrepared as AreTouchedOf}
 use Rattle.np_classes.proofs.Noted.{record-stays}
 use Rattle.np_open.specs.Open.{AreOpen, OpenOf}
-use Rattle.np_active.specs.Active.{ActiveOf, AreActive, AreHandleGroups, AreJobGroups, AreSessionGroups}
+use Rattle.np_active.specs.Active.{ActiveOf, AreActive, AreJobGroups, AreSessionGroups}
 use Rattle.np_index.specs.Index.{IndexParts, IsIndexOf}
 use Rattle.np_index.specs.Prepared.{IsPreparedFor, PreparedOf}
 
@@ -21,10 +21,9 @@ open-same c s old new members lines was =
     (subst (λ list. AreOpen c s (record { members = old.members; room = new.room; lines = list })) (sym lines)
     (record { rises = was.rises; each = was.each; once = was.once }))
 
-pub active-same : (c : Configuration) (s : State) (old new : ActiveOf) → new.lines ≡ old.lines → new.jobs ≡ old.jobs → new.handles ≡ old.handles → new.sessions ≡ old.sessions → AreActive c s old → AreActive c s new
-active-same c s old new lines jobs handles sessions was = record {
+pub active-same : (c : Configuration) (s : State) (old new : ActiveOf) → new.lines ≡ old.lines → new.jobs ≡ old.jobs → new.sessions ≡ old.sessions → AreActive c s old → AreActive c s new
+active-same c s old new lines jobs sessions was = record {
   jobs = subst (λ list. AreJobGroups c s list new.jobs) (sym lines) (subst (AreJobGroups c s old.lines) (sym jobs) was.jobs);
-  handles = subst (AreHandleGroups c s) (sym handles) was.handles;
   sessions = subst (AreSessionGroups s) (sym sessions) was.sessions;
 }
 

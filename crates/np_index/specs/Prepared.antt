@@ -36,10 +36,10 @@ pub record PreparedOf : Type 0 where
   pub lookups : LookupsPrepared
 
 -- there is room in each part for what the changes put
-pub record HasRoomFor (c : Configuration) (ch : Changes) (prepared : PreparedOf) (index : IndexParts) : Type 0 where
+pub record HasRoomFor (c : Configuration) (prepared : PreparedOf) (index : IndexParts) : Type 0 where
   pub classes : HasRoomForTouched prepared.touched index.classes
   pub requested : HasRoomForMoved c prepared.moved index.requested
-  pub active : HasRoomForActive c ch index.active
+  pub active : HasRoomForActive index.active
   pub given : HasRoomForGiven prepared.given index.given
 
 -- each part but the lookups still says what the state says, and all that the changes touch is found. What
@@ -57,4 +57,4 @@ pub record IsPreparedFor (c : Configuration) (s : State) (ch : Changes) (prepare
   pub asker : prepared.asker ≡ asker_of ch.requests s
   pub given : AreGiven c s index.given
   pub listed : AreGivenPrepared c s ch prepared.given
-  pub room : HasRoomFor c ch prepared index
+  pub room : HasRoomFor c prepared index

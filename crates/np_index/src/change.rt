@@ -112,10 +112,10 @@ impl Index {
     /// After the state has changed: makes the index that of the changed state. It takes no memory.
     ///
     /// It costs a few lookups and binary searches for each node and request that was listed, and for
-    /// each job, handle and session that the changes name. For a request whose record changed the
+    /// each job and session that the changes name. For a request whose record changed the
     /// declines are read a few times for each pool.
     pub fn note<R: Rows>(&mut self, rows: &R, changes: &Changes, prepared: &Prepared)
-        requires room { HasRoomFor (R.site rows.now) changes.now prepared.now self.old }
+        requires room { HasRoomFor (R.site rows.now) prepared.now self.old }
         ensures { (c : Configuration) (s : State) → IsReached c s → IsPlanned c s changes.now
             → IsPreparedFor c s changes.now prepared.now self.old
             → R.site rows.now ≡ c → R.state rows.now ≡ changed c changes.now s

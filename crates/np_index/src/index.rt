@@ -1,6 +1,6 @@
 //! The index of a state.
 
-ghost use Rattle.std.specs.Prelude.{◌≡◌, ◌<◌, ◌^◌, IfOk, length, slice_get};
+ghost use Rattle.std.specs.Prelude.{◌≡◌, ◌<◌, ◌^◌, IfOk, length};
 ghost use Rattle.std.specs.List.{list_any};
 ghost use Rattle.np_changes.specs.Planned.{IsReached};
 ghost use Rattle.np_changes.specs.Readers.{owner_of};
@@ -13,7 +13,6 @@ ghost use Rattle.np_machine.specs.Reasons.{is_paused, is_spare};
 ghost use Rattle.np_machine.specs.Request.{is_spent_min_ready, ready_count};
 ghost use Rattle.np_machine.specs.Semaphore.{has_live_session};
 ghost use Rattle.np_machine.specs.State.{State};
-ghost use Rattle.np_machine.specs.Tables.{handles_of, has_handle};
 ghost use Rattle.np_machine.specs.Tenants.{count_of_tenant};
 ghost use Rattle.np_look.specs.Jobs.{job_to_acquire, job_to_begin, job_to_finish, job_to_release, job_to_take};
 ghost use Rattle.np_look.specs.Given.{node_to_leave, node_to_lock};
@@ -25,14 +24,12 @@ use np_amount::Amount;
 use np_awaited::Awaited;
 use np_changes::Asked;
 use np_classes::Classes;
-use np_config::Config;
 use np_given::Given;
 use np_look::{Rows, UnheldKind};
 use np_lookups::Lookups;
 use np_open::Open;
 use np_text::{
-    JobId, LabelId, NoMemory, NodeId, PoolId, RequestId, RequesterId, Role, SemId, SessionId,
-    TenantId,
+    JobId, LabelId, NoMemory, NodeId, PoolId, RequestId, RequesterId, Role, SessionId, TenantId,
 };
 use std::alloc::Global;
 use std::marker::Model;
@@ -64,11 +61,11 @@ impl Model for Index {
 }
 
 impl Index {
-    /// The index of the state. It reads each session, job, request, node and handle a few times, looks
-    /// up the request that each node is allocated to, and compares each job with one job of each
-    /// line. It asks the rows for what each session queues for, and walks all jobs for the owner of
-    /// each node that was made. Rows that scan read all queues for each answer of the first kind, and
-    /// all jobs for each handle.
+    /// The index of the state. It reads each session, job, request and node a few times, looks up the
+    /// request that each node is allocated to and the handles of each job, and compares each job with
+    /// one job of each line. It asks the rows for what each session queues for, and walks all jobs for
+    /// the owner of each node that was made. Rows that scan read all queues for each answer of the
+    /// first kind, and all jobs for each handle.
     pub fn rebuild<R: Rows>(alloc: Global, rows: &R) -> Result<Index, NoMemory>
         requires reached { IsReached (R.site rows.now) (R.state rows.now) }
         requires fits { Fits (R.site rows.now) (R.state rows.now) }
@@ -111,21 +108,21 @@ impl Index {
     /// The first of the requester's jobs that was given its nodes, waits for handles and finds room
     /// in all its semaphores. It costs a lookup for each different list of semaphores for which such
     /// jobs of the requester wait, and for each semaphore of such a list.
-    pub fn job_to_acquire(&self, config: &Config, requester: RequesterId) -> Option<JobId>
-        ensures { (s : State) → IsIndexOf config.now s self.now
-            → result ≡ job_to_acquire config.now requester s }
+    pub fn job_to_acquire<R: Rows>(&self, rows: &R, requester: RequesterId) -> Option<JobId>
+        ensures { IsIndexOf (R.site rows.now) (R.state rows.now) self.now
+            → result ≡ job_to_acquire (R.site rows.now) requester (R.state rows.now) }
     {
-        self.active.job_to_acquire(config, requester)
+        self.active.job_to_acquire(rows, requester)
     }
 
     /// The first of the requester's jobs that is new and need not wait for semaphores: it asks for its
     /// nodes first, or none of those that it lacks is full. It costs a lookup for each different list
     /// of semaphores for which new jobs of the requester wait, and for each semaphore of such a list.
-    pub fn job_to_begin(&self, config: &Config, requester: RequesterId) -> Option<JobId>
-        ensures { (s : State) → IsIndexOf config.now s self.now
-            → result ≡ job_to_begin config.now requester s }
+    pub fn job_to_begin<R: Rows>(&self, rows: &R, requester: RequesterId) -> Option<JobId>
+        ensures { IsIndexOf (R.site rows.now) (R.state rows.now) self.now
+            → result ≡ job_to_begin (R.site rows.now) requester (R.state rows.now) }
     {
-        self.active.job_to_begin(config, requester)
+        self.active.job_to_begin(rows, requester)
     }
 
     /// The job at a place among those of the requester that use their nodes, or have asked for them
@@ -144,31 +141,6 @@ impl Index {
             → result ≡ job_to_release c requester at s }
     {
         self.active.job_to_release(requester, at)
-    }
-
-    /// How many jobs have a handle of the semaphore. It costs two lookups.
-    pub fn handles(&self, semaphore: SemId) -> usize
-        ensures { (c : Configuration) (s : State) → IsIndexOf c s self.now
-            → result ≡ length (handles_of semaphore s.handles) }
-    {
-        self.active.handles(semaphore)
-    }
-
-    /// The job at a place among those that have a handle of the semaphore, in order of their
-    /// numbers. It costs one lookup.
-    pub fn handle_at(&self, semaphore: SemId, at: u32) -> Option<JobId>
-        ensures { (c : Configuration) (s : State) → IsIndexOf c s self.now
-            → result ≡ slice_get (handles_of semaphore s.handles) at }
-    {
-        self.active.handle_at(semaphore, at)
-    }
-
-    /// Whether the job has a handle of the semaphore. It costs one lookup.
-    pub fn has_handle(&self, semaphore: SemId, job: JobId) -> bool
-        ensures { (c : Configuration) (s : State) → IsIndexOf c s self.now
-            → result ≡ has_handle job s.handles semaphore }
-    {
-        self.active.has_handle(semaphore, job)
     }
 
     /// The last session that speaks for the role: a live one that is not mute. It costs three

@@ -114,11 +114,11 @@ impl<S: Store + Drop> Look for Machine<S> {
     }
 
     fn job_to_acquire(&self, requester: RequesterId) -> Option<JobId> {
-        self.index.job_to_acquire(self.tables.config(), requester)
+        self.index.job_to_acquire(&self.tables, requester)
     }
 
     fn job_to_begin(&self, requester: RequesterId) -> Option<JobId> {
-        self.index.job_to_begin(self.tables.config(), requester)
+        self.index.job_to_begin(&self.tables, requester)
     }
 
     fn job_to_finish(&self, requester: RequesterId, at: u32) -> Option<JobId> {

@@ -6,8 +6,8 @@ use Rattle.np_active.proofs.AcquireLemmas.{first-acquires}
 use Rattle.np_active.proofs.active.Active.job_to_acquire.Goals as goal
 
 pub returns : goal.returns
-returns c s is =
-    let are = subst (AreActive c.args.config.now s) (sym c.self.view_is) is in
-    first-acquires c.args.config.now s c.args.requester _ are c.earliest.result
-    (subst (λ (lines : Group). IsBest c.args.config.now c.self.inside.handles.members c.self.inside.jobs.members lines None None c.earliest.result)
-    c.lacking_group-lines.ensures (c.earliest.ensures are.jobs.rises))
+returns g c is =
+    let are = subst (AreActive (g.R.Rows.site c.args.rows.now) (g.R.Rows.state c.args.rows.now)) (sym c.self.view_is) is in
+    first-acquires (g.R.Rows.site c.args.rows.now) (g.R.Rows.state c.args.rows.now) c.args.requester _ are c.earliest.result
+    (subst (λ (lines : Group). IsBest (g.R.Rows.site c.args.rows.now) (g.R.Rows.state c.args.rows.now) c.self.inside.jobs.members lines None None c.earliest.result)
+    c.lacking_group.ensures (c.earliest.ensures are.jobs.rises))

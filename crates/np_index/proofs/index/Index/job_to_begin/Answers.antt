@@ -3,4 +3,4 @@ use Rattle.np_active.specs.Active.{AreActive}
 use Rattle.np_index.proofs.index.Index.job_to_begin.Goals as goal
 
 pub returns : goal.returns
-returns c s is = c.job_to_begin.ensures s (subst (λ index. AreActive c.args.config.now s index.active) (sym c.self.view_is) is.active)
+returns g c is = c.job_to_begin.ensures (subst (λ index. AreActive (g.R.Rows.site c.args.rows.now) (g.R.Rows.state c.args.rows.now) index.active) (sym c.self.view_is) is.active)

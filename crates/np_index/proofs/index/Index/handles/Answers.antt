@@ -1,6 +1,0 @@
-use Rattle.std.proofs.Common.{subst, sym}
-use Rattle.np_active.specs.Active.{AreActive}
-use Rattle.np_index.proofs.index.Index.handles.Goals as goal
-
-pub returns : goal.returns
-returns c config s is = c.handles.ensures config s (subst (λ index. AreActive config s index.active) (sym c.self.view_is) is.active)
