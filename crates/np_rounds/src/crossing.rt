@@ -20,6 +20,7 @@ use np_awaited::Awaited;
 use np_board::Board;
 use np_classes::Classes;
 use np_config::Config;
+use np_event::Entry;
 use np_given::Given;
 use np_index::Index;
 use np_keeper::TreeStore;
@@ -33,6 +34,11 @@ use np_tree::Tree;
 fn crosses<T: Send + Sync>()
     ensures send { IsSend T.row }
     ensures sync { IsSync T.row }
+{}
+
+/// A type with this bound may be moved to other threads.
+pub(crate) fn sends<T: Send>()
+    ensures { IsSend T.row }
 {}
 
 fn config_crosses()
@@ -128,6 +134,7 @@ pub(crate) fn board_crosses()
     tables_cross();
     index_crosses();
     store_crosses();
+    crosses::<Vec<Entry>>();
     crosses::<Machine<TreeStore>>();
     crosses::<Board>();
 }

@@ -12,7 +12,7 @@ ghost use Rattle.np_rounds.specs.Backs.{AreBack, TookBack};
 ghost use Rattle.np_rounds.specs.Played.{with_end};
 
 use crate::crew::{Crew, CrewEnd, play};
-use crate::crossing::board_crosses;
+use crate::crossing::{board_crosses, sends};
 use np_board::Board;
 use np_cloud::{Driver, Gate};
 use np_desk::{Desk, Pass};
@@ -70,6 +70,8 @@ fn play_all<R: Threads + Wait + Sync, D: Driver + Send + Drop, G: Gate + Sync>(
         crews.items v.items) }
 {
     board_crosses();
+    sends::<Worker<D>>();
+    sends::<Pass<Board>>();
     let ends = thread::map_vec(
         rt,
         crews,
