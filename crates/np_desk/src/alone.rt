@@ -4,6 +4,8 @@ ghost use Rattle.std.specs.Prelude.{◌≡◌, true, None};
 ghost use Rattle.np_desk.specs.Pass.{whole_sight};
 
 use crate::object::SeqObject;
+use crate::row::take_turns;
+use crate::series::Series;
 use crate::turns::Turns;
 use np_text::NoMemory;
 
@@ -36,5 +38,13 @@ impl<M: SeqObject> Turns for Alone<M> {
 
     fn turn(&mut self, ask: M::Ask) -> Result<M::Turn, NoMemory> {
         self.object.turn(ask)
+    }
+
+    fn turns<S: Series<Ask = M::Ask, Turn = M::Turn>>(
+        &mut self,
+        series: &mut S,
+        most: u32,
+    ) -> Result<(), NoMemory> {
+        take_turns(&mut self.object, series, most)
     }
 }

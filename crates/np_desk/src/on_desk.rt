@@ -6,6 +6,7 @@ ghost use Rattle.np_desk.specs.Pass.{IsOf, sight_of};
 use crate::desk::Desk;
 use crate::object::SeqObject;
 use crate::pass::Pass;
+use crate::series::Series;
 use crate::turns::Turns;
 use np_text::NoMemory;
 use std::sync::Wait;
@@ -41,5 +42,13 @@ impl<'a, R: Wait, M: SeqObject> Turns for OnDesk<'a, R, M> {
 
     fn turn(&mut self, ask: M::Ask) -> Result<M::Turn, NoMemory> {
         self.pass.turn(self.rt, self.desk, ask)
+    }
+
+    fn turns<S: Series<Ask = M::Ask, Turn = M::Turn>>(
+        &mut self,
+        series: &mut S,
+        most: u32,
+    ) -> Result<(), NoMemory> {
+        self.pass.turns(self.rt, self.desk, series, most)
     }
 }

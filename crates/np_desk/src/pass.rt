@@ -4,12 +4,14 @@ ghost use Rattle.std.specs.Prelude.{◌≡◌, List, [], ◌∷◌, length, Bool
 ghost use Rattle.np_desk.specs.History.{StartsWith, AreRising, added, merged};
 ghost use Rattle.np_desk.specs.Part.{IsWhole, first_half, second_half, joined};
 ghost use Rattle.np_desk.specs.Pass.{PassView, IsOf, IsAllMine, sight_of};
+ghost use Rattle.np_desk.specs.Series.{Took};
 ghost use Rattle.np_desk.specs.Turned.{Turned};
 ghost use Rattle.np_desk.specs.Step.{pass_view, IsPass};
 
 use crate::desk::Desk;
 use crate::object::SeqObject;
 use crate::rule::{Halve, Learn, Unite};
+use crate::series::Series;
 use crate::step;
 use crate::view::SeatView;
 use atomic_table::Seat;
@@ -69,6 +71,32 @@ impl<M: SeqObject> Pass<M> {
         let turn = step::ask(table, seat, ask);
         step::post(table, seat, ticket);
         turn
+    }
+
+    /// Takes the turns of a series with one ticket, at most `most` of them, and then calls the next
+    /// ticket, even if memory ran out. The threads that wait, wait for all of these turns.
+    pub fn turns<R: Wait, S: Series<Ask = M::Ask, Turn = M::Turn>>(
+        &mut self,
+        rt: &R,
+        desk: &Desk<M>,
+        series: &mut S,
+        most: u32,
+    ) -> Result<(), NoMemory>
+        requires own { IsOf self.old desk.now }
+        ensures own { IsOf self.new desk.now }
+        ensures turns { Took M.answers M.recorded S.asks S.hears desk.now.origin.fixed
+            (sight_of self.old) series.old most result (sight_of self.new) series.new }
+        ensures legal { M.legal desk.now.origin.fixed self.new.seen ≡ true }
+        ensures part { self.new.part ≡ self.old.part }
+        ensures whole { IsAllMine self.new desk.now }
+    {
+        let table = &desk.table.shared;
+        let seat = &mut self.seat;
+        let ticket = step::draw(rt, table, seat);
+        step::take(rt, table, seat, ticket);
+        let end = step::ask_in_row(table, seat, series, most);
+        step::post(table, seat, ticket);
+        end
     }
 
     /// Gives half of the part to a new pass, which has seen the same and made nothing.

@@ -1,15 +1,18 @@
 //! The steps of a turn, each one step on the desk's table.
 
-ghost use Rattle.std.specs.Prelude.{◌≡◌, ◌+◌, ◌<◌, ◌^◌, [], ◌++◌, length, IfOk, MatchResult};
+ghost use Rattle.std.specs.Prelude.{◌≡◌, ℕ, ◌+◌, ◌<◌, ◌^◌, List, [], ◌++◌, length, IfOk, MatchResult};
 ghost use Rattle.np_desk.specs.declared.view.Stage.TheVariants.{Idle, Waits, Has};
 ghost use Rattle.np_desk.specs.History.{StartsWith};
 ghost use Rattle.np_desk.specs.Pass.{origin_of};
+ghost use Rattle.np_desk.specs.Series.{Took, grown};
 ghost use Rattle.np_desk.specs.Step.{IsDesk, IsAt, IsServed, at_stage, after_turn, KnowsMine, HasObject};
 ghost use Rattle.np_desk.specs.Turned.{entries_of};
 
 use crate::bell::bell;
 use crate::object::SeqObject;
+use crate::row::take_turns;
 use crate::rule::{Draw, Law, Look, Post, Ring};
+use crate::series::Series;
 use crate::view::SeatView;
 use atomic_table::{Seat, Shared};
 use np_text::NoMemory;
@@ -88,6 +91,26 @@ pub fn ask<M: SeqObject>(
         M.answers (M.fixed table.now.key.value) seat.old.me.0.seen ask t) }
 {
     seat.slot_mut(table, 0).turn(ask)
+}
+
+/// Asks the object, which the seat has, what a series asks.
+pub fn ask_in_row<M: SeqObject, S: Series<Ask = M::Ask, Turn = M::Turn>>(
+    table: &Shared<M, SeatView<M::Fixed, M::Entry>, Snapshot<M>, Law<M>>,
+    seat: &mut Seat<M, SeatView<M::Fixed, M::Entry>>,
+    series: &mut S,
+    most: u32,
+) -> Result<(), NoMemory>
+    requires table { seat.old.table_id ≡ table.now.table_id }
+    requires object { HasObject M.history M.fixed M.legal (M.fixed table.now.key.value) seat.old.me
+        (λ h. h ≡ seat.old.me.0.seen) }
+    ensures same { (seat.new.table_id ≡ seat.old.table_id) × (seat.new.me.0 ≡ seat.old.me.0) }
+    ensures object { HasObject M.history M.fixed M.legal (M.fixed table.now.key.value) seat.new.me
+        (λ h. StartsWith h seat.old.me.0.seen
+        × ((mine : List ℕ) → Took M.answers M.recorded S.asks S.hears (M.fixed table.now.key.value)
+        (grown mine seat.old.me.0.seen seat.old.me.0.seen) series.old most result
+        (grown mine seat.old.me.0.seen h) series.new)) }
+{
+    take_turns(seat.slot_mut(table, 0), series, most)
 }
 
 /// Puts the object back, calls the next ticket and rings its bell, which wakes the threads that wait

@@ -2,8 +2,10 @@
 
 ghost use Rattle.std.specs.Prelude.{◌≡◌, List, Option};
 ghost use Rattle.np_desk.specs.Pass.{Place, Sight};
+ghost use Rattle.np_desk.specs.Series.{Took};
 ghost use Rattle.np_desk.specs.Turned.{Turned};
 
+use crate::series::Series;
 use np_text::NoMemory;
 
 /// Takes turns at an object, and knows what it has seen of the history and which places in it are
@@ -47,4 +49,18 @@ pub trait Turns {
         ensures place { place self.new ≡ place self.old }
         ensures turn { Turned answers recorded (fixed self.old)
             (sight self.old) ask result (sight self.new) };
+
+    /// Takes the turns of a series, at most `most` of them. If memory runs out, nothing of the last
+    /// one is in the history, and the series has not heard of it.
+    fn turns<S: Series<Ask = Self::Ask, Turn = Self::Turn>>(
+        &mut self,
+        series: &mut S,
+        most: u32,
+    ) -> Result<(), NoMemory>
+        requires ready { ready self.old }
+        ensures ready { ready self.new }
+        ensures fixed { fixed self.new ≡ fixed self.old }
+        ensures place { place self.new ≡ place self.old }
+        ensures turns { Took answers recorded S.asks S.hears (fixed self.old)
+            (sight self.old) series.old most result (sight self.new) series.new };
 }

@@ -1,5 +1,5 @@
 -- Parts of a round one after the other.
-use Rattle.std.proofs.Common.{◌≡◌, ℕ, suc, ◌+◌, ◌-◌, ◌<◌, ◌≤◌, List, [], ◌∷◌, ◌++◌, length, sym, refl, ap, ◌∙◌, arith, subst, length-append, inr, cond}
+use Rattle.std.proofs.Common.{◌≡◌, ℕ, ◌+◌, List, [], ◌∷◌, ◌++◌, length, sym, refl, ap, arith, subst, length-append, inr, cond}
 use Rattle.std.specs.Prelude.{Option, Some, None, Result, Ok, Err, IfSome}
 use Rattle.np_text.specs.declared.memory.NoMemory.{NoMemory}
 use Rattle.np_desk.specs.Pass.{Sight}
@@ -13,10 +13,8 @@ use Rattle.np_answers.specs.Asks.{recorded}
 use Rattle.np_event.specs.declared.event.Outcome.{Outcome}
 use Rattle.np_cloud.specs.declared.driver.Tag.{Tag}
 use Rattle.np_answers.specs.Move.{Move, asked, launched, removed}
-use Rattle.np_answers.specs.Phase.{Phase, MayAsk, MayLaunch, MayRemove, Leads, after_turn, after_launch, after_removal, after_act, after_role, after_report, after_sweep, after_look, acting, acts, looks, sweeps, owes_due, owes_swept, rests, is_unwanted, OwesRemoval, Work}
+use Rattle.np_answers.specs.Phase.{Phase, MayAsk, MayLaunch, MayRemove, Leads, after_turn, after_launch, after_removal, after_sweep, sweeps, owes_swept, rests, is_unwanted, OwesRemoval, Work}
 use Rattle.np_cloud.specs.declared.driver.Server.{Server}
-use Rattle.np_text.specs.declared.id.Role.{Role}
-use Rattle.np_text.specs.declared.id.Role.TheVariants as role
 use Rattle.np_text.specs.declared.id.PoolId.{PoolId}
 use Rattle.np_worker.specs.declared.next.Next.{Next}
 use Rattle.np_worker.specs.declared.next.Next.TheVariants as next
@@ -28,7 +26,6 @@ use Rattle.np_worker.proofs.Sweeps.{are_kept_after}
 use Rattle.std.specs.Prelude.{Contains, false}
 use Rattle.std.proofs.lemmas.List.Elements.{Contains-push}
 use Rattle.np_answers.specs.declared.ask.Ask.TheVariants as ask
-use Rattle.np_text.specs.declared.id.NodeId.{NodeId}
 use Rattle.np_answers.proofs.Traces.{leads-append, walk-append}
 use Rattle.np_worker.proofs.Drives.{drove-append, drove_none, drove_ask, failed_before}
 
@@ -144,14 +141,6 @@ pub of_no_server : (a : Ask) → ((s : List Server) → IsOfServer a s) → (d :
 of_no_server a h None = tt
 of_no_server a h (Some d) = if_some d.facts.servers (IsOfServer a) h
 
--- a part that does not go on ends the whole
-pub comes_on : (go go' idle : Phase) (a b c : Option Driving) (ms : List Move) (n : Next) (trace trace' : List Move) (to : Phase)
-    → (n ≡ next.Go → ⊥) → Drove ms a b → Comes go idle b c (Ok n) trace to → Comes go' idle a c (Ok n) trace' to
-comes_on go go' idle a b c ms next.Go trace trace' to h k l = absurd (h refl)
-comes_on go go' idle a b c ms next.Idle trace trace' to h k l = l
-comes_on go go' idle a b c ms next.Full trace trace' to h k l = l
-comes_on go go' idle a b c ms next.Failed trace trace' to h k l = (l.0, failed_before a b c ms k l.1)
-
 -- the same without removals
 pub goes_on : (go go' idle : Phase) (n : Next) (trace trace' : List Move) (to : Phase)
     → (n ≡ next.Go → ⊥) → Goes go idle (Ok n) trace to → Goes go' idle (Ok n) trace' to
@@ -159,22 +148,6 @@ goes_on go go' idle next.Go trace trace' to h l = absurd (h refl)
 goes_on go go' idle next.Idle trace trace' to h l = l
 goes_on go go' idle next.Full trace trace' to h l = l
 goes_on go go' idle next.Failed trace trace' to h l = l
-
-pub goes_at : (go idle : Phase) (n m : Next) (trace : List Move) (to : Phase) → n ≡ m → Goes go idle (Ok n) trace to → Goes go idle (Ok m) trace to
-goes_at go idle n m trace to h k = subst (λ (x : Next). Goes go idle (Ok x) trace to) h k
-
-pub goes_to : (go : Phase) (n : Next) (trace : List Move) (to : Phase) → (n ≡ next.Full → ⊥) → Goes go go (Ok n) trace to → to ≡ go
-goes_to go next.Go trace to h l = l
-goes_to go next.Idle trace to h l = l
-goes_to go next.Full trace to h l = absurd (h refl)
-goes_to go next.Failed trace to h l = absurd l
-
-pub goes_comes : (go idle : Phase) (d e : Option Driving) (r : Result Next NoMemory) (trace trace' : List Move) (to : Phase) → Goes go idle r trace to → Comes go idle d e r trace' to
-goes_comes go idle d e (Ok next.Go) trace trace' to l = l
-goes_comes go idle d e (Ok next.Idle) trace trace' to l = l
-goes_comes go idle d e (Ok next.Full) trace trace' to l = l
-goes_comes go idle d e (Ok next.Failed) trace trace' to l = absurd l
-goes_comes go idle d e (Err y) trace trace' to l = tt
 
 -- a removal and what it comes to
 module _ {F : Type 0} {answers : F → List Entry → Ask → Turn → Type 0} {f : F} where
@@ -215,20 +188,6 @@ after_sweep_turn pool x turn.Swept h = refl
 after_sweep_turn pool x turn.Idle h = refl
 after_sweep_turn pool x turn.Full h = absurd (h refl)
 
--- what a look for a due node leads to
-pub after_look_due : (pool : PoolId) (n : ℕ) (t : Turn) (node : NodeId) (s : Option ℕ) (x : ℕ) → t ≡ turn.DueNode node s → s ≡ Some x → after_look pool n t ≡ owes_due pool n x
-after_look_due pool n t node s x h k = ap (after_look pool n) h ∙ ap (λ (o : Option ℕ). after_look pool n (turn.DueNode node o)) k
-
-pub after_look_bare : (pool : PoolId) (n : ℕ) (t : Turn) (node : NodeId) (s : Option ℕ) → t ≡ turn.DueNode node s → s ≡ None → after_look pool n t ≡ acts (role.Janitor pool) n
-after_look_bare pool n t node s h k = ap (after_look pool n) h ∙ ap (λ (o : Option ℕ). after_look pool n (turn.DueNode node o)) k
-
-pub after_look_turn : (pool : PoolId) (n : ℕ) (t : Turn) → ((node : NodeId) (x : Option ℕ) → t ≡ turn.DueNode node x → ⊥) → (t ≡ turn.Full → ⊥) → after_look pool n t ≡ acts (role.Janitor pool) n
-after_look_turn pool n (turn.Did e) h k = refl
-after_look_turn pool n (turn.DueNode node x) h k = absurd (h node x refl)
-after_look_turn pool n turn.Swept h k = refl
-after_look_turn pool n turn.Idle h k = refl
-after_look_turn pool n turn.Full h k = absurd (k refl)
-
 -- ## the end of a round
 
 pub sweeps_before : (pool : PoolId) (d0 d e : Driving) (ms ns : List Move) (r : Result Next NoMemory) (to : Phase) → Drove ms (Some d0) (Some d) → SweepsAll pool d e r ns to → SweepsAll pool d0 e r (ms ++ ns) to
@@ -243,14 +202,6 @@ ends_alone w next.Go entries trace to h l = h to l
 ends_alone w next.Idle entries trace to h l = h to l
 ends_alone w next.Full entries trace to h l = l
 ends_alone w next.Failed entries trace to h l = absurd l
-
--- the phase after an act that made no entry
-pub after_idle : (r : Role) (n : ℕ) (t : Turn) → ((e : Entry) → t ≡ turn.Did e → ⊥) → (t ≡ turn.Full → ⊥) → after_act r n t ≡ after_role r
-after_idle r n (turn.Did e) h k = absurd (h e refl)
-after_idle r n (turn.DueNode node x) h k = refl
-after_idle r n turn.Swept h k = refl
-after_idle r n turn.Idle h k = refl
-after_idle r n turn.Full h k = absurd (k refl)
 
 -- an entry is counted once
 pub counts_turn : (n m : ℕ) (a : Ask) (t : Turn) (before : List Entry) (v w : Sight Entry)
@@ -279,37 +230,6 @@ comes_to go d e next.Go trace to h k l = l
 comes_to go d e next.Idle trace to h k l = l
 comes_to go d e next.Full trace to h k l = absurd (h refl)
 comes_to go d e next.Failed trace to h k l = absurd (k refl)
-
-pub after_report_turn : (pool : PoolId) (n : ℕ) (t : Turn) → (t ≡ turn.Full → ⊥) → after_report pool n t ≡ acting (role.Launcher pool) n
-after_report_turn pool n (turn.Did e) h = refl
-after_report_turn pool n (turn.DueNode node x) h = refl
-after_report_turn pool n turn.Swept h = refl
-after_report_turn pool n turn.Idle h = refl
-after_report_turn pool n turn.Full h = absurd (h refl)
-
-one_less : (i : ℕ) → i < 16 → 16 - i ≡ suc (15 - i)
-one_less i h = omega arith
-
-pub left_less : (i : ℕ) → i < 16 → 15 - i ≡ 16 - (i + 1)
-left_less i h = omega arith
-
-none_left : (i : ℕ) → 16 ≤ i → 16 - i ≡ 0
-none_left i h = omega arith
-
-pub acting_launcher : (pool : PoolId) (i : ℕ) → i < 16 → acting (role.Launcher pool) (16 - i) ≡ acts (role.Launcher pool) (15 - i)
-acting_launcher pool i h = ap (acting (role.Launcher pool)) (one_less i h)
-
-pub acting_janitor : (pool : PoolId) (i : ℕ) → i < 16 → acting (role.Janitor pool) (16 - i) ≡ looks pool (15 - i)
-acting_janitor pool i h = ap (acting (role.Janitor pool)) (one_less i h)
-
-pub acting_alone : (r : Role) → ((n : ℕ) → acting r (suc n) ≡ acts r n) → (i : ℕ) → i < 16 → acting r (16 - i) ≡ acts r (15 - i)
-acting_alone r e i h = ap (acting r) (one_less i h) ∙ e (15 - i)
-
-pub acting_next : (r : Role) (i : ℕ) → i < 16 → acting r (15 - i) ≡ acting r (16 - (i + 1))
-acting_next r i h = ap (acting r) (left_less i h)
-
-pub acting_last : (r : Role) (i : ℕ) → 16 ≤ i → acting r (16 - i) ≡ after_role r
-acting_last r i h = ap (acting r) (none_left i h)
 
 pub comes_from : (go idle : Phase) (d e : Option Driving) (r : Result Next NoMemory) (trace trace' : List Move) (to : Phase) → Comes go idle d e r trace to → Comes go idle d e r trace' to
 comes_from go idle d e (Ok next.Go) trace trace' to l = l
@@ -340,10 +260,3 @@ sweeps_one_all pool server d0 d e ms next.Failed trace trace' to h k l = (l.0, f
 
 pub sweeps_one_at : (pool : PoolId) (server : Server) (d e : Driving) (n m : Next) (trace : List Move) (to : Phase) → n ≡ m → SweepsOne pool server d e (Ok n) trace to → SweepsOne pool server d e (Ok m) trace to
 sweeps_one_at pool server d e n m trace to h l = subst (λ (x : Next). SweepsOne pool server d e (Ok x) trace to) h l
-
-pub goes_from : (go idle : Phase) (r : Result Next NoMemory) (trace trace' : List Move) (to : Phase) → Goes go idle r trace to → Goes go idle r trace' to
-goes_from go idle (Ok next.Go) trace trace' to l = l
-goes_from go idle (Ok next.Idle) trace trace' to l = l
-goes_from go idle (Ok next.Full) trace trace' to l = l
-goes_from go idle (Ok next.Failed) trace trace' to l = l
-goes_from go idle (Err y) trace trace' to l = tt

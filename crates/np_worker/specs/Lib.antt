@@ -1,3 +1,4 @@
 pub mod Part
 pub mod Round
 pub mod Moves
+pub mod Stage

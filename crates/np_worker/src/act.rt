@@ -1,19 +1,23 @@
-//! The turns in which a role acts.
+//! The turns of a round.
 
-ghost use Rattle.std.specs.Prelude.{◌≡◌, ℕ, suc, ◌+◌, IfOk, Option};
+ghost use Rattle.std.specs.Prelude.{◌≡◌, ◌+◌, IfOk, Option};
 ghost use Rattle.np_event.specs.declared.entry.Entry.{Entry};
 ghost use Rattle.np_answers.specs.Asks.{recorded};
 ghost use Rattle.np_answers.specs.Drive.{Driving};
+ghost use Rattle.np_answers.specs.Phase.{Work, Phase, MayAsk, acting, rests};
 ghost use Rattle.np_worker.specs.Part.{Counts, entry_count, Part, Came, Goes, IsOfDriver};
-ghost use Rattle.np_answers.specs.Phase.{Phase, MayAsk, acts, acting, after_role, after_entry};
+ghost use Rattle.np_worker.specs.Stage.{IsLone, IsOfWork, Reaches, WentFar, phase_of, player};
 
 use crate::next::Next;
+use crate::playing::Playing;
+use crate::stage::{Stage, acting};
 use np_answers::{Ask, Turn};
 use np_desk::Turns;
 use np_event::Entry;
 use np_text::{NoMemory, Role};
 
-/// How many turns a role takes in a round.
+/// How many turns a role takes in a round, and how many turns a worker takes before it lets others
+/// take theirs.
 pub(crate) const ACTS: u32 = 16;
 
 /// The count of entries after a turn.
@@ -48,29 +52,40 @@ pub(crate) fn take_turn<T: Turns<Ask = Ask, Entry = Entry, Turn = Turn>>(
     Ok(turn)
 }
 
-/// Takes a turn in which the role acts. The role is not a launcher, whose starts need more.
-pub(crate) fn act<T: Turns<Ask = Ask, Entry = Entry, Turn = Turn>>(
+/// The count of entries, if it has room.
+fn count_of(entries: u64) -> Result<u32, NoMemory>
+    ensures { IfOk result (λ n. n ≡ entries) }
+{
+    u32::try_from(entries).map_err(|_| -> NoMemory { NoMemory })
+}
+
+/// Takes turns one after another, at most 16, until a launch or a removal comes or the roles have
+/// taken theirs, and counts their entries. If the count has no room, the turns are made all the same.
+pub(crate) fn take_turns<T: Turns<Ask = Ask, Entry = Entry, Turn = Turn>>(
     turns: &mut T,
-    role: Role,
+    stage: Stage,
     entries: &mut u32,
-) -> Result<Next, NoMemory>
+) -> Result<Stage, NoMemory>
     requires ready { T.ready turns.old }
     requires recorded { T.recorded ≡ recorded }
-    requires plain { (n : ℕ) (e : Entry) → after_entry role n e ≡ acting role n }
     ensures ready { T.ready turns.new }
     ensures fixed { T.fixed turns.new ≡ T.fixed turns.old }
     ensures place { T.place turns.new ≡ T.place turns.old }
-    ensures part { (n : ℕ) (d : Option Driving) →
-        Part T.answers (T.fixed turns.old) (acts role n) (T.sight turns.old) (T.sight turns.new) d d
-        (Goes (acting role n) (after_role role) result) }
+    ensures part { (d : Option Driving) → Part T.answers (T.fixed turns.old) (phase_of stage)
+        (T.sight turns.old) (T.sight turns.new) d d (Reaches result) }
+    ensures far { IfOk result (λ s. WentFar (phase_of stage) s) }
+    ensures work { (w : Work) → IsOfWork w (phase_of stage) →
+        IfOk result (λ s. IsOfWork w (phase_of s)) }
     ensures count { IfOk result
         (λ _. Counts entries.old (T.sight turns.old) entries.new (T.sight turns.new)) }
 {
-    Ok(match take_turn(turns, Ask::Act(role), entries)? {
-        Turn::Did(_) => Next::Go,
-        Turn::Full => Next::Full,
-        _ => Next::Idle,
-    })
+    let mut playing = Playing {
+        stage,
+        entries: u64::from(*entries),
+    };
+    turns.turns(&mut playing, ACTS)?;
+    *entries = count_of(playing.entries)?;
+    Ok(playing.stage)
 }
 
 /// Takes the turns of a role that does nothing but act.
@@ -81,22 +96,17 @@ pub(crate) fn act_often<T: Turns<Ask = Ask, Entry = Entry, Turn = Turn>>(
 ) -> Result<Next, NoMemory>
     requires ready { T.ready turns.old }
     requires recorded { T.recorded ≡ recorded }
-    requires plain { (n : ℕ) (e : Entry) → after_entry role n e ≡ acting role n }
-    requires alone { (n : ℕ) → acting role (suc n) ≡ acts role n }
+    requires lone { IsLone (player role) }
     ensures ready { T.ready turns.new }
     ensures fixed { T.fixed turns.new ≡ T.fixed turns.old }
     ensures place { T.place turns.new ≡ T.place turns.old }
     ensures part { (d : Option Driving) → Part T.answers (T.fixed turns.old) (acting role 16)
-        (T.sight turns.old) (T.sight turns.new) d d
-        (Goes (after_role role) (after_role role) result) }
+        (T.sight turns.old) (T.sight turns.new) d d (Goes rests rests result) }
     ensures count { IfOk result
         (λ _. Counts entries.old (T.sight turns.old) entries.new (T.sight turns.new)) }
 {
-    for _turn in 0..ACTS {
-        match act(turns, role, entries)? {
-            Next::Go => {}
-            next => return Ok(next),
-        }
+    match take_turns(turns, acting(role, ACTS), entries)? {
+        Stage::Ended => Ok(Next::Full),
+        _ => Ok(Next::Idle),
     }
-    Ok(Next::Idle)
 }

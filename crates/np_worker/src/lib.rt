@@ -4,7 +4,8 @@
 //! janitor, with the pool's driver; a requester's worker and the reaper's play one role each. In a
 //! round each role takes at most 16 turns in which it acts, and what they call for is done at once:
 //! an accepted start is launched and reported, a due node's server is removed before its record
-//! goes, and at the end the servers that nobody wants are removed.
+//! goes, and at the end the servers that nobody wants are removed. Turns with no launch or removal
+//! between them are taken in series of at most 16 (`Playing`), and others wait for all of these.
 //!
 //! Contracts describe a round by one list of moves (np_answers): its turns with their answers, and
 //! what its driver did. Read `specs/Part` for what one part of a round is, and `specs/Round` for
@@ -15,9 +16,11 @@
 #![tactic(auto)]
 
 mod act;
-mod janitor;
-mod launch;
+mod driver;
 mod next;
+mod playing;
+mod roles;
+mod stage;
 mod sweep;
 mod worker;
 

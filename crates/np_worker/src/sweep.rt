@@ -7,7 +7,7 @@ ghost use Rattle.np_worker.specs.Part.{Counts, Part, SweepsOne, SweepsAll};
 ghost use Rattle.np_answers.specs.Phase.{sweeps, is_unwanted};
 
 use crate::act::take_turn;
-use crate::janitor::remove_server;
+use crate::driver::remove_server;
 use crate::next::Next;
 use np_answers::{Ask, Turn};
 use np_cloud::{Driver, Server};

@@ -10,9 +10,8 @@ ghost use Rattle.np_worker.specs.Moves.{HasMoves};
 ghost use Rattle.np_worker.specs.Round.{EndsAs, work_of, driving_of};
 
 use crate::act::act_often;
-use crate::janitor::janitor;
-use crate::launch::launcher;
 use crate::next::Next;
+use crate::roles::play_roles;
 use crate::sweep::sweep;
 use np_answers::{Ask, Turn};
 use np_cloud::{Driver, Gate};
@@ -67,10 +66,7 @@ fn play_pool<D: Driver, T: Turns<Ask = Ask, Entry = Entry, Turn = Turn>, G: Gate
     ensures count { IfOk result
         (λ _. Counts entries.old (T.sight turns.old) entries.new (T.sight turns.new)) }
 {
-    if let Next::Full = launcher(driver, turns, gate, pool, entries)? {
-        return Ok(Next::Full);
-    }
-    match janitor(driver, turns, pool, entries)? {
+    match play_roles(driver, turns, gate, pool, entries)? {
         Next::Full => Ok(Next::Full),
         Next::Failed => Ok(Next::Failed),
         _ => sweep(driver, turns, pool, entries),

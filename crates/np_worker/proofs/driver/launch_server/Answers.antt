@@ -1,6 +1,6 @@
 use Rattle.np_answers.specs.Drive.{driving}
 use Rattle.np_worker.proofs.Drives.{drives_launch, drives_failed, same_driving}
-use Rattle.np_worker.proofs.launch.launch_server.Goals as goal
+use Rattle.np_worker.proofs.driver.launch_server.Goals as goal
 
 pub returns-in-Ok : goal.returns-in-Ok
 returns-in-Ok g c = drives_launch (driving g.D.Driver.facts g.D.Driver.plan g.D.Driver.sound g.D.Driver.room c.args.driver.now) (driving g.D.Driver.facts g.D.Driver.plan g.D.Driver.sound g.D.Driver.room c.launch.new.self) c.args.tag c.in-Ok.number c.in-Ok.ensures.launch c.in-Ok.ensures.planned (g.D.Driver.soundness c.launch.new.self)

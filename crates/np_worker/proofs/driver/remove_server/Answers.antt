@@ -1,6 +1,6 @@
 use Rattle.np_answers.specs.Drive.{driving}
 use Rattle.np_worker.proofs.Drives.{drives_removed, drives_kept}
-use Rattle.np_worker.proofs.janitor.remove_server.Goals as goal
+use Rattle.np_worker.proofs.driver.remove_server.Goals as goal
 
 pub returns-in-Ok : goal.returns-in-Ok
 returns-in-Ok g c = drives_removed (driving g.D.Driver.facts g.D.Driver.plan g.D.Driver.sound g.D.Driver.room c.args.driver.now) (driving g.D.Driver.facts g.D.Driver.plan g.D.Driver.sound g.D.Driver.room c.remove.new.self) c.args.number c.in-Ok.ensures.removal.0 c.in-Ok.ensures.removal.1 (record { plan = c.in-Ok.ensures.plan; sound = c.in-Ok.ensures.sound; room = c.in-Ok.ensures.room; counts = c.in-Ok.ensures.counts })

@@ -1,0 +1,53 @@
+-- The turns of a series: what was asked and answered in each, and what they saw and made.
+use Rattle.std.specs.Prelude.{◌≡◌, ◌⊎◌, ℕ, ◌≤◌, List, [], ◌∷◌, ◌++◌, length, drop, Option, Some, None, Result, MatchResult}
+use Rattle.np_desk.specs.History.{places}
+use Rattle.np_desk.specs.Pass.{Sight}
+use Rattle.np_desk.specs.Turned.{Answered, Unturned}
+use Rattle.np_text.specs.declared.memory.NoMemory.{NoMemory}
+
+-- an ask, and the turn that answered it
+pub record Asked (A T : Type 0) : Type 0 where
+  pub ask : A
+  pub turn : T
+
+-- what is seen and one's own, after a history has grown by entries of one's own
+abbrev pub grown : {E : Type 0} → List ℕ → List E → List E → Sight E
+grown mine before after = record {
+  seen = after;
+  mine = mine ++ places (length before) (drop (length before) after);
+}
+
+module _ {F E A T : Type 0} (answers : F → List E → A → T → Type 0)
+    (recorded : A → T → Option E) where
+  -- each turn is answered after the one before it
+  abbrev pub Walked : F → Sight E → List (Asked A T) → Sight E → Type 0
+  Walked f v [] w = v ≡ w
+  Walked f v (x ∷ xs) w = (u : Sight E)
+      × Answered answers recorded f v x.ask x.turn u × Walked f u xs w
+
+module _ {S A T : Type 0} (asks : S → Option A) (hears : S → T → S → Type 0) where
+  -- the series asked these one after another, and heard the answers
+  abbrev pub Heard : S → List (Asked A T) → S → Type 0
+  Heard p [] q = p ≡ q
+  Heard p (x ∷ xs) q = (asks p ≡ Some x.ask) × (r : S) × hears p x.turn r × Heard r xs q
+
+-- the series is over, or as many turns were taken as may be
+abbrev pub IsOver : {S A T : Type 0} → (S → Option A) → ℕ → List (Asked A T) → S → Type 0
+IsOver asks most turns q = (asks q ≡ None) ⊎ (length turns ≡ most)
+
+module _ {F E A T S : Type 0} (answers : F → List E → A → T → Type 0)
+    (recorded : A → T → Option E) (asks : S → Option A) (hears : S → T → S → Type 0) where
+  -- What a call of `turns` did: there are these turns, at most so many, which the series asked for.
+  -- More may have been seen before the first of them; nothing is seen after the last, unless memory
+  -- ran out
+  pub record Took {R : Type 0} (f : F) (v : Sight E) (p : S) (most : ℕ) (result : Result R NoMemory)
+      (w : Sight E) (q : S) : Type 0 where
+    pub turns : List (Asked A T)
+    pub first : Sight E
+    pub last : Sight E
+    pub saw : Unturned v first
+    pub walked : Walked answers recorded f first turns last
+    pub heard : Heard asks hears p turns q
+    pub few : length turns ≤ most
+    pub over : MatchResult result
+        (λ _. (w ≡ last) × IsOver asks most turns q) (λ _. Unturned last w)

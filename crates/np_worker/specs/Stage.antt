@@ -1,0 +1,116 @@
+-- the stages of a round, and the phases that they are
+use Rattle.std.specs.Prelude.{◌≡◌, ◌⊎◌, ℕ, ◌+◌, ◌*◌, ◌<◌, ◌≤◌, ◌^◌, List, Option, Some, None, Result, Ok, Err}
+use Rattle.np_text.specs.declared.id.Role.{Role}
+use Rattle.np_text.specs.declared.id.Role.TheVariants as role
+use Rattle.np_text.specs.declared.memory.NoMemory.{NoMemory}
+use Rattle.np_answers.specs.declared.ask.Ask.{Ask}
+use Rattle.np_answers.specs.declared.ask.Ask.TheVariants as ask
+use Rattle.np_answers.specs.declared.ask.Turn.{Turn}
+use Rattle.np_answers.specs.Move.{Move}
+use Rattle.np_answers.specs.Phase.{Work, of_pool, of_requester, of_reaper, Phase, acts, looks, owes_launch, owes_report, owes_due, owes_swept, sweeps, rests, ended, after_turn, report_of}
+use Rattle.np_worker.specs.Part.{entry_count}
+use Rattle.np_worker.specs.declared.next.Next.{Next}
+use Rattle.np_worker.specs.declared.next.Next.TheVariants as next
+use Rattle.np_worker.specs.declared.playing.Playing.{Playing}
+use Rattle.np_worker.specs.declared.stage.Stage.{Stage}
+use Rattle.np_worker.specs.declared.stage.Stage.TheVariants as stage
+
+abbrev pub phase_of : Stage → Phase
+phase_of (stage.Acts r n) = acts r n
+phase_of (stage.Launches pool n s) = owes_launch pool n s
+phase_of (stage.Reports pool n s o) = owes_report pool n s o
+phase_of (stage.Looks pool n) = looks pool n
+phase_of (stage.Removes pool n x) = owes_due pool n x
+phase_of (stage.Sweeps pool) = sweeps pool
+phase_of stage.Rests = rests
+phase_of stage.Ended = ended
+
+-- what is asked in a turn, if a turn comes next (own)
+abbrev pub ask_of : Stage → Option Ask
+ask_of (stage.Acts r n) = Some (ask.Act r)
+ask_of (stage.Reports pool n s o) = Some (ask.Do (report_of s o))
+ask_of (stage.Looks pool n) = Some (ask.Due pool)
+ask_of _ = None
+
+-- what a series of turns asks next (own)
+abbrev pub asks : Playing → Option Ask
+asks p = ask_of p.stage
+
+-- what an answer leads to; the count is right where it is less than 2 ^ 32 (own)
+abbrev pub Hears : Playing → Turn → Playing → Type 0
+Hears p t q = ((a : Ask) → ask_of p.stage ≡ Some a → phase_of q.stage ≡ after_turn (phase_of p.stage) a t)
+    × (q.entries < 2 ^ 32 → q.entries ≡ p.entries + entry_count t)
+
+-- ## whose stage it is
+
+-- who plays a role (own)
+abbrev pub player : Role → Work
+player (role.Launcher pool) = of_pool pool
+player (role.Janitor pool) = of_pool pool
+player (role.Requester q) = of_requester q
+player role.Reaper = of_reaper
+
+-- it plays one role, which does nothing but act (own)
+abbrev pub IsLone : Work → Type 0
+IsLone (of_pool pool) = ⊥
+IsLone (of_requester q) = Unit {0}
+IsLone of_reaper = Unit {0}
+
+-- the phase is one of this worker's round (own)
+abbrev pub IsOfWork : Work → Phase → Type 0
+IsOfWork w (acts r n) = player r ≡ w
+IsOfWork w (owes_launch pool n s) = of_pool pool ≡ w
+IsOfWork w (owes_report pool n s o) = of_pool pool ≡ w
+IsOfWork w (looks pool n) = of_pool pool ≡ w
+IsOfWork w (owes_due pool n x) = of_pool pool ≡ w
+IsOfWork w (sweeps pool) = of_pool pool ≡ w
+IsOfWork w (owes_swept pool x) = of_pool pool ≡ w
+IsOfWork w rests = IsLone w
+IsOfWork w ended = Unit {0}
+
+-- ## how long it may go on
+
+-- how many turns, launches and removals may come, if the role may take n turns; those of the servers
+-- at the end are not counted (own)
+abbrev pub steps_acting : Role → ℕ → ℕ
+steps_acting (role.Launcher pool) n = 48 + 3 * n
+steps_acting (role.Janitor pool) n = 3 * n
+steps_acting (role.Requester q) n = n
+steps_acting role.Reaper n = n
+
+abbrev pub steps_act : Role → ℕ → ℕ
+steps_act (role.Launcher pool) n = 51 + 3 * n
+steps_act (role.Janitor pool) n = 1 + 3 * n
+steps_act (role.Requester q) n = 1 + n
+steps_act role.Reaper n = 1 + n
+
+abbrev pub steps_left : Phase → ℕ
+steps_left (acts r n) = steps_act r n
+steps_left (owes_launch pool n s) = 50 + 3 * n
+steps_left (owes_report pool n s o) = 49 + 3 * n
+steps_left (looks pool n) = 3 + 3 * n
+steps_left (owes_due pool n x) = 2 + 3 * n
+steps_left _ = 0
+
+-- turns were taken until another move comes, or 16 of them (own)
+abbrev pub WentFar : Phase → Stage → Type 0
+WentFar from s = (steps_left (phase_of s) ≤ steps_left from)
+    × ((ask_of s ≡ None) ⊎ (steps_left (phase_of s) + 16 ≤ steps_left from))
+
+-- the roles took their turns (own)
+abbrev pub IsPlayed : Phase → Type 0
+IsPlayed (sweeps pool) = Unit {0}
+IsPlayed rests = Unit {0}
+IsPlayed _ = ⊥
+
+-- how a stage went on (own)
+abbrev pub WentOn : Next → Phase → Phase → Type 0
+WentOn next.Go before now = steps_left now < steps_left before
+WentOn next.Idle before now = IsPlayed now
+WentOn next.Full before now = Unit {0}
+WentOn next.Failed before now = Unit {0}
+
+-- the phase that a series of turns leads to (own)
+abbrev pub Reaches : Result Stage NoMemory → List Move → Phase → Type 0
+Reaches (Ok s) trace to = to ≡ phase_of s
+Reaches (Err _) trace to = Unit {0}
