@@ -1,0 +1,9 @@
+pub mod Tests
+pub mod Same
+pub mod Seen
+pub mod Known
+pub mod Asked
+pub mod Fresh
+pub mod Firsts
+pub mod Stands
+pub mod Parents

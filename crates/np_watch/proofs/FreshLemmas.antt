@@ -1,0 +1,85 @@
+-- what the test of stats says
+use Rattle.std.proofs.Common.{◌≡◌, ℕ, ◌≤◌, ◌<◌, Bool, true, false, List, Option, Some, None, refl, ap, ◌∙◌, arith}
+use Rattle.std.specs.Prelude.{◌&&◌, max, nat_le}
+use Rattle.std.specs.Option.{option_and_then, option_map}
+use Rattle.std.proofs.lemmas.Bool.Decides.{nat_tests}
+use Rattle.np_path.specs.Parts.{parent_of}
+use Rattle.np_nodes.specs.TreeState.{TreeState}
+use Rattle.np_nodes.specs.Nodes.{at_path, stat_of}
+use Rattle.np_nodes.specs.declared.node.Node.{Node}
+use Rattle.np_nodes.specs.declared.kind.Stat.{Stat}
+use Rattle.np_tree.specs.Read.{stat_at}
+use Rattle.np_watch.specs.Fresh.{IsFreshPath, StaleIsLater, TestSaysFresh, is_fresh, is_listed_by, is_written_by, stat_above}
+
+both-true : (a b : Bool) → (a && b) ≡ true → (a ≡ true) × (b ≡ true)
+both-true true true is = (refl, refl)
+both-true true false is = absurd cc
+both-true false b is = absurd cc
+
+and-true : (a b : Bool) → a ≡ true → b ≡ true → (a && b) ≡ true
+and-true a b first second = rw (first, second) refl
+
+module _ (t : TreeState) (z : ℕ) where
+  -- the node of a path that was listed at z or before
+  listed-node : (dir : List ℕ) (o : Option Node) → at_path t.nodes dir ≡ o → is_listed_by z (option_map (stat_of t.nodes) o) ≡ true → (n : Node) × (at_path t.nodes dir ≡ Some n) × (n.facts.pzxid ≤ z)
+  listed-node dir None there is = absurd cc
+  listed-node dir (Some n) there is = (n, there, grind (arith, nat_tests))
+
+  written-node : (o : Option Node) (n : Node) → o ≡ Some n → is_written_by z (option_map (stat_of t.nodes) o) ≡ true → n.facts.mzxid ≤ z
+  written-node None n there is = absurd cc
+  written-node (Some m) n there is =
+      let same : m.facts.mzxid ≡ n.facts.mzxid = ap (λ (k : Node). k.facts.mzxid) (let one : m ≡ n = cc in one) in
+      grind (arith, nat_tests)
+
+  fresh-from-by : (path : List ℕ) (above : Option (List ℕ)) → parent_of path ≡ above → is_listed_by z (option_and_then (stat_at t) above) ≡ true → is_written_by z (stat_at t path) ≡ true → IsFreshPath z t path
+  fresh-from-by path None is listed written = absurd cc
+  fresh-from-by path (Some dir) is listed written = record {
+    dir = dir;
+    above = is;
+    fresh = record {
+      parent = listed-node dir (at_path t.nodes dir) refl listed;
+      node = λ n there. written-node (at_path t.nodes path) n there written;
+    };
+  }
+
+  fresh-from : (path : List ℕ) → is_fresh t z path ≡ true → IsFreshPath z t path
+  fresh-from path is =
+      let both = both-true (is_listed_by z (stat_above t path)) (is_written_by z (stat_at t path)) is in
+      fresh-from-by path (parent_of path) refl both.0 both.1
+
+  written-by : (path : List ℕ) (o : Option Node) → at_path t.nodes path ≡ o → ((n : Node) → at_path t.nodes path ≡ Some n → n.facts.mzxid ≤ z) → is_written_by z (option_map (stat_of t.nodes) o) ≡ true
+  written-by path None there old = refl
+  written-by path (Some n) there old = let before : n.facts.mzxid ≤ z = old n there in grind (arith, nat_tests)
+
+  listed-by : (n : Node) → n.facts.pzxid ≤ z → nat_le n.facts.pzxid z ≡ true
+  listed-by n before = grind (arith, nat_tests)
+
+  fresh-to : (path : List ℕ) → IsFreshPath z t path → is_fresh t z path ≡ true
+  fresh-to path fresh =
+      and-true (is_listed_by z (stat_above t path)) (is_written_by z (stat_at t path))
+      (ap (λ o. is_listed_by z (option_and_then (stat_at t) o)) fresh.above
+      ∙ ap (λ o. is_listed_by z (option_map (stat_of t.nodes) o)) fresh.fresh.parent.1
+      ∙ listed-by fresh.fresh.parent.0 fresh.fresh.parent.2)
+      (written-by path (at_path t.nodes path) refl fresh.fresh.node)
+
+pub test-says-fresh : TestSaysFresh
+test-says-fresh t z path = (fresh-from t z path, fresh-to t z path)
+
+-- ## the last change
+
+past : (a z : ℕ) → nat_le a z ≡ false → z < a
+past a z is = grind (arith, nat_tests)
+
+-- the later of two numbers is after z if one of them is
+later-both : (a b z : ℕ) (x y : Bool) → nat_le a z ≡ x → nat_le b z ≡ y → (x && y) ≡ false → z < max a b
+later-both a b z true true first second is = absurd cc
+later-both a b z true false first second is = let less : z < b = past b z second in omega arith
+later-both a b z false y first second is = let less : z < a = past a z first in omega arith
+
+later-one : (a z : ℕ) (x : Bool) → nat_le a z ≡ x → (x && true) ≡ false → z < max a 0
+later-one a z true first is = absurd cc
+later-one a z false first is = let less : z < a = past a z first in omega arith
+
+pub stale-is-later : StaleIsLater
+stale-is-later z parent None is = later-one parent.pzxid z (nat_le parent.pzxid z) refl is
+stale-is-later z parent (Some node) is = later-both parent.pzxid node.mzxid z (nat_le parent.pzxid z) (nat_le node.mzxid z) refl refl is
