@@ -1,6 +1,6 @@
 -- a site that was played: from what the rounds left to what a run shows
 use Rattle.std.proofs.Common.{◌≡◌, ◌∙◌, refl, sym, ap, subst, true, false, Bool, ℕ, zero, suc, List, [], ◌∷◌, length, map}
-use Rattle.std.specs.Prelude.{All, Option, is_some}
+use Rattle.std.specs.Prelude.{All, Option, Some, is_some}
 use Rattle.std.proofs.lemmas.List.Elements.{All-nil, All-cons, All-append, All-weaker}
 use Rattle.np_site.specs.Configuration.{Configuration}
 use Rattle.np_event.specs.declared.event.Outcome.{Outcome}
@@ -38,7 +38,10 @@ simulations-new c (suc n) =
 pub new_clouds : (c : Configuration) (clouds : List Simulation) → clouds ≡ simulations c (length c.pools) → All (λ (cloud : Simulation). BeginsNew (simulation_facts cloud)) clouds
 new_clouds c clouds are = subst (All IsNew) (sym are) (simulations-new c (length c.pools))
 
--- a driver that launched nothing reports its answers, and has no servers
+-- a driver that launched nothing has no servers, and reports its answers
+pub new_servers : {D : Type 0} (facts : D → DriverFacts) (ds : List D) → All (λ (d : D). BeginsNew (facts d)) ds → All (λ (d : D). (facts d).servers ≡ Some []) ds
+new_servers facts ds all = All-weaker (λ d. BeginsNew (facts d)) (λ d. (facts d).servers ≡ Some []) (λ d b. b.servers) ds all
+
 pub new_empty : {D : Type 0} (facts : D → DriverFacts) (ds : List D) → All (λ (d : D). BeginsNew (facts d)) ds → All (λ (d : D). BeginsEmpty (facts d)) ds
 new_empty facts ds all = All-weaker (λ d. BeginsNew (facts d)) (λ d. BeginsEmpty (facts d)) (λ d b. record { answered = ap is_some b.answered; servers = b.servers }) ds all
 

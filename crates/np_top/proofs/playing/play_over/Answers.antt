@@ -5,19 +5,18 @@ use Rattle.np_answers.specs.Drive.{driving}
 use Rattle.np_driven.specs.Players.{WasAnswered}
 use Rattle.np_top.specs.Typed.{IsTyped}
 use Rattle.np_top.proofs.DrivenLines.{driven_lines}
-use Rattle.np_rounds.proofs.Hosted.{new_servers}
-use Rattle.np_top.proofs.Sites.{ended_so, new_empty}
+use Rattle.np_top.proofs.Sites.{ended_so, new_empty, new_servers}
 use Rattle.np_top.proofs.playing.play_over.Goals as goal
 
 pub returns-clause-lines : goal.returns-clause-lines
 returns-clause-lines g c =
     let ended = c.in_ok-ended.ended in
     driven_lines (WasAnswered (map (driving g.D.Driver.facts g.D.Driver.plan g.D.Driver.sound g.D.Driver.room) ended.drivers.items)) c.args.config c.soundness.ensures ended.board.journal
-    (c.in_ok-ended.ensures.driven (new_servers g.D.Driver.facts g.D.Driver.plan g.D.Driver.sound g.D.Driver.room c.args.drivers.items c.requires.new))
+    (c.in_ok-ended.ensures.driven (new_servers g.D.Driver.facts c.args.drivers.items c.requires.new))
     (subst (AllByRecursion (λ (e : Entry). IsTyped e.event)) c.journal.ensures c.numbers_are_within_their_types.ensures)
 
 pub returns-clause-driven : goal.returns-clause-driven
-returns-clause-driven g c = c.in_ok-ended.ensures.driven (new_servers g.D.Driver.facts g.D.Driver.plan g.D.Driver.sound g.D.Driver.room c.args.drivers.items c.requires.new)
+returns-clause-driven g c = c.in_ok-ended.ensures.driven (new_servers g.D.Driver.facts c.args.drivers.items c.requires.new)
 
 pub returns-clause-carried : goal.returns-clause-carried
 returns-clause-carried g c = c.in_ok-ended.ensures.carried (new_empty g.D.Driver.facts c.args.drivers.items c.requires.new)
