@@ -128,15 +128,15 @@ fn are_equal<A: Look, B: Look>(one: &A, other: &B) -> bool
 
 /// Whether the board's machine answers as a walk of its rows does.
 pub fn answers_as_a_walk_does(board: &Board) -> bool {
-    board.soundness();
     let machine = board.machine();
+    machine.soundness();
     are_equal(machine, &Scan::over(machine.rows()))
 }
 
 /// Whether the board's machine answers as a walk of its tree does.
 pub fn answers_as_its_tree_does(board: &Board) -> bool {
-    board.soundness();
     let machine = board.machine();
+    machine.soundness();
     let tree = TreeRows::new(machine.rows().config(), board.tree());
     are_equal(machine, &Scan::over(&tree))
 }
