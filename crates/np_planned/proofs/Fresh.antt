@@ -47,7 +47,8 @@ use Rattle.np_laws.specs.Parts.{IsLive, IsQueued}
 use Rattle.np_laws.proofs.Runs.{invariant-Runs}
 use Rattle.np_planned.specs.Agree.{Agree}
 use Rattle.np_planned.specs.Commits.{FreshCommits}
-use Rattle.np_planned.specs.Spots.{is_planned, listed, of_node, of_nodes, of_reason, of_request, of_role, path_at, spots_of}
+use Rattle.np_useful.specs.Planned.{is_planned}
+use Rattle.np_planned.specs.Spots.{listed, of_node, of_nodes, of_reason, of_request, of_role, path_at, spots_of}
 use Rattle.np_planned.specs.declared.spot.Spot.{Spot}
 use Rattle.np_planned.proofs.Asked.{asked, decline-true, noded}
 use Rattle.np_planned.proofs.Known.{IsMaker, live-first, live-queued, maker-is, node-known, node-live, pool-known, request-known, request-live, session-known, spent-there}

@@ -6,7 +6,8 @@ use Rattle.np_event.specs.declared.event.Event.{Event}
 use Rattle.np_machine.specs.State.{State}
 use Rattle.np_machine.specs.Step.{judge}
 use Rattle.np_machine.specs.Tables.{node_in, node_queue, registered, request_in, request_queue, session_of}
-use Rattle.np_planned.specs.Spots.{is_planned, spots_of}
+use Rattle.np_useful.specs.Planned.{is_planned}
+use Rattle.np_planned.specs.Spots.{spots_of}
 use Rattle.np_planned.specs.declared.spot.Spot.{Spot}
 use Rattle.np_planned.specs.declared.spot.Spot.TheVariants as spot
 

@@ -10,7 +10,8 @@ use Rattle.np_machine.specs.History.{Runs}
 use Rattle.np_machine.specs.State.{State}
 use Rattle.np_machine.specs.Step.{judge}
 use Rattle.np_layout.specs.Carried.{IsStored}
-use Rattle.np_planned.specs.Spots.{is_planned, paths_at, spots_of}
+use Rattle.np_useful.specs.Planned.{is_planned}
+use Rattle.np_planned.specs.Spots.{paths_at, spots_of}
 
 -- an event that was accepted in the state of a tree is accepted in the state of a later tree, which a run leads to, if the
 -- event's spots are there as they were

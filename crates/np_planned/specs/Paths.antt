@@ -11,7 +11,8 @@ use Rattle.np_machine.specs.State.{State}
 use Rattle.np_machine.specs.Step.{judge}
 use Rattle.np_places.specs.Place.{IsGood}
 use Rattle.np_layout.specs.Carried.{IsStored}
-use Rattle.np_planned.specs.Spots.{is_planned, paths_at, place_of, spots_of}
+use Rattle.np_useful.specs.Planned.{is_planned}
+use Rattle.np_planned.specs.Spots.{paths_at, place_of, spots_of}
 use Rattle.np_planned.specs.Stale.{StaleHasParent}
 use Rattle.np_planned.specs.declared.spot.Spot.{Spot}
 

@@ -1,5 +1,5 @@
 -- the planned events, and their spots: what of the tree the judgement of each reads
-use Rattle.std.specs.Prelude.{ℕ, Bool, true, false, List, [], ◌∷◌, ◌++◌, codes, map, Option, Some, None}
+use Rattle.std.specs.Prelude.{ℕ, List, [], ◌∷◌, ◌++◌, codes, map, Option, Some, None}
 use Rattle.std.specs.Option.{option_map_or}
 use Rattle.np_text.specs.declared.id.NodeId.{NodeId}
 use Rattle.np_text.specs.declared.id.RequestId.{RequestId}
@@ -43,16 +43,6 @@ abbrev pub paths_at : List Spot → List (List ℕ)
 paths_at spots = map path_at spots
 
 -- ## the spots of an event
-
--- a launcher's events that can be planned (own)
-abbrev pub is_planned : Event → Bool
-is_planned (ev.Start session n) = true
-is_planned (ev.UnlockNode session n) = true
-is_planned (ev.UnlockRequest session r) = true
-is_planned (ev.Decline session r why) = true
-is_planned (ev.TakeReady session r n) = true
-is_planned (ev.Fulfil session r) = true
-is_planned _ = false
 
 -- a request's record, and then its lock
 abbrev pub of_request : RequestId → List Spot

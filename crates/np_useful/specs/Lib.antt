@@ -9,4 +9,5 @@ pub mod Reaper
 pub mod Useful
 pub mod Settled
 pub mod Driven
+pub mod Planned
 pub mod Examples
