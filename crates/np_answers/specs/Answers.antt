@@ -108,3 +108,24 @@ answers c journal (ask.Act role) t = answers_act c journal role t
 answers c journal (ask.Do event) t = answers_do c journal event t
 answers c journal (ask.Due p) t = answers_due c journal p t
 answers c journal (ask.Sweep p n x) t = answers_sweep c journal p n x t
+
+-- ## with events that nobody chose just now
+
+-- which events may be recorded for a role beside those that are useful now (own)
+abbrev pub Also : Type 1
+Also = Configuration → List Entry → Role → Event → Type 0
+
+-- no other events (own)
+abbrev pub nothing_else : Also
+nothing_else c journal role e = ⊥
+
+-- as above, but a turn of a role may also have recorded one of those (own)
+abbrev pub answers_also : Also → Configuration → List Entry → Ask → Turn → Type 0
+answers_also also c journal (ask.Act role) (turn.Did e) = (IsUseful c (after c journal) role e.event ⊎ also c journal role e.event) × IsReplied c journal e
+answers_also also c journal (ask.Act role) (turn.DueNode n x) = ⊥
+answers_also also c journal (ask.Act role) turn.Swept = ⊥
+answers_also also c journal (ask.Act role) turn.Idle = answers_act c journal role turn.Idle
+answers_also also c journal (ask.Act role) turn.Full = answers_act c journal role turn.Full
+answers_also also c journal (ask.Do event) t = answers_do c journal event t
+answers_also also c journal (ask.Due p) t = answers_due c journal p t
+answers_also also c journal (ask.Sweep p n x) t = answers_sweep c journal p n x t
