@@ -2,15 +2,9 @@
 use Rattle.std.proofs.Common.{◌≡◌, ◌∙◌, ◌⊎◌, inl, inr, ℕ, Bool, true, false, Option, Some, None, refl, sym, ap}
 use Rattle.std.specs.Prelude.{◌||◌, find, is_none}
 use Rattle.std.proofs.lemmas.Bool.{or_parts}
-use Rattle.np_text.specs.declared.id.JobId.{JobId}
-use Rattle.np_text.specs.declared.id.RequesterId.{RequesterId}
-use Rattle.np_record.specs.declared.record.JobRecord.{JobRecord}
-use Rattle.np_site.specs.Configuration.{Configuration}
+use Rattle.np_keys.specs.Prelude.{Configuration, JobId, JobRecord, RequesterId, State, first_full, is_new}
 use Rattle.np_lists.proofs.FoundLemmas.{find-passes}
 use Rattle.np_groups.specs.Groups.{ids_in}
-use Rattle.np_machine.specs.Kinds.{is_new}
-use Rattle.np_machine.specs.Semaphore.{first_full}
-use Rattle.np_machine.specs.State.{State}
 use Rattle.np_look.specs.Jobs.{is_job_to_begin, is_supplied, job_to_begin, may_begin}
 use Rattle.np_active.specs.Active.{ActiveOf, AreActive, is_job_in, is_prompt, prompt_group, prompt_ones, waiting_group, waiting_ones}
 use Rattle.np_active.specs.Begin.{IsBest, comes_first, may_begin_of}

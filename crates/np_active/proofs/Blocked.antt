@@ -7,13 +7,8 @@ use Rattle.std.specs.Option.{option_map_or}
 use Rattle.std.proofs.lemmas.Bool.{or_parts}
 use Rattle.std.proofs.lemmas.Bool.Decides.{nat_tests}
 use Rattle.std.proofs.lemmas.Slice.Eq.{slice_eq-Decides}
-use Rattle.np_text.specs.declared.id.JobId.{JobId}
-use Rattle.np_text.specs.declared.id.SemId.{SemId}
-use Rattle.np_site.specs.Configuration.{Configuration}
-use Rattle.np_site.specs.declared.row.Job.{Job}
+use Rattle.np_keys.specs.Prelude.{Configuration, Job, JobId, SemId, State, has_handle}
 use Rattle.np_machine.specs.Semaphore.{first_full, is_full}
-use Rattle.np_machine.specs.State.{State}
-use Rattle.np_machine.specs.Tables.{has_handle}
 use Rattle.np_laws.proofs.Ids.{same_semaphore}
 use Rattle.np_look.specs.Jobs.{is_supplied, may_begin}
 use Rattle.np_active.specs.Begin.{is_free, may_begin_of}

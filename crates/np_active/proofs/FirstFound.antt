@@ -3,15 +3,11 @@ use Rattle.std.proofs.Common.{◌≡◌, ◌∙◌, ◌⊎◌, inl, inr, ℕ, Bo
 use Rattle.std.specs.Prelude.{find, slice_get}
 use Rattle.std.specs.List.{list_any}
 use Rattle.std.specs.Option.{option_map_or}
-use Rattle.np_text.specs.declared.id.JobId.{JobId}
-use Rattle.np_record.specs.declared.record.JobRecord.{JobRecord}
-use Rattle.np_site.specs.Configuration.{Configuration}
-use Rattle.np_lists.specs.Rising.{Rises}
+use Rattle.np_keys.specs.Prelude.{Configuration, JobId, JobRecord, Rises, State}
 use Rattle.np_groups.specs.declared.groups.Group.{Group}
 use Rattle.np_groups.specs.Groups.{ids_in}
 use Rattle.np_groups.proofs.Ids.{ids-has, ids-rise, same-itself}
 use Rattle.np_keys.specs.Keys.{is_job_before, same_job, job_one_way, job_some_way, job_equal}
-use Rattle.np_machine.specs.State.{State}
 use Rattle.np_look.specs.Readers.{jobs_from}
 use Rattle.np_active.specs.Active.{ActiveOf, AreActive, JobKind, is_job_in, job_group}
 use Rattle.np_active.specs.Begin.{IsBest, at_line, comes_first, first_of_line, is_free}

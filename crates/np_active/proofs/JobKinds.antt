@@ -5,17 +5,8 @@ use Rattle.std.specs.Option.{option_map_or}
 use Rattle.std.specs.List.{list_any}
 use Rattle.std.proofs.lemmas.Bool.{and_parts}
 use Rattle.std.proofs.lemmas.Bool.Decides.{nat_tests}
-use Rattle.np_text.specs.declared.id.JobId.{JobId}
-use Rattle.np_text.specs.declared.id.RequesterId.{RequesterId}
-use Rattle.np_record.specs.declared.record.JobRecord.{JobRecord}
-use Rattle.np_site.specs.Configuration.{Configuration}
-use Rattle.np_site.specs.declared.row.Job.{Job}
+use Rattle.np_keys.specs.Prelude.{Configuration, Job, JobId, JobRecord, RequesterId, State, has_handle, is_asked, is_failed, is_new, is_over, is_supplied, is_using, request_state_of, was_given}
 use Rattle.np_groups.specs.Groups.{same_group}
-use Rattle.np_machine.specs.Kinds.{is_asked, is_failed, is_new, is_over, is_using}
-use Rattle.np_machine.specs.State.{State}
-use Rattle.np_machine.specs.Tables.{has_handle}
-use Rattle.np_look.specs.Jobs.{is_supplied, was_given}
-use Rattle.np_look.specs.Readers.{request_state_of}
 use Rattle.np_active.specs.Active.{JobKind, ending_ones, is_job_in, is_prompt, job_group, lacking_ones, prompt_ones, releasing_ones, supplied_ones, waiting_ones}
 use Rattle.np_active.specs.Lines.{line_of}
 use Rattle.np_active.specs.Members.{job_kinds_of, kinds_of_job}

@@ -4,33 +4,17 @@ use Rattle.std.specs.Prelude.{◌==◌, ◌||◌, ◌&&◌, slice_get, slice_set
 use Rattle.std.specs.List.{list_any}
 use Rattle.std.specs.Option.{option_map_or}
 use Rattle.std.proofs.lemmas.Bool.Decides.{nat_tests}
-use Rattle.np_text.specs.declared.id.JobId.{JobId}
-use Rattle.np_text.specs.declared.id.NodeId.{NodeId}
-use Rattle.np_text.specs.declared.id.RequestId.{RequestId}
-use Rattle.np_text.specs.declared.id.RequesterId.{RequesterId}
-use Rattle.np_text.specs.declared.id.SemId.{SemId}
-use Rattle.np_text.specs.declared.word.Phase.{Phase}
+use Rattle.np_keys.specs.Prelude.{Changes, Configuration, IsPlanned, IsReached, Job, JobId, JobRecord, JobsChange, NodeId, Phase, RequestId, RequesterId, SemId, State, changed, grown, has_handle, jobs_changed, request_state_of, with_mark}
 use Rattle.np_text.specs.declared.word.Phase.TheVariants as phase
 use Rattle.np_text.specs.declared.word.RequestState.{RequestState}
-use Rattle.np_record.specs.declared.record.JobRecord.{JobRecord}
-use Rattle.np_site.specs.Configuration.{Configuration}
-use Rattle.np_site.specs.declared.row.Job.{Job}
 use Rattle.np_lists.proofs.ChangeLemmas.{kept-change_at}
 use Rattle.np_machine.specs.Kinds.{is_asked, is_failed, is_fulfilled, is_new, is_over, is_using}
-use Rattle.np_machine.specs.Node.{with_mark}
-use Rattle.np_machine.specs.State.{State}
-use Rattle.np_machine.specs.Tables.{has_handle}
-use Rattle.np_changes.specs.Changes.{changed, grown, jobs_changed}
-use Rattle.np_changes.specs.Planned.{IsPlanned, IsReached}
-use Rattle.np_changes.specs.declared.changes.Changes.{Changes}
-use Rattle.np_changes.specs.declared.changes.JobsChange.{JobsChange}
 use Rattle.np_changes.specs.declared.changes.JobsChange.TheVariants as jobs
 use Rattle.np_laws.specs.Parts.{Invariant, JobIn}
 use Rattle.np_laws.proofs.JobsLater.{jobs-grown}
 use Rattle.np_laws.proofs.Lookups.{request_in-below}
 use Rattle.np_laws.proofs.Runs.{invariant-Runs}
 use Rattle.np_look.specs.Jobs.{is_own, is_supplied, was_given}
-use Rattle.np_look.specs.Readers.{request_state_of}
 use Rattle.np_active.specs.Active.{JobKind, asker_of, ending_ones, is_job_in, is_job_of, is_prompt, lacking_ones, prompt_ones, releasing_ones, supplied_ones, waiting_ones}
 use Rattle.np_active.specs.Lines.{line_of}
 use Rattle.np_active.specs.Members.{job_put, job_releasing, job_taking}

@@ -3,14 +3,7 @@ use Rattle.std.proofs.Common.{◌≡◌, ◌∙◌, ◌⊎◌, inl, inr, ℕ, Bo
 use Rattle.std.specs.Prelude.{◌==◌, ◌&&◌, is_none}
 use Rattle.std.proofs.lemmas.Bool.{and_parts, not-true}
 use Rattle.std.proofs.lemmas.Bool.Decides.{nat_tests}
-use Rattle.np_text.specs.declared.id.JobId.{JobId}
-use Rattle.np_text.specs.declared.id.RequesterId.{RequesterId}
-use Rattle.np_record.specs.declared.record.JobRecord.{JobRecord}
-use Rattle.np_site.specs.Configuration.{Configuration}
-use Rattle.np_site.specs.declared.row.Job.{Job}
-use Rattle.np_machine.specs.Semaphore.{first_full}
-use Rattle.np_machine.specs.State.{State}
-use Rattle.np_look.specs.Jobs.{is_supplied}
+use Rattle.np_keys.specs.Prelude.{Configuration, Job, JobId, JobRecord, RequesterId, State, first_full, is_supplied}
 use Rattle.np_active.specs.Begin.{is_free}
 use Rattle.np_active.specs.Lines.{line_of}
 use Rattle.np_active.proofs.Blocked.{IsInLine, free-is}

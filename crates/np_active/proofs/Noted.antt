@@ -2,20 +2,10 @@
 use Rattle.std.proofs.Common.{◌≡◌, ◌∙◌, Bool, true, false, cond, List, [], ◌∷◌, length, Option, None, Some, refl, sym, ap, subst}
 use Rattle.std.specs.Prelude.{fold}
 use Rattle.std.specs.Option.{option_map_or}
-use Rattle.np_text.specs.declared.id.JobId.{JobId}
-use Rattle.np_text.specs.declared.id.SessionId.{SessionId}
-use Rattle.np_site.specs.Configuration.{Configuration}
+use Rattle.np_keys.specs.Prelude.{Changes, Configuration, Growth, IsPlanned, IsReached, JobId, SessionFacts, SessionId, SessionsChange, State, changed, role_of, session_of}
 use Rattle.np_groups.specs.declared.groups.Member.{Member}
 use Rattle.np_keys.specs.Keys.{is_job_before, same_job, job_transitive, job_one_way, job_some_way, job_equal, is_session_before, same_session, session_transitive, session_one_way, session_some_way, session_equal}
-use Rattle.np_machine.specs.State.{State}
-use Rattle.np_machine.specs.Tables.{role_of, session_of}
-use Rattle.np_machine.specs.declared.state.SessionFacts.{SessionFacts}
-use Rattle.np_changes.specs.Changes.{changed}
-use Rattle.np_changes.specs.Planned.{IsPlanned, IsReached}
-use Rattle.np_changes.specs.declared.changes.Changes.{Changes}
-use Rattle.np_changes.specs.declared.changes.Growth.{Growth}
 use Rattle.np_changes.specs.declared.changes.Growth.TheVariants as grow
-use Rattle.np_changes.specs.declared.changes.SessionsChange.{SessionsChange}
 use Rattle.np_changes.specs.declared.changes.SessionsChange.TheVariants as sessions
 use Rattle.np_active.specs.Active.{ActiveOf, AreActive, AreGroups, AreJobGroups, AreSessionGroups, JobKind, SessionKind, asker_of, is_job_in, is_kind_in, is_of_kind, job_group, session_group}
 use Rattle.np_active.specs.Members.{job_put, job_releasing, job_taking, kinds_of, kinds_of_job, with_changed_session, with_if_any, with_job, with_named, with_new_session, with_session}

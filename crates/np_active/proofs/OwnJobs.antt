@@ -3,12 +3,7 @@ use Rattle.std.proofs.Common.{◌≡◌, ◌∙◌, ℕ, Bool, true, false, List
 use Rattle.std.specs.Prelude.{◌==◌, ◌&&◌, slice_get}
 use Rattle.std.specs.Option.{option_map_or}
 use Rattle.std.proofs.lemmas.Bool.{and_parts}
-use Rattle.np_text.specs.declared.id.JobId.{JobId}
-use Rattle.np_text.specs.declared.id.RequesterId.{RequesterId}
-use Rattle.np_record.specs.declared.record.JobRecord.{JobRecord}
-use Rattle.np_site.specs.Configuration.{Configuration}
-use Rattle.np_site.specs.declared.row.Job.{Job}
-use Rattle.np_machine.specs.State.{State}
+use Rattle.np_keys.specs.Prelude.{Configuration, Job, JobId, JobRecord, RequesterId, State}
 use Rattle.np_look.specs.Jobs.{is_own}
 use Rattle.np_active.specs.Lines.{line_of}
 

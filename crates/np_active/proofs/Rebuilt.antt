@@ -4,12 +4,8 @@ use Rattle.std.specs.Prelude.{◌==◌, ◌&&◌, nat_lt, slice_get}
 use Rattle.std.specs.Option.{option_map_or}
 use Rattle.std.proofs.lemmas.Bool.Decides.{nat_tests}
 use Rattle.std.proofs.lemmas.Option.{slice_get_past}
-use Rattle.np_text.specs.declared.id.JobId.{JobId}
-use Rattle.np_text.specs.declared.id.SessionId.{SessionId}
-use Rattle.np_record.specs.declared.record.JobRecord.{JobRecord}
-use Rattle.np_site.specs.Configuration.{Configuration}
+use Rattle.np_keys.specs.Prelude.{Configuration, JobId, JobRecord, SessionId, State}
 use Rattle.np_groups.specs.declared.groups.Member.{Member}
-use Rattle.np_machine.specs.State.{State}
 use Rattle.np_active.specs.Active.{AreJobGroups, AreSessionGroups, JobKind, SessionKind, is_job_in, is_job_of, is_kind_in, is_of_kind}
 use Rattle.np_active.specs.Members.{with_job, with_session}
 use Rattle.np_active.proofs.Noted.{AreJobsBy, AreSessionsBy, job-put, jobs-by, session-put, sessions-by}

@@ -4,16 +4,10 @@ use Rattle.std.specs.Prelude.{◌&&◌, ◌||◌, ◌==◌}
 use Rattle.std.specs.Option.{option_map, option_map_or}
 use Rattle.std.specs.List.{list_any}
 use Rattle.std.proofs.lemmas.Bool.Decides.{nat_tests}
-use Rattle.np_text.specs.declared.id.PoolId.{PoolId}
-use Rattle.np_text.specs.declared.id.RequesterId.{RequesterId}
-use Rattle.np_text.specs.declared.id.Role.{Role}
+use Rattle.np_keys.specs.Prelude.{PoolId, RequesterId, Role, SessionFacts, SessionId, State, role_of, session_of}
 use Rattle.np_text.specs.declared.id.Role.TheVariants.{Launcher, Janitor, Requester, Reaper}
-use Rattle.np_text.specs.declared.id.SessionId.{SessionId}
 use Rattle.np_groups.specs.Groups.{same_group}
 use Rattle.np_machine.specs.Laws.{same_role}
-use Rattle.np_machine.specs.State.{State}
-use Rattle.np_machine.specs.Tables.{role_of, session_of}
-use Rattle.np_machine.specs.declared.state.SessionFacts.{SessionFacts}
 use Rattle.np_active.specs.Active.{SessionKind, is_kind_in, is_of_kind, live_group, live_ones, mute_group, mute_ones, role_group, session_group, speakers}
 use Rattle.np_active.specs.Members.{kinds_of}
 

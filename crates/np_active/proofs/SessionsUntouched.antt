@@ -3,22 +3,12 @@ use Rattle.std.proofs.Common.{◌≡◌, ◌≢◌, ◌∙◌, ℕ, zero, suc, �
 use Rattle.std.specs.Prelude.{◌==◌, slice_get}
 use Rattle.std.specs.Option.{option_map}
 use Rattle.std.proofs.lemmas.Bool.Decides.{nat_tests}
-use Rattle.np_text.specs.declared.id.Role.{Role}
-use Rattle.np_text.specs.declared.id.SessionId.{SessionId}
-use Rattle.np_site.specs.Configuration.{Configuration}
+use Rattle.np_keys.specs.Prelude.{Changes, Configuration, Growth, Maker, Role, SessionFacts, SessionId, SessionsChange, State, ended, muted, role_of, session_of}
 use Rattle.np_lists.proofs.ChangeLemmas.{kept-change_at, length-change_at, slice_get-change_at_other}
 use Rattle.np_keys.specs.Keys.{same_session}
 use Rattle.np_machine.specs.Request.{registers}
-use Rattle.np_machine.specs.Session.{ended, muted}
-use Rattle.np_machine.specs.State.{State}
-use Rattle.np_machine.specs.Tables.{role_of, session_of}
-use Rattle.np_machine.specs.declared.state.SessionFacts.{SessionFacts}
 use Rattle.np_changes.specs.Changes.{changed, grown, sessions_changed}
-use Rattle.np_changes.specs.declared.changes.Changes.{Changes}
-use Rattle.np_changes.specs.declared.changes.Growth.{Growth}
 use Rattle.np_changes.specs.declared.changes.Growth.TheVariants as grow
-use Rattle.np_changes.specs.declared.changes.Maker.{Maker}
-use Rattle.np_changes.specs.declared.changes.SessionsChange.{SessionsChange}
 use Rattle.np_changes.specs.declared.changes.SessionsChange.TheVariants as sessions
 use Rattle.np_laws.proofs.After.{made-look}
 use Rattle.np_laws.proofs.Sessions.{facts-grown, facts_in}

@@ -4,8 +4,7 @@ use Rattle.std.specs.Prelude.{◌==◌, ◌||◌, find, map, nat_lt, slice_get}
 use Rattle.std.specs.List.{AllByRecursion}
 use Rattle.std.specs.Option.{option_map, option_map_or}
 use Rattle.std.proofs.lemmas.Bool.Decides.{nat_tests}
-use Rattle.np_text.specs.declared.id.JobId.{JobId}
-use Rattle.np_lists.specs.Rising.{NonePass, Rises}
+use Rattle.np_keys.specs.Prelude.{JobId, NonePass, Rises}
 use Rattle.np_lists.proofs.Each.{all-weaker}
 use Rattle.np_lists.proofs.FilterLemmas.{filter-nothing}
 use Rattle.np_lists.proofs.FoundLemmas.{find-passes}

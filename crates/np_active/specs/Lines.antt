@@ -3,10 +3,7 @@
 use Rattle.std.specs.Prelude.{ℕ, List, Bool, false, ◌==◌, if◌then◌else◌, slice_get}
 use Rattle.std.specs.Cmp.Lexicographic.{pointwise}
 use Rattle.std.specs.Option.{option_map_or}
-use Rattle.np_text.specs.declared.id.JobId.{JobId}
-use Rattle.np_text.specs.declared.id.SemId.{SemId}
-use Rattle.np_site.specs.Configuration.{Configuration}
-use Rattle.np_site.specs.declared.row.Job.{Job}
+use Rattle.np_keys.specs.Prelude.{Configuration, Job, JobId, SemId}
 
 -- the same semaphores, in the same order
 abbrev pub same_semaphores : List SemId → List SemId → Bool

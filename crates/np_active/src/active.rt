@@ -1,11 +1,8 @@
 //! The groups of a state's jobs and of its sessions, kept as events change it.
 
 ghost use Rattle.std.specs.Prelude.{◌≡◌, IfOk, OnOk};
-ghost use Rattle.np_site.specs.Configuration.{Configuration};
+ghost use Rattle.np_keys.specs.Prelude.{Configuration, IsPlanned, IsReached, State, changed};
 ghost use Rattle.np_machine.specs.Semaphore.{has_live_session};
-ghost use Rattle.np_machine.specs.State.{State};
-ghost use Rattle.np_changes.specs.Changes.{changed};
-ghost use Rattle.np_changes.specs.Planned.{IsPlanned, IsReached};
 ghost use Rattle.np_look.specs.Jobs.{job_to_finish, job_to_release, job_to_take};
 ghost use Rattle.np_look.specs.Readers.{current_of, first_mute};
 ghost use Rattle.np_active.specs.Active.{AreActive, HasRoom, asker_of};

@@ -4,11 +4,8 @@ use Rattle.std.specs.Prelude.{◌==◌, if◌then◌else◌, slice_get, slice_se
 use Rattle.std.specs.Option.{option_map, option_map_or}
 use Rattle.std.proofs.lemmas.Option.{slice_get-get_or}
 use Rattle.std.proofs.lemmas.Bool.Decides.{nat_tests}
-use Rattle.np_amount.specs.declared.amount.Amount.{Amount}
-use Rattle.np_amount.specs.Amounts.{minus, nothing, plus}
+use Rattle.np_keys.specs.Prelude.{Amount, TenantId, change_at, minus, nothing, plus}
 use Rattle.np_amount.proofs.Sums.{same_amount, nothing-plus, plus-comm}
-use Rattle.np_text.specs.declared.id.TenantId.{TenantId}
-use Rattle.np_lists.specs.Change.{change_at}
 use Rattle.np_lists.proofs.ChangeLemmas.{change_at-set, length-change_at, slice_get-change_at}
 use Rattle.np_awaited.specs.declared.awaited.Rest.{Rest}
 use Rattle.np_awaited.specs.Awaited.{amount_at, with_rest, without_rest, exchange}

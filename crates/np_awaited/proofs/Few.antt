@@ -5,17 +5,9 @@ use Rattle.std.specs.Option.{option_map_or}
 use Rattle.std.specs.List.{AllByRecursion}
 use Rattle.std.proofs.Common.{length-drop}
 use Rattle.std.proofs.lemmas.List.{length-take}
-use Rattle.np_amount.specs.declared.amount.Amount.{Amount}
-use Rattle.np_amount.specs.Amounts.{nothing, total}
-use Rattle.np_text.specs.declared.id.LabelId.{LabelId}
-use Rattle.np_text.specs.declared.id.PoolId.{PoolId}
-use Rattle.np_text.specs.declared.id.TenantId.{TenantId}
-use Rattle.np_site.specs.Configuration.{Configuration}
+use Rattle.np_keys.specs.Prelude.{Amount, Configuration, LabelId, PoolId, RequestEntry, State, TenantId, is_pending_of, nothing, rest_of_request, total}
 use Rattle.np_lists.proofs.Each.{all-weaker}
 use Rattle.np_machine.specs.Count.{amount_of, amount_of_all}
-use Rattle.np_machine.specs.Entries.{RequestEntry}
-use Rattle.np_machine.specs.State.{State}
-use Rattle.np_machine.specs.Tenants.{is_pending_of, rest_of_request}
 use Rattle.np_fits.specs.Fits.{AmountFits, Fits, IsFew, RequestFits}
 use Rattle.np_awaited.specs.Awaited.{IsSmall}
 

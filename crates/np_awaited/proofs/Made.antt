@@ -3,16 +3,7 @@ use Rattle.std.proofs.Common.{◌≡◌, ◌∙◌, ◌≤◌, ◌<◌, ◌+◌,
 use Rattle.std.specs.Prelude.{filter, replicate, slice_get}
 use Rattle.std.specs.Option.{option_map, option_map_or}
 use Rattle.std.proofs.lemmas.List.{length-replicate, take_all}
-use Rattle.np_amount.specs.declared.amount.Amount.{Amount}
-use Rattle.np_amount.specs.Amounts.{nothing, plus, total}
-use Rattle.np_text.specs.declared.id.TenantId.{TenantId}
-use Rattle.np_site.specs.Configuration.{Configuration}
-use Rattle.np_site.specs.Sound.{IsSound}
-use Rattle.np_machine.specs.Entries.{RequestEntry}
-use Rattle.np_machine.specs.State.{State}
-use Rattle.np_machine.specs.Tenants.{is_pending_of, rest_of_request}
-use Rattle.np_fits.specs.Fits.{Fits}
-use Rattle.np_look.specs.Views.{request_view}
+use Rattle.np_keys.specs.Prelude.{Amount, Configuration, Fits, IsSound, RequestEntry, State, TenantId, is_pending_of, nothing, plus, request_view, rest_of_request, total}
 use Rattle.np_look.specs.declared.asked.RequestView.{RequestView}
 use Rattle.np_look.proofs.Used.{total_seen}
 use Rattle.np_awaited.specs.declared.awaited.Rest.{Rest}

@@ -3,20 +3,8 @@ use Rattle.std.proofs.Common.{◌≡◌, ◌∙◌, ◌<◌, true, false, List, 
 use Rattle.std.specs.Prelude.{ℕ}
 use Rattle.std.specs.Option.{option_map_or}
 use Rattle.std.proofs.lemmas.Bool.Decides.{nat_tests}
-use Rattle.np_amount.specs.declared.amount.Amount.{Amount}
-use Rattle.np_amount.specs.Amounts.{minus, nothing, plus, total}
-use Rattle.np_text.specs.declared.id.RequestId.{RequestId}
-use Rattle.np_text.specs.declared.id.TenantId.{TenantId}
-use Rattle.np_record.specs.declared.record.RequestRecord.{RequestRecord}
-use Rattle.np_site.specs.Configuration.{Configuration}
-use Rattle.np_site.specs.Sound.{IsSound}
-use Rattle.np_lists.specs.Rising.{Rises}
-use Rattle.np_machine.specs.Entries.{RequestEntry}
-use Rattle.np_machine.specs.Order.{is_id_before}
-use Rattle.np_machine.specs.State.{State}
-use Rattle.np_machine.specs.Tables.{request_in, same_request}
+use Rattle.np_keys.specs.Prelude.{Amount, Configuration, Fits, IsSound, RequestEntry, RequestId, RequestRecord, Rises, State, TenantId, is_id_before, minus, nothing, plus, request_in, same_request, total}
 use Rattle.np_keys.specs.Keys.{request_equal, request_one_way}
-use Rattle.np_fits.specs.Fits.{Fits}
 use Rattle.np_awaited.specs.Awaited.{AreAwaited, AreSmall, IsSmall, awaited_by, exchange, rest_at}
 use Rattle.np_awaited.proofs.Rows.{moved-total, same-kept}
 use Rattle.np_awaited.proofs.Changed.{amount-exchange, length-exchange, share}

@@ -1,17 +1,7 @@
 -- the amounts after the changes of an event
 use Rattle.std.proofs.Common.{◌≡◌, ◌≤◌, ◌∙◌, List, [], ◌∷◌, length, Option, refl, sym, subst, arith}
 use Rattle.std.proofs.Math.Bool.{or-false}
-use Rattle.np_text.specs.declared.id.RequestId.{RequestId}
-use Rattle.np_amount.specs.declared.amount.Amount.{Amount}
-use Rattle.np_site.specs.Configuration.{Configuration}
-use Rattle.np_site.specs.Sound.{IsSound}
-use Rattle.np_lists.specs.Rising.{Rises}
-use Rattle.np_machine.specs.Order.{is_id_before}
-use Rattle.np_machine.specs.State.{State}
-use Rattle.np_machine.specs.Tables.{same_request}
-use Rattle.np_changes.specs.Changes.{changed}
-use Rattle.np_changes.specs.Planned.{IsPlanned, IsReached}
-use Rattle.np_changes.specs.declared.changes.Changes.{Changes}
+use Rattle.np_keys.specs.Prelude.{Amount, Changes, Configuration, IsPlanned, IsReached, IsSound, RequestId, Rises, State, changed, is_id_before, same_request}
 use Rattle.np_laws.proofs.Numbered.{numbered}
 use Rattle.np_laws.proofs.Runs.{invariant-Runs}
 use Rattle.np_awaited.specs.declared.awaited.Rest.{Rest}

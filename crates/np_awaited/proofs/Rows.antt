@@ -3,10 +3,7 @@ use Rattle.std.proofs.Common.{◌≡◌, ◌∙◌, Bool, true, false, cond, Lis
 use Rattle.std.specs.Prelude.{find}
 use Rattle.std.specs.Option.{option_map, option_map_or}
 use Rattle.std.specs.List.{AllByRecursion}
-use Rattle.np_lists.specs.Change.{remove_first}
-use Rattle.np_lists.specs.Rising.{Rises}
-use Rattle.np_amount.specs.declared.amount.Amount.{Amount}
-use Rattle.np_amount.specs.Amounts.{minus, nothing, plus, total}
+use Rattle.np_keys.specs.Prelude.{Amount, Rises, minus, nothing, plus, remove_first, total}
 use Rattle.np_amount.proofs.Sums.{plus-assoc, plus-comm, nothing-plus, minus-plus}
 use Rattle.np_laws.proofs.Rising.{rises-remove_first}
 

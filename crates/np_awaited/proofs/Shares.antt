@@ -3,22 +3,10 @@ use Rattle.std.proofs.Common.{◌≡◌, ◌∙◌, ◌≤◌, ◌<◌, suc, Boo
 use Rattle.std.specs.Prelude.{ℕ, ◌&&◌, if◌then◌else◌, filter, slice_get, option_and_then}
 use Rattle.std.specs.Option.{option_map, option_map_or}
 use Rattle.std.proofs.lemmas.Option.{slice_get_within, get_or_from_slice_get}
-use Rattle.np_amount.specs.declared.amount.Amount.{Amount}
-use Rattle.np_amount.specs.Amounts.{nothing, plus, total}
+use Rattle.np_keys.specs.Prelude.{Amount, Configuration, Job, JobId, RequestEntry, RequestId, RequestRecord, State, TenantId, is_pending, is_pending_of, is_tenant, nothing, plus, request_in, rest_of_request, tenant_of_request, total}
 use Rattle.np_amount.proofs.Sums.{nothing-plus}
-use Rattle.np_text.specs.declared.id.JobId.{JobId}
-use Rattle.np_text.specs.declared.id.RequestId.{RequestId}
-use Rattle.np_text.specs.declared.id.TenantId.{TenantId}
-use Rattle.np_record.specs.declared.record.RequestRecord.{RequestRecord}
-use Rattle.np_site.specs.Configuration.{Configuration}
-use Rattle.np_site.specs.declared.row.Job.{Job}
 use Rattle.np_site.specs.Sound.{IsJob, IsSound, StandsByOwner}
 use Rattle.np_lists.proofs.EachAfterLemmas.{EachAfter-at}
-use Rattle.np_machine.specs.Entries.{RequestEntry}
-use Rattle.np_machine.specs.Kinds.{is_pending}
-use Rattle.np_machine.specs.State.{State}
-use Rattle.np_machine.specs.Tables.{request_in}
-use Rattle.np_machine.specs.Tenants.{is_pending_of, is_tenant, rest_of_request, tenant_of_request}
 use Rattle.np_look.specs.Readers.{rest_of}
 use Rattle.np_awaited.specs.declared.awaited.Rest.{Rest}
 use Rattle.np_awaited.specs.Awaited.{rest_at, rest_by}

@@ -1,16 +1,8 @@
 -- after a change too what the pending requests of a tenant wait for is an amount that code can keep
 use Rattle.std.proofs.Common.{◌≡◌, ◌≤◌, ◌*◌, ℕ, suc, length, sym, ap, subst, ◌∙◌, arith}
-use Rattle.np_text.specs.declared.id.TenantId.{TenantId}
-use Rattle.np_site.specs.Configuration.{Configuration}
-use Rattle.np_site.specs.Sound.{IsSound}
+use Rattle.np_keys.specs.Prelude.{Changes, Configuration, IsPlanned, IsReached, IsSound, RequestEntry, State, TenantId, changed, is_pending_of, rest_of_request}
 use Rattle.np_lists.proofs.Each.{all-weaker}
-use Rattle.np_machine.specs.Entries.{RequestEntry}
-use Rattle.np_machine.specs.State.{State}
 use Rattle.np_machine.specs.Step.{next}
-use Rattle.np_machine.specs.Tenants.{is_pending_of, rest_of_request}
-use Rattle.np_changes.specs.declared.changes.Changes.{Changes}
-use Rattle.np_changes.specs.Changes.{changed}
-use Rattle.np_changes.specs.Planned.{IsPlanned, IsReached}
 use Rattle.np_changes.proofs.PlanLaws.{plan-next}
 use Rattle.np_fits.specs.Fits.{IsFew, IsFitSite}
 use Rattle.np_fits.proofs.Shape.{RequestShape, Shaped}

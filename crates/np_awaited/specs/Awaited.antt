@@ -2,17 +2,7 @@
 use Rattle.std.specs.Prelude.{◌≡◌, ◌<◌, ◌≤◌, ◌^◌, false, suc, List, length, if◌then◌else◌, Option, None, filter, map, option_and_then, slice_get}
 use Rattle.std.specs.Option.{option_map, option_map_or}
 use Rattle.std.specs.List.{list_any}
-use Rattle.np_amount.specs.declared.amount.Amount.{Amount}
-use Rattle.np_amount.specs.Amounts.{minus, nothing, plus, total}
-use Rattle.np_text.specs.declared.id.RequestId.{RequestId}
-use Rattle.np_text.specs.declared.id.TenantId.{TenantId}
-use Rattle.np_record.specs.declared.record.RequestRecord.{RequestRecord}
-use Rattle.np_site.specs.Configuration.{Configuration}
-use Rattle.np_lists.specs.Change.{change_at}
-use Rattle.np_machine.specs.Kinds.{is_pending}
-use Rattle.np_machine.specs.State.{State}
-use Rattle.np_machine.specs.Tables.{request_in, same_request}
-use Rattle.np_machine.specs.Tenants.{is_pending_of, rest_of_request, tenant_of_request}
+use Rattle.np_keys.specs.Prelude.{Amount, Configuration, RequestId, RequestRecord, State, TenantId, change_at, is_pending, is_pending_of, minus, nothing, plus, request_in, rest_of_request, same_request, tenant_of_request, total}
 use Rattle.np_look.specs.Readers.{rest_of}
 use Rattle.np_awaited.specs.declared.awaited.Rest.{Rest}
 

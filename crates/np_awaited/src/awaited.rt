@@ -1,14 +1,7 @@
 //! The amounts by tenant, and what one request adds to them.
 
 ghost use Rattle.std.specs.Prelude.{◌≡◌, ◌≤◌, IfOk, length, replicate, suc};
-ghost use Rattle.np_amount.specs.declared.amount.Amount.{Amount};
-ghost use Rattle.np_amount.specs.Amounts.{minus, nothing, plus};
-ghost use Rattle.np_site.specs.Configuration.{Configuration};
-ghost use Rattle.np_machine.specs.State.{State};
-ghost use Rattle.np_changes.specs.Changes.{changed};
-ghost use Rattle.np_changes.specs.declared.changes.Changes.{Changes};
-ghost use Rattle.np_changes.specs.Planned.{IsPlanned, IsReached};
-ghost use Rattle.np_fits.specs.Fits.{Fits};
+ghost use Rattle.np_keys.specs.Prelude.{Amount, Changes, Configuration, Fits, IsPlanned, IsReached, State, changed, minus, nothing, plus};
 ghost use Rattle.np_awaited.specs.Awaited.{AreAwaited, AreSmall, IsSmall, OthersStay, amount_at, exchange, first_rest, rest_at, rest_by, with_rest, without_rest};
 
 use np_amount::Amount;

@@ -1,11 +1,8 @@
 -- an id is the same as itself, and not the same as one that comes before it
 use Rattle.std.proofs.Common.{◌≡◌, true, false, arith}
 use Rattle.std.proofs.lemmas.Bool.Decides.{nat_tests}
-use Rattle.np_text.specs.declared.id.NodeId.{NodeId}
-use Rattle.np_text.specs.declared.id.RequestId.{RequestId}
+use Rattle.np_keys.specs.Prelude.{NodeId, RequestId, is_id_before, same_request}
 use Rattle.np_keys.specs.Keys.{same_node, is_node_before}
-use Rattle.np_machine.specs.Order.{is_id_before}
-use Rattle.np_machine.specs.Tables.{same_request}
 
 pub same_node-self : (a : NodeId) → same_node a a ≡ true
 same_node-self a = grind (arith, nat_tests)

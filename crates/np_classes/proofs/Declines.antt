@@ -3,9 +3,7 @@ use Rattle.std.proofs.Common.{◌≡◌, ◌<◌, ◌≤◌, ◌+◌, ◌*◌, �
 use Rattle.std.specs.Prelude.{if◌then◌else◌}
 use Rattle.std.proofs.Math.Nat.{pow-le-pow_right}
 use Rattle.std.proofs.lemmas.Bool.{cases_lt}
-use Rattle.np_text.specs.declared.id.PoolId.{PoolId}
-use Rattle.np_record.specs.declared.record.Declined.{Declined}
-use Rattle.np_machine.specs.Order.{is_declined_by}
+use Rattle.np_keys.specs.Prelude.{Declined, PoolId, is_declined_by}
 use Rattle.np_classes.specs.Classes.{decline_digits, decline_set}
 
 abbrev pub digit : Bool → ℕ

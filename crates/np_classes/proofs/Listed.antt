@@ -3,41 +3,21 @@ use Rattle.std.proofs.Common.{◌≡◌, ◌≤◌, ◌∙◌, ◌⊎◌, inl, i
 use Rattle.std.specs.Prelude.{◌==◌, ◌||◌, map, filter, find}
 use Rattle.std.specs.Option.{option_map_or}
 use Rattle.std.specs.List.{list_any}
-use Rattle.np_text.specs.declared.id.NodeId.{NodeId}
-use Rattle.np_text.specs.declared.id.RequestId.{RequestId}
-use Rattle.np_text.specs.declared.id.SessionId.{SessionId}
-use Rattle.np_text.specs.declared.word.Phase.{Phase}
+use Rattle.np_keys.specs.Prelude.{Asked, Changes, Configuration, Growth, IsPlanned, IsReached, NodeEntry, NodeId, NodeRecord, NodesChange, Phase, RequestEdit, RequestEntry, RequestId, RequestRecord, RequestsChange, SessionId, SessionsChange, State, is_asked, is_new, is_queued, is_request, node_in, queued_nodes, queued_requests, request_in, same_request, tenant_of_request}
 use Rattle.np_text.specs.declared.word.Phase.TheVariants as phase
-use Rattle.np_record.specs.declared.record.NodeRecord.{NodeRecord}
-use Rattle.np_record.specs.declared.record.RequestRecord.{RequestRecord}
-use Rattle.np_site.specs.Configuration.{Configuration}
 use Rattle.np_keys.specs.Keys.{same_node, request_equal}
-use Rattle.np_machine.specs.Entries.{NodeEntry, RequestEntry}
-use Rattle.np_machine.specs.Kinds.{is_asked, is_new}
-use Rattle.np_machine.specs.State.{State}
-use Rattle.np_machine.specs.Tenants.{tenant_of_request}
-use Rattle.np_machine.specs.Tables.{is_queued, is_request, node_in, request_in, same_request}
-use Rattle.np_changes.specs.declared.changes.Changes.{Changes}
-use Rattle.np_changes.specs.declared.changes.Growth.{Growth}
 use Rattle.np_changes.specs.declared.changes.Growth.TheVariants as grow
-use Rattle.np_changes.specs.declared.asked.Asked.{Asked}
-use Rattle.np_changes.specs.declared.changes.RequestEdit.{RequestEdit}
 use Rattle.np_changes.specs.declared.changes.RequestEdit.TheVariants as edit
-use Rattle.np_changes.specs.declared.changes.RequestsChange.{RequestsChange}
 use Rattle.np_changes.specs.declared.changes.RequestsChange.TheVariants as requests
-use Rattle.np_changes.specs.declared.changes.NodesChange.{NodesChange}
 use Rattle.np_changes.specs.declared.changes.NodesChange.TheVariants as nodes
-use Rattle.np_changes.specs.declared.changes.SessionsChange.{SessionsChange}
 use Rattle.np_changes.specs.declared.changes.SessionsChange.TheVariants as sessions
-use Rattle.np_changes.specs.Planned.{IsReached, IsPlanned}
 use Rattle.np_changes.specs.Premises.{Premises, NodesPremise, RequestsPremise, EditPremise, GoesWithdrawn, EmptiesRequest, IsTaken, IsMade}
 use Rattle.np_changes.specs.Plan.{new_node}
 use Rattle.np_changes.proofs.PremisesOf.{premises}
-use Rattle.np_look.specs.Readers.{queued_nodes, queued_requests}
 use Rattle.np_laws.specs.Parts.{AllocationsListed, Invariant, IsAsking, JobIn, JobsStand}
 use Rattle.np_laws.proofs.Runs.{invariant-Runs}
 use Rattle.np_classes.specs.Touched.{grows_node, changes_node, ends_at_node, unclaims_node, touches_node, grows_request, changes_request, touches_request, grows_request_queue, leaves_request_queue, ends_at_request, touches_request_queue}
-use Rattle.np_classes.specs.Placed.{members_of, placed_node, placed_queue, placed_request}
+use Rattle.np_classes.specs.Placed.{past_node, past_queue, past_request}
 use Rattle.np_classes.specs.Prepared.{IsPrepared, TouchedOf, ended, grown_nodes, changed_nodes, unclaimed_nodes, touched_nodes, grown_requests, changed_requests, touched_requests, grown_queues, left_queues, touched_queues}
 
 -- ## lists
@@ -323,22 +303,22 @@ node-listed c s ch queued reached planned all n is =
     (unclaimed-listed c s ch n holds.owned.allocations holds.jobs given ch.requests refl)
     is
 
--- what is listed, with the members of groups that it is, is prepared
+-- what is listed, with the groups that it is in, is prepared
 pub is-prepared : (c : Configuration) (s : State) (ch : Changes) (nodes : List NodeId) (queued : List RequestId) (touched : TouchedOf) → IsReached c s → IsPlanned c s ch
     → ((session : SessionId) → ch.sessions ≡ sessions.End session → nodes ≡ queued_nodes session s)
     → ((session : SessionId) → ch.sessions ≡ sessions.End session → queued ≡ queued_requests session s)
     → touched.nodes ≡ touched_nodes ch nodes s → touched.requests ≡ touched_requests ch s → touched.queues ≡ touched_queues ch queued
-    → touched.node_members ≡ members_of (map (placed_node c s) touched.nodes) → touched.request_members ≡ members_of (map (placed_request s) touched.requests)
-    → touched.queue_members ≡ members_of (map (placed_queue s) touched.queues)
+    → touched.past_nodes ≡ map (past_node c s) touched.nodes → touched.past_requests ≡ map (past_request s) touched.requests
+    → touched.past_queues ≡ map (past_queue s) touched.queues
     → IsPrepared c s ch touched
-is-prepared c s ch nodes queued touched reached planned all_nodes all_requests nodes_are requests_are queues_are node_members request_members queue_members =
+is-prepared c s ch nodes queued touched reached planned all_nodes all_requests nodes_are requests_are queues_are past_nodes past_requests past_queues =
     let given : Premises c s ch = subst (Premises c s) (sym planned.plan) (premises c s planned.event planned.accepted) in
     record {
       nodes = λ n is. ap (listed n) nodes_are ∙ node-listed c s ch nodes reached planned all_nodes n is;
       requests = λ r is. ap (listed_request r) requests_are ∙ request-listed s ch r is;
       queues = λ r is. ap (listed_request r) queues_are ∙ queue-listed s ch queued all_requests r is;
-      node_members = node_members;
-      request_members = request_members;
-      queue_members = queue_members;
+      past_nodes = past_nodes;
+      past_requests = past_requests;
+      past_queues = past_queues;
       once = subst (λ (rs : List RequestId). length rs ≤ 1) (sym requests_are) (touched-once c s ch given);
     }

@@ -1,34 +1,23 @@
 -- the members of groups after a change, from those before it
-use Rattle.std.proofs.Common.{◌≡◌, ◌∙◌, Bool, true, false, List, [], ◌∷◌, Option, None, Some, refl, sym, ap, subst}
-use Rattle.std.specs.Prelude.{◌&&◌, ◌||◌, not, map, is_none}
+use Rattle.std.proofs.Common.{◌≡◌, ◌∙◌, Bool, true, false, cond, List, Option, None, Some, refl, sym, ap, subst}
+use Rattle.std.specs.Prelude.{◌||◌, map, is_none}
 use Rattle.std.specs.Option.{option_map_or}
 use Rattle.std.specs.List.{list_any}
-use Rattle.np_text.specs.declared.id.NodeId.{NodeId}
-use Rattle.np_text.specs.declared.id.RequestId.{RequestId}
-use Rattle.np_text.specs.declared.id.SessionId.{SessionId}
-use Rattle.np_record.specs.declared.record.NodeRecord.{NodeRecord}
-use Rattle.np_record.specs.declared.record.RequestRecord.{RequestRecord}
-use Rattle.np_site.specs.Configuration.{Configuration}
+use Rattle.std.proofs.lemmas.Simd.{map-map}
+use Rattle.np_keys.specs.Prelude.{Changes, Configuration, IsNumbered, IsReached, NodeId, NodeRecord, RequestId, RequestRecord, Rises, SessionId, State, changed, is_id_before, is_unclaimed}
 use Rattle.np_groups.specs.declared.groups.Group.{Group}
 use Rattle.np_groups.specs.declared.groups.Member.{Member}
 use Rattle.np_groups.specs.Groups.{has_member, is_member_before}
-use Rattle.np_lists.specs.Rising.{Rises}
+use Rattle.np_groups.specs.Moves.{Placed, is_among, shift, with_all_moved}
+use Rattle.np_groups.proofs.MoveLemmas.{all-moved, each-moved, rises-all_moved}
 use Rattle.np_keys.specs.Keys.{is_node_before, same_node, node_transitive, node_one_way, node_some_way, node_equal, request_transitive, request_one_way, request_some_way, request_equal}
-use Rattle.np_machine.specs.Order.{is_id_before}
-use Rattle.np_machine.specs.State.{State}
 use Rattle.np_machine.specs.Tables.{holder, node_in, node_holder, request_holder, request_in, same_request}
-use Rattle.np_changes.specs.Changes.{changed}
-use Rattle.np_changes.specs.Planned.{IsReached}
-use Rattle.np_changes.specs.declared.changes.Changes.{Changes}
-use Rattle.np_look.specs.Readers.{is_unclaimed}
-use Rattle.np_laws.specs.Parts.{IsNumbered}
 use Rattle.np_laws.proofs.Numbered.{numbered}
 use Rattle.np_laws.proofs.Runs.{invariant-Runs}
-use Rattle.np_classes.specs.Classes.{ClassesOf, AreClasses, AreNodeGroups, AreRequestGroups, is_among, node_groups, node_is_in, request_groups, request_is_in}
-use Rattle.np_classes.specs.Placed.{Placed, groups_of_node, groups_of_request, members_of, no_node_groups, no_request_groups, placed_node, placed_queue, placed_request, unheld_group_of_request, with_all, without_all}
+use Rattle.np_classes.specs.Classes.{ClassesOf, AreClasses, AreNodeGroups, AreRequestGroups, node_groups, node_is_in, request_groups, request_is_in}
+use Rattle.np_classes.specs.Placed.{groups_of_node, groups_of_request, no_node_groups, no_request_groups, node_before, past_node, past_queue, past_request, queue_before, request_before, unheld_groups}
 use Rattle.np_classes.specs.Prepared.{IsPrepared, TouchedOf}
 use Rattle.np_classes.specs.Touched.{touches_node, touches_request, touches_request_queue}
-use Rattle.np_classes.proofs.Folds.{moved, rises-with_all, rises-without_all, shifted}
 use Rattle.np_classes.proofs.Untouched.{node-untouched, queue-untouched, request-untouched, unclaimed-untouched}
 use Rattle.np_classes.proofs.Unheld.{noted-both, others-stay, unheld-alone, unheld-among}
 
@@ -62,21 +51,24 @@ record-stays c s ch touched prepared r out = request-untouched c ch s r (untouch
 
 module _ (c : Configuration) (s : State) (ch : Changes) (touched : TouchedOf) (reached : IsReached c s) (prepared : IsPrepared c s ch touched) (later : IsNumbered (changed c ch s)) where
   nodes-noted : (ms new : List (Member NodeId)) → AreNodeGroups c s ms
-      → new ≡ with_all is_node_before same_node (map (placed_node c (changed c ch s)) touched.nodes) (without_all same_node touched.node_members ms)
+      → new ≡ with_all_moved is_node_before same_node (groups_of_node c (changed c ch s)) (map node_before touched.past_nodes) ms
       → AreNodeGroups c (changed c ch s) new
-  nodes-noted ms new old is = rw (is, prepared.node_members) (record {
-    rises =
-        rises-with_all is_node_before same_node node_transitive node_one_way node_some_way node_equal
-        (map (placed_node c (changed c ch s)) touched.nodes) (without_all same_node (members_of (map (placed_node c s) touched.nodes)) ms)
-        (rises-without_all is_node_before same_node node_transitive node_one_way node_some_way node_equal (members_of (map (placed_node c s) touched.nodes)) ms old.rises);
-    each = λ g n.
-        moved is_node_before same_node node_transitive node_one_way node_some_way node_equal g n
-        (groups_of_node c s) (groups_of_node c (changed c ch s)) touched.nodes ms old.rises
-        (old.each g n ∙ sym (node-among c s g n))
-        (λ out. ap (is_among g) (stays n out))
-        ∙ node-among c (changed c ch s) g n;
-    once = later.nodes_rise;
-  })
+  nodes-noted ms new old is = subst (AreNodeGroups c (changed c ch s))
+      (sym (is
+      ∙ ap (λ (placed : List (Placed NodeId)). with_all_moved is_node_before same_node (groups_of_node c (changed c ch s)) placed ms)
+      (ap (map node_before) prepared.past_nodes ∙ map-map node_before (past_node c s) touched.nodes)))
+      (record {
+        rises =
+            rises-all_moved is_node_before same_node node_transitive node_one_way node_some_way node_equal
+            (groups_of_node c (changed c ch s)) (map (λ n. record { id = n; groups = groups_of_node c s n }) touched.nodes) ms old.rises;
+        each = λ g n.
+            each-moved is_node_before same_node node_transitive node_one_way node_some_way node_equal g n
+            (groups_of_node c s) (groups_of_node c (changed c ch s)) touched.nodes ms old.rises
+            (old.each g n ∙ sym (node-among c s g n))
+            (λ out. ap (is_among g) (stays n out))
+            ∙ node-among c (changed c ch s) g n;
+        once = later.nodes_rise;
+      })
     where
       stays : (n : NodeId) → list_any (λ m. same_node m n) touched.nodes ≡ false → groups_of_node c (changed c ch s) n ≡ groups_of_node c s n
       stays n out =
@@ -107,34 +99,33 @@ module _ (c : Configuration) (s : State) (ch : Changes) (touched : TouchedOf) (r
 
   -- the members after the requests' records are noted, and after their queues are
   abbrev noted_records : List (Member RequestId) → List (Member RequestId)
-  noted_records ms = with_all is_id_before same_request (map (placed_request (changed c ch s)) touched.requests) (without_all same_request (members_of (map (placed_request s) touched.requests)) ms)
+  noted_records ms = with_all_moved is_id_before same_request (groups_of_request (changed c ch s)) (map (λ r. record { id = r; groups = groups_of_request s r }) touched.requests) ms
 
   abbrev noted_queues : List (Member RequestId) → List (Member RequestId)
-  noted_queues ms = with_all is_id_before same_request (map (placed_queue (changed c ch s)) touched.queues) (without_all same_request (members_of (map (placed_queue s) touched.queues)) ms)
+  noted_queues ms = with_all_moved is_id_before same_request (unheld_groups (changed c ch s)) (map (λ r. record { id = r; groups = unheld_groups s r }) touched.queues) ms
 
   rises-records : (ms : List (Member RequestId)) → Rises (is_member_before is_id_before) ms → Rises (is_member_before is_id_before) (noted_records ms)
   rises-records ms rises =
-      rises-with_all is_id_before same_request request_transitive request_one_way request_some_way request_equal
-      (map (placed_request (changed c ch s)) touched.requests) (without_all same_request (members_of (map (placed_request s) touched.requests)) ms)
-      (rises-without_all is_id_before same_request request_transitive request_one_way request_some_way request_equal (members_of (map (placed_request s) touched.requests)) ms rises)
+      rises-all_moved is_id_before same_request request_transitive request_one_way request_some_way request_equal
+      (groups_of_request (changed c ch s)) (map (λ r. record { id = r; groups = groups_of_request s r }) touched.requests) ms rises
 
   rises-queues : (ms : List (Member RequestId)) → Rises (is_member_before is_id_before) ms → Rises (is_member_before is_id_before) (noted_queues ms)
   rises-queues ms rises =
-      rises-with_all is_id_before same_request request_transitive request_one_way request_some_way request_equal
-      (map (placed_queue (changed c ch s)) touched.queues) (without_all same_request (members_of (map (placed_queue s) touched.queues)) ms)
-      (rises-without_all is_id_before same_request request_transitive request_one_way request_some_way request_equal (members_of (map (placed_queue s) touched.queues)) ms rises)
+      rises-all_moved is_id_before same_request request_transitive request_one_way request_some_way request_equal
+      (unheld_groups (changed c ch s)) (map (λ r. record { id = r; groups = unheld_groups s r }) touched.queues) ms rises
 
   -- the groups that a request is in after both
   each-noted : (ms : List (Member RequestId)) → AreRequestGroups s ms → (g : Group) (r : RequestId) → has_member same_request g r (noted_queues (noted_records ms)) ≡ request_is_in (changed c ch s) g r
   each-noted ms old g r =
-      shifted is_id_before same_request request_transitive request_one_way request_some_way request_equal g r
-      (λ x. unheld_group_of_request s x ∷ []) (λ x. unheld_group_of_request (changed c ch s) x ∷ []) touched.queues (noted_records ms) (rises-records ms old.rises)
-      ∙ ap (λ (b : Bool). (is_queue && is_among g (unheld_group_of_request (changed c ch s) r ∷ [])) || (not (is_queue && is_among g (unheld_group_of_request s r ∷ [])) && b))
-      (shifted is_id_before same_request request_transitive request_one_way request_some_way request_equal g r
+      all-moved is_id_before same_request request_transitive request_one_way request_some_way request_equal g r
+      (unheld_groups s) (unheld_groups (changed c ch s)) touched.queues (noted_records ms) (rises-records ms old.rises)
+      ∙ ap (λ (b : Bool). cond is_queue (shift (is_among g (unheld_groups s r)) (is_among g (unheld_groups (changed c ch s) r)) b) b)
+      (all-moved is_id_before same_request request_transitive request_one_way request_some_way request_equal g r
       (groups_of_request s) (groups_of_request (changed c ch s)) touched.requests ms old.rises
-      ∙ ap (λ (b : Bool). (is_record && is_among g (groups_of_request (changed c ch s) r)) || (not (is_record && is_among g (groups_of_request s r)) && b)) (old.each g r ∙ sym (request-among s g r)))
-      ∙ noted-both is_queue is_record (is_among g (unheld_group_of_request (changed c ch s) r ∷ [])) (is_among g (unheld_group_of_request s r ∷ []))
-      (is_among g (groups_of_request (changed c ch s) r)) (is_among g (groups_of_request s r))
+      ∙ ap (λ (b : Bool). cond is_record (shift (is_among g (groups_of_request s r)) (is_among g (groups_of_request (changed c ch s) r)) b) b) (old.each g r ∙ sym (request-among s g r)))
+      ∙ noted-both is_queue is_record (is_among g (unheld_groups s r)) (is_among g (unheld_groups (changed c ch s) r))
+      (is_among g (groups_of_request s r)) (is_among g (groups_of_request (changed c ch s) r))
+      (unheld-among g (request_in r s.requests) (is_none (request_holder r s.requests)))
       (unheld-among g (request_in r (changed c ch s).requests) (is_none (request_holder r (changed c ch s).requests)))
       (unheld-alone g (request_in r s.requests) (request_in r (changed c ch s).requests) (is_none (request_holder r s.requests)) (is_none (request_holder r (changed c ch s).requests)))
       (λ out calm. ap (is_among g) (stays-all r out calm))
@@ -149,33 +140,39 @@ module _ (c : Configuration) (s : State) (ch : Changes) (touched : TouchedOf) (r
       is_record = list_any (λ x. same_request x r) touched.requests
 
   requests-noted : (ms new : List (Member RequestId)) → AreRequestGroups s ms
-      → new ≡ with_all is_id_before same_request (map (placed_queue (changed c ch s)) touched.queues) (without_all same_request touched.queue_members
-      (with_all is_id_before same_request (map (placed_request (changed c ch s)) touched.requests) (without_all same_request touched.request_members ms)))
+      → new ≡ with_all_moved is_id_before same_request (unheld_groups (changed c ch s)) (map queue_before touched.past_queues)
+      (with_all_moved is_id_before same_request (groups_of_request (changed c ch s)) (map request_before touched.past_requests) ms)
       → AreRequestGroups (changed c ch s) new
-  requests-noted ms new old is = rw (is, prepared.queue_members, prepared.request_members) (record {
-    rises = rises-queues (noted_records ms) (rises-records ms old.rises);
-    each = each-noted ms old;
-    once = later.requests_rise;
-  })
+  requests-noted ms new old is = subst (AreRequestGroups (changed c ch s))
+      (sym (is
+      ∙ ap (λ (placed : List (Placed RequestId)). with_all_moved is_id_before same_request (unheld_groups (changed c ch s)) (map queue_before touched.past_queues)
+      (with_all_moved is_id_before same_request (groups_of_request (changed c ch s)) placed ms))
+      (ap (map request_before) prepared.past_requests ∙ map-map request_before (past_request s) touched.requests)
+      ∙ ap (λ (placed : List (Placed RequestId)). with_all_moved is_id_before same_request (unheld_groups (changed c ch s)) placed (noted_records ms))
+      (ap (map queue_before) prepared.past_queues ∙ map-map queue_before (past_queue s) touched.queues)))
+      (record {
+        rises = rises-queues (noted_records ms) (rises-records ms old.rises);
+        each = each-noted ms old;
+        once = later.requests_rise;
+      })
 
--- members taken out and ids put in, as two calls do it with lists that are passed
-pub moved-by : {K : Type 0} (before same : K → K → Bool) (place : K → Placed K) (old was between new gone listed_gone : List (Member K)) (ids listed : List K)
-    → (given_gone : List (Member K)) (given : List K)
-    → was ≡ old → gone ≡ listed_gone → ids ≡ listed → given_gone ≡ gone → given ≡ ids
-    → between ≡ without_all same given_gone was → new ≡ with_all before same (map place given) between
-    → new ≡ with_all before same (map place listed) (without_all same listed_gone old)
-moved-by before same place old was between new gone listed_gone ids listed given_gone given was_is gone_is ids_is passed_gone passed taken put =
+-- ids moved, as a call does it with a list that is passed
+pub moved-by : {K P : Type 0} (before same : K → K → Bool) (now : K → List (Option Group)) (place : P → Placed K) (old was new : List (Member K)) (listed moved given : List P)
+    → was ≡ old → moved ≡ listed → given ≡ moved
+    → new ≡ with_all_moved before same now (map place given) was
+    → new ≡ with_all_moved before same now (map place listed) old
+moved-by before same now place old was new listed moved given was_is moved_is passed put =
     put
-    ∙ ap (λ (ms : List (Member _)). with_all before same (map place given) ms) (taken ∙ ap (λ (ms : List (Member _)). without_all same given_gone ms) was_is ∙ ap (λ (ms : List (Member _)). without_all same ms old) (passed_gone ∙ gone_is))
-    ∙ ap (λ (some : List _). with_all before same (map place some) (without_all same listed_gone old)) (passed ∙ ids_is)
+    ∙ ap (λ (ms : List (Member _)). with_all_moved before same now (map place given) ms) was_is
+    ∙ ap (λ (some : List _). with_all_moved before same now (map place some) old) (passed ∙ moved_is)
 
 -- ## all of it
 
--- what is touched leaves its groups, and is put where it is after the change
+-- what is touched moves to where it is after the change
 pub classes-noted : (c site : Configuration) (s t : State) (ch : Changes) (touched : TouchedOf) (old new : ClassesOf)
-    → new.nodes ≡ with_all is_node_before same_node (map (placed_node site t) touched.nodes) (without_all same_node touched.node_members old.nodes)
-    → new.requests ≡ with_all is_id_before same_request (map (placed_queue t) touched.queues) (without_all same_request touched.queue_members
-    (with_all is_id_before same_request (map (placed_request t) touched.requests) (without_all same_request touched.request_members old.requests)))
+    → new.nodes ≡ with_all_moved is_node_before same_node (groups_of_node site t) (map node_before touched.past_nodes) old.nodes
+    → new.requests ≡ with_all_moved is_id_before same_request (unheld_groups t) (map queue_before touched.past_queues)
+    (with_all_moved is_id_before same_request (groups_of_request t) (map request_before touched.past_requests) old.requests)
     → IsReached c s → IsPrepared c s ch touched → site ≡ c → t ≡ changed c ch s → AreClasses c s old → AreClasses c (changed c ch s) new
 classes-noted c site s t ch touched old new nodes requests reached prepared same_site later_is was =
     let later : IsNumbered (changed c ch s) = numbered c s ch (invariant-Runs c reached.journal s reached.runs).numbered in

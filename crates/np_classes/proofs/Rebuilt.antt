@@ -3,26 +3,16 @@ use Rattle.std.proofs.Common.{◌≡◌, ◌∙◌, ◌+◌, ℕ, Bool, true, fa
 use Rattle.std.specs.Prelude.{◌&&◌, ◌||◌, find, map, slice_get, is_none}
 use Rattle.std.specs.Option.{option_map, option_map_or}
 use Rattle.std.specs.List.{AllByRecursion, list_any}
-use Rattle.np_lists.specs.Rising.{Rises}
+use Rattle.np_keys.specs.Prelude.{Configuration, IsNumbered, IsReached, NodeEntry, NodeId, RequestEntry, RequestId, Rises, State, holder, is_id_before, is_unclaimed, node_view, request_view, same_request}
 use Rattle.np_groups.specs.declared.groups.Group.{Group}
 use Rattle.np_groups.specs.declared.groups.Member.{Member}
 use Rattle.np_groups.specs.Groups.{has_member}
-use Rattle.np_site.specs.Configuration.{Configuration}
-use Rattle.np_text.specs.declared.id.NodeId.{NodeId}
-use Rattle.np_text.specs.declared.id.RequestId.{RequestId}
 use Rattle.np_keys.specs.Keys.{is_node_before, same_node, node_transitive, node_one_way, node_some_way, node_equal, request_transitive, request_one_way, request_some_way, request_equal}
-use Rattle.np_machine.specs.Entries.{NodeEntry, RequestEntry}
-use Rattle.np_machine.specs.Order.{is_id_before}
-use Rattle.np_machine.specs.State.{State}
-use Rattle.np_machine.specs.Tables.{holder, same_request}
-use Rattle.np_changes.specs.Planned.{IsReached}
-use Rattle.np_laws.specs.Parts.{IsNumbered}
 use Rattle.np_laws.proofs.Runs.{invariant-Runs}
-use Rattle.np_look.specs.Readers.{is_unclaimed}
-use Rattle.np_look.specs.Views.{node_view, request_view}
 use Rattle.np_look.proofs.Walks.{take_there}
 use Rattle.np_classes.specs.Classes.{AreNodeGroups, AreRequestGroups, is_among, node_groups, node_is_in, request_groups, request_is_in}
-use Rattle.np_classes.specs.Placed.{Placed, placed_node_view, placed_request_view, with_all, with_groups}
+use Rattle.np_groups.specs.Moves.{Placed, with_groups}
+use Rattle.np_classes.specs.Placed.{placed_node_view, placed_request_view, with_all}
 use Rattle.np_classes.proofs.Folds.{is_placed, rises-with_all, with-all}
 
 or_false : (a : Bool) → (a || false) ≡ a
@@ -38,29 +28,29 @@ take-all [] = refl
 take-all {X} (x ∷ xs) = ap (λ (rest : List X). x ∷ rest) (take-all xs)
 
 module _ {K : Type 0} (before same : K → K → Bool) where
-  with_all-push : (placed : List (Placed K)) (p : Placed K) (ms : List (Member K)) → with_all before same (placed ++ p ∷ []) ms ≡ with_groups before same p.id p.groups (with_all before same placed ms)
+  with_all-push : (placed : List (Placed K)) (p : Placed K) (ms : List (Member K)) → with_all before same (placed ++ p ∷ []) ms ≡ with_groups before same p.id [] p.groups (with_all before same placed ms)
   with_all-push [] p ms = refl
-  with_all-push (q ∷ placed) p ms = with_all-push placed p (with_groups before same q.id q.groups ms)
+  with_all-push (q ∷ placed) p ms = with_all-push placed p (with_groups before same q.id [] q.groups ms)
 
   -- one row more, as it is seen
   module _ {E V : Type 0} (view : E → V) (placed : V → Placed K) (rows : List E) where
     abbrev pub made : ℕ → List (Member K)
     made at = with_all before same (map (λ e. placed (view e)) (take at rows)) []
 
-    made-next : (at : ℕ) (v : V) (o : Option E) → slice_get rows at ≡ o → option_map view o ≡ Some v → made (at + 1) ≡ with_groups before same (placed v).id (placed v).groups (made at)
+    made-next : (at : ℕ) (v : V) (o : Option E) → slice_get rows at ≡ o → option_map view o ≡ Some v → made (at + 1) ≡ with_groups before same (placed v).id [] (placed v).groups (made at)
     made-next at v None is seen = absurd cc
     made-next at v (Some e) is seen =
         let alike : view e ≡ v = cc in
         ap (λ (some : List E). with_all before same (map (λ e. placed (view e)) some) []) (take_there rows at e is)
         ∙ ap (λ (some : List (Placed K)). with_all before same some []) (map-push (λ e. placed (view e)) (take at rows) e)
         ∙ with_all-push (map (λ e. placed (view e)) (take at rows)) (placed (view e)) []
-        ∙ ap (λ (w : V). with_groups before same (placed w).id (placed w).groups (made at)) alike
+        ∙ ap (λ (w : V). with_groups before same (placed w).id [] (placed w).groups (made at)) alike
 
     -- the members so far, after the next row's are put in
     pub made-more : (at : ℕ) (v : V) (ms later : List (Member K)) → Some v ≡ option_map view (slice_get rows at) → ms ≡ made at
-        → later ≡ with_groups before same (placed v).id (placed v).groups ms → later ≡ made (at + 1)
+        → later ≡ with_groups before same (placed v).id [] (placed v).groups ms → later ≡ made (at + 1)
     made-more at v ms later seen so_far added =
-        added ∙ ap (with_groups before same (placed v).id (placed v).groups) so_far ∙ sym (made-next at v (slice_get rows at) refl (sym seen))
+        added ∙ ap (with_groups before same (placed v).id [] (placed v).groups) so_far ∙ sym (made-next at v (slice_get rows at) refl (sym seen))
 
     made-all : (at : ℕ) → at ≡ length rows → made at ≡ with_all before same (map (λ e. placed (view e)) rows) []
     made-all at all = ap (λ (some : List E). with_all before same (map (λ e. placed (view e)) some) []) (ap (λ (n : ℕ). take n rows) all ∙ take-all rows)

@@ -1,15 +1,13 @@
 -- the group of the pending requests that nobody holds, beside the other groups of a request
-use Rattle.std.proofs.Common.{◌≡◌, ◌∙◌, Bool, true, false, List, [], ◌∷◌, Option, None, Some, refl, sym, ap, subst}
-use Rattle.std.specs.Prelude.{◌&&◌, ◌||◌, not, if◌then◌else◌, is_none, is_some, option_and_then, slice_get}
+use Rattle.std.proofs.Common.{◌≡◌, ◌∙◌, Bool, true, false, cond, List, [], ◌∷◌, Option, None, Some, refl, sym, ap, subst}
+use Rattle.std.specs.Prelude.{◌&&◌, ◌||◌, if◌then◌else◌, is_none, is_some, option_and_then, slice_get}
 use Rattle.std.specs.Option.{option_map, option_map_or}
-use Rattle.np_text.specs.declared.id.PoolId.{PoolId}
-use Rattle.np_record.specs.declared.record.RequestRecord.{RequestRecord}
+use Rattle.np_keys.specs.Prelude.{PoolId, RequestRecord, is_failed, is_pending, is_requested, next_label}
 use Rattle.np_groups.specs.declared.groups.Group.{Group}
 use Rattle.np_groups.specs.Groups.{same_group}
+use Rattle.np_groups.specs.Moves.{is_among, shift}
 use Rattle.np_groups.proofs.Order.{group-equal}
-use Rattle.np_machine.specs.Kinds.{is_failed, is_pending, is_requested}
-use Rattle.np_machine.specs.Reasons.{next_label}
-use Rattle.np_classes.specs.Classes.{is_among, is_still_requested, decline_set, pending_group, unheld_pending_group, coming_group, spent_group, declined_group, next_label_group, pinned_label_group, pending_group_of, unheld_pending_group_of, coming_group_of, spent_group_of, declined_group_of, next_label_group_of, pinned_label_group_of, request_groups}
+use Rattle.np_classes.specs.Classes.{is_still_requested, decline_set, pending_group, unheld_pending_group, coming_group, spent_group, declined_group, next_label_group, pinned_label_group, pending_group_of, unheld_pending_group_of, coming_group_of, spent_group_of, declined_group_of, next_label_group_of, pinned_label_group_of, request_groups}
 use Rattle.np_classes.specs.Placed.{no_request_groups}
 
 -- ## tests
@@ -23,20 +21,26 @@ second-of true b x is = refl
 second-of false true x is = refl
 second-of false false x is = absurd cc
 
--- what is put where a queue is noted, after what is put where a record is
-pub noted-both : (q l after before new old : Bool) → (after ≡ true → new ≡ true) → (before ≡ true → new ≡ after)
+shift-own : (old new : Bool) → shift old new old ≡ new
+shift-own true true = refl
+shift-own true false = refl
+shift-own false true = refl
+shift-own false false = refl
+
+-- what is moved where a queue is noted, after what is moved where a record is
+pub noted-both : (q l before after old new : Bool) → (before ≡ true → old ≡ true) → (after ≡ true → new ≡ true) → (before ≡ true → new ≡ after)
     → (l ≡ false → q ≡ false → new ≡ old) → (l ≡ false → before ≡ false → after ≡ false → new ≡ old)
-    → ((q && after) || (not (q && before) && ((l && new) || (not (l && old) && old)))) ≡ new
-noted-both false true after before true old among alone stays others = refl
-noted-both false true after before false true among alone stays others = refl
-noted-both false true after before false false among alone stays others = refl
-noted-both false false after before new old among alone stays others = sym (stays refl refl)
-noted-both true l true before new old among alone stays others = sym (among refl)
-noted-both true l false true new old among alone stays others = sym (alone refl)
-noted-both true true false false true old among alone stays others = refl
-noted-both true true false false false true among alone stays others = refl
-noted-both true true false false false false among alone stays others = refl
-noted-both true false false false new old among alone stays others = sym (others refl refl refl)
+    → cond q (shift before after (cond l (shift old new old) old)) (cond l (shift old new old) old) ≡ new
+noted-both false true before after old new was among alone stays others = shift-own old new
+noted-both false false before after old new was among alone stays others = sym (stays refl refl)
+noted-both true true true true old new was among alone stays others = shift-own old new
+noted-both true true true false old new was among alone stays others = sym (alone refl)
+noted-both true true false true old new was among alone stays others = sym (among refl)
+noted-both true true false false old new was among alone stays others = shift-own old new
+noted-both true false true true old new was among alone stays others = was refl ∙ sym (among refl)
+noted-both true false true false old new was among alone stays others = sym (alone refl)
+noted-both true false false true old new was among alone stays others = sym (among refl)
+noted-both true false false false old new was among alone stays others = sym (others refl refl refl)
 
 -- ## the groups of another class
 

@@ -3,32 +3,16 @@ use Rattle.std.proofs.Common.{◌≡◌, ◌∙◌, sym, ℕ, List, refl, ap, Op
 use Rattle.std.specs.Prelude.{◌==◌, ◌||◌, is_none}
 use Rattle.std.specs.Option.{option_map, option_map_or}
 use Rattle.std.specs.List.{list_any}
-use Rattle.np_text.specs.declared.id.SessionId.{SessionId}
-use Rattle.np_text.specs.declared.id.NodeId.{NodeId}
-use Rattle.np_text.specs.declared.id.RequestId.{RequestId}
-use Rattle.np_text.specs.declared.id.TenantId.{TenantId}
-use Rattle.np_record.specs.declared.record.NodeRecord.{NodeRecord}
-use Rattle.np_record.specs.declared.record.RequestRecord.{RequestRecord}
-use Rattle.np_site.specs.Configuration.{Configuration}
-use Rattle.np_lists.specs.Change.{change_first}
+use Rattle.np_keys.specs.Prelude.{Changes, Configuration, Growth, Maker, NodeEntry, NodeId, NodeRecord, NodesChange, RequestEntry, RequestId, RequestRecord, RequestsChange, SessionId, SessionsChange, State, TenantId, change_first, is_unclaimed}
 use Rattle.np_lists.proofs.FilterLemmas.{none-list_any, filter-not_none}
-use Rattle.np_machine.specs.Entries.{RequestEntry, NodeEntry}
-use Rattle.np_machine.specs.State.{State}
 use Rattle.np_machine.specs.Tables.{is_queued, is_request, is_session, same_request, joined, left, request_in, request_queue, put_request_queue, node_in, node_queue, put_node_queue, freed}
 use Rattle.np_machine.specs.Node.{allocated, standing}
 use Rattle.np_keys.specs.Keys.{request_equal}
-use Rattle.np_changes.specs.declared.changes.Maker.{Maker}
-use Rattle.np_changes.specs.declared.changes.Changes.{Changes}
-use Rattle.np_changes.specs.declared.changes.Growth.{Growth}
 use Rattle.np_changes.specs.declared.changes.Growth.TheVariants as grow
-use Rattle.np_changes.specs.declared.changes.RequestsChange.{RequestsChange}
 use Rattle.np_changes.specs.declared.changes.RequestsChange.TheVariants as requests
-use Rattle.np_changes.specs.declared.changes.NodesChange.{NodesChange}
 use Rattle.np_changes.specs.declared.changes.NodesChange.TheVariants as nodes
-use Rattle.np_changes.specs.declared.changes.SessionsChange.{SessionsChange}
 use Rattle.np_changes.specs.declared.changes.SessionsChange.TheVariants as sessions
 use Rattle.np_changes.specs.Changes.{grown, edited, requests_changed, requests_left, nodes_changed, nodes_left, changed}
-use Rattle.np_look.specs.Readers.{is_unclaimed}
 use Rattle.np_laws.specs.Parts.{AllocationsListed}
 use Rattle.np_laws.proofs.Lookups.{request_in-edit, request_in-insert, request_in-queue, request_in-remove, request_queue-edit, request_queue-insert, request_queue-left, request_queue-nowhere, request_queue-queue, request_queue-remove, used_from, node_in-put, node_in-allocated, node_in-queue, node_in-left, node_in-freed, node_in-in_use, node_in-other, node_in-remove, node_queue-put, node_queue-freed, node_queue-in_use, node_queue-allocated, node_queue-queue, node_queue-nowhere, node_queue-left, node_queue-other, node_queue-remove}
 use Rattle.np_laws.proofs.After.{found-grown, grown-request, calm-request, left-request}

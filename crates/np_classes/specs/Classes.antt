@@ -1,28 +1,16 @@
 -- the groups that nodes and requests are in, and what a state says of them
 use Rattle.std.specs.Prelude.{◌≡◌, ℕ, zero, suc, ◌+◌, ◌*◌, List, [], ◌∷◌, Bool, false, ◌==◌, ◌&&◌, ◌||◌, not, if◌then◌else◌, Option, Some, None, is_none, is_some, length, slice_get, option_and_then, nat_lt}
 use Rattle.std.specs.Option.{option_map, option_map_or}
-use Rattle.std.specs.List.{list_any}
-use Rattle.np_text.specs.declared.id.PoolId.{PoolId}
-use Rattle.np_text.specs.declared.id.LabelId.{LabelId}
-use Rattle.np_text.specs.declared.id.NodeId.{NodeId}
-use Rattle.np_text.specs.declared.id.RequestId.{RequestId}
-use Rattle.np_text.specs.declared.id.TenantId.{TenantId}
-use Rattle.np_site.specs.Configuration.{Configuration}
-use Rattle.np_record.specs.declared.record.Declined.{Declined}
-use Rattle.np_record.specs.declared.record.NodeRecord.{NodeRecord}
-use Rattle.np_record.specs.declared.record.RequestRecord.{RequestRecord}
-use Rattle.np_lists.specs.Rising.{Rises}
+use Rattle.np_keys.specs.Prelude.{Configuration, Declined, LabelId, NodeId, NodeRecord, PoolId, RequestId, RequestRecord, Rises, State, TenantId, is_declined_by, is_id_before, next_label}
 use Rattle.np_groups.specs.declared.groups.Group.{Group}
 use Rattle.np_groups.specs.declared.groups.Member.{Member}
-use Rattle.np_groups.specs.Groups.{same_group, has_member, is_member_before}
+use Rattle.np_groups.specs.Groups.{has_member, is_member_before}
+pub use Rattle.np_groups.specs.Moves.{is_among}
 use Rattle.np_keys.specs.Keys.{same_node, is_node_before}
 use Rattle.np_look.specs.declared.asked.UnheldKind.{UnheldKind}
 use Rattle.np_look.specs.declared.asked.UnheldKind.TheVariants as kind
 use Rattle.np_look.specs.Readers.{due_of, is_unclaimed, unheld_kind}
 use Rattle.np_machine.specs.Kinds.{is_requested, is_pending, is_failed, is_ready}
-use Rattle.np_machine.specs.Order.{is_declined_by, is_id_before}
-use Rattle.np_machine.specs.Reasons.{next_label}
-use Rattle.np_machine.specs.State.{State}
 use Rattle.np_machine.specs.Tables.{node_in, node_holder, request_holder, request_in, same_request}
 
 -- ## groups of nodes (own)
@@ -150,10 +138,6 @@ request_groups k unlocked =
     ∷ []
 
 -- ## what a state says
-
--- the group is among these
-abbrev pub is_among : Group → List (Option Group) → Bool
-is_among g groups = list_any (λ o. option_map_or (λ h. same_group h g) o false) groups
 
 -- the node is there, and in the group
 abbrev pub node_is_in : Configuration → State → Group → NodeId → Bool

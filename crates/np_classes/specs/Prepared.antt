@@ -2,25 +2,17 @@
 use Rattle.std.specs.Prelude.{◌≡◌, ◌≤◌, ◌+◌, ◌*◌, List, [], ◌∷◌, ◌++◌, true, length, map}
 use Rattle.std.specs.Option.{option_map_or}
 use Rattle.std.specs.List.{list_any}
-use Rattle.np_text.specs.declared.id.NodeId.{NodeId}
-use Rattle.np_text.specs.declared.id.RequestId.{RequestId}
-use Rattle.np_site.specs.Configuration.{Configuration}
-use Rattle.np_groups.specs.declared.groups.Member.{Member}
+use Rattle.np_keys.specs.Prelude.{Changes, Configuration, Growth, NodeId, NodesChange, RequestId, RequestsChange, SessionsChange, State, next_id, request_in, same_request}
 use Rattle.np_keys.specs.Keys.{same_node}
-use Rattle.np_machine.specs.State.{State}
-use Rattle.np_machine.specs.Tables.{request_in, same_request}
-use Rattle.np_machine.specs.Request.{next_id}
-use Rattle.np_changes.specs.declared.changes.Changes.{Changes}
-use Rattle.np_changes.specs.declared.changes.Growth.{Growth}
 use Rattle.np_changes.specs.declared.changes.Growth.TheVariants as grow
-use Rattle.np_changes.specs.declared.changes.RequestsChange.{RequestsChange}
 use Rattle.np_changes.specs.declared.changes.RequestsChange.TheVariants as requests
-use Rattle.np_changes.specs.declared.changes.NodesChange.{NodesChange}
 use Rattle.np_changes.specs.declared.changes.NodesChange.TheVariants as nodes
-use Rattle.np_changes.specs.declared.changes.SessionsChange.{SessionsChange}
 use Rattle.np_changes.specs.declared.changes.SessionsChange.TheVariants as sessions
 use Rattle.np_classes.specs.Classes.{ClassesOf}
-use Rattle.np_classes.specs.Placed.{members_of, placed_node, placed_queue, placed_request}
+use Rattle.np_classes.specs.declared.touched.PastNode.{PastNode}
+use Rattle.np_classes.specs.declared.touched.PastQueue.{PastQueue}
+use Rattle.np_classes.specs.declared.touched.PastRequest.{PastRequest}
+use Rattle.np_classes.specs.Placed.{past_node, past_queue, past_request}
 use Rattle.np_classes.specs.Touched.{touches_node, touches_request, touches_request_queue}
 
 -- those in whose queues the session is that ends, if one does
@@ -90,28 +82,28 @@ touched_queues ch queued = (grown_queues ch.grows ++ left_queues ch.requests) ++
 -- ## what is prepared
 
 -- the nodes and the requests that a change touches, the requests of which it touches the queue alone,
--- and the members that they are before it (own)
+-- and the groups that they are in before it (own)
 pub record TouchedOf : Type 0 where
   pub nodes : List NodeId
   pub requests : List RequestId
   pub queues : List RequestId
-  pub node_members : List (Member NodeId)
-  pub request_members : List (Member RequestId)
-  pub queue_members : List (Member RequestId)
+  pub past_nodes : List PastNode
+  pub past_requests : List PastRequest
+  pub past_queues : List PastQueue
 
--- all that the changes touch in the state is listed, with the members that it is there; they touch
+-- all that the changes touch in the state is listed, with the groups that it is in there; they touch
 -- one request at most
 pub record IsPrepared (c : Configuration) (s : State) (ch : Changes) (touched : TouchedOf) : Type 0 where
   pub nodes : (n : NodeId) → touches_node ch s n ≡ true → list_any (λ m. same_node m n) touched.nodes ≡ true
   pub requests : (r : RequestId) → touches_request ch s r ≡ true → list_any (λ x. same_request x r) touched.requests ≡ true
   pub queues : (r : RequestId) → touches_request_queue ch s r ≡ true → list_any (λ x. same_request x r) touched.queues ≡ true
-  pub node_members : touched.node_members ≡ members_of (map (placed_node c s) touched.nodes)
-  pub request_members : touched.request_members ≡ members_of (map (placed_request s) touched.requests)
-  pub queue_members : touched.queue_members ≡ members_of (map (placed_queue s) touched.queues)
+  pub past_nodes : touched.past_nodes ≡ map (past_node c s) touched.nodes
+  pub past_requests : touched.past_requests ≡ map (past_request s) touched.requests
+  pub past_queues : touched.past_queues ≡ map (past_queue s) touched.queues
   pub once : length touched.requests ≤ 1
 
 -- there is room for each node in the five groups that it may be in, for each request in its seven, and
 -- for each queue in its one
 pub record HasRoom (touched : TouchedOf) (classes : ClassesOf) : Type 0 where
-  pub nodes : 5 * length touched.nodes ≤ classes.node_room
-  pub requests : 7 * length touched.requests + length touched.queues ≤ classes.request_room
+  pub nodes : 5 * length touched.past_nodes ≤ classes.node_room
+  pub requests : 7 * length touched.past_requests + length touched.past_queues ≤ classes.request_room

@@ -1,19 +1,13 @@
 //! The groups of a state's nodes and requests, kept as events change the state.
 
 ghost use Rattle.std.specs.Prelude.{◌≡◌, IfOk, length, slice_get};
-ghost use Rattle.np_text.specs.declared.id.SessionId.{SessionId};
-ghost use Rattle.np_site.specs.Configuration.{Configuration};
-ghost use Rattle.np_machine.specs.State.{State};
-ghost use Rattle.np_changes.specs.Changes.{changed};
-ghost use Rattle.np_changes.specs.declared.changes.Changes.{Changes};
+ghost use Rattle.np_keys.specs.Prelude.{Changes, Configuration, IsPlanned, IsReached, SessionId, State, changed, queued_nodes, queued_requests};
 ghost use Rattle.np_changes.specs.declared.changes.SessionsChange.TheVariants as sessions;
-ghost use Rattle.np_changes.specs.Planned.{IsPlanned, IsReached};
-ghost use Rattle.np_look.specs.Readers.{queued_nodes, queued_requests};
 ghost use Rattle.np_groups.specs.Groups.{group_after, group_from, ids_in};
 ghost use Rattle.np_classes.specs.Classes.{AreClasses};
 ghost use Rattle.np_classes.specs.Prepared.{HasRoom, IsPrepared};
 
-use crate::members::{all_nodes, all_requests, put_nodes, put_queues, put_requests, take_out};
+use crate::members::{all_nodes, all_requests, move_nodes, move_queues, move_requests};
 use crate::touched::{Touched, touched_by};
 use np_changes::Changes;
 use np_groups::{Group, Groups};
@@ -140,17 +134,16 @@ impl Classes {
         ensures room { IfOk result (λ touched. HasRoom touched self.new) }
     {
         let touched = touched_by(alloc, rows, changes, nodes, requests)?;
-        self.nodes.reserve(5 * touched.nodes.len())?;
-        self.requests
-            .reserve(7 * touched.requests.len() + touched.queues.len())?;
+        self.nodes.reserve(5 * touched.past_nodes.len())?;
+        self.requests.reserve(7 * touched.past_requests.len() + touched.past_queues.len())?;
         Ok(touched)
     }
 
-    /// Puts what was touched where it is now, after the state has changed. It takes no memory, and
-    /// costs a few lookups and binary searches for each node that was touched and for a request
-    /// whose record may have changed, and for one that pools declined a scan of its declines for
-    /// each of the 64 pools. A request whose queue alone was touched costs two lookups and two
-    /// binary searches.
+    /// Moves what was touched to where it is now, after the state has changed. It takes no memory.
+    /// It costs a few lookups for each node that was touched and for a request whose record may have
+    /// changed, for one that pools declined a scan of its declines for each of the 64 pools, and two
+    /// lookups for a request whose queue alone was touched. A group that is left or joined costs a
+    /// few binary searches; where an id stays, nothing is searched.
     pub fn note<R: Rows>(&mut self, rows: &R, touched: &Touched)
         requires { HasRoom touched.now self.old }
         ensures { (c : Configuration) (s : State) (ch : Changes)
@@ -158,11 +151,8 @@ impl Classes {
             → R.site rows.now ≡ c → R.state rows.now ≡ changed c ch s
             → AreClasses c s self.old → AreClasses c (changed c ch s) self.new }
     {
-        take_out(&mut self.nodes, touched.node_members.as_slice());
-        put_nodes(&mut self.nodes, rows, touched.nodes.as_slice());
-        take_out(&mut self.requests, touched.request_members.as_slice());
-        put_requests(&mut self.requests, rows, touched.requests.as_slice());
-        take_out(&mut self.requests, touched.queue_members.as_slice());
-        put_queues(&mut self.requests, rows, touched.queues.as_slice());
+        move_nodes(&mut self.nodes, rows, touched.past_nodes.as_slice());
+        move_requests(&mut self.requests, rows, touched.past_requests.as_slice());
+        move_queues(&mut self.requests, rows, touched.past_queues.as_slice());
     }
 }

@@ -3,7 +3,7 @@
 //! `specs/Classes` says which groups a record is in, and when the members of all groups are those
 //! of a state. `Classes` keeps them as each event changes the state: `prepare` lists the nodes and
 //! requests that the event's changes touch, with the groups that they are in, and takes the memory;
-//! once the state has changed, `note` puts them where they are now, which can't fail. A node is
+//! once the state has changed, `note` moves what is elsewhere now, which can't fail. A node is
 //! touched too when the request that it is allocated to goes away, since it is unclaimed from then
 //! on. A request whose queue alone changes leaves one group only: that of the pending ones that
 //! nobody holds. An event changes the record of one request at most.

@@ -2,31 +2,50 @@
 //! before it.
 
 ghost use Rattle.std.specs.Prelude.{◌≡◌, ◌≤◌, ◌++◌, IfOk, OnOk, length, map, option_to_list};
-ghost use Rattle.np_text.specs.declared.id.SessionId.{SessionId};
+ghost use Rattle.np_keys.specs.Prelude.{IsPlanned, IsReached, SessionId, queued_nodes, queued_requests};
 ghost use Rattle.np_changes.specs.declared.changes.SessionsChange.TheVariants as sessions;
-ghost use Rattle.np_changes.specs.Planned.{IsPlanned, IsReached};
-ghost use Rattle.np_look.specs.Readers.{queued_nodes, queued_requests};
-ghost use Rattle.np_classes.specs.Placed.{groups_of_node, groups_of_request, members_of, placed_node, placed_queue, placed_request, then_member, then_members, unheld_group_of_request};
+ghost use Rattle.np_classes.specs.Placed.{groups_of_node, groups_of_request, past_node, past_queue, past_request, unheld_group_of_request};
 ghost use Rattle.np_classes.specs.Prepared.{IsPrepared, changed_nodes, changed_requests, ended, grown_nodes, grown_queues, grown_requests, left_queues, touched_nodes, touched_queues, touched_requests, unclaimed_nodes};
 
 use crate::group::{node_groups, request_groups, unheld_pending_group_of};
 use np_changes::{Changes, Growth, NodesChange, RequestsChange, SessionsChange};
-use np_groups::{Group, Member};
+use np_groups::Group;
 use np_look::{Rows, is_unclaimed, node_holder, request_holder};
 use np_text::{NodeId, RequestId};
 use std::alloc::{AllocError, Global};
 use std::marker::Model;
 
-/// The nodes and the requests that an event's changes touch, with the members of groups that they
-/// are before it: the requests whose records may change, and those whose queues alone may.
+/// A node, with the groups that it is in before a change.
+#[derive(Clone, Copy)]
+pub(crate) struct PastNode {
+    pub(crate) node: NodeId,
+    pub(crate) groups: [Option<Group>; 5],
+}
+
+/// A request, with its groups.
+#[derive(Clone, Copy)]
+pub(crate) struct PastRequest {
+    pub(crate) request: RequestId,
+    pub(crate) groups: [Option<Group>; 7],
+}
+
+/// A request, with the one group that its queue decides.
+#[derive(Clone, Copy)]
+pub(crate) struct PastQueue {
+    pub(crate) request: RequestId,
+    pub(crate) groups: [Option<Group>; 1],
+}
+
+/// The nodes and the requests that an event's changes touch, with the groups that they are in
+/// before it: the requests whose records may change, and those whose queues alone may.
 #[derive(Drop)]
 pub struct Touched {
-    pub(crate) nodes: Vec<NodeId>,
-    pub(crate) requests: Vec<RequestId>,
-    pub(crate) queues: Vec<RequestId>,
-    pub(crate) node_members: Vec<Member<NodeId>>,
-    pub(crate) request_members: Vec<Member<RequestId>>,
-    pub(crate) queue_members: Vec<Member<RequestId>>,
+    nodes: Vec<NodeId>,
+    requests: Vec<RequestId>,
+    queues: Vec<RequestId>,
+    pub(crate) past_nodes: Vec<PastNode>,
+    pub(crate) past_requests: Vec<PastRequest>,
+    pub(crate) past_queues: Vec<PastQueue>,
 }
 
 impl Model for Touched {
@@ -38,9 +57,9 @@ impl Model for Touched {
       nodes = touched.nodes.items;
       requests = touched.requests.items;
       queues = touched.queues.items;
-      node_members = touched.node_members.items;
-      request_members = touched.request_members.items;
-      queue_members = touched.queue_members.items;
+      past_nodes = touched.past_nodes.items;
+      past_requests = touched.past_requests.items;
+      past_queues = touched.past_queues.items;
     } };
 }
 
@@ -261,75 +280,58 @@ fn touched_queues(
     Ok(list)
 }
 
-// ## lists of members
+// ## groups before a change
 
-fn list_member<K: Copy>(
-    list: &mut Vec<Member<K>>,
-    id: K,
-    group: Option<Group>,
-) -> Result<(), AllocError>
-    ensures { OnOk result (list.new.items ≡ then_member id group list.old.items) }
-{
-    if let Some(group) = group {
-        list.push(Member { group, id })?;
-    }
-    Ok(())
-}
-
-fn list_members<K: Copy>(
-    list: &mut Vec<Member<K>>,
-    id: K,
-    groups: &[Option<Group>],
-) -> Result<(), AllocError>
-    ensures { OnOk result (list.new.items ≡ then_members id groups.now list.old.items) }
-{
-    for group in groups {
-        list_member(list, id, *group)?;
-    }
-    Ok(())
-}
-
-fn node_members<R: Rows>(
+fn past_nodes<R: Rows>(
     alloc: Global,
     rows: &R,
     nodes: &[NodeId],
-) -> Result<Vec<Member<NodeId>>, AllocError>
+) -> Result<Vec<PastNode>, AllocError>
     ensures { IfOk result (λ list. list.items
-        ≡ members_of (map (placed_node (R.site rows.now) (R.state rows.now)) nodes.now)) }
+        ≡ map (past_node (R.site rows.now) (R.state rows.now)) nodes.now) }
 {
-    let mut list = Vec::new(alloc);
+    let mut list = Vec::with_capacity(alloc, nodes.len())?;
     for node in nodes {
-        list_members(&mut list, *node, &groups_of_node(rows, *node))?;
+        list.push(PastNode {
+            node: *node,
+            groups: groups_of_node(rows, *node),
+        })?;
     }
     Ok(list)
 }
 
-fn request_members<R: Rows>(
+fn past_requests<R: Rows>(
     alloc: Global,
     rows: &R,
     requests: &[RequestId],
-) -> Result<Vec<Member<RequestId>>, AllocError>
-    ensures { IfOk result (λ list. list.items
-        ≡ members_of (map (placed_request (R.state rows.now)) requests.now)) }
+) -> Result<Vec<PastRequest>, AllocError>
+    ensures { IfOk result
+        (λ list. list.items ≡ map (past_request (R.state rows.now)) requests.now) }
 {
-    let mut list = Vec::new(alloc);
+    let mut list = Vec::with_capacity(alloc, requests.len())?;
     for request in requests {
-        list_members(&mut list, *request, &groups_of_request(rows, *request))?;
+        list.push(PastRequest {
+            request: *request,
+            groups: groups_of_request(rows, *request),
+        })?;
     }
     Ok(list)
 }
 
-fn queue_members<R: Rows>(
+fn past_queues<R: Rows>(
     alloc: Global,
     rows: &R,
     requests: &[RequestId],
-) -> Result<Vec<Member<RequestId>>, AllocError>
-    ensures { IfOk result (λ list. list.items
-        ≡ members_of (map (placed_queue (R.state rows.now)) requests.now)) }
+) -> Result<Vec<PastQueue>, AllocError>
+    ensures { IfOk result
+        (λ list. list.items ≡ map (past_queue (R.state rows.now)) requests.now) }
 {
-    let mut list = Vec::new(alloc);
+    let mut list = Vec::with_capacity(alloc, requests.len())?;
     for request in requests {
-        list_member(&mut list, *request, unheld_group_of_request(rows, *request))?;
+        list.push(PastQueue {
+            request: *request,
+            groups: [unheld_group_of_request(rows, *request)],
+        })?;
     }
     Ok(list)
 }
@@ -355,15 +357,15 @@ pub(crate) fn touched_by<R: Rows>(
     let nodes = touched_nodes(alloc, rows, changes, ended_nodes)?;
     let requests = touched_requests(alloc, rows, changes)?;
     let queues = touched_queues(alloc, changes, ended_requests)?;
-    let node_members = node_members(alloc, rows, nodes.as_slice())?;
-    let request_members = request_members(alloc, rows, requests.as_slice())?;
-    let queue_members = queue_members(alloc, rows, queues.as_slice())?;
+    let past_nodes = past_nodes(alloc, rows, nodes.as_slice())?;
+    let past_requests = past_requests(alloc, rows, requests.as_slice())?;
+    let past_queues = past_queues(alloc, rows, queues.as_slice())?;
     Ok(Touched {
         nodes,
         requests,
         queues,
-        node_members,
-        request_members,
-        queue_members,
+        past_nodes,
+        past_requests,
+        past_queues,
     })
 }

@@ -1,12 +1,8 @@
 -- each row is found by its id
 use Rattle.std.proofs.Common.{◌≡◌, Some}
 use Rattle.std.specs.List.{AllByRecursion}
-use Rattle.np_site.specs.Configuration.{Configuration}
+use Rattle.np_keys.specs.Prelude.{Configuration, NodeEntry, RequestEntry, State, is_id_before, node_entry, request_entry, same_request}
 use Rattle.np_keys.specs.Keys.{same_node, is_node_before, node_equal, request_equal}
-use Rattle.np_machine.specs.Entries.{RequestEntry, NodeEntry}
-use Rattle.np_machine.specs.Order.{is_id_before}
-use Rattle.np_machine.specs.State.{State}
-use Rattle.np_machine.specs.Tables.{node_entry, request_entry, same_request}
 use Rattle.np_laws.proofs.Lookups.{same_request-self}
 use Rattle.np_classes.specs.Classes.{ClassesOf, AreClasses}
 use Rattle.np_classes.proofs.Rows.{rows-found}

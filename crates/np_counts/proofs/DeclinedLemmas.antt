@@ -6,11 +6,7 @@ use Rattle.std.specs.List.{AllByRecursion, list_any}
 use Rattle.std.proofs.lemmas.Bool.{eqb-true, eq-eqb}
 use Rattle.std.proofs.lemmas.Bool.Decides.{nat_tests}
 use Rattle.std.proofs.lemmas.List.Sums.{sum_by-cons}
-use Rattle.np_text.specs.declared.id.RequestId.{RequestId}
-use Rattle.np_site.specs.Configuration.{Configuration}
-use Rattle.np_record.specs.declared.record.RequestRecord.{RequestRecord}
-use Rattle.np_record.specs.declared.record.Declined.{Declined}
-use Rattle.np_lists.specs.Rising.{Rises}
+use Rattle.np_keys.specs.Prelude.{Configuration, Declined, RequestEntry, RequestId, RequestRecord, Rises, State, is_declined_by, is_id_before, is_requested, request_entry, request_in, same_request}
 use Rattle.np_lists.proofs.Each.{all-find, all-weaker}
 use Rattle.np_lists.proofs.FilterLemmas.{none-list_any}
 use Rattle.np_lists.proofs.FoundLemmas.{find-passes}
@@ -20,12 +16,7 @@ use Rattle.np_groups.specs.declared.groups.Member.{Member}
 use Rattle.np_groups.specs.Groups.{same_group, same_member, member, group_from, group_after, ids_in}
 use Rattle.np_keys.specs.Keys.{request_one_way}
 use Rattle.np_machine.specs.declared.state.Registration.{Registration}
-use Rattle.np_machine.specs.Entries.{RequestEntry}
-use Rattle.np_machine.specs.Kinds.{is_requested}
-use Rattle.np_machine.specs.Order.{is_declined_by, is_id_before}
 use Rattle.np_machine.specs.Request.{undeclined}
-use Rattle.np_machine.specs.State.{State}
-use Rattle.np_machine.specs.Tables.{request_entry, request_in, same_request}
 use Rattle.np_look.specs.Readers.{is_declined_by_all}
 use Rattle.np_look.proofs.Walks.{any_found, any_later, as_it_is}
 use Rattle.np_classes.specs.Classes.{declined_group, decline_set, is_still_requested, request_is_in, ClassesOf, AreClasses}

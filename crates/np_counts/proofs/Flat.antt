@@ -4,19 +4,12 @@ use Rattle.std.specs.Prelude.{◌==◌, ◌&&◌, ◌||◌, if◌then◌else◌,
 use Rattle.std.specs.Option.{option_map, option_map_or}
 use Rattle.std.specs.List.{AllByRecursion, list_any}
 use Rattle.std.proofs.lemmas.Bool.Decides.{nat_tests}
-use Rattle.np_text.specs.declared.id.PoolId.{PoolId}
-use Rattle.np_text.specs.declared.id.LabelId.{LabelId}
-use Rattle.np_text.specs.declared.id.RequestId.{RequestId}
-use Rattle.np_record.specs.declared.record.RequestRecord.{RequestRecord}
+use Rattle.np_keys.specs.Prelude.{LabelId, PoolId, RequestId, RequestRecord, State, is_failed, is_pending, is_requested, next_label, request_holder, request_in, same_request}
 use Rattle.np_lists.proofs.Each.{all-weaker}
 use Rattle.np_groups.specs.declared.groups.Group.{Group}
 use Rattle.np_groups.specs.declared.groups.Member.{Member}
 use Rattle.np_groups.specs.Groups.{same_group, same_member, has_member}
 use Rattle.np_groups.proofs.Order.{group-itself}
-use Rattle.np_machine.specs.Kinds.{is_failed, is_requested, is_pending}
-use Rattle.np_machine.specs.Reasons.{next_label}
-use Rattle.np_machine.specs.State.{State}
-use Rattle.np_machine.specs.Tables.{request_holder, request_in, same_request}
 use Rattle.np_laws.proofs.Lookups.{same_request-self}
 use Rattle.np_classes.specs.Classes.{pending_group, unheld_pending_group, coming_group, spent_group, declined_group, decline_set, is_still_requested, next_label_group, pinned_label_group, request_groups, is_among, AreRequestGroups}
 use Rattle.np_counts.specs.Waiting.{is_beside}

@@ -2,20 +2,13 @@
 use Rattle.std.proofs.Common.{◌≡◌, ◌∙◌, Bool, false, List, [], map, Option, Some, None, refl, sym, ap}
 use Rattle.std.specs.Prelude.{filter, is_none}
 use Rattle.std.specs.Option.{option_map, option_map_or}
-use Rattle.np_text.specs.declared.id.NodeId.{NodeId}
-use Rattle.np_text.specs.declared.id.RequestId.{RequestId}
-use Rattle.np_site.specs.Configuration.{Configuration}
+use Rattle.np_keys.specs.Prelude.{Configuration, NodeEntry, NodeId, RequestEntry, RequestId, State, holder, is_id_before, is_unclaimed, node_entry, request_entry, same_request}
 use Rattle.np_lists.proofs.RisingLemmas.{Rises-filter}
 use Rattle.np_groups.specs.declared.groups.Group.{Group}
 use Rattle.np_groups.specs.declared.groups.Member.{Member}
 use Rattle.np_groups.specs.Groups.{ids_in}
 use Rattle.np_keys.specs.Keys.{same_node, is_node_before, node_equal, node_one_way, request_equal, request_one_way}
-use Rattle.np_machine.specs.Entries.{RequestEntry, NodeEntry}
-use Rattle.np_machine.specs.Order.{is_id_before}
-use Rattle.np_machine.specs.State.{State}
-use Rattle.np_machine.specs.Tables.{holder, node_entry, request_entry, same_request}
 use Rattle.np_classes.specs.Classes.{node_groups, request_groups, is_among, AreNodeGroups, AreRequestGroups}
-use Rattle.np_look.specs.Readers.{is_unclaimed}
 use Rattle.np_laws.proofs.Lookups.{same_request-self}
 use Rattle.np_groups.proofs.Ids.{ids-rise, ids-has, same-list}
 use Rattle.np_classes.proofs.Apart.{node-apart, request-apart, same_node-self}

@@ -1,15 +1,10 @@
 -- what the walk over offers adds up
 use Rattle.std.proofs.Common.{◌≡◌, ◌∙◌, ◌<◌, ◌≤◌, ◌+◌, ℕ, List, length, map, take, get_or, sym, ap}
-use Rattle.np_amount.specs.declared.amount.Amount.{Amount}
-use Rattle.np_amount.specs.Amounts.{plus, times, total}
-use Rattle.np_text.specs.declared.id.PoolId.{PoolId}
-use Rattle.np_site.specs.Configuration.{Configuration}
+use Rattle.np_keys.specs.Prelude.{Amount, Configuration, Fits, PoolId, State, plus, times, total}
 use Rattle.np_site.specs.declared.row.Offer.{Offer}
 use Rattle.np_groups.specs.declared.groups.Group.{Group}
 use Rattle.np_groups.specs.Groups.{ids_in}
 use Rattle.np_machine.specs.Count.{offers_of, count_of, number_of}
-use Rattle.np_machine.specs.State.{State}
-use Rattle.np_fits.specs.Fits.{Fits}
 use Rattle.np_fits.proofs.Offered.{IsPart, part_bound, passed_total}
 use Rattle.np_look.proofs.CountLemmas.{total_more}
 use Rattle.np_classes.specs.Classes.{kind_group, ClassesOf, AreClasses}

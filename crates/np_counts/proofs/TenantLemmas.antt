@@ -6,14 +6,7 @@ use Rattle.std.specs.List.{AllByRecursion, list_any}
 use Rattle.std.proofs.lemmas.Bool.{eqb-true}
 use Rattle.std.proofs.lemmas.Bool.Decides.{nat_tests}
 use Rattle.std.proofs.lemmas.List.{length-map}
-use Rattle.np_amount.specs.declared.amount.Amount.{Amount}
-use Rattle.np_amount.specs.Amounts.{nothing, plus, times, total}
-use Rattle.np_text.specs.declared.id.PoolId.{PoolId}
-use Rattle.np_text.specs.declared.id.LabelId.{LabelId}
-use Rattle.np_text.specs.declared.id.NodeId.{NodeId}
-use Rattle.np_text.specs.declared.id.TenantId.{TenantId}
-use Rattle.np_site.specs.Configuration.{Configuration}
-use Rattle.np_lists.specs.Rising.{Rises}
+use Rattle.np_keys.specs.Prelude.{Amount, Configuration, Fits, IsFew, LabelId, NodeEntry, NodeId, PoolId, Rises, State, TenantId, amount_of, node_entry, nothing, plus, times, total}
 use Rattle.np_lists.proofs.Each.{all-find, all-weaker}
 use Rattle.np_lists.proofs.FilterLemmas.{filter-nothing}
 use Rattle.np_lists.proofs.FoundLemmas.{find-passes}
@@ -24,12 +17,7 @@ use Rattle.np_groups.specs.Groups.{same_group, same_member, is_group_before, is_
 use Rattle.np_groups.proofs.Order.{group-apart, group-is, group-one_way, group-turned}
 use Rattle.np_groups.proofs.Walk.{IsLeast, least-found}
 use Rattle.np_keys.specs.Keys.{same_node, is_node_before}
-use Rattle.np_machine.specs.Count.{amount_of}
-use Rattle.np_machine.specs.Entries.{NodeEntry}
-use Rattle.np_machine.specs.State.{State}
-use Rattle.np_machine.specs.Tables.{node_entry}
 use Rattle.np_machine.specs.Tenants.{amount_of_node, is_tenant}
-use Rattle.np_fits.specs.Fits.{Fits, IsFew}
 use Rattle.np_classes.specs.Classes.{tenant_group, node_is_in, ClassesOf, AreClasses}
 use Rattle.np_counts.specs.Taken.{taken_by}
 use Rattle.np_counts.specs.TenantGroups.{beside_if, is_in_tenant_group}

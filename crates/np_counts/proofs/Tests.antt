@@ -3,24 +3,15 @@ use Rattle.std.proofs.Common.{◌≡◌, ◌∙◌, ℕ, Bool, true, false, List
 use Rattle.std.specs.Prelude.{◌==◌, ◌&&◌, ◌||◌, if◌then◌else◌, is_none, is_some, nat_lt, slice_get, option_and_then}
 use Rattle.std.proofs.lemmas.Bool.Decides.{nat_tests}
 use Rattle.std.specs.Option.{option_map, option_map_or}
-use Rattle.np_text.specs.declared.id.PoolId.{PoolId}
-use Rattle.np_text.specs.declared.id.LabelId.{LabelId}
-use Rattle.np_text.specs.declared.id.TenantId.{TenantId}
-use Rattle.np_site.specs.Configuration.{Configuration}
-use Rattle.np_record.specs.declared.record.NodeRecord.{NodeRecord}
-use Rattle.np_record.specs.declared.record.RequestRecord.{RequestRecord}
+use Rattle.np_keys.specs.Prelude.{Configuration, LabelId, NodeEntry, NodeRecord, PoolId, RequestEntry, RequestRecord, State, TenantId, holder, is_spare, next_label}
 use Rattle.np_groups.specs.declared.groups.Group.{Group}
 use Rattle.np_groups.specs.Groups.{same_group}
 use Rattle.np_look.specs.declared.asked.UnheldKind.{UnheldKind}
 use Rattle.np_look.specs.declared.asked.UnheldKind.TheVariants as kind
 use Rattle.np_look.specs.Readers.{due_of, is_unclaimed, is_unheld_as, is_unheld_pending, same_kind, unheld_kind}
-use Rattle.np_machine.specs.Entries.{RequestEntry, NodeEntry}
 use Rattle.np_machine.specs.Kinds.{is_ready, is_failed, is_requested, is_pending}
-use Rattle.np_machine.specs.State.{State}
-use Rattle.np_machine.specs.Tables.{holder}
 use Rattle.np_machine.specs.Count.{is_kind}
 use Rattle.np_machine.specs.Order.{is_pool, is_pending_by}
-use Rattle.np_machine.specs.Reasons.{is_spare, next_label}
 use Rattle.np_machine.specs.Request.{is_min_ready_for, is_spent_min_ready, is_coming, is_free_ready}
 use Rattle.np_classes.specs.Classes.{kind_group, spare_group, free_group, tenant_group, unheld_class, unheld_group, unheld_group_of, group_if, node_groups, pending_group, unheld_pending_group, coming_group, spent_group, declined_group, decline_set, is_still_requested, next_label_group, pinned_label_group, pending_group_of, unheld_pending_group_of, coming_group_of, spent_group_of, declined_group_of, next_label_group_of, pinned_label_group_of, request_groups, is_among}
 use Rattle.np_counts.specs.TenantGroups.{is_in_tenant_group}

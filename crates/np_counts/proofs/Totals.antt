@@ -2,8 +2,7 @@
 use Rattle.std.proofs.Common.{◌≡◌, ◌∙◌, ◌≤◌, ℕ, Bool, true, false, cond, List, [], ◌∷◌, length, map, refl, sym, ap, arith}
 use Rattle.std.specs.Prelude.{◌&&◌, ◌||◌, filter}
 use Rattle.std.specs.List.{AllByRecursion}
-use Rattle.np_amount.specs.declared.amount.Amount.{Amount}
-use Rattle.np_amount.specs.Amounts.{nothing, plus, times, total}
+use Rattle.np_keys.specs.Prelude.{Amount, nothing, plus, times, total}
 use Rattle.np_amount.proofs.Sums.{same_amount, plus-assoc, plus-comm, nothing-plus, times-suc, total-filter_at_most}
 use Rattle.np_fits.specs.Fits.{AmountFits, IsFew}
 

@@ -5,13 +5,8 @@ use Rattle.std.specs.Option.{option_map, option_map_or}
 use Rattle.std.specs.List.{list_any}
 use Rattle.std.proofs.lemmas.Bool.{eqb-true, eq-eqb}
 use Rattle.std.proofs.lemmas.Bool.Decides.{nat_tests}
-use Rattle.np_amount.specs.declared.amount.Amount.{Amount}
+use Rattle.np_keys.specs.Prelude.{Amount, Configuration, LabelId, PoolId, RequestEntry, RequestId, RequestRecord, State, holder, request_entry, same_request}
 use Rattle.np_amount.specs.Amounts.{plus, fits}
-use Rattle.np_text.specs.declared.id.PoolId.{PoolId}
-use Rattle.np_text.specs.declared.id.LabelId.{LabelId}
-use Rattle.np_text.specs.declared.id.RequestId.{RequestId}
-use Rattle.np_record.specs.declared.record.RequestRecord.{RequestRecord}
-use Rattle.np_site.specs.Configuration.{Configuration}
 use Rattle.np_lists.proofs.Each.{all-find}
 use Rattle.np_lists.proofs.FoundLemmas.{find-passes}
 use Rattle.np_groups.specs.declared.groups.Group.{Group}
@@ -19,11 +14,8 @@ use Rattle.np_groups.specs.declared.groups.Member.{Member}
 use Rattle.np_groups.specs.Groups.{same_group, same_member, member, group_from, group_after, has_member}
 use Rattle.np_groups.proofs.Order.{group-equal, group-itself}
 use Rattle.np_machine.specs.Count.{count_of, amount_of, limit_of, is_short}
-use Rattle.np_machine.specs.Entries.{RequestEntry}
 use Rattle.np_machine.specs.Order.{is_id_before, is_pending_by}
 use Rattle.np_machine.specs.Reasons.{next_label, is_spare, is_stuck_at}
-use Rattle.np_machine.specs.State.{State}
-use Rattle.np_machine.specs.Tables.{holder, request_entry, same_request}
 use Rattle.np_laws.proofs.Lookups.{same_request-self}
 use Rattle.np_classes.specs.Classes.{request_groups, is_among, request_is_in, AreRequestGroups, ClassesOf, AreClasses}
 use Rattle.np_counts.specs.Waiting.{label_group, is_beside, label_if, is_pinned_as, is_stuck_label, is_stuck_as, is_under_way_as}

@@ -1,9 +1,7 @@
 //! What a node takes.
 
 ghost use Rattle.std.specs.Prelude.{◌≡◌};
-ghost use Rattle.np_text.specs.declared.id.LabelId.{LabelId};
-ghost use Rattle.np_text.specs.declared.id.PoolId.{PoolId};
-ghost use Rattle.np_machine.specs.Count.{amount_of};
+ghost use Rattle.np_keys.specs.Prelude.{LabelId, PoolId, amount_of};
 ghost use Rattle.np_fits.specs.Fits.{AmountFits, IsFew};
 ghost use Rattle.np_counts.specs.Taken.{taken_by};
 

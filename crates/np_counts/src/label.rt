@@ -2,10 +2,8 @@
 
 ghost use Rattle.std.specs.Prelude.{◌≡◌};
 ghost use Rattle.std.specs.List.{list_any};
-ghost use Rattle.np_site.specs.Configuration.{Configuration};
+ghost use Rattle.np_keys.specs.Prelude.{Configuration, Fits, State};
 ghost use Rattle.np_machine.specs.Request.{is_spent_min_ready, ready_count};
-ghost use Rattle.np_machine.specs.State.{State};
-ghost use Rattle.np_fits.specs.Fits.{Fits};
 ghost use Rattle.np_classes.specs.Classes.{AreClasses};
 
 use np_classes::{Classes, coming_group, free_group, spent_group};

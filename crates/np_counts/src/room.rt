@@ -1,9 +1,7 @@
 //! Whether a request's tenant has room for it.
 
 ghost use Rattle.std.specs.Prelude.{◌≡◌};
-ghost use Rattle.np_machine.specs.First.{blocking};
-ghost use Rattle.np_fits.specs.Fits.{Fits};
-ghost use Rattle.np_changes.specs.Asked.{new_record};
+ghost use Rattle.np_keys.specs.Prelude.{Fits, blocking, new_record};
 ghost use Rattle.np_awaited.specs.Awaited.{AreAwaited};
 ghost use Rattle.np_classes.specs.Classes.{AreClasses};
 

@@ -3,13 +3,8 @@ use Rattle.std.proofs.Common.{◌≡◌, ◌≤◌, ◌∙◌, Bool, true, false
 use Rattle.std.specs.Prelude.{◌||◌, map}
 use Rattle.std.specs.List.{AllByRecursion, list_any}
 use Rattle.std.proofs.lemmas.List.Folds.{list_any-append}
-use Rattle.np_text.specs.declared.id.NodeId.{NodeId}
-use Rattle.np_site.specs.Configuration.{Configuration}
+use Rattle.np_keys.specs.Prelude.{Changes, Configuration, NodeId, State, node_queue}
 use Rattle.np_keys.specs.Keys.{same_node}
-use Rattle.np_machine.specs.State.{State}
-use Rattle.np_machine.specs.Tables.{node_queue}
-use Rattle.np_changes.specs.declared.changes.Changes.{Changes}
-use Rattle.np_classes.specs.Placed.{members_of}
 use Rattle.np_classes.specs.Touched.{touches_node}
 use Rattle.np_given.specs.Listed.{nodes_by_job, nodes_by_state, touches_given}
 use Rattle.np_given.specs.Prepared.{IsPrepared, PreparedOf, placed_node}
@@ -38,15 +33,15 @@ all-listed touched ch s n first is =
     by false false true job first is = refl
     by false false false job first is = is
 
--- what is listed, with the members of groups that it is and a bound of queues, is prepared
+-- what is listed, with the groups that it is in and a bound of queues, is prepared
 pub is-prepared : (c : Configuration) (s : State) (ch : Changes) (touched : List NodeId) (prepared : PreparedOf)
     → ((n : NodeId) → touches_node ch s n ≡ true → list_any (λ m. same_node m n) touched ≡ true)
-    → prepared.nodes ≡ (touched ++ nodes_by_state ch.requests s) ++ nodes_by_job ch.jobs s
-    → prepared.members ≡ members_of (map (placed_node c s) prepared.nodes)
-    → AllByRecursion (λ n. suc (length (node_queue n s.nodes)) ≤ prepared.most) prepared.nodes
+    → prepared.past ≡ map (placed_node c s) (listed_nodes ch s touched)
+    → AllByRecursion (λ n. suc (length (node_queue n s.nodes)) ≤ prepared.most) (listed_nodes ch s touched)
     → IsPrepared c s ch prepared
-is-prepared c s ch touched prepared first nodes members most = record {
-  nodes = λ n is. ap (listed n) nodes ∙ all-listed touched ch s n (first n) is;
-  members = members;
+is-prepared c s ch touched prepared first past most = record {
+  listed = listed_nodes ch s touched;
+  nodes = λ n is. all-listed touched ch s n (first n) is;
+  past = past;
   most = most;
 }

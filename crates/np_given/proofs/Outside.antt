@@ -4,12 +4,7 @@ use Rattle.std.specs.Prelude.{◌==◌, ◌&&◌, ◌||◌, filter, find, slice_
 use Rattle.std.specs.Option.{option_map, option_map_or}
 use Rattle.std.specs.List.{AllByRecursion, list_any}
 use Rattle.std.proofs.lemmas.Option.{slice_get-map}
-use Rattle.np_text.specs.declared.id.NodeId.{NodeId}
-use Rattle.np_text.specs.declared.id.RequesterId.{RequesterId}
-use Rattle.np_text.specs.declared.id.SessionId.{SessionId}
-use Rattle.np_record.specs.declared.record.NodeRecord.{NodeRecord}
-use Rattle.np_site.specs.Configuration.{Configuration}
-use Rattle.np_lists.specs.Rising.{Rises}
+use Rattle.np_keys.specs.Prelude.{Configuration, NodeEntry, NodeId, NodeRecord, RequesterId, Rises, SessionId, State, is_queued, node_entry, node_queue, queued_nodes}
 use Rattle.np_lists.proofs.Each.{all-weaker}
 use Rattle.np_lists.proofs.RisingLemmas.{Rises-filter}
 use Rattle.np_groups.specs.declared.groups.Group.{Group}
@@ -17,12 +12,8 @@ use Rattle.np_groups.specs.declared.groups.Member.{Member}
 use Rattle.np_groups.specs.Groups.{has_member, ids_in, same_group}
 use Rattle.np_groups.proofs.Ids.{ids-rise, ids-has, same-list}
 use Rattle.np_keys.specs.Keys.{same_node, is_node_before, node_equal, node_one_way}
-use Rattle.np_machine.specs.Entries.{NodeEntry}
-use Rattle.np_machine.specs.State.{State}
-use Rattle.np_machine.specs.Tables.{is_queued, node_entry, node_queue}
 use Rattle.np_look.specs.Given.{given_to, is_given_to, is_to_leave, is_to_lock, node_to_leave, node_to_lock}
-use Rattle.np_look.specs.Readers.{queued_nodes}
-use Rattle.np_classes.specs.Classes.{is_among}
+use Rattle.np_groups.specs.Moves.{is_among}
 use Rattle.np_classes.proofs.Apart.{node-apart, same_node-self}
 use Rattle.np_classes.proofs.Rows.{ids-in_order, row-passes, rows-found}
 use Rattle.np_groups.specs.Ranks.{outside}

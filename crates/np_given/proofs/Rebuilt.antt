@@ -5,20 +5,16 @@ use Rattle.std.specs.Option.{option_map, option_map_or}
 use Rattle.std.specs.List.{list_any}
 use Rattle.std.proofs.lemmas.Simd.{map-map}
 use Rattle.std.proofs.Math.Seq.{take-length}
-use Rattle.np_text.specs.declared.id.NodeId.{NodeId}
-use Rattle.np_site.specs.Configuration.{Configuration}
+use Rattle.np_keys.specs.Prelude.{Configuration, IsReached, NodeEntry, NodeId, State, node_entry, node_queue}
 use Rattle.np_groups.specs.declared.groups.Group.{Group}
 use Rattle.np_groups.specs.declared.groups.Member.{Member}
 use Rattle.np_groups.specs.Groups.{has_member}
 use Rattle.np_keys.specs.Keys.{is_node_before, same_node, node_transitive, node_one_way, node_some_way, node_equal}
-use Rattle.np_machine.specs.Entries.{NodeEntry}
-use Rattle.np_machine.specs.State.{State}
-use Rattle.np_machine.specs.Tables.{node_entry, node_queue}
-use Rattle.np_changes.specs.Planned.{IsReached}
 use Rattle.np_laws.proofs.Runs.{invariant-Runs}
-use Rattle.np_classes.specs.Classes.{is_among}
-use Rattle.np_classes.specs.Placed.{Placed, members_of, with_all, without_all}
-use Rattle.np_classes.proofs.Folds.{moved, rises-with_all}
+use Rattle.np_groups.specs.Moves.{Placed, is_among, with_all_moved, with_groups}
+use Rattle.np_groups.proofs.MoveLemmas.{each-moved}
+use Rattle.np_classes.specs.Placed.{with_all}
+use Rattle.np_classes.proofs.Folds.{rises-with_all}
 use Rattle.np_classes.proofs.Rebuilt.{made}
 use Rattle.np_given.specs.Given.{AreGivenGroups, groups_by, groups_of_node}
 use Rattle.np_given.specs.Prepared.{placed_node}
@@ -40,16 +36,17 @@ nowhere n (e ∷ rows) out = by (same_node e.id n) out (nowhere n rows) where
   by true out rest = absurd cc
   by false out rest = rest out
 
--- ids that are in no group are no members
-no-members : (ids : List NodeId) → members_of (map in_none ids) ≡ []
-no-members [] = refl
-no-members (n ∷ ids) = no-members ids
+-- to be put in groups is to move there from none
+as-moved : (c : Configuration) (s : State) (ids : List NodeId) (ms : List (Member NodeId))
+    → with_all is_node_before same_node (map (placed_node c s) ids) ms ≡ with_all_moved is_node_before same_node (groups_of_node c s) (map in_none ids) ms
+as-moved c s [] ms = refl
+as-moved c s (n ∷ ids) ms = as-moved c s ids (with_groups is_node_before same_node n [] (groups_of_node c s n) ms)
 
 -- each node is put in its groups, from none
 each-made : (c : Configuration) (s : State) (g : Group) (n : NodeId) → has_member same_node g n (members_of_all c s) ≡ is_among g (groups_of_node c s n)
 each-made c s g n =
-    sym (ap (λ (gone : List (Member NodeId)). has_member same_node g n (with_all is_node_before same_node (map (placed_node c s) ids) (without_all same_node gone []))) (no-members ids))
-    ∙ moved is_node_before same_node node_transitive node_one_way node_some_way node_equal g n
+    ap (has_member same_node g n) (as-moved c s ids [])
+    ∙ each-moved is_node_before same_node node_transitive node_one_way node_some_way node_equal g n
     (λ m. []) (groups_of_node c s) ids [] tt refl
     (λ out. ap (λ (o : Option NodeEntry). is_among g (option_map_or (λ k. groups_by c s k (node_queue n s.nodes)) (option_map (λ e. e.kept) o) [])) (nowhere n s.nodes out))
   where

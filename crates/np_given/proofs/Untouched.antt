@@ -4,32 +4,13 @@ use Rattle.std.specs.Prelude.{◌||◌, option_and_then, slice_get, slice_set}
 use Rattle.std.specs.List.{list_any}
 use Rattle.std.specs.Option.{option_map, option_map_or}
 use Rattle.std.proofs.lemmas.Bool.{or_parts}
-use Rattle.np_text.specs.declared.id.JobId.{JobId}
-use Rattle.np_text.specs.declared.id.NodeId.{NodeId}
-use Rattle.np_text.specs.declared.id.RequestId.{RequestId}
-use Rattle.np_text.specs.declared.id.RequesterId.{RequesterId}
-use Rattle.np_text.specs.declared.id.SessionId.{SessionId}
+use Rattle.np_keys.specs.Prelude.{Changes, Configuration, IsReached, JobId, JobRecord, JobsChange, Maker, NodeId, NodeRecord, RequestEdit, RequestEntry, RequestId, RequestRecord, RequesterId, RequestsChange, SessionId, State, changed, edited, grown, is_request, jobs_changed, node_in, node_queue, request_in, requests_changed, same_request, with_mark}
 use Rattle.np_text.specs.declared.word.RequestState.{RequestState}
-use Rattle.np_record.specs.declared.record.JobRecord.{JobRecord}
-use Rattle.np_record.specs.declared.record.NodeRecord.{NodeRecord}
-use Rattle.np_record.specs.declared.record.RequestRecord.{RequestRecord}
-use Rattle.np_site.specs.Configuration.{Configuration}
 use Rattle.np_lists.proofs.ChangeLemmas.{kept-change_at}
 use Rattle.np_keys.specs.Keys.{same_node}
-use Rattle.np_machine.specs.Entries.{RequestEntry}
 use Rattle.np_machine.specs.Kinds.{is_asked, is_fulfilled}
-use Rattle.np_machine.specs.Node.{with_mark}
-use Rattle.np_machine.specs.State.{State}
-use Rattle.np_machine.specs.Tables.{is_request, node_in, node_queue, request_in, same_request}
-use Rattle.np_changes.specs.Changes.{changed, edited, grown, jobs_changed, requests_changed}
-use Rattle.np_changes.specs.Planned.{IsReached}
-use Rattle.np_changes.specs.declared.changes.Changes.{Changes}
-use Rattle.np_changes.specs.declared.changes.JobsChange.{JobsChange}
 use Rattle.np_changes.specs.declared.changes.JobsChange.TheVariants as jobs
-use Rattle.np_changes.specs.declared.changes.Maker.{Maker}
-use Rattle.np_changes.specs.declared.changes.RequestEdit.{RequestEdit}
 use Rattle.np_changes.specs.declared.changes.RequestEdit.TheVariants as edit
-use Rattle.np_changes.specs.declared.changes.RequestsChange.{RequestsChange}
 use Rattle.np_changes.specs.declared.changes.RequestsChange.TheVariants as requests
 use Rattle.np_laws.specs.Parts.{Invariant, IsListed}
 use Rattle.np_laws.proofs.After.{calm-request, found-grown, left-request}

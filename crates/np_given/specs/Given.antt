@@ -1,20 +1,13 @@
 -- the groups of the nodes that were given to requesters, and what a state says of them
 use Rattle.std.specs.Prelude.{◌≡◌, ℕ, List, [], ◌∷◌, map, nat_lt, Option, Some}
 use Rattle.std.specs.Option.{option_map_or}
-use Rattle.np_text.specs.declared.id.NodeId.{NodeId}
-use Rattle.np_text.specs.declared.id.RequesterId.{RequesterId}
-use Rattle.np_text.specs.declared.id.SessionId.{SessionId}
-use Rattle.np_record.specs.declared.record.NodeRecord.{NodeRecord}
-use Rattle.np_site.specs.Configuration.{Configuration}
-use Rattle.np_lists.specs.Rising.{Rises}
+use Rattle.np_keys.specs.Prelude.{Configuration, NodeId, NodeRecord, RequesterId, Rises, SessionId, State, node_in, node_queue}
 use Rattle.np_groups.specs.declared.groups.Group.{Group}
 use Rattle.np_groups.specs.declared.groups.Member.{Member}
 use Rattle.np_groups.specs.Groups.{has_member, is_member_before}
 use Rattle.np_keys.specs.Keys.{is_node_before, same_node}
-use Rattle.np_machine.specs.State.{State}
-use Rattle.np_machine.specs.Tables.{node_in, node_queue}
 use Rattle.np_look.specs.Given.{given_to}
-use Rattle.np_classes.specs.Classes.{is_among}
+use Rattle.np_groups.specs.Moves.{is_among}
 
 -- ## groups (own)
 
@@ -46,10 +39,12 @@ pub record AreGivenGroups (c : Configuration) (s : State) (members : List (Membe
   pub each : (g : Group) (n : NodeId) → has_member same_node g n members ≡ is_among g (groups_of_node c s n)
   pub once : Rises (λ a b. nat_lt a.id.0 b.id.0) s.nodes
 
--- the members of all groups, and how many more can be put without taking memory
+-- the members of all groups, how many more can be put without taking memory, and of how many groups the list
+-- has room into which those of one node are written
 pub record GivenOf : Type 0 where
   pub members : List (Member NodeId)
   pub room : ℕ
+  pub list_room : ℕ
 
 -- they say what the state says
 abbrev pub AreGiven : Configuration → State → GivenOf → Type 0

@@ -2,18 +2,10 @@
 use Rattle.std.specs.Prelude.{Bool, true, false, ◌||◌, if◌then◌else◌, List, [], slice_get}
 use Rattle.std.specs.List.{list_any}
 use Rattle.std.specs.Option.{option_map_or}
-use Rattle.np_text.specs.declared.id.NodeId.{NodeId}
-use Rattle.np_text.specs.declared.id.RequestId.{RequestId}
-use Rattle.np_record.specs.declared.record.JobRecord.{JobRecord}
+use Rattle.np_keys.specs.Prelude.{Changes, JobRecord, JobsChange, NodeId, RequestEdit, RequestId, RequestsChange, State, request_in}
 use Rattle.np_keys.specs.Keys.{same_node}
-use Rattle.np_machine.specs.State.{State}
-use Rattle.np_machine.specs.Tables.{request_in}
-use Rattle.np_changes.specs.declared.changes.Changes.{Changes}
-use Rattle.np_changes.specs.declared.changes.JobsChange.{JobsChange}
 use Rattle.np_changes.specs.declared.changes.JobsChange.TheVariants as jobs
-use Rattle.np_changes.specs.declared.changes.RequestEdit.{RequestEdit}
 use Rattle.np_changes.specs.declared.changes.RequestEdit.TheVariants as edit
-use Rattle.np_changes.specs.declared.changes.RequestsChange.{RequestsChange}
 use Rattle.np_changes.specs.declared.changes.RequestsChange.TheVariants as requests
 use Rattle.np_classes.specs.Touched.{touches_node}
 

@@ -1,14 +1,8 @@
 -- the groups of a node, of whose queue only the first sessions are read
 use Rattle.std.specs.Prelude.{ℕ, List, [], map, take, Option, Some}
 use Rattle.std.specs.Option.{option_map_or}
-use Rattle.np_text.specs.declared.id.NodeId.{NodeId}
-use Rattle.np_text.specs.declared.id.RequesterId.{RequesterId}
-use Rattle.np_text.specs.declared.id.SessionId.{SessionId}
-use Rattle.np_site.specs.Configuration.{Configuration}
+use Rattle.np_keys.specs.Prelude.{Configuration, NodeId, RequesterId, SessionId, State, node_in, node_queue}
 use Rattle.np_groups.specs.declared.groups.Group.{Group}
-use Rattle.np_machine.specs.State.{State}
-use Rattle.np_machine.specs.Tables.{node_in, node_queue}
-use Rattle.np_classes.specs.Placed.{Placed}
 use Rattle.np_given.specs.Given.{groups_by, locked_group}
 
 -- the groups of these sessions in a node's queue
@@ -18,6 +12,3 @@ locked_groups q queue = map (λ session. Some (locked_group q session)) queue
 -- the groups of the node, if it is there and of its queue so many sessions are read at most
 abbrev pub groups_within : Configuration → State → ℕ → NodeId → List (Option Group)
 groups_within c s most n = option_map_or (λ k. groups_by c s k (take most (node_queue n s.nodes))) (node_in n s.nodes) []
-
-abbrev pub placed_within : Configuration → State → ℕ → NodeId → Placed NodeId
-placed_within c s most n = record { id = n; groups = groups_within c s most n }

@@ -2,21 +2,16 @@
 
 ghost use Rattle.std.specs.Prelude.{◌≡◌, true, IfOk};
 ghost use Rattle.std.specs.List.{list_any};
-ghost use Rattle.np_site.specs.Configuration.{Configuration};
+ghost use Rattle.np_keys.specs.Prelude.{Changes, Configuration, Fits, IsPlanned, IsReached, State, changed};
 ghost use Rattle.np_keys.specs.Keys.{same_node};
-ghost use Rattle.np_machine.specs.State.{State};
-ghost use Rattle.np_changes.specs.Changes.{changed};
-ghost use Rattle.np_changes.specs.declared.changes.Changes.{Changes};
-ghost use Rattle.np_changes.specs.Planned.{IsPlanned, IsReached};
-ghost use Rattle.np_fits.specs.Fits.{Fits};
 ghost use Rattle.np_classes.specs.Touched.{touches_node};
 ghost use Rattle.np_given.specs.Given.{AreGiven};
 ghost use Rattle.np_given.specs.Prepared.{HasRoom, IsPrepared};
 
-use crate::members::{all_nodes, put_nodes, take_out};
+use crate::members::{all_nodes, move_nodes};
 use crate::prepare::{Prepared, prepared_by};
 use np_changes::Changes;
-use np_groups::Groups;
+use np_groups::{Group, Groups};
 use np_keys::ByNode;
 use np_look::Rows;
 use np_text::NodeId;
@@ -27,14 +22,20 @@ use std::marker::Model;
 #[derive(Drop)]
 pub struct Given {
     pub(crate) nodes: Groups<ByNode>,
+    list: Vec<Option<Group>>,
 }
 
 impl Model for Given {
+    ghost use Rattle.std.specs.Prelude.{vec_capacity};
     ghost use Rattle.np_given.specs.Given.{GivenOf};
 
     ghost Value = { GivenOf };
 
-    ghost view = { λ given. record { members = given.nodes.members; room = given.nodes.room } };
+    ghost view = { λ given. record {
+      members = given.nodes.members;
+      room = given.nodes.room;
+      list_room = vec_capacity given.list;
+    } };
 }
 
 impl Given {
@@ -46,14 +47,17 @@ impl Given {
         ensures { IfOk result (λ x. AreGiven (R.site rows.now) (R.state rows.now) x) }
     {
         let nodes = all_nodes(alloc, rows)?;
-        Ok(Given { nodes })
+        Ok(Given {
+            nodes,
+            list: Vec::new(alloc),
+        })
     }
 
     /// Lists what the changes touch, before the state changes, and takes the memory for `note`. The
     /// members stay as they are, so nothing need be undone if the change fails. `touched` are the
     /// nodes whose records or queues may change; those of a request whose state changes, and of
     /// the request of a job whose record is put, are listed beside them. It costs a few lookups for
-    /// each listed node, and two for each session in its queue. The memory taken for each is as
+    /// each listed node, and three for each session in its queue. The memory taken for each is as
     /// much as the node with the longest queue may need.
     pub fn prepare<R: Rows>(
         &mut self,
@@ -73,16 +77,18 @@ impl Given {
     {
         let prepared = prepared_by(alloc, rows, changes, touched)?;
         let each = prepared.most as usize + 1;
-        let Some(room) = prepared.nodes.len().checked_mul(each) else {
+        let Some(room) = prepared.past.len().checked_mul(each) else {
             return Err(AllocError);
         };
         self.nodes.reserve(room)?;
+        self.list.reserve(each)?;
         Ok(prepared)
     }
 
-    /// Puts what was listed where it is now, after the state has changed. It takes no memory, and
-    /// costs a few lookups and binary searches for each listed node, and a lookup and a few binary
-    /// searches for each session in its queue before and after the change.
+    /// Moves what was listed to where it is now, after the state has changed. It takes no memory. It
+    /// costs a few lookups for each listed node and one for each session in its queue, and each of its
+    /// groups before the change is compared with those after it. A group that is left or joined costs
+    /// a few binary searches; where a node stays, nothing is searched.
     pub fn note<R: Rows>(&mut self, rows: &R, prepared: &Prepared)
         requires { HasRoom prepared.now self.old }
         ensures { (c : Configuration) (s : State) (ch : Changes)
@@ -90,12 +96,7 @@ impl Given {
             → R.site rows.now ≡ c → R.state rows.now ≡ changed c ch s
             → AreGiven c s self.old → AreGiven c (changed c ch s) self.new }
     {
-        take_out(&mut self.nodes, prepared.members.as_slice());
-        put_nodes(
-            &mut self.nodes,
-            rows,
-            prepared.nodes.as_slice(),
-            prepared.most,
-        );
+        let moved = prepared.past.as_slice();
+        move_nodes(&mut self.nodes, &mut self.list, rows, moved, prepared.most);
     }
 }

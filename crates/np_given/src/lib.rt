@@ -16,6 +16,7 @@
 mod given;
 mod group;
 mod members;
+mod past;
 mod prepare;
 mod readers;
 

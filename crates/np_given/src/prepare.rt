@@ -3,30 +3,23 @@
 ghost use Rattle.std.specs.Prelude.{◌≡◌, ◌≤◌, ◌++◌, suc, true, IfOk, OnOk, length, map};
 ghost use Rattle.std.specs.List.{AllByRecursion, list_any};
 ghost use Rattle.np_keys.specs.Keys.{same_node};
-ghost use Rattle.np_machine.specs.Tables.{node_queue};
-ghost use Rattle.np_fits.specs.Fits.{Fits, most};
-ghost use Rattle.np_classes.specs.Placed.{members_of, then_members};
+ghost use Rattle.np_keys.specs.Prelude.{Fits, most, node_queue};
 ghost use Rattle.np_classes.specs.Touched.{touches_node};
-ghost use Rattle.np_given.specs.Given.{groups_of_node};
 ghost use Rattle.np_given.specs.Listed.{changes_state, nodes_by_job, nodes_by_state, nodes_of_request};
 ghost use Rattle.np_given.specs.Prepared.{IsPrepared, placed_node};
-ghost use Rattle.np_given.specs.Within.{locked_groups};
 
-use crate::group::{given_group, locked_group};
-use crate::members::queue_length;
+use crate::past::{PastNode, past_node, queue_length};
 use np_changes::{Changes, JobsChange, RequestEdit, RequestsChange};
-use np_groups::Member;
-use np_look::{Rows, given_to};
-use np_text::{NodeId, RequestId, RequesterId};
+use np_look::Rows;
+use np_text::{NodeId, RequestId};
 use std::alloc::{AllocError, Global};
 use std::marker::Model;
 
-/// The nodes that an event's changes touch, with the members of groups that they are before it, and
-/// how many sessions may be in the queue of one of them after it.
+/// The nodes that an event's changes touch, with the groups that they are in before it, and how many
+/// sessions may be in the queue of one of them after it.
 #[derive(Drop)]
 pub struct Prepared {
-    pub(crate) nodes: Vec<NodeId>,
-    pub(crate) members: Vec<Member<NodeId>>,
+    pub(crate) past: Vec<PastNode>,
     pub(crate) most: u32,
 }
 
@@ -35,11 +28,7 @@ impl Model for Prepared {
 
     ghost Value = { PreparedOf };
 
-    ghost view = { λ prepared. record {
-      nodes = prepared.nodes.items;
-      members = prepared.members.items;
-      most = prepared.most;
-    } };
+    ghost view = { λ prepared. record { past = prepared.past.items; most = prepared.most } };
 }
 
 // ## lists of nodes
@@ -147,69 +136,21 @@ fn most_queued<R: Rows>(rows: &R, nodes: &[NodeId]) -> u32
     most
 }
 
-// ## lists of members
+// ## what is prepared
 
-/// Lists the node in the requester's group of each session in its queue.
-fn list_sessions<R: Rows>(
-    list: &mut Vec<Member<NodeId>>,
-    rows: &R,
-    node: NodeId,
-    requester: RequesterId,
-) -> Result<(), AllocError>
-    requires { Fits (R.site rows.now) (R.state rows.now) }
-    ensures { OnOk result (list.new.items
-        ≡ then_members node
-        (locked_groups requester (node_queue node (R.state rows.now).nodes)) list.old.items) }
-{
-    let mut at = 0;
-    while let Some(session) = rows.node_queue(node, at) {
-        list.push(Member {
-            group: locked_group(requester, session),
-            id: node,
-        })?;
-        at += 1;
-    }
-    Ok(())
-}
-
-/// Lists the node in its groups, if it was given to a requester.
-fn list_node<R: Rows>(
-    list: &mut Vec<Member<NodeId>>,
-    rows: &R,
-    node: NodeId,
-) -> Result<(), AllocError>
-    requires { Fits (R.site rows.now) (R.state rows.now) }
-    ensures { OnOk result (list.new.items
-        ≡ then_members node (groups_of_node (R.site rows.now) (R.state rows.now) node)
-        list.old.items) }
-{
-    let Some(kept) = rows.node(node) else {
-        return Ok(());
-    };
-    let Some(requester) = given_to(rows, &kept) else {
-        return Ok(());
-    };
-    list.push(Member {
-        group: given_group(requester),
-        id: node,
-    })?;
-    list_sessions(list, rows, node, requester)
-}
-
-/// The members that the nodes are in the groups. A few lookups for each node, and one for each
-/// session in its queue.
-fn members_of<R: Rows>(
+/// The nodes with their groups. A few lookups for each, and two for each session in its queue.
+fn past_nodes<R: Rows>(
     alloc: Global,
     rows: &R,
     nodes: &[NodeId],
-) -> Result<Vec<Member<NodeId>>, AllocError>
+) -> Result<Vec<PastNode>, AllocError>
     requires { Fits (R.site rows.now) (R.state rows.now) }
     ensures { IfOk result (λ list. list.items
-        ≡ members_of (map (placed_node (R.site rows.now) (R.state rows.now)) nodes.now)) }
+        ≡ map (placed_node (R.site rows.now) (R.state rows.now)) nodes.now) }
 {
     let mut list = Vec::new(alloc);
     for node in nodes {
-        list_node(&mut list, rows, *node)?;
+        list.push(past_node(alloc, rows, *node)?)?;
     }
     Ok(list)
 }
@@ -230,11 +171,7 @@ pub(crate) fn prepared_by<R: Rows>(
         IsPrepared (R.site rows.now) (R.state rows.now) changes.now prepared) }
 {
     let nodes = listed_nodes(alloc, rows, changes, touched)?;
-    let members = members_of(alloc, rows, nodes.as_slice())?;
+    let past = past_nodes(alloc, rows, nodes.as_slice())?;
     let most = most_queued(rows, nodes.as_slice());
-    Ok(Prepared {
-        nodes,
-        members,
-        most,
-    })
+    Ok(Prepared { past, most })
 }

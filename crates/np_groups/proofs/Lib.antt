@@ -1,5 +1,6 @@
 pub mod Order
 pub mod Kept
+pub mod MoveLemmas
 pub mod Ids
 pub mod Search
 pub mod Walk

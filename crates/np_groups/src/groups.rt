@@ -31,7 +31,7 @@ pub struct Member<K> {
     pub id: K,
 }
 
-fn is_same_group(one: Group, other: Group) -> bool
+pub(crate) fn is_same_group(one: Group, other: Group) -> bool
     ensures { result ≡ same_group one other }
 {
     one.class == other.class

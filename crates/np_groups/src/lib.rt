@@ -7,12 +7,17 @@
 //! `ranks` finds the ids of a list, or of a group, that are not in another group, by binary search:
 //! both are in order, so the ids of the inner group before a place of the outer are counted without
 //! visiting them. `specs/Ranks` defines which ids are outside.
+//!
+//! `moves` moves an id from the groups that it was in to those that it is in now, and searches only
+//! for those that it leaves or joins. `specs/Moves` says what is then in each group.
 #![tactic(auto)]
 
 mod groups;
 mod listing;
+mod moves;
 mod ranks;
 mod stock;
 
 pub use groups::{Group, Groups, Member};
+pub use moves::move_id;
 pub use ranks::{outside_at, outside_list_at};

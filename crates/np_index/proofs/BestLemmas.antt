@@ -3,13 +3,10 @@ use Rattle.std.proofs.Common.{◌≡◌, ◌∙◌, ◌⊎◌, inl, inr, ℕ, ze
 use Rattle.std.specs.Prelude.{◌==◌, ◌&&◌, find, nat_lt, slice_get}
 use Rattle.std.specs.Option.{option_map_or}
 use Rattle.std.proofs.lemmas.Bool.Decides.{nat_tests}
-use Rattle.np_text.specs.declared.id.PoolId.{PoolId}
-use Rattle.np_site.specs.Configuration.{Configuration}
-use Rattle.np_lists.specs.Rising.{Rises}
+use Rattle.np_keys.specs.Prelude.{Configuration, PoolId, Rises, State}
 use Rattle.np_lists.proofs.FoundLemmas.{find-passes}
 use Rattle.np_look.proofs.Placed.{there}
 use Rattle.np_groups.specs.declared.groups.Member.{Member}
-use Rattle.np_machine.specs.State.{State}
 use Rattle.np_open.specs.declared.ranks.Rank.{Rank}
 use Rattle.np_open.specs.Open.{AreOpen, IsLineFrom, OpenOf, first_line, line_after, ranks_of}
 use Rattle.np_open.specs.Ranks.{is_rank_before}

@@ -6,19 +6,12 @@ use Rattle.std.specs.List.{AllByRecursion, list_any}
 use Rattle.std.specs.Option.{option_map, option_map_or}
 use Rattle.std.proofs.lemmas.Bool.Decides.{nat_tests}
 use Rattle.std.proofs.lemmas.Option.{slice_get-map}
-use Rattle.np_text.specs.declared.id.PoolId.{PoolId}
-use Rattle.np_site.specs.Configuration.{Configuration}
-use Rattle.np_lists.specs.Change.{insert_before}
-use Rattle.np_lists.specs.Rising.{Rises}
+use Rattle.np_keys.specs.Prelude.{Configuration, PoolId, RequestEntry, Rises, State, holder, insert_before, is_requested, request_entry, same_request}
 use Rattle.np_lists.proofs.Each.{all-weaker, all-insert_before}
 use Rattle.np_lists.proofs.FilterLemmas.{list_any-insert_before}
 use Rattle.np_lists.proofs.RisingLemmas.{Rises-filter}
-use Rattle.np_machine.specs.Entries.{RequestEntry}
 use Rattle.np_machine.specs.First.{blocking, is_candidate, earlier, least, first_of}
-use Rattle.np_machine.specs.Kinds.{is_requested}
 use Rattle.np_machine.specs.Order.{comes_before, is_declined_by, is_id_before, is_pinned_away}
-use Rattle.np_machine.specs.State.{State}
-use Rattle.np_machine.specs.Tables.{holder, same_request, request_entry}
 use Rattle.np_laws.proofs.Lookups.{same_request-is}
 use Rattle.np_laws.proofs.Rising.{rises-insert_before}
 use Rattle.np_open.specs.declared.ranks.Rank.{Rank}

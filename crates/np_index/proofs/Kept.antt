@@ -1,10 +1,6 @@
 -- parts of an index that stay are those of the same state
 use Rattle.std.proofs.Common.{◌≡◌, subst, sym}
-use Rattle.np_text.specs.declared.id.SessionId.{SessionId}
-use Rattle.np_site.specs.Configuration.{Configuration}
-use Rattle.np_machine.specs.State.{State}
-use Rattle.np_changes.specs.Changes.{changed}
-use Rattle.np_changes.specs.declared.changes.Changes.{Changes}
+use Rattle.np_keys.specs.Prelude.{Changes, Configuration, SessionId, State, changed}
 use Rattle.np_changes.specs.declared.changes.SessionsChange.TheVariants as sessions
 use Rattle.np_awaited.specs.Awaited.{OthersStay}
 use Rattle.np_classes.specs.Prepared.{TouchedOf, IsPrepared as AreTouchedOf}

@@ -3,22 +3,13 @@ use Rattle.std.proofs.Common.{◌≡◌, ◌∙◌, ℕ, suc, ◌+◌, Bool, tru
 use Rattle.std.specs.Prelude.{◌&&◌, filter, is_none, is_some, option_and_then, slice_get}
 use Rattle.std.specs.List.{AllByRecursion, count_by}
 use Rattle.std.specs.Option.{option_map, option_map_or}
-use Rattle.np_text.specs.declared.id.PoolId.{PoolId}
-use Rattle.np_text.specs.declared.id.RequestId.{RequestId}
-use Rattle.np_text.specs.declared.id.TenantId.{TenantId}
-use Rattle.np_record.specs.declared.record.RequestRecord.{RequestRecord}
-use Rattle.np_site.specs.Configuration.{Configuration}
-use Rattle.np_lists.specs.Rising.{Rises}
+use Rattle.np_keys.specs.Prelude.{Asked, Configuration, PoolId, RequestEntry, RequestId, RequestRecord, Rises, State, TenantId, request_entry, request_in}
 use Rattle.np_lists.proofs.Each.{all-at, all-filter, all-from_at, all-weaker}
 use Rattle.np_lists.proofs.FilterLemmas.{filter-nothing}
 use Rattle.np_look.proofs.Placed.{there}
 use Rattle.np_groups.specs.declared.groups.Member.{Member}
-use Rattle.np_machine.specs.Entries.{RequestEntry}
 use Rattle.np_machine.specs.First.{blocking, is_candidate, is_open_to}
-use Rattle.np_machine.specs.State.{State}
-use Rattle.np_machine.specs.Tables.{request_entry, request_in}
 use Rattle.np_changes.specs.Asked.{asked_of, new_record}
-use Rattle.np_changes.specs.declared.asked.Asked.{Asked}
 use Rattle.np_open.specs.declared.ranks.Rank.{Rank}
 use Rattle.np_open.specs.Open.{AreOpen, IsOpenFrom, IsWaiting, OpenOf, is_closed_rank, ranks_of}
 use Rattle.np_open.specs.Ranks.{is_rank_before}

@@ -1,16 +1,9 @@
 -- the requests that a pool's launcher may take up, in the order in which launchers take them up
 use Rattle.std.specs.Prelude.{ℕ, Bool, true, false, ◌&&◌, if◌then◌else◌, List, [], ◌∷◌, Option, Some, None, filter, find, map, option_and_then, slice_get}
 use Rattle.std.specs.Option.{option_map, option_map_or}
-use Rattle.np_text.specs.declared.id.PoolId.{PoolId}
-use Rattle.np_text.specs.declared.id.RequestId.{RequestId}
-use Rattle.np_record.specs.declared.record.RequestRecord.{RequestRecord}
-use Rattle.np_site.specs.Configuration.{Configuration}
-use Rattle.np_lists.specs.Change.{insert_before}
-use Rattle.np_machine.specs.Entries.{RequestEntry}
+use Rattle.np_keys.specs.Prelude.{Configuration, PoolId, RequestEntry, RequestId, RequestRecord, State, insert_before, request_entry}
 use Rattle.np_machine.specs.First.{is_candidate, is_open_to}
 use Rattle.np_machine.specs.Order.{comes_before}
-use Rattle.np_machine.specs.State.{State}
-use Rattle.np_machine.specs.Tables.{request_entry}
 use Rattle.np_open.specs.declared.ranks.Rank.{Rank}
 use Rattle.np_open.specs.Moves.{rank_of}
 use Rattle.np_open.specs.Ranks.{is_rank_before}

@@ -1,8 +1,6 @@
 -- what an index has, and when it is the index of a state
 use Rattle.std.specs.Prelude.{List}
-use Rattle.np_amount.specs.declared.amount.Amount.{Amount}
-use Rattle.np_site.specs.Configuration.{Configuration}
-use Rattle.np_machine.specs.State.{State}
+use Rattle.np_keys.specs.Prelude.{Amount, Configuration, State}
 use Rattle.np_lookups.specs.Lookups.{AreLookupsOf, LookupsOf}
 use Rattle.np_classes.specs.Classes.{AreClasses, ClassesOf}
 use Rattle.np_awaited.specs.Awaited.{AreAwaited}

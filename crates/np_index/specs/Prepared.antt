@@ -1,10 +1,6 @@
 -- what is prepared of an index before a state changes
 use Rattle.std.specs.Prelude.{◌≡◌, List, Option}
-use Rattle.np_text.specs.declared.id.JobId.{JobId}
-use Rattle.np_text.specs.declared.id.SessionId.{SessionId}
-use Rattle.np_site.specs.Configuration.{Configuration}
-use Rattle.np_machine.specs.State.{State}
-use Rattle.np_changes.specs.declared.changes.Changes.{Changes}
+use Rattle.np_keys.specs.Prelude.{Changes, Configuration, JobId, SessionId, State}
 use Rattle.np_changes.specs.declared.changes.SessionsChange.TheVariants as sessions
 use Rattle.np_lookups.specs.Lookups.{AreLookupsOf}
 use Rattle.np_lookups.specs.Prepared.{PreparedOf as LookupsPrepared, IsPrepared as AreLookupsPrepared}

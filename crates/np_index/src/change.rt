@@ -1,13 +1,8 @@
 //! What the changes of an event make of an index.
 
 ghost use Rattle.std.specs.Prelude.{◌≡◌, IfOk, OnErr};
-ghost use Rattle.np_text.specs.declared.id.SessionId.{SessionId};
-ghost use Rattle.np_site.specs.Configuration.{Configuration};
-ghost use Rattle.np_machine.specs.State.{State};
-ghost use Rattle.np_changes.specs.Changes.{changed};
-ghost use Rattle.np_changes.specs.Planned.{IsPlanned, IsReached};
+ghost use Rattle.np_keys.specs.Prelude.{Configuration, Fits, IsPlanned, IsReached, SessionId, State, changed};
 ghost use Rattle.np_changes.specs.declared.changes.SessionsChange.TheVariants as sessions;
-ghost use Rattle.np_fits.specs.Fits.{Fits};
 ghost use Rattle.np_index.specs.Index.{IsIndexOf};
 ghost use Rattle.np_index.specs.Prepared.{HasRoomFor, IsPreparedFor};
 
@@ -64,10 +59,10 @@ impl Index {
     /// the state. So it is if a session ends, since nothing grows then: until `note` its queues can
     /// be read.
     ///
-    /// It costs a few lookups for each node that the changes touch and for a request whose record
-    /// they change, for one that pools declined a scan of its declines for each of the 64 pools, and
-    /// two lookups for each request whose queue alone changes. A session that ends touches the nodes
-    /// and the requests in whose queues it is.
+    /// It costs a few lookups for each node that the changes touch, for a request whose record they
+    /// change a few and one for each pool, for one that pools declined a scan of its declines for
+    /// each of the 64 pools, and two lookups for each request whose queue alone changes. A session
+    /// that ends touches the nodes and the requests in whose queues it is.
     pub fn prepare<R: Rows>(
         &mut self,
         alloc: Global,
@@ -111,9 +106,11 @@ impl Index {
 
     /// After the state has changed: makes the index that of the changed state. It takes no memory.
     ///
-    /// It costs a few lookups and binary searches for each node and request that was listed, and for
-    /// each job and session that the changes name. For a request whose record changed the
-    /// declines are read a few times for each pool.
+    /// It costs a few lookups for each node and request that was listed, a few binary searches for
+    /// each group that one of them leaves or joins, and both for each job and session that the
+    /// changes name. A request whose record changed costs a lookup for each pool as well, and if it
+    /// is requested, and a pool declined it or it is pinned, its declines are read a few times for
+    /// each pool.
     pub fn note<R: Rows>(&mut self, rows: &R, changes: &Changes, prepared: &Prepared)
         requires room { HasRoomFor (R.site rows.now) prepared.now self.old }
         ensures { (c : Configuration) (s : State) → IsReached c s → IsPlanned c s changes.now

@@ -2,17 +2,10 @@
 
 ghost use Rattle.std.specs.Prelude.{◌≡◌, ◌<◌, ◌^◌, IfOk, length};
 ghost use Rattle.std.specs.List.{list_any};
-ghost use Rattle.np_changes.specs.Planned.{IsReached};
-ghost use Rattle.np_changes.specs.Readers.{owner_of};
-ghost use Rattle.np_fits.specs.Fits.{Fits};
-ghost use Rattle.np_site.specs.Configuration.{Configuration};
-ghost use Rattle.np_machine.specs.Count.{count_of};
-ghost use Rattle.np_machine.specs.First.{blocking};
-ghost use Rattle.np_changes.specs.Asked.{new_record};
+ghost use Rattle.np_keys.specs.Prelude.{Configuration, Fits, IsReached, State, blocking, count_of, new_record, owner_of};
 ghost use Rattle.np_machine.specs.Reasons.{is_paused, is_spare};
 ghost use Rattle.np_machine.specs.Request.{is_spent_min_ready, ready_count};
 ghost use Rattle.np_machine.specs.Semaphore.{has_live_session};
-ghost use Rattle.np_machine.specs.State.{State};
 ghost use Rattle.np_machine.specs.Tenants.{count_of_tenant};
 ghost use Rattle.np_look.specs.Jobs.{job_to_acquire, job_to_begin, job_to_finish, job_to_release, job_to_take};
 ghost use Rattle.np_look.specs.Given.{node_to_leave, node_to_lock};

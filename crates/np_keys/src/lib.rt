@@ -2,7 +2,7 @@
 //! pairs by node and then server.
 //!
 //! Tables of rows with such ids are sorted in the same orders (np_tables); `specs/Keys` has the facts
-//! about them.
+//! about them. `specs/Prelude` passes on the names that tables and index cite most.
 #![tactic(auto)]
 
 mod keys;

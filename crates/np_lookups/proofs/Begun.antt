@@ -4,12 +4,9 @@ use Rattle.std.specs.Prelude.{◌==◌, slice_get}
 use Rattle.std.specs.List.{AllByRecursion}
 use Rattle.std.proofs.lemmas.Bool.Decides.{nat_tests}
 use Rattle.std.proofs.lemmas.Option.{slice_get_within}
-use Rattle.np_text.specs.declared.id.SessionId.{SessionId}
+use Rattle.np_keys.specs.Prelude.{SessionFacts, SessionId, State, is_queued, is_session, session_of}
 use Rattle.np_lists.proofs.Each.{all-weaker}
 use Rattle.np_lists.proofs.FilterLemmas.{list_any-none}
-use Rattle.np_machine.specs.declared.state.SessionFacts.{SessionFacts}
-use Rattle.np_machine.specs.State.{State}
-use Rattle.np_machine.specs.Tables.{session_of, is_session, is_queued}
 use Rattle.np_laws.specs.Parts.{IsLive}
 
 -- a session that was begun has a number up to that of the last one

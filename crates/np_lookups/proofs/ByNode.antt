@@ -2,13 +2,7 @@
 use Rattle.std.proofs.Common.{◌≡◌, ◌∙◌, ◌⊎◌, inl, inr, ◌<◌, ◌≤◌, ◌+◌, ℕ, zero, suc, List, [], ◌∷◌, ◌++◌, Option, length, refl, ap, sym, arith, length-append}
 use Rattle.std.specs.Option.{option_map}
 use Rattle.std.proofs.lemmas.Bool.{cases_lt}
-use Rattle.np_text.specs.declared.id.JobId.{JobId}
-use Rattle.np_text.specs.declared.id.NodeId.{NodeId}
-use Rattle.np_site.specs.Configuration.{Configuration}
-use Rattle.np_machine.specs.State.{State}
-use Rattle.np_machine.specs.Tables.{is_marked}
-use Rattle.np_changes.specs.Planned.{IsReached}
-use Rattle.np_changes.specs.Readers.{owner_of}
+use Rattle.np_keys.specs.Prelude.{Configuration, IsReached, JobId, NodeId, State, is_marked, owner_of}
 use Rattle.np_lookups.specs.Lookups.{owner_at, AreOwners}
 use Rattle.np_lookups.proofs.Firsts.{none-first}
 use Rattle.np_lookups.proofs.OfOwners.{owner_at-past}

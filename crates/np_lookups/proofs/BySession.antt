@@ -3,17 +3,10 @@ use Rattle.std.proofs.Common.{◌≡◌, ◌∙◌, ◌⊎◌, inl, inr, ℕ, fa
 use Rattle.std.specs.Prelude.{unwrap_or}
 use Rattle.std.proofs.lemmas.Bool.{cases_lt}
 use Rattle.std.proofs.lemmas.Option.{slice_get_past}
-use Rattle.np_text.specs.declared.id.NodeId.{NodeId}
-use Rattle.np_text.specs.declared.id.RequestId.{RequestId}
-use Rattle.np_text.specs.declared.id.SessionId.{SessionId}
-use Rattle.np_site.specs.Configuration.{Configuration}
+use Rattle.np_keys.specs.Prelude.{Configuration, IsReached, NodeId, RequestId, SessionId, State, is_queued, queued_nodes, queued_requests}
 use Rattle.np_lists.proofs.Each.{all-weaker}
-use Rattle.np_machine.specs.State.{State}
-use Rattle.np_machine.specs.Tables.{is_queued}
-use Rattle.np_changes.specs.Planned.{IsReached}
 use Rattle.np_laws.specs.Parts.{IsQueue, IsQueued}
 use Rattle.np_laws.proofs.Runs.{invariant-Runs}
-use Rattle.np_look.specs.Readers.{queued_requests, queued_nodes}
 use Rattle.np_lookups.specs.Lookups.{AreRequestsOf, AreNodesOf}
 use Rattle.np_lookups.specs.Lists.{list_at}
 use Rattle.np_lookups.proofs.Begun.{past-out}

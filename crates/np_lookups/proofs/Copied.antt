@@ -2,20 +2,11 @@
 use Rattle.std.proofs.Common.{◌≡◌, ◌∙◌, ℕ, zero, suc, ◌+◌, Bool, true, false, List, [], ◌∷◌, ◌++◌, take, Some, sym, ap, subst}
 use Rattle.std.specs.Prelude.{slice_get}
 use Rattle.std.specs.List.{AllByRecursion}
-use Rattle.np_text.specs.declared.id.SessionId.{SessionId}
-use Rattle.np_site.specs.Configuration.{Configuration}
-use Rattle.np_lists.specs.Change.{insert_before}
-use Rattle.np_lists.specs.Rising.{Rises, NonePass}
+use Rattle.np_keys.specs.Prelude.{Configuration, Invariant, IsReached, NonePass, Rises, SessionId, State, insert_before, is_id_before, is_queued, queued_nodes, queued_requests}
 use Rattle.np_lists.proofs.ChangeLemmas.{insert_before-end}
 use Rattle.np_lists.proofs.Each.{all-at, all-weaker}
-use Rattle.np_machine.specs.Order.{is_id_before}
-use Rattle.np_machine.specs.State.{State}
-use Rattle.np_machine.specs.Tables.{is_queued}
-use Rattle.np_changes.specs.Planned.{IsReached}
-use Rattle.np_laws.specs.Parts.{Invariant}
 use Rattle.np_laws.proofs.Runs.{invariant-Runs}
 use Rattle.np_keys.specs.Keys.{is_node_before}
-use Rattle.np_look.specs.Readers.{queued_requests, queued_nodes}
 use Rattle.np_look.proofs.Walks.{take_there}
 use Rattle.np_lookups.proofs.Ids.{apart, ids-rise}
 

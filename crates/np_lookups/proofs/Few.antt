@@ -1,11 +1,7 @@
 -- a session is in the queues of some of the rows
 use Rattle.std.proofs.Common.{◌≡◌, ◌≤◌, suc, List, [], ◌∷◌, length, map, filter, refl, ap, arith}
-use Rattle.np_text.specs.declared.id.SessionId.{SessionId}
+use Rattle.np_keys.specs.Prelude.{NodeEntry, RequestEntry, SessionId, State, is_queued, queued_nodes, queued_requests}
 use Rattle.np_lists.proofs.Each.{length-filter_at_most}
-use Rattle.np_machine.specs.Entries.{RequestEntry, NodeEntry}
-use Rattle.np_machine.specs.State.{State}
-use Rattle.np_machine.specs.Tables.{is_queued}
-use Rattle.np_look.specs.Readers.{queued_requests, queued_nodes}
 
 length-ids : {X Y : Type 0} (f : X → Y) (xs : List X) → length (map f xs) ≡ length xs
 length-ids f [] = refl

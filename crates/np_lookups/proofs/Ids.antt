@@ -5,8 +5,7 @@ use Rattle.std.specs.List.{AllByRecursion, list_any}
 use Rattle.std.proofs.lemmas.Bool.{false_from_ne_true}
 use Rattle.std.proofs.lemmas.List.{map-append}
 use Rattle.std.proofs.lemmas.List.Elements.{filter-append}
-use Rattle.np_lists.specs.Change.{change_first, remove_first, insert_before}
-use Rattle.np_lists.specs.Rising.{Rises, NonePass}
+use Rattle.np_keys.specs.Prelude.{NonePass, Rises, change_first, insert_before, remove_first}
 use Rattle.np_lists.proofs.Each.{all-map, all-filter, all-find, all-mapped, all-weaker}
 use Rattle.np_lists.proofs.FilterLemmas.{filter-nothing, list_any-none, none-list_any}
 use Rattle.np_lists.proofs.FoundLemmas.{find-passes}

@@ -2,25 +2,13 @@
 use Rattle.std.proofs.Common.{◌≡◌, ◌∙◌, ◌⊎◌, inl, inr, ℕ, Bool, true, false, List, [], ◌∷◌, Some, refl, sym, ap, subst}
 use Rattle.std.specs.Prelude.{◌||◌, ◌==◌, map, slice_get}
 use Rattle.std.specs.List.{list_any}
-use Rattle.np_text.specs.declared.id.JobId.{JobId}
-use Rattle.np_text.specs.declared.id.NodeId.{NodeId}
-use Rattle.np_text.specs.declared.id.RequestId.{RequestId}
+use Rattle.np_keys.specs.Prelude.{Asked, Changes, Configuration, JobId, JobRecord, NodeId, Phase, RequestId, State, is_asked, is_marked, is_new, is_using, marked, next_id, with_mark}
 use Rattle.np_text.specs.declared.word.Ending.TheVariants as ending
-use Rattle.np_text.specs.declared.word.Phase.{Phase}
 use Rattle.np_text.specs.declared.word.Phase.TheVariants as phase
-use Rattle.np_site.specs.Configuration.{Configuration}
-use Rattle.np_record.specs.declared.record.JobRecord.{JobRecord}
 use Rattle.np_lists.proofs.FilterLemmas.{list_any-map}
-use Rattle.np_machine.specs.Kinds.{is_new, is_asked, is_using}
-use Rattle.np_machine.specs.Node.{marked, with_mark}
-use Rattle.np_machine.specs.Request.{next_id}
 use Rattle.np_machine.specs.Semaphore.{unended}
-use Rattle.np_machine.specs.State.{State}
-use Rattle.np_machine.specs.Tables.{is_marked}
 use Rattle.np_changes.specs.Premises.{PutsJob, AsksForJob, TakesOver, FinishesJob, Withdraws}
 use Rattle.np_changes.specs.Plan.{request_after_withdraw}
-use Rattle.np_changes.specs.declared.asked.Asked.{Asked}
-use Rattle.np_changes.specs.declared.changes.Changes.{Changes}
 use Rattle.np_changes.specs.declared.changes.Growth.TheVariants as grow
 use Rattle.np_changes.specs.declared.changes.JobsChange.TheVariants as jobs
 use Rattle.np_changes.specs.declared.changes.RequestsChange.TheVariants as requests

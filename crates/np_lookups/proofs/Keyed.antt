@@ -4,8 +4,7 @@ use Rattle.std.specs.Prelude.{slice_get, slice_set, unwrap_or}
 use Rattle.std.specs.List.{AllByRecursion, list_any}
 use Rattle.std.proofs.lemmas.Bool.{false_from_ne_true}
 use Rattle.std.proofs.lemmas.Option.{slice_get-get_or}
-use Rattle.np_lists.specs.Change.{change_at, insert_before}
-use Rattle.np_lists.specs.Rising.{NonePass}
+use Rattle.np_keys.specs.Prelude.{NonePass, change_at, insert_before}
 use Rattle.np_lists.proofs.ChangeLemmas.{change_at-back, change_at-set}
 use Rattle.np_lists.proofs.Each.{all-weaker}
 use Rattle.np_lookups.specs.Lists.{list_at, without_id}

@@ -2,32 +2,14 @@
 use Rattle.std.proofs.Common.{◌≡◌, ◌∙◌, ◌⊎◌, inl, inr, ℕ, zero, suc, Bool, true, false, cond, List, [], ◌∷◌, Option, Some, None, refl, sym, ap, subst, arith}
 use Rattle.std.specs.Prelude.{◌==◌, slice_get, slice_set}
 use Rattle.std.specs.Option.{option_map_or}
-use Rattle.np_text.specs.declared.id.JobId.{JobId}
-use Rattle.np_text.specs.declared.id.NodeId.{NodeId}
-use Rattle.np_text.specs.declared.id.RequestId.{RequestId}
-use Rattle.np_text.specs.declared.id.RequesterId.{RequesterId}
-use Rattle.np_text.specs.declared.word.Phase.{Phase}
+use Rattle.np_keys.specs.Prelude.{Asked, Changes, Configuration, Growth, Job, JobId, JobRecord, JobsChange, Maker, NodeId, Phase, RequestId, RequesterId, State, change_at, changed, grown, is_asked, is_new, is_over, jobs_changed, unfinished_from, with_mark}
 use Rattle.np_text.specs.declared.word.Phase.TheVariants as phase
-use Rattle.np_site.specs.Configuration.{Configuration}
-use Rattle.np_site.specs.declared.row.Job.{Job}
-use Rattle.np_record.specs.declared.record.JobRecord.{JobRecord}
-use Rattle.np_lists.specs.Change.{change_at}
-use Rattle.np_machine.specs.Kinds.{is_new, is_asked, is_over}
-use Rattle.np_machine.specs.Node.{with_mark}
-use Rattle.np_machine.specs.State.{State}
-use Rattle.np_changes.specs.Changes.{grown, jobs_changed, changed}
 use Rattle.np_changes.specs.Premises.{PutsJob, AsksForJob, TakesOver, FinishesJob, Withdraws, JobsPremise}
 use Rattle.np_changes.specs.Plan.{request_after_withdraw}
-use Rattle.np_changes.specs.declared.asked.Asked.{Asked}
-use Rattle.np_changes.specs.declared.changes.Changes.{Changes}
-use Rattle.np_changes.specs.declared.changes.Growth.{Growth}
 use Rattle.np_changes.specs.declared.changes.Growth.TheVariants as grow
-use Rattle.np_changes.specs.declared.changes.JobsChange.{JobsChange}
 use Rattle.np_changes.specs.declared.changes.JobsChange.TheVariants as jobs
-use Rattle.np_changes.specs.declared.changes.Maker.{Maker}
 use Rattle.np_changes.specs.declared.changes.RequestsChange.TheVariants as requests
 use Rattle.np_keys.specs.Keys.{same_job}
-use Rattle.np_look.specs.Readers.{unfinished_from}
 use Rattle.np_lookups.specs.Changed.{unfinished_changed}
 use Rattle.np_lookups.specs.Lookups.{AreUnfinished}
 use Rattle.np_lookups.specs.Lists.{list_at, without_id}

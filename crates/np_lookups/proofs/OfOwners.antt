@@ -6,26 +6,12 @@ use Rattle.std.specs.List.{list_any}
 use Rattle.std.proofs.lemmas.Bool.{cases_lt}
 use Rattle.std.proofs.lemmas.Bool.Decides.{nat_tests}
 use Rattle.std.proofs.lemmas.Option.{slice_get_past}
-use Rattle.np_text.specs.declared.id.JobId.{JobId}
-use Rattle.np_text.specs.declared.id.NodeId.{NodeId}
-use Rattle.np_site.specs.Configuration.{Configuration}
-use Rattle.np_record.specs.declared.record.JobRecord.{JobRecord}
+use Rattle.np_keys.specs.Prelude.{Changes, Configuration, Growth, Invariant, JobId, JobRecord, JobsChange, Maker, NodeId, State, changed, grown, is_asked, is_marked, is_using, jobs_changed, owner_of, with_mark}
 use Rattle.np_record.specs.declared.record.Marked.{Marked}
 use Rattle.np_lists.proofs.Each.{all-at}
-use Rattle.np_machine.specs.Kinds.{is_asked, is_using}
-use Rattle.np_machine.specs.Node.{with_mark}
-use Rattle.np_machine.specs.State.{State}
-use Rattle.np_machine.specs.Tables.{is_marked}
-use Rattle.np_changes.specs.Changes.{grown, jobs_changed, changed}
 use Rattle.np_changes.specs.Premises.{JobsPremise, Premises}
-use Rattle.np_changes.specs.Readers.{owner_of}
-use Rattle.np_changes.specs.declared.changes.Changes.{Changes}
-use Rattle.np_changes.specs.declared.changes.Growth.{Growth}
 use Rattle.np_changes.specs.declared.changes.Growth.TheVariants as grow
-use Rattle.np_changes.specs.declared.changes.JobsChange.{JobsChange}
 use Rattle.np_changes.specs.declared.changes.JobsChange.TheVariants as jobs
-use Rattle.np_changes.specs.declared.changes.Maker.{Maker}
-use Rattle.np_laws.specs.Parts.{Invariant}
 use Rattle.np_laws.proofs.JobsLater.{jobs-grown}
 use Rattle.np_lookups.specs.Changed.{owners_grown, owners_with, owners_changed}
 use Rattle.np_lookups.specs.Lookups.{owner_at, AreOwners}

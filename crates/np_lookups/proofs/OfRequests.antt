@@ -1,26 +1,11 @@
 -- what the changes of an event make of the requests in whose queues one session is
 use Rattle.std.proofs.Common.{◌≡◌, List, [], Option, Some, None, refl}
-use Rattle.np_text.specs.declared.id.SessionId.{SessionId}
-use Rattle.np_text.specs.declared.id.RequestId.{RequestId}
-use Rattle.np_site.specs.Configuration.{Configuration}
-use Rattle.np_lists.specs.Rising.{Rises}
-use Rattle.np_machine.specs.Entries.{RequestEntry}
-use Rattle.np_machine.specs.Order.{is_id_before}
-use Rattle.np_machine.specs.Request.{next_id}
-use Rattle.np_machine.specs.State.{State}
-use Rattle.np_machine.specs.Tables.{request_entry, same_request}
-use Rattle.np_changes.specs.Asked.{new_record}
+use Rattle.np_keys.specs.Prelude.{Changes, Configuration, Growth, IsNumbered, Maker, RequestEntry, RequestId, RequestsChange, Rises, SessionId, SessionsChange, State, is_id_before, new_record, next_id, request_entry, same_request}
 use Rattle.np_changes.specs.Changes.{grown, edited, requests_changed, requests_left}
 use Rattle.np_changes.specs.Premises.{GrowthPremise}
-use Rattle.np_changes.specs.declared.changes.Changes.{Changes}
-use Rattle.np_changes.specs.declared.changes.Growth.{Growth}
 use Rattle.np_changes.specs.declared.changes.Growth.TheVariants as grow
-use Rattle.np_changes.specs.declared.changes.Maker.{Maker}
-use Rattle.np_changes.specs.declared.changes.RequestsChange.{RequestsChange}
 use Rattle.np_changes.specs.declared.changes.RequestsChange.TheVariants as requests
-use Rattle.np_changes.specs.declared.changes.SessionsChange.{SessionsChange}
 use Rattle.np_changes.specs.declared.changes.SessionsChange.TheVariants as sessions
-use Rattle.np_laws.specs.Parts.{IsNumbered}
 use Rattle.np_laws.proofs.Ids.{row-of}
 use Rattle.np_keys.specs.Keys.{request_one_way, request_equal}
 use Rattle.np_lookups.specs.declared.waits.Wait.{Wait}

@@ -4,12 +4,7 @@ use Rattle.std.specs.Prelude.{◌==◌, ◌&&◌, not, slice_get, slice_set}
 use Rattle.std.specs.Option.{option_map_or}
 use Rattle.std.specs.List.{AllByRecursion}
 use Rattle.std.proofs.lemmas.Bool.Decides.{nat_tests}
-use Rattle.np_text.specs.declared.id.JobId.{JobId}
-use Rattle.np_text.specs.declared.id.RequesterId.{RequesterId}
-use Rattle.np_site.specs.Configuration.{Configuration}
-use Rattle.np_record.specs.declared.record.JobRecord.{JobRecord}
-use Rattle.np_lists.specs.Change.{remove_first}
-use Rattle.np_machine.specs.Kinds.{is_over}
+use Rattle.np_keys.specs.Prelude.{Configuration, JobId, JobRecord, RequesterId, is_over, remove_first}
 use Rattle.np_look.specs.Readers.{is_unfinished_job, unfinished_from}
 use Rattle.np_keys.specs.Keys.{same_job}
 

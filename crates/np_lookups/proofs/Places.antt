@@ -3,10 +3,8 @@ use Rattle.std.proofs.Common.{◌≡◌, ◌∙◌, ◌<◌, ℕ, zero, suc, Boo
 use Rattle.std.specs.Prelude.{◌==◌, ◌||◌, slice_get, unwrap_or}
 use Rattle.std.specs.Option.{option_map, option_map_or}
 use Rattle.std.proofs.lemmas.Bool.{eqb-true}
-use Rattle.np_text.specs.declared.id.SessionId.{SessionId}
-use Rattle.np_lists.specs.Change.{change_at}
+use Rattle.np_keys.specs.Prelude.{SessionId, change_at, is_queued, is_session}
 use Rattle.np_lists.proofs.ChangeLemmas.{length-change_at, slice_get-change_at, slice_get-change_at_other}
-use Rattle.np_machine.specs.Tables.{is_session, is_queued}
 use Rattle.np_laws.specs.Parts.{DistinctSessions}
 use Rattle.np_lookups.specs.declared.waits.Wait.{Wait}
 use Rattle.np_lookups.specs.Changed.{lists_joined, lists_left, lists_without, lists_removed, lists_ended}

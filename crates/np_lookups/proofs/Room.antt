@@ -1,9 +1,6 @@
 -- lookups with one list more, which is empty: they are those of the same states
 use Rattle.std.proofs.Common.{◌≡◌, ◌∙◌, List, [], ◌∷◌, ◌++◌, length, ap, arith, length-append}
-use Rattle.np_text.specs.declared.id.NodeId.{NodeId}
-use Rattle.np_text.specs.declared.id.RequestId.{RequestId}
-use Rattle.np_site.specs.Configuration.{Configuration}
-use Rattle.np_machine.specs.State.{State}
+use Rattle.np_keys.specs.Prelude.{Configuration, NodeId, RequestId, State}
 use Rattle.np_lookups.specs.Lookups.{LookupsOf, AreLookupsOf}
 use Rattle.np_lookups.specs.Lists.{list_at}
 use Rattle.np_lookups.proofs.Places.{list_at-push}

@@ -2,12 +2,8 @@
 use Rattle.std.proofs.Common.{◌≡◌, ◌∙◌, ℕ, Bool, true, false, cond, List, [], ◌∷◌, ◌++◌, Option, Some, None, refl, sym, ap, subst, eqb-true}
 use Rattle.std.specs.Prelude.{◌||◌, not, find, map}
 use Rattle.std.specs.Option.{option_map_or}
-use Rattle.np_text.specs.declared.id.SessionId.{SessionId}
-use Rattle.np_lists.specs.Change.{change_first}
-use Rattle.np_lists.specs.Rising.{Rises}
+use Rattle.np_keys.specs.Prelude.{Locked, Rises, SessionId, change_first, is_queued, is_session, joined, left}
 use Rattle.np_lists.proofs.ChangeLemmas.{change_first-same}
-use Rattle.np_machine.specs.declared.state.Locked.{Locked}
-use Rattle.np_machine.specs.Tables.{is_session, is_queued, joined, left}
 use Rattle.np_lookups.specs.Lists.{ids_of, with_id, without_id}
 use Rattle.np_lookups.proofs.Ids.{ids-map, ids-change_first, ids-map_none, ids-there, ids-joined, ids-left, without_id-absent}
 use Rattle.np_lookups.proofs.Places.{list_joined, list_left, list_ended}

@@ -2,37 +2,20 @@
 use Rattle.std.proofs.Common.{◌≡◌, ◌∙◌, inl, inr, ◌<◌, ◌≤◌, ◌+◌, ◌-◌, ℕ, Bool, true, false, cond, List, [], ◌∷◌, length, Option, Some, None, IfSome, refl, sym, ap, subst, arith, length-append}
 use Rattle.std.specs.Prelude.{◌==◌}
 use Rattle.std.specs.Option.{option_map, option_map_or}
-use Rattle.np_text.specs.declared.id.SessionId.{SessionId}
-use Rattle.np_text.specs.declared.id.NodeId.{NodeId}
-use Rattle.np_text.specs.declared.id.RequestId.{RequestId}
-use Rattle.np_site.specs.Configuration.{Configuration}
+use Rattle.np_keys.specs.Prelude.{Changes, Configuration, Growth, IsPlanned, IsReached, Maker, NodeEntry, NodeId, NodesChange, RequestEntry, RequestId, RequestsChange, SessionFacts, SessionId, SessionsChange, State, ended, holder, is_id_before, is_queued, is_session, muted, node_entry, node_queue, queued_nodes, queued_requests, request_entry, request_queue, same_request}
 use Rattle.np_lists.proofs.ChangeLemmas.{length-change_at}
 use Rattle.np_lists.proofs.Each.{all-find}
-use Rattle.np_machine.specs.declared.state.SessionFacts.{SessionFacts}
-use Rattle.np_machine.specs.Entries.{RequestEntry, NodeEntry}
-use Rattle.np_machine.specs.Order.{is_id_before}
-use Rattle.np_machine.specs.Session.{muted, ended}
-use Rattle.np_machine.specs.State.{State}
-use Rattle.np_machine.specs.Tables.{same_request, is_session, is_queued, holder, node_queue, node_entry, request_queue, request_entry}
 use Rattle.np_changes.specs.Changes.{grown, changed, requests_changed, nodes_changed, sessions_changed}
 use Rattle.np_changes.proofs.PremisesOf.{premises}
-use Rattle.np_changes.specs.Planned.{IsReached, IsPlanned}
 use Rattle.np_changes.specs.Premises.{Premises, MakerPremise, RequestsPremise, NodesPremise, SessionsPremise}
-use Rattle.np_changes.specs.declared.changes.Changes.{Changes}
-use Rattle.np_changes.specs.declared.changes.Growth.{Growth}
 use Rattle.np_changes.specs.declared.changes.Growth.TheVariants as grow
-use Rattle.np_changes.specs.declared.changes.Maker.{Maker}
-use Rattle.np_changes.specs.declared.changes.NodesChange.{NodesChange}
 use Rattle.np_changes.specs.declared.changes.NodesChange.TheVariants as nodes
-use Rattle.np_changes.specs.declared.changes.RequestsChange.{RequestsChange}
 use Rattle.np_changes.specs.declared.changes.RequestsChange.TheVariants as requests
-use Rattle.np_changes.specs.declared.changes.SessionsChange.{SessionsChange}
 use Rattle.np_changes.specs.declared.changes.SessionsChange.TheVariants as sessions
 use Rattle.np_laws.specs.Parts.{DistinctSessions, Invariant, IsQueue}
 use Rattle.np_laws.proofs.Numbered.{grown-numbered}
 use Rattle.np_laws.proofs.Runs.{invariant-Runs}
 use Rattle.np_keys.specs.Keys.{is_node_before, same_node, node_one_way, node_equal, request_one_way, request_equal}
-use Rattle.np_look.specs.Readers.{queued_requests, queued_nodes}
 use Rattle.np_lookups.specs.Changed.{lists_joined, lists_left, lists_removed, lists_ended, queue_at, holder_at, lookups_grown, lookups_settled}
 use Rattle.np_lookups.specs.Lookups.{LookupsOf, HasRoom, AreLookupsOf}
 use Rattle.np_lookups.specs.Lists.{list_at, without_id}

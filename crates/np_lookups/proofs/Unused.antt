@@ -5,43 +5,27 @@ use Rattle.std.specs.List.{AllByRecursion, list_any}
 use Rattle.std.specs.Option.{option_map}
 use Rattle.std.proofs.lemmas.Bool.{false≢true, false_from_ne_true}
 use Rattle.std.proofs.lemmas.Option.{none-some, same_Some, slice_get_within}
-use Rattle.np_text.specs.declared.id.NodeId.{NodeId}
-use Rattle.np_text.specs.declared.id.RequestId.{RequestId}
+use Rattle.np_keys.specs.Prelude.{Changes, Configuration, Growth, Invariant, IsReached, Job, JobRecord, JobsChange, Maker, NodeEntry, NodeId, NodeRecord, NodesChange, RequestId, Rises, State, changed, grown, jobs_changed, new_job, nodes_changed, start}
 use Rattle.np_text.specs.declared.word.EndAs.{EndAs}
 use Rattle.np_text.specs.declared.word.EndAs.TheVariants as end
 use Rattle.np_text.specs.declared.word.NodeState.{NodeState}
 use Rattle.np_text.specs.declared.word.NodeState.TheVariants as node_state
-use Rattle.np_site.specs.Configuration.{Configuration}
-use Rattle.np_site.specs.declared.row.Job.{Job}
-use Rattle.np_record.specs.declared.record.JobRecord.{JobRecord}
 use Rattle.np_record.specs.declared.record.Marked.{Marked}
-use Rattle.np_record.specs.declared.record.NodeRecord.{NodeRecord}
 use Rattle.np_event.specs.declared.entry.Entry.{Entry}
 use Rattle.np_event.specs.declared.event.Event.{Event}
-use Rattle.np_lists.specs.Rising.{Rises}
 use Rattle.np_lists.proofs.Each.{all-at, all-set, all-change_at}
-use Rattle.np_machine.specs.Entries.{NodeEntry}
 use Rattle.np_machine.specs.History.{state_after}
 use Rattle.np_machine.specs.Kinds.{is_building, is_ready}
 use Rattle.np_machine.specs.Node.{ended_as, marked, with_mark}
-use Rattle.np_machine.specs.State.{State, start, new_job}
 use Rattle.np_machine.specs.Step.{judge, next}
 use Rattle.np_machine.specs.Tables.{is_marked, is_request, node_in, remove_node, freed}
-use Rattle.np_changes.specs.Changes.{grown, nodes_changed, jobs_changed, changed}
 use Rattle.np_changes.specs.Plan.{plan}
-use Rattle.np_changes.specs.Planned.{IsReached}
 use Rattle.np_changes.specs.Premises.{Starts, Reports, EndsNode, GivesUp, Frees, PutsNode, TakesOver, NodesPremise, JobsPremise, Premises}
-use Rattle.np_changes.specs.declared.changes.Changes.{Changes}
-use Rattle.np_changes.specs.declared.changes.Growth.{Growth}
 use Rattle.np_changes.specs.declared.changes.Growth.TheVariants as grow
-use Rattle.np_changes.specs.declared.changes.JobsChange.{JobsChange}
 use Rattle.np_changes.specs.declared.changes.JobsChange.TheVariants as jobs
-use Rattle.np_changes.specs.declared.changes.Maker.{Maker}
-use Rattle.np_changes.specs.declared.changes.NodesChange.{NodesChange}
 use Rattle.np_changes.specs.declared.changes.NodesChange.TheVariants as nodes
 use Rattle.np_changes.proofs.PlanLaws.{plan-next}
 use Rattle.np_changes.proofs.PremisesOf.{premises}
-use Rattle.np_laws.specs.Parts.{Invariant}
 use Rattle.np_laws.proofs.After.{grown-node, leave-node, nodes-after, next-more}
 use Rattle.np_laws.proofs.JobsLater.{jobs-grown}
 use Rattle.np_laws.proofs.Lookups.{node_in-put, node_in-remove, node_in-removed, node_in-freed, node_in-in_use, node_in-allocated, node_in-other, node_in-below, used_from}

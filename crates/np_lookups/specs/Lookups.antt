@@ -1,14 +1,6 @@
 -- what the lookups have, and when they are those of a state
 use Rattle.std.specs.Prelude.{◌≡◌, ◌<◌, ◌+◌, ℕ, List, Option, None, length, slice_get, unwrap_or}
-use Rattle.np_text.specs.declared.id.JobId.{JobId}
-use Rattle.np_text.specs.declared.id.NodeId.{NodeId}
-use Rattle.np_text.specs.declared.id.RequestId.{RequestId}
-use Rattle.np_text.specs.declared.id.RequesterId.{RequesterId}
-use Rattle.np_text.specs.declared.id.SessionId.{SessionId}
-use Rattle.np_site.specs.Configuration.{Configuration}
-use Rattle.np_machine.specs.State.{State}
-use Rattle.np_changes.specs.Readers.{owner_of}
-use Rattle.np_look.specs.Readers.{unfinished_from, queued_requests, queued_nodes}
+use Rattle.np_keys.specs.Prelude.{Configuration, JobId, NodeId, RequestId, RequesterId, SessionId, State, owner_of, queued_nodes, queued_requests, unfinished_from}
 use Rattle.np_lookups.specs.Lists.{list_at}
 
 -- the parts of lookups (own)

@@ -1,10 +1,6 @@
 -- what is prepared before a state changes, and what is made of it
 use Rattle.std.specs.Prelude.{ℕ, Bool, List, Option}
-use Rattle.np_text.specs.declared.id.SessionId.{SessionId}
-use Rattle.np_site.specs.Configuration.{Configuration}
-use Rattle.np_machine.specs.State.{State}
-use Rattle.np_changes.specs.Changes.{changed}
-use Rattle.np_changes.specs.declared.changes.Changes.{Changes}
+use Rattle.np_keys.specs.Prelude.{Changes, Configuration, SessionId, State, changed}
 use Rattle.np_lookups.specs.Changed.{lookups_settled, lookups_taken_back}
 use Rattle.np_lookups.specs.Lookups.{AreLookupsOf, LookupsOf}
 

@@ -1,9 +1,7 @@
 -- which jobs are over
 use Rattle.std.specs.Prelude.{Bool, false, slice_get}
 use Rattle.std.specs.Option.{option_map_or}
-use Rattle.np_text.specs.declared.id.JobId.{JobId}
-use Rattle.np_machine.specs.Kinds.{is_over}
-use Rattle.np_machine.specs.State.{State}
+use Rattle.np_keys.specs.Prelude.{JobId, State, is_over}
 
 -- the job exists and is over
 abbrev pub has_ended : State → JobId → Bool

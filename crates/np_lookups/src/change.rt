@@ -1,12 +1,8 @@
 //! What the changes of an event make of the lookups.
 
 ghost use Rattle.std.specs.Prelude.{◌≡◌, IfOk, OnErr, OnOk};
-ghost use Rattle.np_text.specs.declared.id.SessionId.{SessionId};
-ghost use Rattle.np_site.specs.Configuration.{Configuration};
-ghost use Rattle.np_changes.specs.Planned.{IsPlanned, IsReached};
+ghost use Rattle.np_keys.specs.Prelude.{Configuration, Fits, IsPlanned, IsReached, SessionId, State};
 ghost use Rattle.np_changes.specs.declared.changes.SessionsChange.TheVariants as sessions;
-ghost use Rattle.np_fits.specs.Fits.{Fits};
-ghost use Rattle.np_machine.specs.State.{State};
 ghost use Rattle.np_lookups.specs.Changed.{lookups_grown, lookups_settled, lookups_taken_back};
 ghost use Rattle.np_lookups.specs.Lookups.{AreLookupsOf};
 ghost use Rattle.np_lookups.specs.Prepared.{IsPrepared, lookups_made, lookups_unmade};

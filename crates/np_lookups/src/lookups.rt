@@ -1,11 +1,7 @@
 //! The lookups of a state.
 
 ghost use Rattle.std.specs.Prelude.{◌≡◌, IfOk, OnOk, length};
-ghost use Rattle.np_machine.specs.State.{State};
-ghost use Rattle.np_changes.specs.Planned.{IsReached};
-ghost use Rattle.np_changes.specs.Readers.{owner_of};
-ghost use Rattle.np_fits.specs.Fits.{Fits};
-ghost use Rattle.np_site.specs.Configuration.{Configuration};
+ghost use Rattle.np_keys.specs.Prelude.{Configuration, Fits, IsReached, State, owner_of};
 ghost use Rattle.np_look.specs.Readers.{queued_nodes, queued_requests, unfinished_of};
 ghost use Rattle.np_lookups.specs.Lookups.{AreNodesOf, AreRequestsOf, HasRoom, AreLookupsOf};
 

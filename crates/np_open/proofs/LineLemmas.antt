@@ -6,15 +6,8 @@ use Rattle.std.specs.List.{AllByRecursion}
 use Rattle.std.specs.Option.{option_map, option_map_or}
 use Rattle.std.proofs.lemmas.Bool.Decides.{nat_tests}
 use Rattle.std.proofs.lemmas.Slice.Eq.{slice_eq-Decides}
-use Rattle.np_text.specs.declared.id.JobId.{JobId}
-use Rattle.np_text.specs.declared.id.LabelId.{LabelId}
-use Rattle.np_text.specs.declared.id.PoolId.{PoolId}
-use Rattle.np_text.specs.declared.id.TenantId.{TenantId}
+use Rattle.np_keys.specs.Prelude.{Configuration, Job, JobId, LabelId, PoolId, RequestRecord, Rises, State, TenantId}
 use Rattle.np_text.specs.declared.word.RequestState.TheVariants.{Requested}
-use Rattle.np_site.specs.Configuration.{Configuration}
-use Rattle.np_site.specs.declared.row.Job.{Job}
-use Rattle.np_record.specs.declared.record.RequestRecord.{RequestRecord}
-use Rattle.np_lists.specs.Rising.{Rises}
 use Rattle.np_lists.proofs.Each.{all-weaker}
 use Rattle.np_lists.proofs.FilterLemmas.{filter-nothing}
 use Rattle.np_groups.specs.declared.groups.Group.{Group}
@@ -24,7 +17,6 @@ use Rattle.np_groups.proofs.Ids.{step}
 use Rattle.np_groups.proofs.Order.{group-equal, group-itself, group-transitive}
 use Rattle.np_machine.specs.First.{blocking, short_tenant}
 use Rattle.np_machine.specs.Reasons.{first_unoffered, never_fits}
-use Rattle.np_machine.specs.State.{State}
 use Rattle.np_machine.specs.Tenants.{is_tenant, limit_of_tenant, passes_tenant, tenant_of_request}
 use Rattle.np_look.specs.Readers.{has_limit}
 use Rattle.np_open.specs.declared.ranks.Rank.{Rank}

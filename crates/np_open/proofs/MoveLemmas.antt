@@ -1,21 +1,17 @@
 -- the members of groups after a request is moved from those that one record has it in to another's
-use Rattle.std.proofs.Common.{◌≡◌, ◌∙◌, ◌⊎◌, inl, inr, ◌<◌, ◌+◌, ℕ, Bool, true, false, cond, not, List, Option, None, Some, refl, sym, ap, subst, arith}
-use Rattle.std.specs.Prelude.{◌==◌, ◌&&◌, ◌||◌, nat_lt}
+use Rattle.std.proofs.Common.{◌≡◌, ◌∙◌, ◌⊎◌, inl, inr, ◌<◌, ◌≤◌, ◌+◌, ℕ, zero, suc, Bool, true, false, cond, not, List, [], ◌∷◌, length, Option, None, Some, refl, sym, ap, subst, arith}
+use Rattle.std.specs.Prelude.{◌==◌, ◌&&◌, ◌||◌, is_some, nat_lt}
 use Rattle.std.specs.Option.{option_map_or}
 use Rattle.std.proofs.lemmas.Bool.Decides.{nat_tests}
-use Rattle.np_text.specs.declared.id.PoolId.{PoolId}
-use Rattle.np_text.specs.declared.id.RequestId.{RequestId}
-use Rattle.np_record.specs.declared.record.RequestRecord.{RequestRecord}
-use Rattle.np_lists.specs.Rising.{Rises}
+use Rattle.np_keys.specs.Prelude.{Declined, PoolId, RequestId, RequestRecord, Rises, is_requested, same_request}
 use Rattle.np_groups.specs.declared.groups.Group.{Group}
 use Rattle.np_groups.specs.declared.groups.Member.{Member}
-use Rattle.np_groups.specs.Groups.{same_group, is_member_before, has_member}
+use Rattle.np_groups.specs.Groups.{same_group, is_member_before, has_member, member}
 use Rattle.np_groups.proofs.Kept.{has-with, has-without, rises-with, rises-without}
 use Rattle.np_groups.proofs.Order.{member-equal}
-use Rattle.np_machine.specs.Kinds.{is_requested}
-use Rattle.np_machine.specs.Tables.{same_request}
+use Rattle.np_machine.specs.Order.{is_declined_by, is_elsewhere}
 use Rattle.np_open.specs.declared.ranks.Rank.{Rank}
-use Rattle.np_open.specs.Moves.{AreBy, IsEither, closed_member, open_member, passes_with, same_members, with_moved, with_one, without_one}
+use Rattle.np_open.specs.Moves.{AreBy, IsEither, closed_member, is_found_closed, is_found_open, open_member, passes_with, rank_of, same_members, with_moved, with_one, without_one}
 use Rattle.np_open.specs.Open.{closed_group, is_closed_to, is_found_in, open_group, pool_of}
 use Rattle.np_open.specs.Ranks.{is_rank_before, rank_equal, rank_one_way, rank_some_way, rank_transitive, same_rank}
 
@@ -261,6 +257,33 @@ none-found pools of g x (Some k) out =
     by false true false is other all = rw (not-open g (of k) is) (and_false (same_group (closed_group (of k) (pool_of g)) g))
     by false false l is other all = rw (not-open g (of k) is, not-closed g (of k) (pool_of g) other) refl
 
+-- ## a record that has the request in no group
+
+none-open : (line : ℕ) (r : RequestId) (found : Option RequestRecord) → is_found_open found ≡ false → open_member line r found ≡ None
+none-open line r None out = refl
+none-open line r (Some k) out = rw out refl
+
+more-than_none : (n : ℕ) → (suc n == 0) ≡ false
+more-than_none n = grind (arith, nat_tests)
+
+none-closed : (line : ℕ) (p : PoolId) (r : RequestId) (found : Option RequestRecord) → is_found_closed found ≡ false → closed_member line p r found ≡ None
+none-closed line p r None out = refl
+none-closed line p r (Some k) out = by (is_requested k.state) k.pinned k.declined (Some (member (closed_group line p) (rank_of r k))) out where
+  by : (b : Bool) (pinned : Option PoolId) (declined : List Declined) (one : Option (Member Rank)) → (b && (is_some pinned || not (length declined == 0))) ≡ false
+      → cond (b && (is_declined_by p declined || is_elsewhere p pinned)) one None ≡ None
+  by false pinned declined one out = refl
+  by true None [] one out = refl
+  by true None (d ∷ declined) one out = absurd (let turned : true ≡ false = sym (ap (λ (b : Bool). not b) (more-than_none (length declined))) ∙ out in cc)
+  by true (Some q) declined one out = absurd cc
+
+not_open-not_closed : (found : Option RequestRecord) → is_found_open found ≡ false → is_found_closed found ≡ false
+not_open-not_closed None out = refl
+not_open-not_closed (Some k) out = rw out refl
+
+-- what a call is passed, as it is defined
+pub moved-as : (a b k l : Option (Member Rank)) (ms later : List (Member Rank)) → later ≡ with_moved a b ms → a ≡ k → b ≡ l → later ≡ with_moved k l ms
+moved-as a b k l ms later is was now = rw (← was, ← now) is
+
 module _ (pools : ℕ) (of : RequestRecord → ℕ) (r : RequestId) (was now : Option RequestRecord) (passes : Group → Rank → Bool) (either : IsEither pools of r was now passes) where
   abbrev line_was : ℕ
   line_was = option_map_or of was 0
@@ -282,6 +305,15 @@ module _ (pools : ℕ) (of : RequestRecord → ℕ) (r : RequestId) (was now : O
       by g x true false = refl
       by g x false true = rw (none_below g.first, and_false (is_closed g)) refl
       by g x false false = refl
+
+  -- as a call does it
+  pub open-moved-by : (left joined : ℕ) (a b : Option (Member Rank)) (ms later : List (Member Rank)) → left ≡ line_was → joined ≡ line_now
+      → a ≡ open_member left r was → b ≡ open_member joined r now → later ≡ with_moved a b ms → AreBy passes ms → AreBy (passes_so_far pools of r now 0 passes) later
+  open-moved-by left joined a b ms later left_is joined_is a_is b_is is are =
+      subst (AreBy (passes_so_far pools of r now 0 passes))
+      (sym (moved-as a b (open_member line_was r was) (open_member line_now r now) ms later is
+      (a_is ∙ ap (λ (line : ℕ). open_member line r was) left_is) (b_is ∙ ap (λ (line : ℕ). open_member line r now) joined_is)))
+      (open-moved ms are)
 
   -- then in those of each pool
   pub closed-moved : (p : PoolId) → p.0 < pools → (ms : List (Member Rank)) → AreBy (passes_so_far pools of r now p.0 passes) ms
@@ -310,6 +342,20 @@ module _ (pools : ℕ) (of : RequestRecord → ℕ) (r : RequestId) (was now : O
         stays (passes g x) (is_found_in pools of g x was) (is_found_in pools of g x now) (either g x is) (none-found pools of g x was out ∙ sym (none-found pools of g x now out))
     by g x false d is done = refl
 
--- what a call is passed, as it is defined
-pub moved-as : (a b k l : Option (Member Rank)) (ms later : List (Member Rank)) → later ≡ with_moved a b ms → a ≡ k → b ≡ l → later ≡ with_moved k l ms
-moved-as a b k l ms later is was now = rw (← was, ← now) is
+  -- if it was closed to no pool and is to none
+  pub none-closed-moved : is_found_closed was ≡ false → is_found_closed now ≡ false → (ms : List (Member Rank)) → AreBy (passes_so_far pools of r now 0 passes) ms
+      → AreBy (passes_with pools of r now passes) ms
+  none-closed-moved was_out now_out ms are = all-moved ms (by pools (omega arith)) where
+    by : (n : ℕ) → n ≤ pools → AreBy (passes_so_far pools of r now n passes) ms
+    by zero few = are
+    by (suc n) few =
+        let moved = closed-moved (pool_by n) (omega arith) ms (by n (omega arith)) in
+        let next : n + 1 ≡ suc n = omega arith in
+        rw (none-closed line_was (pool_by n) r was was_out, none-closed line_now (pool_by n) r now now_out, next) at moved
+
+  -- or was in no line and is in none
+  pub none-moved : is_found_open was ≡ false → is_found_open now ≡ false → (ms : List (Member Rank)) → AreBy passes ms → AreBy (passes_with pools of r now passes) ms
+  none-moved was_out now_out ms are =
+      let moved = open-moved ms are in
+      none-closed-moved (not_open-not_closed was was_out) (not_open-not_closed now now_out) ms
+      (rw (none-open line_was r was was_out, none-open line_now r now now_out) at moved)

@@ -3,19 +3,11 @@ use Rattle.std.proofs.Common.{◌≡◌, ◌∙◌, inl, inr, ◌⊎◌, ◌+◌
 use Rattle.std.specs.Prelude.{◌||◌, slice_get}
 use Rattle.std.specs.List.{list_any}
 use Rattle.std.proofs.lemmas.Option.{slice_get-get_or}
-use Rattle.np_text.specs.declared.id.JobId.{JobId}
-use Rattle.np_text.specs.declared.id.RequestId.{RequestId}
-use Rattle.np_record.specs.declared.record.RequestRecord.{RequestRecord}
-use Rattle.np_site.specs.Configuration.{Configuration}
+use Rattle.np_keys.specs.Prelude.{Changes, Configuration, IsReached, JobId, RequestId, RequestRecord, State, changed, request_in, same_request}
 use Rattle.np_groups.specs.declared.groups.Group.{Group}
 use Rattle.np_groups.specs.declared.groups.Member.{Member}
 use Rattle.np_lists.proofs.Each.{all-at, all-map, all-weaker}
 use Rattle.np_keys.specs.Keys.{request_equal}
-use Rattle.np_machine.specs.State.{State}
-use Rattle.np_machine.specs.Tables.{request_in, same_request}
-use Rattle.np_changes.specs.Changes.{changed}
-use Rattle.np_changes.specs.Planned.{IsReached}
-use Rattle.np_changes.specs.declared.changes.Changes.{Changes}
 use Rattle.np_laws.proofs.Numbered.{numbered}
 use Rattle.np_laws.proofs.Runs.{invariant-Runs}
 use Rattle.np_look.proofs.Walks.{take_there}

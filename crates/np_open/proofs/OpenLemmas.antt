@@ -4,20 +4,13 @@ use Rattle.std.specs.Prelude.{◌==◌, ◌&&◌, ◌||◌, filter, is_none, sli
 use Rattle.std.specs.List.{list_any}
 use Rattle.std.specs.Option.{option_map, option_map_or}
 use Rattle.std.proofs.lemmas.Bool.Decides.{nat_tests}
-use Rattle.np_text.specs.declared.id.JobId.{JobId}
-use Rattle.np_text.specs.declared.id.PoolId.{PoolId}
-use Rattle.np_record.specs.declared.record.RequestRecord.{RequestRecord}
-use Rattle.np_site.specs.Configuration.{Configuration}
+use Rattle.np_keys.specs.Prelude.{Configuration, JobId, PoolId, RequestEntry, RequestRecord, State, holder, is_requested, request_entry, request_in}
 use Rattle.np_lists.proofs.EditLemmas.{list_any-there}
 use Rattle.np_groups.specs.declared.groups.Member.{Member}
 use Rattle.np_groups.specs.Groups.{same_group}
 use Rattle.np_groups.proofs.Ids.{ids-has, ids-rise}
-use Rattle.np_machine.specs.Entries.{RequestEntry}
 use Rattle.np_machine.specs.First.{is_open_to}
-use Rattle.np_machine.specs.Kinds.{is_requested}
 use Rattle.np_machine.specs.Order.{is_declined_by, is_pinned_away}
-use Rattle.np_machine.specs.State.{State}
-use Rattle.np_machine.specs.Tables.{holder, request_entry, request_in}
 use Rattle.np_open.specs.declared.ranks.Rank.{Rank}
 use Rattle.np_open.specs.Lines.{line_of}
 use Rattle.np_open.specs.Open.{AreOpen, AreRequested, IsOpenFrom, IsWaiting, OpenOf, closed_group, is_closed_rank, is_found_in, is_requested_at, open_group, ranks_of}

@@ -3,24 +3,15 @@ use Rattle.std.proofs.Common.{◌≡◌, ◌∙◌, inl, ◌+◌, ℕ, zero, suc
 use Rattle.std.specs.Prelude.{find, slice_get}
 use Rattle.std.specs.Option.{option_map}
 use Rattle.std.specs.List.{AllByRecursion}
-use Rattle.np_text.specs.declared.id.JobId.{JobId}
-use Rattle.np_record.specs.declared.record.RequestRecord.{RequestRecord}
-use Rattle.np_site.specs.Configuration.{Configuration}
+use Rattle.np_keys.specs.Prelude.{Configuration, IsReached, JobId, NonePass, RequestEntry, RequestRecord, Rises, State, is_id_before, request_in, request_view, same_request}
 use Rattle.np_groups.specs.declared.groups.Group.{Group}
 use Rattle.np_groups.specs.declared.groups.Member.{Member}
-use Rattle.np_lists.specs.Rising.{Rises, NonePass}
 use Rattle.np_lists.proofs.Each.{all-at, all-weaker}
 use Rattle.np_lists.proofs.Halves.{find-none}
 use Rattle.np_keys.specs.Keys.{request_equal, request_one_way}
-use Rattle.np_machine.specs.Entries.{RequestEntry}
-use Rattle.np_machine.specs.Order.{is_id_before}
-use Rattle.np_machine.specs.State.{State}
-use Rattle.np_machine.specs.Tables.{request_in, same_request}
-use Rattle.np_changes.specs.Planned.{IsReached}
 use Rattle.np_table.proofs.KeyLemmas.{apart}
 use Rattle.np_laws.proofs.Locked.{find-push_other, find-push_new}
 use Rattle.np_laws.proofs.Runs.{invariant-Runs}
-use Rattle.np_look.specs.Views.{request_view}
 use Rattle.np_look.specs.declared.asked.RequestView.{RequestView}
 use Rattle.np_look.proofs.Walks.{take_there}
 use Rattle.np_open.specs.declared.ranks.Rank.{Rank}

@@ -6,17 +6,11 @@ use Rattle.std.specs.Option.{option_map_or}
 use Rattle.std.proofs.lemmas.Bool.{false_from_ne_true}
 use Rattle.std.proofs.lemmas.Bool.Decides.{nat_tests}
 use Rattle.std.proofs.lemmas.Option.{slice_get_within}
-use Rattle.np_text.specs.declared.id.PoolId.{PoolId}
-use Rattle.np_record.specs.declared.record.RequestRecord.{RequestRecord}
-use Rattle.np_site.specs.Configuration.{Configuration}
-use Rattle.np_lists.specs.Rising.{Rises, NonePass}
+use Rattle.np_keys.specs.Prelude.{Configuration, NonePass, PoolId, RequestRecord, Rises, State, is_requested, request_in}
 use Rattle.np_lists.proofs.Each.{all-at, all-filter, all-weaker}
 use Rattle.np_lists.proofs.RisingLemmas.{Rises-filter}
 use Rattle.np_groups.specs.Groups.{has_member, ids_in}
 use Rattle.np_groups.proofs.Ids.{ids-has, ids-rise, same-list}
-use Rattle.np_machine.specs.Kinds.{is_requested}
-use Rattle.np_machine.specs.State.{State}
-use Rattle.np_machine.specs.Tables.{request_in}
 use Rattle.np_open.specs.declared.ranks.Rank.{Rank}
 use Rattle.np_open.specs.Lines.{line_of}
 use Rattle.np_open.specs.Open.{AreOpen, IsOpenFrom, OpenOf, closed_group, is_closed_rank, is_found_in, open_group, ranks_of}

@@ -3,12 +3,7 @@
 use Rattle.std.specs.Prelude.{ℕ, suc, List, Bool, false, ◌==◌, ◌&&◌, is_none, if◌then◌else◌, option_and_then, slice_get}
 use Rattle.std.specs.Cmp.Lexicographic.{pointwise}
 use Rattle.std.specs.Option.{option_map_or}
-use Rattle.np_text.specs.declared.id.JobId.{JobId}
-use Rattle.np_text.specs.declared.id.LabelId.{LabelId}
-use Rattle.np_site.specs.Configuration.{Configuration}
-use Rattle.np_site.specs.declared.row.Job.{Job}
-use Rattle.np_record.specs.declared.record.RequestRecord.{RequestRecord}
-use Rattle.np_machine.specs.Tenants.{is_tenant, limit_of_tenant, tenant_of_request}
+use Rattle.np_keys.specs.Prelude.{Configuration, Job, JobId, LabelId, RequestRecord, is_tenant, limit_of_tenant, tenant_of_request}
 use Rattle.np_look.specs.Readers.{has_limit}
 
 -- the same labels, in the same order

@@ -1,19 +1,11 @@
 -- what records before and after a change make of the members of groups (own)
-use Rattle.std.specs.Prelude.{◌≡◌, ◌⊎◌, ℕ, List, Bool, true, false, ◌&&◌, Option, Some, None, if◌then◌else◌, length, option_and_then}
+use Rattle.std.specs.Prelude.{◌≡◌, ◌⊎◌, ℕ, List, Bool, true, false, ◌==◌, ◌&&◌, ◌||◌, not, is_some, Option, Some, None, if◌then◌else◌, length, option_and_then}
 use Rattle.std.specs.List.{AllByRecursion}
 use Rattle.std.specs.Option.{option_map_or}
-use Rattle.np_text.specs.declared.id.JobId.{JobId}
-use Rattle.np_text.specs.declared.id.PoolId.{PoolId}
-use Rattle.np_text.specs.declared.id.RequestId.{RequestId}
-use Rattle.np_record.specs.declared.record.RequestRecord.{RequestRecord}
-use Rattle.np_site.specs.Configuration.{Configuration}
-use Rattle.np_lists.specs.Rising.{Rises}
+use Rattle.np_keys.specs.Prelude.{Configuration, JobId, PoolId, RequestId, RequestRecord, Rises, State, is_requested, same_request}
 use Rattle.np_groups.specs.declared.groups.Group.{Group}
 use Rattle.np_groups.specs.declared.groups.Member.{Member}
 use Rattle.np_groups.specs.Groups.{has_member, is_member_before, member, same_member, with_member, without_member}
-use Rattle.np_machine.specs.Kinds.{is_requested}
-use Rattle.np_machine.specs.State.{State}
-use Rattle.np_machine.specs.Tables.{same_request}
 use Rattle.np_open.specs.declared.moves.Past.{Past}
 use Rattle.np_open.specs.declared.ranks.Rank.{Rank}
 use Rattle.np_open.specs.Lines.{line_of}
@@ -34,6 +26,14 @@ open_member line r found = option_and_then (λ kept. if is_requested kept.state 
 abbrev pub closed_member : ℕ → PoolId → RequestId → Option RequestRecord → Option (Member Rank)
 closed_member line p r found =
     option_and_then (λ kept. if is_requested kept.state && is_closed_to p kept then Some (member (closed_group line p) (rank_of r kept)) else None) found
+
+-- the record is there and requested
+abbrev pub is_found_open : Option RequestRecord → Bool
+is_found_open found = option_map_or (λ kept. is_requested kept.state) found false
+
+-- and a pool declined it, or it is pinned
+abbrev pub is_found_closed : Option RequestRecord → Bool
+is_found_closed found = option_map_or (λ kept. is_requested kept.state && (is_some kept.pinned || not (length kept.declined == 0))) found false
 
 -- the same member, or none in both
 abbrev pub same_members : Option (Member Rank) → Option (Member Rank) → Bool

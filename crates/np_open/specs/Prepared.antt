@@ -1,11 +1,7 @@
 -- which requests are listed before a change, and what is prepared for it
 use Rattle.std.specs.Prelude.{◌≡◌, ◌≤◌, ◌+◌, ◌*◌, List, Bool, true, length}
 use Rattle.std.specs.List.{AllByRecursion, list_any}
-use Rattle.np_text.specs.declared.id.RequestId.{RequestId}
-use Rattle.np_site.specs.Configuration.{Configuration}
-use Rattle.np_machine.specs.State.{State}
-use Rattle.np_machine.specs.Tables.{request_in, same_request}
-use Rattle.np_changes.specs.declared.changes.Changes.{Changes}
+use Rattle.np_keys.specs.Prelude.{Changes, Configuration, RequestId, State, request_in, same_request}
 use Rattle.np_classes.specs.Touched.{touches_request}
 use Rattle.np_open.specs.declared.moves.Past.{Past}
 use Rattle.np_open.specs.Open.{OpenOf}

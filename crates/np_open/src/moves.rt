@@ -5,7 +5,7 @@ ghost use Rattle.std.specs.Prelude.{◌≡◌, ◌<◌, ◌≤◌, ◌+◌, ◌*
 ghost use Rattle.np_groups.specs.declared.groups.Group.{Group};
 ghost use Rattle.np_open.specs.declared.ranks.Rank.{Rank};
 ghost use Rattle.np_open.specs.Lines.{line_of};
-ghost use Rattle.np_open.specs.Moves.{AreAsKept, AreBy, IsEither, passes_moved, passes_with, same_members, with_moved, with_one, without_one};
+ghost use Rattle.np_open.specs.Moves.{AreAsKept, AreBy, IsEither, is_found_closed, is_found_open, passes_moved, passes_with, same_members, with_moved, with_one, without_one};
 
 use crate::group::{closed_member, open_member, pools_of};
 use crate::lines::line_of;
@@ -15,7 +15,7 @@ use np_groups::{Groups, Member};
 use np_look::Rows;
 use np_record::RequestRecord;
 use np_table::Order;
-use np_text::{JobId, PoolId, RequestId};
+use np_text::{JobId, PoolId, RequestId, RequestState};
 
 /// A request and its record before a change, if it was there.
 #[derive(Clone, Copy)]
@@ -68,8 +68,32 @@ fn move_one(groups: &mut Groups<ByRank>, was: Option<Member<Rank>>, now: Option<
     put_one(groups, now);
 }
 
+/// Whether the record is there and requested, so that the request is in a line.
+fn is_open(kept: &Option<RequestRecord>) -> bool
+    ensures { result ≡ is_found_open kept.now }
+{
+    match kept {
+        None => false,
+        Some(kept) => kept.state == RequestState::Requested,
+    }
+}
+
+/// Whether a pool declined it as well, or it is pinned, so that it may be closed to a pool.
+fn is_closed(kept: &Option<RequestRecord>) -> bool
+    ensures { result ≡ is_found_closed kept.now }
+{
+    match kept {
+        None => false,
+        Some(kept) => {
+            kept.state == RequestState::Requested
+                && (kept.pinned.is_some() || kept.declined.len() != 0)
+        }
+    }
+}
+
 /// Moves a request from the groups that it is in by the one record to those that it is in by the
-/// other. It finds the line of both, and for each pool it reads the declines of both.
+/// other. If it is in a line by one of them, it finds the line of both; if a pool declined it or it
+/// is pinned there, it reads the declines of both for each pool.
 pub(crate) fn move_request(
     groups: &mut Groups<ByRank>,
     config: &Config,
@@ -87,6 +111,9 @@ pub(crate) fn move_request(
         groups.new.members }
     ensures room { groups.old.room ≤ groups.new.room + (pools + 1) }
 {
+    if !is_open(was) && !is_open(now) {
+        return;
+    }
     let left = line_of(config, lines, was);
     let joined = line_of(config, lines, now);
     move_one(
@@ -94,6 +121,9 @@ pub(crate) fn move_request(
         open_member(left, request, was),
         open_member(joined, request, now),
     );
+    if !is_closed(was) && !is_closed(now) {
+        return;
+    }
     for number in 0..pools {
         let pool = PoolId(number);
         move_one(
@@ -119,8 +149,8 @@ pub(crate) fn move_all<R: Rows>(
         groups.new.members }
 {
     let config = rows.config();
-    let pools = pools_of(config);
     for past in moved {
+        let pools = pools_of(config);
         let now = rows.request(past.request);
         move_request(groups, config, lines, pools, past.request, &past.kept, &now);
     }

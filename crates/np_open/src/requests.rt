@@ -1,13 +1,9 @@
 //! The requested requests in lines and those that are closed to each pool, kept as events change
 //! them.
 
-ghost use Rattle.std.specs.Prelude.{◌≡◌, Bool, IfOk, None, OnOk, Some, length, map, not, slice_get};
+ghost use Rattle.std.specs.Prelude.{◌≡◌, ◌+◌, ◌*◌, Bool, IfOk, IfSome, None, OnOk, Some, length, map, not, slice_get};
 ghost use Rattle.std.specs.List.{count_by};
-ghost use Rattle.np_site.specs.Configuration.{Configuration};
-ghost use Rattle.np_machine.specs.State.{State};
-ghost use Rattle.np_changes.specs.Changes.{changed};
-ghost use Rattle.np_changes.specs.declared.changes.Changes.{Changes};
-ghost use Rattle.np_changes.specs.Planned.{IsReached};
+ghost use Rattle.np_keys.specs.Prelude.{Changes, Configuration, IsReached, State, changed};
 ghost use Rattle.np_groups.specs.declared.groups.Group.{Group};
 ghost use Rattle.np_open.specs.declared.ranks.Rank.{Rank};
 ghost use Rattle.np_open.specs.Lines.{line_of};
@@ -122,7 +118,7 @@ fn records_of<R: Rows>(
 ) -> Result<Vec<Past>, AllocError>
     ensures { IfOk result (λ moved. moved.items ≡ map (past_of (R.state rows.now)) requests.now) }
 {
-    let mut moved = Vec::new(alloc);
+    let mut moved = Vec::with_capacity(alloc, requests.len())?;
     for request in requests {
         moved.push(Past {
             request: *request,
@@ -130,6 +126,17 @@ fn records_of<R: Rows>(
         })?;
     }
     Ok(moved)
+}
+
+/// The room for so many requests to be in a line and in a group of every pool, if a `usize` can
+/// count it. One lookup for each pool, and none for no request.
+fn room_for(config: &Config, count: usize) -> Option<usize>
+    ensures { IfSome result (λ room. room ≡ count * (length config.now.pools + 1)) }
+{
+    if count == 0 {
+        return Some(0);
+    }
+    count.checked_mul(pools_of(config) as usize + 1)
 }
 
 impl Open {
@@ -210,8 +217,8 @@ impl Open {
 
     /// Lists the requests that an event's changes touch, with their records, before the state
     /// changes, and takes the memory for `note`. The members stay as they are, so nothing need be
-    /// undone if the change fails. It costs one lookup for each request, and takes memory for each
-    /// to be in a group of every pool.
+    /// undone if the change fails. It costs one lookup for each request and, if there is one, one
+    /// for each pool, and takes memory for each to be in a group of every pool.
     pub fn prepare<R: Rows>(
         &mut self,
         alloc: Global,
@@ -226,8 +233,7 @@ impl Open {
         ensures room { IfOk result (λ moved. HasRoom (R.site rows.now) moved self.new) }
     {
         let past = records_of(alloc, rows, requests)?;
-        let groups = pools_of(rows.config()) as usize + 1;
-        let Some(room) = past.len().checked_mul(groups) else {
+        let Some(room) = room_for(rows.config(), past.len()) else {
             return Err(AllocError);
         };
         self.groups.reserve(room)?;
@@ -235,9 +241,10 @@ impl Open {
     }
 
     /// Moves what was listed to where it is now, after the state has changed. It takes no memory.
-    /// For each request it costs one lookup, the line before and after the change, for each pool a
-    /// reading of the declines before and after it, and a few binary searches for each group that
-    /// the request leaves or joins: where it stays, nothing is searched.
+    /// For each request it costs one lookup and one for each pool, for one that is requested before
+    /// or after the change the line at both, for one that is then pinned or that a pool declined a
+    /// reading of its declines for each pool, and a few binary searches for each group that the
+    /// request leaves or joins: where it stays, nothing is searched.
     pub fn note<R: Rows>(&mut self, rows: &R, moved: &Moved)
         requires { HasRoom (R.site rows.now) moved.now self.old }
         ensures { (c : Configuration) (s : State) (ch : Changes)

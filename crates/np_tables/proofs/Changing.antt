@@ -2,17 +2,8 @@
 use Rattle.std.proofs.Common.{◌≡◌, List, [], ◌∷◌, ◌++◌, refl, Bool, Option, Some, None}
 use Rattle.std.specs.Prelude.{find, ◌==◌}
 use Rattle.std.specs.Option.{option_map_or}
-use Rattle.np_text.specs.declared.id.SessionId.{SessionId}
-use Rattle.np_text.specs.declared.id.RequestId.{RequestId}
-use Rattle.np_text.specs.declared.id.NodeId.{NodeId}
-use Rattle.np_text.specs.declared.id.TenantId.{TenantId}
-use Rattle.np_machine.specs.declared.state.Locked.{Locked}
-use Rattle.np_machine.specs.Node.{allocated}
-use Rattle.np_machine.specs.Entries.{RequestEntry, NodeEntry}
-use Rattle.np_lists.specs.Change.{change_first}
+use Rattle.np_keys.specs.Prelude.{Locked, Maker, NodeEntry, NodeId, RequestEntry, RequestId, SessionId, TenantId, allocated, by_maker, change_first}
 use Rattle.np_machine.specs.Tables.{joined, same_request, request_queue, put_request_queue, node_queue, put_node_queue}
-use Rattle.np_changes.specs.Changes.{by_maker}
-use Rattle.np_changes.specs.declared.changes.Maker.{Maker}
 use Rattle.np_lists.proofs.ChangeLemmas.{change_first-same}
 
 -- the queue of the row found is the one that is changed

@@ -1,23 +1,13 @@
 -- the lists of a state stay countable
 use Rattle.std.proofs.Common.{◌≡◌, ◌≤◌, ◌<◌, ℕ, suc, ◌^◌, List, [], length, refl, ◌∙◌, ap, arith, Option, Some, None}
 use Rattle.std.proofs.lemmas.List.{length-map, length-set}
-use Rattle.np_text.specs.declared.id.JobId.{JobId}
-use Rattle.np_site.specs.Configuration.{Configuration}
-use Rattle.np_record.specs.declared.record.JobRecord.{JobRecord}
+use Rattle.np_keys.specs.Prelude.{Changes, Configuration, Growth, IsPlanned, IsReached, JobId, JobRecord, JobsChange, Maker, State, changed, grown, jobs_changed, start, with_mark}
 use Rattle.np_lists.proofs.ChangeLemmas.{length-change_at}
 use Rattle.np_lists.proofs.Each.{all-map, all-weaker}
-use Rattle.np_machine.specs.State.{State, start}
 use Rattle.np_machine.specs.Step.{next}
-use Rattle.np_machine.specs.Node.{with_mark}
-use Rattle.np_changes.specs.Changes.{grown, changed, jobs_changed}
 use Rattle.np_fits.specs.Fits.{IsFitSite}
-use Rattle.np_changes.specs.Planned.{IsReached, IsPlanned}
-use Rattle.np_changes.specs.declared.changes.Changes.{Changes}
-use Rattle.np_changes.specs.declared.changes.Growth.{Growth}
 use Rattle.np_changes.specs.declared.changes.Growth.TheVariants as grow
-use Rattle.np_changes.specs.declared.changes.JobsChange.{JobsChange}
 use Rattle.np_changes.specs.declared.changes.JobsChange.TheVariants as jobs
-use Rattle.np_changes.specs.declared.changes.Maker.{Maker}
 use Rattle.np_changes.proofs.PlanLaws.{plan-next}
 use Rattle.np_tables.specs.Kept.{IsCountable}
 use Rattle.np_fits.proofs.Shape.{Shaped}

@@ -1,26 +1,10 @@
 -- in whose queues a session is that ends, once all else is changed
 use Rattle.std.proofs.Common.{◌≡◌, List, refl, sym, ap, ◌∙◌, subst}
 use Rattle.std.specs.Prelude.{filter, map}
-use Rattle.np_text.specs.declared.id.NodeId.{NodeId}
-use Rattle.np_text.specs.declared.id.RequestId.{RequestId}
-use Rattle.np_text.specs.declared.id.SessionId.{SessionId}
-use Rattle.np_site.specs.Configuration.{Configuration}
-use Rattle.np_lists.specs.Rising.{Rises}
-use Rattle.np_machine.specs.Entries.{RequestEntry, NodeEntry}
-use Rattle.np_machine.specs.Order.{is_id_before}
-use Rattle.np_machine.specs.State.{State}
-use Rattle.np_machine.specs.Tables.{is_queued}
-use Rattle.np_changes.specs.Changes.{grown, nodes_changed, requests_changed}
-use Rattle.np_changes.specs.Planned.{IsPlanned, IsReached}
+use Rattle.np_keys.specs.Prelude.{Changes, Configuration, Growth, IsNumbered, IsPlanned, IsReached, NodeEntry, NodeId, NodesChange, RequestEntry, RequestId, RequestsChange, Rises, SessionId, SessionsChange, State, grown, is_id_before, is_queued, nodes_changed, requests_changed}
 use Rattle.np_changes.specs.Premises.{EndsSession, Premises, SessionsPremise}
-use Rattle.np_changes.specs.declared.changes.Changes.{Changes}
-use Rattle.np_changes.specs.declared.changes.Growth.{Growth}
-use Rattle.np_changes.specs.declared.changes.NodesChange.{NodesChange}
-use Rattle.np_changes.specs.declared.changes.RequestsChange.{RequestsChange}
-use Rattle.np_changes.specs.declared.changes.SessionsChange.{SessionsChange}
 use Rattle.np_changes.specs.declared.changes.SessionsChange.TheVariants as sessions
 use Rattle.np_changes.proofs.PremisesOf.{premises}
-use Rattle.np_laws.specs.Parts.{IsNumbered}
 use Rattle.np_laws.proofs.Runs.{invariant-Runs}
 use Rattle.np_keys.specs.Keys.{is_node_before}
 use Rattle.np_tables.specs.Queues.{AreQueuesOf}

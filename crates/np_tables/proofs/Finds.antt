@@ -1,22 +1,12 @@
 -- what a look-up finds fits
 use Rattle.std.proofs.Common.{◌≡◌, refl, arith, length, ◌<◌, Ok, Err, Option, Some, None, true}
 use Rattle.std.specs.Prelude.{◌==◌}
-use Rattle.np_text.specs.declared.id.PoolId.{PoolId}
-use Rattle.np_text.specs.declared.id.NodeId.{NodeId}
-use Rattle.np_text.specs.declared.id.RequestId.{RequestId}
-use Rattle.np_site.specs.Configuration.{Configuration}
-use Rattle.np_machine.specs.Entries.{RequestEntry, NodeEntry}
-use Rattle.np_machine.specs.State.{State}
-use Rattle.np_machine.specs.Tables.{request_entry, node_entry, same_request}
+use Rattle.np_keys.specs.Prelude.{Configuration, LabelId, NodeEntry, NodeId, PoolId, RequestEntry, RequestId, SessionId, State, next_label, node_entry, request_entry, request_in, same_request}
 use Rattle.np_fits.specs.Fits.{RequestFits, NodeFits, Fits}
 use Rattle.std.specs.Prelude.{is_ok}
 use Rattle.std.proofs.lemmas.Option.{slice_get_within}
-use Rattle.np_text.specs.declared.id.SessionId.{SessionId}
-use Rattle.np_text.specs.declared.id.LabelId.{LabelId}
 use Rattle.np_text.specs.declared.word.Reason.{Reason}
 use Rattle.np_event.specs.declared.reply.Done.{Done}
-use Rattle.np_machine.specs.Tables.{request_in}
-use Rattle.np_machine.specs.Reasons.{next_label}
 use Rattle.np_machine.specs.Tests.{Answer, launcher}
 use Rattle.np_machine.specs.Request.{judge_decline}
 use Rattle.np_machine.specs.Node.{judge_take_ready}

@@ -3,11 +3,8 @@ use Rattle.std.proofs.Common.{◌≡◌, ℕ, ◌<◌, List, [], ◌∷◌, arit
 use Rattle.std.specs.Prelude.{◌==◌, ◌++◌, nat_lt}
 use Rattle.std.specs.List.{AllByRecursion}
 use Rattle.std.proofs.lemmas.Bool.Decides.{nat_tests}
-use Rattle.np_lists.specs.Change.{insert_before}
-use Rattle.np_lists.specs.Rising.{NonePass}
+use Rattle.np_keys.specs.Prelude.{NodeEntry, NonePass, RequestEntry, insert_before, same_request}
 use Rattle.np_lists.proofs.ChangeLemmas.{insert_before-end}
-use Rattle.np_machine.specs.Entries.{RequestEntry, NodeEntry}
-use Rattle.np_machine.specs.Tables.{same_request}
 
 -- no request of any priority has the next number
 pub fresh-request : (n priority : ℕ) (requests : List RequestEntry) → AllByRecursion (λ e. e.id.seq < n) requests → NonePass (λ e. same_request e.id (record { priority = priority; seq = n })) requests

@@ -3,11 +3,8 @@ use Rattle.std.proofs.Common.{◌≡◌, ℕ, zero, suc, ◌<◌, ◌≤◌, Lis
 use Rattle.std.specs.Prelude.{◌==◌, ◌||◌, nat_lt, slice_set}
 use Rattle.std.specs.List.{AllByRecursion}
 use Rattle.std.proofs.lemmas.Bool.Decides.{nat_tests}
-use Rattle.np_text.specs.declared.id.JobId.{JobId}
-use Rattle.np_lists.specs.Change.{change_at, insert_before, remove_first}
+use Rattle.np_keys.specs.Prelude.{JobId, change_at, insert_before, is_among, remove_first, with_handle, without_handle}
 use Rattle.np_table.specs.Roomy.{Roomy}
-use Rattle.np_machine.specs.Tables.{is_among}
-use Rattle.np_machine.specs.Semaphore.{with_handle, without_handle}
 use Rattle.np_tables.specs.Room.{has_place, rooms_of, rows_of}
 
 -- ## one semaphore's table among all

@@ -3,18 +3,10 @@ use Rattle.std.proofs.Common.{◌≡◌, Bool, true, false, cond, List, [], ◌�
 use Rattle.std.specs.Prelude.{filter, map}
 use Rattle.std.specs.List.{AllByRecursion}
 use Rattle.std.proofs.lemmas.Bool.Decides.{nat_tests}
-use Rattle.np_text.specs.declared.id.NodeId.{NodeId}
-use Rattle.np_text.specs.declared.id.RequestId.{RequestId}
-use Rattle.np_text.specs.declared.id.SessionId.{SessionId}
-use Rattle.np_lists.specs.Change.{change_first}
-use Rattle.np_lists.specs.Rising.{Rises}
+use Rattle.np_keys.specs.Prelude.{Locked, NodeEntry, NodeId, RequestEntry, RequestId, Rises, SessionId, change_first, is_id_before, is_queued, is_session, left, same_request}
 use Rattle.np_lists.proofs.Each.{all-filter, all-mapped}
 use Rattle.np_lists.proofs.FilterLemmas.{filter-not_none, none-list_any}
-use Rattle.np_machine.specs.declared.state.Locked.{Locked}
-use Rattle.np_machine.specs.Entries.{RequestEntry, NodeEntry}
-use Rattle.np_machine.specs.Order.{is_id_before}
 use Rattle.np_machine.specs.Session.{node_left, request_left}
-use Rattle.np_machine.specs.Tables.{is_queued, is_session, left, same_request}
 use Rattle.np_keys.specs.Keys.{is_node_before, same_node}
 
 -- a queue that doesn't have the session stays as it is

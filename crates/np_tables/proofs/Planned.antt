@@ -2,31 +2,18 @@
 use Rattle.std.proofs.Common.{◌≡◌, ◌<◌, ℕ, refl, arith, List, Option, Some, None, Result, Ok, Err, Bool, true, false}
 use Rattle.std.specs.Prelude.{is_ok, is_some, nat_lt, slice_get}
 use Rattle.std.proofs.lemmas.Bool.Decides.{nat_tests}
-use Rattle.np_text.specs.declared.id.SessionId.{SessionId}
-use Rattle.np_text.specs.declared.id.RequestId.{RequestId}
-use Rattle.np_text.specs.declared.id.Role.{Role}
+use Rattle.np_keys.specs.Prelude.{Changes, Configuration, Growth, IsPlanned, Maker, NodeEntry, RequestEntry, RequestId, RequestRecord, Role, SessionId, State, grown, next_label, node_in, request_entry, request_in, session_of}
 use Rattle.np_text.specs.declared.id.Role.TheVariants.{Launcher, Janitor, Requester}
-use Rattle.np_site.specs.Configuration.{Configuration}
 use Rattle.np_event.specs.declared.event.Event.{Event}
 use Rattle.np_event.specs.declared.event.Event.TheVariants as ev
 use Rattle.np_event.specs.declared.reply.Refusal.{Refusal}
-use Rattle.np_record.specs.declared.record.RequestRecord.{RequestRecord}
 use Rattle.np_lists.proofs.Each.{all-weaker}
-use Rattle.np_machine.specs.Entries.{RequestEntry, NodeEntry}
-use Rattle.np_machine.specs.State.{State}
 use Rattle.np_machine.specs.Step.{judge}
-use Rattle.np_machine.specs.Tables.{node_in, request_entry, request_in, session_of}
 use Rattle.np_machine.specs.Tests.{janitor, launcher, maker, requester}
-use Rattle.np_machine.specs.Reasons.{next_label}
 use Rattle.np_machine.specs.Request.{request_of_job}
 use Rattle.np_fits.specs.Fits.{Fits, NodeFits, RequestFits}
-use Rattle.np_changes.specs.Changes.{grown}
 use Rattle.np_changes.specs.Plan
 use Rattle.np_changes.specs.Plan.{made_by, plan, with_found, with_given}
-use Rattle.np_changes.specs.Planned.{IsPlanned}
-use Rattle.np_changes.specs.declared.changes.Changes.{Changes}
-use Rattle.np_changes.specs.declared.changes.Maker.{Maker}
-use Rattle.np_changes.specs.declared.changes.Growth.{Growth}
 use Rattle.np_changes.specs.declared.changes.Growth.TheVariants as grow
 use Rattle.np_tables.specs.CanChange.{CanGrow, CanSettle, TakesEdit}
 use Rattle.np_tables.proofs.Finds.{decline-room, next-room, take-room}

@@ -1,8 +1,7 @@
 -- what the tables keep, and what bounds their lists
 use Rattle.std.specs.Prelude.{ℕ, ◌<◌, ◌^◌, List, length}
 use Rattle.std.specs.List.{AllByRecursion}
-use Rattle.np_site.specs.Configuration.{Configuration}
-use Rattle.np_machine.specs.State.{State}
+use Rattle.np_keys.specs.Prelude.{Configuration, State}
 
 -- how many more rows each table takes without memory (own)
 pub record Room : Type 0 where

@@ -1,12 +1,7 @@
 -- in whose queues a session is that ends
 use Rattle.std.specs.Prelude.{◌≡◌, List}
-use Rattle.np_text.specs.declared.id.NodeId.{NodeId}
-use Rattle.np_text.specs.declared.id.RequestId.{RequestId}
-use Rattle.np_text.specs.declared.id.SessionId.{SessionId}
-use Rattle.np_machine.specs.State.{State}
-use Rattle.np_changes.specs.declared.changes.Changes.{Changes}
+use Rattle.np_keys.specs.Prelude.{Changes, NodeId, RequestId, SessionId, State, queued_nodes, queued_requests}
 use Rattle.np_changes.specs.declared.changes.SessionsChange.TheVariants as sessions
-use Rattle.np_look.specs.Readers.{queued_nodes, queued_requests}
 
 -- if the changes end a session, these are the requests and the nodes in whose queues it is
 pub record AreQueuesOf (s : State) (ch : Changes) (requests : List RequestId) (nodes : List NodeId) : Type 0 where

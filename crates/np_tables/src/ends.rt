@@ -1,10 +1,8 @@
 //! How a session that ends leaves its queues.
 
 ghost use Rattle.std.specs.Prelude.{◌≡◌, filter, map};
-ghost use Rattle.np_lists.specs.Rising.{Rises};
-ghost use Rattle.np_machine.specs.Order.{is_id_before};
+ghost use Rattle.np_keys.specs.Prelude.{Rises, is_id_before, is_queued};
 ghost use Rattle.np_machine.specs.Session.{node_left, request_left};
-ghost use Rattle.np_machine.specs.Tables.{is_queued};
 ghost use Rattle.np_keys.specs.Keys.{is_node_before};
 ghost use Rattle.np_tables.specs.LeftLast.{CanEnd, queues_left};
 

@@ -22,5 +22,7 @@ mod start;
 mod tables;
 mod vectors;
 
+pub use keys::{HandleTable, NodeTable, RequestTable, SweptTable};
 pub use reserve::Reserved;
 pub use tables::Tables;
+pub use vectors::Vectors;

@@ -2,11 +2,10 @@
 
 ghost use Rattle.std.specs.Prelude.{◌≡◌, ◌≤◌, Some};
 ghost use Rattle.std.specs.List.{AllByRecursion};
-ghost use Rattle.np_lists.specs.Change.{change_at};
+ghost use Rattle.np_keys.specs.Prelude.{RoleFits, change_at, most};
 ghost use Rattle.np_machine.specs.Tables.{change_janitor, change_launcher, change_requester, change_role};
 ghost use Rattle.np_changes.specs.Changes.{with_deed};
 ghost use Rattle.np_changes.specs.declared.changes.Deed.TheVariants as deed;
-ghost use Rattle.np_fits.specs.Fits.{RoleFits, most};
 ghost use Rattle.np_tables.specs.CanChange.{RolesFit};
 ghost use Rattle.np_machine.specs.Session.{struck_unless};
 ghost use Rattle.np_machine.specs.Node.{one_more_start};

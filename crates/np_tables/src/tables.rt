@@ -1,11 +1,8 @@
 //! A configuration and the tables of a state of its machine.
 
 ghost use Rattle.std.specs.Prelude.{◌≡◌, IfOk};
-ghost use Rattle.np_site.specs.Sound.{IsSound};
-ghost use Rattle.np_machine.specs.State.{start};
-ghost use Rattle.np_changes.specs.Changes.{changed};
-ghost use Rattle.np_changes.specs.Planned.{IsPlanned, IsReached};
-ghost use Rattle.np_fits.specs.Fits.{Fits};
+ghost use Rattle.np_keys.specs.Prelude.{Fits, IsPlanned, IsReached, IsSound, changed, start};
+ghost use Rattle.np_tables.specs.Kept.{IsCountable};
 ghost use Rattle.np_tables.specs.Queues.{AreQueuesOf};
 ghost use Rattle.np_tables.specs.Room.{HasRoomFor};
 
@@ -58,6 +55,22 @@ impl Tables {
         is_sound(&config);
         let vectors = Vectors::start(alloc, &config)?;
         Ok(Tables { config, vectors })
+    }
+
+    /// The configuration, and the state that the vectors have. It costs nothing.
+    pub fn of_vectors(config: Config, vectors: Vectors) -> Tables
+        requires { IsCountable vectors.state }
+        ensures configuration { result.configuration ≡ config }
+        ensures state { result.state ≡ vectors.state }
+    {
+        Tables { config, vectors }
+    }
+
+    /// The configuration alone.
+    pub fn into_config(self) -> Config
+        ensures { result ≡ self.configuration }
+    {
+        self.config
     }
 
     /// Takes the memory that the changes of an event need. The configuration and the state stay,

@@ -14,23 +14,24 @@ use np_text::{JobId, NodeId, PoolId, RequestId, Role, SemId, SessionId};
 use std::alloc::Global;
 use std::marker::Model;
 
-/// A state in vectors. They have the rows of the state and nothing that it doesn't have.
+/// A state in vectors. They have the rows of the state and nothing that it doesn't have. A caller that
+/// has the rows may put them together.
 #[derive(Drop)]
 pub struct Vectors {
-    pub(crate) alloc: Global,
-    pub(crate) tick: u32,
-    pub(crate) sessions: Vec<SessionFacts>,
-    pub(crate) registrations: Vec<Registration>,
-    pub(crate) requests: RequestTable,
-    pub(crate) nodes: NodeTable,
-    pub(crate) handles: Vec<HandleTable>,
-    pub(crate) jobs: Vec<JobRecord>,
-    pub(crate) launchers: Vec<RoleRecord>,
-    pub(crate) janitors: Vec<RoleRecord>,
-    pub(crate) requesters: Vec<RoleRecord>,
-    pub(crate) swept: SweptTable,
-    pub(crate) next_request: u32,
-    pub(crate) next_node: u32,
+    pub alloc: Global,
+    pub tick: u32,
+    pub sessions: Vec<SessionFacts>,
+    pub registrations: Vec<Registration>,
+    pub requests: RequestTable,
+    pub nodes: NodeTable,
+    pub handles: Vec<HandleTable>,
+    pub jobs: Vec<JobRecord>,
+    pub launchers: Vec<RoleRecord>,
+    pub janitors: Vec<RoleRecord>,
+    pub requesters: Vec<RoleRecord>,
+    pub swept: SweptTable,
+    pub next_request: u32,
+    pub next_node: u32,
 }
 
 impl Model for Vectors {

@@ -1,6 +1,5 @@
 use Rattle.std.proofs.Common.{◌∙◌, Option, sym, ap, subst, arith}
-use Rattle.np_amount.specs.declared.amount.Amount.{Amount}
-use Rattle.np_amount.specs.Amounts.{nothing, plus}
+use Rattle.np_keys.specs.Prelude.{Amount, nothing, plus}
 use Rattle.np_lists.proofs.ChangeLemmas.{change_at-past}
 use Rattle.np_awaited.specs.declared.awaited.Rest.{Rest}
 use Rattle.np_awaited.specs.Awaited.{IsSmall, amount_at, with_rest}

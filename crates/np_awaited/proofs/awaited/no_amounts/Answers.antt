@@ -2,8 +2,7 @@ use Rattle.std.proofs.Common.{◌≡◌, ◌∙◌, ◌≤◌, ◌++◌, suc, �
 use Rattle.std.specs.Prelude.{replicate, slice_get}
 use Rattle.std.proofs.lemmas.List.{replicate_more}
 use Rattle.std.proofs.lemmas.Option.{slice_get_within}
-use Rattle.np_amount.specs.declared.amount.Amount.{Amount}
-use Rattle.np_amount.specs.Amounts.{nothing}
+use Rattle.np_keys.specs.Prelude.{Amount, nothing}
 use Rattle.np_site.specs.Configuration.{default_tenant}
 use Rattle.np_awaited.proofs.awaited.no_amounts.Goals as goal
 

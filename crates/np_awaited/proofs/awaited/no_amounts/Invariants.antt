@@ -1,7 +1,6 @@
 use Rattle.std.proofs.Common.{◌≡◌, ◌≤◌, ◌-◌, suc, length}
 use Rattle.std.specs.Prelude.{replicate}
-use Rattle.np_amount.specs.declared.amount.Amount.{Amount}
-use Rattle.np_amount.specs.Amounts.{nothing}
+use Rattle.np_keys.specs.Prelude.{Amount, nothing}
 use Rattle.np_awaited.proofs.awaited.no_amounts.Given as goal
 
 abbrev pub invariant-loop-amounts : goal.invariant-loop-amounts

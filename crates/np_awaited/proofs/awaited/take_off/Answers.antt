@@ -1,6 +1,5 @@
 use Rattle.std.proofs.Common.{◌∙◌, Option, sym, ap, arith}
-use Rattle.np_amount.specs.declared.amount.Amount.{Amount}
-use Rattle.np_amount.specs.Amounts.{minus}
+use Rattle.np_keys.specs.Prelude.{Amount, minus}
 use Rattle.np_lists.proofs.ChangeLemmas.{change_at-past}
 use Rattle.np_awaited.specs.declared.awaited.Rest.{Rest}
 use Rattle.np_awaited.specs.Awaited.{without_rest}

@@ -1,6 +1,5 @@
 use Rattle.std.proofs.Common.{◌∙◌, sym, subst}
-use Rattle.np_amount.specs.declared.amount.Amount.{Amount}
-use Rattle.np_fits.specs.Fits.{IsFew}
+use Rattle.np_keys.specs.Prelude.{Amount, IsFew}
 use Rattle.np_awaited.proofs.Few.{awaited-few}
 use Rattle.np_counts.proofs.tenant.awaited_by.Goals as goal
 

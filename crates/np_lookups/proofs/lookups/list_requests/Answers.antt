@@ -1,10 +1,7 @@
 use Rattle.std.proofs.Common.{◌∙◌, ◌<◌, length, sym, ap, arith}
 use Rattle.std.specs.Option.{option_map}
-use Rattle.np_text.specs.declared.id.RequestId.{RequestId}
+use Rattle.np_keys.specs.Prelude.{RequestId, is_id_before, queued_requests, same_request}
 use Rattle.np_keys.specs.Keys.{request_one_way, request_equal}
-use Rattle.np_machine.specs.Order.{is_id_before}
-use Rattle.np_machine.specs.Tables.{same_request}
-use Rattle.np_look.specs.Readers.{queued_requests}
 use Rattle.np_look.proofs.Walks.{none_there}
 use Rattle.np_lookups.proofs.Copied.{copied-other, copied-next, requests-rise}
 use Rattle.np_lookups.proofs.lookups.list_requests.Goals as goal

@@ -1,19 +1,28 @@
 use Rattle.std.proofs.Common.{◌≡◌, ◌∙◌, ◌+◌, ℕ, sym, ap, subst, arith}
 use Rattle.np_open.specs.Lines.{line_of}
-use Rattle.np_open.specs.Moves.{AreBy, closed_member, open_member}
-use Rattle.np_open.proofs.MoveLemmas.{all-moved, closed-moved, moved-as, open-moved, passes_so_far, pool_by}
+use Rattle.np_open.specs.Moves.{AreBy, closed_member}
+use Rattle.np_open.proofs.MoveLemmas.{all-moved, closed-moved, moved-as, none-closed-moved, none-moved, open-moved-by, passes_so_far, pool_by}
 use Rattle.np_open.proofs.moves.move_request.Goals as goal
+
+pub returns-then-not-is_open-2-clause-members : goal.returns-then-not-is_open-2-clause-members
+returns-then-not-is_open-2-clause-members c passes either are =
+    none-moved c.args.pools (line_of c.args.config.now c.args.lines.now) c.args.request c.args.was.now c.args.now.now passes either
+    (sym c.is_open.ensures ∙ c.if-not-is_open.true) (sym c.is_open-then-not-is_open.ensures ∙ c.if-not-is_open-2.true) c.args.groups.now.members are
 
 pub loop-number-init : goal.loop-number-init
 loop-number-init c = record {
   members = λ passes either are.
-      subst (AreBy (passes_so_far c.args.pools (line_of c.args.config.now c.args.lines.now) c.args.request c.args.now.now 0 passes))
-      (sym (moved-as _ _ _ _ _ _ c.move_one.ensures.members
-      (c.open_member.ensures ∙ ap (λ (line : ℕ). open_member line c.args.request c.args.was.now) c.line_of-left.ensures)
-      (c.open_member-2.ensures ∙ ap (λ (line : ℕ). open_member line c.args.request c.args.now.now) c.line_of-joined.ensures)))
-      (open-moved c.args.pools (line_of c.args.config.now c.args.lines.now) c.args.request c.args.was.now c.args.now.now passes either c.args.groups.now.members are);
+      open-moved-by c.args.pools (line_of c.args.config.now c.args.lines.now) c.args.request c.args.was.now c.args.now.now passes either _ _ _ _ c.args.groups.now.members _
+      c.line_of-left.ensures c.line_of-joined.ensures c.open_member.ensures c.open_member-2.ensures c.move_one.ensures.members are;
   room = omega arith;
 }
+
+pub returns-then-not-is_closed-2-clause-members : goal.returns-then-not-is_closed-2-clause-members
+returns-then-not-is_closed-2-clause-members c passes either are =
+    none-closed-moved c.args.pools (line_of c.args.config.now c.args.lines.now) c.args.request c.args.was.now c.args.now.now passes either
+    (sym c.is_closed.ensures ∙ c.if-not-is_closed.true) (sym c.is_closed-then-not-is_closed.ensures ∙ c.if-not-is_closed-2.true) _
+    (open-moved-by c.args.pools (line_of c.args.config.now c.args.lines.now) c.args.request c.args.was.now c.args.now.now passes either _ _ _ _ c.args.groups.now.members _
+    c.line_of-left.ensures c.line_of-joined.ensures c.open_member.ensures c.open_member-2.ensures c.move_one.ensures.members are)
 
 pub loop-number-preserved : goal.loop-number-preserved
 loop-number-preserved c = record {

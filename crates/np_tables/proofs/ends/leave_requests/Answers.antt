@@ -1,7 +1,6 @@
 use Rattle.std.proofs.Common.{◌≡◌, ◌∙◌, List, drop, sym, ap}
 use Rattle.std.proofs.lemmas.List.{at_drop_all}
-use Rattle.np_text.specs.declared.id.RequestId.{RequestId}
-use Rattle.np_machine.specs.Tables.{same_request}
+use Rattle.np_keys.specs.Prelude.{RequestId, same_request}
 use Rattle.np_tables.proofs.LeaveLemmas.{each_left, requests-left}
 use Rattle.np_tables.proofs.ends.leave_requests.Goals as goal
 

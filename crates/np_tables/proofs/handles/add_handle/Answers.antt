@@ -1,8 +1,7 @@
 use Rattle.std.proofs.Common.{◌≡◌, ◌<◌, true, arith, length}
-use Rattle.np_text.specs.declared.id.JobId.{JobId}
+use Rattle.np_keys.specs.Prelude.{JobId, with_handle}
 use Rattle.np_table.specs.Roomy.{Roomy}
 use Rattle.np_lists.proofs.Each.{all-get_or, all-set}
-use Rattle.np_machine.specs.Semaphore.{with_handle}
 use Rattle.np_tables.specs.Room.{has_place}
 use Rattle.np_tables.proofs.HandleLemmas.{rows_of-past, rows_of-set}
 use Rattle.np_tables.proofs.handles.add_handle.Goals as goal

@@ -1,10 +1,6 @@
 use Rattle.std.proofs.Common.{◌≡◌, ◌∙◌, ◌<◌, Vec, Global, suc, length, sym, ap, subst, arith}
 use Rattle.std.specs.Prelude.{replicate}
-use Rattle.np_amount.specs.declared.amount.Amount.{Amount}
-use Rattle.np_amount.specs.Amounts.{nothing}
-use Rattle.np_site.specs.Configuration.{Configuration}
-use Rattle.np_site.specs.Sound.{IsSound}
-use Rattle.np_look.specs.Views.{request_view}
+use Rattle.np_keys.specs.Prelude.{Amount, Configuration, IsSound, nothing, request_view}
 use Rattle.np_look.proofs.Walks.{none_there}
 use Rattle.np_awaited.specs.Awaited.{rest_by}
 use Rattle.np_awaited.proofs.Made.{up-to-all, up-to-next, up-to-none}

@@ -1,7 +1,6 @@
 use Rattle.std.proofs.Common.{◌≡◌, ◌++◌, ◌∷◌, [], refl}
 use Rattle.std.specs.Prelude.{nat_lt}
-use Rattle.np_machine.specs.Entries.{NodeEntry}
-use Rattle.np_lists.specs.Change.{insert_before}
+use Rattle.np_keys.specs.Prelude.{NodeEntry, insert_before}
 use Rattle.np_tables.proofs.Changing.{joined-none}
 use Rattle.np_tables.proofs.Fresh.{fresh-node, last-node}
 use Rattle.np_tables.proofs.vectors.Vectors.add_node.Goals as goal
