@@ -19,6 +19,7 @@ use std::alloc::Global;
 /// Plays the events over a machine that has not had any, each answered by the machine. The cost is
 /// that of the events, by `Machine::apply`.
 pub fn play<S: Store + Drop>(machine: &mut Machine<S>, events: &[Event]) -> Result<(), NoMemory>
+    requires first { machine.old.earlier ≡ 0 }
     requires fresh { ran_of machine.old ≡ ran machine.old.configuration [] }
     requires few { length events.now ≤ 262144 }
     ensures { OnOk result (ran_of machine.new
@@ -36,6 +37,7 @@ fn text_of_events<S: Store + Drop>(
     machine: &mut Machine<S>,
     events: &[Event],
 ) -> Result<Vec<u8>, NoMemory>
+    requires first { machine.old.earlier ≡ 0 }
     requires fresh { ran_of machine.old ≡ ran machine.old.configuration [] }
     requires few { length events.now ≤ 262144 }
     requires lines { AllByRecursion HasEventLine events.now }

@@ -1,2 +1,3 @@
 mod Few
-mod RunLemmas
+pub mod RunLemmas
+pub mod First

@@ -8,8 +8,6 @@ use Rattle.np_event.specs.declared.reply.Reply.TheVariants as reply
 use Rattle.np_event.specs.declared.reply.Refusal.TheVariants as no
 use Rattle.np_machine.specs.State.{State}
 use Rattle.np_machine.specs.Step.{judge, next, reply_of}
-use Rattle.np_machine.specs.History.{Runs}
-use Rattle.np_fits.specs.Fits.{IsFitSite}
 
 -- a configuration, the journal that was recorded, and the state that it led to (own)
 pub record Ran : Type 0 where
@@ -31,8 +29,3 @@ applied m e = record m {
   journal = if has_room m then m.journal ++ record { event = e; reply = reply_of (judge m.configuration m.state e) } ∷ [] else m.journal;
   state = if has_room m then next m.configuration m.state e else m.state;
 }
-
--- a run of the machine at a configuration whose numbers leave room
-pub record IsRun (m : Ran) : Type 0 where
-  pub site : IsFitSite m.configuration
-  pub runs : Runs m.configuration m.journal m.state

@@ -4,7 +4,9 @@
 //! both. A `Machine` keeps the state in tables (np_tables), with an index beside them by which it
 //! answers searches (np_index), and the journal that led to it. What an accepted event changes is
 //! written to a store before the tables take it: `replay` and `audit` play the machine over no
-//! store (`Plain`), and the board (np_board) over a coordination tree.
+//! store (`Plain`), and the board (np_board) over a coordination tree. A machine begins before the
+//! first event, or goes on from tables in a state that a run reached (`Machine::of_tables`): it then
+//! knows how many entries led there and keeps those that follow (`specs/RunsOn`).
 //!
 //! An event goes so. `decide` reads tables and index, and answers a refusal or what changes. Then
 //! index, tables and journal take all memory that the change needs; then the store writes; up to
@@ -16,5 +18,5 @@ mod change;
 mod machine;
 mod plain;
 
-pub use machine::Machine;
+pub use machine::{Machine, NotMade};
 pub use plain::{Plain, new_plain};

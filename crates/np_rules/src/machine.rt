@@ -1,11 +1,10 @@
 //! The machine: tables, index and journal, beside a store.
 
-ghost use Rattle.std.specs.Prelude.{◌≡◌, [], IfOk, OnErr, OnOk};
+ghost use Rattle.std.specs.Prelude.{◌≡◌, [], IfErr, IfOk, OnErr, OnOk};
 ghost use Rattle.np_fits.specs.Fits.{IsFitSite};
-ghost use Rattle.np_machine.specs.History.{Runs};
 ghost use Rattle.np_machine.specs.State.{start};
-ghost use Rattle.np_rules.specs.Ran.{answer_of, applied};
 ghost use Rattle.np_rules.specs.Running.{ran_of};
+ghost use Rattle.np_rules.specs.RunsOn.{RunsOn, answer_after, applied_after, has_room_after};
 
 mod look;
 
@@ -14,20 +13,28 @@ use np_config::Config;
 use np_decision::decide;
 use np_event::{Entry, Event, Refusal, Reply};
 use np_index::Index;
-use np_look::Store;
+use np_look::{Rows, Store};
 use np_tables::Tables;
 use np_text::{JOURNAL_ENTRIES, NoMemory};
 use std::alloc::Global;
 use std::marker::Model;
 
-/// The state of a machine with its index, the journal that led to it, and a store that has it.
+/// The state of a machine with its index, the journal that led to it, and a store that has it. The
+/// journal goes on from a state that earlier entries led to; it need not have them.
 #[derive(Drop)]
 pub struct Machine<S: Store + Drop> {
     alloc: Global,
     tables: Tables,
     index: Index,
+    earlier: u32,
     journal: Vec<Entry>,
     store: S,
+}
+
+/// Memory ran out before the machine was made. The store is the one that it would have had.
+#[derive(Drop)]
+pub struct NotMade<S: Drop> {
+    pub store: S,
 }
 
 impl<S: Store + Drop> Model for Machine<S> {
@@ -37,6 +44,7 @@ impl<S: Store + Drop> Model for Machine<S> {
 
     ghost view = { λ m. record {
       configuration = m.tables.configuration;
+      earlier = m.earlier;
       journal = m.journal.items;
       state = m.tables.state;
       store = m.store;
@@ -44,6 +52,7 @@ impl<S: Store + Drop> Model for Machine<S> {
 
     ghost invariant = { λ m. IsKept S.holds (record {
       configuration = m.tables.configuration;
+      earlier = m.earlier;
       journal = m.journal.items;
       state = m.tables.state;
       store = m.store;
@@ -56,28 +65,58 @@ impl<S: Store + Drop> Machine<S> {
         requires { S.holds store config (start config) }
         ensures { IfOk result (λ m. m ≡ record {
           configuration = config;
+          earlier = 0;
           journal = [];
           state = start config;
           store = store;
         }) }
     {
-        config.soundness();
         let tables = Tables::start(alloc, config)?;
-        let index = Index::rebuild(alloc, &tables)?;
-        Ok(Machine {
-            alloc,
-            tables,
-            index,
-            journal: Vec::new(alloc),
-            store,
-        })
+        match Machine::of_tables(alloc, tables, 0, store) {
+            Ok(machine) => Ok(machine),
+            Err(_) => Err(NoMemory),
+        }
     }
 
-    /// The journal leads to the state, and the configuration leaves room for every run. The call
-    /// does nothing: a caller's proof takes the facts from it.
+    /// The machine in a state that a run of so many earlier entries leads to, and that the store has.
+    /// Its journal is empty. If memory runs out, the store comes back. It costs what
+    /// `Index::rebuild` does.
+    pub fn of_tables(
+        alloc: Global,
+        tables: Tables,
+        earlier: u32,
+        store: S,
+    ) -> Result<Machine<S>, NotMade<S>>
+        requires runs { RunsOn tables.configuration earlier [] tables.state }
+        requires held { S.holds store tables.configuration tables.state }
+        ensures ok { IfOk result (λ m. m ≡ record {
+          configuration = tables.configuration;
+          earlier = earlier;
+          journal = [];
+          state = tables.state;
+          store = store;
+        }) }
+        ensures err { IfErr result (λ not_made. not_made.store ≡ store) }
+    {
+        tables.config().soundness();
+        match Index::rebuild(alloc, &tables) {
+            Ok(index) => Ok(Machine {
+                alloc,
+                tables,
+                index,
+                earlier,
+                journal: Vec::new(alloc),
+                store,
+            }),
+            Err(_) => Err(NotMade { store }),
+        }
+    }
+
+    /// The earlier entries and the journal lead to the state, and the configuration leaves room for
+    /// every run. The call does nothing: a caller's proof takes the facts from it.
     pub fn soundness(&self)
         ensures site { IsFitSite self.now.configuration }
-        ensures runs { Runs self.now.configuration self.now.journal self.now.state }
+        ensures runs { RunsOn self.now.configuration self.now.earlier self.now.journal self.now.state }
     {
         let _journal = &self.journal;
     }
@@ -90,21 +129,47 @@ impl<S: Store + Drop> Machine<S> {
         &self.store
     }
 
-    /// What was recorded, the first entry first.
+    /// The configuration and the store, which has the state. The state itself and the journal are let
+    /// go.
+    pub fn into_parts(self) -> (Config, S)
+        ensures configuration { result.0 ≡ self.configuration }
+        ensures store { result.1 ≡ self.store }
+        ensures held { S.holds self.store self.configuration self.state }
+    {
+        let Machine { tables, store, .. } = self;
+        (tables.into_config(), store)
+    }
+
+    /// How many entries led to the state from which the journal goes on: 0 for a machine that began
+    /// before the first event.
+    pub fn earlier(&self) -> u32
+        ensures { result ≡ self.now.earlier }
+    {
+        self.earlier
+    }
+
+    /// What was recorded after the earlier entries, the first entry first.
     pub fn journal(&self) -> &[Entry]
         ensures { result.now ≡ self.now.journal }
     {
         self.journal.as_slice()
     }
 
-    /// The reply to the event: `Full` if the journal has no room. It takes no memory. A session, a
-    /// job or a role is found by its place, a request, a node or a handle by binary search, and what
-    /// asks of many rows by the index.
+    /// Whether one more entry may be recorded: the earlier entries and the journal are not full.
+    fn has_room(&self) -> bool
+        ensures { result ≡ has_room_after self.now.earlier (ran_of self.now) }
+    {
+        self.earlier as usize + self.journal.len() < JOURNAL_ENTRIES
+    }
+
+    /// The reply to the event: `Full` if there is no room for one more entry. It takes no memory. A
+    /// session, a job or a role is found by its place, a request, a node or a handle by binary search,
+    /// and what asks of many rows by the index.
     pub fn judge(&self, event: Event) -> Reply
-        ensures { result ≡ answer_of (ran_of self.now) event }
+        ensures { result ≡ answer_after self.now.earlier (ran_of self.now) event }
     {
         self.soundness();
-        if self.journal.len() >= JOURNAL_ENTRIES {
+        if !self.has_room() {
             return Reply::Refused(Refusal::Full);
         }
         match decide(self, event) {
@@ -117,14 +182,18 @@ impl<S: Store + Drop> Machine<S> {
     /// reply is `Full`, or memory runs out, the state and the journal stay. It costs what `judge`
     /// does, and what the store, the tables and the index take for the rows that change.
     pub fn apply(&mut self, event: Event) -> Result<Reply, NoMemory>
-        ensures reply { IfOk result (λ r. r ≡ answer_of (ran_of self.old) event) }
-        ensures ok { OnOk result (ran_of self.new ≡ applied (ran_of self.old) event) }
+        ensures reply { IfOk result
+            (λ r. r ≡ answer_after self.old.earlier (ran_of self.old) event) }
+        ensures ok { OnOk result
+            (ran_of self.new ≡ applied_after self.old.earlier (ran_of self.old) event) }
         ensures err { OnErr result (ran_of self.new ≡ ran_of self.old) }
+        ensures earlier { self.new.earlier ≡ self.old.earlier }
         ensures later { S.later self.old.store self.new.store }
-        ensures runs { Runs self.new.configuration self.new.journal self.new.state }
+        ensures runs { RunsOn self.new.configuration self.new.earlier self.new.journal
+            self.new.state }
     {
         self.soundness();
-        if self.journal.len() >= JOURNAL_ENTRIES {
+        if !self.has_room() {
             return Ok(Reply::Refused(Refusal::Full));
         }
         let decided = decide(self, event);

@@ -15,6 +15,7 @@ pub type Plain = Machine<()>;
 pub fn new_plain(alloc: Global, config: Config) -> Result<Plain, NoMemory>
     ensures { IfOk result (λ m. m ≡ record {
       configuration = config;
+      earlier = 0;
       journal = [];
       state = start config;
       store = tt;

@@ -1,17 +1,8 @@
-use Rattle.np_fits.proofs.FitsRuns.{Fits-Runs}
-use Rattle.np_fits.proofs.RunSteps.{Runs-start}
-use Rattle.np_fits.proofs.Sites.{sound_fits}
+use Rattle.np_rules.proofs.RunLemmas.{RunsOn-start}
 use Rattle.np_rules.proofs.machine.Machine.begin.Goals as goal
 
-pub rebuild-requires-clause-fits : goal.rebuild-requires-clause-fits
-rebuild-requires-clause-fits g c = rw (c.in_ok-tables.ensures.configuration, c.in_ok-tables.ensures.state) (Fits-Runs _ _ _ (sound_fits c.args.config c.soundness.ensures) (Runs-start c.args.config))
+pub of_tables-requires-clause-runs : goal.of_tables-requires-clause-runs
+of_tables-requires-clause-runs g c = rw (c.in_ok-tables.ensures.configuration, c.in_ok-tables.ensures.state) (RunsOn-start c.args.config)
 
-pub invariant_of-result : goal.invariant_of-result
-invariant_of-result g c = record {
-  run = record {
-    site = rw c.in_ok-tables.ensures.configuration (sound_fits c.args.config c.soundness.ensures);
-    runs = rw (c.new.ensures.items, c.in_ok-tables.ensures.configuration, c.in_ok-tables.ensures.state) (Runs-start c.args.config);
-  };
-  index = c.in_ok-index.ensures;
-  held = rw (c.in_ok-tables.ensures.configuration, c.in_ok-tables.ensures.state) c.requires;
-}
+pub of_tables-requires-clause-held : goal.of_tables-requires-clause-held
+of_tables-requires-clause-held g c = rw (c.in_ok-tables.ensures.configuration, c.in_ok-tables.ensures.state) c.requires

@@ -1,5 +1,5 @@
-use Rattle.np_fits.proofs.FitsRuns.{Fits-Runs}
+use Rattle.np_rules.proofs.RunLemmas.{RunsOn-fits}
 use Rattle.np_rules.proofs.machine.Machine.judge.Goals as goal
 
 pub decide-requires : goal.decide-requires
-decide-requires g c = Fits-Runs _ _ _ c.soundness.ensures.site c.soundness.ensures.runs
+decide-requires g c = RunsOn-fits _ _ _ _ c.soundness.ensures.site c.soundness.ensures.runs

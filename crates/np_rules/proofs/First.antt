@@ -1,0 +1,24 @@
+-- a machine that began before the first event
+use Rattle.std.proofs.Common.{◌≡◌, ◌∙◌, ℕ, ◌+◌, List, [], ◌∷◌, length, refl, arith}
+use Rattle.np_site.specs.Configuration.{Configuration}
+use Rattle.np_event.specs.declared.event.Event.{Event}
+use Rattle.np_event.specs.declared.entry.Entry.{Entry}
+use Rattle.np_machine.specs.State.{State}
+use Rattle.np_machine.specs.History.{Runs}
+use Rattle.np_rules.specs.Ran.{Ran, answer_of, applied}
+use Rattle.np_rules.specs.RunsOn.{RunsOn, answer_after, applied_after}
+
+none-before : (before : List Entry) → length before ≡ 0 → before ≡ []
+none-before [] is = refl
+none-before (e ∷ before) is = absurd (let none : length (e ∷ before) ≡ 0 = is in omega arith)
+
+-- its journal is a run of its own
+pub Runs-first : (c : Configuration) (earlier : ℕ) (journal : List Entry) (s : State) → earlier ≡ 0 → RunsOn c earlier journal s → Runs c journal s
+Runs-first c earlier journal s first on = rw (none-before on.before (on.many ∙ first)) at on.runs
+
+-- and it replies as its journal alone says
+pub answer-first : (earlier : ℕ) (m : Ran) (e : Event) → earlier ≡ 0 → answer_after earlier m e ≡ answer_of m e
+answer-first earlier m e first = let same : earlier + length m.journal ≡ length m.journal = omega (arith, first) in rw same refl
+
+pub applied-first : (earlier : ℕ) (m : Ran) (e : Event) → earlier ≡ 0 → applied_after earlier m e ≡ applied m e
+applied-first earlier m e first = let same : earlier + length m.journal ≡ length m.journal = omega (arith, first) in rw same refl
