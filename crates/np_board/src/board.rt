@@ -33,12 +33,16 @@ pub struct Board {
 }
 
 impl Model for Board {
+    ghost use Rattle.std.specs.Prelude.{◌≡◌};
     ghost use Rattle.np_rules.specs.Ran.{Ran};
     ghost use Rattle.np_rules.specs.Running.{ran_of};
 
     ghost Value = { Ran };
 
     ghost view = { λ b. ran_of b.machine };
+
+    // It began before the first event.
+    ghost invariant = { λ b. b.machine.earlier ≡ 0 };
 }
 
 impl Board {
@@ -73,7 +77,9 @@ impl Board {
 
     /// The machine, which reads and searches the state.
     pub fn machine(&self) -> &Machine<TreeStore>
-        ensures { ran_of result.now ≡ self.now }
+        ensures same { ran_of result.now ≡ self.now }
+        // It began before the first event.
+        ensures first { result.now.earlier ≡ 0 }
     {
         &self.machine
     }
@@ -84,6 +90,16 @@ impl Board {
         ensures state { decoded self.now.configuration result.now ≡ self.now.state }
     {
         self.machine.store().tree()
+    }
+
+    /// The configuration and the tree, which lays the state out; the journal is let go.
+    pub fn into_parts(self) -> (Config, Tree)
+        ensures configuration { result.0 ≡ self.configuration }
+        ensures held { IsHeld self.configuration result.1 }
+        ensures state { decoded self.configuration result.1 ≡ self.state }
+    {
+        let (config, store) = self.machine.into_parts();
+        (config, store.into_tree())
     }
 
     /// The reply to the event: `Full` if the journal has 262,144 entries. It takes no memory.

@@ -4,11 +4,23 @@
 //! and `specs/Taken` what a turn leaves. `Board` is a machine (np_rules) whose store is a coordination
 //! tree (np_keeper). It lends the machine to readers and the tree to whoever would read the state
 //! back, and has `SeqObject` for threads that share it at a desk (np_desk). There the journal is the history, and np_answers' test of a legal journal
-//! says that its replies are the machine's.
+//! says that its replies are the machine's. `machine_of_tree` reads a machine back from a tree: it
+//! goes on from there with an empty journal.
+//!
+//! `PlannedBoard` is such a board at which launchers may also plan: they choose on the tree as it
+//! stands, and commit later, where it is as it was at what their event's judgement reads. `Planner`
+//! has the turns of a desk over it as any party asks for them: a launcher's turn is a plan and its
+//! commit, or a plain turn where nothing can be planned or four plans went stale.
 #![tactic(auto)]
 
 mod board;
 mod due;
+mod planned;
+mod planner;
+mod reading;
 mod turns;
 
 pub use board::Board;
+pub use planned::{Plan, PlanAsk, PlanTurn, PlannedBoard};
+pub use planner::Planner;
+pub use reading::{NotRead, machine_of_tree};

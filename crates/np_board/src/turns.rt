@@ -1,4 +1,4 @@
-//! The turns, taken at a machine.
+//! The turns, taken at a machine that began before the first event.
 
 ghost use Rattle.std.specs.Prelude.{◌≡◌, ◌↔◌, true, IfOk, OnErr};
 ghost use Rattle.np_answers.specs.Answers.{answers_due};
@@ -6,6 +6,7 @@ ghost use Rattle.np_answers.specs.declared.ask.Ask.TheVariants as asks;
 ghost use Rattle.np_board.specs.Taken.{IsTaken};
 ghost use Rattle.np_rules.specs.Running.{ran_of};
 ghost use Rattle.np_useful.specs.Settled.{IsSettled};
+ghost use Rattle.np_views.specs.Dates.{IsLater};
 
 use crate::due::{due_node, is_wanted, node, was_swept};
 use np_answers::{Ask, Turn};
@@ -26,9 +27,12 @@ pub(crate) fn has_settled(machine: &Machine<TreeStore>) -> bool
 
 /// Records the event with its reply: `Did`, or `Full` if and only if there are 262,144 entries.
 fn record(machine: &mut Machine<TreeStore>, event: Event) -> Result<Turn, NoMemory>
+    requires { machine.old.earlier ≡ 0 }
     ensures turn { IfOk result
         (λ t. IsTaken (ran_of machine.old) (asks.Do event) t (ran_of machine.new)) }
     ensures err { OnErr result (ran_of machine.new ≡ ran_of machine.old) }
+    ensures later { IsLater machine.old.store machine.new.store }
+    ensures earlier { machine.new.earlier ≡ machine.old.earlier }
 {
     machine.soundness();
     if machine.journal().len() >= JOURNAL_ENTRIES {
@@ -40,9 +44,12 @@ fn record(machine: &mut Machine<TreeStore>, event: Event) -> Result<Turn, NoMemo
 
 /// Records one useful event of the role, if it has one.
 pub(crate) fn act(machine: &mut Machine<TreeStore>, role: Role) -> Result<Turn, NoMemory>
+    requires { machine.old.earlier ≡ 0 }
     ensures turn { IfOk result
         (λ t. IsTaken (ran_of machine.old) (asks.Act role) t (ran_of machine.new)) }
     ensures err { OnErr result (ran_of machine.new ≡ ran_of machine.old) }
+    ensures later { IsLater machine.old.store machine.new.store }
+    ensures earlier { machine.new.earlier ≡ machine.old.earlier }
 {
     machine.soundness();
     match choose(machine, role) {
@@ -55,6 +62,7 @@ pub(crate) fn act(machine: &mut Machine<TreeStore>, role: Role) -> Result<Turn, 
 /// there is none. It looks up the janitor's session, and then the nodes in whose queues that session
 /// is, up to the due one.
 fn due(machine: &Machine<TreeStore>, pool: PoolId) -> Turn
+    requires { machine.now.earlier ≡ 0 }
     ensures { answers_due machine.now.configuration machine.now.journal pool result }
 {
     machine.soundness();
@@ -81,9 +89,12 @@ fn sweep(
     node: NodeId,
     server: u64,
 ) -> Result<Turn, NoMemory>
+    requires { machine.old.earlier ≡ 0 }
     ensures turn { IfOk result (λ t.
         IsTaken (ran_of machine.old) (asks.Sweep pool node server) t (ran_of machine.new)) }
     ensures err { OnErr result (ran_of machine.new ≡ ran_of machine.old) }
+    ensures later { IsLater machine.old.store machine.new.store }
+    ensures earlier { machine.new.earlier ≡ machine.old.earlier }
 {
     machine.soundness();
     let Some(session) = current_session(machine, Role::Janitor(pool)) else {
@@ -107,8 +118,11 @@ fn sweep(
 
 /// Takes the turn that the ask names.
 pub(crate) fn take_turn(machine: &mut Machine<TreeStore>, ask: Ask) -> Result<Turn, NoMemory>
+    requires { machine.old.earlier ≡ 0 }
     ensures turn { IfOk result (λ t. IsTaken (ran_of machine.old) ask t (ran_of machine.new)) }
     ensures err { OnErr result (ran_of machine.new ≡ ran_of machine.old) }
+    ensures later { IsLater machine.old.store machine.new.store }
+    ensures earlier { machine.new.earlier ≡ machine.old.earlier }
 {
     match ask {
         Ask::Act(role) => act(machine, role),

@@ -10,3 +10,4 @@ pub mod Spares
 pub mod Sums
 pub mod Locks
 pub mod Launchers
+pub mod Planning

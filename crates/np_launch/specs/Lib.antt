@@ -3,3 +3,4 @@ pub mod Hands
 pub mod Sisters
 pub mod Computed
 pub mod Choices
+pub mod Planned

@@ -170,7 +170,12 @@ fn done_at<L: Look>(look: &L, pool: PoolId, session: SessionId, at: u32) -> Opti
 
 /// The request at a place, of those in whose queues the session is, with its first ready node, if
 /// the pool serves it.
-fn take_ready_at<L: Look>(look: &L, pool: PoolId, session: SessionId, at: u32) -> Option<Event>
+pub(crate) fn take_ready_at<L: Look>(
+    look: &L,
+    pool: PoolId,
+    session: SessionId,
+    at: u32,
+) -> Option<Event>
     requires { Fits (L.site look.now) (L.state look.now) }
     ensures { result ≡ take_ready_at (L.site look.now) (L.state look.now) pool session at }
 {
@@ -194,7 +199,12 @@ fn take_ready_at<L: Look>(look: &L, pool: PoolId, session: SessionId, at: u32) -
 }
 
 /// The request at a place, of those in whose queues the session is, with its first reason.
-fn decline_at<L: Look>(look: &L, pool: PoolId, session: SessionId, at: u32) -> Option<Event>
+pub(crate) fn decline_at<L: Look>(
+    look: &L,
+    pool: PoolId,
+    session: SessionId,
+    at: u32,
+) -> Option<Event>
     requires { Fits (L.site look.now) (L.state look.now) }
     ensures { result ≡ decline_at (L.site look.now) (L.state look.now) pool session at }
 {

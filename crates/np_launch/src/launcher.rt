@@ -114,8 +114,8 @@ fn is_to_create<L: Look>(look: &L, session: SessionId, request: RequestId) -> bo
 
 /// The rows of a pool's launcher.
 #[derive(Clone, Copy)]
-struct LauncherRows {
-    pool: PoolId,
+pub(crate) struct LauncherRows {
+    pub(crate) pool: PoolId,
 }
 
 impl RoleRows for LauncherRows {

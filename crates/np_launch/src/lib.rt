@@ -22,7 +22,8 @@
 //!
 //! `request` tests one request or node, and `requests` looks for requests that pass a test. `rows`
 //! has the conditions of whole rows, `computed` the events that name more than a request or a node,
-//! and `launcher` the choice.
+//! and `launcher` the choice. `planned` has the choice among those kinds of events that may be chosen
+//! on one state and committed on a later one.
 //!
 //! A choice costs what the launcher's own session queues for, and not all that there is: for each
 //! kind of event it tests the requests or nodes in whose queues the session is, and each of these
@@ -45,11 +46,13 @@
 mod computed;
 mod launcher;
 mod near;
+mod planned;
 mod request;
 mod requests;
 mod rows;
 
 pub use launcher::choose_launcher;
+pub use planned::choose_planned;
 pub use request::{
     has_failed_node, is_as_planned, is_done_with, is_listed, is_pending_by, is_spent,
 };

@@ -7,3 +7,4 @@ pub mod Fresh
 pub mod Firsts
 pub mod Stands
 pub mod Parents
+pub mod Gathered

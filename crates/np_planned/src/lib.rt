@@ -5,15 +5,19 @@
 //! judgement of each reads: its spots, and their paths. `specs/Agree` says that nothing else counts, and
 //! `specs/Commits` that an event is accepted in the state of a later tree where its paths are fresh.
 //!
+//! `spots` reads an event's spots of a state, and `paths_of` makes their paths.
+//!
 //! `first_stale` tests paths by the stats that a `StatRead` reads, and finds the first that is not
 //! fresh. `specs/Paths` says that what it asks of the paths holds of those of an accepted event.
 #![tactic(auto)]
 
+mod gather;
 mod laws;
 mod spot;
 mod stale;
 mod stats;
 
+pub use gather::{paths_of, spots};
 pub use laws::{fresh_spots_commit, spots_decide, spots_have_paths};
 pub use spot::{Spot, SpotRow, spot_path};
 pub use stale::{Kept, first_stale};

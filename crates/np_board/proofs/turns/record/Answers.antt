@@ -1,11 +1,17 @@
 use Rattle.np_rules.specs.Running.{ran_of}
-use Rattle.std.proofs.Common.{◌<◌, ◌∙◌, List, length, ap, subst, arith}
+use Rattle.std.proofs.Common.{◌<◌, ◌∙◌, List, length, subst, arith}
 use Rattle.np_event.specs.declared.entry.Entry.{Entry}
+use Rattle.np_rules.proofs.First.{Runs-first, answer-first, applied-first}
 use Rattle.np_board.proofs.TurnLemmas.{do-taken}
+use Rattle.np_views.proofs.LaterLemmas.{later-than-itself}
 use Rattle.np_board.proofs.turns.record.Goals as goal
 
 pub returns-clause-turn : goal.returns-clause-turn
 returns-clause-turn c =
     let told : length c.journal.result.now < 262144 = omega (arith, c.if-journal-ge-JOURNAL_ENTRIES.false) in
     let room : length c.args.machine.now.journal < 262144 = subst (λ (xs : List Entry). length xs < 262144) c.journal.ensures told in
-    do-taken (ran_of c.args.machine.now) (ran_of c.apply.new.self) c.args.event c.in_ok-reply.reply c.soundness.ensures.runs room c.in_ok-reply.ensures.reply c.in_ok-reply.ensures.ok
+    do-taken (ran_of c.args.machine.now) (ran_of c.apply.new.self) c.args.event c.in_ok-reply.reply (Runs-first _ _ _ _ c.requires c.soundness.ensures.runs) room
+    (c.in_ok-reply.ensures.reply ∙ answer-first c.args.machine.now.earlier (ran_of c.args.machine.now) c.args.event c.requires) (c.in_ok-reply.ensures.ok ∙ applied-first c.args.machine.now.earlier (ran_of c.args.machine.now) c.args.event c.requires)
+
+pub returns-then-journal-ge-JOURNAL_ENTRIES-clause-later : goal.returns-then-journal-ge-JOURNAL_ENTRIES-clause-later
+returns-then-journal-ge-JOURNAL_ENTRIES-clause-later c = later-than-itself c.args.machine.now.store

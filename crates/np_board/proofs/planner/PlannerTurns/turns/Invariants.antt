@@ -1,0 +1,15 @@
+use Rattle.std.proofs.Common.{◌≡◌}
+use Rattle.np_useful.specs.Planned.{WasUseful}
+use Rattle.np_desk.specs.Pass.{IsOf, sight_of}
+use Rattle.np_answers.specs.Answers.{answers_also}
+use Rattle.np_answers.specs.Asks.{recorded}
+use Rattle.np_board.proofs.PlannerLemmas.{WentFrom}
+use Rattle.np_board.proofs.planner.PlannerTurns.turns.Given as goal
+
+abbrev pub invariant-loop-turn : goal.invariant-loop-turn
+invariant-loop-turn g l = record {
+  own : IsOf l.self.pass l.self.desk.now;
+  desk : l.self.desk.now ≡ l.fn.self.desk.now;
+  part : l.self.pass.part ≡ l.fn.self.pass.part;
+  went : WentFrom (answers_also WasUseful) recorded g.S.Series.asks g.S.Series.hears l.fn.self.desk.now.origin.fixed (sight_of l.fn.self.pass) l.fn.series l._turn (sight_of l.self.pass) l.series;
+}

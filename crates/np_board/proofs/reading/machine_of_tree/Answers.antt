@@ -1,0 +1,9 @@
+use Rattle.np_fits.proofs.Sites.{sound_fits}
+use Rattle.np_rules.proofs.RunLemmas.{RunsOn-fits, RunsOn-reached}
+use Rattle.np_board.proofs.reading.machine_of_tree.Goals as goal
+
+pub tables_of_tree-requires-clause-reached : goal.tables_of_tree-requires-clause-reached
+tables_of_tree-requires-clause-reached c = RunsOn-reached _ _ _ _ c.requires.runs
+
+pub tables_of_tree-requires-clause-fits : goal.tables_of_tree-requires-clause-fits
+tables_of_tree-requires-clause-fits c = RunsOn-fits _ _ _ _ (sound_fits c.args.config c.soundness.ensures) c.requires.runs

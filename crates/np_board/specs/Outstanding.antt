@@ -1,0 +1,119 @@
+-- plans that were made and not committed
+use Rattle.std.specs.Prelude.{◌≡◌, ◌≤◌, ℕ, suc, true, List, [], ◌∷◌, length, take, Option, Some, None, slice_get, is_ok}
+use Rattle.std.specs.List.{AllByRecursion}
+use Rattle.std.specs.Option.{is_some}
+use Rattle.np_text.specs.declared.id.PoolId.{PoolId}
+use Rattle.np_text.specs.declared.id.Role.TheVariants.{Launcher}
+use Rattle.np_lists.specs.Change.{change_at}
+use Rattle.np_nodes.specs.TreeState.{TreeState}
+use Rattle.np_views.specs.Dates.{IsLater}
+use Rattle.np_watch.specs.Fresh.{AreFreshPaths}
+use Rattle.np_watch.specs.declared.watch.Watch.{Watch}
+use Rattle.np_site.specs.Configuration.{Configuration}
+use Rattle.np_event.specs.declared.entry.Entry.{Entry}
+use Rattle.np_machine.specs.History.{Runs}
+use Rattle.np_machine.specs.State.{State}
+use Rattle.np_machine.specs.Step.{judge}
+use Rattle.np_layout.specs.Carried.{IsStored}
+use Rattle.np_useful.specs.Planned.{is_planned}
+use Rattle.np_useful.specs.Useful.{IsUseful}
+use Rattle.np_planned.specs.Spots.{paths_at, spots_of}
+use Rattle.np_rules.specs.Ran.{Ran}
+use Rattle.np_rules.specs.Running.{Running}
+use Rattle.np_board.specs.declared.planned.plan.Plan.{Plan}
+
+-- a plan, the paths of its spots, and the watches on them that are left
+pub record Outstanding : Type 0 where
+  pub plan : Plan
+  pub paths : List (List ℕ)
+  pub watches : List Watch
+
+-- watches of all paths as they are at z, by their places from k on
+abbrev pub watches_from : ℕ → ℕ → List (List ℕ) → List Watch
+watches_from z k [] = []
+watches_from z k (path ∷ paths) = record { key = k; path = path; at = z } ∷ watches_from z (suc k) paths
+
+abbrev pub watches_of : ℕ → List (List ℕ) → List Watch
+watches_of z paths = watches_from z 0 paths
+
+-- ## the board
+
+-- a board's configuration, journal and state, its tree, how many plans were committed, and the outstanding plan of each pool
+pub record Planning : Type 0 where
+  pub configuration : Configuration
+  pub journal : List Entry
+  pub state : State
+  pub tree : TreeState
+  pub commits : ℕ
+  pub plans : List (Option Outstanding)
+
+-- the board of a machine over a tree
+abbrev pub planning_of : Running TreeState → ℕ → List (Option Outstanding) → Planning
+planning_of m commits plans = record {
+  configuration = m.configuration;
+  journal = m.journal;
+  state = m.state;
+  tree = m.store;
+  commits = commits;
+  plans = plans;
+}
+
+abbrev pub ran_of : Planning → Ran
+ran_of m = record { configuration = m.configuration; journal = m.journal; state = m.state }
+
+abbrev pub plan_in : Option (Option Outstanding) → Option Outstanding
+plan_in None = None
+plan_in (Some o) = o
+
+-- the outstanding plan of the pool
+abbrev pub plan_of : PoolId → List (Option Outstanding) → Option Outstanding
+plan_of p plans = plan_in (slice_get plans p.0)
+
+-- the pool's outstanding plan is now this, or none
+abbrev pub with_plan : PoolId → Option Outstanding → List (Option Outstanding) → List (Option Outstanding)
+with_plan p o plans = change_at p.0 (λ _. o) plans
+
+-- ## what is known of a plan
+
+-- the event was useful in the state that the tree stored (own)
+pub record IsNewPlan (c : Configuration) (s : State) (t : TreeState) (p : PoolId) (x : Outstanding) : Type 0 where
+  pub pool : x.plan.pool ≡ p
+  pub useful : IsUseful c s (Launcher p) x.plan.event
+  pub planned : is_planned x.plan.event ≡ true
+  pub at : x.plan.at ≡ t.changes
+  pub spots : x.plan.spots ≡ spots_of s x.plan.event
+  pub paths : x.paths ≡ paths_at x.plan.spots
+  pub watches : x.watches ≡ watches_of x.plan.at x.paths
+
+-- each watch is of one of the spots, by its place
+abbrev pub AreOfSpots : Outstanding → Type 0
+AreOfSpots x = AllByRecursion (λ (w : Watch). is_some (slice_get x.plan.spots w.key) ≡ true) x.watches
+
+-- the plan was made over a tree that is not later than this one, in the state after a beginning of the journal, in which its
+-- event was useful (own)
+pub record IsOutstanding (c : Configuration) (journal : List Entry) (now : TreeState) (p : ℕ) (x : Outstanding) : Type 0 where
+  pub pool : x.plan.pool.0 ≡ p
+  pub place : ℕ
+  pub within : place ≤ length journal
+  pub before : State
+  pub runs : Runs c (take place journal) before
+  pub peeked : TreeState
+  pub stored : IsStored c before peeked
+  pub at : peeked.changes ≡ x.plan.at
+  pub later : IsLater peeked now
+  pub useful : IsUseful c before (Launcher x.plan.pool) x.plan.event
+  pub planned : is_planned x.plan.event ≡ true
+  pub spots : x.plan.spots ≡ spots_of before x.plan.event
+  pub paths : x.paths ≡ paths_at x.plan.spots
+  pub watches : AreOfSpots x
+
+-- what is true of each board at which launchers plan: its plans are outstanding, each pool has room for one, and each commit
+-- recorded an entry (own)
+pub record IsPlanning (m : Planning) : Type 0 where
+  pub plans : (p : ℕ) (x : Outstanding) → slice_get m.plans p ≡ Some (Some x) → IsOutstanding m.configuration m.journal m.tree p x
+  pub room : length m.plans ≡ length m.configuration.pools
+  pub commits : m.commits ≤ length m.journal
+
+-- of each outstanding plan: a spot isn't fresh, or the event is accepted now (own)
+abbrev pub FreshAreAccepted : Planning → Type 0
+FreshAreAccepted m = (p : PoolId) (x : Outstanding) → plan_of p m.plans ≡ Some x → AreFreshPaths x.plan.at m.tree x.paths → is_ok (judge m.configuration m.state x.plan.event) ≡ true

@@ -1,0 +1,153 @@
+-- what a turn at a board leaves at which launchers plan
+use Rattle.std.specs.Prelude.{◌≡◌, ◌<◌, ◌+◌, ℕ, true, ◌++◌, ◌∷◌, [], length, Some, None, find, slice_get}
+use Rattle.np_text.specs.declared.id.PoolId.{PoolId}
+use Rattle.np_text.specs.declared.id.Role.TheVariants.{Launcher}
+use Rattle.np_lists.specs.Change.{remove_first}
+use Rattle.np_views.specs.Dates.{IsLater}
+use Rattle.np_watch.specs.Fresh.{AreFreshPaths}
+use Rattle.np_watch.specs.Watching.{is_fired}
+use Rattle.np_watch.specs.declared.watch.Watch.{Watch}
+use Rattle.np_event.specs.declared.event.Event.{Event}
+use Rattle.np_event.specs.declared.entry.Entry.{Entry}
+use Rattle.np_event.specs.declared.reply.Done.{Done}
+use Rattle.np_event.specs.declared.reply.Reply.TheVariants as reply
+use Rattle.np_useful.specs.Planned.{WasUseful, is_planned}
+use Rattle.np_useful.specs.Useful.{IsUseful}
+use Rattle.np_planned.specs.Stale.{IsFirstStale}
+use Rattle.np_planned.specs.declared.spot.Spot.{Spot}
+use Rattle.np_answers.specs.Answers.{IsFull, IsReplied}
+use Rattle.np_answers.specs.declared.ask.Ask.{Ask}
+use Rattle.np_answers.specs.declared.ask.Turn.{Turn}
+use Rattle.np_board.specs.Outstanding.{IsNewPlan, Outstanding, Planning, plan_of, ran_of, with_plan}
+use Rattle.np_board.specs.Taken.{IsTaken}
+use Rattle.np_board.specs.declared.planned.plan.Plan.{Plan}
+use Rattle.np_board.specs.declared.planned.plan.PlanAsk.{PlanAsk}
+use Rattle.np_board.specs.declared.planned.plan.PlanAsk.TheVariants as ask
+use Rattle.np_board.specs.declared.planned.plan.PlanTurn.{PlanTurn}
+use Rattle.np_board.specs.declared.planned.plan.PlanTurn.TheVariants as turn
+
+-- ## memory ran out
+
+-- everything is as before, except that the tree may have taken memory
+pub record IsAsBefore (old new : Planning) : Type 0 where
+  pub ran : ran_of new ≡ ran_of old
+  pub plans : new.plans ≡ old.plans
+  pub commits : new.commits ≡ old.commits
+  pub later : IsLater old.tree new.tree
+
+-- ## Plain
+
+-- a turn of any board; no plan changes
+pub record IsPlain (old : Planning) (plain : Ask) (t : Turn) (new : Planning) : Type 0 where
+  pub taken : IsTaken (ran_of old) plain t (ran_of new)
+  pub plans : new.plans ≡ old.plans
+  pub commits : new.commits ≡ old.commits
+  pub later : IsLater old.tree new.tree
+
+-- ## Peek
+
+-- the plan is outstanding now, with a watch on each of its spots, in place of the pool's earlier plan
+pub record IsPeeked (old : Planning) (p : PoolId) (plan : Plan) (new : Planning) : Type 0 where
+  pub watched : Outstanding
+  pub same : watched.plan ≡ plan
+  pub is : IsNewPlan old.configuration old.state old.tree p watched
+  pub left : new ≡ record old { plans = with_plan p (Some watched) old.plans }
+
+-- the pool's launcher has no useful event that can be planned
+abbrev pub HasNone : Planning → PoolId → Type 0
+HasNone old p = (e : Event) → is_planned e ≡ true → IsUseful old.configuration old.state (Launcher p) e → ⊥
+
+-- ## News
+
+-- the first watch that fires is taken out
+pub record IsNews (old : Planning) (p : PoolId) (spot : Spot) (new : Planning) : Type 0 where
+  pub plan : Outstanding
+  pub there : plan_of p old.plans ≡ Some plan
+  pub watch : Watch
+  pub fired : find (is_fired old.tree) plan.watches ≡ Some watch
+  pub of : slice_get plan.plan.spots watch.key ≡ Some spot
+  pub left : new ≡ record old { plans = with_plan p (Some (record plan { watches = remove_first (is_fired old.tree) plan.watches })) old.plans }
+
+-- no watch of a plan of the pool fires
+abbrev pub HasNoNews : Planning → PoolId → Type 0
+HasNoNews old p = (plan : Outstanding) → plan_of p old.plans ≡ Some plan → find (is_fired old.tree) plan.watches ≡ None
+
+-- ## Commit
+
+-- all spots of the plan are fresh, and its event was recorded and accepted
+pub record IsCommitted (old : Planning) (p : PoolId) (e : Entry) (new : Planning) : Type 0 where
+  pub plan : Outstanding
+  pub there : plan_of p old.plans ≡ Some plan
+  pub fresh : AreFreshPaths plan.plan.at old.tree plan.paths
+  pub event : e.event ≡ plan.plan.event
+  pub was : WasUseful old.configuration old.journal (Launcher p) e.event
+  pub replied : IsReplied old.configuration old.journal e
+  pub done : Done
+  pub accepted : e.reply ≡ reply.Done done
+  pub configuration : new.configuration ≡ old.configuration
+  pub journal : new.journal ≡ old.journal ++ e ∷ []
+  pub plans : new.plans ≡ with_plan p None old.plans
+  pub commits : new.commits ≡ old.commits + 1
+  pub later : IsLater old.tree new.tree
+
+-- the first spot of the plan that isn't fresh, with its last change, which is later; the plan is taken out
+pub record IsStale (old : Planning) (p : PoolId) (spot : Spot) (change : ℕ) (new : Planning) : Type 0 where
+  pub plan : Outstanding
+  pub there : plan_of p old.plans ≡ Some plan
+  pub room : length old.journal < 262144
+  pub place : ℕ
+  pub first : IsFirstStale old.tree plan.plan.at plan.paths (record { place = place; change = change })
+  pub of : slice_get plan.plan.spots place ≡ Some spot
+  pub late : plan.plan.at < change
+  pub left : new ≡ record old { plans = with_plan p None old.plans }
+
+-- there is a plan, and no room
+pub record IsBarred (old : Planning) (p : PoolId) : Type 0 where
+  pub plan : Outstanding
+  pub there : plan_of p old.plans ≡ Some plan
+  pub full : IsFull old.journal
+
+-- ## any ask
+
+abbrev pub TakenPlain : Planning → Ask → PlanTurn → Planning → Type 0
+TakenPlain old plain (turn.Plain t) new = IsPlain old plain t new
+TakenPlain old plain (turn.Planned plan) new = ⊥
+TakenPlain old plain (turn.Fired spot) new = ⊥
+TakenPlain old plain (turn.Did e) new = ⊥
+TakenPlain old plain (turn.Stale spot change) new = ⊥
+TakenPlain old plain turn.Idle new = ⊥
+TakenPlain old plain turn.Full new = ⊥
+
+abbrev pub TakenPeek : Planning → PoolId → PlanTurn → Planning → Type 0
+TakenPeek old p (turn.Plain t) new = ⊥
+TakenPeek old p (turn.Planned plan) new = IsPeeked old p plan new
+TakenPeek old p (turn.Fired spot) new = ⊥
+TakenPeek old p (turn.Did e) new = ⊥
+TakenPeek old p (turn.Stale spot change) new = ⊥
+TakenPeek old p turn.Idle new = HasNone old p × (new ≡ old)
+TakenPeek old p turn.Full new = ⊥
+
+abbrev pub TakenNews : Planning → PoolId → PlanTurn → Planning → Type 0
+TakenNews old p (turn.Plain t) new = ⊥
+TakenNews old p (turn.Planned plan) new = ⊥
+TakenNews old p (turn.Fired spot) new = IsNews old p spot new
+TakenNews old p (turn.Did e) new = ⊥
+TakenNews old p (turn.Stale spot change) new = ⊥
+TakenNews old p turn.Idle new = HasNoNews old p × (new ≡ old)
+TakenNews old p turn.Full new = ⊥
+
+abbrev pub TakenCommit : Planning → PoolId → PlanTurn → Planning → Type 0
+TakenCommit old p (turn.Plain t) new = ⊥
+TakenCommit old p (turn.Planned plan) new = ⊥
+TakenCommit old p (turn.Fired spot) new = ⊥
+TakenCommit old p (turn.Did e) new = IsCommitted old p e new
+TakenCommit old p (turn.Stale spot change) new = IsStale old p spot change new
+TakenCommit old p turn.Idle new = (plan_of p old.plans ≡ None) × (new ≡ old)
+TakenCommit old p turn.Full new = IsBarred old p × (new ≡ old)
+
+-- the turn answers the ask, and leaves this (own)
+abbrev pub IsPlanTaken : Planning → PlanAsk → PlanTurn → Planning → Type 0
+IsPlanTaken old (ask.Plain plain) t new = TakenPlain old plain t new
+IsPlanTaken old (ask.Peek p) t new = TakenPeek old p t new
+IsPlanTaken old (ask.News p) t new = TakenNews old p t new
+IsPlanTaken old (ask.Commit p) t new = TakenCommit old p t new
