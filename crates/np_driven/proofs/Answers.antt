@@ -1,5 +1,5 @@
 -- drivers after a round: what they had answered before, and what they answered in it
-use Rattle.std.proofs.Common.{◌≡◌, ⊎_elim, ℕ, zero, suc, ◌+◌, List, [], ◌∷◌, ◌++◌, map, slice_get, Contains, Option, Some, None, IfSome, refl, sym, ap, subst, arith, ◌∙◌}
+use Rattle.std.proofs.Common.{Bool, ◌≡◌, ⊎_elim, ℕ, zero, suc, ◌+◌, List, [], ◌∷◌, ◌++◌, map, slice_get, Contains, Option, Some, None, IfSome, refl, sym, ap, subst, arith, ◌∙◌}
 use Rattle.std.specs.Option.{option_map}
 use Rattle.std.proofs.lemmas.List.Elements.{Contains-append_left, Contains-append_right}
 use Rattle.np_text.specs.declared.id.PoolId.{PoolId}
@@ -38,8 +38,12 @@ module _ (rest later : List Driving) (d : Driving) (tail : (k : ℕ) → slice_g
       let h = tail k is in
       record { now = h.now; stands = h.stands; moves = h.moves; drives = h.drives }
 
-module _ (c : Configuration) (history : List Entry) where
-  kept-at : (players : List Player) (ends : List PlayerEnd) → EachPlaysFrom c history players ends → (k : ℕ) (d : Driving) → slice_get (drivings_of players) k ≡ Some d → DrivesOn (drivings_of (map player_of ends)) k d
+answered-kept : (before now : Option (List Launch)) (more : List Launch) (l : Launch) → now ≡ option_map (λ (launches : List Launch). launches ++ more) before → IfSome before (λ launches. Contains launches l) → IfSome now (λ launches. Contains launches l)
+answered-kept None now more l is h = subst (λ (o : Option (List Launch)). IfSome o (λ launches. Contains launches l)) (sym is) tt
+answered-kept (Some launches) now more l is h = subst (λ (o : Option (List Launch)). IfSome o (λ launches. Contains launches l)) (sym is) (Contains-append_left launches more l h)
+
+module _ (plans : Bool) (c : Configuration) (history : List Entry) where
+  kept-at : (players : List Player) (ends : List PlayerEnd) → EachPlaysFrom plans c history players ends → (k : ℕ) (d : Driving) → slice_get (drivings_of players) k ≡ Some d → DrivesOn (drivings_of (map player_of ends)) k d
   kept-at [] [] each k d is = absurd cc
   kept-at [] (end ∷ ends) each k d is = absurd each
   kept-at (player ∷ players) [] each k d is = absurd each
@@ -47,12 +51,8 @@ module _ (c : Configuration) (history : List Entry) where
       kept-first (drivings_of players) (drivings_of (map player_of ends)) d (λ j there. kept-at players ends each.1 j d there)
       player.driving end.player.driving each.0.trace each.0.drove k is
 
-  answered-kept : (before now : Option (List Launch)) (more : List Launch) (l : Launch) → now ≡ option_map (λ (launches : List Launch). launches ++ more) before → IfSome before (λ launches. Contains launches l) → IfSome now (λ launches. Contains launches l)
-  answered-kept None now more l is h = subst (λ (o : Option (List Launch)). IfSome o (λ launches. Contains launches l)) (sym is) tt
-  answered-kept (Some launches) now more l is h = subst (λ (o : Option (List Launch)). IfSome o (λ launches. Contains launches l)) (sym is) (Contains-append_left launches more l h)
-
   -- what the pool's driver had answered before the round, it has answered after it
-  pub answer-kept : (players : List Player) (ends : List PlayerEnd) → EachPlaysFrom c history players ends → (pool : PoolId) (n : NodeId) (attempt first : ℕ) (o : Outcome) → WasAnswered (drivings_of players) pool n attempt first o → WasAnswered (drivings_of (map player_of ends)) pool n attempt first o
+  pub answer-kept : (players : List Player) (ends : List PlayerEnd) → EachPlaysFrom plans c history players ends → (pool : PoolId) (n : NodeId) (attempt first : ℕ) (o : Outcome) → WasAnswered (drivings_of players) pool n attempt first o → WasAnswered (drivings_of (map player_of ends)) pool n attempt first o
   answer-kept players ends each pool n attempt first o was =
       let kept = kept-at players ends each pool.0 was.driving was.of_pool in
       record {
@@ -122,17 +122,18 @@ drive-of (Some a) (Some b) moves d drove is =
     let same : b ≡ d = cc in
     (a, subst (λ (x : Driving). Drives moves a x) same drove)
 
--- what was launched in the round of a pool's worker was answered by the pool's driver
-pub answer-new : (c : Configuration) (history : List Entry) (now : List Player) → AreNumbered 0 now → (player : Player) (end : PlayerEnd) (plays : PlaysFrom c history player end) → Contains now end.player
-    → (pool : PoolId) → end.player.work ≡ of_pool pool → (n : NodeId) (attempt first : ℕ) (o : Outcome) → Contains (launches_of plays.trace) (launch_of pool n attempt first o)
-    → WasAnswered (drivings_of now) pool n attempt first o
-answer-new c history now are player end plays there pool own n attempt first o made =
-    let h = drives-pool 0 now are end.player there pool own in
-    let place : h.place ≡ pool.0 = omega (arith, h.at_place) in
-    let drive = drive-of player.driving end.player.driving plays.trace h.driving plays.drove h.own in
-    record {
-      driving = h.driving;
-      of_pool = subst (λ (k : ℕ). slice_get (drivings_of now) k ≡ Some h.driving) place h.stands;
-      answered = answered-new drive.0.facts.answered h.driving.facts.answered (launches_of plays.trace) (launch_of pool n attempt first o) drive.1.answered made;
-      planned = subst (λ (plan : Tag → Option Outcome). IfSome (plan (launch_of pool n attempt first o).tag) (λ planned. planned ≡ o)) (sym drive.1.plan) (planned-new drive.0.plan plays.trace (launch_of pool n attempt first o) drive.1.planned made);
-    }
+module _ {plans : Bool} where
+  -- what was launched in the round of a pool's worker was answered by the pool's driver
+  pub answer-new : (c : Configuration) (history : List Entry) (now : List Player) → AreNumbered 0 now → (player : Player) (end : PlayerEnd) (plays : PlaysFrom plans c history player end) → Contains now end.player
+      → (pool : PoolId) → end.player.work ≡ of_pool pool → (n : NodeId) (attempt first : ℕ) (o : Outcome) → Contains (launches_of plays.trace) (launch_of pool n attempt first o)
+      → WasAnswered (drivings_of now) pool n attempt first o
+  answer-new c history now are player end plays there pool own n attempt first o made =
+      let h = drives-pool 0 now are end.player there pool own in
+      let place : h.place ≡ pool.0 = omega (arith, h.at_place) in
+      let drive = drive-of player.driving end.player.driving plays.trace h.driving plays.drove h.own in
+      record {
+        driving = h.driving;
+        of_pool = subst (λ (k : ℕ). slice_get (drivings_of now) k ≡ Some h.driving) place h.stands;
+        answered = answered-new drive.0.facts.answered h.driving.facts.answered (launches_of plays.trace) (launch_of pool n attempt first o) drive.1.answered made;
+        planned = subst (λ (plan : Tag → Option Outcome). IfSome (plan (launch_of pool n attempt first o).tag) (λ planned. planned ≡ o)) (sym drive.1.plan) (planned-new drive.0.plan plays.trace (launch_of pool n attempt first o) drive.1.planned made);
+      }

@@ -1,5 +1,5 @@
 -- players and their ends: whose work each is, and the drivers among them
-use Rattle.std.proofs.Common.{◌≡◌, ⊎_elim, ℕ, suc, ◌≤◌, List, [], ◌∷◌, map, All, Contains, Option, Some, None, refl, sym, ap, subst, arith, ◌∙◌}
+use Rattle.std.proofs.Common.{Bool, ◌≡◌, ⊎_elim, ℕ, suc, ◌≤◌, List, [], ◌∷◌, map, All, Contains, Option, Some, None, refl, sym, ap, subst, arith, ◌∙◌}
 use Rattle.np_text.specs.declared.id.PoolId.{PoolId}
 use Rattle.np_site.specs.Configuration.{Configuration}
 use Rattle.np_event.specs.declared.entry.Entry.{Entry}
@@ -17,44 +17,45 @@ player_of end = end.player
 -- ## whose end it is
 
 -- the round that an end is of; the servers of its player were named before
-pub record RoundOf (c : Configuration) (history : List Entry) (end : PlayerEnd) : Type 0 where
+pub record RoundOf (plans : Bool) (c : Configuration) (history : List Entry) (end : PlayerEnd) : Type 0 where
   pub player : Player
-  pub plays : PlaysFrom c history player end
+  pub plays : PlaysFrom plans c history player end
   pub named : All (AreNamed c history) (driving_in player.driving)
   pub driver : HasDriver player.work player.driving
 
-module _ (c : Configuration) (history : List Entry) where
-  pub round-of : (n : ℕ) (players : List Player) (ends : List PlayerEnd) → EachPlaysFrom c history players ends → AreNumbered n players → All (AreNamed c history) (drivings_of players) → (end : PlayerEnd) → Contains ends end → RoundOf c history end
+module _ {plans : Bool} (c : Configuration) (history : List Entry) where
+  pub round-of : (n : ℕ) (players : List Player) (ends : List PlayerEnd) → EachPlaysFrom plans c history players ends → AreNumbered n players → All (AreNamed c history) (drivings_of players) → (end : PlayerEnd) → Contains ends end → RoundOf plans c history end
   round-of n [] [] each are named end there = no-member end there
   round-of n [] (first ∷ ends) each are named end there = absurd each
   round-of n (player ∷ players) [] each are named end there = absurd each
   round-of n (player ∷ players) (first ∷ ends) each are named end there = ⊎_elim
-      (λ (same : first ≡ end). subst (λ (e : PlayerEnd). RoundOf c history e) same
+      (λ (same : first ≡ end). subst (λ (e : PlayerEnd). RoundOf plans c history e) same
       (record { player = player; plays = each.0; named = All-left (AreNamed c history) (driving_in player.driving) (drivings_of players) named; driver = numbered_driver n player.work player.driving are.0 }))
       (λ (later : Contains ends end). round-of (next_number n player.work) players ends each.1 are.1 (All-right (AreNamed c history) (driving_in player.driving) (drivings_of players) named) end later)
       (member-cases first ends end there)
 
   -- some player's round came to this end
-  pub end-plays : (players : List Player) (ends : List PlayerEnd) → EachPlaysFrom c history players ends → (end : PlayerEnd) → Contains ends end → (player : Player) × PlaysFrom c history player end
+  pub end-plays : (players : List Player) (ends : List PlayerEnd) → EachPlaysFrom plans c history players ends → (end : PlayerEnd) → Contains ends end → (player : Player) × PlaysFrom plans c history player end
   end-plays [] [] each end there = no-member end there
   end-plays [] (first ∷ ends) each end there = absurd each
   end-plays (player ∷ players) [] each end there = absurd each
   end-plays (player ∷ players) (first ∷ ends) each end there = ⊎_elim
-      (λ (same : first ≡ end). (player, subst (PlaysFrom c history player) same each.0))
+      (λ (same : first ≡ end). (player, subst (PlaysFrom plans c history player) same each.0))
       (λ (later : Contains ends end). end-plays players ends each.1 end later)
       (member-cases first ends end there)
 
-  -- ## numbers
+-- ## numbers
 
-  number-kept : (n : ℕ) (work : Work) (before now : Option Driving) (moves : List Move) → Drove moves before now → IsNumbered n work before → IsNumbered n work now
-  number-kept n work None None moves drove is = is
-  number-kept n work None (Some b) moves drove is = absurd drove
-  number-kept n work (Some a) None moves drove is = absurd drove
-  number-kept n (of_pool pool) (Some a) (Some b) moves drove is = is
-  number-kept n (of_requester q) (Some a) (Some b) moves drove is = absurd is
-  number-kept n of_reaper (Some a) (Some b) moves drove is = absurd is
+number-kept : (n : ℕ) (work : Work) (before now : Option Driving) (moves : List Move) → Drove moves before now → IsNumbered n work before → IsNumbered n work now
+number-kept n work None None moves drove is = is
+number-kept n work None (Some b) moves drove is = absurd drove
+number-kept n work (Some a) None moves drove is = absurd drove
+number-kept n (of_pool pool) (Some a) (Some b) moves drove is = is
+number-kept n (of_requester q) (Some a) (Some b) moves drove is = absurd is
+number-kept n of_reaper (Some a) (Some b) moves drove is = absurd is
 
-  pub numbered-now : (n : ℕ) (players : List Player) (ends : List PlayerEnd) → EachPlaysFrom c history players ends → AreNumbered n players → AreNumbered n (map player_of ends)
+module _ (plans : Bool) (c : Configuration) (history : List Entry) where
+  pub numbered-now : (n : ℕ) (players : List Player) (ends : List PlayerEnd) → EachPlaysFrom plans c history players ends → AreNumbered n players → AreNumbered n (map player_of ends)
   numbered-now n [] [] each are = tt
   numbered-now n [] (end ∷ ends) each are = absurd each
   numbered-now n (player ∷ players) [] each are = absurd each

@@ -1,5 +1,5 @@
 -- journals that players drove: where they begin, and a tick more
-use Rattle.std.proofs.Common.{◌≡◌, inl, inr, false, List, [], ◌∷◌, ◌++◌, All, Some, sym, subst, append_assoc, append-nil}
+use Rattle.std.proofs.Common.{Bool, ◌≡◌, inl, inr, false, List, [], ◌∷◌, ◌++◌, All, Some, sym, subst}
 use Rattle.std.proofs.lemmas.List.Elements.{All-nil, All-weaker}
 use Rattle.np_site.specs.Configuration.{Configuration}
 use Rattle.np_event.specs.declared.entry.Entry.{Entry}
@@ -7,11 +7,14 @@ use Rattle.np_event.specs.declared.event.Event.TheVariants as ev
 use Rattle.np_cloud.specs.declared.driver.Server.{Server}
 use Rattle.np_machine.specs.History.{after}
 use Rattle.np_machine.specs.State.{start}
-use Rattle.np_machine.specs.Turns.{Turn, turns, turns_from, SomeTurn}
+use Rattle.np_machine.specs.Turns.{turns, turns_from, SomeTurn}
 use Rattle.np_answers.specs.Drive.{Driving}
-use Rattle.np_useful.specs.Driven.{Says, DrivenFrom, DrivenBy, IsDrivenTurn, NamesServer, is_tick}
-use Rattle.np_driven.specs.Players.{Player, drivings_of, AreNumbered, HaveDriven, WasAnswered, WasNamed, AreNamed}
-use Rattle.np_driven.proofs.Places.{turn_after, turns-append, some-left}
+use Rattle.np_useful.specs.Driven.{Says, NamesServer, is_tick}
+use Rattle.np_lists.specs.EachAfter.{EachAfter}
+use Rattle.np_lists.proofs.EachAfterLemmas.{EachAfter-push}
+use Rattle.np_driven.specs.Planned.{IsTurnAs, DrivenAs}
+use Rattle.np_driven.specs.Players.{Player, drivings_of, AreNumbered, HaveDrivenAs, WasAnswered, WasNamed, AreNamed}
+use Rattle.np_driven.proofs.Places.{turn_after, turns-append, some-left, as-each, each-as, turn-as}
 
 -- ## what was named
 
@@ -30,27 +33,25 @@ module _ (c : Configuration) where
 
   -- ## one entry more
 
-  module _ (says : Says) where
-    driven-push : (past ts : List Turn) (t : Turn) → DrivenFrom says c past ts → IsDrivenTurn says c (past ++ ts) t → DrivenFrom says c past (ts ++ t ∷ [])
-    driven-push past [] t h k = (subst (λ (p : List Turn). IsDrivenTurn says c p t) (append-nil past) k, tt)
-    driven-push past (u ∷ ts) t h k = (h.0, driven-push (past ++ u ∷ []) ts t h.1 (subst (λ (p : List Turn). IsDrivenTurn says c p t) (sym (append_assoc past (u ∷ []) ts)) k))
-
-    pub driven-next : (journal : List Entry) (e : Entry) → DrivenBy says c journal → IsDrivenTurn says c (turns c journal) (turn_after c journal e) → DrivenBy says c (journal ++ e ∷ [])
-    driven-next journal e h k = subst (DrivenFrom says c []) (sym (turns-append c (start c) journal (e ∷ []))) (driven-push [] (turns c journal) (turn_after c journal e) h k)
+  module _ (says : Says) (plans : Bool) where
+    driven-next : (journal : List Entry) (e : Entry) → DrivenAs says plans c journal → IsTurnAs says plans c (turns c journal) (turn_after c journal e) → DrivenAs says plans c (journal ++ e ∷ [])
+    driven-next journal e h k = each-as c says plans (journal ++ e ∷ [])
+        (subst (EachAfter (IsTurnAs says plans c) []) (sym (turns-append c (start c) journal (e ∷ [])))
+        (EachAfter-push (IsTurnAs says plans c) [] (turns c journal) (turn_after c journal e) (as-each c says plans journal h) k))
 
     -- a tick after an entry that is not a tick
-    pub tick-driven : (journal : List Entry) (d e : Entry) → DrivenBy says c (journal ++ d ∷ []) → is_tick d.event ≡ false → e.event ≡ ev.Tick → DrivenBy says c ((journal ++ d ∷ []) ++ e ∷ [])
-    tick-driven journal d e h other is = driven-next (journal ++ d ∷ []) e h (inr (inl (record {
+    tick-driven : (journal : List Entry) (d e : Entry) → DrivenAs says plans c (journal ++ d ∷ []) → is_tick d.event ≡ false → e.event ≡ ev.Tick → DrivenAs says plans c ((journal ++ d ∷ []) ++ e ∷ [])
+    tick-driven journal d e h other is = driven-next (journal ++ d ∷ []) e h (turn-as c says plans (turns c (journal ++ d ∷ [])) (turn_after c (journal ++ d ∷ []) e) (inr (inl (record {
       event = is;
       earlier = turns c journal;
       previous = turn_after c journal d;
       follows = turns-append c (start c) journal (d ∷ []);
       other = other;
-    })))
+    }))))
 
-  pub tick-have-driven : (journal : List Entry) (players : List Player) (d e : Entry) → HaveDriven c (journal ++ d ∷ []) players → is_tick d.event ≡ false → e.event ≡ ev.Tick → HaveDriven c ((journal ++ d ∷ []) ++ e ∷ []) players
-  tick-have-driven journal players d e have other is = record {
-    driven = tick-driven (WasAnswered (drivings_of players)) journal d e have.driven other is;
+  pub tick-have-driven : (plans : Bool) (journal : List Entry) (players : List Player) (d e : Entry) → HaveDrivenAs plans c (journal ++ d ∷ []) players → is_tick d.event ≡ false → e.event ≡ ev.Tick → HaveDrivenAs plans c ((journal ++ d ∷ []) ++ e ∷ []) players
+  tick-have-driven plans journal players d e have other is = record {
+    driven = tick-driven (WasAnswered (drivings_of players)) plans journal d e have.driven other is;
     named = All-weaker (AreNamed c (journal ++ d ∷ [])) (AreNamed c ((journal ++ d ∷ []) ++ e ∷ [])) (names-later (journal ++ d ∷ []) (e ∷ [])) (drivings_of players) have.named;
     numbered = have.numbered;
   }
@@ -61,9 +62,9 @@ module _ (c : Configuration) where
   no-servers driving is = record { servers = []; told = is; named = All-nil (WasNamed c []) }
 
   -- players whose drivers have no servers yet have driven the empty journal
-  pub start-have-driven : (players : List Player) → AreNumbered 0 players → All (λ (driving : Driving). driving.facts.servers ≡ Some []) (drivings_of players) → HaveDriven c [] players
-  start-have-driven players numbered empty = record {
-    driven = tt;
+  pub start-have-driven : (plans : Bool) (players : List Player) → AreNumbered 0 players → All (λ (driving : Driving). driving.facts.servers ≡ Some []) (drivings_of players) → HaveDrivenAs plans c [] players
+  start-have-driven plans players numbered empty = record {
+    driven = each-as c (WasAnswered (drivings_of players)) plans [] tt;
     named = All-weaker (λ (driving : Driving). driving.facts.servers ≡ Some []) (AreNamed c []) no-servers (drivings_of players) empty;
     numbered = numbered;
   }

@@ -6,7 +6,7 @@ use Rattle.np_event.specs.declared.entry.Entry.{Entry}
 use Rattle.np_desk.specs.History.{StartsWith}
 use Rattle.np_machine.specs.History.{Runs, after}
 use Rattle.np_answers.specs.Drive.{Driving}
-use Rattle.np_driven.specs.Players.{Player, driving_in, drivings_of, AreNamed, HaveDriven}
+use Rattle.np_driven.specs.Players.{Player, driving_in, drivings_of, AreNamed, HaveDrivenAs}
 use Rattle.np_driven.specs.Round.{PlayerEnd, IsCutOff, IsRound}
 use Rattle.np_driven.proofs.Ends.{player_of, round-of}
 use Rattle.np_driven.proofs.Journals.{names-later}
@@ -19,7 +19,7 @@ all-drivings P (first ∷ ends) h =
     All-append P (driving_in first.player.driving) (drivings_of (map player_of ends)) (h first (0, omega arith, refl))
     (all-drivings P ends (λ end there. let less : there.0 < length ends = there.1 in h end (suc there.0, omega arith, there.2)))
 
-module _ (c : Configuration) (history later : List Entry) (players now : List Player) (is_cut : Bool) (round : IsRound c history later players now is_cut) (runs : Runs c later (after c later)) (have : HaveDriven c history players) (whole : is_cut ≡ false) where
+module _ {plans : Bool} (c : Configuration) (history later : List Entry) (players now : List Player) (is_cut : Bool) (round : IsRound plans c history later players now is_cut) (runs : Runs c later (after c later)) (have : HaveDrivenAs plans c history players) (whole : is_cut ≡ false) where
   end-named : (end : PlayerEnd) → Contains round.ends end → All (AreNamed c later) (driving_in end.player.driving)
   end-named end there =
       let p = round-of c history 0 players round.ends round.plays have.numbered have.named end there in
@@ -29,7 +29,7 @@ module _ (c : Configuration) (history later : List Entry) (players now : List Pl
       subst (λ (j : List Entry). All (AreNamed c j) (driving_in end.player.driving)) (sym seen.1)
       (All-weaker (AreNamed c end.sight.seen) (AreNamed c (end.sight.seen ++ seen.0)) (names-later c end.sight.seen seen.0) (driving_in end.player.driving) named)
 
-  pub round-have-driven : HaveDriven c later now
+  pub round-have-driven : HaveDrivenAs plans c later now
   round-have-driven = record {
     driven = round-driven c history later players now is_cut round runs have;
     named = subst (λ (ps : List Player). All (AreNamed c later) (drivings_of ps)) round.players_now (all-drivings (AreNamed c later) round.ends end-named);

@@ -21,7 +21,7 @@ use Rattle.np_answers.specs.declared.ask.Ask.{Ask}
 use Rattle.np_answers.specs.declared.ask.Ask.TheVariants as ask
 use Rattle.np_answers.specs.declared.ask.Turn.{Turn}
 use Rattle.np_answers.specs.declared.ask.Turn.TheVariants as turn
-use Rattle.np_answers.specs.Answers.{IsDue, answers, answers_sweep}
+use Rattle.np_answers.specs.Answers.{IsDue, answers_sweep}
 use Rattle.np_answers.specs.Asks.{recorded}
 use Rattle.np_answers.specs.Drive.{IsOfServer, SweepsServers, servers_after}
 use Rattle.np_answers.specs.Move.{Move, asked, launched, removed, launches_of}
@@ -29,6 +29,7 @@ use Rattle.np_answers.specs.Phase.{of_pool, is_unwanted}
 use Rattle.np_answers.specs.Trace.{IsAskOf, AreAsksOf, NamesServer, AreNamed, WasRemoved}
 use Rattle.np_answers.specs.Walk.{Walk}
 use Rattle.np_answers.proofs.Leaving.{stays_or_goes}
+use Rattle.np_driven.specs.Planned.{answers_of}
 use Rattle.np_driven.specs.Servers.{WasLaunched, IsOfRound, WasDue, WasSwept}
 use Rattle.np_driven.proofs.Swept.{swept-stays, swept-after}
 use Rattle.np_desk.proofs.HistoryLemmas.{starts_on}
@@ -72,7 +73,7 @@ round-server_leaves ms now s (inr h) = launched-stays ms now s h
 
 -- ## causes
 
-module _ (c : Configuration) (pool : PoolId) (history : List Entry) (w : Sight Entry) (trace : List Move) (servers : List Server) where
+module _ (plans : Bool) (c : Configuration) (pool : PoolId) (history : List Entry) (w : Sight Entry) (trace : List Move) (servers : List Server) where
   abbrev pub HasCause : ℕ → Type 0
   HasCause x = WasDue c history w.seen pool x ⊎ WasSwept c w.seen trace servers x
 
@@ -127,7 +128,7 @@ module _ (c : Configuration) (pool : PoolId) (history : List Entry) (w : Sight E
   }
 
   -- a turn that named a server gave the cause
-  named-cause : (now : List Server) → AreOfRound now → (a : Ask) (t : Turn) (y : ℕ) (v u : Sight Entry) → IsAskOf (of_pool pool) a → IsOfServer a now → NamesServer a t y → StartsWith v.seen history → StartsWith w.seen u.seen → Answered answers recorded c v a t u → HasCause y
+  named-cause : (now : List Server) → AreOfRound now → (a : Ask) (t : Turn) (y : ℕ) (v u : Sight Entry) → IsAskOf (of_pool pool) a → IsOfServer a now → NamesServer a t y → StartsWith v.seen history → StartsWith w.seen u.seen → Answered (answers_of plans) recorded c v a t u → HasCause y
   named-cause now own (ask.Act r) t y v u mine there names from to h = absurd names
   named-cause now own (ask.Do e) t y v u mine there names from to h = absurd names
   named-cause now own (ask.Due p) (turn.Did e) y v u mine there names from to h = absurd names
@@ -141,17 +142,17 @@ module _ (c : Configuration) (pool : PoolId) (history : List Entry) (w : Sight E
       inr (subst (WasSwept c w.seen trace servers) names.0
       (server-swept now own p n x there (stays-swept u to n x (unwanted-swept h.0 p n x t v u h.2 names.1 h.3))))
 
-  pub removed-cause : (ms : List Move) (now : List Server) (v : Sight Entry) (x : ℕ) → StartsWith v.seen history → Walk answers c ms v w → AreNamed ms → AreAsksOf (of_pool pool) ms → SweepsServers ms now → AreOfRound now → LaunchesAreOfRound ms → WasRemoved x ms → HasCause x
+  pub removed-cause : (ms : List Move) (now : List Server) (v : Sight Entry) (x : ℕ) → StartsWith v.seen history → Walk (answers_of plans) c ms v w → AreNamed ms → AreAsksOf (of_pool pool) ms → SweepsServers ms now → AreOfRound now → LaunchesAreOfRound ms → WasRemoved x ms → HasCause x
   removed-cause [] now v x from walk named mine swept own launches gone = absurd gone
   removed-cause (asked a t ∷ []) now v x from walk named mine swept own launches gone = absurd gone
   removed-cause (asked a t ∷ asked b s ∷ ms) now v x from walk named mine swept own launches gone =
-      removed-cause (asked b s ∷ ms) now walk.0 x (starts_on walk.0.seen v.seen history (turn_seen answers c a t v walk.0 walk.1) from) walk.2 named mine.1 swept.1 own launches gone
+      removed-cause (asked b s ∷ ms) now walk.0 x (starts_on walk.0.seen v.seen history (turn_seen (answers_of plans) c a t v walk.0 walk.1) from) walk.2 named mine.1 swept.1 own launches gone
   removed-cause (asked a t ∷ launched tag o ∷ ms) now v x from walk named mine swept own launches gone =
-      removed-cause (launched tag o ∷ ms) now walk.0 x (starts_on walk.0.seen v.seen history (turn_seen answers c a t v walk.0 walk.1) from) walk.2 named mine.1 swept.1 own launches gone
+      removed-cause (launched tag o ∷ ms) now walk.0 x (starts_on walk.0.seen v.seen history (turn_seen (answers_of plans) c a t v walk.0 walk.1) from) walk.2 named mine.1 swept.1 own launches gone
   removed-cause (asked a t ∷ removed y ∷ ms) now v x from walk named mine swept own launches (inl is) =
-      subst HasCause is (named-cause now own a t y v walk.0 mine.0 swept.0 named.0 from (walk_seen answers c ms walk.0 w walk.2) walk.1)
+      subst HasCause is (named-cause now own a t y v walk.0 mine.0 swept.0 named.0 from (walk_seen (answers_of plans) c ms walk.0 w walk.2) walk.1)
   removed-cause (asked a t ∷ removed y ∷ ms) now v x from walk named mine swept own launches (inr gone) =
-      removed-cause ms (without_number y now) walk.0 x (starts_on walk.0.seen v.seen history (turn_seen answers c a t v walk.0 walk.1) from) walk.2 named.1 mine.1 swept.1 (fewer-of_round y now own) launches gone
+      removed-cause ms (without_number y now) walk.0 x (starts_on walk.0.seen v.seen history (turn_seen (answers_of plans) c a t v walk.0 walk.1) from) walk.2 named.1 mine.1 swept.1 (fewer-of_round y now own) launches gone
   removed-cause (launched tag o ∷ ms) now v x from walk named mine swept own launches gone =
       removed-cause ms (with_launched tag o now) v x from walk named mine swept (more-of_round tag o ms now own launches) (later-launches tag o ms launches) gone
   removed-cause (removed y ∷ ms) now v x from walk named mine swept own launches gone = absurd named

@@ -14,6 +14,7 @@ pub mod Once
 pub mod Roles
 pub mod Splits
 pub mod Places
+pub mod Choices
 pub mod Ends
 pub mod Answers
 pub mod Events
@@ -29,3 +30,17 @@ pub mod Staying
 pub mod Whereabouts
 pub mod Unwanted
 pub mod OfRoles
+pub mod Back
+pub mod Idle
+pub mod Puts
+pub mod Waiting
+pub mod Pools
+pub mod Numbers
+pub mod Stage
+pub mod Stands
+pub mod Acts
+pub mod Asked
+pub mod Drives
+pub mod Carrying
+pub mod Others
+pub mod Hosted

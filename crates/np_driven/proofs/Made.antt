@@ -1,5 +1,5 @@
 -- why a player's round made an entry: it acted for its role, it swept a server that was named, or it reported a launch that it had begun with its entry before
-use Rattle.std.specs.Prelude.{◌≡◌, ◌⊎◌, ℕ, length, List, [], ◌∷◌, ◌++◌, Contains, Some}
+use Rattle.std.specs.Prelude.{◌≡◌, ◌⊎◌, Bool, ℕ, length, List, [], ◌∷◌, ◌++◌, Contains, Some}
 use Rattle.np_text.specs.declared.id.PoolId.{PoolId}
 use Rattle.np_text.specs.declared.id.Role.{Role}
 use Rattle.np_text.specs.declared.id.Role.TheVariants.{Launcher}
@@ -11,10 +11,11 @@ use Rattle.np_cloud.specs.declared.driver.Server.{Server}
 use Rattle.np_desk.specs.History.{StartsWith}
 use Rattle.np_answers.specs.declared.ask.Ask.TheVariants as ask
 use Rattle.np_answers.specs.declared.ask.Turn.TheVariants as turn
-use Rattle.np_answers.specs.Answers.{answers_act, answers_sweep}
+use Rattle.np_answers.specs.Answers.{IsReplied, answers_sweep}
 use Rattle.np_answers.specs.declared.start.Start.{Start}
 use Rattle.np_answers.specs.Phase.{Work, of_pool, report_of, start_of}
 use Rattle.np_answers.specs.Trace.{IsAskOf}
+use Rattle.np_driven.specs.Planned.{IsChosen}
 use Rattle.np_driven.specs.Players.{WasNamed}
 
 -- the second place comes right after the first
@@ -23,11 +24,11 @@ pub record Follows (places : List ℕ) (first second : ℕ) : Type 0 where
   pub later : List ℕ
   pub splits : places ≡ earlier ++ first ∷ second ∷ later
 
-module _ (c : Configuration) (before : List Entry) (entry : Entry) where
+module _ (plans : Bool) (c : Configuration) (before : List Entry) (entry : Entry) where
   pub record IsActed (work : Work) : Type 0 where
     pub role : Role
     pub own : IsAskOf work (ask.Act role)
-    pub answer : answers_act c before role (turn.Did entry)
+    pub answer : IsChosen plans c before role entry.event × IsReplied c before entry
 
   pub record IsSwept (work : Work) : Type 0 where
     pub pool : PoolId
@@ -47,15 +48,15 @@ module _ (c : Configuration) (before : List Entry) (entry : Entry) where
     pub rest : List Entry
     pub stood : before ≡ earlier ++ begin ∷ rest
     pub begun : start_of pool begin ≡ Some start
-    pub act : answers_act c earlier (Launcher pool) (turn.Did begin)
+    pub act : IsChosen plans c earlier (Launcher pool) begin.event × IsReplied c earlier begin
     pub next : Follows mine (length earlier) (length before)
     pub launched : Contains launches (record { tag = start.tag; outcome = outcome })
 
 -- the entry at the place, what came before it, and why it was made
-pub record Made (c : Configuration) (history : List Entry) (work : Work) (mine : List ℕ) (launches : List Launch) (seen : List Entry) (x : ℕ) : Type 0 where
+pub record Made (plans : Bool) (c : Configuration) (history : List Entry) (work : Work) (mine : List ℕ) (launches : List Launch) (seen : List Entry) (x : ℕ) : Type 0 where
   pub before : List Entry
   pub entry : Entry
   pub place : length before ≡ x
   pub stands : StartsWith seen (before ++ entry ∷ [])
   pub new : StartsWith before history
-  pub cause : IsActed c before entry work ⊎ (IsSwept c before entry work ⊎ IsReported c before entry work mine launches)
+  pub cause : IsActed plans c before entry work ⊎ (IsSwept plans c before entry work ⊎ IsReported plans c before entry work mine launches)

@@ -1,14 +1,13 @@
 -- each entry of a worker's round is of a role that the worker acts for
 use Rattle.std.proofs.Common.{◌≡◌, ◌∙◌, ◌⊎◌, inl, inr, ⊎_elim, ℕ, List, [], ◌∷◌, length, refl, sym, ap, subst}
-use Rattle.std.specs.Prelude.{Contains, Option, Some, None, IfSome, Bool, true}
-use Rattle.std.proofs.lemmas.Bool.{false≢true, and_parts}
+use Rattle.std.specs.Prelude.{Contains, Option, Some, None, IfSome, Bool}
 use Rattle.std.proofs.lemmas.List.Elements.{Contains-push_cases}
 use Rattle.std.proofs.lemmas.Option.{none-some, same_Some}
 use Rattle.np_text.specs.declared.id.SessionId.{SessionId}
 use Rattle.np_text.specs.declared.id.PoolId.{PoolId}
 use Rattle.np_text.specs.declared.id.NodeId.{NodeId}
 use Rattle.np_text.specs.declared.id.Role.{Role}
-use Rattle.np_text.specs.declared.id.Role.TheVariants.{Launcher, Janitor, Requester, Reaper}
+use Rattle.np_text.specs.declared.id.Role.TheVariants.{Launcher, Janitor}
 use Rattle.np_site.specs.Configuration.{Configuration}
 use Rattle.np_event.specs.declared.event.Event.{Event}
 use Rattle.np_event.specs.declared.event.Event.TheVariants as ev
@@ -16,11 +15,8 @@ use Rattle.np_event.specs.declared.event.Outcome.{Outcome}
 use Rattle.np_event.specs.declared.entry.Entry.{Entry}
 use Rattle.np_machine.specs.State.{State}
 use Rattle.np_machine.specs.Step.{maker_of}
-use Rattle.np_machine.specs.Laws.{same_role}
 use Rattle.np_machine.specs.Tables.{role_of}
 use Rattle.np_machine.specs.History.{after}
-use Rattle.np_useful.specs.Sessions.{may_open}
-use Rattle.np_useful.specs.Useful.{IsUseful, is_maker_of, row_holds}
 use Rattle.np_desk.specs.History.{StartsWith}
 use Rattle.np_desk.specs.Pass.{Sight}
 use Rattle.np_desk.specs.Turned.{Records}
@@ -29,7 +25,7 @@ use Rattle.np_answers.specs.declared.ask.Ask.TheVariants as ask
 use Rattle.np_answers.specs.declared.ask.Turn.{Turn}
 use Rattle.np_answers.specs.declared.ask.Turn.TheVariants as turn
 use Rattle.np_answers.specs.Asks.{recorded}
-use Rattle.np_answers.specs.Answers.{answers, answers_act, answers_do, answers_due, answers_sweep}
+use Rattle.np_answers.specs.Answers.{IsReplied, answers_do, answers_due, answers_sweep}
 use Rattle.np_answers.specs.declared.start.Start.{Start}
 use Rattle.np_answers.specs.Move.{Move, asked, launched, removed}
 use Rattle.np_answers.specs.Phase.{Work, of_pool, of_requester, of_reaper, Phase, owes_launch, owes_report, acting, first_phase, after_turn, after_launch, after_removal, start_of, report_of, Leads}
@@ -39,45 +35,17 @@ use Rattle.np_answers.proofs.Gained.{walk_seen}
 use Rattle.np_answers.proofs.Steps.{TurnCases, of_turn, of_launch, of_removal, goes_on}
 use Rattle.np_answers.proofs.Works.{asks_of}
 use Rattle.np_driven.specs.Makers.{IsOfRole, IsOfWorker}
+use Rattle.np_driven.specs.Planned.{answers_of, IsChosen}
 use Rattle.np_driven.specs.Players.{Player}
 use Rattle.np_driven.specs.Round.{PlayerEnd, PlaysFrom, IsRound, fresh_sight}
+use Rattle.np_driven.proofs.Choices.{chosen-of_role}
 use Rattle.np_driven.proofs.Histories.{starts_equal}
-use Rattle.np_driven.proofs.Roles.{same_role-is, current-role, role-stays}
+use Rattle.np_driven.proofs.Roles.{current-role, role-stays}
 use Rattle.np_driven.proofs.Splits.{no-member}
 use Rattle.np_driven.proofs.Ends.{end-plays}
 use Rattle.np_driven.proofs.Events.{start-parts}
 
--- ## a useful event is of its role
-
--- a session that it opens is of the role
-useful-opens : (c : Configuration) (s : State) (role r : Role) → row_holds c s role (ev.OpenSession r) ≡ true → r ≡ role
-useful-opens c s (Launcher p) r is = same_role-is r (Launcher p) (and_parts (same_role r (Launcher p)) (may_open c r s) is).0
-useful-opens c s (Janitor p) r is = same_role-is r (Janitor p) (and_parts (same_role r (Janitor p)) (may_open c r s) is).0
-useful-opens c s (Requester q) r is = same_role-is r (Requester q) (and_parts (same_role r (Requester q)) (may_open c r s) is).0
-useful-opens c s Reaper r is = absurd (false≢true is)
-
--- and only the reaper takes sessions away
-useful-crashes : (c : Configuration) (s : State) (role : Role) (session : SessionId) → row_holds c s role (ev.Crash session) ≡ true → role ≡ Reaper
-useful-crashes c s (Launcher p) session is = absurd (false≢true is)
-useful-crashes c s (Janitor p) session is = absurd (false≢true is)
-useful-crashes c s (Requester q) session is = absurd (false≢true is)
-useful-crashes c s Reaper session is = refl
-
-useful-expires : (c : Configuration) (s : State) (role : Role) (session : SessionId) → row_holds c s role (ev.Expire session) ≡ true → role ≡ Reaper
-useful-expires c s (Launcher p) session is = absurd (false≢true is)
-useful-expires c s (Janitor p) session is = absurd (false≢true is)
-useful-expires c s (Requester q) session is = absurd (false≢true is)
-useful-expires c s Reaper session is = refl
-
-useful-of_role : (c : Configuration) (s : State) (role : Role) (e : Event) → IsUseful c s role e → IsOfRole role s e
-useful-of_role c s role e useful = record {
-  maker = λ session is. current-role role session s (subst (λ (o : Option SessionId). is_maker_of role s o ≡ true) is useful.maker);
-  opens = λ r is. useful-opens c s role r (subst (λ (x : Event). row_holds c s role x ≡ true) is useful.row);
-  crashes = λ session is. useful-crashes c s role session (subst (λ (x : Event). row_holds c s role x ≡ true) is useful.row);
-  expires = λ session is. useful-expires c s role session (subst (λ (x : Event). row_holds c s role x ≡ true) is useful.row);
-}
-
--- ## so is an event of a maker of the role
+-- ## an event of a maker of the role is of the role
 
 made-of_role : (role : Role) (s : State) (session : SessionId) (e : Event) → maker_of e ≡ Some session → role_of session s ≡ Some role → IsOfRole role s e
 made-of_role role s session e made is = record {
@@ -93,7 +61,7 @@ sweeper-acts (of_pool other) pool n x own = inr (ap Janitor own)
 sweeper-acts (of_requester q) pool n x own = absurd cc
 sweeper-acts of_reaper pool n x own = absurd cc
 
-module _ (c : Configuration) (work : Work) where
+module _ (plans : Bool) (c : Configuration) (work : Work) where
   -- ## what a phase owes
 
   -- the session has the role of the pool's launcher, and the worker acts for that launcher
@@ -139,8 +107,8 @@ module _ (c : Configuration) (work : Work) where
   RecordsOfRole before a t = IfSome (recorded a t) (λ e. OfRole before e)
 
   module _ (before : List Entry) where
-    acted : (r : Role) (t : Turn) → IsAskOf work (ask.Act r) → answers_act c before r t → RecordsOfRole before (ask.Act r) t
-    acted r (turn.Did e) own answer = record { role = r; own = own; of_role = useful-of_role c (after c before) r e.event answer.0 }
+    acted : (r : Role) (t : Turn) → IsAskOf work (ask.Act r) → answers_of plans c before (ask.Act r) t → RecordsOfRole before (ask.Act r) t
+    acted r (turn.Did e) own answer = record { role = r; own = own; of_role = chosen-of_role c before r plans e.event answer.0 }
     acted r _ own answer = tt
 
     reported : (pool : PoolId) (s : Start) (o : Outcome) (t : Turn) → IsLaunchers pool s.session before → answers_do c before (report_of s o) t → RecordsOfRole before (ask.Do (report_of s o)) t
@@ -165,15 +133,15 @@ module _ (c : Configuration) (work : Work) where
         }
     swept pool n x _ own answer = tt
 
-    started : (pool : PoolId) (e : Entry) (s : Start) → start_of pool e ≡ Some s → IsAskOf work (ask.Act (Launcher pool)) → answers_act c before (Launcher pool) (turn.Did e) → IsLaunchers pool s.session before
+    started : (pool : PoolId) (e : Entry) (s : Start) → start_of pool e ≡ Some s → IsAskOf work (ask.Act (Launcher pool)) → IsChosen plans c before (Launcher pool) e.event × IsReplied c before e → IsLaunchers pool s.session before
     started pool e s is own answer = record {
       own = own;
-      role = (useful-of_role c (after c before) (Launcher pool) e.event answer.0).maker s.session (ap maker_of (start-parts pool e.event e.reply s is).event);
+      role = (chosen-of_role c before (Launcher pool) plans e.event answer.0).maker s.session (ap maker_of (start-parts pool e.event e.reply s is).event);
     }
 
     -- the turn records an entry of the worker's roles, and the next phase owes as this one
     abbrev Turns : Phase → Ask → Turn → Phase → Type 0
-    Turns p a t next = OwesAsLauncher p before → IsAskOf work a → answers c before a t → RecordsOfRole before a t × OwesAsLauncher next before
+    Turns p a t next = OwesAsLauncher p before → IsAskOf work a → answers_of plans c before a t → RecordsOfRole before a t × OwesAsLauncher next before
 
     turns : TurnCases Turns
     turns = record {
@@ -211,7 +179,7 @@ module _ (c : Configuration) (work : Work) where
       })))
       (Contains-push_cases v.mine (length before) x (subst (λ (l : List ℕ). Contains l x) h.1 there))
 
-  walk-made : (ms : List Move) (p q : Phase) (v w : Sight Entry) → OwesAsLauncher p v.seen → AreAsksOf work ms → Walk answers c ms v w → Leads p ms q → (x : ℕ) → Contains w.mine x → Contains v.mine x ⊎ IsOfWorker c w.seen work x
+  walk-made : (ms : List Move) (p q : Phase) (v w : Sight Entry) → OwesAsLauncher p v.seen → AreAsksOf work ms → Walk (answers_of plans) c ms v w → Leads p ms q → (x : ℕ) → Contains w.mine x → Contains v.mine x ⊎ IsOfWorker c w.seen work x
   walk-made [] p q v w owes own walk led x there = inl (subst (λ (l : List ℕ). Contains l x) walk.1 there)
   walk-made (asked a t ∷ ms) p q v w owes own walk led x there =
       let u = walk.0 in
@@ -219,7 +187,7 @@ module _ (c : Configuration) (work : Work) where
       let made = of_turn (Turns before) (turns before) p a t led.0 (owes-later p v.seen before walk.1.1 owes) own.0 walk.1.2 in
       let next : OwesAsLauncher (after_turn p a t) u.seen = owes-later (after_turn p a t) before u.seen (seen-after (recorded a t) before v u walk.1.3) made.1 in
       ⊎_elim
-      (λ old. turn-made (recorded a t) before v u w walk.1.3 made.0 (walk_seen answers c ms u w walk.2) x old)
+      (λ old. turn-made (recorded a t) before v u w walk.1.3 made.0 (walk_seen (answers_of plans) c ms u w walk.2) x old)
       (λ of. inr of)
       (walk-made ms (after_turn p a t) q u w next own.1 walk.2 led.1 x there)
   walk-made (launched tag o ∷ ms) p q v w owes own walk led x there =
@@ -227,14 +195,15 @@ module _ (c : Configuration) (work : Work) where
   walk-made (removed y ∷ ms) p q v w owes own walk led x there =
       walk-made ms (after_removal p) q v w (of_removal (λ s t. OwesAsLauncher s v.seen → OwesAsLauncher t v.seen) (λ pool n z h. tt) (λ pool z h. tt) p y led.0 owes) own walk led.1 x there
 
-pub entry-of_worker : (c : Configuration) (history : List Entry) (player : Player) (end : PlayerEnd) → PlaysFrom c history player end → (x : ℕ) → Contains end.sight.mine x → IsOfWorker c end.sight.seen player.work x
-entry-of_worker c history player end plays x mine = ⊎_elim
-    (λ none. no-member x none)
-    (λ of. of)
-    (walk-made c player.work plays.trace (first_phase player.work) end.phase (fresh_sight history) end.sight (owes-first c player.work player.work history)
-    (asks_of player.work end.phase plays.trace plays.led) plays.walked plays.led x mine)
+module _ {plans : Bool} where
+  pub entry-of_worker : (c : Configuration) (history : List Entry) (player : Player) (end : PlayerEnd) → PlaysFrom plans c history player end → (x : ℕ) → Contains end.sight.mine x → IsOfWorker c end.sight.seen player.work x
+  entry-of_worker c history player end plays x mine = ⊎_elim
+      (λ none. no-member x none)
+      (λ of. of)
+      (walk-made plans c player.work plays.trace (first_phase player.work) end.phase (fresh_sight history) end.sight (owes-first plans c player.work player.work history)
+      (asks_of player.work end.phase plays.trace plays.led) plays.walked plays.led x mine)
 
-pub entry-of_player : (c : Configuration) (history later : List Entry) (players now : List Player) (is_cut : Bool) (round : IsRound c history later players now is_cut) → (end : PlayerEnd) → Contains round.ends end → (x : ℕ) → Contains end.sight.mine x → IsOfWorker c end.sight.seen end.player.work x
-entry-of_player c history later players now is_cut round end there x mine =
-    let p = end-plays c history players round.ends round.plays end there in
-    subst (λ (w : Work). IsOfWorker c end.sight.seen w x) (sym p.1.work) (entry-of_worker c history p.0 end p.1 x mine)
+  pub entry-of_player : (c : Configuration) (history later : List Entry) (players now : List Player) (is_cut : Bool) (round : IsRound plans c history later players now is_cut) → (end : PlayerEnd) → Contains round.ends end → (x : ℕ) → Contains end.sight.mine x → IsOfWorker c end.sight.seen end.player.work x
+  entry-of_player c history later players now is_cut round end there x mine =
+      let p = end-plays c history players round.ends round.plays end there in
+      subst (λ (w : Work). IsOfWorker c end.sight.seen w x) (sym p.1.work) (entry-of_worker c history p.0 end p.1 x mine)

@@ -13,11 +13,11 @@ use Rattle.np_cloud.specs.Calls.{with_launched}
 use Rattle.np_desk.specs.Pass.{Sight}
 use Rattle.np_desk.specs.Turned.{Unturned}
 use Rattle.np_answers.specs.declared.ask.Ask.TheVariants as ask
-use Rattle.np_answers.specs.declared.ask.Turn.TheVariants as turn
-use Rattle.np_answers.specs.Answers.{IsFull, answers_act}
+use Rattle.np_answers.specs.Answers.{IsFull, IsReplied}
 use Rattle.np_answers.specs.declared.start.Start.{Start}
 use Rattle.np_answers.specs.Phase.{Work, of_pool, of_requester, of_reaper, Phase, acts, owes_launch, owes_report, looks, owes_due, sweeps, owes_swept, rests, ended, acting, after_role, first_phase, start_of}
 use Rattle.np_answers.specs.Trace.{IsAskOf}
+use Rattle.np_driven.specs.Planned.{IsChosen}
 use Rattle.np_driven.specs.Players.{WasNamed}
 use Rattle.np_driven.proofs.Histories.{starts_length}
 use Rattle.np_driven.proofs.Named.{all_named_later}
@@ -39,14 +39,14 @@ pub asks_act : (work : Work) (r : Role) → work ≡ work_of r → IsAskOf work 
 asks_act work r h = subst (λ (w : Work). IsAskOf w (ask.Act r)) (sym h) (own_act r)
 
 -- the last entry of one's own accepted the start
-pub record HasBegun (c : Configuration) (pool : PoolId) (s : Start) (v : Sight Entry) : Type 0 where
+pub record HasBegun (plans : Bool) (c : Configuration) (pool : PoolId) (s : Start) (v : Sight Entry) : Type 0 where
   pub earlier : List Entry
   pub begin : Entry
   pub rest : List Entry
   pub places : List ℕ
   pub stood : v.seen ≡ earlier ++ begin ∷ rest
   pub begun : start_of pool begin ≡ Some s
-  pub act : answers_act c earlier (role.Launcher pool) (turn.Did begin)
+  pub act : IsChosen plans c earlier (role.Launcher pool) begin.event × IsReplied c earlier begin
   pub last : v.mine ≡ places ++ length earlier ∷ []
 
 -- each of the servers was named, except the launch's, if it made one
@@ -55,12 +55,12 @@ pub record AreNamedBut (c : Configuration) (s : Start) (o : Outcome) (journal : 
   pub all : servers ≡ with_launched s.tag o others
   pub named : All (WasNamed c journal) others
 
-module _ (c : Configuration) (work : Work) where
+module _ (plans : Bool) (c : Configuration) (work : Work) where
   -- the worker may be in the phase, if it saw this and had these launches and servers
   abbrev pub Fits : Phase → Sight Entry → List Launch → List Server → Type 0
   Fits (acts r n) v launches servers = (work ≡ work_of r) × All (WasNamed c v.seen) servers
-  Fits (owes_launch pool n s) v launches servers = (work ≡ of_pool pool) × HasBegun c pool s v × All (WasNamed c v.seen) servers
-  Fits (owes_report pool n s o) v launches servers = (work ≡ of_pool pool) × HasBegun c pool s v × Contains launches (record { tag = s.tag; outcome = o }) × AreNamedBut c s o v.seen servers
+  Fits (owes_launch pool n s) v launches servers = (work ≡ of_pool pool) × HasBegun plans c pool s v × All (WasNamed c v.seen) servers
+  Fits (owes_report pool n s o) v launches servers = (work ≡ of_pool pool) × HasBegun plans c pool s v × Contains launches (record { tag = s.tag; outcome = o }) × AreNamedBut c s o v.seen servers
   Fits (looks pool n) v launches servers = (work ≡ of_pool pool) × All (WasNamed c v.seen) servers
   Fits (owes_due pool n x) v launches servers = (work ≡ of_pool pool) × All (WasNamed c v.seen) servers
   Fits (sweeps pool) v launches servers = (work ≡ of_pool pool) × All (WasNamed c v.seen) servers
@@ -90,7 +90,7 @@ module _ (c : Configuration) (work : Work) where
 
   -- ## more was seen
 
-  begun_later : (pool : PoolId) (s : Start) (v u : Sight Entry) → Unturned v u → HasBegun c pool s v → HasBegun c pool s u
+  begun_later : (pool : PoolId) (s : Start) (v u : Sight Entry) → Unturned v u → HasBegun plans c pool s v → HasBegun plans c pool s u
   begun_later pool s v u m h = record {
     earlier = h.earlier;
     begin = h.begin;
@@ -116,7 +116,7 @@ module _ (c : Configuration) (work : Work) where
   fits_later rests v u launches servers m h = all_named_later c v.seen u.seen servers m.0 h
   fits_later ended v u launches servers m h = omega (arith, h, starts_length u.seen v.seen m.0)
 
-pub first_fits : (c : Configuration) (work : Work) (v : Sight Entry) (launches : List Launch) (servers : List Server) → All (WasNamed c v.seen) servers → Fits c work (first_phase work) v launches servers
-first_fits c (of_pool pool) v launches servers h = (refl, h)
-first_fits c (of_requester q) v launches servers h = (refl, h)
-first_fits c of_reaper v launches servers h = (refl, h)
+pub first_fits : (plans : Bool) (c : Configuration) (work : Work) (v : Sight Entry) (launches : List Launch) (servers : List Server) → All (WasNamed c v.seen) servers → Fits plans c work (first_phase work) v launches servers
+first_fits plans c (of_pool pool) v launches servers h = (refl, h)
+first_fits plans c (of_requester q) v launches servers h = (refl, h)
+first_fits plans c of_reaper v launches servers h = (refl, h)

@@ -1,5 +1,5 @@
 -- journals that are driven, place by place
-use Rattle.std.proofs.Common.{◌≡◌, inl, inr, ⊎_elim, ℕ, List, [], ◌∷◌, ◌++◌, sym, refl, ap, subst, append_assoc, append-nil}
+use Rattle.std.proofs.Common.{Bool, true, false, ◌≡◌, inl, inr, ⊎_elim, ℕ, List, [], ◌∷◌, ◌++◌, sym, refl, ap, subst, append_assoc, append-nil}
 use Rattle.np_text.specs.declared.id.PoolId.{PoolId}
 use Rattle.np_text.specs.declared.id.NodeId.{NodeId}
 use Rattle.np_site.specs.Configuration.{Configuration}
@@ -9,7 +9,9 @@ use Rattle.np_machine.specs.History.{after, state_after}
 use Rattle.np_machine.specs.State.{State, start}
 use Rattle.np_machine.specs.Step.{next}
 use Rattle.np_machine.specs.Turns.{Turn, turns, turns_from, SomeTurn, EachTurn}
-use Rattle.np_useful.specs.Driven.{Says, DrivenFrom, DrivenBy, IsDrivenTurn, IsReportOfLaunch}
+use Rattle.np_useful.specs.Driven.{Says, DrivenFrom, IsDrivenTurn, IsReportOfLaunch}
+use Rattle.np_lists.specs.EachAfter.{EachAfter}
+use Rattle.np_driven.specs.Planned.{IsTurnAs, DrivenAs}
 
 -- the turn of an entry in a state, and after a journal
 abbrev pub turn_of : Configuration → State → Entry → Turn
@@ -57,29 +59,51 @@ module _ (c : Configuration) where
 
   -- ## driven at each place
 
-  module _ (says : Says) where
-    driven-part : (past : List Turn) (s : State) (before : List Entry) (e : Entry) (rest : List Entry) → DrivenFrom says c past (turns_from c s (before ++ e ∷ rest)) → IsDrivenTurn says c (past ++ turns_from c s before) (turn_of c (state_after c s before) e)
-    driven-part past s [] e rest h = subst (λ (p : List Turn). IsDrivenTurn says c p (turn_of c s e)) (sym (append-nil past)) h.0
-    driven-part past s (d ∷ before) e rest h =
-        subst (λ (p : List Turn). IsDrivenTurn says c p (turn_of c (state_after c (next c s d.event) before) e)) (append_assoc past (turn_of c s d ∷ []) (turns_from c (next c s d.event) before))
-        (driven-part (past ++ turn_of c s d ∷ []) (next c s d.event) before e rest h.1)
+  module _ (test : List Turn → Turn → Type 0) where
+    part-passes : (past : List Turn) (s : State) (before : List Entry) (e : Entry) (rest : List Entry) → EachAfter test past (turns_from c s (before ++ e ∷ rest)) → test (past ++ turns_from c s before) (turn_of c (state_after c s before) e)
+    part-passes past s [] e rest h = subst (λ (p : List Turn). test p (turn_of c s e)) (sym (append-nil past)) h.0
+    part-passes past s (d ∷ before) e rest h =
+        subst (λ (p : List Turn). test p (turn_of c (state_after c (next c s d.event) before) e)) (append_assoc past (turn_of c s d ∷ []) (turns_from c (next c s d.event) before))
+        (part-passes (past ++ turn_of c s d ∷ []) (next c s d.event) before e rest h.1)
 
-    pub driven-at : (journal before : List Entry) (e : Entry) (rest : List Entry) → DrivenBy says c journal → journal ≡ before ++ e ∷ rest → IsDrivenTurn says c (turns c before) (turn_after c before e)
-    driven-at journal before e rest h is = driven-part [] (start c) before e rest (subst (λ (j : List Entry). DrivenBy says c j) is h)
-
-    driven-whole : (past : List Turn) (s : State) (journal : List Entry)
-        → ((before : List Entry) (e : Entry) (rest : List Entry) → journal ≡ before ++ e ∷ rest → IsDrivenTurn says c (past ++ turns_from c s before) (turn_of c (state_after c s before) e))
-        → DrivenFrom says c past (turns_from c s journal)
-    driven-whole past s [] h = tt
-    driven-whole past s (d ∷ journal) h = (
-      subst (λ (p : List Turn). IsDrivenTurn says c p (turn_of c s d)) (append-nil past) (h [] d journal refl),
-      driven-whole (past ++ turn_of c s d ∷ []) (next c s d.event) journal
-          (λ before e rest is. subst (λ (p : List Turn). IsDrivenTurn says c p (turn_of c (state_after c (next c s d.event) before) e)) (sym (append_assoc past (turn_of c s d ∷ []) (turns_from c (next c s d.event) before)))
+    each-passes : (past : List Turn) (s : State) (journal : List Entry)
+        → ((before : List Entry) (e : Entry) (rest : List Entry) → journal ≡ before ++ e ∷ rest → test (past ++ turns_from c s before) (turn_of c (state_after c s before) e))
+        → EachAfter test past (turns_from c s journal)
+    each-passes past s [] h = tt
+    each-passes past s (d ∷ journal) h = (
+      subst (λ (p : List Turn). test p (turn_of c s d)) (append-nil past) (h [] d journal refl),
+      each-passes (past ++ turn_of c s d ∷ []) (next c s d.event) journal
+          (λ before e rest is. subst (λ (p : List Turn). test p (turn_of c (state_after c (next c s d.event) before) e)) (sym (append_assoc past (turn_of c s d ∷ []) (turns_from c (next c s d.event) before)))
           (h (d ∷ before) e rest (ap (λ (es : List Entry). d ∷ es) is))),
     )
 
-    pub driven-from : (journal : List Entry) → ((before : List Entry) (e : Entry) (rest : List Entry) → journal ≡ before ++ e ∷ rest → IsDrivenTurn says c (turns c before) (turn_after c before e)) → DrivenBy says c journal
-    driven-from journal h = driven-whole [] (start c) journal h
+  module _ (says : Says) where
+    driven-each : (past ts : List Turn) → DrivenFrom says c past ts → EachAfter (IsDrivenTurn says c) past ts
+    driven-each past [] h = tt
+    driven-each past (t ∷ ts) h = (h.0, driven-each (past ++ t ∷ []) ts h.1)
+
+    each-driven : (past ts : List Turn) → EachAfter (IsDrivenTurn says c) past ts → DrivenFrom says c past ts
+    each-driven past [] h = tt
+    each-driven past (t ∷ ts) h = (h.0, each-driven (past ++ t ∷ []) ts h.1)
+
+    pub as-each : (plans : Bool) (journal : List Entry) → DrivenAs says plans c journal → EachAfter (IsTurnAs says plans c) [] (turns c journal)
+    as-each false journal h = driven-each [] (turns c journal) h
+    as-each true journal h = h
+
+    pub each-as : (plans : Bool) (journal : List Entry) → EachAfter (IsTurnAs says plans c) [] (turns c journal) → DrivenAs says plans c journal
+    each-as false journal h = each-driven [] (turns c journal) h
+    each-as true journal h = h
+
+    pub driven-at : (plans : Bool) (journal before : List Entry) (e : Entry) (rest : List Entry) → DrivenAs says plans c journal → journal ≡ before ++ e ∷ rest → IsTurnAs says plans c (turns c before) (turn_after c before e)
+    driven-at plans journal before e rest h is = part-passes (IsTurnAs says plans c) [] (start c) before e rest (as-each plans (before ++ e ∷ rest) (subst (λ (j : List Entry). DrivenAs says plans c j) is h))
+
+    pub driven-from : (plans : Bool) (journal : List Entry) → ((before : List Entry) (e : Entry) (rest : List Entry) → journal ≡ before ++ e ∷ rest → IsTurnAs says plans c (turns c before) (turn_after c before e)) → DrivenAs says plans c journal
+    driven-from plans journal h = each-as plans journal (each-passes (IsTurnAs says plans c) [] (start c) journal h)
+
+    -- what passes the stricter test passes
+    pub turn-as : (plans : Bool) (past : List Turn) (t : Turn) → IsDrivenTurn says c past t → IsTurnAs says plans c past t
+    turn-as false past t h = h
+    turn-as true past t h = inl h
 
   -- ## by more answers
 
@@ -100,6 +124,10 @@ module _ (c : Configuration) where
 
     pub turn-more : (past : List Turn) (t : Turn) → IsDrivenTurn says c past t → IsDrivenTurn more c past t
     turn-more past t h = ⊎_elim (λ u. inl u) (λ g. inr (⊎_elim (λ u. inl u) (λ f. inr (⊎_elim (λ u. inl u) (λ r. inr (report-more past t r)) f)) g)) h
+
+    pub turn-more_as : (plans : Bool) (past : List Turn) (t : Turn) → IsTurnAs says plans c past t → IsTurnAs more plans c past t
+    turn-more_as false past t h = turn-more past t h
+    turn-more_as true past t h = ⊎_elim (λ u. inl (turn-more past t u)) (λ was. inr was) h
 
     pub driven-more : (past ts : List Turn) → DrivenFrom says c past ts → DrivenFrom more c past ts
     driven-more past [] h = tt

@@ -1,5 +1,5 @@
 -- drivers that answer as the configuration plans
-use Rattle.std.proofs.Common.{◌≡◌, ℕ, zero, suc, ◌+◌, List, [], ◌∷◌, map, slice_get, Option, Some, IfSome, subst, arith}
+use Rattle.std.proofs.Common.{true, ◌≡◌, ℕ, zero, suc, ◌+◌, List, [], ◌∷◌, map, slice_get, Option, Some, IfSome, subst, arith}
 use Rattle.np_text.specs.declared.id.PoolId.{PoolId}
 use Rattle.np_text.specs.declared.id.NodeId.{NodeId}
 use Rattle.np_site.specs.Configuration.{Configuration}
@@ -11,8 +11,10 @@ use Rattle.np_machine.specs.Plan.{outcome_of}
 use Rattle.np_machine.specs.Turns.{turns}
 use Rattle.np_answers.specs.Drive.{Driving}
 use Rattle.np_useful.specs.Driven.{DrivenBy, Driven, as_planned}
+use Rattle.np_lists.proofs.EachAfterLemmas.{EachAfter-weaker}
+use Rattle.np_driven.specs.Planned.{IsPlannedTurn, PlannedBy, PlannedDriven}
 use Rattle.np_driven.specs.Players.{WasAnswered, launch_of}
-use Rattle.np_driven.proofs.Places.{driven-more}
+use Rattle.np_driven.proofs.Places.{driven-more, turn-more_as}
 
 module _ (c : Configuration) where
   planned-at : (drivings : List Driving) (n k : ℕ) (d : Driving) → ArePlanned c n (map (λ (d : Driving). d.plan) drivings) → slice_get drivings k ≡ Some d → (tag : Tag) → tag.pool.0 ≡ n + k → d.plan tag ≡ Some (outcome_of c tag.pool tag.start)
@@ -32,3 +34,7 @@ module _ (c : Configuration) where
     -- what they drove is a driven journal
     pub planned-driven : (journal : List Entry) → DrivenBy (WasAnswered drivings) c journal → Driven c journal
     planned-driven journal h = driven-more c (WasAnswered drivings) (as_planned c) answered-planned [] (turns c journal) h
+
+    -- so is what they drove with planned events
+    pub planned-planned : (journal : List Entry) → PlannedBy (WasAnswered drivings) c journal → PlannedDriven c journal
+    planned-planned journal h = EachAfter-weaker (IsPlannedTurn (WasAnswered drivings) c) (IsPlannedTurn (as_planned c) c) (turn-more_as c (WasAnswered drivings) (as_planned c) answered-planned true) [] (turns c journal) h

@@ -1,5 +1,5 @@
 -- What a player's round made, and which servers it leaves named
-use Rattle.std.proofs.Common.{◌≡◌, ℕ, ◌≤◌, List, [], length, refl, subst, arith}
+use Rattle.std.proofs.Common.{Bool, ◌≡◌, ℕ, ◌≤◌, List, [], length, refl, subst, arith}
 use Rattle.std.specs.Prelude.{All, Contains, Option, Some}
 use Rattle.np_site.specs.Configuration.{Configuration}
 use Rattle.np_event.specs.declared.entry.Entry.{Entry}
@@ -7,10 +7,10 @@ use Rattle.np_cloud.specs.declared.driver.Launch.{Launch}
 use Rattle.np_cloud.specs.declared.driver.Server.{Server}
 use Rattle.np_desk.specs.History.{StartsWith, AreRising}
 use Rattle.np_desk.specs.Pass.{Sight}
-use Rattle.np_answers.specs.Answers.{answers}
 use Rattle.np_answers.specs.Drive.{Driving, Drives, Drove, servers_after}
 use Rattle.np_answers.specs.Move.{launches_of}
 use Rattle.np_answers.specs.Phase.{Work, Phase, acts, owes_launch, owes_report, looks, owes_due, sweeps, owes_swept, rests, ended, first_phase}
+use Rattle.np_driven.specs.Planned.{answers_of}
 use Rattle.np_driven.specs.Players.{Player, WasNamed, AreNamed, driving_in}
 use Rattle.np_driven.specs.Round.{PlayerEnd, PlaysFrom, IsCutOff, fresh_sight}
 use Rattle.np_answers.proofs.Gained.{walk_seen}
@@ -24,32 +24,32 @@ use Rattle.np_driven.proofs.Steps.{Stands}
 use Rattle.np_driven.proofs.Walked.{walk_stands}
 
 -- all servers were named, unless the round was cut off
-fits_named : (c : Configuration) (work : Work) (p : Phase) (v : Sight Entry) (launches : List Launch) (servers : List Server) → (IsCutOff p → ⊥) → Fits c work p v launches servers → All (WasNamed c v.seen) servers
-fits_named c work (acts r n) v launches servers o h = h.1
-fits_named c work (owes_launch pool n s) v launches servers o h = h.2
-fits_named c work (owes_report pool n s x) v launches servers o h = absurd (o tt)
-fits_named c work (looks pool n) v launches servers o h = h.1
-fits_named c work (owes_due pool n x) v launches servers o h = h.1
-fits_named c work (sweeps pool) v launches servers o h = h.1
-fits_named c work (owes_swept pool x) v launches servers o h = h.1
-fits_named c work rests v launches servers o h = h
-fits_named c work ended v launches servers o h = absurd (o tt)
+fits_named : (plans : Bool) (c : Configuration) (work : Work) (p : Phase) (v : Sight Entry) (launches : List Launch) (servers : List Server) → (IsCutOff p → ⊥) → Fits plans c work p v launches servers → All (WasNamed c v.seen) servers
+fits_named plans c work (acts r n) v launches servers o h = h.1
+fits_named plans c work (owes_launch pool n s) v launches servers o h = h.2
+fits_named plans c work (owes_report pool n s x) v launches servers o h = absurd (o tt)
+fits_named plans c work (looks pool n) v launches servers o h = h.1
+fits_named plans c work (owes_due pool n x) v launches servers o h = h.1
+fits_named plans c work (sweeps pool) v launches servers o h = h.1
+fits_named plans c work (owes_swept pool x) v launches servers o h = h.1
+fits_named plans c work rests v launches servers o h = h
+fits_named plans c work ended v launches servers o h = absurd (o tt)
 
-nothing_made : (c : Configuration) (history : List Entry) (work : Work) → HasMade c history work (fresh_sight history) []
-nothing_made c history work = record { new = starts_equal history history refl; made = λ x k. absurd (omega (arith, k.1)) }
+nothing_made : (plans : Bool) (c : Configuration) (history : List Entry) (work : Work) → HasMade plans c history work (fresh_sight history) []
+nothing_made plans c history work = record { new = starts_equal history history refl; made = λ x k. absurd (omega (arith, k.1)) }
 
-begins : (c : Configuration) (history : List Entry) (work : Work) (servers : List Server) → All (WasNamed c history) servers → Stands c history work (first_phase work) (fresh_sight history) [] servers
-begins c history work servers h = record { made = nothing_made c history work; fits = first_fits c work (fresh_sight history) [] servers h }
+begins : (plans : Bool) (c : Configuration) (history : List Entry) (work : Work) (servers : List Server) → All (WasNamed c history) servers → Stands plans c history work (first_phase work) (fresh_sight history) [] servers
+begins plans c history work servers h = record { made = nothing_made plans c history work; fits = first_fits plans c work (fresh_sight history) [] servers h }
 
-module _ (c : Configuration) (history : List Entry) (player : Player) (end : PlayerEnd) (p : PlaysFrom c history player end) where
+module _ {plans : Bool} (c : Configuration) (history : List Entry) (player : Player) (end : PlayerEnd) (p : PlaysFrom plans c history player end) where
   -- ## the history
 
   -- the player saw the history, and maybe more
   pub sees_history : StartsWith end.sight.seen history
-  sees_history = walk_seen answers c p.trace (fresh_sight history) end.sight p.walked
+  sees_history = walk_seen (answers_of plans) c p.trace (fresh_sight history) end.sight p.walked
 
   rises : Rises (length history) end.sight
-  rises = walk_rises answers c (length history) p.trace (fresh_sight history) end.sight p.walked (omega arith, tt)
+  rises = walk_rises (answers_of plans) c (length history) p.trace (fresh_sight history) end.sight p.walked (omega arith, tt)
 
   -- the places of what it made rise, and come after the history
   pub places_rise : AreRising 0 end.sight.mine (length end.sight.seen)
@@ -87,13 +87,13 @@ module _ (c : Configuration) (history : List Entry) (player : Player) (end : Pla
     had_servers : Serves c history player.work p.trace end.player.driving
     had_servers = serves c history player.work p.trace player.driving end.player.driving driver knew p.drove
 
-    comes_to : Stands c history player.work end.phase end.sight (launches_of p.trace) (servers_after p.trace (had_servers).servers)
-    comes_to = walk_stands c history player.work p.trace (first_phase player.work) end.phase (fresh_sight history) end.sight [] (had_servers).servers (begins c history player.work (had_servers).servers (had_servers).named) p.walked p.led (had_servers).swept
+    comes_to : Stands plans c history player.work end.phase end.sight (launches_of p.trace) (servers_after p.trace (had_servers).servers)
+    comes_to = walk_stands plans c history player.work p.trace (first_phase player.work) end.phase (fresh_sight history) end.sight [] (had_servers).servers (begins plans c history player.work (had_servers).servers (had_servers).named) p.walked p.led (had_servers).swept
 
     -- each entry that the round made has its cause
-    pub each_made : (x : ℕ) → Contains end.sight.mine x → Made c history player.work end.sight.mine (launches_of p.trace) end.sight.seen x
+    pub each_made : (x : ℕ) → Contains end.sight.mine x → Made plans c history player.work end.sight.mine (launches_of p.trace) end.sight.seen x
     each_made x h = (comes_to).made.made x h
 
     -- the servers that are left were named, unless the round was cut off
     pub servers_named : (IsCutOff end.phase → ⊥) → All (AreNamed c end.sight.seen) (driving_in end.player.driving)
-    servers_named o = (had_servers).left end.sight.seen (fits_named c player.work end.phase end.sight (launches_of p.trace) (servers_after p.trace (had_servers).servers) o (comes_to).fits)
+    servers_named o = (had_servers).left end.sight.seen (fits_named plans c player.work end.phase end.sight (launches_of p.trace) (servers_after p.trace (had_servers).servers) o (comes_to).fits)

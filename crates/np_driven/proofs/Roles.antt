@@ -123,7 +123,7 @@ current-role role session s is =
 -- ## useful starts and reports
 
 -- a start that is accepted is of a node of the maker's pool
-start-of_pool : (s : State) (session : SessionId) (n : NodeId) (pool : PoolId) (what : Done) → judge_start s session n ≡ Ok what → role_of session s ≡ Some (Launcher pool) → (node : NodeRecord) × (node_in n s.nodes ≡ Some node) × (node.pool.0 ≡ pool.0)
+pub start-of_pool : (s : State) (session : SessionId) (n : NodeId) (pool : PoolId) (what : Done) → judge_start s session n ≡ Ok what → role_of session s ≡ Some (Launcher pool) → (node : NodeRecord) × (node_in n s.nodes ≡ Some node) × (node.pool.0 ≡ pool.0)
 start-of_pool s session n pool what ok is =
     on-given (launcher s session) _ what ok (λ p who node_is.
     on-found (node_in n s.nodes) _ _ what node_is (λ node stands pool_is.

@@ -12,18 +12,18 @@ use Rattle.np_desk.specs.History.{AreRising}
 use Rattle.np_machine.specs.History.{Runs, after}
 use Rattle.np_machine.specs.State.{start as start_state}
 use Rattle.np_machine.specs.Turns.{turns, EachTurn, SomeTurn}
-use Rattle.np_useful.specs.Driven.{DrivenBy, IsDrivenTurn, IsSweepOfServer, IsReportOfLaunch, BeginsLaunch, is_tick, is_report_of}
-use Rattle.np_useful.specs.Useful.{IsUseful}
+use Rattle.np_useful.specs.Driven.{IsSweepOfServer, IsReportOfLaunch, BeginsLaunch, is_tick, is_report_of}
 use Rattle.np_answers.specs.Move.{launches_of}
 use Rattle.np_answers.specs.Phase.{Work, of_pool}
-use Rattle.np_driven.specs.Players.{Player, HaveDriven, drivings_of, AreNumbered, WasAnswered, launch_of}
+use Rattle.np_driven.specs.Planned.{IsChosen, IsTurnAs, DrivenAs}
+use Rattle.np_driven.specs.Players.{Player, HaveDrivenAs, drivings_of, AreNumbered, WasAnswered, launch_of}
 use Rattle.np_driven.specs.Round.{PlayerEnd, IsRound}
+use Rattle.np_driven.proofs.Choices.{chosen-tickless, chosen-turn}
 use Rattle.np_driven.proofs.Made.{IsActed, IsSwept, IsReported, Follows}
 use Rattle.np_driven.proofs.Splits.{split-outer, length-split, none-between}
-use Rattle.np_driven.proofs.Places.{turn_after, some-from, each-from, driven-at, driven-from, turn-more}
+use Rattle.np_driven.proofs.Places.{turn_after, some-from, each-from, driven-at, driven-from, turn-as, turn-more_as}
 use Rattle.np_answers.proofs.SweepLemmas.{sweep-removes}
 use Rattle.np_driven.proofs.Played.{places_rise, places_new}
-use Rattle.np_driven.proofs.Roles.{useful-tickless}
 use Rattle.np_driven.proofs.Ends.{player_of, player-there, numbered-now, one-end}
 use Rattle.np_driven.proofs.Answers.{answer-kept, answer-new}
 use Rattle.np_driven.proofs.Events.{start-parts, report-event, tick-event}
@@ -38,22 +38,22 @@ none-within : (mine : List ℕ) (i x y end : ℕ) → AreRising 0 mine end → F
 none-within mine i x y end rises f there above below =
     none-between 0 f.earlier i x f.later end y (subst (λ (places : List ℕ). AreRising 0 places end) f.splits rises) (subst (λ (places : List ℕ). Contains places y) f.splits there) above below
 
-pub numbered-after : (c : Configuration) (history later : List Entry) (players now : List Player) (is_cut : Bool) → IsRound c history later players now is_cut → AreNumbered 0 players → AreNumbered 0 now
-numbered-after c history later players now is_cut round are = subst (λ (ps : List Player). AreNumbered 0 ps) round.players_now (numbered-now c history 0 players round.ends round.plays are)
+pub numbered-after : (plans : Bool) (c : Configuration) (history later : List Entry) (players now : List Player) (is_cut : Bool) → IsRound plans c history later players now is_cut → AreNumbered 0 players → AreNumbered 0 now
+numbered-after plans c history later players now is_cut round are = subst (λ (ps : List Player). AreNumbered 0 ps) round.players_now (numbered-now plans c history 0 players round.ends round.plays are)
 
-module _ (c : Configuration) (history later : List Entry) (players now : List Player) (is_cut : Bool) (round : IsRound c history later players now is_cut) (runs : Runs c later (after c later)) (have : HaveDriven c history players) where
+module _ {plans : Bool} (c : Configuration) (history later : List Entry) (players now : List Player) (is_cut : Bool) (round : IsRound plans c history later players now is_cut) (runs : Runs c later (after c later)) (have : HaveDrivenAs plans c history players) where
   abbrev players-now : List Player
   players-now = map player_of round.ends
 
-  module _ (before : List Entry) (e : Entry) (rest : List Entry) (is : later ≡ before ++ e ∷ rest) (new : NewEntry c history round.ends before e) (r : IsReported c before e new.player.work new.end.sight.mine (launches_of new.plays.trace)) where
+  module _ (before : List Entry) (e : Entry) (rest : List Entry) (is : later ≡ before ++ e ∷ rest) (new : NewEntry plans c history round.ends before e) (r : IsReported plans c before e new.player.work new.end.sight.mine (launches_of new.plays.trace)) where
     start : BeginsAt c later r.start.session r.start.tag.node r.start.tag.attempt r.pool r.earlier r.begin
-    start = begins c later runs r.start.session r.start.tag.node r.start.tag.attempt before e rest is new.player.work new.end.sight.mine (launches_of new.plays.trace) r refl refl refl
+    start = begins c later runs r.start.session r.start.tag.node r.start.tag.attempt plans before e rest is new.player.work new.end.sight.mine (launches_of new.plays.trace) r refl refl refl
 
     start-new : length history ≤ length r.earlier
     start-new = places_new c history new.player new.end new.plays (length r.earlier) (follows-there new.end.sight.mine (length r.earlier) (length before) r.next)
 
     -- the worker of the pool made no entry between the start and the report
-    not-between : (b : List Entry) (u : Entry) (other : NewEntry c history round.ends b u) → other.player.work ≡ of_pool r.pool → length r.earlier < length b → length b < length before → ⊥
+    not-between : (b : List Entry) (u : Entry) (other : NewEntry plans c history round.ends b u) → other.player.work ≡ of_pool r.pool → length r.earlier < length b → length b < length before → ⊥
     not-between b u other work above below =
         let same : other.end ≡ new.end = one-end 0 round.ends (now-numbered c history later players now is_cut round have) other.end new.end other.there new.there r.pool (other.plays.work ∙ work) (new.plays.work ∙ r.own) in
         none-within new.end.sight.mine (length r.earlier) (length before) (length b) (length new.end.sight.seen)
@@ -67,12 +67,12 @@ module _ (c : Configuration) (history later : List Entry) (players now : List Pl
         ⊎_elim
         (λ (old : length b < length history).
         let z = old-entry c history later players now is_cut round have b u (more ++ e ∷ rest) outer old in
-        let driven = driven-at c (WasAnswered (drivings_of players)) history b u z.0 have.driven z.1 in
-        let less = driven-after c later runs r.start.session r.start.tag.node r.start.tag.attempt r.pool r.earlier r.begin start b u (more ++ e ∷ rest) outer o event (WasAnswered (drivings_of players)) driven in
+        let driven = driven-at c (WasAnswered (drivings_of players)) plans history b u z.0 have.driven z.1 in
+        let less = driven-after c later runs r.start.session r.start.tag.node r.start.tag.attempt r.pool r.earlier r.begin start b u (more ++ e ∷ rest) outer o event (WasAnswered (drivings_of players)) plans driven in
         omega (arith, start-new, less, old))
         (λ (young : length history ≤ length b).
         let other = new-entry c history later players now is_cut round have b u (more ++ e ∷ rest) outer young in
-        let made = made-after c later runs r.start.session r.start.tag.node r.start.tag.attempt r.pool r.earlier r.begin start b u (more ++ e ∷ rest) outer o event other.player.work other.end.sight.mine (launches_of other.plays.trace) other.cause in
+        let made = made-after c later runs r.start.session r.start.tag.node r.start.tag.attempt r.pool r.earlier r.begin start b u (more ++ e ∷ rest) outer o event plans other.player.work other.end.sight.mine (launches_of other.plays.trace) other.cause in
         not-between b u other made.0 made.1 below)
         (cases_lt (length b) (length history))
 
@@ -108,7 +108,7 @@ module _ (c : Configuration) (history later : List Entry) (players now : List Pl
       answered = was-answered;
     }
 
-  swept-driven : (before : List Entry) (e : Entry) (work : Work) → IsSwept c before e work → IsSweepOfServer (turns c before) (turn_after c before e)
+  swept-driven : (before : List Entry) (e : Entry) (work : Work) → IsSwept plans c before e work → IsSweepOfServer (turns c before) (turn_after c before e)
   swept-driven before e work s = record {
     session = s.answer.2.session;
     pool = s.pool;
@@ -121,27 +121,27 @@ module _ (c : Configuration) (history later : List Entry) (players now : List Pl
     unswept = s.answer.1;
   }
 
-  new-driven : (before : List Entry) (e : Entry) (rest : List Entry) → later ≡ before ++ e ∷ rest → length history ≤ length before → IsDrivenTurn (WasAnswered (drivings_of players-now)) c (turns c before) (turn_after c before e)
+  new-driven : (before : List Entry) (e : Entry) (rest : List Entry) → later ≡ before ++ e ∷ rest → length history ≤ length before → IsTurnAs (WasAnswered (drivings_of players-now)) plans c (turns c before) (turn_after c before e)
   new-driven before e rest is young =
       let new = new-entry c history later players now is_cut round have before e rest is young in
-      ⊎_elim (λ (a : IsActed c before e new.player.work). inl (record { role = a.role; useful = a.answer.0 }))
-      (λ g. inr (inr (⊎_elim (λ (s : IsSwept c before e new.player.work). inl (swept-driven before e new.player.work s)) (λ r. inr (reported-driven before e rest is new r)) g)))
+      ⊎_elim (λ (a : IsActed plans c before e new.player.work). chosen-turn c before a.role plans (WasAnswered (drivings_of players-now)) e a.answer.0)
+      (λ g. turn-as c (WasAnswered (drivings_of players-now)) plans (turns c before) (turn_after c before e) (inr (inr (⊎_elim (λ (s : IsSwept plans c before e new.player.work). inl (swept-driven before e new.player.work s)) (λ r. inr (reported-driven before e rest is new r)) g))))
       new.cause
 
-  old-driven : (before : List Entry) (e : Entry) (rest : List Entry) → later ≡ before ++ e ∷ rest → length before < length history → IsDrivenTurn (WasAnswered (drivings_of players-now)) c (turns c before) (turn_after c before e)
+  old-driven : (before : List Entry) (e : Entry) (rest : List Entry) → later ≡ before ++ e ∷ rest → length before < length history → IsTurnAs (WasAnswered (drivings_of players-now)) plans c (turns c before) (turn_after c before e)
   old-driven before e rest is old =
       let z = old-entry c history later players now is_cut round have before e rest is old in
-      turn-more c (WasAnswered (drivings_of players)) (WasAnswered (drivings_of players-now)) (answer-kept c history players round.ends round.plays) (turns c before) (turn_after c before e)
-      (driven-at c (WasAnswered (drivings_of players)) history before e z.0 have.driven z.1)
+      turn-more_as c (WasAnswered (drivings_of players)) (WasAnswered (drivings_of players-now)) (answer-kept plans c history players round.ends round.plays) plans (turns c before) (turn_after c before e)
+      (driven-at c (WasAnswered (drivings_of players)) plans history before e z.0 have.driven z.1)
 
   -- the journal stays driven, by the players as they are now
-  pub round-driven : DrivenBy (WasAnswered (drivings_of now)) c later
-  round-driven = subst (λ (ps : List Player). DrivenBy (WasAnswered (drivings_of ps)) c later) round.players_now
-      (driven-from c (WasAnswered (drivings_of players-now)) later
+  pub round-driven : DrivenAs (WasAnswered (drivings_of now)) plans c later
+  round-driven = subst (λ (ps : List Player). DrivenAs (WasAnswered (drivings_of ps)) plans c later) round.players_now
+      (driven-from c (WasAnswered (drivings_of players-now)) plans later
       (λ before e rest is. ⊎_elim (old-driven before e rest is) (new-driven before e rest is) (cases_lt (length before) (length history))))
 
   pub round-numbered : AreNumbered 0 now
-  round-numbered = numbered-after c history later players now is_cut round have.numbered
+  round-numbered = numbered-after plans c history later players now is_cut round have.numbered
 
   -- no tick is among its entries
   pub round-no-tick : (before : List Entry) (e : Entry) (rest : List Entry) → later ≡ before ++ e ∷ rest → length history ≤ length before → is_tick e.event ≡ false
@@ -149,6 +149,6 @@ module _ (c : Configuration) (history later : List Entry) (players now : List Pl
       let new = new-entry c history later players now is_cut round have before e rest is young in
       false_from_ne_true (is_tick e.event) (λ yes.
       let tick = tick-event e.event yes in
-      ⊎_elim (λ (a : IsActed c before e new.player.work). useful-tickless c (after c before) a.role (subst (λ (x : Event). IsUseful c (after c before) a.role x) tick a.answer.0))
-      (λ g. ⊎_elim (λ (s : IsSwept c before e new.player.work). absurd (cc (s.answer.2.event, tick))) (λ r. absurd (cc (r.event, tick))) g)
+      ⊎_elim (λ (a : IsActed plans c before e new.player.work). chosen-tickless c before a.role plans (subst (λ (x : Event). IsChosen plans c before a.role x) tick a.answer.0))
+      (λ g. ⊎_elim (λ (s : IsSwept plans c before e new.player.work). absurd (cc (s.answer.2.event, tick))) (λ r. absurd (cc (r.event, tick))) g)
       new.cause)

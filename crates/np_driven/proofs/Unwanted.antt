@@ -26,10 +26,12 @@ use Rattle.np_machine.specs.Turns.{turns}
 use Rattle.np_changes.specs.declared.changes.Changes.{Changes}
 use Rattle.np_laws.proofs.Lookups.{node_in-below}
 use Rattle.np_laws.proofs.Puts.{Way}
-use Rattle.np_useful.specs.Driven.{Says, DrivenBy, IsDrivenTurn, IsOfUse, IsTickBetween, IsSweepOfServer, IsReportOfLaunch, BeginsLaunch, NamesServer}
+use Rattle.np_useful.specs.Planned.{WasOfUse}
+use Rattle.np_useful.specs.Driven.{Says, IsDrivenTurn, IsOfUse, IsTickBetween, IsSweepOfServer, IsReportOfLaunch, BeginsLaunch, NamesServer}
 use Rattle.np_answers.specs.Answers.{IsKept}
 use Rattle.np_answers.specs.Phase.{ended}
 use Rattle.np_answers.specs.Trace.{WasKept}
+use Rattle.np_driven.specs.Planned.{IsTurnAs, DrivenAs}
 use Rattle.np_driven.specs.Players.{Player, WasNamed}
 use Rattle.np_driven.specs.Round.{PlayerEnd, PlaysFrom}
 use Rattle.np_driven.specs.Servers.{StaysKept, WasUnwanted, KeepsJanitor}
@@ -96,10 +98,10 @@ module _ (c : Configuration) where
   stood-given n node journal is = node_in-below n (after c journal).next_node node (after c journal).nodes (holds-after c journal).numbered.nodes_below is
 
   module _ (says : Says) (n : NodeId) (x : ℕ) (b : List Entry) (u : Entry) (names : NamesServer n x (turn_after c b u)) where
-    used-given : IsOfUse c (turn_after c b u) → n.0 < (after c b).next_node
-    used-given t =
+    accepted-given : is_ok (judge c (after c b) u.event) ≡ true → n.0 < (after c b).next_node
+    accepted-given accepted =
         (done-spends c (after c b) names.session n names.attempt (outcome.Launched x) (holds-after c b).numbered
-        (subst (λ (e : Event). is_ok (judge c (after c b) e) ≡ true) names.event t.useful.accepted)).given
+        (subst (λ (e : Event). is_ok (judge c (after c b) e) ≡ true) names.event accepted)).given
 
     reported-given : IsReportOfLaunch says (turns c b) (turn_after c b u) → n.0 < (after c b).next_node
     reported-given r =
@@ -111,17 +113,21 @@ module _ (c : Configuration) where
         (given-later n found.before (found.entry ∷ found.rest) (stood-given n found.holds.node found.before stood))
 
     named-turn_given : IsDrivenTurn says c (turns c b) (turn_after c b u) → n.0 < (after c b).next_node
-    named-turn_given h = ⊎_elim used-given
+    named-turn_given h = ⊎_elim (λ (t : IsOfUse c (turn_after c b u)). accepted-given t.useful.accepted)
         (λ g. ⊎_elim (λ (t : IsTickBetween (turns c b) (turn_after c b u)). absurd (cc (t.event, names.event)))
         (λ f. ⊎_elim (λ (t : IsSweepOfServer (turns c b) (turn_after c b u)). absurd (cc (t.event, names.event))) reported-given f) g) h
 
+    named-turn_given_as : (plans : Bool) → IsTurnAs says plans c (turns c b) (turn_after c b u) → n.0 < (after c b).next_node
+    named-turn_given_as false h = named-turn_given h
+    named-turn_given_as true h = ⊎_elim named-turn_given (λ (was : WasOfUse c (turns c b) (turn_after c b u)). accepted-given was.accepted) h
+
   -- the number of a node whose server was named was given
-  named-given : (says : Says) (journal before rest : List Entry) (server : Server) → DrivenBy says c journal → journal ≡ before ++ rest → WasNamed c before server → server.tag.node.0 < (after c before).next_node
-  named-given says journal before rest server driven is named =
+  named-given : (plans : Bool) (says : Says) (journal before rest : List Entry) (server : Server) → DrivenAs says plans c journal → journal ≡ before ++ rest → WasNamed c before server → server.tag.node.0 < (after c before).next_node
+  named-given plans says journal before rest server driven is named =
       let found = some-place c (NamesServer server.tag.node server.number) (start c) before named in
       let outer : journal ≡ found.before ++ found.entry ∷ (found.rest ++ rest) = is ∙ (ap (λ (l : List Entry). l ++ rest) found.stands ∙ append_assoc found.before (found.entry ∷ found.rest) rest) in
-      let turn = driven-at c says journal found.before found.entry (found.rest ++ rest) driven outer in
-      let given = named-turn_given says server.tag.node server.number found.before found.entry found.holds turn in
+      let turn = driven-at c says plans journal found.before found.entry (found.rest ++ rest) driven outer in
+      let given = named-turn_given_as says server.tag.node server.number found.before found.entry found.holds plans turn in
       subst (λ (j : List Entry). server.tag.node.0 < (after c j).next_node) (sym found.stands)
       (given-later server.tag.node found.before (found.entry ∷ found.rest) given)
 
@@ -143,8 +149,8 @@ module _ (c : Configuration) where
 
   -- ## a whole round
 
-  not-kept : (says : Says) (history before seen : List Entry) (pool : PoolId) (server : Server) → DrivenBy says c history → StartsWith before history → StartsWith seen before → KeepsJanitor c history seen pool → WasUnwanted c history server → IsKept pool server.tag.node server.number (after c before) → ⊥
-  not-kept says history before seen pool server driven of_round of_seen keeps was kept =
+  not-kept : (plans : Bool) (says : Says) (history before seen : List Entry) (pool : PoolId) (server : Server) → DrivenAs says plans c history → StartsWith before history → StartsWith seen before → KeepsJanitor c history seen pool → WasUnwanted c history server → IsKept pool server.tag.node server.number (after c before) → ⊥
+  not-kept plans says history before seen pool server driven of_round of_seen keeps was kept =
       ⊎_elim (λ none. false≢true (sym none ∙ keeps before of_round of_seen))
       (λ wanted. false≢true (sym stays ∙ wanted)) kept
     where
@@ -152,13 +158,13 @@ module _ (c : Configuration) where
       later = starts_on before history was.before of_round was.of_history
 
       given : server.tag.node.0 < (after c was.before).next_node
-      given = named-given says history was.before was.of_history.0 server driven was.of_history.1 was.named
+      given = named-given plans says history was.before was.of_history.0 server driven was.of_history.1 was.named
 
       stays : is_wanted (after c before) server.tag.node server.number ≡ false
       stays = subst (λ (j : List Entry). is_wanted (after c j) server.tag.node server.number ≡ false) (sym later.1)
           (unwanted-stays was.before later.0 server.tag.node server.number given was.unwanted)
 
-  pub unwanted-gone : (says : Says) (history : List Entry) (player : Player) (end : PlayerEnd) (pool : PoolId) (servers : List Server) (plays : PlaysFrom c history player end) → DrivenBy says c history → (end.phase ≡ ended → ⊥) → All (WasKept pool plays.trace) servers → KeepsJanitor c history end.sight.seen pool → (server : Server) → WasUnwanted c history server → Contains servers server → ⊥
-  unwanted-gone says history player end pool servers plays driven room kept keeps server was there =
-      let stay = All-contains (StaysKept c history end.sight pool) servers server (kept-stay c history player end pool servers plays room kept) there in
-      not-kept says history stay.before end.sight.seen pool server driven stay.of_round stay.of_seen keeps was stay.kept
+  pub unwanted-gone : (plans : Bool) (says : Says) (history : List Entry) (player : Player) (end : PlayerEnd) (pool : PoolId) (servers : List Server) (plays : PlaysFrom plans c history player end) → DrivenAs says plans c history → (end.phase ≡ ended → ⊥) → All (WasKept pool plays.trace) servers → KeepsJanitor c history end.sight.seen pool → (server : Server) → WasUnwanted c history server → Contains servers server → ⊥
+  unwanted-gone plans says history player end pool servers plays driven room kept keeps server was there =
+      let stay = All-contains (StaysKept c history end.sight pool) servers server (kept-stay plans c history player end pool servers plays room kept) there in
+      not-kept plans says history stay.before end.sight.seen pool server driven stay.of_round stay.of_seen keeps was stay.kept

@@ -1,4 +1,9 @@
+pub mod Planned
 pub mod Players
 pub mod Round
 pub mod Makers
 pub mod Servers
+pub mod Nodes
+pub mod Reports
+pub mod Carried
+pub mod Hosting

@@ -1,5 +1,5 @@
 -- who plays a site: workers as contracts see them, and what is known of what they drive
-use Rattle.std.specs.Prelude.{◌≡◌, ℕ, suc, List, [], ◌∷◌, ◌++◌, All, Contains, slice_get, Option, Some, None, IfSome}
+use Rattle.std.specs.Prelude.{◌≡◌, Bool, false, ℕ, suc, List, [], ◌∷◌, ◌++◌, All, Contains, slice_get, Option, Some, None, IfSome}
 use Rattle.np_text.specs.declared.id.PoolId.{PoolId}
 use Rattle.np_text.specs.declared.id.NodeId.{NodeId}
 use Rattle.np_site.specs.Configuration.{Configuration}
@@ -8,9 +8,10 @@ use Rattle.np_event.specs.declared.entry.Entry.{Entry}
 use Rattle.np_cloud.specs.declared.driver.Launch.{Launch}
 use Rattle.np_cloud.specs.declared.driver.Server.{Server}
 use Rattle.np_machine.specs.Turns.{turns, SomeTurn}
-use Rattle.np_useful.specs.Driven.{NamesServer, DrivenBy}
+use Rattle.np_useful.specs.Driven.{NamesServer}
 use Rattle.np_answers.specs.Drive.{Driving}
 use Rattle.np_answers.specs.Phase.{Work, of_pool, of_requester, of_reaper}
+use Rattle.np_driven.specs.Planned.{DrivenAs}
 
 -- a worker: whose it is, and what it drives (own)
 pub record Player : Type 0 where
@@ -75,8 +76,13 @@ pub record AreNamed (c : Configuration) (journal : List Entry) (driving : Drivin
 
 -- ## journals
 
--- the players drove the journal, and each server that they have was named in it (own)
-pub record HaveDriven (c : Configuration) (journal : List Entry) (players : List Player) : Type 0 where
-  pub driven : DrivenBy (WasAnswered (drivings_of players)) c journal
+-- the players drove the journal, with planned events or without, and each server that they have was
+-- named in it (own)
+pub record HaveDrivenAs (plans : Bool) (c : Configuration) (journal : List Entry) (players : List Player) : Type 0 where
+  pub driven : DrivenAs (WasAnswered (drivings_of players)) plans c journal
   pub named : All (AreNamed c journal) (drivings_of players)
   pub numbered : AreNumbered 0 players
+
+-- without: each entry was useful now, or a tick, a sweep or a report (own)
+abbrev pub HaveDriven : Configuration → List Entry → List Player → Type 0
+HaveDriven c journal players = HaveDrivenAs false c journal players

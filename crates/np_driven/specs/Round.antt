@@ -4,11 +4,11 @@ use Rattle.np_site.specs.Configuration.{Configuration}
 use Rattle.np_event.specs.declared.entry.Entry.{Entry}
 use Rattle.np_desk.specs.History.{StartsWith}
 use Rattle.np_desk.specs.Pass.{Sight}
-use Rattle.np_answers.specs.Answers.{answers}
 use Rattle.np_answers.specs.Drive.{Drove}
 use Rattle.np_answers.specs.Move.{Move}
 use Rattle.np_answers.specs.Phase.{Phase, Leads, first_phase, owes_launch, owes_report, ended}
 use Rattle.np_answers.specs.Walk.{Walk}
+use Rattle.np_driven.specs.Planned.{answers_of}
 use Rattle.np_driven.specs.Players.{Player}
 
 -- a player after its round: what it saw and made of the history, and the phase that its moves led
@@ -22,21 +22,21 @@ pub record PlayerEnd : Type 0 where
 abbrev pub fresh_sight : List Entry → Sight Entry
 fresh_sight history = record { seen = history; mine = [] }
 
--- the player took the turns of its round, after this history, and its driver did what the moves say
--- (own)
-pub record PlaysFrom (c : Configuration) (history : List Entry) (player : Player) (end : PlayerEnd) : Type 0 where
+-- the player took the turns of its round, after this history, and its driver did what the moves say;
+-- its events may be planned, or not (own)
+pub record PlaysFrom (plans : Bool) (c : Configuration) (history : List Entry) (player : Player) (end : PlayerEnd) : Type 0 where
   pub trace : List Move
-  pub walked : Walk answers c trace (fresh_sight history) end.sight
+  pub walked : Walk (answers_of plans) c trace (fresh_sight history) end.sight
   pub drove : Drove trace player.driving end.player.driving
   pub led : Leads (first_phase player.work) trace end.phase
   pub work : end.player.work ≡ player.work
 
 -- so did each of them (own)
-abbrev pub EachPlaysFrom : Configuration → List Entry → List Player → List PlayerEnd → Type 0
-EachPlaysFrom c history [] [] = Unit {0}
-EachPlaysFrom c history (player ∷ players) (end ∷ ends) = PlaysFrom c history player end × EachPlaysFrom c history players ends
-EachPlaysFrom c history [] (end ∷ ends) = ⊥
-EachPlaysFrom c history (player ∷ players) [] = ⊥
+abbrev pub EachPlaysFrom : Bool → Configuration → List Entry → List Player → List PlayerEnd → Type 0
+EachPlaysFrom plans c history [] [] = Unit {0}
+EachPlaysFrom plans c history (player ∷ players) (end ∷ ends) = PlaysFrom plans c history player end × EachPlaysFrom plans c history players ends
+EachPlaysFrom plans c history [] (end ∷ ends) = ⊥
+EachPlaysFrom plans c history (player ∷ players) [] = ⊥
 
 -- some player made the entry at the place (own)
 pub record IsMade (ends : List PlayerEnd) (x : ℕ) : Type 0 where
@@ -54,9 +54,9 @@ IsCutOff _ = ⊥
 
 -- the players played a round, and only their entries were added to the history. If the round of all
 -- was not cut off, none of theirs was (own)
-pub record IsRound (c : Configuration) (history later : List Entry) (players now : List Player) (is_cut : Bool) : Type 0 where
+pub record IsRound (plans : Bool) (c : Configuration) (history later : List Entry) (players now : List Player) (is_cut : Bool) : Type 0 where
   pub ends : List PlayerEnd
-  pub plays : EachPlaysFrom c history players ends
+  pub plays : EachPlaysFrom plans c history players ends
   pub players_now : map (λ (end : PlayerEnd). end.player) ends ≡ now
   pub goes_on : StartsWith later history
   pub seen : All (λ (end : PlayerEnd). StartsWith later end.sight.seen) ends

@@ -1,7 +1,10 @@
-//! The journals that parties and their clouds drive: laws alone.
+//! The journals that parties and their clouds drive, and what these say of the clouds' servers: laws
+//! alone.
 //!
 //! np_useful says when a journal was driven (`Driven`, and `DrivenBy` over any clouds). The laws
-//! here say that rounds of all players drive one. `specs/Players` says who plays and what is known
+//! here say that rounds of all players drive one. If launchers may commit events that they chose on
+//! an older state, it is one of `specs/Planned` (`PlannedDriven`, `PlannedBy`); the laws have both
+//! cases, by a parameter `plans`. `specs/Players` says who plays and what is known
 //! of what they drive, `specs/Round` what a round of all players is, as lists of moves at one
 //! history (np_answers) and without threads, `specs/Servers` what became of a driver's servers in it,
 //! `specs/Makers` which role its entries are of. `law` states that such a round continues a driven
@@ -10,13 +13,26 @@
 //!
 //! A report is the first one for its start, since a node's attempts only rise and its number is not
 //! used again (`proofs/Once`), and since only the pool's own worker acts for its launcher.
+//!
+//! A driver may have room for so many servers, and only some lists of server numbers may be sound
+//! for it (np_cloud). `specs/Carried` says what holds of a whole journal that drivers carried: after
+//! each tick the servers of a pool's nodes are sound for its driver, each server that a report names
+//! is sound by itself, and a launch failed only after as many launched servers as there is room
+//! for. `specs/Nodes` says which servers a pool's nodes have, and `specs/Reports` what a journal
+//! reports of a pool's launches. `specs/Hosting` has what is kept from round to round, and
+//! `law/hosted` states that rounds and ticks keep it, and that it says the above of the journal in
+//! the end. The machine would accept no report of a launch that was reported (`proofs/Idle`), so that
+//! all reports of a pool are those of its worker's round (`proofs/Carrying`), and other workers
+//! change none of this (`proofs/Others`).
 #![tactic(auto)]
 
 mod law;
 
 pub use law::{
-    a_round_is_driven, a_tick_after_a_round_is_driven, each_entry_is_of_its_makers_role,
-    players_begin_with_the_empty_journal, servers_leave_with_a_cause,
-    servers_stay_where_they_are_kept, unwanted_servers_go_in_a_whole_round,
+    a_launch_that_was_begun_is_of_its_pool, a_round_is_driven, a_round_keeps_what_is_hosted,
+    a_tick_after_a_round_is_driven, a_tick_keeps_what_is_hosted, drivers_begin_to_host,
+    each_entry_is_of_its_makers_role, players_begin_with_the_empty_journal,
+    servers_leave_with_a_cause, servers_stay_where_they_are_kept,
+    unwanted_servers_go_in_a_whole_round, what_is_hosted_was_carried,
     what_planned_drivers_drove_was_driven_as_planned,
 };

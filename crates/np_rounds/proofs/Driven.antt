@@ -7,8 +7,8 @@ use Rattle.np_site.specs.Configuration.{Configuration}
 use Rattle.np_cloud.specs.Facts.{DriverFacts}
 use Rattle.np_machine.specs.History.{Runs, after}
 use Rattle.np_answers.specs.Drive.{Driving, driving}
-use Rattle.np_useful.specs.Driven.{DrivenBy}
-use Rattle.np_driven.specs.Players.{Player, drivings_of, AreNumbered, WasAnswered, HaveDriven}
+use Rattle.np_driven.specs.Planned.{DrivenAs}
+use Rattle.np_driven.specs.Players.{Player, drivings_of, AreNumbered, WasAnswered, HaveDrivenAs}
 use Rattle.np_driven.specs.Round.{IsRound}
 use Rattle.np_driven.proofs.Rounds.{round-driven, round-no-tick, numbered-after}
 use Rattle.np_driven.proofs.Leaves.{round-have-driven}
@@ -29,39 +29,39 @@ not_false true h = refl
 not_false false h = absurd cc
 
 -- the drivers in the end
-pub driven_end : {D : Type 0} (facts : D → DriverFacts) (plan : D → Plan) (sound : D → List ℕ → Bool) (room : D → ℕ) (c : Configuration) (full : Bool) (journal : List Entry) (players : List Player) (ds : List D) → map (driving facts plan sound room) ds ≡ drivings_of players → IsDriven c full journal players → DrivenBy (WasAnswered (map (driving facts plan sound room) ds)) c journal
-driven_end facts plan sound room c true journal players ds same h = subst (λ (l : List Driving). DrivenBy (WasAnswered l) c journal) (sym same) h.driven
-driven_end facts plan sound room c false journal players ds same h = subst (λ (l : List Driving). DrivenBy (WasAnswered l) c journal) (sym same) h.driven
+pub driven_end : (plans : Bool) {D : Type 0} (facts : D → DriverFacts) (plan : D → Plan) (sound : D → List ℕ → Bool) (room : D → ℕ) (c : Configuration) (full : Bool) (journal : List Entry) (players : List Player) (ds : List D) → map (driving facts plan sound room) ds ≡ drivings_of players → IsDriven plans c full journal players → DrivenAs (WasAnswered (map (driving facts plan sound room) ds)) plans c journal
+driven_end plans facts plan sound room c true journal players ds same h = subst (λ (l : List Driving). DrivenAs (WasAnswered l) plans c journal) (sym same) h.driven
+driven_end plans facts plan sound room c false journal players ds same h = subst (λ (l : List Driving). DrivenAs (WasAnswered l) plans c journal) (sym same) h.driven
 
 -- before the first round
-pub driven_start : {D : Type 0} (facts : D → DriverFacts) (plan : D → Plan) (sound : D → List ℕ → Bool) (room : D → ℕ) (c : Configuration) (players : List Player) (ds : List D) → AreNumbered 0 players → drivings_of players ≡ map (driving facts plan sound room) ds → All (λ (d : D). (facts d).servers ≡ Some []) ds → HaveDriven c [] players
-driven_start facts plan sound room c players ds numbered same none = start-have-driven c players numbered
+pub driven_start : (plans : Bool) {D : Type 0} (facts : D → DriverFacts) (plan : D → Plan) (sound : D → List ℕ → Bool) (room : D → ℕ) (c : Configuration) (players : List Player) (ds : List D) → AreNumbered 0 players → drivings_of players ≡ map (driving facts plan sound room) ds → All (λ (d : D). (facts d).servers ≡ Some []) ds → HaveDrivenAs plans c [] players
+driven_start plans facts plan sound room c players ds numbered same none = start-have-driven c plans players numbered
     (All-same (λ (d : Driving). d.facts.servers ≡ Some []) (drivings_of players) (map (driving facts plan sound room) ds) same
     (All-map (λ (d : Driving). d.facts.servers ≡ Some []) (driving facts plan sound room) ds none))
 
 -- after a round
-pub driven_round : (c : Configuration) (history later : List Entry) (players now : List Player) (full : Bool) → IsRound c history later players now full → Runs c later (after c later) → HaveDriven c history players → IsDriven c full later now
-driven_round c history later players now true played runs h = record {
+pub driven_round : (plans : Bool) (c : Configuration) (history later : List Entry) (players now : List Player) (full : Bool) → IsRound plans c history later players now full → Runs c later (after c later) → HaveDrivenAs plans c history players → IsDriven plans c full later now
+driven_round plans c history later players now true played runs h = record {
   driven = round-driven c history later players now true played runs h;
-  numbered = numbered-after c history later players now true played h.numbered;
+  numbered = numbered-after plans c history later players now true played h.numbered;
 }
-driven_round c history later players now false played runs h = round-have-driven c history later players now false played runs h refl
+driven_round plans c history later players now false played runs h = round-have-driven c history later players now false played runs h refl
 
 -- a round that was not cut off
-pub driven_whole : (c : Configuration) (history later : List Entry) (players now : List Player) (full : Bool) → IsRound c history later players now full → full ≡ false → Runs c later (after c later) → HaveDriven c history players → HaveDriven c later now
-driven_whole c history later players now full played room runs h = round-have-driven c history later players now full played runs h room
+pub driven_whole : (plans : Bool) (c : Configuration) (history later : List Entry) (players now : List Player) (full : Bool) → IsRound plans c history later players now full → full ≡ false → Runs c later (after c later) → HaveDrivenAs plans c history players → HaveDrivenAs plans c later now
+driven_whole plans c history later players now full played room runs h = round-have-driven c history later players now full played runs h room
 
 -- after the tick that follows a round with an entry
-pub driven_tick : (c : Configuration) (history later journal : List Entry) (players now : List Player) (cut full : Bool) → IsRound c history later players now cut → cut ≡ false → Runs c later (after c later) → HaveDriven c history players → length history < length later → Ticks full later journal → IsDriven c full journal now
-driven_tick c history later journal players now cut true played room runs h more ticks =
-    let whole = driven_whole c history later players now cut played room runs h in record {
-      driven = subst (λ (l : List Entry). DrivenBy (WasAnswered (drivings_of now)) c l) (sym ticks) whole.driven;
+pub driven_tick : (plans : Bool) (c : Configuration) (history later journal : List Entry) (players now : List Player) (cut full : Bool) → IsRound plans c history later players now cut → cut ≡ false → Runs c later (after c later) → HaveDrivenAs plans c history players → length history < length later → Ticks full later journal → IsDriven plans c full journal now
+driven_tick plans c history later journal players now cut true played room runs h more ticks =
+    let whole = driven_whole plans c history later players now cut played room runs h in record {
+      driven = subst (λ (l : List Entry). DrivenAs (WasAnswered (drivings_of now)) plans c l) (sym ticks) whole.driven;
       numbered = whole.numbered;
     }
-driven_tick c history later journal players now cut false played room runs h more ticks =
-    let whole = driven_whole c history later players now cut played room runs h in
+driven_tick plans c history later journal players now cut false played room runs h more ticks =
+    let whole = driven_whole plans c history later players now cut played room runs h in
     let end = some_last later (omega (arith, more)) in
     let plain = round-no-tick c history later players now cut played runs h end.0 end.1 [] end.2
     (omega (arith, more, ap length end.2, length-append end.0 (end.1 ∷ []))) in
-    subst (λ (l : List Entry). HaveDriven c l now) (sym (ticks.2 ∙ ap (λ (l : List Entry). l ++ ticks.0 ∷ []) end.2))
-    (tick-have-driven c end.0 now end.1 ticks.0 (subst (λ (l : List Entry). HaveDriven c l now) end.2 whole) plain ticks.1)
+    subst (λ (l : List Entry). HaveDrivenAs plans c l now) (sym (ticks.2 ∙ ap (λ (l : List Entry). l ++ ticks.0 ∷ []) end.2))
+    (tick-have-driven c plans end.0 now end.1 ticks.0 (subst (λ (l : List Entry). HaveDrivenAs plans c l now) end.2 whole) plain ticks.1)

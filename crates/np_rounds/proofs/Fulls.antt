@@ -15,7 +15,8 @@ use Rattle.np_answers.specs.declared.ask.Ask.{Ask}
 use Rattle.np_answers.specs.declared.ask.Ask.TheVariants as ask
 use Rattle.np_answers.specs.declared.ask.Turn.{Turn}
 use Rattle.np_answers.specs.declared.ask.Turn.TheVariants as turn
-use Rattle.np_answers.specs.Answers.{answers, IsFull}
+use Rattle.np_answers.specs.Answers.{IsFull}
+use Rattle.np_driven.specs.Planned.{answers_of}
 use Rattle.np_answers.specs.Asks.{recorded}
 use Rattle.np_answers.specs.declared.start.Start.{Start}
 use Rattle.np_answers.specs.Move.{Move, asked, launched, removed}
@@ -117,40 +118,40 @@ removal_goes ended g = g
 pub full_later : (later seen : List Entry) → StartsWith later seen → IsFull seen → IsFull later
 full_later later seen h full = omega (arith, full, ap length h.1, length-append seen h.0)
 
-module _ (c : Configuration) where
+module _ (plans : Bool) (c : Configuration) where
   -- if the answer is that there is no room, there was none
-  full_answer : (before : List Entry) (a : Ask) → answers c before a turn.Full → IsFull before
+  full_answer : (before : List Entry) (a : Ask) → answers_of plans c before a turn.Full → IsFull before
   full_answer before (ask.Act r) h = h.1
   full_answer before (ask.Do e) h = h
   full_answer before (ask.Due p) h = absurd h
   full_answer before (ask.Sweep p n x) h = h.2
 
-  pub full_turn : (v w : Sight Entry) (a : Ask) → Answered answers recorded c v a turn.Full w → IsFull w.seen
+  pub full_turn : (v w : Sight Entry) (a : Ask) → Answered (answers_of plans) recorded c v a turn.Full w → IsFull w.seen
   full_turn v w a h = subst IsFull (sym h.3.0) (full_answer h.0 a h.2)
 
   -- what is seen of the history only grows
-  pub grows_turn : (v w : Sight Entry) (a : Ask) (t : Turn) → Answered answers recorded c v a t w → StartsWith w.seen v.seen
+  pub grows_turn : (v w : Sight Entry) (a : Ask) (t : Turn) → Answered (answers_of plans) recorded c v a t w → StartsWith w.seen v.seen
   grows_turn v w a (turn.Did e) h = subst (λ (l : List Entry). StartsWith l v.seen) (sym h.3.0) (starts_more h.0 v.seen (e ∷ []) h.1)
   grows_turn v w a (turn.DueNode n x) h = subst (λ (l : List Entry). StartsWith l v.seen) (sym h.3.0) h.1
   grows_turn v w a turn.Swept h = subst (λ (l : List Entry). StartsWith l v.seen) (sym h.3.0) h.1
   grows_turn v w a turn.Idle h = subst (λ (l : List Entry). StartsWith l v.seen) (sym h.3.0) h.1
   grows_turn v w a turn.Full h = subst (λ (l : List Entry). StartsWith l v.seen) (sym h.3.0) h.1
 
-  pub grows : (trace : List Move) (v w : Sight Entry) → Walk answers c trace v w → StartsWith w.seen v.seen
+  pub grows : (trace : List Move) (v w : Sight Entry) → Walk (answers_of plans) c trace v w → StartsWith w.seen v.seen
   grows [] v w h = h.0
   grows (asked a t ∷ ms) v w h = starts_on w.seen h.0.seen v.seen (grows ms h.0 w h.2) (grows_turn v h.0 a t h.1)
   grows (launched tag o ∷ ms) v w h = grows ms v w h
   grows (removed x ∷ ms) v w h = grows ms v w h
 
   -- only such an answer leads to the phase in which a round ends
-  pub full_end : (p : Phase) (trace : List Move) (v w : Sight Entry) → GoesOn p → Leads p trace ended → Walk answers c trace v w → IsFull w.seen
+  pub full_end : (p : Phase) (trace : List Move) (v w : Sight Entry) → GoesOn p → Leads p trace ended → Walk (answers_of plans) c trace v w → IsFull w.seen
   full_end p [] v w g l h = absurd (subst GoesOn l g)
   full_end p (asked a t ∷ ms) v w g l h = ⊎_elim
       (λ (on : GoesOn (after_turn p a t)). full_end (after_turn p a t) ms h.0 w on l.1 h.2)
-      (λ (is : t ≡ turn.Full). full_later w.seen h.0.seen (grows ms h.0 w h.2) (full_turn v h.0 a (subst (λ (x : Turn). Answered answers recorded c v a x h.0) is h.1)))
+      (λ (is : t ≡ turn.Full). full_later w.seen h.0.seen (grows ms h.0 w h.2) (full_turn v h.0 a (subst (λ (x : Turn). Answered (answers_of plans) recorded c v a x h.0) is h.1)))
       (turn_goes p a t g)
   full_end p (launched tag o ∷ ms) v w g l h = full_end (after_launch p o) ms v w (launch_goes p o g) l.1 h
   full_end p (removed x ∷ ms) v w g l h = full_end (after_removal p) ms v w (removal_goes p g) l.1 h
 
-  pub full_round : (work : Work) (trace : List Move) (v w : Sight Entry) → Leads (first_phase work) trace ended → Walk answers c trace v w → IsFull w.seen
+  pub full_round : (work : Work) (trace : List Move) (v w : Sight Entry) → Leads (first_phase work) trace ended → Walk (answers_of plans) c trace v w → IsFull w.seen
   full_round work trace v w l h = full_end (first_phase work) trace v w (first_goes work) l h

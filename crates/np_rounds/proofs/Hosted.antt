@@ -10,9 +10,9 @@ use Rattle.np_machine.specs.History.{Runs, after}
 use Rattle.np_answers.specs.Drive.{Driving, driving}
 use Rattle.np_driven.specs.Players.{Player, driving_in, drivings_of, AreNumbered, HaveDriven}
 use Rattle.np_driven.specs.Round.{IsRound}
-use Rattle.np_hosts.specs.Carried.{AreCarried, BeginsEmpty, BeginsNew, FailOnlyFull}
-use Rattle.np_hosts.specs.Hosting.{BeginAfter, Earlier, HaveHosted, HaveSoundness, IsHosted}
-use Rattle.np_hosts.proofs.Hosted.{are-carried, begin-counted, begin-hosted, begin-new, counted, fail-only-full, round-hosted, stop-hosted, tick-hosted}
+use Rattle.np_driven.specs.Carried.{AreCarried, BeginsEmpty, BeginsNew, FailOnlyFull}
+use Rattle.np_driven.specs.Hosting.{BeginAfter, Earlier, HaveHosted, HaveSoundness, IsHosted}
+use Rattle.np_driven.proofs.Hosted.{are-carried, begin-counted, begin-hosted, begin-new, counted, fail-only-full, round-hosted, stop-hosted, tick-hosted}
 use Rattle.np_worker.specs.declared.worker.Worker.{Worker}
 use Rattle.np_worker.specs.declared.worker.Worker.TheVariants as worker
 use Rattle.np_rounds.specs.Crews.{Plan, player_of, players_of}
@@ -48,7 +48,7 @@ module _ {D : Type 0} (facts : D → DriverFacts) (plan : D → Plan) (sound : D
   -- before the first round
   pub hosted_start : (earlier : Earlier) (c : Configuration) (players : List Player) (ds : List D) → AreNumbered 0 players → drivings_of players ≡ map (driving facts plan sound room) ds → All (λ (d : D). (facts d).servers ≡ Some []) ds → BeginAfter earlier (map (driving facts plan sound room) ds) → HaveHosted earlier c [] players
   hosted_start earlier c players ds numbered same none begin =
-      begin-hosted earlier c players (driven_start facts plan sound room c players ds numbered same none) (subst (BeginAfter earlier) (sym same) begin)
+      begin-hosted earlier c players (driven_start false facts plan sound room c players ds numbered same none) (subst (BeginAfter earlier) (sym same) begin)
 
   pub empty_servers : (ds : List D) → All (λ (d : D). BeginsEmpty (facts d)) ds → All (λ (d : D). (facts d).servers ≡ Some []) ds
   empty_servers ds all = All-weaker (λ (d : D). BeginsEmpty (facts d)) (λ (d : D). (facts d).servers ≡ Some []) (λ d b. b.servers) ds all
@@ -72,15 +72,15 @@ module _ {D : Type 0} (facts : D → DriverFacts) (plan : D → Plan) (sound : D
 -- ## rounds and ticks
 
 -- a round that was not cut off
-pub hosted_whole : (earlier : Earlier) (c : Configuration) (history later : List Entry) (players now : List Player) (full : Bool) → IsRound c history later players now full → full ≡ false → Runs c later (after c later) → HaveHosted earlier c history players → HaveHosted earlier c later now
+pub hosted_whole : (earlier : Earlier) (c : Configuration) (history later : List Entry) (players now : List Player) (full : Bool) → IsRound false c history later players now full → full ≡ false → Runs c later (after c later) → HaveHosted earlier c history players → HaveHosted earlier c later now
 hosted_whole earlier c history later players now true played room runs h = absurd cc
 hosted_whole earlier c history later players now false played room runs h = round-hosted earlier c history later players now false played runs h
 
 -- after the tick that follows a round with an entry
-pub hosted_tick : (earlier : Earlier) (c : Configuration) (history later journal : List Entry) (players now : List Player) (cut full : Bool) → IsRound c history later players now cut → cut ≡ false → Runs c later (after c later) → HaveHosted earlier c history players → length history < length later → Ticks full later journal → HaveSoundness (drivings_of now) → IsHosted earlier c full journal now
+pub hosted_tick : (earlier : Earlier) (c : Configuration) (history later journal : List Entry) (players now : List Player) (cut full : Bool) → IsRound false c history later players now cut → cut ≡ false → Runs c later (after c later) → HaveHosted earlier c history players → length history < length later → Ticks full later journal → HaveSoundness (drivings_of now) → IsHosted earlier c full journal now
 hosted_tick earlier c history later journal players now cut true played room runs h more ticks sound =
     stop-hosted earlier c journal now (subst (λ (j : List Entry). HaveHosted earlier c j now) (sym ticks) (hosted_whole earlier c history later players now cut played room runs h))
 hosted_tick earlier c history later journal players now cut false played room runs h more ticks sound =
-    let driven : HaveDriven c journal now = driven_tick c history later journal players now cut false played room runs h.driven more ticks in
+    let driven : HaveDriven c journal now = driven_tick false c history later journal players now cut false played room runs h.driven more ticks in
     subst (λ (j : List Entry). HaveHosted earlier c j now) (sym ticks.2)
     (tick-hosted earlier c later ticks.0 now ticks.1 (subst (λ (j : List Entry). HaveDriven c j now) ticks.2 driven) sound (hosted_whole earlier c history later players now cut played room runs h))

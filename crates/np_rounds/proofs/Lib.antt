@@ -1,11 +1,12 @@
-mod Lists
-mod Players
+pub mod Lists
+pub mod Players
 mod Joined
-mod Fulls
-mod Starts
-mod Backs
+pub mod Fulls
+pub mod Starts
+pub mod Backs
 mod Taken
-mod OneRound
-mod Ticks
-mod Driven
+pub mod OneRound
+pub mod Ticks
+pub mod Driven
 mod Hosted
+mod Seats

@@ -7,23 +7,23 @@ use Rattle.np_site.specs.Configuration.{Configuration}
 use Rattle.np_desk.specs.Pass.{PassView, DeskView, IsOf}
 use Rattle.np_rounds.specs.declared.crew.Crew.{Crew}
 use Rattle.np_rounds.specs.declared.crew.CrewEnd.{CrewEnd}
-use Rattle.np_rounds.specs.Crews.{given_pass, AreGiven}
+use Rattle.np_rounds.specs.Crews.{Seat, given_pass, AreGiven}
 use Rattle.np_rounds.specs.Plays.{Pairwise}
 use Rattle.np_rounds.specs.Backs.{IsBack, AreBack}
 
 module _ {D : Type 0} (p : PassView Configuration Entry) where
-  pub given_more : (n : ℕ) (crews : List (Crew D)) (crew : Crew D) → AreGiven p n crews → crew.pass ≡ given_pass (n + length crews) p → AreGiven p n (crews ++ crew ∷ [])
+  pub given_more : (n : ℕ) (crews : List (Crew D Seat)) (crew : Crew D Seat) → AreGiven p n crews → crew.pass ≡ given_pass (n + length crews) p → AreGiven p n (crews ++ crew ∷ [])
   given_more n [] crew h is = (is ∙ ap (λ (k : ℕ). given_pass k p) (omega arith), tt)
   given_more n (c ∷ crews) crew h is = (h.0, given_more (suc n) crews crew h.1 (is ∙ ap (λ (k : ℕ). given_pass k p) (omega arith)))
 
-  pub given_own : (desk : DeskView Configuration Entry) (n : ℕ) (crews : List (Crew D)) → IsOf p desk → AreGiven p n crews → All (λ (crew : Crew D). IsOf crew.pass desk) crews
-  given_own desk n [] own h = All-nil (λ (crew : Crew D). IsOf crew.pass desk)
-  given_own desk n (c ∷ crews) own h = All-cons (λ (crew : Crew D). IsOf crew.pass desk) c crews
+  pub given_own : (desk : DeskView Configuration Entry) (n : ℕ) (crews : List (Crew D Seat)) → IsOf p desk → AreGiven p n crews → All (λ (crew : Crew D Seat). IsOf crew.pass desk) crews
+  given_own desk n [] own h = All-nil (λ (crew : Crew D Seat). IsOf crew.pass desk)
+  given_own desk n (c ∷ crews) own h = All-cons (λ (crew : Crew D Seat). IsOf crew.pass desk) c crews
       (ap (λ (q : PassView Configuration Entry). q.table) h.0 ∙ own.0, ap (λ (q : PassView Configuration Entry). q.origin) h.0 ∙ own.1)
       (given_own desk (suc n) crews own h.1)
 
 module _ {D : Type 0} (desk : DeskView Configuration Entry) where
-  pub back_less : (n : ℕ) (ends : List (CrewEnd D)) (e : CrewEnd D) → AreBack desk n (ends ++ e ∷ []) → AreBack desk n ends × IsBack desk (n + length ends) e
+  pub back_less : (n : ℕ) (ends : List (CrewEnd D Seat)) (e : CrewEnd D Seat) → AreBack desk n (ends ++ e ∷ []) → AreBack desk n ends × IsBack desk (n + length ends) e
   back_less n [] e h = (tt, subst (λ (k : ℕ). IsBack desk k e) (omega arith) h.0)
   back_less n (f ∷ ends) e h = let r = back_less (suc n) ends e h.1 in ((h.0, r.0), subst (λ (k : ℕ). IsBack desk k e) (omega arith) r.1)
 

@@ -11,11 +11,11 @@ use Rattle.np_desk.specs.Pass.{PassView, DeskView, IsOf, Sight, sight_of}
 use Rattle.np_desk.specs.Share.{times}
 use Rattle.np_desk.specs.declared.view.Origin.{Origin}
 use Rattle.np_desk.proofs.HistoryLemmas.{starts_on}
-use Rattle.np_answers.specs.Answers.{answers}
 use Rattle.np_answers.specs.Drive.{Driving}
 use Rattle.np_answers.specs.Move.{Move}
 use Rattle.np_answers.specs.Phase.{Work, of_pool, of_requester, of_reaper, Phase, acts, owes_launch, owes_report, looks, owes_due, sweeps, owes_swept, rests, ended, OwesRemoval}
 use Rattle.np_answers.specs.Walk.{Walk}
+use Rattle.np_driven.specs.Planned.{answers_of}
 use Rattle.np_driven.specs.Players.{Player}
 use Rattle.np_driven.specs.Round.{PlayerEnd, PlaysFrom, EachPlaysFrom, IsMade, IsCutOff, IsRound}
 use Rattle.np_worker.specs.declared.worker.RoundEnd.{RoundEnd}
@@ -24,8 +24,8 @@ use Rattle.np_worker.specs.Round.{EndsAs, Rests, work_of, driving_of}
 use Rattle.np_rounds.specs.declared.crew.Crew.{Crew}
 use Rattle.np_rounds.specs.declared.crew.CrewEnd.{CrewEnd}
 use Rattle.np_rounds.specs.declared.round.Together.{Together}
-use Rattle.np_rounds.specs.Crews.{Plan, split_pass, given_pass, AreGiven, player_of, players_of, crew_players}
-use Rattle.np_rounds.specs.Plays.{Plays, Pairwise}
+use Rattle.np_rounds.specs.Crews.{Seat, Plan, split_pass, given_pass, AreGiven, player_of, players_of, crew_players}
+use Rattle.np_rounds.specs.Plays.{CrewPlays, Pairwise}
 use Rattle.np_rounds.specs.Backs.{IsUncut, TookBack, end_players, merged_ends}
 use Rattle.np_rounds.proofs.Joined.{contains_here, contains_there, times_contains, of_either, below_end, added_there, length_added, no_shorter, same_length, same_history}
 
@@ -57,52 +57,52 @@ rests_in false P Q h is = h
 
 -- ## players
 
-module _ {D : Type 0} (facts : D → DriverFacts) (plan : D → Plan) (sound : D → List ℕ → Bool) (room : D → ℕ) (desk : DeskView Configuration Entry) where
-  abbrev player_end : (crew : Crew D) (e : CrewEnd D) → Plays facts plan sound room desk crew e → PlayerEnd
+module _ (plans : Bool) {D : Type 0} (facts : D → DriverFacts) (plan : D → Plan) (sound : D → List ℕ → Bool) (room : D → ℕ) (desk : DeskView Configuration Entry) where
+  abbrev player_end : (crew : Crew D Seat) (e : CrewEnd D Seat) → CrewPlays plans facts plan sound room desk crew e → PlayerEnd
   player_end crew e h = record { player = player_of facts plan sound room e.crew.worker; sight = sight_of e.crew.pass; phase = h.round.to }
 
-  abbrev round_ends : (crews : List (Crew D)) (ends : List (CrewEnd D)) → Pairwise (Plays facts plan sound room desk) crews ends → List PlayerEnd
+  abbrev round_ends : (crews : List (Crew D Seat)) (ends : List (CrewEnd D Seat)) → Pairwise (CrewPlays plans facts plan sound room desk) crews ends → List PlayerEnd
   round_ends [] [] h = []
   round_ends [] (e ∷ ends) h = absurd h
   round_ends (crew ∷ crews) [] h = absurd h
   round_ends (crew ∷ crews) (e ∷ ends) h = player_end crew e h.0 ∷ round_ends crews ends h.1
 
-  plays_from : (p : PassView Configuration Entry) (n : ℕ) (crew : Crew D) (e : CrewEnd D) → crew.pass ≡ given_pass n p → (h : Plays facts plan sound room desk crew e) → PlaysFrom desk.origin.fixed p.seen (player_of facts plan sound room crew.worker) (player_end crew e h)
+  plays_from : (p : PassView Configuration Entry) (n : ℕ) (crew : Crew D Seat) (e : CrewEnd D Seat) → crew.pass ≡ given_pass n p → (h : CrewPlays plans facts plan sound room desk crew e) → PlaysFrom plans desk.origin.fixed p.seen (player_of facts plan sound room crew.worker) (player_end crew e h)
   plays_from p n crew e given h = record {
     trace = h.round.trace;
-    walked = subst (λ (v : Sight Entry). Walk answers desk.origin.fixed h.round.trace v (sight_of e.crew.pass)) (ap sight_of given) h.round.walked;
+    walked = subst (λ (v : Sight Entry). Walk (answers_of plans) desk.origin.fixed h.round.trace v (sight_of e.crew.pass)) (ap sight_of given) h.round.walked;
     drove = h.round.drove;
     led = h.round.led;
     work = h.work;
   }
 
-  each_plays : (p : PassView Configuration Entry) (n : ℕ) (crews : List (Crew D)) (ends : List (CrewEnd D)) → AreGiven p n crews → (h : Pairwise (Plays facts plan sound room desk) crews ends) → EachPlaysFrom desk.origin.fixed p.seen (crew_players facts plan sound room crews) (round_ends crews ends h)
+  each_plays : (p : PassView Configuration Entry) (n : ℕ) (crews : List (Crew D Seat)) (ends : List (CrewEnd D Seat)) → AreGiven p n crews → (h : Pairwise (CrewPlays plans facts plan sound room desk) crews ends) → EachPlaysFrom plans desk.origin.fixed p.seen (crew_players facts plan sound room crews) (round_ends crews ends h)
   each_plays p n [] [] given h = tt
   each_plays p n [] (e ∷ ends) given h = absurd h
   each_plays p n (crew ∷ crews) [] given h = absurd h
   each_plays p n (crew ∷ crews) (e ∷ ends) given h = (plays_from p n crew e given.0 h.0, each_plays p (suc n) crews ends given.1 h.1)
 
-  players_now : (crews : List (Crew D)) (ends : List (CrewEnd D)) (h : Pairwise (Plays facts plan sound room desk) crews ends) → map (λ (end : PlayerEnd). end.player) (round_ends crews ends h) ≡ end_players facts plan sound room ends
+  players_now : (crews : List (Crew D Seat)) (ends : List (CrewEnd D Seat)) (h : Pairwise (CrewPlays plans facts plan sound room desk) crews ends) → map (λ (end : PlayerEnd). end.player) (round_ends crews ends h) ≡ end_players facts plan sound room ends
   players_now [] [] h = refl
   players_now [] (e ∷ ends) h = absurd h
   players_now (crew ∷ crews) [] h = absurd h
   players_now (crew ∷ crews) (e ∷ ends) h = ap (λ (l : List Player). player_of facts plan sound room e.crew.worker ∷ l) (players_now crews ends h.1)
 
-  all_saw : (later : List Entry) (crews : List (Crew D)) (ends : List (CrewEnd D)) (h : Pairwise (Plays facts plan sound room desk) crews ends) → All (λ (e : CrewEnd D). StartsWith later e.crew.pass.seen) ends → All (λ (end : PlayerEnd). StartsWith later end.sight.seen) (round_ends crews ends h)
+  all_saw : (later : List Entry) (crews : List (Crew D Seat)) (ends : List (CrewEnd D Seat)) (h : Pairwise (CrewPlays plans facts plan sound room desk) crews ends) → All (λ (e : CrewEnd D Seat). StartsWith later e.crew.pass.seen) ends → All (λ (end : PlayerEnd). StartsWith later end.sight.seen) (round_ends crews ends h)
   all_saw later [] [] h seen = All-nil (λ (end : PlayerEnd). StartsWith later end.sight.seen)
   all_saw later [] (e ∷ ends) h seen = absurd h
   all_saw later (crew ∷ crews) [] h seen = absurd h
   all_saw later (crew ∷ crews) (e ∷ ends) h seen = All-cons (λ (end : PlayerEnd). StartsWith later end.sight.seen) (player_end crew e h.0) (round_ends crews ends h.1)
-      (All-head (λ (x : CrewEnd D). StartsWith later x.crew.pass.seen) e ends seen)
-      (all_saw later crews ends h.1 (All-tail (λ (x : CrewEnd D). StartsWith later x.crew.pass.seen) e ends seen))
+      (All-head (λ (x : CrewEnd D Seat). StartsWith later x.crew.pass.seen) e ends seen)
+      (all_saw later crews ends h.1 (All-tail (λ (x : CrewEnd D Seat). StartsWith later x.crew.pass.seen) e ends seen))
 
-  reported : (crew : Crew D) (e : CrewEnd D) (h : Plays facts plan sound room desk crew e) → IsUncut e → IsCutOff h.round.to → ⊥
+  reported : (crew : Crew D Seat) (e : CrewEnd D Seat) (h : CrewPlays plans facts plan sound room desk crew e) → IsUncut e → IsCutOff h.round.to → ⊥
   reported crew e h uncut =
       let before = driving_of facts plan sound room crew.worker in let now = driving_of facts plan sound room e.crew.worker in
       let ends = subst (λ (r : Result RoundEnd NoMemory). EndsAs (work_of crew.worker) before now r h.round.trace h.round.to) uncut.1 h.round.holds in
       rests_reported (work_of crew.worker) before now h.round.trace h.round.to (rests_in uncut.0.full (h.round.to ≡ ended) (Rests (work_of crew.worker) before now h.round.trace h.round.to) ends uncut.2)
 
-  all_reported : (crews : List (Crew D)) (ends : List (CrewEnd D)) (h : Pairwise (Plays facts plan sound room desk) crews ends) → All IsUncut ends → All (λ (end : PlayerEnd). IsCutOff end.phase → ⊥) (round_ends crews ends h)
+  all_reported : (crews : List (Crew D Seat)) (ends : List (CrewEnd D Seat)) (h : Pairwise (CrewPlays plans facts plan sound room desk) crews ends) → All IsUncut ends → All (λ (end : PlayerEnd). IsCutOff end.phase → ⊥) (round_ends crews ends h)
   all_reported [] [] h uncut = All-nil (λ (end : PlayerEnd). IsCutOff end.phase → ⊥)
   all_reported [] (e ∷ ends) h uncut = absurd h
   all_reported (crew ∷ crews) [] h uncut = absurd h
@@ -114,7 +114,7 @@ module _ {D : Type 0} (facts : D → DriverFacts) (plan : D → Plan) (sound : D
   made_there : (end : PlayerEnd) (ends : List PlayerEnd) (x : ℕ) → IsMade ends x → IsMade (end ∷ ends) x
   made_there end ends x h = record { end = h.end; there = contains_there h.end end ends h.there; made = h.made }
 
-  made_by : (x : ℕ) (mine : List ℕ) (crews : List (Crew D)) (ends : List (CrewEnd D)) (h : Pairwise (Plays facts plan sound room desk) crews ends) → 0 < times x (merged_ends mine ends) → (0 < times x mine) ⊎ IsMade (round_ends crews ends h) x
+  made_by : (x : ℕ) (mine : List ℕ) (crews : List (Crew D Seat)) (ends : List (CrewEnd D Seat)) (h : Pairwise (CrewPlays plans facts plan sound room desk) crews ends) → 0 < times x (merged_ends mine ends) → (0 < times x mine) ⊎ IsMade (round_ends crews ends h) x
   made_by x mine [] [] h some = inl some
   made_by x mine [] (e ∷ ends) h some = absurd h
   made_by x mine (crew ∷ crews) [] h some = absurd h
@@ -187,24 +187,24 @@ closed_seen desk p history own all begins starts mine =
 
 -- ## a round
 
-pub is_round : {D : Type 0} (facts : D → DriverFacts) (plan : D → Plan) (sound : D → List ℕ → Bool) (room : D → ℕ) (desk : DeskView Configuration Entry) (n : ℕ) (p q r : PassView Configuration Entry) (crews : List (Crew D)) (ends : List (CrewEnd D)) (ws ws' ws'' : List (Worker D)) (t : Together)
-    → Knows desk p r → q ≡ split_pass n p → AreGiven p 0 crews → Pairwise (Plays facts plan sound room desk) crews ends → TookBack facts plan sound room q r ws' ws'' t ends
+pub is_round : (plans : Bool) {D : Type 0} (facts : D → DriverFacts) (plan : D → Plan) (sound : D → List ℕ → Bool) (room : D → ℕ) (desk : DeskView Configuration Entry) (n : ℕ) (p q r : PassView Configuration Entry) (crews : List (Crew D Seat)) (ends : List (CrewEnd D Seat)) (ws ws' ws'' : List (Worker D)) (t : Together)
+    → Knows desk p r → q ≡ split_pass n p → AreGiven p 0 crews → Pairwise (CrewPlays plans facts plan sound room desk) crews ends → TookBack facts plan sound room q r ws' ws'' t ends
     → crew_players facts plan sound room crews ++ players_of facts plan sound room ws' ≡ players_of facts plan sound room ws → ws' ≡ []
-    → IsRound desk.origin.fixed p.seen r.seen (players_of facts plan sound room ws) (players_of facts plan sound room ws'') t.full
-is_round facts plan sound room desk n p q r crews ends ws ws' ws'' t k is given h took had none =
+    → IsRound plans desk.origin.fixed p.seen r.seen (players_of facts plan sound room ws) (players_of facts plan sound room ws'') t.full
+is_round plans facts plan sound room desk n p q r crews ends ws ws' ws'' t k is given h took had none =
     let ours = subst (λ (x : PassView Configuration Entry). TookBack facts plan sound room x r ws' ws'' t ends) is took in
     let left : players_of facts plan sound room ws' ≡ [] = ap (players_of facts plan sound room) none in
     let before : crew_players facts plan sound room crews ≡ players_of facts plan sound room ws =
     sym (append-nil (crew_players facts plan sound room crews)) ∙ (ap (λ (l : List Player). crew_players facts plan sound room crews ++ l) (sym left) ∙ had) in record {
-      ends = round_ends facts plan sound room desk crews ends h;
-      plays = subst (λ (l : List Player). EachPlaysFrom desk.origin.fixed p.seen l (round_ends facts plan sound room desk crews ends h)) before (each_plays facts plan sound room desk p 0 crews ends given h);
-      players_now = players_now facts plan sound room desk crews ends h ∙ (sym (append-nil (end_players facts plan sound room ends)) ∙ (ap (λ (l : List Player). end_players facts plan sound room ends ++ l) (sym left) ∙ sym ours.players));
+      ends = round_ends plans facts plan sound room desk crews ends h;
+      plays = subst (λ (l : List Player). EachPlaysFrom plans desk.origin.fixed p.seen l (round_ends plans facts plan sound room desk crews ends h)) before (each_plays plans facts plan sound room desk p 0 crews ends given h);
+      players_now = players_now plans facts plan sound room desk crews ends h ∙ (sym (append-nil (end_players facts plan sound room ends)) ∙ (ap (λ (l : List Player). end_players facts plan sound room ends ++ l) (sym left) ∙ sym ours.players));
       goes_on = k.more;
-      seen = all_saw facts plan sound room desk r.seen crews ends h ours.told;
+      seen = all_saw plans facts plan sound room desk r.seen crews ends h ours.told;
       made = λ x from to. ⊎_elim
           (λ (old : 0 < times x p.mine). absurd (omega (arith, from, below_end x 0 (length p.seen) p.mine k.rising old)))
-          (λ (made : IsMade (round_ends facts plan sound room desk crews ends h) x). made)
-          (made_by facts plan sound room desk x p.mine crews ends h (subst (λ (l : List ℕ). 0 < times x l) (sym k.has ∙ ours.mine)
+          (λ (made : IsMade (round_ends plans facts plan sound room desk crews ends h) x). made)
+          (made_by plans facts plan sound room desk x p.mine crews ends h (subst (λ (l : List ℕ). 0 < times x l) (sym k.has ∙ ours.mine)
           (added_there x desk.origin.history r.seen (later_begins desk p r k) (omega (arith, from, no_shorter desk.origin.history p.seen k.begins)) to)));
-      uncut = λ whole. all_reported facts plan sound room desk crews ends h (ours.uncut whole);
+      uncut = λ whole. all_reported plans facts plan sound room desk crews ends h (ours.uncut whole);
     }

@@ -13,7 +13,7 @@ use Rattle.np_driven.specs.Round.{PlayerEnd, EachPlaysFrom, IsRound}
 use Rattle.np_worker.specs.Round.{driving_of}
 use Rattle.np_worker.specs.declared.worker.Worker.{Worker}
 use Rattle.np_worker.specs.declared.worker.Worker.TheVariants as worker
-use Rattle.np_rounds.specs.Crews.{Plan, Terms, terms_of, player_of, players_of, crew_players}
+use Rattle.np_rounds.specs.Crews.{Seat, Plan, Terms, terms_of, player_of, players_of, crew_players}
 use Rattle.np_rounds.specs.Played.{terms_in}
 use Rattle.np_rounds.specs.declared.crew.Crew.{Crew}
 
@@ -30,14 +30,14 @@ module _ {D : Type 0} (facts : D → DriverFacts) (plan : D → Plan) (sound : D
   players-push [] w = refl
   players-push (v ∷ workers) w = ap (λ (l : List Player). l ++ player_of facts plan sound room v ∷ []) (players-push workers w)
 
-  crew-push : (crews : List (Crew D)) (c : Crew D) → crew_players facts plan sound room (crews ++ c ∷ []) ≡ crew_players facts plan sound room crews ++ player_of facts plan sound room c.worker ∷ []
+  crew-push : (crews : List (Crew D Seat)) (c : Crew D Seat) → crew_players facts plan sound room (crews ++ c ∷ []) ≡ crew_players facts plan sound room crews ++ player_of facts plan sound room c.worker ∷ []
   crew-push [] c = refl
   crew-push (d ∷ crews) c = ap (λ (l : List Player). player_of facts plan sound room d.worker ∷ l) (crew-push crews c)
 
   -- a worker was given a pass
-  pub handed : (crews crews' : List (Crew D)) (c : Crew D) (ws ws' : List (Worker D)) → crews' ≡ crews ++ c ∷ [] → ws ≡ ws' ++ c.worker ∷ [] → crew_players facts plan sound room crews' ++ players_of facts plan sound room ws' ≡ crew_players facts plan sound room crews ++ players_of facts plan sound room ws
+  pub handed : (crews crews' : List (Crew D Seat)) (c : Crew D Seat) (ws ws' : List (Worker D)) → crews' ≡ crews ++ c ∷ [] → ws ≡ ws' ++ c.worker ∷ [] → crew_players facts plan sound room crews' ++ players_of facts plan sound room ws' ≡ crew_players facts plan sound room crews ++ players_of facts plan sound room ws
   handed crews crews' c ws ws' more less =
-      ap (λ (l : List (Crew D)). crew_players facts plan sound room l ++ players_of facts plan sound room ws') more
+      ap (λ (l : List (Crew D Seat)). crew_players facts plan sound room l ++ players_of facts plan sound room ws') more
       ∙ (ap (λ (l : List Player). l ++ players_of facts plan sound room ws') (crew-push crews c)
       ∙ (append_assoc (crew_players facts plan sound room crews) (player_of facts plan sound room c.worker ∷ []) (players_of facts plan sound room ws')
       ∙ ap (λ (l : List Player). crew_players facts plan sound room crews ++ l) (sym (players-push ws' c.worker) ∙ ap (players_of facts plan sound room) (sym less))))
@@ -132,11 +132,11 @@ terms_more None (Some e) ds es trace h same = absurd h
 terms_more (Some d) None ds es trace h same = absurd h
 terms_more (Some d) (Some e) ds es trace h same = ap (λ (x : Terms). x ∷ map terms_of es) (same_terms_of trace d e h) ∙ ap (λ (l : List Terms). terms_of d ∷ l) same
 
-terms_kept : (c : Configuration) (history : List Entry) (players : List Player) (ends : List PlayerEnd) → EachPlaysFrom c history players ends → terms_in (map (λ (end : PlayerEnd). end.player) ends) ≡ terms_in players
-terms_kept c history [] [] h = refl
-terms_kept c history [] (end ∷ ends) h = absurd h
-terms_kept c history (player ∷ players) [] h = absurd h
-terms_kept c history (player ∷ players) (end ∷ ends) h = terms_more player.driving end.player.driving (drivings_of players) (drivings_of (map (λ (e : PlayerEnd). e.player) ends)) h.0.trace h.0.drove (terms_kept c history players ends h.1)
+terms_kept : (plans : Bool) (c : Configuration) (history : List Entry) (players : List Player) (ends : List PlayerEnd) → EachPlaysFrom plans c history players ends → terms_in (map (λ (end : PlayerEnd). end.player) ends) ≡ terms_in players
+terms_kept plans c history [] [] h = refl
+terms_kept plans c history [] (end ∷ ends) h = absurd h
+terms_kept plans c history (player ∷ players) [] h = absurd h
+terms_kept plans c history (player ∷ players) (end ∷ ends) h = terms_more player.driving end.player.driving (drivings_of players) (drivings_of (map (λ (e : PlayerEnd). e.player) ends)) h.0.trace h.0.drove (terms_kept plans c history players ends h.1)
 
-pub same_terms : (c : Configuration) (history later : List Entry) (players now : List Player) (is_cut : Bool) → IsRound c history later players now is_cut → terms_in now ≡ terms_in players
-same_terms c history later players now is_cut h = ap terms_in (sym h.players_now) ∙ terms_kept c history players h.ends h.plays
+pub same_terms : (plans : Bool) (c : Configuration) (history later : List Entry) (players now : List Player) (is_cut : Bool) → IsRound plans c history later players now is_cut → terms_in now ≡ terms_in players
+same_terms plans c history later players now is_cut h = ap terms_in (sym h.players_now) ∙ terms_kept plans c history players h.ends h.plays

@@ -16,7 +16,7 @@ use Rattle.np_worker.specs.declared.worker.Worker.{Worker}
 use Rattle.np_worker.specs.declared.worker.RoundEnd.{RoundEnd}
 use Rattle.np_rounds.specs.declared.crew.CrewEnd.{CrewEnd}
 use Rattle.np_rounds.specs.declared.round.Together.{Together}
-use Rattle.np_rounds.specs.Crews.{Plan, player_of, players_of}
+use Rattle.np_rounds.specs.Crews.{Seat, Plan, player_of, players_of}
 use Rattle.np_rounds.specs.Backs.{IsBack, IsUncut, TookBack}
 use Rattle.np_rounds.specs.Played.{with_end}
 use Rattle.np_rounds.proofs.Fulls.{full_later}
@@ -71,7 +71,7 @@ module _ {D : Type 0} (facts : D → DriverFacts) (plan : D → Plan) (sound : D
   pub took_none : (p : PassView Configuration Entry) (ws : List (Worker D)) → TookBack facts plan sound room p p ws ws (record { moved = false; full = false }) []
   took_none p ws = record {
     seen = starts_same p.seen;
-    told = All-nil (λ (e : CrewEnd D). StartsWith p.seen e.crew.pass.seen);
+    told = All-nil (λ (e : CrewEnd D Seat). StartsWith p.seen e.crew.pass.seen);
     mine = refl;
     still = λ _. refl;
     moved = λ h. absurd cc;
@@ -80,7 +80,7 @@ module _ {D : Type 0} (facts : D → DriverFacts) (plan : D → Plan) (sound : D
     players = refl;
   }
 
-  module _ (desk : DeskView Configuration Entry) (n : ℕ) (old mid new : PassView Configuration Entry) (e : CrewEnd D) (s t : Together) (back : IsBack desk n e) (mine : new.mine ≡ merged mid.mine e.crew.pass.mine) (one : OneMore s t e.end) where
+  module _ (desk : DeskView Configuration Entry) (n : ℕ) (old mid new : PassView Configuration Entry) (e : CrewEnd D Seat) (s t : Together) (back : IsBack desk n e) (mine : new.mine ≡ merged mid.mine e.crew.pass.mine) (one : OneMore s t e.end) where
     entries : length e.crew.pass.mine ≡ one.end.entries
     entries = subst (λ (r : Result RoundEnd NoMemory). IfOk r (λ end. length e.crew.pass.mine ≡ end.entries)) one.is back.entries
 
@@ -110,14 +110,14 @@ module _ {D : Type 0} (facts : D → DriverFacts) (plan : D → Plan) (sound : D
         (or_parts s.full one.end.full (sym one.full ∙ full))
 
   -- one crew more came back
-  pub took_more : (desk : DeskView Configuration Entry) (n : ℕ) (old mid new : PassView Configuration Entry) (ws ws' ws'' : List (Worker D)) (s t : Together) (ends : List (CrewEnd D)) (e : CrewEnd D)
+  pub took_more : (desk : DeskView Configuration Entry) (n : ℕ) (old mid new : PassView Configuration Entry) (ws ws' ws'' : List (Worker D)) (s t : Together) (ends : List (CrewEnd D Seat)) (e : CrewEnd D Seat)
       → TookBack facts plan sound room old mid ws ws' s ends → IsBack desk n e → StartsWith new.seen mid.seen → StartsWith new.seen e.crew.pass.seen → new.mine ≡ merged mid.mine e.crew.pass.mine → Ok t ≡ with_end s e.end → ws'' ≡ ws' ++ e.crew.worker ∷ []
       → TookBack facts plan sound room old new ws ws'' t (e ∷ ends)
   took_more desk n old mid new ws ws' ws'' s t ends e had back seen told mine sum more =
       let one = one_more s t e.end sum in record {
         seen = starts_on new.seen mid.seen old.seen seen had.seen;
-        told = All-cons (λ (x : CrewEnd D). StartsWith new.seen x.crew.pass.seen) e ends told
-            (All-weaker (λ (x : CrewEnd D). StartsWith mid.seen x.crew.pass.seen) (λ (x : CrewEnd D). StartsWith new.seen x.crew.pass.seen)
+        told = All-cons (λ (x : CrewEnd D Seat). StartsWith new.seen x.crew.pass.seen) e ends told
+            (All-weaker (λ (x : CrewEnd D Seat). StartsWith mid.seen x.crew.pass.seen) (λ (x : CrewEnd D Seat). StartsWith new.seen x.crew.pass.seen)
             (λ x h. starts_on new.seen mid.seen x.crew.pass.seen seen h) ends had.told);
         mine = mine ∙ ap (λ (l : List ℕ). merged l e.crew.pass.mine) had.mine;
         still = more_still desk n old mid new e s t back mine one had.still;

@@ -1,5 +1,5 @@
 -- A tick after a round.
-use Rattle.std.proofs.Common.{◌≡◌, inr, List, [], ◌∷◌, ◌++◌, length, length-append, ap, ◌∙◌, arith}
+use Rattle.std.proofs.Common.{◌≡◌, false, inr, List, [], ◌∷◌, ◌++◌, length, length-append, ap, ◌∙◌, arith}
 use Rattle.np_event.specs.declared.entry.Entry.{Entry}
 use Rattle.np_event.specs.declared.event.Event.TheVariants as ev
 use Rattle.np_site.specs.Configuration.{Configuration}
@@ -20,7 +20,7 @@ tick_stops c v w (turn.Did e) h = inr (record { earlier = h.0; last = e; ends = 
 tick_stops c v w (turn.DueNode n x) h = absurd h.2
 tick_stops c v w turn.Swept h = absurd h.2
 tick_stops c v w turn.Idle h = absurd h.2
-tick_stops c v w turn.Full h = full_turn c v w (ask.Do ev.Tick) h
+tick_stops c v w turn.Full h = full_turn false c v w (ask.Do ev.Tick) h
 
 -- beside a whole pass nothing else was added
 pub whole_ticks : (desk : DeskView Configuration Entry) (p r : PassView Configuration Entry) (t : Turn) → Knows desk p r → Answered answers recorded desk.origin.fixed (sight_of p) (ask.Do ev.Tick) t (sight_of r) → Ticks (is_full t) p.seen r.seen

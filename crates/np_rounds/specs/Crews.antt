@@ -15,6 +15,10 @@ use Rattle.np_rounds.specs.declared.crew.Crew.{Crew}
 
 -- ## passes
 
+-- what contracts know of a pass (own)
+abbrev pub Seat : Type 0
+Seat = PassView Configuration Entry
+
 -- the word that a whole pass has left after this many splits (own)
 abbrev pub zeros : ℕ → List Bool
 zeros zero = []
@@ -30,7 +34,7 @@ given_pass n p = record p { mine = []; part = second_half (zeros n ∷ []) }
 
 -- each crew of the list has the pass that was split off at its place, the first after this many
 -- others (own)
-abbrev pub AreGiven : {D : Type 0} → PassView Configuration Entry → ℕ → List (Crew D) → Type 0
+abbrev pub AreGiven : {D : Type 0} → PassView Configuration Entry → ℕ → List (Crew D Seat) → Type 0
 AreGiven p n [] = Unit {0}
 AreGiven p n (crew ∷ crews) = (crew.pass ≡ given_pass n p) × AreGiven p (suc n) crews
 
@@ -60,6 +64,6 @@ module _ {D : Type 0} (facts : D → DriverFacts) (plan : D → Plan) (sound : D
   players_of (worker ∷ workers) = players_of workers ++ player_of worker ∷ []
 
   -- the crews' workers as players, the first crew first (own)
-  abbrev pub crew_players : List (Crew D) → List Player
+  abbrev pub crew_players : List (Crew D Seat) → List Player
   crew_players [] = []
   crew_players (crew ∷ crews) = player_of crew.worker ∷ crew_players crews

@@ -4,8 +4,8 @@ use Rattle.np_text.specs.declared.memory.NoMemory.{NoMemory}
 use Rattle.np_event.specs.declared.entry.Entry.{Entry}
 use Rattle.np_event.specs.declared.event.Event.TheVariants as ev
 use Rattle.np_site.specs.Configuration.{Configuration}
-use Rattle.np_useful.specs.Driven.{DrivenBy}
-use Rattle.np_driven.specs.Players.{Player, drivings_of, AreNumbered, WasAnswered, HaveDriven}
+use Rattle.np_driven.specs.Planned.{DrivenAs}
+use Rattle.np_driven.specs.Players.{Player, drivings_of, AreNumbered, WasAnswered, HaveDrivenAs}
 use Rattle.np_worker.specs.declared.worker.RoundEnd.{RoundEnd}
 use Rattle.np_answers.specs.declared.ask.Turn.{Turn}
 use Rattle.np_answers.specs.declared.ask.Turn.TheVariants as turn
@@ -50,13 +50,13 @@ Ticks false old new = (e : Entry) × (e.event ≡ ev.Tick) × (new ≡ old ++ e 
 abbrev pub terms_in : List Player → List Terms
 terms_in players = map terms_of (drivings_of players)
 
--- the players drove the journal; nothing is known of the servers that they have (own)
-pub record WereDriven (c : Configuration) (journal : List Entry) (players : List Player) : Type 0 where
-  pub driven : DrivenBy (WasAnswered (drivings_of players)) c journal
+-- the players drove the journal, with planned events or without; nothing is known of the servers that they have (own)
+pub record WereDriven (plans : Bool) (c : Configuration) (journal : List Entry) (players : List Player) : Type 0 where
+  pub driven : DrivenAs (WasAnswered (drivings_of players)) plans c journal
   pub numbered : AreNumbered 0 players
 
 -- the players drove the journal, and each server that they have was named in it if it has room
 -- (own)
-abbrev pub IsDriven : Configuration → Bool → List Entry → List Player → Type 0
-IsDriven c true journal players = WereDriven c journal players
-IsDriven c false journal players = HaveDriven c journal players
+abbrev pub IsDriven : Bool → Configuration → Bool → List Entry → List Player → Type 0
+IsDriven plans c true journal players = WereDriven plans c journal players
+IsDriven plans c false journal players = HaveDrivenAs plans c journal players

@@ -1,11 +1,11 @@
-//! Workers with what they need to take turns at a desk.
+//! Workers with their passes.
 
-ghost use Rattle.std.specs.Prelude.{◌≡◌, length, map, IfOk};
+ghost use Rattle.std.specs.Prelude.{◌≡◌, false, length, map, IfOk};
 ghost use Rattle.np_desk.specs.Pass.{IsOf};
 ghost use Rattle.np_answers.specs.Drive.{driving};
 ghost use Rattle.np_driven.specs.Players.{drivings_of, AreNumbered};
 ghost use Rattle.np_rounds.specs.Crews.{players_of};
-ghost use Rattle.np_rounds.specs.Plays.{Plays};
+ghost use Rattle.np_rounds.specs.Plays.{CrewPlays};
 
 use np_board::Board;
 use np_cloud::{Driver, Gate};
@@ -18,16 +18,16 @@ use std::sync::Wait;
 
 /// A worker with its pass for a round.
 #[derive(Drop)]
-pub(crate) struct Crew<D> {
-    pub(crate) worker: Worker<D>,
-    pub(crate) pass: Pass<Board>,
+pub struct Crew<D, P> {
+    pub worker: Worker<D>,
+    pub pass: P,
 }
 
 /// A crew after a round, with what the round came to.
 #[derive(Drop)]
-pub(crate) struct CrewEnd<D> {
-    pub(crate) crew: Crew<D>,
-    pub(crate) end: Result<RoundEnd, NoMemory>,
+pub struct CrewEnd<D, P> {
+    pub crew: Crew<D, P>,
+    pub end: Result<RoundEnd, NoMemory>,
 }
 
 /// Lets the crew's worker play a round.
@@ -35,10 +35,10 @@ pub(crate) fn play<R: Wait, D: Driver, G: Gate>(
     rt: &R,
     desk: &Desk<Board>,
     gate: &G,
-    crew: Crew<D>,
-) -> CrewEnd<D>
+    crew: Crew<D, Pass<Board>>,
+) -> CrewEnd<D, Pass<Board>>
     requires own { IsOf crew.pass desk.now }
-    ensures { Plays D.facts D.plan D.sound D.room desk.now crew result }
+    ensures { CrewPlays false D.facts D.plan D.sound D.room desk.now crew result }
 {
     let Crew { mut worker, pass } = crew;
     let mut turns = OnDesk { rt, desk, pass };
@@ -52,7 +52,7 @@ pub(crate) fn play<R: Wait, D: Driver, G: Gate>(
 
 /// The workers of the site, in the reverse of the order in which they are given passes: the
 /// reaper's, one for each requester, and one for each pool with its driver, the first pool last.
-pub(crate) fn workers_of<D: Driver + Drop>(
+pub fn workers_of<D: Driver + Drop>(
     alloc: Global,
     config: &Config,
     mut drivers: Vec<D>,
@@ -81,7 +81,7 @@ pub(crate) fn workers_of<D: Driver + Drop>(
 }
 
 /// The drivers of the pools' workers, in the order of the pools.
-pub(crate) fn drivers_of<D: Driver + Drop>(
+pub fn drivers_of<D: Driver + Drop>(
     alloc: Global,
     mut workers: Vec<Worker<D>>,
 ) -> Result<Vec<D>, NoMemory>

@@ -31,13 +31,13 @@ use np_tables::Tables;
 use np_tree::Tree;
 
 /// A type with these bounds may be moved to other threads, and shared with them.
-fn crosses<T: Send + Sync>()
+pub fn crosses<T: Send + Sync>()
     ensures send { IsSend T.row }
     ensures sync { IsSync T.row }
 {}
 
 /// A type with this bound may be moved to other threads.
-pub(crate) fn sends<T: Send>()
+pub fn sends<T: Send>()
     ensures { IsSend T.row }
 {}
 
@@ -97,7 +97,8 @@ fn requested_crosses()
     crosses::<Open>();
 }
 
-fn index_crosses()
+/// An index may be moved to other threads, and shared with them.
+pub fn index_crosses()
     ensures send { IsSend index.the_row }
     ensures sync { IsSync index.the_row }
 {
@@ -110,7 +111,8 @@ fn index_crosses()
     crosses::<Index>();
 }
 
-fn tables_cross()
+/// Tables may be moved to other threads, and shared with them.
+pub fn tables_cross()
     ensures send { IsSend tables.the_row }
     ensures sync { IsSync tables.the_row }
 {
@@ -118,7 +120,8 @@ fn tables_cross()
     crosses::<Tables>();
 }
 
-fn store_crosses()
+/// A store in a tree may be moved to other threads, and shared with them.
+pub fn store_crosses()
     ensures send { IsSend store.the_row }
     ensures sync { IsSync store.the_row }
 {

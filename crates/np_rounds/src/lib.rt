@@ -10,6 +10,9 @@
 //! np_driven's players, and the journal is one that the workers and their drivers drove. Read
 //! `specs/Crews` for who has which pass, `specs/Plays` for what a worker's round is, `specs/Backs`
 //! for crews that come back, and `specs/Played` for what rounds leave.
+//!
+//! Crews, how passes are handed out and taken back, and what may cross threads serve rounds at other
+//! boards too (np_planned_rounds).
 #![tactic(auto)]
 
 mod crew;
@@ -17,4 +20,7 @@ mod crossing;
 mod round;
 mod rounds;
 
+pub use crew::{Crew, CrewEnd, drivers_of, workers_of};
+pub use crossing::{crosses, index_crosses, sends, store_crosses, tables_cross};
+pub use round::{Together, hand_out, take_back};
 pub use rounds::{Ended, run_rounds};

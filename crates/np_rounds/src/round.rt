@@ -7,7 +7,7 @@ ghost use Rattle.np_answers.specs.Answers.{IsFull};
 ghost use Rattle.np_answers.specs.Legal.{is_legal};
 ghost use Rattle.np_driven.specs.Round.{IsRound};
 ghost use Rattle.np_rounds.specs.Crews.{zeros, split_pass, AreGiven, players_of, crew_players};
-ghost use Rattle.np_rounds.specs.Plays.{Plays, Pairwise};
+ghost use Rattle.np_rounds.specs.Plays.{CrewPlays, Pairwise};
 ghost use Rattle.np_rounds.specs.Backs.{AreBack, TookBack};
 ghost use Rattle.np_rounds.specs.Played.{with_end};
 
@@ -15,7 +15,9 @@ use crate::crew::{Crew, CrewEnd, play};
 use crate::crossing::{board_crosses, sends};
 use np_board::Board;
 use np_cloud::{Driver, Gate};
-use np_desk::{Desk, Pass};
+use np_config::Config;
+use np_desk::{Desk, Pass, SeqObject};
+use np_event::Entry;
 use np_text::NoMemory;
 use np_worker::{RoundEnd, Worker};
 use std::alloc::Global;
@@ -24,20 +26,20 @@ use std::thread::{self, Threads};
 
 /// What a round of all workers came to.
 #[derive(Clone, Copy, Debug, PartialEq, Eq)]
-pub(crate) struct Together {
+pub struct Together {
     /// Whether a worker made an entry.
-    pub(crate) moved: bool,
+    pub moved: bool,
     /// Whether a worker's round ended because the journal has no room.
-    pub(crate) full: bool,
+    pub full: bool,
 }
 
 /// Gives each worker a pass, the last worker first.
-fn hand_out<D: Driver + Drop>(
+pub fn hand_out<M: SeqObject<Entry = Entry, Fixed = Config>, D: Driver + Drop>(
     alloc: Global,
-    desk: &Desk<Board>,
-    pass: &mut Pass<Board>,
+    desk: &Desk<M>,
+    pass: &mut Pass<M>,
     workers: &mut Vec<Worker<D>>,
-) -> Result<Vec<Crew<D>>, NoMemory>
+) -> Result<Vec<Crew<D, Pass<M>>>, NoMemory>
     requires own { IsOf pass.old desk.now }
     requires whole { IsWhole pass.old.part }
     ensures pass { IfOk result (λ v. pass.new ≡ split_pass (length v.items) pass.old) }
@@ -63,10 +65,10 @@ fn play_all<R: Threads + Wait + Sync, D: Driver + Send + Drop, G: Gate + Sync>(
     rt: &R,
     desk: &Desk<Board>,
     gate: &G,
-    crews: Vec<Crew<D>>,
-) -> Result<Vec<CrewEnd<D>>, NoMemory>
+    crews: Vec<Crew<D, Pass<Board>>>,
+) -> Result<Vec<CrewEnd<D, Pass<Board>>>, NoMemory>
     requires own { All (λ crew. IsOf crew.pass desk.now) crews.items }
-    ensures { IfOk result (λ v. Pairwise (Plays D.facts D.plan D.sound D.room desk.now)
+    ensures { IfOk result (λ v. Pairwise (CrewPlays false D.facts D.plan D.sound D.room desk.now)
         crews.items v.items) }
 {
     board_crosses();
@@ -75,9 +77,9 @@ fn play_all<R: Threads + Wait + Sync, D: Driver + Send + Drop, G: Gate + Sync>(
     let ends = thread::map_vec(
         rt,
         crews,
-        &|crew: Crew<D>| -> CrewEnd<D>
+        &|crew: Crew<D, Pass<Board>>| -> CrewEnd<D, Pass<Board>>
             requires { IsOf crew.pass desk.now }
-            ensures { Plays D.facts D.plan D.sound D.room desk.entry.now crew result }
+            ensures { CrewPlays false D.facts D.plan D.sound D.room desk.entry.now crew result }
         { play(rt, desk, gate, crew) },
     )?;
     Ok(ends)
@@ -95,11 +97,11 @@ fn with_end(sum: Together, end: Result<RoundEnd, NoMemory>) -> Result<Together, 
 }
 
 /// Takes the passes back, the last that was given first.
-fn take_back<D: Driver + Drop>(
-    desk: &Desk<Board>,
-    pass: &mut Pass<Board>,
+pub fn take_back<M: SeqObject<Entry = Entry, Fixed = Config>, D: Driver + Drop>(
+    desk: &Desk<M>,
+    pass: &mut Pass<M>,
     workers: &mut Vec<Worker<D>>,
-    mut ends: Vec<CrewEnd<D>>,
+    mut ends: Vec<CrewEnd<D, Pass<M>>>,
 ) -> Result<Together, NoMemory>
     requires own { IsOf pass.old desk.now }
     requires part { pass.old.part ≡ zeros (length ends.items) ∷ [] }
@@ -144,7 +146,7 @@ pub(crate) fn play_round<R: Threads + Wait + Sync, D: Driver + Send + Drop, G: G
     ensures moved { IfOk result (λ t. t.moved ≡ true →
         length pass.old.seen < length pass.new.seen) }
     ensures legal { IfOk result (λ _. is_legal desk.now.origin.fixed pass.new.seen ≡ true) }
-    ensures round { IfOk result (λ t. IsRound desk.now.origin.fixed pass.old.seen pass.new.seen
+    ensures round { IfOk result (λ t. IsRound false desk.now.origin.fixed pass.old.seen pass.new.seen
         (players_of D.facts D.plan D.sound D.room workers.old.items)
         (players_of D.facts D.plan D.sound D.room workers.new.items) t.full) }
 {

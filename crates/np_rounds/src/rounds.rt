@@ -7,8 +7,8 @@ ghost use Rattle.np_useful.specs.Settled.{IsSettled};
 ghost use Rattle.np_answers.specs.Drive.{driving};
 ghost use Rattle.np_useful.specs.Driven.{DrivenBy};
 ghost use Rattle.np_driven.specs.Players.{WasAnswered, HaveDriven};
-ghost use Rattle.np_hosts.specs.Carried.{AreCarried, BeginsEmpty, BeginsNew, FailOnlyFull};
-ghost use Rattle.np_hosts.specs.Hosting.{Earlier, HaveHosted, IsHosted};
+ghost use Rattle.np_driven.specs.Carried.{AreCarried, BeginsEmpty, BeginsNew, FailOnlyFull};
+ghost use Rattle.np_driven.specs.Hosting.{Earlier, HaveHosted, IsHosted};
 ghost use Rattle.np_rounds.specs.Crews.{players_of};
 ghost use Rattle.np_rounds.specs.Played.{
   EndsWithTick,
@@ -86,9 +86,9 @@ fn play_at<R: Threads + Wait + Sync, D: Driver + Send + Drop, G: Gate + Sync>(
         terms_in (players_of D.facts D.plan D.sound D.room workers.new.items)
         ≡ terms_in (players_of D.facts D.plan D.sound D.room workers.old.items)) }
     ensures driven { IfOk result (λ full. let c = desk.now.origin.fixed in
-        HaveDriven c pass.old.seen (players_of D.facts D.plan D.sound D.room workers.old.items) →
-        IsDriven c full pass.new.seen
-        (players_of D.facts D.plan D.sound D.room workers.new.items)) }
+        let before = players_of D.facts D.plan D.sound D.room workers.old.items in
+        let now = players_of D.facts D.plan D.sound D.room workers.new.items in
+        HaveDriven c pass.old.seen before → IsDriven false c full pass.new.seen now) }
     ensures hosted { IfOk result (λ full. let c = desk.now.origin.fixed in
         let before = players_of D.facts D.plan D.sound D.room workers.old.items in
         let now = players_of D.facts D.plan D.sound D.room workers.new.items in
@@ -125,8 +125,10 @@ fn play_board<R: Threads + Wait + Sync, D: Driver + Send + Drop, G: Gate + Sync>
         terms_in (players_of D.facts D.plan D.sound D.room workers.new.items)
         ≡ terms_in (players_of D.facts D.plan D.sound D.room workers.old.items)) }
     ensures driven { IfOk result (λ r. let c = board.configuration in
-        HaveDriven c board.journal (players_of D.facts D.plan D.sound D.room workers.old.items) →
-        IsDriven c r.1 r.0.journal (players_of D.facts D.plan D.sound D.room workers.new.items)) }
+        let before = players_of D.facts D.plan D.sound D.room workers.old.items in
+        let now = players_of D.facts D.plan D.sound D.room workers.new.items in
+        HaveDriven c board.journal before →
+        IsDriven false c r.1 r.0.journal now) }
     ensures hosted { IfOk result (λ r. let c = board.configuration in
         let before = players_of D.facts D.plan D.sound D.room workers.old.items in
         let now = players_of D.facts D.plan D.sound D.room workers.new.items in
@@ -140,6 +142,44 @@ fn play_board<R: Threads + Wait + Sync, D: Driver + Send + Drop, G: Gate + Sync>
     let full = play_at(rt, alloc, &desk, &mut pass, workers, gate)?;
     pass.know();
     Ok((desk.close(pass), full))
+}
+
+/// Plays rounds from the board on until one makes no entry and the site is settled, or the journal
+/// has no room, and returns the board with whether it has none.
+fn play_site<R: Threads + Wait + Sync, D: Driver + Send + Drop, G: Gate + Sync>(
+    rt: &R,
+    alloc: Global,
+    mut board: Board,
+    workers: &mut Vec<Worker<D>>,
+    gate: &G,
+) -> Result<(Board, bool), NoMemory>
+    requires rested { IsRested board.journal }
+    ensures configuration { IfOk result (λ r. r.0.configuration ≡ board.configuration) }
+    ensures stops { IfOk result (λ r. Stops r.1 r.0.journal) }
+    ensures settled { IfOk result (λ r. r.1 ≡ false →
+        IsSettled r.0.configuration r.0.state) }
+    ensures terms { IfOk result (λ _.
+        terms_in (players_of D.facts D.plan D.sound D.room workers.new.items)
+        ≡ terms_in (players_of D.facts D.plan D.sound D.room workers.old.items)) }
+    ensures driven { IfOk result (λ r. let c = board.configuration in
+        let before = players_of D.facts D.plan D.sound D.room workers.old.items in
+        let now = players_of D.facts D.plan D.sound D.room workers.new.items in
+        HaveDriven c board.journal before →
+        IsDriven false c r.1 r.0.journal now) }
+    ensures hosted { IfOk result (λ r. let c = board.configuration in
+        let before = players_of D.facts D.plan D.sound D.room workers.old.items in
+        let now = players_of D.facts D.plan D.sound D.room workers.new.items in
+        (earlier : Earlier) → HaveHosted earlier c board.journal before →
+        IsHosted earlier c r.1 r.0.journal now) }
+{
+    for _ in rt.forever() {
+        let (played, full) = play_board(rt, alloc, board, workers, gate)?;
+        if full || played.settled() {
+            return Ok((played, full));
+        }
+        board = played;
+    }
+    unreachable!()
 }
 
 /// Plays the site to its end: rounds of all workers, each with an entry followed by a tick. It ends
@@ -174,19 +214,13 @@ pub fn run_rounds<R: Threads + Wait + Sync, D: Driver + Send + Drop, G: Gate + S
 {
     config.soundness();
     let mut workers = workers_of(alloc, &config, drivers)?;
-    let mut board = Board::new(alloc, config)?;
-    for _ in rt.forever() {
-        let (played, full) = play_board(rt, alloc, board, &mut workers, gate)?;
-        board = played;
-        if full || board.settled() {
-            board.soundness();
-            let drivers = drivers_of(alloc, workers)?;
-            return Ok(Ended {
-                board,
-                full,
-                drivers,
-            });
-        }
-    }
-    unreachable!()
+    let board = Board::new(alloc, config)?;
+    let (played, full) = play_site(rt, alloc, board, &mut workers, gate)?;
+    played.soundness();
+    let drivers = drivers_of(alloc, workers)?;
+    Ok(Ended {
+        board: played,
+        full,
+        drivers,
+    })
 }

@@ -24,9 +24,9 @@ use Rattle.np_cloud.specs.Sim.{Simulation, simulated_outcome}
 use Rattle.np_answers.specs.Drive.{Driving, driving}
 use Rattle.np_driven.specs.Players.{WasAnswered, launch_of}
 use Rattle.np_driven.proofs.Places.{driven-more}
-use Rattle.np_hosts.specs.Carried.{AreCarried, BeginsNew, FailOnlyFull, NeverRepeats}
-use Rattle.np_hosts.specs.Nodes.{servers_up}
-use Rattle.np_hosts.specs.Reports.{AreAloneSound, FailAfter, number_in, numbers_in, reports_of}
+use Rattle.np_driven.specs.Carried.{AreCarried, BeginsNew, FailOnlyFull, NeverRepeats}
+use Rattle.np_driven.specs.Nodes.{servers_up}
+use Rattle.np_driven.specs.Reports.{AreAloneSound, FailAfter, number_in, numbers_in, reports_of}
 use Rattle.np_static.specs.declared.driver.HostDriver.{HostDriver}
 use Rattle.np_static.specs.declared.site.SiteDriver.{SiteDriver}
 use Rattle.np_static.specs.declared.site.SiteDriver.TheVariants as driver

@@ -15,7 +15,7 @@ use Rattle.np_cloud.specs.Facts.{DriverFacts}
 use Rattle.np_cloud.specs.Sim.{Simulation, simulation_of, simulation_facts, simulation_plan}
 use Rattle.np_cloud.specs.Clouds.{ArePlanned, simulations}
 use Rattle.np_cloud.proofs.CloudLemmas.{simulations-planned}
-use Rattle.np_hosts.specs.Carried.{BeginsEmpty, BeginsNew}
+use Rattle.np_driven.specs.Carried.{BeginsEmpty, BeginsNew}
 use Rattle.np_answers.specs.Drive.{Driving, driving}
 use Rattle.np_driven.specs.Players.{WasAnswered}
 use Rattle.np_driven.proofs.Plans.{planned-driven}

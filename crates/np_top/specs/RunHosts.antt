@@ -8,8 +8,8 @@ use Rattle.np_event.specs.declared.event.Event.TheVariants as ev
 use Rattle.np_machine.specs.Plan.{outcome_of}
 use Rattle.np_machine.specs.History.{after}
 use Rattle.np_useful.specs.Driven.{Says, DrivenBy}
-use Rattle.np_hosts.specs.Nodes.{servers_up}
-use Rattle.np_hosts.specs.Reports.{AreAloneSound, FailAfter, reports_of}
+use Rattle.np_driven.specs.Nodes.{servers_up}
+use Rattle.np_driven.specs.Reports.{AreAloneSound, FailAfter, reports_of}
 use Rattle.np_static.specs.Hosting.{Hosting}
 use Rattle.np_static.specs.Loads.{is_sound}
 use Rattle.np_static.specs.Site.{Site, simulated, hosted}

@@ -6,7 +6,7 @@ ghost use Rattle.np_event_lines.specs.Line.{HasEventLine};
 ghost use Rattle.np_answers.specs.Drive.{driving};
 ghost use Rattle.np_driven.specs.Players.{WasAnswered};
 ghost use Rattle.np_useful.specs.Driven.{Driven, DrivenBy};
-ghost use Rattle.np_hosts.specs.Carried.{AreCarried, BeginsNew, FailOnlyFull};
+ghost use Rattle.np_driven.specs.Carried.{AreCarried, BeginsNew, FailOnlyFull};
 ghost use Rattle.np_static.specs.Hosted.{HasHostLines, hosted_view};
 ghost use Rattle.np_top.specs.Play.{HasEnded};
 ghost use Rattle.np_top.specs.RunHosts.{IsDrivenWithHosts};

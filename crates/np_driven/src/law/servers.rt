@@ -1,15 +1,15 @@
 //! The servers of a pool's driver.
 
-ghost use Rattle.std.specs.Prelude.{◌≡◌, ◌⊎◌, List, All, Contains};
+ghost use Rattle.std.specs.Prelude.{Bool, ◌≡◌, ◌⊎◌, List, All, Contains};
 ghost use Rattle.np_text.specs.declared.id.PoolId.{PoolId};
 ghost use Rattle.np_site.specs.Configuration.{Configuration};
 ghost use Rattle.np_event.specs.declared.entry.Entry.{Entry};
 ghost use Rattle.np_cloud.specs.declared.driver.Server.{Server};
-ghost use Rattle.np_useful.specs.Driven.{DrivenBy};
 ghost use Rattle.np_answers.specs.Drive.{Driving};
 ghost use Rattle.np_answers.specs.Move.{Move};
 ghost use Rattle.np_answers.specs.Phase.{ended, of_pool};
 ghost use Rattle.np_answers.specs.Trace.{WasKept};
+ghost use Rattle.np_driven.specs.Planned.{DrivenAs};
 ghost use Rattle.np_driven.specs.Players.{Player, WasAnswered};
 ghost use Rattle.np_driven.specs.Round.{PlayerEnd, PlaysFrom};
 ghost use Rattle.np_driven.specs.Servers.{HasServers, IsOfRound, IsOnlyNodeOfItsNumber, IsOnlyOfItsNumber, IsSweptAfter, KeepsJanitor, LeftWithCause, StaysKept, WasDue, WasUnwanted};
@@ -20,8 +20,8 @@ ghost use Rattle.np_driven.specs.Servers.{HasServers, IsOfRound, IsOnlyNodeOfIts
 /// after all that was seen. If no other server of the round has its number, it is itself swept; if
 /// no other node of the pool has a server of that number, the node is its own.
 pub fn servers_leave_with_a_cause()
-    ensures cause { (c : Configuration) (history : List Entry) (player : Player) (end : PlayerEnd)
-        (pool : PoolId) (before now : List Server) (plays : PlaysFrom c history player end) →
+    ensures cause { (plans : Bool) (c : Configuration) (history : List Entry) (player : Player) (end : PlayerEnd)
+        (pool : PoolId) (before now : List Server) (plays : PlaysFrom plans c history player end) →
         player.work ≡ of_pool pool → HasServers player before → HasServers end.player now →
         (server : Server) → IsOfRound plays.trace before server → ¬ (Contains now server) →
         LeftWithCause c history end.sight.seen pool plays.trace before server }
@@ -39,8 +39,8 @@ pub fn servers_leave_with_a_cause()
 /// a time of the round at which the board keeps it, and from then on the round made no entries but
 /// sweeps.
 pub fn servers_stay_where_they_are_kept()
-    ensures { (c : Configuration) (history : List Entry) (player : Player) (end : PlayerEnd)
-        (pool : PoolId) (servers : List Server) (plays : PlaysFrom c history player end) →
+    ensures { (plans : Bool) (c : Configuration) (history : List Entry) (player : Player) (end : PlayerEnd)
+        (pool : PoolId) (servers : List Server) (plays : PlaysFrom plans c history player end) →
         ¬ (end.phase ≡ ended) → All (WasKept pool plays.trace) servers →
         All (StaysKept c history end.sight pool) servers }
 {}
@@ -50,10 +50,10 @@ pub fn servers_stay_where_they_are_kept()
 /// pool had no janitor at some time of the round. So a server whose removal failed after its sweep
 /// is gone after the next such round.
 pub fn unwanted_servers_go_in_a_whole_round()
-    ensures { (c : Configuration) (drivings : List Driving) (history : List Entry)
+    ensures { (plans : Bool) (c : Configuration) (drivings : List Driving) (history : List Entry)
         (player : Player) (end : PlayerEnd) (pool : PoolId) (servers : List Server)
-        (plays : PlaysFrom c history player end) →
-        DrivenBy (WasAnswered drivings) c history →
+        (plays : PlaysFrom plans c history player end) →
+        DrivenAs (WasAnswered drivings) plans c history →
         ¬ (end.phase ≡ ended) → All (WasKept pool plays.trace) servers →
         KeepsJanitor c history end.sight.seen pool →
         (server : Server) → WasUnwanted c history server → ¬ (Contains servers server) }

@@ -17,7 +17,7 @@ crosses-requires-2-send-T c κs = record {
           c.tables_cross.ensures.send.owned inside.0.tables parts.1.0,
           (
             c.index_crosses.ensures.send.owned inside.0.index parts.1.1.0,
-            (c.crosses.ensures.send.owned inside.0.journal parts.1.1.1.0, (c.store_crosses.ensures.send.owned inside.0.store parts.1.1.1.1.0, tt)),
+            (search rules, (c.crosses.ensures.send.owned inside.0.journal parts.1.1.1.1.0, (c.store_crosses.ensures.send.owned inside.0.store parts.1.1.1.1.1.0, tt))),
           ),
         ),
       ),
@@ -37,7 +37,7 @@ crosses-requires-2-sync-T c κs = record {
           c.tables_cross.ensures.sync.shared inside.0.tables b (o + 0) κ,
           (
             c.index_crosses.ensures.sync.shared inside.0.index b (o + 528) κ,
-            (c.crosses.ensures.sync.shared inside.0.journal b (o + 888) κ, (c.store_crosses.ensures.sync.shared inside.0.store b (o + 912) κ, tt)),
+            (search rules, (c.crosses.ensures.sync.shared inside.0.journal b (o + 920) κ, (c.store_crosses.ensures.sync.shared inside.0.store b (o + 944) κ, tt))),
           ),
         ),
       ),

@@ -4,7 +4,7 @@ use Rattle.np_site.specs.Configuration.{Configuration}
 use Rattle.np_desk.specs.Part.{first_half, second_half}
 use Rattle.np_desk.specs.Pass.{PassView}
 use Rattle.np_rounds.specs.declared.crew.Crew.{Crew}
-use Rattle.np_rounds.specs.Crews.{split_pass, given_pass, AreGiven}
+use Rattle.np_rounds.specs.Crews.{Seat, split_pass, given_pass, AreGiven}
 use Rattle.np_rounds.proofs.Lists.{given_more}
 use Rattle.np_rounds.proofs.Players.{handed}
 use Rattle.np_rounds.proofs.round.hand_out.Goals as goal
@@ -13,7 +13,7 @@ pub loop-worker-preserved : goal.loop-worker-preserved
 loop-worker-preserved g c =
     let before = c.loop-worker.invariant in let p = c.args.pass.now in
     let crews = c.loop-worker.crews.items in let n = length crews in
-    let crew : Crew g.row.D.Denot = record { worker = c.in-Some.worker; pass = c.split-given.result } in
+    let crew : Crew g.row.D.Denot Seat = record { worker = c.in-Some.worker; pass = c.split-given.result } in
     let more : c.push.new.self.items ≡ crews ++ crew ∷ [] = c.in_ok-push.ensures.items in
     let count : length c.push.new.self.items ≡ suc n = omega (arith, ap length more, length-append crews (crew ∷ [])) in
     let kept = c.split-given.ensures.kept in

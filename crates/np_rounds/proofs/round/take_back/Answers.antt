@@ -1,7 +1,7 @@
 use Rattle.std.proofs.Common.{◌≡◌, ℕ, List, [], ◌∷◌, ◌++◌, suc, ◌+◌, length, length-append, ap, ◌∙◌, subst, sym, arith, append-nil, append_assoc}
 use Rattle.np_desk.specs.Part.{second_half}
 use Rattle.np_rounds.specs.declared.crew.CrewEnd.{CrewEnd}
-use Rattle.np_rounds.specs.Crews.{zeros}
+use Rattle.np_rounds.specs.Crews.{Seat, zeros}
 use Rattle.np_rounds.specs.Backs.{AreBack}
 use Rattle.np_rounds.proofs.Lists.{back_less}
 use Rattle.np_rounds.proofs.Taken.{took_none, took_more}
@@ -30,7 +30,7 @@ loop-last-preserved g c =
       part = join.back (zeros (length rest)) (before.part ∙ ap (λ (n : ℕ). zeros n ∷ []) count) (cut.1.part ∙ ap (λ (n : ℕ). second_half (zeros n ∷ [])) same);
       back = cut.0;
       came = last ∷ before.came;
-      all = before.all ∙ (ap (λ (l : List (CrewEnd g.row.D.Denot)). l ++ before.came) is ∙ append_assoc rest (last ∷ []) before.came);
+      all = before.all ∙ (ap (λ (l : List (CrewEnd g.row.D.Denot Seat)). l ++ before.came) is ∙ append_assoc rest (last ∷ []) before.came);
       took = took_more g.D.Driver.facts g.D.Driver.plan g.D.Driver.sound g.D.Driver.room desk (0 + length rest) c.args.pass.now old new c.args.workers.now.items c.loop-last.workers.items c.push.new.self.items
           c.loop-last.sum c.in_ok-sum.sum before.came last before.took cut.1 join.seen join.told join.mine c.in_ok-sum.ensures c.in_ok-push.ensures.items;
     }

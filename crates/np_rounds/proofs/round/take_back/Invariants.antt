@@ -1,7 +1,7 @@
 use Rattle.std.proofs.Common.{◌≡◌, List, [], ◌∷◌, ◌++◌, length}
 use Rattle.np_desk.specs.Pass.{IsOf}
 use Rattle.np_rounds.specs.declared.crew.CrewEnd.{CrewEnd}
-use Rattle.np_rounds.specs.Crews.{zeros}
+use Rattle.np_rounds.specs.Crews.{Seat, zeros}
 use Rattle.np_rounds.specs.Backs.{AreBack, TookBack}
 use Rattle.np_rounds.proofs.round.take_back.Given as goal
 
@@ -10,7 +10,7 @@ invariant-loop-last g l = record {
   own : IsOf l.pass l.desk;
   part : l.pass.part ≡ zeros (length l.ends.items) ∷ [];
   back : AreBack l.desk 0 l.ends.items;
-  came : List (CrewEnd g.row.D.Denot);
+  came : List (CrewEnd g.row.D.Denot Seat);
   all : l.fn.ends.items ≡ l.ends.items ++ came;
   took : TookBack g.D.Driver.facts g.D.Driver.plan g.D.Driver.sound g.D.Driver.room l.initial.pass l.pass l.initial.workers.items l.workers.items l.sum came;
 }

@@ -1,8 +1,8 @@
-use Rattle.std.proofs.Common.{◌≡◌}
+use Rattle.std.proofs.Common.{◌≡◌, false}
 use Rattle.np_desk.specs.Part.{IsWhole}
 use Rattle.np_desk.specs.Pass.{IsOf}
-use Rattle.np_driven.specs.Players.{HaveDriven}
-use Rattle.np_hosts.specs.Hosting.{Earlier, HaveHosted}
+use Rattle.np_driven.specs.Players.{HaveDrivenAs}
+use Rattle.np_driven.specs.Hosting.{Earlier, HaveHosted}
 use Rattle.np_rounds.specs.Crews.{players_of}
 use Rattle.np_rounds.specs.Played.{IsRested, terms_in}
 use Rattle.np_rounds.proofs.rounds.play_at.Given as goal
@@ -13,6 +13,6 @@ invariant-loop g l = let before = players_of g.D.Driver.facts g.D.Driver.plan g.
   whole : IsWhole l.pass.part;
   rested : IsRested l.pass.seen;
   terms : terms_in now ≡ terms_in before;
-  driven : HaveDriven l.desk.origin.fixed l.initial.pass.seen before → HaveDriven l.desk.origin.fixed l.pass.seen now;
+  driven : HaveDrivenAs false l.desk.origin.fixed l.initial.pass.seen before → HaveDrivenAs false l.desk.origin.fixed l.pass.seen now;
   hosted : (earlier : Earlier) → HaveHosted earlier l.desk.origin.fixed l.initial.pass.seen before → HaveHosted earlier l.desk.origin.fixed l.pass.seen now;
 }

@@ -1,9 +1,9 @@
-use Rattle.std.proofs.Common.{List, ap, subst, sym}
+use Rattle.std.proofs.Common.{false, List, ap, subst, sym}
 use Rattle.np_event.specs.declared.entry.Entry.{Entry}
 use Rattle.np_site.specs.Configuration.{Configuration}
 use Rattle.np_answers.proofs.LegalLemmas.{Runs-legal}
-use Rattle.np_driven.specs.Players.{HaveDriven}
-use Rattle.np_hosts.specs.Hosting.{HaveHosted, IsHosted}
+use Rattle.np_driven.specs.Players.{HaveDrivenAs}
+use Rattle.np_driven.specs.Hosting.{HaveHosted, IsHosted}
 use Rattle.np_rounds.specs.Crews.{players_of}
 use Rattle.np_rounds.specs.Played.{IsDriven, Stops}
 use Rattle.np_rounds.proofs.OneRound.{closed_seen}
@@ -25,11 +25,11 @@ returns-clause-driven g c = λ had.
     let site = ap (λ o. o.fixed) c.in-Ok.ensures.desk in
     let before = players_of g.D.Driver.facts g.D.Driver.plan g.D.Driver.sound g.D.Driver.room c.args.workers.now.items in
     let now = players_of g.D.Driver.facts g.D.Driver.plan g.D.Driver.sound g.D.Driver.room c.play_at.new.workers.items in
-    subst (λ (d : Configuration). IsDriven d c.in_ok-full.full c.close.result.journal now) site
-    (subst (λ (j : List Entry). IsDriven c.in-Ok.desk.origin.fixed c.in_ok-full.full j now) (sym is)
+    subst (λ (d : Configuration). IsDriven false d c.in_ok-full.full c.close.result.journal now) site
+    (subst (λ (j : List Entry). IsDriven false c.in-Ok.desk.origin.fixed c.in_ok-full.full j now) (sym is)
     (c.in_ok-full.ensures.driven
-    (subst (λ (j : List Entry). HaveDriven c.in-Ok.desk.origin.fixed j before) (sym c.in-Ok.ensures.seen.0)
-    (subst (λ (d : Configuration). HaveDriven d c.args.board.journal before) (sym site) had))))
+    (subst (λ (j : List Entry). HaveDrivenAs false c.in-Ok.desk.origin.fixed j before) (sym c.in-Ok.ensures.seen.0)
+    (subst (λ (d : Configuration). HaveDrivenAs false d c.args.board.journal before) (sym site) had))))
 
 pub returns-clause-hosted : goal.returns-clause-hosted
 returns-clause-hosted g c = λ earlier had.

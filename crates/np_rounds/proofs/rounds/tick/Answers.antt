@@ -1,4 +1,4 @@
-use Rattle.std.proofs.Common.{◌∙◌, subst, sym}
+use Rattle.std.proofs.Common.{◌∙◌, false, subst, sym}
 use Rattle.np_event.specs.declared.event.Event.TheVariants as ev
 use Rattle.np_desk.specs.Pass.{sight_of}
 use Rattle.np_answers.specs.declared.ask.Ask.TheVariants as ask
@@ -17,5 +17,5 @@ returns-clause-ticks g c = subst (λ b. Ticks b c.args.pass.now.seen c.turn.new.
     (whole_ticks c.args.desk.now c.args.pass.now c.turn.new.self c.in_ok-turn.turn
     (knows c.args.desk.now c.args.pass.now c.turn.new.self c.requires.own c.know.ensures.rising c.know.ensures.begins (c.know.ensures.whole c.requires.whole)
     (c.in_ok-turn.ensures.whole (c.in_ok-turn.ensures.part ∙ c.requires.whole))
-    (grows_turn c.args.desk.now.origin.fixed (sight_of c.args.pass.now) (sight_of c.turn.new.self) (ask.Do ev.Tick) c.in_ok-turn.turn c.in_ok-turn.ensures.turn))
+    (grows_turn false c.args.desk.now.origin.fixed (sight_of c.args.pass.now) (sight_of c.turn.new.self) (ask.Do ev.Tick) c.in_ok-turn.turn c.in_ok-turn.ensures.turn))
     c.in_ok-turn.ensures.turn)

@@ -9,23 +9,23 @@ use Rattle.np_top.proofs.running.ending_at.Goals as goal
 
 pub text-requires-clause-runs : goal.text-requires-clause-runs
 text-requires-clause-runs c =
-    rows_runs c.args.board.now (ran_of c.machine.result.now) c.machine.ensures _ _ c.rows-rows.ensures.site c.rows-rows.ensures.state
+    rows_runs c.args.board.now (ran_of c.machine.result.now) c.machine.ensures.same _ _ c.rows-rows.ensures.site c.rows-rows.ensures.state
     c.journal.result.now c.journal.ensures c.soundness.ensures.runs
 
 pub status_of-requires : goal.status_of-requires
 status_of-requires c =
     let board = c.args.board.now in let machine = ran_of c.machine.result.now in
-    let printed = rows_printed board machine c.machine.ensures _ _ c.rows-rows.ensures.site c.rows-rows.ensures.state
+    let printed = rows_printed board machine c.machine.ensures.same _ _ c.rows-rows.ensures.site c.rows-rows.ensures.state
     c.journal.result.now c.in_ok-text.text.items c.journal.ensures c.in_ok-text.ensures in
     record {
-      jobs = rows_jobs board machine c.machine.ensures _ _ c.rows-rows.ensures.site c.rows-rows.ensures.state
+      jobs = rows_jobs board machine c.machine.ensures.same _ _ c.rows-rows.ensures.site c.rows-rows.ensures.state
           (jobs-Runs board.configuration board.journal board.state printed.sound c.soundness.ensures.runs);
     }
 
 pub returns-then-full : goal.returns-then-full
 returns-then-full c =
     let board = c.args.board.now in let text = c.in_ok-text.text.items in
-    let printed = rows_printed board (ran_of c.machine.result.now) c.machine.ensures _ _ c.rows-rows.ensures.site c.rows-rows.ensures.state
+    let printed = rows_printed board (ran_of c.machine.result.now) c.machine.ensures.same _ _ c.rows-rows.ensures.site c.rows-rows.ensures.state
     c.journal.result.now text c.journal.ensures c.in_ok-text.ensures in
     played_to board.configuration board.configuration board.journal board.state refl c.soundness.ensures.runs text true
     printed (ended_is board.configuration board.journal c.args.full true c.if-full.true c.requires.ended)
@@ -33,9 +33,9 @@ returns-then-full c =
 pub returns : goal.returns
 returns c =
     let board = c.args.board.now in let machine = ran_of c.machine.result.now in let text = c.in_ok-text.text.items in
-    let printed = rows_printed board machine c.machine.ensures _ _ c.rows-rows.ensures.site c.rows-rows.ensures.state
+    let printed = rows_printed board machine c.machine.ensures.same _ _ c.rows-rows.ensures.site c.rows-rows.ensures.state
     c.journal.result.now text c.journal.ensures c.in_ok-text.ensures in
-    let state = rows_state board machine c.machine.ensures _ _ c.rows-rows.ensures.site c.rows-rows.ensures.state in (
+    let state = rows_state board machine c.machine.ensures.same _ _ c.rows-rows.ensures.site c.rows-rows.ensures.state in (
       played_to board.configuration board.configuration board.journal board.state refl c.soundness.ensures.runs text false
           printed (ended_is board.configuration board.journal c.args.full false c.if-full.false c.requires.ended),
       status_then board.configuration board.configuration board.journal board.state refl c.soundness.ensures.runs c.status_of.result

@@ -1,4 +1,0 @@
-pub mod Nodes
-pub mod Reports
-pub mod Carried
-pub mod Hosting
