@@ -4,8 +4,10 @@
 ghost use Rattle.np_fits.specs.Fits.{Fits};
 
 use np_board::Board;
+use np_keeper::TreeStore;
 use np_look::{Look, Rows, Scan, UnheldKind};
 use np_readers::TreeRows;
+use np_rules::Machine;
 use np_text::{LabelId, NodeId, PoolId, RequesterId, Role, SessionId, TenantId};
 
 const POOL: PoolId = PoolId(0);
@@ -126,11 +128,15 @@ fn are_equal<A: Look, B: Look>(one: &A, other: &B) -> bool
         && have_equal_room(one, other, 1)
 }
 
-/// Whether the board's machine answers as a walk of its rows does.
-pub fn answers_as_a_walk_does(board: &Board) -> bool {
-    let machine = board.machine();
+/// Whether the machine answers as a walk of its rows does.
+pub fn answers_as_its_rows_do(machine: &Machine<TreeStore>) -> bool {
     machine.soundness();
     are_equal(machine, &Scan::over(machine.rows()))
+}
+
+/// Whether the board's machine answers as a walk of its rows does.
+pub fn answers_as_a_walk_does(board: &Board) -> bool {
+    answers_as_its_rows_do(board.machine())
 }
 
 /// Whether the board's machine answers as a walk of its tree does.

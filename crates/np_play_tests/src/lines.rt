@@ -2,8 +2,8 @@
 
 use np_config::Config;
 use np_config_read::read_config;
-use np_event::Entry;
-use np_event_lines::{entry_has_line, put_entry};
+use np_event::{Entry, Event};
+use np_event_lines::{entry_has_line, event_has_line, put_entry, put_event};
 use std::alloc::Global;
 
 /// The configuration, or none if the text has a fault.
@@ -42,4 +42,12 @@ pub fn have_equal_lines(alloc: Global, one: &[Entry], other: &[Entry]) -> bool {
 pub fn is_line(alloc: Global, entry: Entry, line: &str) -> bool {
     let mut text = Vec::new(alloc);
     put_line(&mut text, entry) && text.as_slice() == line.as_bytes()
+}
+
+/// Whether this is the line of the event.
+pub fn is_event_line(alloc: Global, event: Event, line: &str) -> bool {
+    let mut text = Vec::new(alloc);
+    event_has_line(event)
+        && put_event(&mut text, event).is_ok()
+        && text.as_slice() == line.as_bytes()
 }

@@ -4,6 +4,7 @@
 use crate::bare::Bare;
 use crate::index::{answers_as_a_walk_does, answers_as_its_tree_does};
 use crate::lines::{config_of, have_equal_lines};
+use crate::restored::goes_on_from;
 use np_answers::Turn;
 use np_board::Board;
 use np_event::{Done, Entry, Event, Reply};
@@ -210,7 +211,7 @@ pub fn new_board(alloc: Global, site: &str) -> Option<Board> {
 }
 
 /// Whether the site, played at its new board, comes to the end that it says, and all give the same
-/// journal.
+/// journal, also a machine that is read back from its tree after a quarter of it.
 fn is_played_at(alloc: Global, board: &mut Board, site: &Site) -> bool {
     !is_at_rest(board)
         && play(board)
@@ -218,6 +219,7 @@ fn is_played_at(alloc: Global, board: &mut Board, site: &Site) -> bool {
         && ends_as(board, site)
         && is_journal_of_tables(alloc, site.text, board.journal())
         && is_journal_of_tree(alloc, site.text, board.journal())
+        && goes_on_from(alloc, site.text, board, board.journal().len() / 4)
 }
 
 /// Whether the site comes to the end that it says, and all give the same journal.

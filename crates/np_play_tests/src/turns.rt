@@ -98,7 +98,7 @@ const SCRIPTS: [(&str, &str, &[(Option<Ask>, &str)]); 2] = [
 ];
 
 /// Whether the turn is as the text says.
-fn is_told(alloc: Global, turn: Turn, text: &str) -> bool {
+pub fn is_told(alloc: Global, turn: Turn, text: &str) -> bool {
     match turn {
         Turn::Did(entry) => is_line(alloc, entry, text),
         Turn::DueNode { node, server } => {
