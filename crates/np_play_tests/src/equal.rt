@@ -19,17 +19,19 @@ fn have_equal_numbers<A: Rows, B: Rows>(one: &A, other: &B) -> bool {
 }
 
 /// Sessions, registrations, handles and swept pairs.
-fn have_equal_marks<A: Rows, B: Rows>(one: &A, other: &B, number: u32) -> bool {
+fn have_equal_marks<A: Rows, B: Rows>(one: &A, other: &B, number: u16) -> bool {
+    let semaphore = SemId(number);
+    let node = NodeId(u32::from(number));
+    let session = SessionId(u32::from(number));
     for at in 0..MANY {
-        if one.handle_at(SemId(number as u16), at) != other.handle_at(SemId(number as u16), at)
-            || one.swept(NodeId(number), u64::from(at))
-                != other.swept(NodeId(number), u64::from(at))
+        if one.handle_at(semaphore, at) != other.handle_at(semaphore, at)
+            || one.swept(node, u64::from(at)) != other.swept(node, u64::from(at))
         {
             return false;
         }
     }
-    one.session(SessionId(number)) == other.session(SessionId(number))
-        && one.registration(PoolId(number as u16)) == other.registration(PoolId(number as u16))
+    one.session(session) == other.session(session)
+        && one.registration(PoolId(number)) == other.registration(PoolId(number))
 }
 
 fn is_same_request(one: &RequestRecord, other: &RequestRecord) -> bool {
@@ -123,7 +125,7 @@ fn have_equal_roles<A: Rows, B: Rows>(one: &A, other: &B, number: u16) -> bool {
 /// Whether both have the same rows.
 pub fn have_equal_rows<A: Rows, B: Rows>(one: &A, other: &B) -> bool {
     for at in 0..MANY {
-        if !have_equal_marks(one, other, at)
+        if !have_equal_marks(one, other, at as u16)
             || !have_equal_requests(one, other, at)
             || !have_equal_nodes(one, other, at)
             || !is_same_job(&one.job(JobId(at)), &other.job(JobId(at)))
