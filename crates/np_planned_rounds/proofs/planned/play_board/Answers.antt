@@ -1,0 +1,31 @@
+use Rattle.std.proofs.Common.{true, List, ap, subst, sym}
+use Rattle.np_event.specs.declared.entry.Entry.{Entry}
+use Rattle.np_site.specs.Configuration.{Configuration}
+use Rattle.np_answers.proofs.LegalLemmas.{Runs-legal}
+use Rattle.np_driven.specs.Players.{HaveDrivenAs}
+use Rattle.np_rounds.specs.Crews.{players_of}
+use Rattle.np_rounds.specs.Played.{IsDriven, Stops}
+use Rattle.np_rounds.proofs.OneRound.{closed_seen}
+use Rattle.np_planned_rounds.proofs.planned.play_board.Goals as goal
+
+pub set_up-requires : goal.set_up-requires
+set_up-requires g c = record { legal = Runs-legal c.args.board.configuration c.args.board.journal c.args.board.state c.soundness.ensures.runs }
+
+pub returns-clause-stops : goal.returns-clause-stops
+returns-clause-stops g c =
+    let is = closed_seen c.in-Ok.desk c.play_at.new.pass c.close.result.journal c.in_ok-full.ensures.own
+    (c.know.ensures.whole c.in_ok-full.ensures.whole) c.know.ensures.begins c.close.ensures.history c.close.ensures.mine in
+    subst (λ (j : List Entry). Stops c.in_ok-full.full j) (sym is) c.in_ok-full.ensures.stops
+
+pub returns-clause-driven : goal.returns-clause-driven
+returns-clause-driven g c = λ had.
+    let is = closed_seen c.in-Ok.desk c.play_at.new.pass c.close.result.journal c.in_ok-full.ensures.own
+    (c.know.ensures.whole c.in_ok-full.ensures.whole) c.know.ensures.begins c.close.ensures.history c.close.ensures.mine in
+    let site = ap (λ o. o.fixed) c.in-Ok.ensures.desk in
+    let before = players_of g.D.Driver.facts g.D.Driver.plan g.D.Driver.sound g.D.Driver.room c.args.workers.now.items in
+    let now = players_of g.D.Driver.facts g.D.Driver.plan g.D.Driver.sound g.D.Driver.room c.play_at.new.workers.items in
+    subst (λ (d : Configuration). IsDriven true d c.in_ok-full.full c.close.result.journal now) site
+    (subst (λ (j : List Entry). IsDriven true c.in-Ok.desk.origin.fixed c.in_ok-full.full j now) (sym is)
+    (c.in_ok-full.ensures.driven
+    (subst (λ (j : List Entry). HaveDrivenAs true c.in-Ok.desk.origin.fixed j before) (sym c.in-Ok.ensures.seen.0)
+    (subst (λ (d : Configuration). HaveDrivenAs true d c.args.board.journal before) (sym site) had))))

@@ -1,0 +1,46 @@
+use Rattle.std.proofs.Common.{◌≡◌, ◌<◌, ℕ, true, [], ◌∷◌, length, ap, ◌∙◌, sym, subst}
+use Rattle.np_event.specs.declared.entry.Entry.{Entry}
+use Rattle.np_site.specs.Configuration.{Configuration}
+use Rattle.np_answers.specs.Legal.{is_legal}
+use Rattle.np_desk.specs.Pass.{PassView}
+use Rattle.np_rounds.specs.Crews.{zeros}
+use Rattle.np_rounds.specs.Plays.{CrewPlays}
+use Rattle.np_rounds.proofs.Backs.{are_back}
+use Rattle.np_rounds.proofs.OneRound.{round_knows, of_desk, is_round, still_seen, moved_on}
+use Rattle.np_rounds.proofs.Lists.{given_own, pairwise_len}
+use Rattle.np_planned_rounds.proofs.planned.play_round.Goals as goal
+
+pub play_all-requires-clause-own : goal.play_all-requires-clause-own
+play_all-requires-clause-own g c κs within = given_own c.args.pass.now c.args.desk.now 0 c.in_ok-crews.crews.items c.requires.own c.in_ok-crews.ensures.given
+
+pub take_back-requires-clause-part : goal.take_back-requires-clause-part
+take_back-requires-clause-part g c = ap (λ q. q.part) c.in_ok-crews.ensures.pass
+    ∙ ap (λ (n : ℕ). zeros n ∷ []) (sym (pairwise_len (CrewPlays true g.D.Driver.facts g.D.Driver.plan g.D.Driver.sound g.D.Driver.room c.args.desk.now) c.in_ok-crews.crews.items c.in_ok-ends.ends.items c.in_ok-ends.ensures))
+
+pub take_back-requires-clause-back : goal.take_back-requires-clause-back
+take_back-requires-clause-back g c = are_back true g.D.Driver.facts g.D.Driver.plan g.D.Driver.sound g.D.Driver.room c.args.desk.now c.args.pass.now 0 c.in_ok-crews.crews.items c.in_ok-ends.ends.items c.in_ok-crews.ensures.given c.in_ok-ends.ensures
+
+pub returns-clause-still : goal.returns-clause-still
+returns-clause-still g c = λ still. still_seen c.args.desk.now c.args.pass.now c.take_back.new.pass
+    (round_knows c.args.desk.now (length c.in_ok-crews.crews.items) c.args.pass.now c.hand_out.new.pass c.take_back.new.pass
+    c.requires.own c.in_ok-together.ensures.own c.know.ensures.rising c.know.ensures.begins (c.know.ensures.whole c.requires.whole)
+    (c.know-2.ensures.whole c.in_ok-together.ensures.whole) c.in_ok-crews.ensures.pass c.in_ok-together.ensures.took.seen)
+    (c.in_ok-together.ensures.took.still still ∙ ap (λ q. q.mine) c.in_ok-crews.ensures.pass)
+
+pub returns-clause-moved : goal.returns-clause-moved
+returns-clause-moved g c = λ moved. moved_on c.args.desk.now c.args.pass.now c.take_back.new.pass
+    (round_knows c.args.desk.now (length c.in_ok-crews.crews.items) c.args.pass.now c.hand_out.new.pass c.take_back.new.pass
+    c.requires.own c.in_ok-together.ensures.own c.know.ensures.rising c.know.ensures.begins (c.know.ensures.whole c.requires.whole)
+    (c.know-2.ensures.whole c.in_ok-together.ensures.whole) c.in_ok-crews.ensures.pass c.in_ok-together.ensures.took.seen)
+    (subst (λ (q : PassView Configuration Entry). length q.mine < length c.take_back.new.pass.mine) c.in_ok-crews.ensures.pass (c.in_ok-together.ensures.took.moved moved))
+
+pub returns-clause-legal : goal.returns-clause-legal
+returns-clause-legal g c = of_desk (λ o. is_legal o.fixed c.take_back.new.pass.seen ≡ true) c.args.desk.now c.take_back.new.pass c.in_ok-together.ensures.own c.know-2.ensures.legal
+
+pub returns-clause-round : goal.returns-clause-round
+returns-clause-round g c = is_round true g.D.Driver.facts g.D.Driver.plan g.D.Driver.sound g.D.Driver.room c.args.desk.now (length c.in_ok-crews.crews.items) c.args.pass.now c.hand_out.new.pass c.take_back.new.pass
+    c.in_ok-crews.crews.items c.in_ok-ends.ends.items c.args.workers.now.items c.hand_out.new.workers.items c.take_back.new.workers.items c.in_ok-together.together
+    (round_knows c.args.desk.now (length c.in_ok-crews.crews.items) c.args.pass.now c.hand_out.new.pass c.take_back.new.pass
+    c.requires.own c.in_ok-together.ensures.own c.know.ensures.rising c.know.ensures.begins (c.know.ensures.whole c.requires.whole)
+    (c.know-2.ensures.whole c.in_ok-together.ensures.whole) c.in_ok-crews.ensures.pass c.in_ok-together.ensures.took.seen)
+    c.in_ok-crews.ensures.pass c.in_ok-crews.ensures.given c.in_ok-ends.ensures c.in_ok-together.ensures.took c.in_ok-crews.ensures.players c.in_ok-crews.ensures.all

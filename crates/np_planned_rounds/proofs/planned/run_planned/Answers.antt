@@ -1,0 +1,48 @@
+use Rattle.std.proofs.Common.{◌∙◌, refl, inl, true, List, map, ap, sym, subst}
+use Rattle.np_site.specs.Configuration.{Configuration}
+use Rattle.np_event.specs.declared.entry.Entry.{Entry}
+use Rattle.np_driven.specs.Players.{HaveDrivenAs}
+use Rattle.np_rounds.specs.Crews.{Terms, terms_of, players_of}
+use Rattle.np_rounds.specs.Played.{IsDriven}
+use Rattle.np_rounds.proofs.Driven.{driven_start, driven_end}
+use Rattle.np_rounds.proofs.Players.{as_many, kept_term, terms_of_drivers}
+use Rattle.np_rounds.proofs.Starts.{ended_settled}
+use Rattle.np_planned_rounds.proofs.planned.run_planned.Goals as goal
+
+pub play_site-requires-clause-rested : goal.play_site-requires-clause-rested
+play_site-requires-clause-rested g c κs within = inl (c.in_ok-board.ensures.journal)
+
+pub returns-clause-settled : goal.returns-clause-settled
+returns-clause-settled g c = λ room.
+    let played = c.in_ok-played.played in let told = c.in_ok-played.ensures in
+    ended_settled c.args.config played.configuration played.journal played.state c.in_ok-played.full
+    c.soundness.ensures (told.configuration ∙ c.in_ok-board.ensures.configuration) c.soundness-2.ensures.runs
+    (told.settled room) told.stops room
+
+pub returns-clause-drivers : goal.returns-clause-drivers
+returns-clause-drivers g c = as_many g.D.Driver.facts g.D.Driver.plan g.D.Driver.sound g.D.Driver.room g.D.Driver.room c.in_ok-drivers.drivers.items c.args.drivers.items
+    (kept_term g.D.Driver.facts g.D.Driver.plan g.D.Driver.sound g.D.Driver.room (λ (t : Terms). t.room) g.D.Driver.room (λ d. refl)
+    (players_of g.D.Driver.facts g.D.Driver.plan g.D.Driver.sound g.D.Driver.room c.play_site.new.workers.items) c.in_ok-drivers.drivers.items c.args.drivers.items c.in_ok-drivers.ensures (c.in_ok-played.ensures.terms ∙ (ap (map terms_of) c.in_ok-workers.ensures.drivings ∙ terms_of_drivers g.D.Driver.facts g.D.Driver.plan g.D.Driver.sound g.D.Driver.room c.args.drivers.items)))
+    ∙ c.requires.drivers
+
+pub returns-clause-plans : goal.returns-clause-plans
+returns-clause-plans g c = kept_term g.D.Driver.facts g.D.Driver.plan g.D.Driver.sound g.D.Driver.room (λ (t : Terms). t.plan) g.D.Driver.plan (λ d. refl)
+    (players_of g.D.Driver.facts g.D.Driver.plan g.D.Driver.sound g.D.Driver.room c.play_site.new.workers.items) c.in_ok-drivers.drivers.items c.args.drivers.items c.in_ok-drivers.ensures (c.in_ok-played.ensures.terms ∙ (ap (map terms_of) c.in_ok-workers.ensures.drivings ∙ terms_of_drivers g.D.Driver.facts g.D.Driver.plan g.D.Driver.sound g.D.Driver.room c.args.drivers.items))
+
+pub returns-clause-sounds : goal.returns-clause-sounds
+returns-clause-sounds g c = kept_term g.D.Driver.facts g.D.Driver.plan g.D.Driver.sound g.D.Driver.room (λ (t : Terms). t.sound) g.D.Driver.sound (λ d. refl)
+    (players_of g.D.Driver.facts g.D.Driver.plan g.D.Driver.sound g.D.Driver.room c.play_site.new.workers.items) c.in_ok-drivers.drivers.items c.args.drivers.items c.in_ok-drivers.ensures (c.in_ok-played.ensures.terms ∙ (ap (map terms_of) c.in_ok-workers.ensures.drivings ∙ terms_of_drivers g.D.Driver.facts g.D.Driver.plan g.D.Driver.sound g.D.Driver.room c.args.drivers.items))
+
+pub returns-clause-rooms : goal.returns-clause-rooms
+returns-clause-rooms g c = kept_term g.D.Driver.facts g.D.Driver.plan g.D.Driver.sound g.D.Driver.room (λ (t : Terms). t.room) g.D.Driver.room (λ d. refl)
+    (players_of g.D.Driver.facts g.D.Driver.plan g.D.Driver.sound g.D.Driver.room c.play_site.new.workers.items) c.in_ok-drivers.drivers.items c.args.drivers.items c.in_ok-drivers.ensures (c.in_ok-played.ensures.terms ∙ (ap (map terms_of) c.in_ok-workers.ensures.drivings ∙ terms_of_drivers g.D.Driver.facts g.D.Driver.plan g.D.Driver.sound g.D.Driver.room c.args.drivers.items))
+
+pub returns-clause-driven : goal.returns-clause-driven
+returns-clause-driven g c = λ none.
+    let players = players_of g.D.Driver.facts g.D.Driver.plan g.D.Driver.sound g.D.Driver.room c.in_ok-workers.workers.items in
+    let now = players_of g.D.Driver.facts g.D.Driver.plan g.D.Driver.sound g.D.Driver.room c.play_site.new.workers.items in
+    driven_end true g.D.Driver.facts g.D.Driver.plan g.D.Driver.sound g.D.Driver.room c.args.config c.in_ok-played.full c.in_ok-played.played.journal now c.in_ok-drivers.drivers.items c.in_ok-drivers.ensures
+    (subst (λ (d : Configuration). IsDriven true d c.in_ok-played.full c.in_ok-played.played.journal now) (c.in_ok-board.ensures.configuration)
+    (c.in_ok-played.ensures.driven (subst (λ (d : Configuration). HaveDrivenAs true d c.in_ok-board.board.journal players) (sym c.in_ok-board.ensures.configuration)
+    (subst (λ (l : List Entry). HaveDrivenAs true c.args.config l players) (sym c.in_ok-board.ensures.journal)
+    (driven_start true g.D.Driver.facts g.D.Driver.plan g.D.Driver.sound g.D.Driver.room c.args.config players c.args.drivers.items c.in_ok-workers.ensures.numbered c.in_ok-workers.ensures.drivings none)))))

@@ -1,0 +1,286 @@
+//! A site at whose board launchers plan, played to its end.
+
+ghost use Rattle.std.specs.Prelude.{◌≡◌, ◌<◌, [], length, map, All, IfOk, Some, true, false};
+ghost use Rattle.np_desk.specs.Part.{IsWhole};
+ghost use Rattle.np_desk.specs.Pass.{IsOf};
+ghost use Rattle.np_useful.specs.Settled.{IsSettled};
+ghost use Rattle.np_answers.specs.Answers.{IsFull};
+ghost use Rattle.np_answers.specs.Drive.{driving};
+ghost use Rattle.np_answers.specs.Legal.{is_legal};
+ghost use Rattle.np_driven.specs.Planned.{PlannedBy};
+ghost use Rattle.np_driven.specs.Players.{WasAnswered, HaveDrivenAs};
+ghost use Rattle.np_driven.specs.Round.{IsRound};
+ghost use Rattle.np_rounds.specs.Crews.{players_of};
+ghost use Rattle.np_rounds.specs.Plays.{CrewPlays, Pairwise};
+ghost use Rattle.np_rounds.specs.Played.{
+  EndsWithTick,
+  IsDriven,
+  IsRested,
+  Stops,
+  Ticks,
+  terms_in,
+};
+ghost use Rattle.np_planned_rounds.specs.Full.{is_plain_full};
+
+use crate::crossing::planned_crosses;
+use np_answers::{Ask, Turn};
+use np_board::{PlanAsk, PlanTurn, PlannedBoard, Planner};
+use np_cloud::{Driver, Gate};
+use np_config::Config;
+use np_desk::{Desk, Pass};
+use np_event::Event;
+use np_rounds::{Crew, CrewEnd, Together, drivers_of, hand_out, sends, take_back, workers_of};
+use np_text::NoMemory;
+use np_worker::Worker;
+use std::alloc::Global;
+use std::sync::Wait;
+use std::thread::{self, Threads};
+
+/// What playing a site came to at a board at which launchers plan.
+#[derive(Drop)]
+pub struct EndedPlanned<D> {
+    /// The board, with the whole journal.
+    pub board: PlannedBoard,
+    /// Whether the journal had no room for what came next.
+    pub full: bool,
+    /// The drivers, in the order of the pools.
+    pub drivers: Vec<D>,
+}
+
+/// Lets the crew's worker play a round.
+fn play<R: Wait, D: Driver, G: Gate>(
+    rt: &R,
+    desk: &Desk<PlannedBoard>,
+    gate: &G,
+    crew: Crew<D, Pass<PlannedBoard>>,
+) -> CrewEnd<D, Pass<PlannedBoard>>
+    requires own { IsOf crew.pass desk.now }
+    ensures { CrewPlays true D.facts D.plan D.sound D.room desk.now crew result }
+{
+    let Crew { mut worker, pass } = crew;
+    let mut turns = Planner { rt, desk, pass };
+    let end = worker.round(&mut turns, gate);
+    let Planner { pass, .. } = turns;
+    CrewEnd {
+        crew: Crew { worker, pass },
+        end,
+    }
+}
+
+/// Lets all crews play, each in a thread of its own if one can be made.
+fn play_all<R: Threads + Wait + Sync, D: Driver + Send + Drop, G: Gate + Sync>(
+    rt: &R,
+    desk: &Desk<PlannedBoard>,
+    gate: &G,
+    crews: Vec<Crew<D, Pass<PlannedBoard>>>,
+) -> Result<Vec<CrewEnd<D, Pass<PlannedBoard>>>, NoMemory>
+    requires own { All (λ crew. IsOf crew.pass desk.now) crews.items }
+    ensures { IfOk result (λ v. Pairwise (CrewPlays true D.facts D.plan D.sound D.room desk.now)
+        crews.items v.items) }
+{
+    planned_crosses();
+    sends::<Worker<D>>();
+    sends::<Pass<PlannedBoard>>();
+    let ends = thread::map_vec(
+        rt,
+        crews,
+        &|crew: Crew<D, Pass<PlannedBoard>>| -> CrewEnd<D, Pass<PlannedBoard>>
+            requires { IsOf crew.pass desk.now }
+            ensures { CrewPlays true D.facts D.plan D.sound D.room desk.entry.now crew result }
+        { play(rt, desk, gate, crew) },
+    )?;
+    Ok(ends)
+}
+
+/// Lets each worker play a round, side by side if threads can be made.
+fn play_round<R: Threads + Wait + Sync, D: Driver + Send + Drop, G: Gate + Sync>(
+    rt: &R,
+    alloc: Global,
+    desk: &Desk<PlannedBoard>,
+    pass: &mut Pass<PlannedBoard>,
+    workers: &mut Vec<Worker<D>>,
+    gate: &G,
+) -> Result<Together, NoMemory>
+    requires own { IsOf pass.old desk.now }
+    requires whole { IsWhole pass.old.part }
+    ensures own { IfOk result (λ _. IsOf pass.new desk.now) }
+    ensures whole { IfOk result (λ _. IsWhole pass.new.part) }
+    ensures full { IfOk result (λ t. t.full ≡ true → IsFull pass.new.seen) }
+    ensures still { IfOk result (λ t. t.moved ≡ false → pass.new.seen ≡ pass.old.seen) }
+    ensures moved { IfOk result (λ t. t.moved ≡ true →
+        length pass.old.seen < length pass.new.seen) }
+    ensures legal { IfOk result (λ _. is_legal desk.now.origin.fixed pass.new.seen ≡ true) }
+    ensures round { IfOk result (λ t. IsRound true desk.now.origin.fixed pass.old.seen pass.new.seen
+        (players_of D.facts D.plan D.sound D.room workers.old.items)
+        (players_of D.facts D.plan D.sound D.room workers.new.items) t.full) }
+{
+    pass.know();
+    let crews = hand_out(alloc, desk, pass, workers)?;
+    let ends = play_all(rt, desk, gate, crews)?;
+    let together = take_back(desk, pass, workers, ends)?;
+    pass.know();
+    Ok(together)
+}
+
+/// Whether the turn found no room in the journal.
+fn is_full(turn: PlanTurn) -> bool
+    ensures { result ≡ is_plain_full turn }
+{
+    matches!(turn, PlanTurn::Plain(Turn::Full))
+}
+
+/// Advances time by one tick, and returns whether the journal has no room for that.
+fn tick<R: Wait>(
+    rt: &R,
+    desk: &Desk<PlannedBoard>,
+    pass: &mut Pass<PlannedBoard>,
+) -> Result<bool, NoMemory>
+    requires own { IsOf pass.old desk.now }
+    requires whole { IsWhole pass.old.part }
+    ensures own { IsOf pass.new desk.now }
+    ensures part { pass.new.part ≡ pass.old.part }
+    ensures stops { IfOk result (λ full. Stops full pass.new.seen) }
+    ensures ticks { IfOk result (λ full. Ticks full pass.old.seen pass.new.seen) }
+{
+    pass.know();
+    let turn = pass.turn(rt, desk, PlanAsk::Plain(Ask::Do(Event::Tick)))?;
+    Ok(is_full(turn))
+}
+
+/// Plays rounds at the desk, each with an entry followed by a tick, until one makes no entry or the
+/// journal has no room, and returns whether it has none.
+fn play_at<R: Threads + Wait + Sync, D: Driver + Send + Drop, G: Gate + Sync>(
+    rt: &R,
+    alloc: Global,
+    desk: &Desk<PlannedBoard>,
+    pass: &mut Pass<PlannedBoard>,
+    workers: &mut Vec<Worker<D>>,
+    gate: &G,
+) -> Result<bool, NoMemory>
+    requires own { IsOf pass.old desk.now }
+    requires whole { IsWhole pass.old.part }
+    requires rested { IsRested pass.old.seen }
+    ensures own { IfOk result (λ _. IsOf pass.new desk.now) }
+    ensures whole { IfOk result (λ _. IsWhole pass.new.part) }
+    ensures stops { IfOk result (λ full. Stops full pass.new.seen) }
+    ensures terms { IfOk result (λ _.
+        terms_in (players_of D.facts D.plan D.sound D.room workers.new.items)
+        ≡ terms_in (players_of D.facts D.plan D.sound D.room workers.old.items)) }
+    ensures driven { IfOk result (λ full. let c = desk.now.origin.fixed in
+        let before = players_of D.facts D.plan D.sound D.room workers.old.items in
+        let now = players_of D.facts D.plan D.sound D.room workers.new.items in
+        HaveDrivenAs true c pass.old.seen before → IsDriven true c full pass.new.seen now) }
+{
+    for _ in rt.forever() {
+        let together = play_round(rt, alloc, desk, pass, workers, gate)?;
+        if together.full {
+            return Ok(true);
+        }
+        if !together.moved {
+            return Ok(false);
+        }
+        if tick(rt, desk, pass)? {
+            return Ok(true);
+        }
+    }
+    unreachable!()
+}
+
+/// Plays rounds at a desk over the board, and returns it with whether the journal has no room.
+fn play_board<R: Threads + Wait + Sync, D: Driver + Send + Drop, G: Gate + Sync>(
+    rt: &R,
+    alloc: Global,
+    board: PlannedBoard,
+    workers: &mut Vec<Worker<D>>,
+    gate: &G,
+) -> Result<(PlannedBoard, bool), NoMemory>
+    requires rested { IsRested board.journal }
+    ensures configuration { IfOk result (λ r. r.0.configuration ≡ board.configuration) }
+    ensures stops { IfOk result (λ r. Stops r.1 r.0.journal) }
+    ensures terms { IfOk result (λ _.
+        terms_in (players_of D.facts D.plan D.sound D.room workers.new.items)
+        ≡ terms_in (players_of D.facts D.plan D.sound D.room workers.old.items)) }
+    ensures driven { IfOk result (λ r. let c = board.configuration in
+        let before = players_of D.facts D.plan D.sound D.room workers.old.items in
+        let now = players_of D.facts D.plan D.sound D.room workers.new.items in
+        HaveDrivenAs true c board.journal before →
+        IsDriven true c r.1 r.0.journal now) }
+{
+    board.soundness();
+    let Ok((desk, mut pass)) = Desk::set_up(alloc, board) else {
+        return Err(NoMemory);
+    };
+    let full = play_at(rt, alloc, &desk, &mut pass, workers, gate)?;
+    pass.know();
+    Ok((desk.close(pass), full))
+}
+
+/// Plays rounds from the board on until one makes no entry and the site is settled, or the journal
+/// has no room, and returns the board with whether it has none.
+fn play_site<R: Threads + Wait + Sync, D: Driver + Send + Drop, G: Gate + Sync>(
+    rt: &R,
+    alloc: Global,
+    mut board: PlannedBoard,
+    workers: &mut Vec<Worker<D>>,
+    gate: &G,
+) -> Result<(PlannedBoard, bool), NoMemory>
+    requires rested { IsRested board.journal }
+    ensures configuration { IfOk result (λ r. r.0.configuration ≡ board.configuration) }
+    ensures stops { IfOk result (λ r. Stops r.1 r.0.journal) }
+    ensures settled { IfOk result (λ r. r.1 ≡ false →
+        IsSettled r.0.configuration r.0.state) }
+    ensures terms { IfOk result (λ _.
+        terms_in (players_of D.facts D.plan D.sound D.room workers.new.items)
+        ≡ terms_in (players_of D.facts D.plan D.sound D.room workers.old.items)) }
+    ensures driven { IfOk result (λ r. let c = board.configuration in
+        let before = players_of D.facts D.plan D.sound D.room workers.old.items in
+        let now = players_of D.facts D.plan D.sound D.room workers.new.items in
+        HaveDrivenAs true c board.journal before →
+        IsDriven true c r.1 r.0.journal now) }
+{
+    for _ in rt.forever() {
+        let (played, full) = play_board(rt, alloc, board, workers, gate)?;
+        if full || played.settled() {
+            return Ok((played, full));
+        }
+        board = played;
+    }
+    unreachable!()
+}
+
+/// Plays the site to its end as `run_rounds` does, at a board at which launchers plan: they commit
+/// events that they chose on an older state, if nothing changed that they read. It may wait for as
+/// long as its workers do.
+pub fn run_planned<R: Threads + Wait + Sync, D: Driver + Send + Drop, G: Gate + Sync>(
+    rt: &R,
+    alloc: Global,
+    config: Config,
+    drivers: Vec<D>,
+    gate: &G,
+) -> Result<EndedPlanned<D>, NoMemory>
+    requires drivers { length drivers.items ≡ length config.pools }
+    ensures configuration { IfOk result (λ e. e.board.configuration ≡ config) }
+    ensures settled { IfOk result (λ e. e.full ≡ false →
+        IsSettled config e.board.state × EndsWithTick e.board.journal) }
+    ensures full { IfOk result (λ e. e.full ≡ true → length e.board.journal ≡ 262144) }
+    ensures drivers { IfOk result (λ e. length e.drivers.items ≡ length config.pools) }
+    ensures plans { IfOk result (λ e. map D.plan e.drivers.items ≡ map D.plan drivers.items) }
+    ensures sounds { IfOk result (λ e. map D.sound e.drivers.items ≡ map D.sound drivers.items) }
+    ensures rooms { IfOk result (λ e. map D.room e.drivers.items ≡ map D.room drivers.items) }
+    ensures driven { All (λ (d : D). (D.facts d).servers ≡ Some []) drivers.items →
+        IfOk result (λ e. PlannedBy
+        (WasAnswered (map (driving D.facts D.plan D.sound D.room) e.drivers.items))
+        config e.board.journal) }
+{
+    config.soundness();
+    let mut workers = workers_of(alloc, &config, drivers)?;
+    let board = PlannedBoard::new(alloc, config)?;
+    let (played, full) = play_site(rt, alloc, board, &mut workers, gate)?;
+    played.soundness();
+    let drivers = drivers_of(alloc, workers)?;
+    Ok(EndedPlanned {
+        board: played,
+        full,
+        drivers,
+    })
+}
