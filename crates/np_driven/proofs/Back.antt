@@ -1,44 +1,14 @@
 -- where the records and the queues of nodes come from, over one event that is no start, no report and no lock of a node
 use Rattle.std.proofs.Common.{◌≡◌, ◌∙◌, sym, refl, ap, subst, ◌⊎◌, inl, inr, ℕ, List, [], ◌∷◌, ◌++◌, drop, arith, Option, Some, None, Bool, true, false, cond, not, Ok, ◌<◌, ◌≤◌, eqb-true}
 use Rattle.std.specs.Prelude.{◌==◌, is_some, is_none, slice_get, nat_lt, map}
-use Rattle.std.specs.Option.{option_map}
-use Rattle.std.specs.List.{AllByRecursion, list_any}
+use Rattle.np_changes.specs.Prelude.{AllByRecursion, Configuration, Done, EndAs, Event, JobId, JobRecord, LabelId, NodeEntry, NodeId, NodeRecord, NodeState, PoolId, RequestId, RequestRecord, Rises, SessionId, State, TenantId, accept_by, accepted, acquired, all_freed, all_in_use, allocated, change_first, crashed, create_by, create_for, created, decline_by, declined, effect, ended_as, expired, failed, finished, freed, fulfilled, given_back, given_up, holder, is_building, is_fulfilled, is_in_use, is_pending_by, is_ready, is_request, is_session, is_session_of, joined, judge, judge_end_node, judge_take, judge_take_ready, kept_ready, left, list_any, made, next, next_label, node_ended, node_freed, node_holder, node_in, node_left, node_queue, option_map, put_node, put_node_queue, registered, registers, released, remove_node, request_holder, request_in, request_of_job, revise_request, revised, session_of, submit_for, submitted, take_for, take_from, taken, tenant_of_request, took_ready, withdrawn}
 use Rattle.std.proofs.lemmas.Bool.{false≢true, false_from_ne_true}
 use Rattle.std.proofs.lemmas.Bool.Decides.{nat_tests}
 use Rattle.std.proofs.lemmas.Option.{none-some, same_Some}
-use Rattle.np_text.specs.declared.id.SessionId.{SessionId}
-use Rattle.np_text.specs.declared.id.PoolId.{PoolId}
-use Rattle.np_text.specs.declared.id.NodeId.{NodeId}
-use Rattle.np_text.specs.declared.id.LabelId.{LabelId}
-use Rattle.np_text.specs.declared.id.JobId.{JobId}
-use Rattle.np_text.specs.declared.id.RequestId.{RequestId}
-use Rattle.np_text.specs.declared.id.TenantId.{TenantId}
-use Rattle.np_text.specs.declared.word.EndAs.{EndAs}
-use Rattle.np_text.specs.declared.word.NodeState.{NodeState}
 use Rattle.np_text.specs.declared.word.NodeState.TheVariants as node_state
-use Rattle.np_site.specs.Configuration.{Configuration}
-use Rattle.np_record.specs.declared.record.RequestRecord.{RequestRecord}
-use Rattle.np_record.specs.declared.record.NodeRecord.{NodeRecord}
-use Rattle.np_record.specs.declared.record.JobRecord.{JobRecord}
-use Rattle.np_event.specs.declared.event.Event.{Event}
 use Rattle.np_event.specs.declared.event.Event.TheVariants as ev
-use Rattle.np_event.specs.declared.reply.Done.{Done}
-use Rattle.np_lists.specs.Rising.{Rises}
-use Rattle.np_lists.specs.Change.{change_first}
 use Rattle.np_lists.proofs.Each.{all-filter}
-use Rattle.np_machine.specs.Entries.{NodeEntry}
-use Rattle.np_machine.specs.Kinds.{is_fulfilled, is_building, is_ready, is_in_use}
-use Rattle.np_machine.specs.State.{State}
-use Rattle.np_machine.specs.Tables.{is_session, is_session_of, registered, request_holder, session_of, holder, joined, left, request_in, is_request, node_in, node_queue, node_holder, put_node, put_node_queue, remove_node, freed, all_freed}
 use Rattle.np_machine.specs.Tests.{launcher, incomplete}
-use Rattle.np_machine.specs.Order.{is_pending_by}
-use Rattle.np_machine.specs.Reasons.{next_label}
-use Rattle.np_machine.specs.Request.{registers, submit_for, submitted, request_of_job, revise_request, revised, kept_ready, accept_by, accepted, decline_by, declined, fulfilled, given_back, failed}
-use Rattle.np_machine.specs.Node.{allocated, took_ready, create_by, create_for, created, made, node_ended, ended_as, given_up, node_freed, judge_take_ready, judge_end_node}
-use Rattle.np_machine.specs.Tenants.{tenant_of_request}
-use Rattle.np_machine.specs.Semaphore.{judge_take, all_in_use, acquired, take_for, take_from, taken, finished, withdrawn, released}
-use Rattle.np_machine.specs.Session.{node_left, crashed, expired}
-use Rattle.np_machine.specs.Step.{judge, effect, next}
 use Rattle.np_machine.proofs.Steps.{after_found-keeps, after_given-keeps, next-keeps}
 use Rattle.np_laws.specs.Parts.{RunsWhileBuilding, Invariant}
 use Rattle.np_laws.proofs.Accepted.{take_ready-stands, take_ready-free}
@@ -64,9 +34,13 @@ ready-up : (state : NodeState) → is_ready state ≡ true → is_up state ≡ t
 ready-up node_state.Ready is = refl
 ready-up _ is = absurd cc
 
-freed-comes : (k : NodeRecord) (b : Bool) → ComesFrom k (cond b (freed k) k)
-freed-comes k true = record { of_pool = refl; server = refl; attempts = refl; up = λ u. u; flies = λ f. f }
-freed-comes k false = same-record k
+freed-comes : (k : NodeRecord) → ComesFrom k (freed k)
+freed-comes k = record { of_pool = refl; server = refl; attempts = refl; up = λ u. u; flies = λ f. f }
+
+-- one record is put
+put-comes : (old kept : NodeRecord) (b : Bool) → (b ≡ true → ComesFrom old kept) → ComesFrom old (cond b kept old)
+put-comes old kept true new = new refl
+put-comes old kept false new = same-record old
 
 -- ## all records and queues
 
@@ -162,13 +136,8 @@ had-mapped s n f k (Some old) is mapped each = record { old = old; stood = is; c
 freed-all : (P : SessionId → Type 0) (s t : State) (r : RequestId) → t.nodes ≡ all_freed r s.nodes → Back P s t
 freed-all P s t r same = comes P s t
     (λ n k is. had-mapped s n (λ (x : NodeRecord). cond (is_request r x.allocated_to) (freed x) x) k (node_in n s.nodes) refl
-    (sym (node_in-freed r n s.nodes) ∙ (ap (node_in n) (sym same) ∙ is)) (λ old _. freed-comes old (is_request r old.allocated_to)))
+    (sym (node_in-freed r n s.nodes) ∙ (ap (node_in n) (sym same) ∙ is)) (λ old _. put-comes old (freed old) (is_request r old.allocated_to) (λ _. freed-comes old)))
     (λ n k is. inl (ap (node_queue n) same ∙ node_queue-freed r n s.nodes))
-
--- one record is put
-put-comes : (old kept : NodeRecord) (b : Bool) → (b ≡ true → ComesFrom old kept) → ComesFrom old (cond b kept old)
-put-comes old kept true new = new refl
-put-comes old kept false new = same-record old
 
 put-one : (P : SessionId → Type 0) (s t : State) (m : NodeId) (before kept : NodeRecord) → node_in m s.nodes ≡ Some before → ComesFrom before kept → t.nodes ≡ put_node m kept s.nodes → Back P s t
 put-one P s t m before kept stands from same = comes P s t
@@ -208,15 +177,13 @@ node-gone P s t m rises same = comes P s t (λ n k is. (by n k is (m.0 == n.0) r
   )
 
 -- ready nodes are in use from now on
-used-comes : (tick : ℕ) (k : NodeRecord) (b : Bool) → (b ≡ true → is_ready k.state ≡ true) → ComesFrom k (cond b (used_from tick k) k)
-used-comes tick k true ready = record { of_pool = refl; server = refl; attempts = refl; up = λ u. ready-up k.state (ready refl); flies = λ f. f }
-used-comes tick k false ready = same-record k
 
 taken-over : (P : SessionId → Type 0) (s t : State) (tick : ℕ) (numbers : List NodeId) → ((n : NodeId) (k : NodeRecord) → node_in n s.nodes ≡ Some k → list_any (λ m. m.0 == n.0) numbers ≡ true → is_ready k.state ≡ true) → t.nodes ≡ all_in_use tick numbers s.nodes → Back P s t
 taken-over P s t tick numbers ready same = comes P s t
     (λ n k is. had-mapped s n (λ (x : NodeRecord). cond (list_any (λ m. m.0 == n.0) numbers) (used_from tick x) x) k (node_in n s.nodes) refl
     (sym (node_in-in_use tick numbers n s.nodes) ∙ (ap (node_in n) (sym same) ∙ is))
-    (λ old stood. used-comes tick old (list_any (λ (m : NodeId). m.0 == n.0) numbers) (λ listed. ready n old stood listed)))
+    (λ old stood. put-comes old (used_from tick old) (list_any (λ (m : NodeId). m.0 == n.0) numbers)
+    (λ listed. record { of_pool = refl; server = refl; attempts = refl; up = λ u. ready-up old.state (ready n old stood listed); flies = λ f. f })))
     (λ n k is. inl (ap (node_queue n) same ∙ node_queue-in_use tick numbers n s.nodes))
 
 -- ## a ready node that is taken
@@ -231,10 +198,6 @@ ready-idle k ready runs = false_from_ne_true k.in_flight (λ flies. by k.state r
   by node_state.Ready ready building = false≢true building
   by _ ready building = false≢true ready
 
-allocated-comes : (r : RequestId) (tenant : Option TenantId) (k : NodeRecord) (b : Bool) → ComesFrom k (cond b (record k { allocated_to = Some r; tenant = tenant }) k)
-allocated-comes r tenant k true = record { of_pool = refl; server = refl; attempts = refl; up = λ u. u; flies = λ f. f }
-allocated-comes r tenant k false = same-record k
-
 allocated-idle : (r : RequestId) (tenant : Option TenantId) (k : NodeRecord) (b : Bool) → k.in_flight ≡ false → (cond b (record k { allocated_to = Some r; tenant = tenant }) k).in_flight ≡ false
 allocated-idle r tenant k true idle = idle
 allocated-idle r tenant k false idle = idle
@@ -247,7 +210,8 @@ module _ (P : SessionId → Type 0) (s t : State) (m : NodeId) (r : RequestId) (
   taken-is n k is = sym (node_in-allocated m n r tenant session s.nodes) ∙ (ap (node_in n) (sym same) ∙ is)
 
   taken-had : (n : NodeId) (k : NodeRecord) → node_in n t.nodes ≡ Some k → Had s n k
-  taken-had n k is = had-mapped s n (taking n) k (node_in n s.nodes) refl (taken-is n k is) (λ old _. allocated-comes r tenant old (m.0 == n.0))
+  taken-had n k is = had-mapped s n (taking n) k (node_in n s.nodes) refl (taken-is n k is) (λ old _. put-comes old (record old { allocated_to = Some r; tenant = tenant }) (m.0 == n.0)
+      (λ _. record { of_pool = refl; server = refl; attempts = refl; up = λ u. u; flies = λ f. f }))
 
   taken-queue : (n : NodeId) (k : NodeRecord) → node_in n t.nodes ≡ Some k → node_queue n t.nodes ≡ cond (m.0 == n.0) (joined session (node_queue n s.nodes)) (node_queue n s.nodes)
   taken-queue n k is = ap (node_queue n) same ∙ node_queue-allocated m n r tenant session (taken-had n k is).old s.nodes (taken-had n k is).stood
@@ -365,11 +329,9 @@ module _ (P : SessionId → Type 0) (c : Configuration) (s : State) (whole : Inv
       (record { of_pool = refl; server = refl; attempts = refl; up = λ u. absurd (false≢true u); flies = λ f. absurd (false≢true f) }) refl
 
   freeing : (n : NodeId) (k : NodeRecord) → node_in n s.nodes ≡ Some k → B (node_freed s n k)
-  freeing n k stands = put (node_freed s n k) n k (freed k) stands (freed-comes k true) refl
+  freeing n k stands = put (node_freed s n k) n k (freed k) stands (freed-comes k) refl
 
   effect-back : (e : Event) → is_plain e ≡ true → (what : Done) → judge c s e ≡ Ok what → B (effect c s e)
-  effect-back ev.Tick plain what ok = still P s _ refl
-  effect-back (ev.OpenSession role) plain what ok = still P s _ refl
   effect-back (ev.Crash session) plain what ok = after_found-keeps B (session_of session s) s (crashed s session) none (λ facts _. still P s _ refl)
   effect-back (ev.Expire session) plain what ok = after_found-keeps B (session_of session s) s (expired s session) none (λ facts _. all-left P s _ session refl)
   effect-back (ev.Register session) plain what ok = after_given-keeps B (launcher s session) s (registers s session) none (λ p _. still P s _ refl)
@@ -380,8 +342,6 @@ module _ (P : SessionId → Type 0) (c : Configuration) (s : State) (whole : Inv
       after_found-keeps B (request_of_job j s) s (revise_request s relative) none (λ r _.
       after_found-keeps B (request_in r s.requests) s (revised s relative r) none (λ request _. still P s _ refl))
   effect-back (ev.MinReady session l) plain what ok = after_given-keeps B (launcher s session) s (kept_ready s l) none (λ p _. still P s _ refl)
-  effect-back (ev.LockRequest session r) plain what ok = still P s _ refl
-  effect-back (ev.UnlockRequest session r) plain what ok = still P s _ refl
   effect-back (ev.Accept session r) plain what ok =
       after_given-keeps B (launcher s session) s (accept_by s r) none (λ p _.
       after_found-keeps B (request_in r s.requests) s (accepted s r p) none (λ request _. still P s _ refl))
@@ -412,7 +372,7 @@ module _ (P : SessionId → Type 0) (c : Configuration) (s : State) (whole : Inv
   effect-back (ev.Reset session r) plain what ok = after_found-keeps B (request_in r s.requests) s (given_back s r) none (λ request _. freed-all P s _ r refl)
   effect-back (ev.FreeNode session n) plain what ok = after_found-keeps B (node_in n s.nodes) s (node_freed s n) none (λ k stands. freeing n k stands)
   effect-back (ev.FailDeclined session r) plain what ok = after_found-keeps B (request_in r s.requests) s (failed s r) none (λ request _. still P s _ refl)
-  effect-back (ev.Sweep session n x) plain what ok = still P s _ refl
+  effect-back _ plain what ok = still P s _ refl
 
   -- records and queues come from those before a plain event
   pub back-next : (e : Event) → is_plain e ≡ true → B (next c s e)

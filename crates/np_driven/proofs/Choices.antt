@@ -2,26 +2,9 @@
 use Rattle.std.proofs.Common.{◌≡◌, ◌∙◌, ◌⊎◌, inl, inr, ⊎_elim, ℕ, zero, suc, ◌≤◌, List, [], ◌∷◌, ◌++◌, length, take, take-append-drop, refl, sym, ap, subst, arith, Option, Some, Bool, true, false}
 use Rattle.std.specs.Prelude.{drop, is_ok}
 use Rattle.std.proofs.lemmas.Bool.{false≢true, and_parts}
-use Rattle.np_text.specs.declared.id.SessionId.{SessionId}
-use Rattle.np_text.specs.declared.id.PoolId.{PoolId}
-use Rattle.np_text.specs.declared.id.NodeId.{NodeId}
-use Rattle.np_text.specs.declared.id.Role.{Role}
-use Rattle.np_text.specs.declared.id.Role.TheVariants.{Launcher, Janitor, Requester, Reaper}
-use Rattle.np_site.specs.Configuration.{Configuration}
-use Rattle.np_record.specs.declared.record.NodeRecord.{NodeRecord}
-use Rattle.np_event.specs.declared.event.Event.{Event}
+use Rattle.np_changes.specs.Prelude.{Configuration, Entry, Event, Janitor, Launcher, NodeId, NodeRecord, Outcome, PoolId, Reaper, Requester, Role, SessionId, SomeTurn, State, after, judge, judge_start, maker_of, node_in, role_of, same_role, start, turns}
 use Rattle.np_event.specs.declared.event.Event.TheVariants as ev
-use Rattle.np_event.specs.declared.event.Outcome.{Outcome}
-use Rattle.np_event.specs.declared.entry.Entry.{Entry}
-use Rattle.np_machine.specs.State.{State, start}
-use Rattle.np_machine.specs.Node.{judge_start}
-use Rattle.np_machine.specs.Step.{judge, maker_of}
-use Rattle.np_machine.specs.Laws.{same_role}
-use Rattle.np_machine.specs.Tables.{role_of, node_in}
-use Rattle.np_machine.specs.History.{after}
-use Rattle.np_machine.specs.Turns.{turns, SomeTurn}
-use Rattle.np_useful.specs.Driven.{Says}
-use Rattle.np_useful.specs.Planned.{is_planned, WasUseful, WasOfUse}
+use Rattle.np_answers.specs.Prelude.{Move, Says, Sight, Walk, WasOfUse, WasUseful, answers, asked, is_planned, launched, removed}
 use Rattle.np_useful.specs.Sessions.{may_open}
 use Rattle.np_useful.specs.Useful.{IsUseful, is_maker_of, row_holds}
 use Rattle.np_changes.proofs.Tested.{ok-is}
@@ -29,10 +12,6 @@ use Rattle.np_answers.specs.declared.ask.Ask.{Ask}
 use Rattle.np_answers.specs.declared.ask.Ask.TheVariants as ask
 use Rattle.np_answers.specs.declared.ask.Turn.{Turn as Answer}
 use Rattle.np_answers.specs.declared.ask.Turn.TheVariants as turn
-use Rattle.np_answers.specs.Answers.{answers}
-use Rattle.np_answers.specs.Move.{Move, asked, launched, removed}
-use Rattle.np_answers.specs.Walk.{Walk}
-use Rattle.np_desk.specs.Pass.{Sight}
 use Rattle.np_driven.specs.Makers.{IsOfRole}
 use Rattle.np_driven.specs.Planned.{answers_of, IsChosen, IsTurnAs}
 use Rattle.np_driven.proofs.Places.{turn_after, some-from, turns-append}
@@ -49,16 +28,12 @@ useful-opens c s Reaper r is = absurd (false≢true is)
 
 -- and only the reaper takes sessions away
 useful-crashes : (c : Configuration) (s : State) (role : Role) (session : SessionId) → row_holds c s role (ev.Crash session) ≡ true → role ≡ Reaper
-useful-crashes c s (Launcher p) session is = absurd (false≢true is)
-useful-crashes c s (Janitor p) session is = absurd (false≢true is)
-useful-crashes c s (Requester q) session is = absurd (false≢true is)
 useful-crashes c s Reaper session is = refl
+useful-crashes c s _ session is = absurd (false≢true is)
 
 useful-expires : (c : Configuration) (s : State) (role : Role) (session : SessionId) → row_holds c s role (ev.Expire session) ≡ true → role ≡ Reaper
-useful-expires c s (Launcher p) session is = absurd (false≢true is)
-useful-expires c s (Janitor p) session is = absurd (false≢true is)
-useful-expires c s (Requester q) session is = absurd (false≢true is)
 useful-expires c s Reaper session is = refl
+useful-expires c s _ session is = absurd (false≢true is)
 
 pub useful-of_role : (c : Configuration) (s : State) (role : Role) (e : Event) → IsUseful c s role e → IsOfRole role s e
 useful-of_role c s role e useful = record {
@@ -159,24 +134,14 @@ module _ (c : Configuration) (journal : List Entry) where
   -- where nothing is planned the answers are the board's
   pub plain-answer : (a : Ask) (t : Answer) → answers_of false c journal a t → answers c journal a t
   plain-answer (ask.Act r) (turn.Did e) h = (⊎_elim (λ (useful : IsUseful c (after c journal) r e.event). useful) (λ none. absurd none) h.0, h.1)
-  plain-answer (ask.Act r) (turn.DueNode n x) h = h
-  plain-answer (ask.Act r) turn.Swept h = h
-  plain-answer (ask.Act r) turn.Idle h = h
-  plain-answer (ask.Act r) turn.Full h = h
-  plain-answer (ask.Do e) t h = h
-  plain-answer (ask.Due p) t h = h
-  plain-answer (ask.Sweep p n x) t h = h
+  plain-answer (ask.Act r) t h = h
+  plain-answer a t h = h
 
   -- and the board's answers are always allowed
   pub allowed-answer : (plans : Bool) (a : Ask) (t : Answer) → answers c journal a t → answers_of plans c journal a t
   allowed-answer plans (ask.Act r) (turn.Did e) h = (inl h.0, h.1)
-  allowed-answer plans (ask.Act r) (turn.DueNode n x) h = h
-  allowed-answer plans (ask.Act r) turn.Swept h = h
-  allowed-answer plans (ask.Act r) turn.Idle h = h
-  allowed-answer plans (ask.Act r) turn.Full h = h
-  allowed-answer plans (ask.Do e) t h = h
-  allowed-answer plans (ask.Due p) t h = h
-  allowed-answer plans (ask.Sweep p n x) t h = h
+  allowed-answer plans (ask.Act r) t h = h
+  allowed-answer plans a t h = h
 
 pub allowed-walk : (plans : Bool) (c : Configuration) (ms : List Move) (v w : Sight Entry) → Walk answers c ms v w → Walk (answers_of plans) c ms v w
 allowed-walk plans c [] v w walk = walk

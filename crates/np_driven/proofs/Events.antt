@@ -1,26 +1,19 @@
 -- what the events of launches say
-use Rattle.std.proofs.Common.{◌≡◌, ⊎_elim, ℕ, true, Some, refl, sym, ap, arith}
+use Rattle.std.proofs.Common.{◌≡◌, ⊎_elim, ℕ, true, Some, refl, sym, ap}
 use Rattle.std.specs.Prelude.{◌==◌, ◌&&◌}
 use Rattle.std.proofs.lemmas.Bool.{and_parts}
-use Rattle.std.proofs.lemmas.Bool.Decides.{nat_tests}
-use Rattle.np_text.specs.declared.id.SessionId.{SessionId}
-use Rattle.np_text.specs.declared.id.PoolId.{PoolId}
-use Rattle.np_text.specs.declared.id.NodeId.{NodeId}
-use Rattle.np_text.specs.declared.id.Role.{Role}
+use Rattle.np_changes.specs.Prelude.{Event, NodeId, Outcome, PoolId, Reply, Role, SessionId, is_node, is_session}
 use Rattle.np_text.specs.declared.id.Role.TheVariants as role
-use Rattle.np_event.specs.declared.event.Event.{Event}
 use Rattle.np_event.specs.declared.event.Event.TheVariants as ev
-use Rattle.np_event.specs.declared.event.Outcome.{Outcome}
-use Rattle.np_event.specs.declared.reply.Reply.{Reply}
 use Rattle.np_event.specs.declared.reply.Reply.TheVariants as reply
 use Rattle.np_event.specs.declared.reply.Done.TheVariants as done
-use Rattle.np_machine.specs.Tables.{is_session}
-use Rattle.np_machine.specs.LiveHolder.{is_node}
 use Rattle.np_useful.specs.Driven.{is_tick, is_report_of}
 use Rattle.np_answers.specs.declared.ask.Ask.TheVariants as ask
 use Rattle.np_answers.specs.declared.start.Start.{Start}
 use Rattle.np_answers.specs.Phase.{Work, of_pool, of_requester, of_reaper, start_in}
 use Rattle.np_answers.specs.Trace.{IsAskOf}
+use Rattle.np_lists.proofs.Plain.{equal-numbers}
+use Rattle.np_machine.proofs.Ids.{session-equal}
 
 -- the event and the reply of an accepted start
 pub record StartParts (pool : PoolId) (e : Event) (r : Reply) (s : Start) : Type 0 where
@@ -38,12 +31,6 @@ start-parts pool (ev.Start session n) (reply.Done (done.Started k m)) s is =
     }
 start-parts pool _ _ s is = absurd cc
 
-equal-numbers : (a b : ℕ) → (a == b) ≡ true → a ≡ b
-equal-numbers a b is = grind (arith, nat_tests)
-
-equal-sessions : (a b : SessionId) → is_session a b ≡ true → a ≡ b
-equal-sessions a b is = ap (λ (n : ℕ). record { 0 = n }) (equal-numbers a.0 b.0 is)
-
 equal-nodes : (n m : NodeId) → is_node n m ≡ true → m ≡ n
 equal-nodes n m is = ap (λ (k : ℕ). record { 0 = k }) (equal-numbers m.0 n.0 is)
 
@@ -52,7 +39,7 @@ pub report-event : (session : SessionId) (n : NodeId) (attempt : ℕ) (e : Event
 report-event session n attempt (ev.Done by m k o) is =
     let parts = and_parts (is_session by session && is_node n m) (k == attempt) is in
     let both = and_parts (is_session by session) (is_node n m) parts.0 in
-    let one : by ≡ session = equal-sessions by session both.0 in
+    let one : by ≡ session = session-equal by session both.0 in
     let two : m ≡ n = equal-nodes n m both.1 in
     let three : k ≡ attempt = equal-numbers k attempt parts.1 in
     (o, cc)
@@ -73,3 +60,8 @@ act-work (of_requester q) r pool own is =
 act-work of_reaper r pool own is =
     let other : r ≡ role.Reaper = cc in
     absurd cc
+
+-- and who sweeps for a pool is its worker
+pub sweep-work : (work : Work) (pool : PoolId) (n : NodeId) (x : ℕ) → IsAskOf work (ask.Sweep pool n x) → work ≡ of_pool pool
+sweep-work (of_pool other) pool n x own = ap of_pool (sym own)
+sweep-work _ pool n x own = absurd cc

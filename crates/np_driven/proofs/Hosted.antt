@@ -1,52 +1,36 @@
 -- a round, a tick and the start, for each pool with its driver
 use Rattle.std.proofs.Common.{◌≡◌, ◌∙◌, sym, refl, ap, subst, ⊎_elim, ℕ, zero, suc, ◌+◌, ◌<◌, ◌≤◌, List, [], ◌∷◌, ◌++◌, length, length-append, arith, append_assoc, append-nil, Option, Some, None, Bool, true, false, Contains, map, slice_get}
 use Rattle.std.specs.Prelude.{◌==◌, ◌||◌, All, IfSome, IsTrue, is_some}
-use Rattle.std.specs.Option.{option_map, option_map_or}
+use Rattle.np_changes.specs.Prelude.{Configuration, Entry, NodeEntry, NodeId, NodeRecord, Outcome, PoolId, Runs, after, maker_of, node_in, option_map, option_map_or, turns}
 use Rattle.std.proofs.lemmas.Bool.{false≢true, false_from_ne_true, cases_lt}
 use Rattle.std.proofs.lemmas.Option.{none-some, same_Some}
 use Rattle.std.proofs.lemmas.List.Elements.{All-head, All-tail, All-contains, Contains-append_left}
-use Rattle.np_text.specs.declared.id.PoolId.{PoolId}
-use Rattle.np_text.specs.declared.id.NodeId.{NodeId}
-use Rattle.np_site.specs.Configuration.{Configuration}
-use Rattle.np_record.specs.declared.record.NodeRecord.{NodeRecord}
 use Rattle.np_event.specs.declared.event.Event.TheVariants as ev
-use Rattle.np_event.specs.declared.event.Outcome.{Outcome}
 use Rattle.np_event.specs.declared.event.Outcome.TheVariants as outcome
-use Rattle.np_event.specs.declared.entry.Entry.{Entry}
-use Rattle.np_cloud.specs.declared.driver.Launch.{Launch}
-use Rattle.np_cloud.specs.declared.driver.Server.{Server}
+use Rattle.np_answers.specs.Prelude.{DrivenBy, Launch, Leads, Phase, Says, Server, StartsWith, Work, ended, first_phase, is_tick, launches_of, of_pool, owes_launch, owes_report}
 use Rattle.np_cloud.specs.Sound.{numbers_of, is_number, DistinctNumbers, Soundness}
-use Rattle.np_desk.specs.History.{StartsWith}
 use Rattle.np_lists.proofs.Each.{all-weaker}
-use Rattle.np_machine.specs.Entries.{NodeEntry}
-use Rattle.np_machine.specs.Tables.{node_in}
-use Rattle.np_machine.specs.History.{Runs, after}
-use Rattle.np_machine.specs.Step.{maker_of}
-use Rattle.np_machine.specs.Turns.{turns}
 use Rattle.np_changes.proofs.Makers.{launcher-role}
-use Rattle.np_useful.specs.Driven.{Says, DrivenBy, is_tick}
 use Rattle.np_answers.specs.Drive.{Driving, Drives, Drove, servers_after, SweepsServers, AreSoundAlone, FailFull}
-use Rattle.np_answers.specs.Move.{launches_of}
-use Rattle.np_answers.specs.Phase.{Work, of_pool, of_requester, of_reaper, Phase, acts, owes_launch, owes_report, looks, owes_due, sweeps, owes_swept, rests, ended, first_phase, Leads}
 use Rattle.np_answers.proofs.Works.{asks_of}
 use Rattle.np_answers.proofs.Gained.{walk_seen}
 use Rattle.np_driven.specs.Planned.{answers_of}
 use Rattle.np_driven.specs.Players.{Player, driving_in, drivings_of, IsNumbered, next_number, AreNumbered, HaveDriven, WasAnswered}
 use Rattle.np_driven.specs.Round.{PlayerEnd, PlaysFrom, EachPlaysFrom, IsCutOff, IsRound, fresh_sight}
 use Rattle.np_driven.proofs.Ends.{player_of}
-use Rattle.np_driven.proofs.New.{old-entry}
+use Rattle.np_driven.proofs.Servers.{told}
+use Rattle.np_driven.proofs.First.{old-entry}
 use Rattle.np_driven.proofs.Leaves.{round-have-driven}
-use Rattle.np_driven.proofs.NodeRecords.{holds-after}
+use Rattle.np_driven.proofs.Starts.{holds-after}
 use Rattle.np_driven.proofs.Rounds.{round-driven, round-no-tick}
-use Rattle.np_driven.proofs.Splits.{same-split, split-within, no-member}
+use Rattle.np_driven.proofs.Histories.{same-split, split-within, no-member}
 use Rattle.np_driven.specs.Nodes.{servers_up}
 use Rattle.np_driven.specs.Reports.{reported, numbers_in, reports_of, AreAloneSound, FailAfter}
 use Rattle.np_driven.specs.Carried.{BeginsEmpty, BeginsNew, NeverRepeats, AreCarried, FailOnlyFull}
 use Rattle.np_driven.specs.Hosting.{Carries, Hosts, Earlier, HaveSoundness, BeginAfter, HaveHosted, IsHosted}
 use Rattle.np_driven.proofs.Idle.{may-report, report-accepted}
 use Rattle.np_driven.proofs.Numbers.{outcomes, IsKnown, found-rows, up-sound, numbers-append}
-use Rattle.np_driven.proofs.Stage.{IsForeign, AreForeign}
-use Rattle.np_driven.proofs.Stands.{nobody, Never, Tells, Calm, Leaves, Stands, tells-gap, held-gap, leaves-later}
+use Rattle.np_driven.proofs.Stage.{IsForeign, AreForeign, nobody, Never, Tells, Calm, Leaves, Stands, tells-gap, held-gap, leaves-later}
 use Rattle.np_driven.proofs.Carrying.{Surroundings, Left, part-foreign, walk-stands, walk-early}
 use Rattle.np_driven.proofs.Others.{is-foreign}
 use Rattle.np_driven.proofs.Waiting.{waits-after, polite-at}
@@ -109,21 +93,17 @@ module _ (c : Configuration) (history : List Entry) where
   pool-first n player end players ends plays (of_pool pool) own (Some a) (Some b) had has drove is rest (suc i) d' at same =
       pool-same c history (player ∷ players) (end ∷ ends) (suc i) (suc n + i) (n + suc i) d' (omega arith)
       (pool-later c history player players end ends i (suc i) (suc n + i) d' (λ d stood. ap (λ (f : ℕ → Option Driving). f (suc i)) (sym same) ∙ stood) (rest i d' at))
-  pool-first n player end players ends plays (of_pool pool) own (Some a) None had has drove is rest i d' at same = absurd drove
   pool-first n player end players ends plays (of_pool pool) own None now had has drove is rest i d' at same = absurd is
-  pool-first n player end players ends plays (of_requester q) own None None had has drove is rest i d' at same = pool-later c history player players end ends i i (n + i) d' (λ d stood. ap (λ (f : ℕ → Option Driving). f i) (sym same) ∙ stood) (rest i d' at)
-  pool-first n player end players ends plays (of_requester q) own None (Some b) had has drove is rest i d' at same = absurd drove
-  pool-first n player end players ends plays (of_requester q) own (Some a) now had has drove is rest i d' at same = absurd is
-  pool-first n player end players ends plays of_reaper own None None had has drove is rest i d' at same = pool-later c history player players end ends i i (n + i) d' (λ d stood. ap (λ (f : ℕ → Option Driving). f i) (sym same) ∙ stood) (rest i d' at)
-  pool-first n player end players ends plays of_reaper own None (Some b) had has drove is rest i d' at same = absurd drove
-  pool-first n player end players ends plays of_reaper own (Some a) now had has drove is rest i d' at same = absurd is
+  pool-first n player end players ends plays _ own None None had has drove is rest i d' at same = pool-later c history player players end ends i i (n + i) d' (λ d stood. ap (λ (f : ℕ → Option Driving). f i) (sym same) ∙ stood) (rest i d' at)
+  pool-first n player end players ends plays (of_pool pool) own (Some a) None had has drove is rest i d' at same = absurd drove
+  pool-first n player end players ends plays _ own None (Some b) had has drove is rest i d' at same = absurd drove
+  pool-first n player end players ends plays _ own (Some a) now had has drove is rest i d' at same = absurd is
 
   pool-round : (n : ℕ) (players : List Player) (ends : List PlayerEnd) → EachPlaysFrom false c history players ends → AreNumbered n players → (i : ℕ) (d' : Driving) → slice_get (drivings_of (map player_of ends)) i ≡ Some d' → PoolRound c history players ends i (n + i) d'
   pool-round n [] [] each are i d' at = absurd (none-some d' at)
-  pool-round n [] (end ∷ ends) each are i d' at = absurd each
-  pool-round n (player ∷ players) [] each are i d' at = absurd each
   pool-round n (player ∷ players) (end ∷ ends) each are i d' at =
       pool-first n player end players ends each.0 player.work refl player.driving end.player.driving refl refl each.0.drove are.0 (pool-round (next_number n player.work) players ends each.1 are.1) i d' at refl
+  pool-round n _ _ each are i d' at = absurd each
 
 -- ## numbers of launches
 
@@ -153,7 +133,7 @@ fewer-distinct first rest distinct = distinct-first (numbers_in (outcomes first)
 -- ## from one form to the other
 
 never-is : (d : Driving) (launches : List Launch) → d.facts.answered ≡ Some launches → NeverRepeats d → DistinctNumbers (numbers_in (outcomes launches))
-never-is d launches is never = subst (λ (o : Option (List Launch)). IfSome o (λ ls. DistinctNumbers (numbers_in (outcomes ls)))) is never
+never-is d launches is never = told (λ ls. DistinctNumbers (numbers_in (outcomes ls))) d.facts.answered launches is never
 
 never-of : (d : Driving) (launches : List Launch) → d.facts.answered ≡ Some launches → DistinctNumbers (numbers_in (outcomes launches)) → NeverRepeats d
 never-of d launches is distinct = subst (λ (o : Option (List Launch)). IfSome o (λ ls. DistinctNumbers (numbers_in (outcomes ls)))) (sym is) distinct
@@ -197,30 +177,22 @@ module _ (c : Configuration) (p : PoolId) (earlier : ℕ) (journal : List Entry)
 
   -- the servers of the nodes that are up are sound for the driver
   nodes-sound : (launches : List Launch) (servers : List Server) → d.facts.answered ≡ Some launches → d.facts.servers ≡ Some servers → Soundness d.facts d.sound → Calm c p d.sound d.room earlier launches journal launches servers → NeverRepeats d → IsTrue (d.sound (servers_up p (after c journal).nodes))
-  nodes-sound launches servers answered told sound calm never =
+  nodes-sound launches servers answered reported sound calm never =
       let rows : List NodeEntry = (after c journal).nodes in
       let rises = (holds-after c journal).numbered.nodes_rise in
       let distinct = never-is d launches answered never in
       up-sound p launches servers distinct d.sound rows rises
       (all-weaker (λ (e : NodeEntry). node_in e.id rows ≡ Some e.kept) (IsKnown p launches servers distinct)
       (λ e found. record { launched = λ x own has. calm.at.launched e.id e.kept x found own has; present = λ x own up has. calm.at.present distinct e.id e.kept x found own up has }) rows (found-rows rows rises))
-      sound.fewer (subst (λ (o : Option (List Server)). IfSome o (λ some. IsTrue (d.sound (numbers_of some)))) told sound.servers)
+      sound.fewer (told (λ some. IsTrue (d.sound (numbers_of some))) d.facts.servers servers reported sound.servers)
 
 -- ## a round
 
 calm-left : (c : Configuration) (p : PoolId) (sound : List ℕ → Bool) (room earlier : ℕ) (final : List Launch) (ph : Phase) (journal : List Entry) (launches : List Launch) (servers : List Server) → (IsCutOff ph → ⊥) → Leaves c p sound room earlier final ph journal launches servers → Calm c p sound room earlier final journal launches servers
-calm-left c p sound room earlier final (acts r m) journal launches servers uncut leaves = leaves
 calm-left c p sound room earlier final (owes_launch pool m s) journal launches servers uncut leaves = absurd (uncut tt)
 calm-left c p sound room earlier final (owes_report pool m s o) journal launches servers uncut leaves = absurd (uncut tt)
-calm-left c p sound room earlier final (looks pool m) journal launches servers uncut leaves = leaves
-calm-left c p sound room earlier final (owes_due pool m x) journal launches servers uncut leaves = leaves
-calm-left c p sound room earlier final (sweeps pool) journal launches servers uncut leaves = leaves
-calm-left c p sound room earlier final (owes_swept pool x) journal launches servers uncut leaves = leaves
-calm-left c p sound room earlier final rests journal launches servers uncut leaves = leaves
 calm-left c p sound room earlier final ended journal launches servers uncut leaves = absurd (uncut tt)
-
-told-servers : (P : List Server → Type 0) (o : Option (List Server)) (servers : List Server) → o ≡ Some servers → IfSome o P → P servers
-told-servers P o servers is h = subst (λ (x : Option (List Server)). IfSome x P) is h
+calm-left c p sound room earlier final _ journal launches servers uncut leaves = leaves
 
 module _ (c : Configuration) (history later : List Entry) (players now : List Player) (is_cut : Bool) (round : IsRound false c history later players now is_cut) (runs : Runs c later (after c later)) (have : HaveDriven c history players) where
   driven-now : DrivenBy (WasAnswered (drivings_of now)) c later
@@ -272,8 +244,8 @@ module _ (c : Configuration) (history later : List Entry) (players now : List Pl
         let leads : Leads (first_phase (of_pool p)) r.plays.trace r.end.phase = subst (λ (w : Work). Leads (first_phase w) r.plays.trace r.end.phase) work-is r.plays.led in
         walk-stands c p r.d.sound r.d.room earlier final (length history) later r.end.sight.mine around r.plays.trace (first_phase (of_pool p)) r.end.phase (fresh_sight history) r.end.sight h.launches h.servers begins r.plays.walked leads refl seen-all (omega arith) none-early
         (asks_of (of_pool p) r.end.phase r.plays.trace leads)
-        (told-servers (λ servers. SweepsServers r.plays.trace servers) r.d.facts.servers h.servers h.told drives.swept)
-        (told-servers (λ servers. AreSoundAlone r.d.sound r.plays.trace) r.d.facts.servers h.servers h.told drives.alone)
+        (told (SweepsServers r.plays.trace) r.d.facts.servers h.servers h.told drives.swept)
+        (told (λ servers. AreSoundAlone r.d.sound r.plays.trace) r.d.facts.servers h.servers h.told drives.alone)
         (subst (λ (o : Option (List Server)). FailFull r.d.room r.plays.trace (Some h.launches) o) h.told (subst (λ (o : Option (List Launch)). FailFull r.d.room r.plays.trace o r.d.facts.servers) h.answered drives.full))
         refl
 

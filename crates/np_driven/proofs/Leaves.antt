@@ -1,16 +1,13 @@
 -- a round of players none of whom was cut off: each of their servers was named
 use Rattle.std.proofs.Common.{◌≡◌, suc, ◌<◌, List, [], ◌∷◌, ◌++◌, map, length, Bool, false, All, Contains, refl, sym, subst, arith}
 use Rattle.std.proofs.lemmas.List.Elements.{All-nil, All-append, All-weaker, All-contains}
-use Rattle.np_site.specs.Configuration.{Configuration}
-use Rattle.np_event.specs.declared.entry.Entry.{Entry}
-use Rattle.np_desk.specs.History.{StartsWith}
-use Rattle.np_machine.specs.History.{Runs, after}
-use Rattle.np_answers.specs.Drive.{Driving}
+use Rattle.np_changes.specs.Prelude.{Configuration, Entry, Runs, after}
+use Rattle.np_answers.specs.Prelude.{Driving, StartsWith}
 use Rattle.np_driven.specs.Players.{Player, driving_in, drivings_of, AreNamed, HaveDrivenAs}
 use Rattle.np_driven.specs.Round.{PlayerEnd, IsCutOff, IsRound}
 use Rattle.np_driven.proofs.Ends.{player_of, round-of}
 use Rattle.np_driven.proofs.Journals.{names-later}
-use Rattle.np_driven.proofs.Played.{servers_named}
+use Rattle.np_driven.proofs.Servers.{servers_named}
 use Rattle.np_driven.proofs.Rounds.{round-driven, round-numbered}
 
 all-drivings : (P : Driving → Type 0) (ends : List PlayerEnd) → ((end : PlayerEnd) → Contains ends end → All P (driving_in end.player.driving)) → All P (drivings_of (map player_of ends))

@@ -1,22 +1,13 @@
 -- numbers of servers: none is launched twice, and those of nodes that are up are among the driver's
 use Rattle.std.proofs.Common.{◌≡◌, ◌∙◌, sym, refl, ap, subst, ◌⊎◌, inl, inr, ⊎_elim, ℕ, suc, List, [], ◌∷◌, ◌++◌, arith, append_assoc, Option, Some, None, Bool, true, false, cond, eqb-true, eq-eqb, map, Contains}
 use Rattle.std.specs.Prelude.{◌==◌, ◌&&◌, ◌||◌, nat_lt, IsTrue}
-use Rattle.std.specs.List.{AllByRecursion}
+use Rattle.np_changes.specs.Prelude.{AllByRecursion, NodeEntry, NodeId, NodeRecord, Outcome, PoolId, Rises, node_in}
 use Rattle.std.proofs.lemmas.Bool.{false≢true, and_parts, or_left, or_right, false_from_ne_true}
 use Rattle.std.proofs.lemmas.Bool.Decides.{nat_tests}
-use Rattle.np_text.specs.declared.id.PoolId.{PoolId}
-use Rattle.np_text.specs.declared.id.NodeId.{NodeId}
-use Rattle.np_record.specs.declared.record.NodeRecord.{NodeRecord}
-use Rattle.np_event.specs.declared.event.Outcome.{Outcome}
 use Rattle.np_event.specs.declared.event.Outcome.TheVariants as outcome
-use Rattle.np_cloud.specs.declared.driver.Tag.{Tag}
-use Rattle.np_cloud.specs.declared.driver.Launch.{Launch}
-use Rattle.np_cloud.specs.declared.driver.Server.{Server}
+use Rattle.np_answers.specs.Prelude.{Launch, Server, Tag}
 use Rattle.np_cloud.specs.Sound.{numbers_of, is_number, DistinctNumbers}
-use Rattle.np_lists.specs.Rising.{Rises}
-use Rattle.np_machine.specs.Entries.{NodeEntry}
-use Rattle.np_machine.specs.Tables.{node_in}
-use Rattle.np_driven.proofs.Splits.{member-cases, no-member}
+use Rattle.np_driven.proofs.Histories.{member-cases, no-member}
 use Rattle.np_driven.specs.Nodes.{is_up, listed, server_up, servers_up}
 use Rattle.np_driven.specs.Reports.{number_in, numbers_in}
 use Rattle.np_driven.specs.Hosting.{WasLaunchedFor, IsServerOf}
@@ -112,18 +103,25 @@ module _ (p : PoolId) (launches : List Launch) (servers : List Server) (distinct
     pub up : is_up row.kept.state ≡ true
     pub server : row.kept.server ≡ Some x
 
-  up-cases : (k : NodeRecord) (x : ℕ) (rest : List ℕ) → is_number x (server_up p k ++ rest) ≡ true → ((k.pool.0 ≡ p.0) × (is_up k.state ≡ true) × (k.server ≡ Some x)) ⊎ (is_number x rest ≡ true)
-  up-cases k x rest is = by ((k.pool.0 == p.0) && is_up k.state) refl is where
-    with_server : (o : Option ℕ) → is_number x (listed o ++ rest) ≡ true → (o ≡ Some x) ⊎ (is_number x rest ≡ true)
-    with_server None here = inr here
-    with_server (Some y) here = either (y == x) refl here where
-      either : (b : Bool) → (y == x) ≡ b → (b || is_number x rest) ≡ true → (Some y ≡ Some x) ⊎ (is_number x rest ≡ true)
-      either true same there = inl (ap (λ (z : ℕ). Some z) (eqb-true y x same))
-      either false other there = inr there
+  -- what holds of no server, and of a node's that is up, holds of the servers of one node
+  server-by : (P : List ℕ → Type 0) (k : NodeRecord) → P [] → ((x : ℕ) → k.pool.0 ≡ p.0 → is_up k.state ≡ true → k.server ≡ Some x → P (x ∷ [])) → P (server_up p k)
+  server-by P k none some = by ((k.pool.0 == p.0) && is_up k.state) refl where
+    with_server : (o : Option ℕ) → k.server ≡ o → k.pool.0 ≡ p.0 → is_up k.state ≡ true → P (listed o)
+    with_server None has own up = none
+    with_server (Some x) has own up = some x own up has
 
-    by : (b : Bool) → ((k.pool.0 == p.0) && is_up k.state) ≡ b → is_number x (cond b (listed k.server) [] ++ rest) ≡ true → ((k.pool.0 ≡ p.0) × (is_up k.state ≡ true) × (k.server ≡ Some x)) ⊎ (is_number x rest ≡ true)
-    by true both here = let parts = and_parts (k.pool.0 == p.0) (is_up k.state) both in ⊎_elim (λ has. inl (eqb-true k.pool.0 p.0 parts.0, parts.1, has)) (λ later. inr later) (with_server k.server here)
-    by false neither here = inr here
+    by : (b : Bool) → ((k.pool.0 == p.0) && is_up k.state) ≡ b → P (cond b (listed k.server) [])
+    by true both = let parts = and_parts (k.pool.0 == p.0) (is_up k.state) both in with_server k.server refl (eqb-true k.pool.0 p.0 parts.0) parts.1
+    by false neither = none
+
+  abbrev HasUp : NodeRecord → ℕ → Type 0
+  HasUp k x = (k.pool.0 ≡ p.0) × (is_up k.state ≡ true) × (k.server ≡ Some x)
+
+  up-cases : (k : NodeRecord) (x : ℕ) (rest : List ℕ) → is_number x (server_up p k ++ rest) ≡ true → HasUp k x ⊎ (is_number x rest ≡ true)
+  up-cases k x rest = server-by (λ l. is_number x (l ++ rest) ≡ true → HasUp k x ⊎ (is_number x rest ≡ true)) k (λ here. inr here) (λ y own up has. either y own up has (y == x) refl) where
+    either : (y : ℕ) → k.pool.0 ≡ p.0 → is_up k.state ≡ true → k.server ≡ Some y → (b : Bool) → (y == x) ≡ b → (b || is_number x rest) ≡ true → HasUp k x ⊎ (is_number x rest ≡ true)
+    either y own up has true same there = inl (own, up, has ∙ ap (λ (z : ℕ). Some z) (eqb-true y x same))
+    either y own up has false other there = inr there
 
   row-of_number : (rows : List NodeEntry) (x : ℕ) → is_number x (servers_up p rows) ≡ true → IsRowOf rows x
   row-of_number [] x is = absurd (false≢true is)
@@ -148,36 +146,20 @@ module _ (p : PoolId) (launches : List Launch) (servers : List Server) (distinct
       let number : e.id.0 ≡ r.row.id.0 = ap (λ (n : NodeId). n.0) same in
       grind (arith, nat_tests))
 
-  distinct-first : (e : NodeEntry) (rows : List NodeEntry) → AllByRecursion (λ f. nat_lt e.id.0 f.id.0 ≡ true) rows → IsKnown e → AllByRecursion IsKnown rows → DistinctNumbers (servers_up p rows) → DistinctNumbers (server_up p e.kept ++ servers_up p rows)
-  distinct-first e rows rises known all rest = by ((e.kept.pool.0 == p.0) && is_up e.kept.state) refl where
-    with_server : e.kept.pool.0 ≡ p.0 → (o : Option ℕ) → e.kept.server ≡ o → DistinctNumbers (listed o ++ servers_up p rows)
-    with_server own None has = rest
-    with_server own (Some x) has = (apart e rows x rises known all own has, rest)
-
-    by : (b : Bool) → ((e.kept.pool.0 == p.0) && is_up e.kept.state) ≡ b → DistinctNumbers (cond b (listed e.kept.server) [] ++ servers_up p rows)
-    by true both = with_server (eqb-true e.kept.pool.0 p.0 (and_parts (e.kept.pool.0 == p.0) (is_up e.kept.state) both).0) e.kept.server refl
-    by false neither = rest
-
   up-distinct : (rows : List NodeEntry) → Rises (λ a b. nat_lt a.id.0 b.id.0) rows → AllByRecursion IsKnown rows → DistinctNumbers (servers_up p rows)
   up-distinct [] rises all = tt
-  up-distinct (e ∷ rows) rises all = distinct-first e rows rises.0 all.0 all.1 (up-distinct rows rises.1 all.1)
+  up-distinct (e ∷ rows) rises all =
+      let rest = up-distinct rows rises.1 all.1 in
+      server-by (λ l. DistinctNumbers (l ++ servers_up p rows)) e.kept rest (λ x own up has. (apart e rows x rises.0 all.0 all.1 own has, rest))
 
   abbrev Within : List ℕ → Type 0
   Within numbers = AllByRecursion (λ x. is_number x (numbers_of servers) ≡ true) numbers
 
-  within-first : (e : NodeEntry) (rest : List ℕ) → IsKnown e → Within rest → Within (server_up p e.kept ++ rest)
-  within-first e rest known all = by ((e.kept.pool.0 == p.0) && is_up e.kept.state) refl where
-    with_server : e.kept.pool.0 ≡ p.0 → is_up e.kept.state ≡ true → (o : Option ℕ) → e.kept.server ≡ o → Within (listed o ++ rest)
-    with_server own up None has = all
-    with_server own up (Some x) has = (is-number_of servers e.id x (known.present x own up has), all)
-
-    by : (b : Bool) → ((e.kept.pool.0 == p.0) && is_up e.kept.state) ≡ b → Within (cond b (listed e.kept.server) [] ++ rest)
-    by true both = let parts = and_parts (e.kept.pool.0 == p.0) (is_up e.kept.state) both in with_server (eqb-true e.kept.pool.0 p.0 parts.0) parts.1 e.kept.server refl
-    by false neither = all
-
   up-within : (rows : List NodeEntry) → AllByRecursion IsKnown rows → Within (servers_up p rows)
   up-within [] all = tt
-  up-within (e ∷ rows) all = within-first e (servers_up p rows) all.0 (up-within rows all.1)
+  up-within (e ∷ rows) all =
+      let rest = up-within rows all.1 in
+      server-by (λ l. Within (l ++ servers_up p rows)) e.kept rest (λ x own up has. (is-number_of servers e.id x (all.0.present x own up has), rest))
 
   -- the servers of the nodes that are up are sound
   pub up-sound : (sound : List ℕ → Bool) (rows : List NodeEntry) → Rises (λ a b. nat_lt a.id.0 b.id.0) rows → AllByRecursion IsKnown rows

@@ -1,46 +1,24 @@
 -- the entries of other workers in a round
-use Rattle.std.proofs.Common.{◌≡◌, ◌≢◌, ◌∙◌, sym, refl, ap, subst, ⊎_elim, ℕ, ◌≤◌, List, [], ◌∷◌, ◌++◌, length, append_assoc, append-nil, Some, Bool, false, eqb-true, eq-eqb, Contains}
-use Rattle.std.proofs.lemmas.List.Elements.{All-contains}
+use Rattle.std.proofs.Common.{◌≡◌, ◌≢◌, ◌∙◌, sym, ap, subst, inl, inr, ℕ, ◌≤◌, List, [], ◌∷◌, ◌++◌, length, append-nil, Some, Bool, false, eqb-true, eq-eqb, Contains}
 use Rattle.std.proofs.lemmas.Option.{same_Some}
-use Rattle.np_text.specs.declared.id.SessionId.{SessionId}
-use Rattle.np_text.specs.declared.id.PoolId.{PoolId}
-use Rattle.np_text.specs.declared.id.NodeId.{NodeId}
-use Rattle.np_text.specs.declared.id.Role.TheVariants.{Launcher}
-use Rattle.np_site.specs.Configuration.{Configuration}
-use Rattle.np_event.specs.declared.event.Event.{Event}
+use Rattle.np_changes.specs.Prelude.{Configuration, Entry, Event, Launcher, NodeId, Outcome, PoolId, SessionId, after, maker_of, node_in, role_of, turns}
 use Rattle.np_event.specs.declared.event.Event.TheVariants as ev
-use Rattle.np_event.specs.declared.event.Outcome.{Outcome}
-use Rattle.np_event.specs.declared.entry.Entry.{Entry}
-use Rattle.np_desk.specs.History.{StartsWith}
-use Rattle.np_machine.specs.Tables.{role_of, node_in}
-use Rattle.np_machine.specs.Step.{maker_of}
-use Rattle.np_machine.specs.History.{after}
-use Rattle.np_machine.specs.Turns.{Turn, turns}
+use Rattle.np_answers.specs.Prelude.{DrivenBy, launches_of, of_pool}
 use Rattle.np_laws.proofs.Ids.{same_pool}
-use Rattle.np_useful.specs.Driven.{DrivenBy}
-use Rattle.np_answers.specs.Move.{launches_of}
-use Rattle.np_answers.specs.Phase.{of_pool}
-use Rattle.np_driven.specs.Makers.{IsOfWorker}
 use Rattle.np_driven.specs.Planned.{IsChosen}
 use Rattle.np_driven.specs.Players.{Player, HaveDriven, drivings_of, WasAnswered}
 use Rattle.np_driven.specs.Round.{PlayerEnd, IsRound}
 use Rattle.np_driven.proofs.Ends.{one-end}
 use Rattle.np_driven.proofs.Events.{start-parts, act-work}
-use Rattle.np_driven.proofs.Made.{IsActed, IsSwept, IsReported}
-use Rattle.np_driven.proofs.New.{NewEntry, new-entry, now-numbered}
-use Rattle.np_driven.proofs.OfRoles.{entry-of_player}
+use Rattle.np_driven.proofs.Made.{IsActed, IsReported}
+use Rattle.np_driven.proofs.First.{NewEntry, new-entry, now-numbered}
+use Rattle.np_driven.proofs.OfRoles.{of-cause}
 use Rattle.np_driven.proofs.Choices.{chosen-accepted, chosen-done, chosen-start}
-use Rattle.np_driven.proofs.Splits.{same-split}
 use Rattle.np_driven.specs.Reports.{was_node_of, reported}
 use Rattle.np_driven.proofs.Idle.{may-report}
-use Rattle.np_driven.proofs.Pools.{never-of}
+use Rattle.np_driven.proofs.Pools.{never-of, quiet-report}
 use Rattle.np_driven.proofs.Stage.{IsForeign}
 use Rattle.np_driven.proofs.Waiting.{waits-after, polite-at}
-
--- an event reports nothing of a pool if each node that it reports on was never of it
-quiet-report : (p : PoolId) (past : List Turn) (e : Event) → ((session : SessionId) (n : NodeId) (k : ℕ) (o : Outcome) → e ≡ ev.Done session n k o → was_node_of p n past ≡ false) → reported p past e ≡ []
-quiet-report p past (ev.Done session n k o) never = rw (never session n k o refl) refl
-quiet-report p past _ never = refl
 
 module _ (c : Configuration) (history later : List Entry) (players now : List Player) (is_cut : Bool) (round : IsRound false c history later players now is_cut) (have : HaveDriven c history players) (driven : DrivenBy (WasAnswered (drivings_of now)) c later) where
   module _ (p : PoolId) (end : PlayerEnd) (there : Contains round.ends end) (work : end.player.work ≡ of_pool p) (x : List Entry) (e : Entry) (rest : List Entry) (is : later ≡ x ++ e ∷ rest) (young : length history ≤ length x) (other : Contains end.sight.mine (length x) → ⊥) where
@@ -58,27 +36,10 @@ module _ (c : Configuration) (history later : List Entry) (players now : List Pl
 
     -- ## who makes it
 
-    of-worker : IsOfWorker c new.end.sight.seen new.end.player.work (length x)
-    of-worker = entry-of_player c history later players now is_cut round new.end new.there (length x) new.mine
-
-    same-place : (of-worker.before ≡ x) × (of-worker.entry ≡ e)
-    same-place =
-        let seen = All-contains (λ (y : PlayerEnd). StartsWith later y.sight.seen) round.ends new.end round.seen new.there in
-        let w = of-worker in
-        let one : (w.before ++ w.entry ∷ []) ++ (w.stands.0 ++ seen.0) ≡ w.before ++ w.entry ∷ (w.stands.0 ++ seen.0) = append_assoc w.before (w.entry ∷ []) (w.stands.0 ++ seen.0) in
-        let two : ((w.before ++ w.entry ∷ []) ++ w.stands.0) ++ seen.0 ≡ (w.before ++ w.entry ∷ []) ++ (w.stands.0 ++ seen.0) = append_assoc (w.before ++ w.entry ∷ []) w.stands.0 seen.0 in
-        let three : new.end.sight.seen ≡ (w.before ++ w.entry ∷ []) ++ w.stands.0 = w.stands.1 in
-        let four : later ≡ new.end.sight.seen ++ seen.0 = seen.1 in
-        let all : w.before ++ w.entry ∷ (w.stands.0 ++ seen.0) ≡ x ++ e ∷ rest = cc in
-        let split = same-split w.before x (w.stands.0 ++ seen.0) rest w.entry e all w.place in
-        (split.0, split.1)
-
     other-maker : (session : SessionId) → maker_of e.event ≡ Some session → role_of session (after c x) ≡ Some (Launcher p) → ⊥
     other-maker session makes role =
-        let w = of-worker in
-        let here : role_of session (after c w.before) ≡ Some w.role = w.of_role.maker session (ap (λ (d : Entry). maker_of d.event) same-place.1 ∙ makes) in
-        let both : Some w.role ≡ Some (Launcher p) = sym here ∙ (ap (λ (l : List Entry). role_of session (after c l)) same-place.0 ∙ role) in
-        not-own (sym new.plays.work ∙ act-work new.end.player.work w.role p w.own (same_Some w.role (Launcher p) both))
+        let w = of-cause false c x e new.player.work (Unit {0}) new.end.sight.mine (launches_of new.plays.trace) new.cause in
+        not-own (act-work new.player.work w.role p w.own (same_Some w.role (Launcher p) (sym (w.of_role.maker session makes) ∙ role)))
 
     -- ## what it reports
 
@@ -89,7 +50,7 @@ module _ (c : Configuration) (history later : List Entry) (players now : List Pl
         let may = may-report (after c x) who.0 session n k (chosen-accepted c x a.role false (ev.Done session n k o) it) who.2 in
         never-of c p who.0 n x x may.node ([], sym (append-nil x)) may.stands (eqb-true may.node.pool.0 who.0.0 may.of_pool) (apart who.0 (act-work new.player.work a.role who.0 a.own who.1))
 
-    reported-never : IsReported false c x e new.player.work new.end.sight.mine (launches_of new.plays.trace) → (session : SessionId) (n : NodeId) (k : ℕ) (o : Outcome) → e.event ≡ ev.Done session n k o → was_node_of p n (turns c x) ≡ false
+    reported-never : IsReported false c x e new.player.work → (session : SessionId) (n : NodeId) (k : ℕ) (o : Outcome) → e.event ≡ ev.Done session n k o → was_node_of p n (turns c x) ≡ false
     reported-never r session n k o event =
         let same : ev.Done r.start.session r.start.tag.node r.start.tag.attempt r.outcome ≡ ev.Done session n k o = sym r.event ∙ event in
         let node : r.start.tag.node ≡ n = cc in
@@ -98,12 +59,12 @@ module _ (c : Configuration) (history later : List Entry) (players now : List Pl
         never-of c p r.pool n x r.earlier stood.0 (r.begin ∷ r.rest, r.stood) (subst (λ (m : NodeId). node_in m (after c r.earlier).nodes ≡ Some stood.0) node stood.1) stood.2 (apart r.pool r.own)
 
     quiet : reported p (turns c x) e.event ≡ []
-    quiet = quiet-report p (turns c x) e.event (λ session n k o event. ⊎_elim
-        (λ (a : IsActed false c x e new.player.work). acted-never a session n k o event)
-        (λ g. ⊎_elim
-        (λ (s : IsSwept false c x e new.player.work). absurd (cc (s.answer.2.event, event)))
-        (λ (r : IsReported false c x e new.player.work new.end.sight.mine (launches_of new.plays.trace)). reported-never r session n k o event) g)
-        new.cause)
+    quiet = quiet-report p (turns c x) e.event (λ session n k o event.
+        elim new.cause [
+          | inl a ↦ acted-never a session n k o event
+          | inr (inl s) ↦ absurd (cc (s.answer.2.event, event))
+          | inr (inr told) ↦ reported-never told.0 session n k o event
+        ])
 
     -- the entry is another's
     pub is-foreign : (never : Type 0) → IsForeign c p never x e

@@ -1,16 +1,7 @@
 -- journals that are driven, place by place
 use Rattle.std.proofs.Common.{Bool, true, false, ◌≡◌, inl, inr, ⊎_elim, ℕ, List, [], ◌∷◌, ◌++◌, sym, refl, ap, subst, append_assoc, append-nil}
-use Rattle.np_text.specs.declared.id.PoolId.{PoolId}
-use Rattle.np_text.specs.declared.id.NodeId.{NodeId}
-use Rattle.np_site.specs.Configuration.{Configuration}
-use Rattle.np_event.specs.declared.entry.Entry.{Entry}
-use Rattle.np_event.specs.declared.event.Outcome.{Outcome}
-use Rattle.np_machine.specs.History.{after, state_after}
-use Rattle.np_machine.specs.State.{State, start}
-use Rattle.np_machine.specs.Step.{next}
-use Rattle.np_machine.specs.Turns.{Turn, turns, turns_from, SomeTurn, EachTurn}
+use Rattle.np_changes.specs.Prelude.{Configuration, EachAfter, EachTurn, Entry, NodeId, Outcome, PoolId, SomeTurn, State, Turn, after, next, start, state_after, turns, turns_from}
 use Rattle.np_useful.specs.Driven.{Says, DrivenFrom, IsDrivenTurn, IsReportOfLaunch}
-use Rattle.np_lists.specs.EachAfter.{EachAfter}
 use Rattle.np_driven.specs.Planned.{IsTurnAs, DrivenAs}
 
 -- the turn of an entry in a state, and after a journal

@@ -1,15 +1,8 @@
 -- drivers that answer as the configuration plans
 use Rattle.std.proofs.Common.{true, ◌≡◌, ℕ, zero, suc, ◌+◌, List, [], ◌∷◌, map, slice_get, Option, Some, IfSome, subst, arith}
-use Rattle.np_text.specs.declared.id.PoolId.{PoolId}
-use Rattle.np_text.specs.declared.id.NodeId.{NodeId}
-use Rattle.np_site.specs.Configuration.{Configuration}
-use Rattle.np_event.specs.declared.entry.Entry.{Entry}
-use Rattle.np_event.specs.declared.event.Outcome.{Outcome}
-use Rattle.np_cloud.specs.declared.driver.Tag.{Tag}
+use Rattle.np_changes.specs.Prelude.{Configuration, Entry, NodeId, Outcome, PoolId, outcome_of, turns}
+use Rattle.np_answers.specs.Prelude.{Driving, Tag}
 use Rattle.np_cloud.specs.Clouds.{ArePlanned}
-use Rattle.np_machine.specs.Plan.{outcome_of}
-use Rattle.np_machine.specs.Turns.{turns}
-use Rattle.np_answers.specs.Drive.{Driving}
 use Rattle.np_useful.specs.Driven.{DrivenBy, Driven, as_planned}
 use Rattle.np_lists.proofs.EachAfterLemmas.{EachAfter-weaker}
 use Rattle.np_driven.specs.Planned.{IsPlannedTurn, PlannedBy, PlannedDriven}

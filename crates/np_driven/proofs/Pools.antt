@@ -1,33 +1,23 @@
 -- of which pool a node is, and what a journal reports of a pool
 use Rattle.std.proofs.Common.{◌≡◌, ◌≢◌, ◌∙◌, sym, refl, ap, subst, inl, inr, ⊎_elim, ℕ, ◌<◌, ◌≤◌, List, [], ◌∷◌, ◌++◌, length, length-append, arith, append_assoc, append-nil, Option, Some, None, Bool, true, false, cond, eqb-true, eq-eqb}
 use Rattle.std.specs.Prelude.{◌==◌, ◌||◌}
-use Rattle.std.specs.Option.{option_map_or}
-use Rattle.std.specs.List.{list_any}
+use Rattle.np_changes.specs.Prelude.{Configuration, Entry, Event, NodeId, NodeRecord, Outcome, PoolId, SessionId, SomeTurn, State, Turn, after, list_any, next, node_in, option_map_or, start, state_after, turns, turns_from}
 use Rattle.std.proofs.lemmas.Bool.{cases_lt, false_from_ne_true, or_left, or_right}
 use Rattle.std.proofs.lemmas.Option.{same_Some}
-use Rattle.np_text.specs.declared.id.SessionId.{SessionId}
-use Rattle.np_text.specs.declared.id.PoolId.{PoolId}
-use Rattle.np_text.specs.declared.id.NodeId.{NodeId}
-use Rattle.np_site.specs.Configuration.{Configuration}
-use Rattle.np_record.specs.declared.record.NodeRecord.{NodeRecord}
-use Rattle.np_event.specs.declared.event.Event.{Event}
 use Rattle.np_event.specs.declared.event.Event.TheVariants as ev
-use Rattle.np_event.specs.declared.event.Outcome.{Outcome}
-use Rattle.np_event.specs.declared.entry.Entry.{Entry}
-use Rattle.np_desk.specs.History.{StartsWith}
-use Rattle.np_machine.specs.State.{State, start}
-use Rattle.np_machine.specs.Step.{next}
-use Rattle.np_machine.specs.Tables.{node_in}
-use Rattle.np_machine.specs.History.{state_after, after}
-use Rattle.np_machine.specs.Turns.{Turn, turns, turns_from, SomeTurn}
-use Rattle.np_useful.specs.Driven.{BeginsLaunch}
+use Rattle.np_answers.specs.Prelude.{BeginsLaunch, StartsWith}
 use Rattle.np_changes.specs.declared.changes.Changes.{Changes}
 use Rattle.np_laws.proofs.Lookups.{node_in-below}
 use Rattle.np_laws.proofs.Puts.{Way}
-use Rattle.np_driven.proofs.NodeRecords.{IsSteady, given-stays, holds-after}
+use Rattle.np_driven.proofs.Starts.{IsSteady, given-stays, holds-after}
 use Rattle.np_driven.proofs.Places.{turn_of, turn_after, turns-append}
-use Rattle.np_driven.proofs.Splits.{split-within}
+use Rattle.np_driven.proofs.Histories.{split-within}
 use Rattle.np_driven.specs.Reports.{is_node_of, was_node_of, reported, reports_from, reports_of}
+
+-- an event reports nothing of a pool if each node that it reports on was never of it
+pub quiet-report : (p : PoolId) (past : List Turn) (e : Event) → ((session : SessionId) (n : NodeId) (k : ℕ) (o : Outcome) → e ≡ ev.Done session n k o → was_node_of p n past ≡ false) → reported p past e ≡ []
+quiet-report p past (ev.Done session n k o) never = rw (never session n k o refl) refl
+quiet-report p past _ never = refl
 
 -- ## a node keeps its pool
 

@@ -1,47 +1,21 @@
 -- a session keeps its role over a run, and what a useful event says of its role
 use Rattle.std.proofs.Common.{◌≡◌, ◌∙◌, sym, ℕ, List, [], ◌∷◌, ◌++◌, refl, ap, subst, Option, Some, None, Bool, true, false, cond, not, Ok, eqb-true}
 use Rattle.std.specs.Prelude.{◌==◌, ◌-◌, ◌&&◌, is_ok, slice_get, drop}
-use Rattle.std.specs.List.{list_any}
-use Rattle.std.specs.Option.{option_map, option_map_or}
+use Rattle.np_changes.specs.Prelude.{Configuration, Done, Entry, Event, Janitor, Launcher, NodeId, NodeRecord, Outcome, PoolId, Reaper, Requester, RequesterId, Role, SessionFacts, SessionId, State, after, change_session, ended, grown, judge, judge_start, list_any, muted, next, node_in, option_map, option_map_or, plan, role_of, same_role, session_of, sessions_changed, speaks_for, start, state_after}
 use Rattle.std.proofs.lemmas.Bool.{false≢true, and_parts}
 use Rattle.std.proofs.lemmas.Option.{same_Some}
-use Rattle.np_text.specs.declared.id.SessionId.{SessionId}
-use Rattle.np_text.specs.declared.id.PoolId.{PoolId}
-use Rattle.np_text.specs.declared.id.NodeId.{NodeId}
-use Rattle.np_text.specs.declared.id.RequesterId.{RequesterId}
-use Rattle.np_text.specs.declared.id.Role.{Role}
-use Rattle.np_text.specs.declared.id.Role.TheVariants.{Launcher, Janitor, Requester, Reaper}
-use Rattle.np_site.specs.Configuration.{Configuration}
-use Rattle.np_record.specs.declared.record.NodeRecord.{NodeRecord}
-use Rattle.np_event.specs.declared.event.Event.{Event}
 use Rattle.np_event.specs.declared.event.Event.TheVariants as ev
-use Rattle.np_event.specs.declared.event.Outcome.{Outcome}
-use Rattle.np_event.specs.declared.entry.Entry.{Entry}
-use Rattle.np_event.specs.declared.reply.Done.{Done}
 use Rattle.np_lists.proofs.ChangeLemmas.{kept-change_at}
-use Rattle.np_machine.specs.declared.state.SessionFacts.{SessionFacts}
-use Rattle.np_machine.specs.State.{State, start}
-use Rattle.np_machine.specs.Tables.{role_of, session_of, change_session, node_in}
-use Rattle.np_machine.specs.Tests.{launcher}
-use Rattle.np_machine.specs.Session.{muted, ended}
-use Rattle.np_machine.specs.Node.{judge_start}
-use Rattle.np_machine.specs.Laws.{same_role, speaks_for}
-use Rattle.np_machine.specs.Step.{judge, next}
-use Rattle.np_machine.specs.History.{state_after, after}
-use Rattle.np_changes.specs.Changes.{grown, sessions_changed}
-use Rattle.np_changes.specs.Plan.{plan}
 use Rattle.np_changes.specs.declared.changes.Changes.{Changes}
 use Rattle.np_changes.specs.declared.changes.SessionsChange.{SessionsChange}
 use Rattle.np_changes.specs.declared.changes.SessionsChange.TheVariants as sessions
 use Rattle.np_changes.proofs.Makers.{launcher-role}
 use Rattle.np_changes.proofs.PlanLaws.{plan-next}
-use Rattle.np_changes.proofs.Tested.{ok-is, on-given, on-found, on-need}
 use Rattle.np_laws.proofs.Ids.{same_pool, row-of}
 use Rattle.np_laws.proofs.Sessions.{facts_in, facts-grown}
 use Rattle.np_useful.specs.Sessions.{is_current}
-use Rattle.np_useful.specs.Launcher.{is_by_registrant}
 use Rattle.np_useful.specs.Useful.{IsUseful}
-use Rattle.np_driven.proofs.NodeRecords.{state_after-append}
+use Rattle.np_driven.proofs.Starts.{state_after-append, starting}
 
 -- ## a session keeps its role
 
@@ -95,18 +69,7 @@ same_role-is (Launcher p) (Launcher q) is = ap (λ (x : PoolId). Launcher x) (sa
 same_role-is (Janitor p) (Janitor q) is = ap (λ (x : PoolId). Janitor x) (same_pool p q is)
 same_role-is (Requester p) (Requester q) is = ap (λ (x : RequesterId). Requester x) (same_requester p q is)
 same_role-is Reaper Reaper is = refl
-same_role-is (Launcher p) (Janitor q) is = absurd (false≢true is)
-same_role-is (Launcher p) (Requester q) is = absurd (false≢true is)
-same_role-is (Launcher p) Reaper is = absurd (false≢true is)
-same_role-is (Janitor p) (Launcher q) is = absurd (false≢true is)
-same_role-is (Janitor p) (Requester q) is = absurd (false≢true is)
-same_role-is (Janitor p) Reaper is = absurd (false≢true is)
-same_role-is (Requester p) (Launcher q) is = absurd (false≢true is)
-same_role-is (Requester p) (Janitor q) is = absurd (false≢true is)
-same_role-is (Requester p) Reaper is = absurd (false≢true is)
-same_role-is Reaper (Launcher q) is = absurd (false≢true is)
-same_role-is Reaper (Janitor q) is = absurd (false≢true is)
-same_role-is Reaper (Requester q) is = absurd (false≢true is)
+same_role-is _ _ is = absurd (false≢true is)
 
 speaks-as : (role : Role) (o : Option SessionFacts) → option_map_or (speaks_for role) o false ≡ true → option_map (λ (f : SessionFacts). f.role) o ≡ Some role
 speaks-as role None is = absurd (false≢true is)
@@ -122,48 +85,28 @@ current-role role session s is =
 
 -- ## useful starts and reports
 
+pub same_launcher : (a b : PoolId) → Launcher a ≡ Launcher b → a ≡ b
+same_launcher a b same = cc
+
 -- a start that is accepted is of a node of the maker's pool
 pub start-of_pool : (s : State) (session : SessionId) (n : NodeId) (pool : PoolId) (what : Done) → judge_start s session n ≡ Ok what → role_of session s ≡ Some (Launcher pool) → (node : NodeRecord) × (node_in n s.nodes ≡ Some node) × (node.pool.0 ≡ pool.0)
 start-of_pool s session n pool what ok is =
-    on-given (launcher s session) _ what ok (λ p who node_is.
-    on-found (node_in n s.nodes) _ _ what node_is (λ node stands pool_is.
-    on-need (node.pool.0 == p.0) _ _ what pool_is (λ own rest.
-    (node, stands, eqb-true node.pool.0 p.0 own ∙ ap (λ (x : PoolId). x.0) (same_launcher p pool (same_Some (Launcher p) (Launcher pool) (sym (launcher-role s session p who) ∙ is)))))))
-  where
-    same_launcher : (a b : PoolId) → Launcher a ≡ Launcher b → a ≡ b
-    same_launcher a b same = cc
-
-pub useful-start : (c : Configuration) (s : State) (pool : PoolId) (session : SessionId) (n : NodeId) → IsUseful c s (Launcher pool) (ev.Start session n) →
-    (role_of session s ≡ Some (Launcher pool)) × ((node : NodeRecord) × (node_in n s.nodes ≡ Some node) × (node.pool.0 ≡ pool.0))
-useful-start c s pool session n useful =
-    let role : role_of session s ≡ Some (Launcher pool) = current-role (Launcher pool) session s useful.maker in
-    let was : (what : Done) × (judge_start s session n ≡ Ok what) = ok-is (judge_start s session n) useful.accepted in
-    (role, start-of_pool s session n pool was.0 was.1 role)
+    let r = starting s session n what ok in
+    let same : r.pool ≡ pool = same_launcher r.pool pool (same_Some (Launcher r.pool) (Launcher pool) (sym (launcher-role s session r.pool r.who) ∙ is)) in
+    (r.node, r.stands, eqb-true r.node.pool.0 r.pool.0 r.of_pool ∙ ap (λ (x : PoolId). x.0) same)
 
 -- a report is useful for launchers alone
 pub useful-done : (c : Configuration) (s : State) (role : Role) (session : SessionId) (n : NodeId) (k : ℕ) (o : Outcome) → IsUseful c s role (ev.Done session n k o) → (pool : PoolId) × (role ≡ Launcher pool) × (role_of session s ≡ Some (Launcher pool))
 useful-done c s (Launcher pool) session n k o useful = (pool, refl, current-role (Launcher pool) session s useful.maker)
-useful-done c s (Janitor pool) session n k o useful = absurd (false≢true useful.row)
-useful-done c s (Requester q) session n k o useful = absurd (false≢true useful.row)
-useful-done c s Reaper session n k o useful = absurd (false≢true useful.row)
+useful-done c s _ session n k o useful = absurd (false≢true useful.row)
 
 -- and so is a start
 pub useful-start_role : (c : Configuration) (s : State) (role : Role) (session : SessionId) (n : NodeId) → IsUseful c s role (ev.Start session n) → (pool : PoolId) × (role ≡ Launcher pool)
 useful-start_role c s (Launcher pool) session n useful = (pool, refl)
-useful-start_role c s (Janitor pool) session n useful = absurd (false≢true useful.row)
-useful-start_role c s (Requester q) session n useful = absurd (false≢true useful.row)
-useful-start_role c s Reaper session n useful = absurd (false≢true useful.row)
+useful-start_role c s _ session n useful = absurd (false≢true useful.row)
 
 -- ## what no role finds useful
 
 pub useful-tickless : (c : Configuration) (s : State) (role : Role) → IsUseful c s role ev.Tick → ⊥
 useful-tickless c s (Launcher pool) useful = false≢true useful.row
-useful-tickless c s (Janitor pool) useful = false≢true useful.row
-useful-tickless c s (Requester q) useful = false≢true useful.row
-useful-tickless c s Reaper useful = false≢true useful.row
-
-pub useful-sweepless : (c : Configuration) (s : State) (role : Role) (session : SessionId) (n : NodeId) (x : ℕ) → IsUseful c s role (ev.Sweep session n x) → ⊥
-useful-sweepless c s (Launcher pool) session n x useful = false≢true ((and_parts (is_by_registrant s pool (ev.Sweep session n x)) false useful.row).1)
-useful-sweepless c s (Janitor pool) session n x useful = false≢true useful.row
-useful-sweepless c s (Requester q) session n x useful = false≢true useful.row
-useful-sweepless c s Reaper session n x useful = false≢true useful.row
+useful-tickless c s _ useful = false≢true useful.row

@@ -2,33 +2,23 @@
 use Rattle.std.proofs.Common.{◌≡◌, inl, inr, ⊎_elim, ℕ, ◌<◌, ◌≤◌, List, ◌∷◌, ◌++◌, length, map, Bool, false, Contains, refl, sym, subst, arith, ◌∙◌}
 use Rattle.std.proofs.lemmas.Bool.{cases_lt, false_from_ne_true}
 use Rattle.std.proofs.lemmas.List.Elements.{Contains-append_right}
-use Rattle.np_text.specs.declared.id.PoolId.{PoolId}
-use Rattle.np_site.specs.Configuration.{Configuration}
-use Rattle.np_event.specs.declared.entry.Entry.{Entry}
-use Rattle.np_event.specs.declared.event.Event.{Event}
+use Rattle.np_changes.specs.Prelude.{Configuration, EachTurn, Entry, Event, Outcome, PoolId, Runs, SomeTurn, after, turns}
 use Rattle.np_event.specs.declared.event.Event.TheVariants as ev
-use Rattle.np_event.specs.declared.event.Outcome.{Outcome}
-use Rattle.np_desk.specs.History.{AreRising}
-use Rattle.np_machine.specs.History.{Runs, after}
+use Rattle.np_answers.specs.Prelude.{AreRising, Says, Work, launches_of, of_pool}
 use Rattle.np_machine.specs.State.{start as start_state}
-use Rattle.np_machine.specs.Turns.{turns, EachTurn, SomeTurn}
 use Rattle.np_useful.specs.Driven.{IsSweepOfServer, IsReportOfLaunch, BeginsLaunch, is_tick, is_report_of}
-use Rattle.np_answers.specs.Move.{launches_of}
-use Rattle.np_answers.specs.Phase.{Work, of_pool}
 use Rattle.np_driven.specs.Planned.{IsChosen, IsTurnAs, DrivenAs}
 use Rattle.np_driven.specs.Players.{Player, HaveDrivenAs, drivings_of, AreNumbered, WasAnswered, launch_of}
 use Rattle.np_driven.specs.Round.{PlayerEnd, IsRound}
 use Rattle.np_driven.proofs.Choices.{chosen-tickless, chosen-turn}
-use Rattle.np_driven.proofs.Made.{IsActed, IsSwept, IsReported, Follows}
-use Rattle.np_driven.proofs.Splits.{split-outer, length-split, none-between}
+use Rattle.np_driven.proofs.Made.{Cause, Follows, HasReported, IsReported, IsSwept}
+use Rattle.np_driven.proofs.Histories.{split-outer, length-split, none-between}
 use Rattle.np_driven.proofs.Places.{turn_after, some-from, each-from, driven-at, driven-from, turn-as, turn-more_as}
 use Rattle.np_answers.proofs.SweepLemmas.{sweep-removes}
-use Rattle.np_driven.proofs.Played.{places_rise, places_new}
-use Rattle.np_driven.proofs.Ends.{player_of, player-there, numbered-now, one-end}
-use Rattle.np_driven.proofs.Answers.{answer-kept, answer-new}
+use Rattle.np_driven.proofs.Servers.{places_rise, places_new}
+use Rattle.np_driven.proofs.Ends.{player_of, player-there, numbered-now, one-end, answer-kept, answer-new}
 use Rattle.np_driven.proofs.Events.{start-parts, report-event, tick-event}
-use Rattle.np_driven.proofs.New.{NewEntry, new-entry, now-numbered, old-entry}
-use Rattle.np_driven.proofs.First.{BeginsAt, begins, driven-after, made-after}
+use Rattle.np_driven.proofs.First.{BeginsAt, begins, driven-after, made-after, NewEntry, new-entry, now-numbered, old-entry}
 
 -- the first of two that follow one another is among them
 follows-there : (mine : List ℕ) (i x : ℕ) → Follows mine i x → Contains mine i
@@ -45,19 +35,25 @@ module _ {plans : Bool} (c : Configuration) (history later : List Entry) (player
   abbrev players-now : List Player
   players-now = map player_of round.ends
 
-  module _ (before : List Entry) (e : Entry) (rest : List Entry) (is : later ≡ before ++ e ∷ rest) (new : NewEntry plans c history round.ends before e) (r : IsReported plans c before e new.player.work new.end.sight.mine (launches_of new.plays.trace)) where
+  abbrev says : Says
+  says = WasAnswered (drivings_of players-now)
+
+  module _ (before : List Entry) (e : Entry) (rest : List Entry) (is : later ≡ before ++ e ∷ rest) (new : NewEntry plans c history round.ends before e) (told : HasReported plans c before e new.player.work new.end.sight.mine (launches_of new.plays.trace)) where
+    abbrev r : IsReported plans c before e new.player.work
+    r = told.0
+
     start : BeginsAt c later r.start.session r.start.tag.node r.start.tag.attempt r.pool r.earlier r.begin
-    start = begins c later runs r.start.session r.start.tag.node r.start.tag.attempt plans before e rest is new.player.work new.end.sight.mine (launches_of new.plays.trace) r refl refl refl
+    start = begins c later runs r.start.session r.start.tag.node r.start.tag.attempt plans before e rest is new.player.work r refl refl refl
 
     start-new : length history ≤ length r.earlier
-    start-new = places_new c history new.player new.end new.plays (length r.earlier) (follows-there new.end.sight.mine (length r.earlier) (length before) r.next)
+    start-new = places_new c history new.player new.end new.plays (length r.earlier) (follows-there new.end.sight.mine (length r.earlier) (length before) told.1)
 
     -- the worker of the pool made no entry between the start and the report
     not-between : (b : List Entry) (u : Entry) (other : NewEntry plans c history round.ends b u) → other.player.work ≡ of_pool r.pool → length r.earlier < length b → length b < length before → ⊥
     not-between b u other work above below =
         let same : other.end ≡ new.end = one-end 0 round.ends (now-numbered c history later players now is_cut round have) other.end new.end other.there new.there r.pool (other.plays.work ∙ work) (new.plays.work ∙ r.own) in
         none-within new.end.sight.mine (length r.earlier) (length before) (length b) (length new.end.sight.seen)
-        (places_rise c history new.player new.end new.plays) r.next
+        (places_rise c history new.player new.end new.plays) told.1
         (subst (λ (x : PlayerEnd). Contains x.sight.mine (length b)) same other.mine) above below
 
     no-report : (b : List Entry) (u : Entry) (more : List Entry) → before ≡ b ++ u ∷ more → (o : Outcome) → u.event ≡ ev.Done r.start.session r.start.tag.node r.start.tag.attempt o → ⊥
@@ -72,7 +68,7 @@ module _ {plans : Bool} (c : Configuration) (history later : List Entry) (player
         omega (arith, start-new, less, old))
         (λ (young : length history ≤ length b).
         let other = new-entry c history later players now is_cut round have b u (more ++ e ∷ rest) outer young in
-        let made = made-after c later runs r.start.session r.start.tag.node r.start.tag.attempt r.pool r.earlier r.begin start b u (more ++ e ∷ rest) outer o event plans other.player.work other.end.sight.mine (launches_of other.plays.trace) other.cause in
+        let made = made-after c later runs r.start.session r.start.tag.node r.start.tag.attempt r.pool r.earlier r.begin start b u (more ++ e ∷ rest) outer o event plans other.player.work (Unit {0}) other.end.sight.mine (launches_of other.plays.trace) other.cause in
         not-between b u other made.0 made.1 below)
         (cases_lt (length b) (length history))
 
@@ -92,7 +88,7 @@ module _ {plans : Bool} (c : Configuration) (history later : List Entry) (player
         let pool = (start-parts r.pool r.begin.event r.begin.reply r.start r.begun).same_pool in
         answer-new c history players-now (now-numbered c history later players now is_cut round have) new.player new.end new.plays (player-there round.ends new.end new.there)
         r.pool (new.plays.work ∙ r.own) r.start.tag.node r.start.tag.attempt r.start.tag.start r.outcome
-        (subst (λ (p : PoolId). Contains (launches_of new.plays.trace) (launch_of p r.start.tag.node r.start.tag.attempt r.start.tag.start r.outcome)) pool r.launched)
+        (subst (λ (p : PoolId). Contains (launches_of new.plays.trace) (launch_of p r.start.tag.node r.start.tag.attempt r.start.tag.start r.outcome)) pool told.2)
 
     reported-driven : IsReportOfLaunch (WasAnswered (drivings_of players-now)) (turns c before) (turn_after c before e)
     reported-driven = record {
@@ -108,25 +104,28 @@ module _ {plans : Bool} (c : Configuration) (history later : List Entry) (player
       answered = was-answered;
     }
 
-  swept-driven : (before : List Entry) (e : Entry) (work : Work) → IsSwept plans c before e work → IsSweepOfServer (turns c before) (turn_after c before e)
+  swept-driven : (before : List Entry) (e : Entry) (work : Work) → IsSwept plans c before e work (Unit {0}) → IsSweepOfServer (turns c before) (turn_after c before e)
   swept-driven before e work s = record {
     session = s.answer.2.session;
     pool = s.pool;
-    number = s.server.tag.node;
-    server = s.server.number;
+    number = s.node;
+    server = s.server;
     event = s.answer.2.event;
-    removed = sweep-removes c before s.pool s.server.tag.node s.server.number e s.answer;
+    removed = sweep-removes c before s.pool s.node s.server e s.answer;
     current = s.answer.2.current;
-    named = s.named;
+    named = s.named tt;
     unswept = s.answer.1;
   }
 
   new-driven : (before : List Entry) (e : Entry) (rest : List Entry) → later ≡ before ++ e ∷ rest → length history ≤ length before → IsTurnAs (WasAnswered (drivings_of players-now)) plans c (turns c before) (turn_after c before e)
   new-driven before e rest is young =
       let new = new-entry c history later players now is_cut round have before e rest is young in
-      ⊎_elim (λ (a : IsActed plans c before e new.player.work). chosen-turn c before a.role plans (WasAnswered (drivings_of players-now)) e a.answer.0)
-      (λ g. turn-as c (WasAnswered (drivings_of players-now)) plans (turns c before) (turn_after c before e) (inr (inr (⊎_elim (λ (s : IsSwept plans c before e new.player.work). inl (swept-driven before e new.player.work s)) (λ r. inr (reported-driven before e rest is new r)) g))))
-      new.cause
+      by new new.cause
+    where
+      by : (new : NewEntry plans c history round.ends before e) → Cause plans c before e new.player.work (Unit {0}) new.end.sight.mine (launches_of new.plays.trace) → IsTurnAs says plans c (turns c before) (turn_after c before e)
+      by new (inl a) = chosen-turn c before a.role plans says e a.answer.0
+      by new (inr (inl s)) = turn-as c says plans (turns c before) (turn_after c before e) (inr (inr (inl (swept-driven before e new.player.work s))))
+      by new (inr (inr told)) = turn-as c says plans (turns c before) (turn_after c before e) (inr (inr (inr (reported-driven before e rest is new told))))
 
   old-driven : (before : List Entry) (e : Entry) (rest : List Entry) → later ≡ before ++ e ∷ rest → length before < length history → IsTurnAs (WasAnswered (drivings_of players-now)) plans c (turns c before) (turn_after c before e)
   old-driven before e rest is old =
@@ -149,6 +148,8 @@ module _ {plans : Bool} (c : Configuration) (history later : List Entry) (player
       let new = new-entry c history later players now is_cut round have before e rest is young in
       false_from_ne_true (is_tick e.event) (λ yes.
       let tick = tick-event e.event yes in
-      ⊎_elim (λ (a : IsActed plans c before e new.player.work). chosen-tickless c before a.role plans (subst (λ (x : Event). IsChosen plans c before a.role x) tick a.answer.0))
-      (λ g. ⊎_elim (λ (s : IsSwept plans c before e new.player.work). absurd (cc (s.answer.2.event, tick))) (λ r. absurd (cc (r.event, tick))) g)
-      new.cause)
+      elim new.cause [
+        | inl a ↦ chosen-tickless c before a.role plans (subst (λ (x : Event). IsChosen plans c before a.role x) tick a.answer.0)
+        | inr (inl s) ↦ absurd (cc (s.answer.2.event, tick))
+        | inr (inr told) ↦ absurd (cc (told.0.event, tick))
+      ])

@@ -1,55 +1,33 @@
 -- a server that no record wants any more is never wanted again, and so is gone after a whole round
-use Rattle.std.proofs.Common.{◌≡◌, ◌∙◌, inl, inr, ⊎_elim, ℕ, ◌<◌, List, ◌∷◌, ◌++◌, Bool, true, false, ◌||◌, refl, sym, ap, subst, append_assoc}
+use Rattle.std.proofs.Common.{◌≡◌, ◌∙◌, inl, inr, ⊎_elim, ℕ, ◌<◌, ◌≤◌, arith, List, ◌∷◌, ◌++◌, Bool, true, false, ◌||◌, refl, sym, ap, subst, append_assoc}
 use Rattle.std.specs.Prelude.{All, Contains, Option, Some, None, is_ok}
-use Rattle.std.specs.Option.{option_map_or}
-use Rattle.std.proofs.lemmas.Bool.{false≢true}
+use Rattle.np_changes.specs.Prelude.{Configuration, EndAs, Entry, Event, NodeId, NodeRecord, PoolId, State, after, ended_as, is_building, is_server, is_wanted, judge, node_in, option_map_or, start, turns}
+use Rattle.std.proofs.lemmas.Bool.{false≢true, or_from}
 use Rattle.std.proofs.lemmas.List.Elements.{All-contains}
-use Rattle.np_text.specs.declared.id.NodeId.{NodeId}
-use Rattle.np_text.specs.declared.id.PoolId.{PoolId}
-use Rattle.np_text.specs.declared.word.EndAs.{EndAs}
 use Rattle.np_text.specs.declared.word.EndAs.TheVariants as end_as
-use Rattle.np_site.specs.Configuration.{Configuration}
-use Rattle.np_record.specs.declared.record.NodeRecord.{NodeRecord}
-use Rattle.np_event.specs.declared.event.Event.{Event}
 use Rattle.np_event.specs.declared.event.Event.TheVariants as ev
 use Rattle.np_event.specs.declared.event.Outcome.TheVariants as outcome
-use Rattle.np_event.specs.declared.entry.Entry.{Entry}
-use Rattle.np_cloud.specs.declared.driver.Server.{Server}
-use Rattle.np_desk.specs.History.{StartsWith}
-use Rattle.np_machine.specs.History.{after}
-use Rattle.np_machine.specs.Kinds.{is_building}
-use Rattle.np_machine.specs.Node.{is_server, is_wanted, ended_as}
-use Rattle.np_machine.specs.State.{State, start}
-use Rattle.np_machine.specs.Step.{judge}
-use Rattle.np_machine.specs.Tables.{node_in}
-use Rattle.np_machine.specs.Turns.{turns}
+use Rattle.np_answers.specs.Prelude.{Server, StartsWith, WasKept, WasOfUse, ended}
 use Rattle.np_changes.specs.declared.changes.Changes.{Changes}
 use Rattle.np_laws.proofs.Lookups.{node_in-below}
 use Rattle.np_laws.proofs.Puts.{Way}
-use Rattle.np_useful.specs.Planned.{WasOfUse}
 use Rattle.np_useful.specs.Driven.{Says, IsDrivenTurn, IsOfUse, IsTickBetween, IsSweepOfServer, IsReportOfLaunch, BeginsLaunch, NamesServer}
 use Rattle.np_answers.specs.Answers.{IsKept}
-use Rattle.np_answers.specs.Phase.{ended}
-use Rattle.np_answers.specs.Trace.{WasKept}
 use Rattle.np_driven.specs.Planned.{IsTurnAs, DrivenAs}
 use Rattle.np_driven.specs.Players.{Player, WasNamed}
 use Rattle.np_driven.specs.Round.{PlayerEnd, PlaysFrom}
 use Rattle.np_driven.specs.Servers.{StaysKept, WasUnwanted, KeepsJanitor}
 use Rattle.np_desk.proofs.HistoryLemmas.{starts_on}
-use Rattle.np_driven.proofs.NodeRecords.{IsSteady, IsGiven, given-stays, holds-after}
+use Rattle.np_driven.proofs.Starts.{IsSteady, IsGiven, attempts-steady, given-stays, holds-after, done-spends}
 use Rattle.np_driven.proofs.Places.{turn_after, some-place, driven-at}
-use Rattle.np_driven.proofs.Starts.{done-spends}
-use Rattle.np_driven.proofs.Whereabouts.{kept-stay}
+use Rattle.np_driven.proofs.Leaving.{kept-stay}
+use Rattle.np_lists.proofs.Plain.{not-second}
 
 -- ## a record that does not want a server stays so
 
 -- the record does not have this server, and none is being launched for it
 abbrev Leaves : ℕ → NodeRecord → Type 0
 Leaves x node = (is_building node.state || is_server x node.server) ≡ false
-
-not-second : (a b : Bool) → (a || b) ≡ false → b ≡ false
-not-second true b is = absurd (false≢true (sym is))
-not-second false b is = is
 
 not-both : (a b : Bool) → (a || b) ≡ false → a ≡ true → ⊥
 not-both true b none is = false≢true (sym none)
@@ -59,15 +37,11 @@ ended-leaves : (as_what : EndAs) → is_building (ended_as as_what) ≡ false
 ended-leaves end_as.Used = refl
 ended-leaves end_as.Hold = refl
 
-over-leaves : (a b : Bool) → a ≡ false → b ≡ false → (a || b) ≡ false
-over-leaves true b one two = absurd (false≢true (sym one))
-over-leaves false b one two = two
-
 put-leaves : (x : ℕ) (c : Configuration) (s : State) (ch : Changes) (n : NodeId) (node kept : NodeRecord) → (node.in_flight ≡ true → is_building node.state ≡ true) → Way c s ch n node kept → Leaves x node → Leaves x kept
 put-leaves x c s ch n node kept runs (inl starts) old = subst (Leaves x) (sym starts.record_after) old
 put-leaves x c s ch n node kept runs (inr (inl reports)) old = absurd (not-both (is_building node.state) (is_server x node.server) old (runs reports.running))
 put-leaves x c s ch n node kept runs (inr (inr (inl ends))) old =
-    subst (Leaves x) (sym ends.record_after) (over-leaves (is_building (ended_as ends.as_what)) (is_server x node.server) (ended-leaves ends.as_what) (not-second (is_building node.state) (is_server x node.server) old))
+    subst (Leaves x) (sym ends.record_after) (or_from (is_building (ended_as ends.as_what)) (is_server x node.server) (ended-leaves ends.as_what) (not-second (is_building node.state) (is_server x node.server) old))
 put-leaves x c s ch n node kept runs (inr (inr (inr (inl gives)))) old =
     subst (Leaves x) (sym gives.record_after) (not-second (is_building node.state) (is_server x node.server) old)
 put-leaves x c s ch n node kept runs (inr (inr (inr (inr frees)))) old = subst (Leaves x) (sym frees.record_after) old
@@ -82,17 +56,9 @@ leaves-steady x = record {
 
 -- ## numbers that were given
 
-number-steady : IsSteady (λ node. Unit {0})
-number-steady = record {
-  allocated = λ r tenant node old. old;
-  given_back = λ node old. old;
-  taken_over = λ tick node old. old;
-  put = λ c s ch n node kept runs way old. old;
-}
-
 module _ (c : Configuration) where
   given-later : (n : NodeId) (journal more : List Entry) → n.0 < (after c journal).next_node → n.0 < (after c (journal ++ more)).next_node
-  given-later n journal more given = (given-stays n (λ (node : NodeRecord). Unit {0}) number-steady c journal more (record { given = given; holds = λ node is. tt })).given
+  given-later n journal more given = (given-stays n (λ (node : NodeRecord). 0 ≤ node.attempts) (attempts-steady 0) c journal more (record { given = given; holds = λ node is. omega arith })).given
 
   stood-given : (n : NodeId) (node : NodeRecord) (journal : List Entry) → node_in n (after c journal).nodes ≡ Some node → n.0 < (after c journal).next_node
   stood-given n node journal is = node_in-below n (after c journal).next_node node (after c journal).nodes (holds-after c journal).numbered.nodes_below is

@@ -1,21 +1,9 @@
 -- no launcher stands behind the holder of a node, at each place of a driven journal
 use Rattle.std.proofs.Common.{◌≡◌, sym, refl, subst, ⊎_elim, List, [], ◌∷◌, ◌++◌, false}
-use Rattle.std.specs.List.{AllByRecursion}
+use Rattle.np_changes.specs.Prelude.{AllByRecursion, Configuration, Entry, Event, Launcher, NodeId, Role, SessionId, State, Turn, after, next, node_queue, start, state_after, turns, turns_from}
 use Rattle.std.proofs.lemmas.Bool.{false≢true, and_parts}
-use Rattle.np_text.specs.declared.id.SessionId.{SessionId}
-use Rattle.np_text.specs.declared.id.NodeId.{NodeId}
-use Rattle.np_text.specs.declared.id.Role.{Role}
-use Rattle.np_text.specs.declared.id.Role.TheVariants.{Launcher, Janitor, Requester, Reaper}
-use Rattle.np_site.specs.Configuration.{Configuration}
-use Rattle.np_event.specs.declared.event.Event.{Event}
 use Rattle.np_event.specs.declared.event.Event.TheVariants as ev
-use Rattle.np_event.specs.declared.entry.Entry.{Entry}
 use Rattle.np_lists.proofs.Each.{all-weaker}
-use Rattle.np_machine.specs.State.{State, start}
-use Rattle.np_machine.specs.Tables.{node_queue}
-use Rattle.np_machine.specs.Step.{next}
-use Rattle.np_machine.specs.History.{state_after, after}
-use Rattle.np_machine.specs.Turns.{Turn, turns, turns_from}
 use Rattle.np_laws.specs.Parts.{Invariant}
 use Rattle.np_laws.proofs.Runs.{invariant-next}
 use Rattle.np_laws.proofs.Start.{invariant-start}
@@ -25,8 +13,7 @@ use Rattle.np_useful.specs.Useful.{IsUseful}
 use Rattle.np_driven.proofs.Places.{turn_of, driven-at}
 use Rattle.np_driven.proofs.Roles.{role-over, current-role}
 use Rattle.np_driven.proofs.Back.{behind, Back, back-next}
-use Rattle.np_driven.proofs.Idle.{IsNoLauncher, NoLauncherWaits, waits-locked}
-use Rattle.np_driven.proofs.Puts.{queue-put}
+use Rattle.np_driven.proofs.Idle.{IsNoLauncher, NoLauncherWaits, waits-locked, queue-put}
 
 -- if the event locks a node, no launcher makes it
 pub record IsPolite (s : State) (e : Event) : Type 0 where
@@ -54,9 +41,7 @@ module _ (c : Configuration) (s : State) (e : Entry) where
 
 useful-lock : (c : Configuration) (s : State) (role : Role) (by : SessionId) (m : NodeId) → IsUseful c s role (ev.LockNode by m) → IsNoLauncher s by
 useful-lock c s (Launcher p) by m useful = absurd (false≢true ((and_parts (is_by_registrant s p (ev.LockNode by m)) false useful.row).1))
-useful-lock c s (Janitor p) by m useful = record { role = Janitor p; begun = current-role (Janitor p) by s useful.maker; other = refl }
-useful-lock c s (Requester q) by m useful = record { role = Requester q; begun = current-role (Requester q) by s useful.maker; other = refl }
-useful-lock c s Reaper by m useful = record { role = Reaper; begun = current-role Reaper by s useful.maker; other = refl }
+useful-lock c s role by m useful = record { role = role; begun = current-role role by s useful.maker; other = refl }
 
 polite-turn : (says : Says) (c : Configuration) (past : List Turn) (s : State) (e : Entry) → IsDrivenTurn says c past (turn_of c s e) → IsPolite s e.event
 polite-turn says c past s e h = record {

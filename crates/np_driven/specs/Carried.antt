@@ -1,13 +1,8 @@
 -- what holds of a journal that drivers carried
 use Rattle.std.specs.Prelude.{◌≡◌, List, [], ◌∷◌, ◌++◌, map, slice_get, true, Some, IfSome, IsTrue, is_some}
-use Rattle.np_text.specs.declared.id.PoolId.{PoolId}
-use Rattle.np_site.specs.Configuration.{Configuration}
-use Rattle.np_event.specs.declared.entry.Entry.{Entry}
+use Rattle.np_changes.specs.Prelude.{Configuration, Entry, PoolId, after}
 use Rattle.np_event.specs.declared.event.Event.TheVariants as ev
-use Rattle.np_cloud.specs.Facts.{DriverFacts}
-use Rattle.np_cloud.specs.Sound.{DistinctNumbers}
-use Rattle.np_machine.specs.History.{after}
-use Rattle.np_answers.specs.Drive.{Driving}
+use Rattle.np_answers.specs.Prelude.{DistinctNumbers, DriverFacts, Driving}
 use Rattle.np_driven.specs.Nodes.{servers_up}
 use Rattle.np_driven.specs.Reports.{reports_of, numbers_in, AreAloneSound, FailAfter}
 

@@ -1,24 +1,9 @@
 -- what is kept from round to round of a pool, its driver and the journal
 use Rattle.std.specs.Prelude.{◌≡◌, ◌≤◌, ◌+◌, ℕ, List, [], ◌∷◌, ◌++◌, length, All, slice_get, Bool, true, false, Contains, IfSome, IsTrue, is_ok, Some}
-use Rattle.np_text.specs.declared.id.SessionId.{SessionId}
-use Rattle.np_text.specs.declared.id.PoolId.{PoolId}
-use Rattle.np_text.specs.declared.id.NodeId.{NodeId}
-use Rattle.np_text.specs.declared.id.Role.TheVariants.{Launcher}
-use Rattle.np_site.specs.Configuration.{Configuration}
-use Rattle.np_record.specs.declared.record.NodeRecord.{NodeRecord}
-use Rattle.np_event.specs.declared.entry.Entry.{Entry}
+use Rattle.np_changes.specs.Prelude.{Configuration, Entry, Launcher, NodeId, NodeRecord, Outcome, PoolId, SessionId, State, after, judge, node_in, role_of}
 use Rattle.np_event.specs.declared.event.Event.TheVariants as ev
-use Rattle.np_event.specs.declared.event.Outcome.{Outcome}
 use Rattle.np_event.specs.declared.event.Outcome.TheVariants as outcome
-use Rattle.np_cloud.specs.declared.driver.Tag.{Tag}
-use Rattle.np_cloud.specs.declared.driver.Launch.{Launch}
-use Rattle.np_cloud.specs.declared.driver.Server.{Server}
-use Rattle.np_cloud.specs.Sound.{Soundness}
-use Rattle.np_machine.specs.History.{after}
-use Rattle.np_machine.specs.State.{State}
-use Rattle.np_machine.specs.Step.{judge}
-use Rattle.np_machine.specs.Tables.{role_of, node_in}
-use Rattle.np_answers.specs.Drive.{Driving}
+use Rattle.np_answers.specs.Prelude.{Driving, Launch, Server, Soundness, Tag}
 use Rattle.np_driven.specs.Players.{Player, drivings_of, HaveDriven}
 use Rattle.np_driven.specs.Nodes.{is_up, servers_up}
 use Rattle.np_driven.specs.Reports.{reports_of, numbers_in, AreAloneSound, FailAfter}

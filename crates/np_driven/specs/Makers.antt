@@ -1,20 +1,9 @@
 -- which role the entries of a round are of
 use Rattle.std.specs.Prelude.{◌≡◌, ◌++◌, ◌∷◌, [], ℕ, List, length, Some}
-use Rattle.np_text.specs.declared.id.SessionId.{SessionId}
-use Rattle.np_text.specs.declared.id.Role.{Role}
-use Rattle.np_text.specs.declared.id.Role.TheVariants.{Reaper}
-use Rattle.np_site.specs.Configuration.{Configuration}
-use Rattle.np_event.specs.declared.event.Event.{Event}
+use Rattle.np_changes.specs.Prelude.{Configuration, Entry, Event, Reaper, Role, SessionId, State, after, maker_of, role_of}
 use Rattle.np_event.specs.declared.event.Event.TheVariants as ev
-use Rattle.np_event.specs.declared.entry.Entry.{Entry}
-use Rattle.np_machine.specs.State.{State}
-use Rattle.np_machine.specs.Step.{maker_of}
-use Rattle.np_machine.specs.Tables.{role_of}
-use Rattle.np_machine.specs.History.{after}
-use Rattle.np_desk.specs.History.{StartsWith}
+use Rattle.np_answers.specs.Prelude.{IsAskOf, StartsWith, Work}
 use Rattle.np_answers.specs.declared.ask.Ask.TheVariants as ask
-use Rattle.np_answers.specs.Phase.{Work}
-use Rattle.np_answers.specs.Trace.{IsAskOf}
 
 -- the event is the role's: the session that makes it is of the role, a session that it opens is of the role, and sessions are crashed and expired by the reaper alone (own)
 pub record IsOfRole (role : Role) (s : State) (e : Event) : Type 0 where

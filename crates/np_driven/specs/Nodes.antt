@@ -1,10 +1,7 @@
 -- which servers a pool's nodes have
 use Rattle.std.specs.Prelude.{ℕ, List, [], ◌∷◌, ◌++◌, Bool, true, false, ◌==◌, ◌&&◌, if◌then◌else◌, Option, Some, None}
-use Rattle.np_text.specs.declared.id.PoolId.{PoolId}
-use Rattle.np_text.specs.declared.word.NodeState.{NodeState}
+use Rattle.np_changes.specs.Prelude.{NodeEntry, NodeRecord, NodeState, PoolId}
 use Rattle.np_text.specs.declared.word.NodeState.TheVariants as node
-use Rattle.np_record.specs.declared.record.NodeRecord.{NodeRecord}
-use Rattle.np_machine.specs.Entries.{NodeEntry}
 
 -- launched, and not given up: ready, in use, used or on hold (Nodepool)
 abbrev pub is_up : NodeState → Bool

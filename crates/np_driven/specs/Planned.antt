@@ -1,15 +1,8 @@
 -- journals of parties that may commit what they chose on an older state
 use Rattle.std.specs.Prelude.{◌⊎◌, Bool, true, false, List, []}
-use Rattle.np_lists.specs.EachAfter.{EachAfter}
-use Rattle.np_text.specs.declared.id.Role.{Role}
-use Rattle.np_site.specs.Configuration.{Configuration}
-use Rattle.np_event.specs.declared.entry.Entry.{Entry}
-use Rattle.np_event.specs.declared.event.Event.{Event}
-use Rattle.np_machine.specs.History.{after}
-use Rattle.np_machine.specs.Turns.{Turn, turns}
-use Rattle.np_useful.specs.Useful.{IsUseful}
+use Rattle.np_changes.specs.Prelude.{Configuration, EachAfter, Entry, Event, Role, Turn, after, turns}
+use Rattle.np_answers.specs.Prelude.{IsUseful, WasOfUse, WasUseful}
 use Rattle.np_useful.specs.Driven.{Says, IsDrivenTurn, DrivenBy, as_planned}
-use Rattle.np_useful.specs.Planned.{WasUseful, WasOfUse}
 use Rattle.np_answers.specs.declared.ask.Ask.{Ask}
 use Rattle.np_answers.specs.declared.ask.Turn.{Turn as Answer}
 use Rattle.np_answers.specs.Answers.{Also, nothing_else, answers_also}

@@ -1,16 +1,7 @@
 -- who plays a site: workers as contracts see them, and what is known of what they drive
 use Rattle.std.specs.Prelude.{◌≡◌, Bool, false, ℕ, suc, List, [], ◌∷◌, ◌++◌, All, Contains, slice_get, Option, Some, None, IfSome}
-use Rattle.np_text.specs.declared.id.PoolId.{PoolId}
-use Rattle.np_text.specs.declared.id.NodeId.{NodeId}
-use Rattle.np_site.specs.Configuration.{Configuration}
-use Rattle.np_event.specs.declared.event.Outcome.{Outcome}
-use Rattle.np_event.specs.declared.entry.Entry.{Entry}
-use Rattle.np_cloud.specs.declared.driver.Launch.{Launch}
-use Rattle.np_cloud.specs.declared.driver.Server.{Server}
-use Rattle.np_machine.specs.Turns.{turns, SomeTurn}
-use Rattle.np_useful.specs.Driven.{NamesServer}
-use Rattle.np_answers.specs.Drive.{Driving}
-use Rattle.np_answers.specs.Phase.{Work, of_pool, of_requester, of_reaper}
+use Rattle.np_changes.specs.Prelude.{Configuration, Entry, NodeId, Outcome, PoolId, SomeTurn, turns}
+use Rattle.np_answers.specs.Prelude.{Driving, Launch, NamesServer, Server, Work, of_pool, of_reaper, of_requester}
 use Rattle.np_driven.specs.Planned.{DrivenAs}
 
 -- a worker: whose it is, and what it drives (own)

@@ -1,13 +1,7 @@
 -- a round of all players, as each of them took its turns at one history
 use Rattle.std.specs.Prelude.{◌≡◌, ℕ, ◌<◌, ◌≤◌, length, map, List, [], ◌∷◌, All, Contains, Bool, false}
-use Rattle.np_site.specs.Configuration.{Configuration}
-use Rattle.np_event.specs.declared.entry.Entry.{Entry}
-use Rattle.np_desk.specs.History.{StartsWith}
-use Rattle.np_desk.specs.Pass.{Sight}
-use Rattle.np_answers.specs.Drive.{Drove}
-use Rattle.np_answers.specs.Move.{Move}
-use Rattle.np_answers.specs.Phase.{Phase, Leads, first_phase, owes_launch, owes_report, ended}
-use Rattle.np_answers.specs.Walk.{Walk}
+use Rattle.np_changes.specs.Prelude.{Configuration, Entry}
+use Rattle.np_answers.specs.Prelude.{Drove, Leads, Move, Phase, Sight, StartsWith, Walk, ended, first_phase, owes_launch, owes_report}
 use Rattle.np_driven.specs.Planned.{answers_of}
 use Rattle.np_driven.specs.Players.{Player}
 

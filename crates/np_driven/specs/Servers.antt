@@ -1,24 +1,11 @@
 -- what became of a driver's servers in a round
 use Rattle.std.specs.Prelude.{◌≡◌, ◌⊎◌, ◌≤◌, ℕ, true, false, List, length, slice_get, Contains, Some}
-use Rattle.np_text.specs.declared.id.SessionId.{SessionId}
-use Rattle.np_text.specs.declared.id.PoolId.{PoolId}
-use Rattle.np_text.specs.declared.id.NodeId.{NodeId}
-use Rattle.np_text.specs.declared.id.Role.TheVariants.{Janitor}
-use Rattle.np_site.specs.Configuration.{Configuration}
-use Rattle.np_record.specs.declared.record.NodeRecord.{NodeRecord}
+use Rattle.np_changes.specs.Prelude.{Configuration, Entry, Janitor, NodeId, NodeRecord, PoolId, SessionId, after, is_swept, is_wanted, node_in}
 use Rattle.np_event.specs.declared.event.Event.TheVariants as event
 use Rattle.np_event.specs.declared.event.Outcome.TheVariants as outcome
-use Rattle.np_event.specs.declared.entry.Entry.{Entry}
-use Rattle.np_cloud.specs.declared.driver.Server.{Server}
-use Rattle.np_machine.specs.History.{after}
-use Rattle.np_machine.specs.Node.{is_swept, is_wanted}
-use Rattle.np_machine.specs.Tables.{node_in}
+use Rattle.np_answers.specs.Prelude.{Driving, Move, Server, Sight, StartsWith, launches_of}
 use Rattle.np_useful.specs.Sessions.{has_current}
-use Rattle.np_desk.specs.History.{StartsWith}
-use Rattle.np_desk.specs.Pass.{Sight}
 use Rattle.np_answers.specs.Answers.{IsDue, IsKept}
-use Rattle.np_answers.specs.Drive.{Driving}
-use Rattle.np_answers.specs.Move.{Move, launches_of}
 use Rattle.np_driven.specs.Players.{Player, WasNamed}
 
 -- ## which servers

@@ -12,7 +12,7 @@
 //! servers left or stayed. np_rounds plays such rounds over threads.
 //!
 //! A report is the first one for its start, since a node's attempts only rise and its number is not
-//! used again (`proofs/Once`), and since only the pool's own worker acts for its launcher.
+//! used again (`proofs/Starts`), and since only the pool's own worker acts for its launcher.
 //!
 //! A driver may have room for so many servers, and only some lists of server numbers may be sound
 //! for it (np_cloud). `specs/Carried` says what holds of a whole journal that drivers carried: after

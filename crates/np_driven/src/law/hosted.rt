@@ -1,14 +1,8 @@
 //! What a journal and its drivers say of one another.
 
 ghost use Rattle.std.specs.Prelude.{◌≡◌, ℕ, List, [], ◌∷◌, ◌++◌, Bool, true, false};
-ghost use Rattle.np_text.specs.declared.id.SessionId.{SessionId};
-ghost use Rattle.np_text.specs.declared.id.PoolId.{PoolId};
-ghost use Rattle.np_text.specs.declared.id.NodeId.{NodeId};
-ghost use Rattle.np_site.specs.Configuration.{Configuration};
-ghost use Rattle.np_event.specs.declared.entry.Entry.{Entry};
+ghost use Rattle.np_changes.specs.Prelude.{Configuration, Entry, NodeId, PoolId, Runs, SessionId, SomeTurn, after, turns};
 ghost use Rattle.np_event.specs.declared.event.Event.TheVariants as ev;
-ghost use Rattle.np_machine.specs.History.{Runs, after};
-ghost use Rattle.np_machine.specs.Turns.{SomeTurn, turns};
 ghost use Rattle.np_useful.specs.Driven.{BeginsLaunch};
 ghost use Rattle.np_driven.specs.Players.{HaveDriven, Player, drivings_of};
 ghost use Rattle.np_driven.specs.Round.{IsRound};

@@ -1,13 +1,10 @@
 //! Driven journals.
 
 ghost use Rattle.std.specs.Prelude.{◌≡◌, ◌≤◌, List, [], ◌∷◌, ◌++◌, map, length, All, Bool, Some, false};
-ghost use Rattle.np_site.specs.Configuration.{Configuration};
-ghost use Rattle.np_event.specs.declared.entry.Entry.{Entry};
+ghost use Rattle.np_changes.specs.Prelude.{Configuration, Entry, Runs, after};
 ghost use Rattle.np_event.specs.declared.event.Event.TheVariants as ev;
 ghost use Rattle.np_cloud.specs.Clouds.{ArePlanned};
-ghost use Rattle.np_machine.specs.History.{Runs, after};
-ghost use Rattle.np_useful.specs.Driven.{Driven, DrivenBy, is_tick};
-ghost use Rattle.np_answers.specs.Drive.{Driving};
+ghost use Rattle.np_answers.specs.Prelude.{Driven, DrivenBy, Driving, is_tick};
 ghost use Rattle.np_driven.specs.Planned.{DrivenAs, PlannedBy, PlannedDriven};
 ghost use Rattle.np_driven.specs.Players.{AreNumbered, HaveDrivenAs, Player, WasAnswered, drivings_of};
 ghost use Rattle.np_driven.specs.Round.{IsRound};

@@ -1,8 +1,7 @@
 //! Of which role entries are.
 
 ghost use Rattle.std.specs.Prelude.{List, ℕ, Bool, Contains};
-ghost use Rattle.np_site.specs.Configuration.{Configuration};
-ghost use Rattle.np_event.specs.declared.entry.Entry.{Entry};
+ghost use Rattle.np_changes.specs.Prelude.{Configuration, Entry};
 ghost use Rattle.np_driven.specs.Makers.{IsOfWorker};
 ghost use Rattle.np_driven.specs.Players.{Player};
 ghost use Rattle.np_driven.specs.Round.{IsRound, PlayerEnd, PlaysFrom};

@@ -1,14 +1,8 @@
 //! The servers of a pool's driver.
 
 ghost use Rattle.std.specs.Prelude.{Bool, ◌≡◌, ◌⊎◌, List, All, Contains};
-ghost use Rattle.np_text.specs.declared.id.PoolId.{PoolId};
-ghost use Rattle.np_site.specs.Configuration.{Configuration};
-ghost use Rattle.np_event.specs.declared.entry.Entry.{Entry};
-ghost use Rattle.np_cloud.specs.declared.driver.Server.{Server};
-ghost use Rattle.np_answers.specs.Drive.{Driving};
-ghost use Rattle.np_answers.specs.Move.{Move};
-ghost use Rattle.np_answers.specs.Phase.{ended, of_pool};
-ghost use Rattle.np_answers.specs.Trace.{WasKept};
+ghost use Rattle.np_changes.specs.Prelude.{Configuration, Entry, PoolId};
+ghost use Rattle.np_answers.specs.Prelude.{Driving, Move, Server, WasKept, ended, of_pool};
 ghost use Rattle.np_driven.specs.Planned.{DrivenAs};
 ghost use Rattle.np_driven.specs.Players.{Player, WasAnswered};
 ghost use Rattle.np_driven.specs.Round.{PlayerEnd, PlaysFrom};

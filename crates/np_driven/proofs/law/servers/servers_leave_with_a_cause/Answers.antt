@@ -1,4 +1,4 @@
-use Rattle.np_driven.proofs.Whereabouts.{left-with_cause, own-pair, own-node}
+use Rattle.np_driven.proofs.Leaving.{left-with_cause, own-pair, own-node}
 use Rattle.np_driven.proofs.law.servers.servers_leave_with_a_cause.Goals as goal
 
 pub returns-clause-cause : goal.returns-clause-cause
