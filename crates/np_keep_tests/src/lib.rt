@@ -1,8 +1,12 @@
 //! Tests of what `keep` and `resume` stand on: the words of the command line, disks and logs.
 //!
 //! As in np_low_tests, a test is tables and functions that answer a `bool`, with one `assert!` each.
+//!
+//! Tests of np_desk: threads that take turns side by side.
 #![tactic(auto)]
 
+#[cfg(test)]
+mod desks;
 #[cfg(test)]
 mod disks;
 #[cfg(test)]

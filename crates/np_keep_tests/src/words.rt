@@ -5,7 +5,7 @@ use np_words::{Command, command_of};
 use std::alloc::Global;
 
 // Words, and the word and the argument of their command, both empty if they are none.
-const LISTS: [(&[&str], &str, &str); 49] = [
+const LISTS: [(&[&str], &str, &str); 51] = [
     (&[], "", ""),
     (&["replay"], "replay", ""),
     (&["--", "replay"], "replay", ""),
@@ -27,6 +27,8 @@ const LISTS: [(&[&str], &str, &str); 49] = [
     (&["--", "--help"], "", ""),
     (&["run", "hosts"], "run", "hosts"),
     (&["run", "--", "hosts"], "run", "hosts"),
+    (&["run", "planned"], "run", "planned"),
+    (&["run", "hosts", "planned"], "", ""),
     (&["run", "host"], "", ""),
     (&["run", "hosts", "hosts"], "", ""),
     (&["hosts"], "", ""),
@@ -86,6 +88,7 @@ fn is_command(found: &Option<Command>, word: &str, argument: &str) -> bool {
         Some(Command::Replay) => word == "replay" && argument == "",
         Some(Command::Run) => word == "run" && argument == "",
         Some(Command::RunHosts) => word == "run" && argument == "hosts",
+        Some(Command::RunPlanned) => word == "run" && argument == "planned",
         Some(Command::Audit) => word == "audit" && argument == "",
         Some(Command::Drill { jobs }) => {
             word == "drill" && read_number(argument.as_bytes(), 4_000) == Some(u64::from(*jobs))

@@ -1,11 +1,9 @@
 -- going on with a log that was loaded
 use Rattle.std.proofs.Common.{◌≡◌, ◌≤◌, ℕ, ◌+◌, ◌-◌, List, ◌++◌, length, Option, Some, None, Ok, subst, arith, length-append, inl, inr}
 use Rattle.std.specs.Prelude.{IfSome}
-use Rattle.std.specs.List.{AllByRecursion}
-use Rattle.np_text.specs.Lines.{lines_of}
+use Rattle.np_changes.specs.Prelude.{AllByRecursion, Event, lines_of}
 use Rattle.np_disk.specs.Disk.{DiskFacts, LeavesOnly}
 use Rattle.np_disk.proofs.Moments.{LeavesOnly-then}
-use Rattle.np_event.specs.declared.event.Event.{Event}
 use Rattle.np_event_lines.specs.Line.{HasEventLine}
 use Rattle.np_event_lines.proofs.EventLemmas.{event_in-spelled}
 use Rattle.np_log.specs.Place.{Place}

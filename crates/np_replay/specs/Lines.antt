@@ -1,6 +1,6 @@
 -- the lines that report the fault of a script or of a site with hosts, and its status
 use Rattle.std.specs.Prelude.{ℕ, List, ◌++◌, codes, decimal}
-use Rattle.np_text.specs.Lines.{line}
+use Rattle.np_changes.specs.Prelude.{PoolId, line}
 use Rattle.np_json.specs.declared.fault.ConfigKind.{ConfigKind}
 use Rattle.np_json.specs.declared.fault.ConfigKind.TheVariants as kind
 use Rattle.np_json.specs.declared.fault.ConfigFault.{ConfigFault}
@@ -10,7 +10,6 @@ use Rattle.np_script.specs.declared.lines.LinesFault.{LinesFault}
 use Rattle.np_script.specs.declared.lines.LinesFault.TheVariants as lines
 use Rattle.np_script.specs.declared.script.ScriptFault.{ScriptFault}
 use Rattle.np_script.specs.declared.script.ScriptFault.TheVariants as script
-use Rattle.np_text.specs.declared.id.PoolId.{PoolId}
 use Rattle.np_static.specs.declared.fault.HostsFault.{HostsFault}
 use Rattle.np_static.specs.declared.fault.HostsFault.TheVariants as hosts
 use Rattle.np_static.specs.declared.fault.HostedFault.{HostedFault}

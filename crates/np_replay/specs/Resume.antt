@@ -3,9 +3,8 @@ use Rattle.std.specs.Prelude.{◌≡◌, ◌⊎◌, ℕ, List, ◌++◌, Bool, t
 use Rattle.np_io.specs.Counts.{Rose}
 use Rattle.np_io.specs.Facts.{SourceFacts, SinkFacts, IsWritten}
 use Rattle.np_disk.specs.Disk.{DiskFacts, LeavesOnly}
-use Rattle.np_event.specs.declared.event.Event.{Event}
+use Rattle.np_changes.specs.Prelude.{Configuration, Event}
 use Rattle.np_event_lines.specs.declared.fault.LineFault.{LineFault}
-use Rattle.np_site.specs.Configuration.{Configuration}
 use Rattle.np_config_read.specs.Walk.{reads}
 use Rattle.np_config_text.specs.Canonical.{canonical}
 use Rattle.np_script.specs.declared.lines.LinesFault.{LinesFault}

@@ -10,7 +10,7 @@ use Rattle.np_replay.specs.declared.ending.Ending.TheVariants as ending
 -- ## the lines that every command shares
 
 abbrev pub usage_line : List ℕ
-usage_line = line (codes "poolsim: usage: poolsim replay | run [hosts] | audit | drill N | keep FILE | resume FILE")
+usage_line = line (codes "poolsim: usage: poolsim replay | run [hosts | planned] | audit | drill N | keep FILE | resume FILE")
 
 abbrev pub read_line : List ℕ
 read_line = line (codes "poolsim: read fault")

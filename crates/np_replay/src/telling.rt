@@ -10,7 +10,7 @@ use np_io::{Sink, write_all};
 fn usage() -> &'static [u8]
     ensures { result.now ≡ usage_line }
 {
-    b"poolsim: usage: poolsim replay | run [hosts] | audit | drill N | keep FILE | resume FILE\n"
+    b"poolsim: usage: poolsim replay | run [hosts | planned] | audit | drill N | keep FILE | resume FILE\n"
 }
 
 /// Writes a line to err, and returns the status, or 6 if err failed.

@@ -2,7 +2,7 @@
 use Rattle.std.proofs.Common.{◌≡◌, ℕ, List, true, false, arith, inl, inr}
 use Rattle.std.specs.Prelude.{◌⊎◌}
 use Rattle.np_io.specs.Facts.{SinkFacts, IsWritten}
-use Rattle.np_site.specs.Configuration.{Configuration}
+use Rattle.np_config.specs.Configuration.{Configuration}
 use Rattle.np_gen.specs.Site.{drill_site}
 use Rattle.np_replay.specs.declared.ending.Ending.{Ending}
 use Rattle.np_replay.specs.Told.{IsTold, EndsSo, full_line}

@@ -1,43 +1,22 @@
 -- each entry of a journal that was driven has a line
-use Rattle.std.proofs.Common.{◌≡◌, ◌<◌, ◌^◌, ◌++◌, refl, sym, subst, arith, ℕ, List, [], ◌∷◌, true, Option, Some, None, Result, Ok, Err, inl, inr}
+use Rattle.std.proofs.Common.{◌≡◌, ◌++◌, refl, sym, subst, arith, ℕ, List, [], ◌∷◌, true, false, Option, Some, None, Result, Ok, Err, inl, inr}
 use Rattle.std.specs.Prelude.{is_ok}
-use Rattle.std.specs.List.{AllByRecursion}
-use Rattle.std.proofs.lemmas.Bool.Decides.{nat_tests}
-use Rattle.np_text.specs.Request.{HasText}
-use Rattle.np_text.specs.declared.id.SessionId.{SessionId}
-use Rattle.np_text.specs.declared.id.NodeId.{NodeId}
-use Rattle.np_text.specs.declared.id.JobId.{JobId}
-use Rattle.np_text.specs.declared.id.RequestId.{RequestId}
-use Rattle.np_text.specs.declared.id.Role.{Role}
+use Rattle.np_changes.specs.Prelude.{AllByRecursion, Answer, Configuration, EachAfter, Entry, Event, IsSound, JobId, NodeId, Outcome, Refusal, RequestId, RequestRecord, Role, SessionId, State, Turn, found, janitor, judge, launcher, lock_request_as, maker, next, request_at, request_in, start, turns, turns_from, unlock_request_as, ◌>>=◌}
 use Rattle.np_text.specs.declared.id.Role.TheVariants as role
 use Rattle.np_text.specs.declared.word.Reason.TheVariants as reason
-use Rattle.np_lists.specs.Refusals.{◌>>=◌, found}
-use Rattle.np_site.specs.Configuration.{Configuration}
-use Rattle.np_site.specs.Sound.{IsSound}
-use Rattle.np_record.specs.declared.record.RequestRecord.{RequestRecord}
-use Rattle.np_event.specs.declared.entry.Entry.{Entry}
-use Rattle.np_event.specs.declared.event.Event.{Event}
 use Rattle.np_event.specs.declared.event.Event.TheVariants as ev
-use Rattle.np_event.specs.declared.event.Outcome.{Outcome}
 use Rattle.np_event.specs.declared.event.Outcome.TheVariants as outcome
-use Rattle.np_event.specs.declared.reply.Refusal.{Refusal}
 use Rattle.np_event_lines.specs.Line.{HasEventLine}
-use Rattle.np_machine.specs.State.{State, start}
-use Rattle.np_machine.specs.Step.{judge, next}
-use Rattle.np_machine.specs.Tables.{request_in}
-use Rattle.np_machine.specs.Tests.{Answer, maker, launcher, janitor, request_at}
-use Rattle.np_machine.specs.Request.{lock_request_as, unlock_request_as}
-use Rattle.np_machine.specs.Turns.{Turn, turns_from}
 use Rattle.np_useful.specs.Useful.{IsUseful, row_holds}
 use Rattle.np_lines.specs.Told.{has_digits}
 use Rattle.np_lines.proofs.Ids.{IdHasDigits, HasIds, request-digits, HasIds-start, HasIds-next}
 use Rattle.np_useful.specs.Driven.{Says, IsDrivenTurn, DrivenFrom, DrivenBy}
+use Rattle.np_useful.specs.Planned.{WasOfUse, is_planned}
+use Rattle.np_driven.specs.Planned.{IsPlannedTurn, PlannedBy}
 use Rattle.np_top.specs.Typed.{IsTyped}
+use Rattle.np_lines.proofs.Chains.{text-of}
 
 -- ## an accepted event names requests that exist
-
-text-of : (r : RequestId) → has_digits r ≡ true → r.seq < 2 ^ 32 → HasText r
-text-of r digits below = record { least = grind (arith, nat_tests); most = grind (arith, nat_tests); sequence = below }
 
 request_by : (s : State) (r : RequestId) (why : Refusal) (o : Option RequestRecord) (rest : RequestRecord → Answer) → AllByRecursion IdHasDigits s.requests → request_in r s.requests ≡ o →
     is_ok (found o why >>= rest) ≡ true → has_digits r ≡ true
@@ -141,12 +120,29 @@ module _ (says : Says) (c : Configuration) (sound : IsSound c) where
   turn-line past t ids (inr (inr (inr report))) typed =
       subst HasEventLine (sym report.event) (report-line report.session report.number report.attempt report.outcome (subst IsTyped report.event typed))
 
-  lines_from : (past : List Turn) (s : State) (journal : List Entry) → HasIds c s → DrivenFrom says c past (turns_from c s journal) →
+  -- no revision is planned
+  planned-line : (past : List Turn) (t : Turn) → HasIds c t.before → WasOfUse c past t → IsTyped t.entry.event → HasEventLine t.entry.event
+  planned-line past t ids was typed = accepted-line c t.before ids.requests t.entry.event was.accepted
+      (λ session j v is. let never : false ≡ true = subst (λ (e : Event). is_planned e ≡ true) is was.planned in cc) typed
+
+  line-of : (past : List Turn) (t : Turn) → HasIds c t.before → IsPlannedTurn says c past t → IsTyped t.entry.event → HasEventLine t.entry.event
+  line-of past t ids (inl driven) typed = turn-line past t ids driven typed
+  line-of past t ids (inr was) typed = planned-line past t ids was typed
+
+  lines_from : (past : List Turn) (s : State) (journal : List Entry) → HasIds c s → EachAfter (IsPlannedTurn says c) past (turns_from c s journal) →
       AllByRecursion (λ (e : Entry). IsTyped e.event) journal → AllByRecursion (λ (e : Entry). HasEventLine e.event) journal
   lines_from past s [] ids driven typed = tt
   lines_from past s (e ∷ journal) ids driven typed =
       let t : Turn = record { before = s; entry = e; later = next c s e.event } in
-      (turn-line past t ids driven.0 typed.0, lines_from (past ++ t ∷ []) (next c s e.event) journal (HasIds-next c sound s e.event ids) driven.1 typed.1)
+      (line-of past t ids driven.0 typed.0, lines_from (past ++ t ∷ []) (next c s e.event) journal (HasIds-next c sound s e.event ids) driven.1 typed.1)
+
+  pub planned_lines : (journal : List Entry) → PlannedBy says c journal → AllByRecursion (λ (e : Entry). IsTyped e.event) journal → AllByRecursion (λ (e : Entry). HasEventLine e.event) journal
+  planned_lines journal planned typed = lines_from [] (start c) journal (HasIds-start c) planned typed
+
+  -- a driven journal plans nothing
+  planned-from : (past ts : List Turn) → DrivenFrom says c past ts → EachAfter (IsPlannedTurn says c) past ts
+  planned-from past [] driven = tt
+  planned-from past (t ∷ ts) driven = (inl driven.0, planned-from (past ++ t ∷ []) ts driven.1)
 
   pub driven_lines : (journal : List Entry) → DrivenBy says c journal → AllByRecursion (λ (e : Entry). IsTyped e.event) journal → AllByRecursion (λ (e : Entry). HasEventLine e.event) journal
-  driven_lines journal driven typed = lines_from [] (start c) journal (HasIds-start c) driven typed
+  driven_lines journal driven typed = planned_lines journal (planned-from [] (turns c journal) driven) typed

@@ -1,27 +1,15 @@
 -- a site with hosts: its drivers, and what they drove
 use Rattle.std.proofs.Common.{◌≡◌, ◌∙◌, refl, sym, ap, subst, ℕ, zero, suc, Bool, List, [], ◌∷◌, ◌++◌, length, map, Option, Some, None, Ok}
 use Rattle.std.specs.Prelude.{All, IfSome, IsTrue, slice_get}
-use Rattle.std.specs.Option.{option_map}
+use Rattle.np_changes.specs.Prelude.{Configuration, Entry, NodeId, Outcome, PoolId, after, option_map, outcome_of, turns}
 use Rattle.std.proofs.lemmas.List.{length-map}
 use Rattle.std.proofs.lemmas.List.Elements.{All-nil, All-cons, All-head, All-tail}
 use Rattle.std.proofs.lemmas.Option.{slice_get-map}
 use Rattle.np_io.specs.Facts.{SourceFacts}
-use Rattle.np_text.specs.declared.id.PoolId.{PoolId}
-use Rattle.np_text.specs.declared.id.NodeId.{NodeId}
-use Rattle.np_site.specs.Configuration.{Configuration}
-use Rattle.np_event.specs.declared.event.Outcome.{Outcome}
 use Rattle.np_event.specs.declared.event.Outcome.TheVariants as outcome
-use Rattle.np_event.specs.declared.entry.Entry.{Entry}
-use Rattle.np_machine.specs.Plan.{outcome_of}
-use Rattle.np_machine.specs.History.{after}
-use Rattle.np_machine.specs.Turns.{turns}
-use Rattle.np_useful.specs.Driven.{DrivenBy}
-use Rattle.np_cloud.specs.declared.driver.Tag.{Tag}
-use Rattle.np_cloud.specs.declared.driver.Launch.{Launch}
+use Rattle.np_answers.specs.Prelude.{DistinctNumbers, DrivenBy, Driving, Launch, Tag, driving}
 use Rattle.np_cloud.specs.Inventory.{Told, told_nothing}
-use Rattle.np_cloud.specs.Sound.{DistinctNumbers}
 use Rattle.np_cloud.specs.Sim.{Simulation, simulated_outcome}
-use Rattle.np_answers.specs.Drive.{Driving, driving}
 use Rattle.np_driven.specs.Players.{WasAnswered, launch_of}
 use Rattle.np_driven.proofs.Places.{driven-more}
 use Rattle.np_driven.specs.Carried.{AreCarried, BeginsNew, FailOnlyFull, NeverRepeats}

@@ -8,7 +8,7 @@ use Rattle.np_replay.specs.Input.{IsInput}
 use Rattle.np_replay.specs.Told.{IsTold, full_line}
 use Rattle.np_static.specs.declared.fault.HostedFault.TheVariants as hosted
 use Rattle.np_top.specs.Play.{some_waits, status_of_fates}
-use Rattle.np_top.specs.Run.{SiteCommand, IsRun, IsNoSite, EndsRun, RunsSite, IsStatusBy, IsStatusIf, fates_of_run, plain_run}
+use Rattle.np_top.specs.Run.{SiteCommand, IsRun, IsNoSite, EndsRun, RunsSite, IsStatusBy, IsStatusIf, fates_of_run, site_run}
 use Rattle.np_top.specs.RunHosts.{hosted_run}
 use Rattle.np_replay.proofs.Told.{HasOwn, IsOwn, ShowsOwn, tells, complete-read}
 
@@ -41,8 +41,8 @@ few-by status ends false is same = inl (same ∙ ap as_status is)
 abbrev HasFaults : SiteCommand → Type 0
 HasFaults r = (fault : r.Fault) → (r.status_of fault ≡ 3) ⊎ (r.status_of fault ≡ 4)
 
-pub faults-plain : HasFaults plain_run
-faults-plain fault = inl refl
+pub faults-run : (plans : Bool) → HasFaults (site_run plans)
+faults-run plans fault = inl refl
 
 pub faults-hosted : HasFaults hosted_run
 faults-hosted (hosted.Config f) = inl refl

@@ -2,23 +2,15 @@
 use Rattle.std.proofs.Common.{◌≡◌, ◌∙◌, refl, sym, ap, subst, true, false, Bool, ℕ, zero, suc, List, [], ◌∷◌, length, map}
 use Rattle.std.specs.Prelude.{All, Option, Some, is_some}
 use Rattle.std.proofs.lemmas.List.Elements.{All-nil, All-cons, All-append, All-weaker}
-use Rattle.np_site.specs.Configuration.{Configuration}
-use Rattle.np_event.specs.declared.event.Outcome.{Outcome}
-use Rattle.np_event.specs.declared.entry.Entry.{Entry}
-use Rattle.np_machine.specs.Fates.{fates}
-use Rattle.np_machine.specs.History.{Runs, after}
-use Rattle.np_machine.specs.State.{State}
-use Rattle.np_useful.specs.Driven.{Driven, DrivenBy}
-use Rattle.np_useful.specs.Settled.{IsSettled}
-use Rattle.np_cloud.specs.declared.driver.Tag.{Tag}
-use Rattle.np_cloud.specs.Facts.{DriverFacts}
+use Rattle.np_changes.specs.Prelude.{Configuration, Entry, Outcome, Runs, State, after, fates}
+use Rattle.np_answers.specs.Prelude.{Driven, DrivenBy, DriverFacts, Driving, IsSettled, Tag, driving}
 use Rattle.np_cloud.specs.Sim.{Simulation, simulation_of, simulation_facts, simulation_plan}
 use Rattle.np_cloud.specs.Clouds.{ArePlanned, simulations}
 use Rattle.np_cloud.proofs.CloudLemmas.{simulations-planned}
 use Rattle.np_driven.specs.Carried.{BeginsEmpty, BeginsNew}
-use Rattle.np_answers.specs.Drive.{Driving, driving}
 use Rattle.np_driven.specs.Players.{WasAnswered}
-use Rattle.np_driven.proofs.Plans.{planned-driven}
+use Rattle.np_driven.specs.Planned.{PlannedBy, PlannedDriven}
+use Rattle.np_driven.proofs.Plans.{planned-driven, planned-planned}
 use Rattle.np_report.specs.Printed.{IsPrinted}
 use Rattle.np_rules.specs.Ran.{Ran}
 use Rattle.np_rounds.specs.Played.{EndsWithTick}
@@ -55,14 +47,18 @@ module _ (sound : Simulation → List ℕ → Bool) (room : Simulation → ℕ) 
   abbrev pub clouds_driving : List Simulation → List Driving
   clouds_driving = map (driving simulation_facts simulation_plan sound room)
 
-  pub driven_of : (c : Configuration) (journal : List Entry) (clouds now : List Simulation) → clouds ≡ simulations c (length c.pools) →
-      map simulation_plan now ≡ map simulation_plan clouds → DrivenBy (WasAnswered (clouds_driving now)) c journal → Driven c journal
-  driven_of c journal clouds now are same driven = planned-driven c (clouds_driving now) planned journal driven where
+  module _ (c : Configuration) (journal : List Entry) (clouds now : List Simulation) (are : clouds ≡ simulations c (length c.pools)) (same : map simulation_plan now ≡ map simulation_plan clouds) where
     plans : map (λ (d : Driving). d.plan) (clouds_driving now) ≡ map simulation_plan (simulations c (length c.pools))
     plans = plans_of simulation_facts simulation_plan sound room now ∙ same ∙ ap (map simulation_plan) are
 
     planned : ArePlanned c 0 (map (λ (d : Driving). d.plan) (clouds_driving now))
     planned = subst (ArePlanned c 0) (sym plans) (simulations-planned c (length c.pools))
+
+    pub driven_of : DrivenBy (WasAnswered (clouds_driving now)) c journal → Driven c journal
+    driven_of driven = planned-driven c (clouds_driving now) planned journal driven
+
+    pub planned_of : PlannedBy (WasAnswered (clouds_driving now)) c journal → PlannedDriven c journal
+    planned_of driven = planned-planned c (clouds_driving now) planned journal driven
 
 -- ## the journal
 
@@ -90,6 +86,16 @@ ended_is c journal full b is ended = subst (HasEnded c journal) is ended
 pub ended_so : (c d : Configuration) (journal : List Entry) (s : State) (full : Bool) → d ≡ c → Runs d journal s → (full ≡ false → IsSettled c s × EndsWithTick journal) → (full ≡ true → length journal ≡ 262144) → HasEnded c journal full
 ended_so c d journal s true same runs settled full = full refl
 ended_so c d journal s false same runs settled full = settled_end c d journal s same runs (settled refl)
+
+-- ## the machine of a board
+
+-- what holds of the configuration and the journal of one holds of those of the other
+module _ (m b : Ran) (same : m ≡ b) (c : Configuration) (is : b.configuration ≡ c) (P : Configuration → List Entry → Type 0) where
+  pub to_machine : P c b.journal → P m.configuration m.journal
+  to_machine p = subst (λ (x : Ran). P x.configuration x.journal) (sym same) (subst (λ (x : Configuration). P x b.journal) (sym is) p)
+
+  pub from_machine : P m.configuration m.journal → P c b.journal
+  from_machine p = subst (λ (x : Configuration). P x b.journal) is (subst (λ (x : Ran). P x.configuration x.journal) same p)
 
 -- ## the rows of a board
 

@@ -2,10 +2,7 @@
 use Rattle.std.specs.Prelude.{◌≡◌, ◌⊎◌, ℕ, Bool, true, false, List}
 use Rattle.np_io.specs.Counts.{Rose}
 use Rattle.np_io.specs.Facts.{SinkFacts, IsWritten}
-use Rattle.np_site.specs.Configuration.{Configuration}
-use Rattle.np_event.specs.declared.entry.Entry.{Entry}
-use Rattle.np_machine.specs.Fates.{fates}
-use Rattle.np_machine.specs.History.{Runs, after}
+use Rattle.np_changes.specs.Prelude.{Configuration, Entry, Runs, after, fates}
 use Rattle.np_useful.specs.Driven.{Driven}
 use Rattle.np_gen.specs.Site.{drill_site}
 use Rattle.np_report.specs.Printed.{HoldsThroughout}

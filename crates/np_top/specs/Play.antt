@@ -1,11 +1,7 @@
 -- how a site was played, by whichever drivers
 use Rattle.std.specs.Prelude.{◌≡◌, ℕ, Bool, true, false, List, length, if◌then◌else◌}
-use Rattle.std.specs.List.{list_any}
-use Rattle.np_site.specs.Configuration.{Configuration}
-use Rattle.np_event.specs.declared.entry.Entry.{Entry}
-use Rattle.np_machine.specs.Fates.{Fate, fates}
+use Rattle.np_changes.specs.Prelude.{Configuration, Entry, Fate, after, fates, list_any}
 use Rattle.np_machine.specs.Fates as fate
-use Rattle.np_machine.specs.History.{after}
 use Rattle.np_useful.specs.Settled.{IsSettled}
 use Rattle.np_report.specs.Printed.{IsPrinted}
 use Rattle.np_rounds.specs.Played.{EndsWithTick}

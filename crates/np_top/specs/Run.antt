@@ -1,14 +1,12 @@
--- what the commands do that play a site, and `run` among them
+-- what the commands do that play a site, with `run` and `run planned` among them
 use Rattle.std.specs.Prelude.{◌≡◌, ◌⊎◌, ℕ, Bool, true, false, List, IfSome, Result, Ok, Err, length, nat_lt}
 use Rattle.np_io.specs.Counts.{Rose}
 use Rattle.np_io.specs.Facts.{SourceFacts, SinkFacts, IsWritten}
 use Rattle.np_json.specs.declared.fault.ConfigFault.{ConfigFault}
-use Rattle.np_site.specs.Configuration.{Configuration}
+use Rattle.np_changes.specs.Prelude.{Configuration, Entry, Fate, after, fates}
 use Rattle.np_config_read.specs.Walk.{reads}
-use Rattle.np_event.specs.declared.entry.Entry.{Entry}
-use Rattle.np_machine.specs.Fates.{Fate, fates}
-use Rattle.np_machine.specs.History.{after}
 use Rattle.np_useful.specs.Driven.{Driven}
+use Rattle.np_driven.specs.Planned.{PlannedDriven}
 use Rattle.np_replay.specs.declared.ending.Ending.{Ending}
 use Rattle.np_replay.specs.declared.ending.Ending.TheVariants as ending
 use Rattle.np_replay.specs.Input.{IsInput, Stops, most}
@@ -32,17 +30,30 @@ pub record SiteCommand : Type 1 where
   pub line_of : Fault → List ℕ
   pub status_of : Fault → ℕ
 
--- `run`: the input is a configuration, and its parties and the simulated clouds drove the journal (own)
-abbrev pub plain_run : SiteCommand
-plain_run = record {
+-- its parties and the simulated clouds drove the journal; with plans, launchers may have committed what was useful before (own)
+abbrev pub driven_as : Bool → Configuration → List Entry → Type 0
+driven_as false = Driven
+driven_as true = PlannedDriven
+
+-- the input is a configuration, at whose board launchers plan or don't (own)
+abbrev pub site_run : Bool → SiteCommand
+site_run plans = record {
   Site = Configuration;
   Fault = ConfigFault;
   reads = reads;
   configuration = λ c. c;
-  IsDriven = Driven;
+  IsDriven = driven_as plans;
   line_of = config_line;
   status_of = λ fault. 3;
 }
+
+-- `run`
+abbrev pub plain_run : SiteCommand
+plain_run = site_run false
+
+-- `run planned`
+abbrev pub planned_run : SiteCommand
+planned_run = site_run true
 
 module _ (r : SiteCommand) where
   -- ## how a run may end

@@ -1,12 +1,7 @@
 -- what the command `run hosts` does: it plays a site of which some pools are served by hosts
 use Rattle.std.specs.Prelude.{◌≡◌, ℕ, List, [], ◌∷◌, ◌++◌, slice_get, sum, IsTrue, Option, Some, None}
-use Rattle.np_text.specs.declared.id.PoolId.{PoolId}
-use Rattle.np_site.specs.Configuration.{Configuration}
-use Rattle.np_event.specs.declared.event.Outcome.{Outcome}
-use Rattle.np_event.specs.declared.entry.Entry.{Entry}
+use Rattle.np_changes.specs.Prelude.{Configuration, Entry, Outcome, PoolId, after, outcome_of}
 use Rattle.np_event.specs.declared.event.Event.TheVariants as ev
-use Rattle.np_machine.specs.Plan.{outcome_of}
-use Rattle.np_machine.specs.History.{after}
 use Rattle.np_useful.specs.Driven.{Says, DrivenBy}
 use Rattle.np_driven.specs.Nodes.{servers_up}
 use Rattle.np_driven.specs.Reports.{AreAloneSound, FailAfter, reports_of}

@@ -1,9 +1,8 @@
 -- which numbers an event may name, since they are within their types
 use Rattle.std.specs.Prelude.{◌<◌, ◌^◌}
-use Rattle.np_text.specs.declared.id.SessionId.{SessionId}
+use Rattle.np_changes.specs.Prelude.{Event, SessionId}
 use Rattle.np_text.specs.declared.id.Role.TheVariants as role
 use Rattle.np_text.specs.declared.word.Reason.TheVariants as reason
-use Rattle.np_event.specs.declared.event.Event.{Event}
 use Rattle.np_event.specs.declared.event.Event.TheVariants as ev
 use Rattle.np_event.specs.declared.event.Outcome.TheVariants as outcome
 

@@ -1,8 +1,7 @@
 //! The command `drill`.
 
 ghost use Rattle.std.specs.Prelude.{◌≤◌, IfOk};
-ghost use Rattle.std.specs.List.{AllByRecursion};
-ghost use Rattle.np_site.specs.Sound.{IsSound};
+ghost use Rattle.np_changes.specs.Prelude.{AllByRecursion, IsSound};
 ghost use Rattle.np_event_lines.specs.Line.{HasEventLine};
 ghost use Rattle.np_useful.specs.Driven.{Driven};
 ghost use Rattle.np_gen.specs.Site.{drill_site};

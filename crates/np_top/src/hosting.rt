@@ -40,7 +40,7 @@ fn played<R: Threads + Wait + Sync, G: Gate + Sync>(
     ensures { IfOk result (EndsSite hosted_run (hosted_view site)) }
 {
     let (board, full) = play_hosts(rt, alloc, site, gate)?;
-    ending_at(alloc, &board, full)
+    ending_at(alloc, board.machine(), full)
 }
 
 /// How a run of what the source has left ends.

@@ -1,20 +1,20 @@
 //! Playing a site by threads to its end.
 
 ghost use Rattle.std.specs.Prelude.{◌≡◌, length, map, All, IfOk};
-ghost use Rattle.std.specs.List.{AllByRecursion};
+ghost use Rattle.np_answers.specs.Prelude.{AllByRecursion, Driven, DrivenBy, driving};
 ghost use Rattle.np_event_lines.specs.Line.{HasEventLine};
-ghost use Rattle.np_answers.specs.Drive.{driving};
+ghost use Rattle.np_driven.specs.Planned.{PlannedDriven};
 ghost use Rattle.np_driven.specs.Players.{WasAnswered};
-ghost use Rattle.np_useful.specs.Driven.{Driven, DrivenBy};
 ghost use Rattle.np_driven.specs.Carried.{AreCarried, BeginsNew, FailOnlyFull};
 ghost use Rattle.np_static.specs.Hosted.{HasHostLines, hosted_view};
 ghost use Rattle.np_top.specs.Play.{HasEnded};
 ghost use Rattle.np_top.specs.RunHosts.{IsDrivenWithHosts};
 
 use crate::typed::numbers_are_within_their_types;
-use np_board::Board;
+use np_board::{Board, PlannedBoard};
 use np_cloud::{Driver, Gate, simulated_clouds};
 use np_config::Config;
+use np_planned_rounds::{EndedPlanned, run_planned};
 use np_rounds::{Ended, run_rounds};
 use np_static::{HostedSite, hosts_answer_no_number_twice};
 use np_text::NoMemory;
@@ -70,6 +70,27 @@ pub(crate) fn play_site<R: Threads + Wait + Sync, G: Gate + Sync>(
     let clouds = simulated_clouds(alloc, &config)?;
     let ended = play_over(rt, alloc, config, clouds, gate)?;
     let Ended { board, full, .. } = ended;
+    Ok((board, full))
+}
+
+/// The same at a board at which launchers plan.
+pub(crate) fn play_planned<R: Threads + Wait + Sync, G: Gate + Sync>(
+    rt: &R,
+    alloc: Global,
+    config: Config,
+    gate: &G,
+) -> Result<(PlannedBoard, bool), NoMemory>
+    ensures configuration { IfOk result (λ r. r.0.configuration ≡ config) }
+    ensures lines { IfOk result (λ r. AllByRecursion (λ e. HasEventLine e.event) r.0.journal) }
+    ensures driven { IfOk result (λ r. PlannedDriven config r.0.journal) }
+    ensures ended { IfOk result (λ r. HasEnded config r.0.journal r.1) }
+{
+    config.soundness();
+    let clouds = simulated_clouds(alloc, &config)?;
+    let ended = run_planned(rt, alloc, config, clouds, gate)?;
+    ended.board.soundness();
+    numbers_are_within_their_types(ended.board.journal());
+    let EndedPlanned { board, full, .. } = ended;
     Ok((board, full))
 }
 

@@ -1,23 +1,22 @@
-//! The command `run`, and how a site that was played ends.
+//! The commands `run` and `run planned`, and how a site that was played ends.
 
-ghost use Rattle.std.specs.Prelude.{◌≡◌, length, IfOk, IfErr};
-ghost use Rattle.std.specs.List.{AllByRecursion};
+ghost use Rattle.std.specs.Prelude.{◌≡◌, Bool, length, IfOk, IfErr};
+ghost use Rattle.np_changes.specs.Prelude.{AllByRecursion, fate_of, fates};
 ghost use Rattle.np_event_lines.specs.Line.{HasEventLine};
-ghost use Rattle.np_machine.specs.Fates.{fate_of, fates};
 ghost use Rattle.np_top.specs.Play.{EndsPlay, HasEnded, is_waiting, status_of_fates};
-ghost use Rattle.np_top.specs.Run.{EndsRun, EndsSite, HasCome, RunsSite, plain_run};
+ghost use Rattle.np_top.specs.Run.{EndsRun, EndsSite, HasCome, RunsSite, plain_run, planned_run, site_run};
 
-use crate::playing::play_site;
-use np_board::Board;
+use crate::playing::{play_planned, play_site};
 use np_cloud::Gate;
 use np_config::Config;
 use np_config_read::read_config;
 use np_io::{Sink, Source};
 use np_json::{ConfigFault, ConfigRead};
-use np_look::{Look, Rows};
+use np_look::{Look, Rows, Store};
 use np_record::JobRecord;
 use np_replay::{Ending, input, line_of_config, tell};
 use np_report::text;
+use np_rules::Machine;
 use np_text::{JobId, NoMemory};
 use std::alloc::Global;
 use std::sync::Wait;
@@ -28,9 +27,10 @@ fn configuration<S: Source>(
     alloc: Global,
     source: &mut S,
 ) -> Result<Result<Config, ConfigFault>, Ending>
-    ensures read { IfOk result (λ read.
-        HasCome plain_run (S.facts source.old) (S.facts source.new) read) }
-    ensures stops { IfErr result (EndsRun plain_run (S.facts source.old) (S.facts source.new)) }
+    ensures read { (plans : Bool) → IfOk result (λ read.
+        HasCome (site_run plans) (S.facts source.old) (S.facts source.new) read) }
+    ensures stops { (plans : Bool) →
+        IfErr result (EndsRun (site_run plans) (S.facts source.old) (S.facts source.new)) }
 {
     let bytes = input(alloc, source)?;
     match read_config(alloc, bytes.as_slice()) {
@@ -63,16 +63,21 @@ fn status_of<R: Rows>(rows: &R) -> u8
     0
 }
 
-/// How a run that ended with this board ends: with its Text, and with the status of its jobs' fates
+/// How a run that ended with this machine ends: with its Text, and with the status of its jobs' fates
 /// unless its journal was full.
-pub(crate) fn ending_at(alloc: Global, board: &Board, full: bool) -> Result<Ending, NoMemory>
-    requires lines { AllByRecursion (λ e. HasEventLine e.event) board.now.journal }
-    requires ended { HasEnded board.now.configuration board.now.journal full }
-    ensures { IfOk result (EndsPlay board.now.configuration board.now.journal) }
+pub(crate) fn ending_at<S: Store + Drop>(
+    alloc: Global,
+    machine: &Machine<S>,
+    full: bool,
+) -> Result<Ending, NoMemory>
+    requires first { machine.now.earlier ≡ 0 }
+    requires lines { AllByRecursion (λ e. HasEventLine e.event) machine.now.journal }
+    requires ended { HasEnded machine.now.configuration machine.now.journal full }
+    ensures { IfOk result (EndsPlay machine.now.configuration machine.now.journal) }
 {
-    board.soundness();
-    let rows = board.machine().rows();
-    let text = text(alloc, rows, board.journal())?;
+    machine.soundness();
+    let rows = machine.rows();
+    let text = text(alloc, rows, machine.journal())?;
     if full {
         return Ok(Ending::Full { text });
     }
@@ -82,8 +87,21 @@ pub(crate) fn ending_at(alloc: Global, board: &Board, full: bool) -> Result<Endi
     })
 }
 
-/// Plays the site to its end, and returns how the run ends then.
-fn played<R: Threads + Wait + Sync, G: Gate + Sync>(
+/// Plays the site to its end at a board at which launchers plan, and returns how the run ends then.
+fn played_with_plans<R: Threads + Wait + Sync, G: Gate + Sync>(
+    rt: &R,
+    alloc: Global,
+    config: Config,
+    gate: &G,
+) -> Result<Ending, NoMemory>
+    ensures { IfOk result (EndsSite planned_run config) }
+{
+    let (board, full) = play_planned(rt, alloc, config, gate)?;
+    ending_at(alloc, board.machine(), full)
+}
+
+/// The same at a board at which all choose in the turn in which they record.
+fn played_without<R: Threads + Wait + Sync, G: Gate + Sync>(
     rt: &R,
     alloc: Global,
     config: Config,
@@ -92,21 +110,38 @@ fn played<R: Threads + Wait + Sync, G: Gate + Sync>(
     ensures { IfOk result (EndsSite plain_run config) }
 {
     let (board, full) = play_site(rt, alloc, config, gate)?;
-    ending_at(alloc, &board, full)
+    ending_at(alloc, board.machine(), full)
+}
+
+/// Plays the site to its end, and returns how the run ends then.
+fn played<R: Threads + Wait + Sync, G: Gate + Sync>(
+    rt: &R,
+    alloc: Global,
+    plans: bool,
+    config: Config,
+    gate: &G,
+) -> Result<Ending, NoMemory>
+    ensures { IfOk result (EndsSite (site_run plans) config) }
+{
+    match plans {
+        true => played_with_plans(rt, alloc, config, gate),
+        false => played_without(rt, alloc, config, gate),
+    }
 }
 
 /// How a run of what the source has left ends.
 fn ran<R: Threads + Wait + Sync, S: Source, G: Gate + Sync>(
     rt: &R,
     alloc: Global,
+    plans: bool,
     source: &mut S,
     gate: &G,
 ) -> Result<Ending, Ending>
-    ensures ok { IfOk result (EndsRun plain_run (S.facts source.old) (S.facts source.new)) }
-    ensures err { IfErr result (EndsRun plain_run (S.facts source.old) (S.facts source.new)) }
+    ensures ok { IfOk result (EndsRun (site_run plans) (S.facts source.old) (S.facts source.new)) }
+    ensures err { IfErr result (EndsRun (site_run plans) (S.facts source.old) (S.facts source.new)) }
 {
     match configuration(alloc, source)? {
-        Ok(config) => Ok(played(rt, alloc, config, gate)?),
+        Ok(config) => Ok(played(rt, alloc, plans, config, gate)?),
         Err(fault) => {
             let line = line_of_config(alloc, &fault)?;
             Ok(Ending::Says { line, status: 3 })
@@ -118,12 +153,13 @@ fn ran<R: Threads + Wait + Sync, S: Source, G: Gate + Sync>(
 fn ending_of<R: Threads + Wait + Sync, S: Source, G: Gate + Sync>(
     rt: &R,
     alloc: Global,
+    plans: bool,
     source: &mut S,
     gate: &G,
 ) -> Ending
-    ensures { EndsRun plain_run (S.facts source.old) (S.facts source.new) result }
+    ensures { EndsRun (site_run plans) (S.facts source.old) (S.facts source.new) result }
 {
-    match ran(rt, alloc, source, gate) {
+    match ran(rt, alloc, plans, source, gate) {
         Ok(ending) => ending,
         Err(ending) => ending,
     }
@@ -131,7 +167,8 @@ fn ending_of<R: Threads + Wait + Sync, S: Source, G: Gate + Sync>(
 
 /// Reads a configuration from the source, lets its launchers, janitors, requesters and reaper play
 /// the site in threads to its end, and prints the Text of the journal that they made to out, or
-/// says on err why not. It returns the status: 0 if the site came to its end and no job waits, 1 if
+/// says on err why not. With plans, launchers choose on the board as it stands, and commit in a later
+/// turn if nothing changed that they read. It returns the status: 0 if the site came to its end and no job waits, 1 if
 /// one does, 3 for a fault of the configuration, 5 for a failed source or an input that is too
 /// long, 6 for a failed sink, 7 if memory ran out. If the journal was full, the Text is printed, a
 /// line on err says so, and the status is 9. The input is read to its end first, then come the
@@ -139,14 +176,15 @@ fn ending_of<R: Threads + Wait + Sync, S: Source, G: Gate + Sync>(
 pub fn run<R: Threads + Wait + Sync, S: Source, K: Sink, E: Sink, G: Gate + Sync>(
     rt: &R,
     alloc: Global,
+    plans: bool,
     source: &mut S,
     out: &mut K,
     err: &mut E,
     gate: &G,
 ) -> u8
-    ensures { RunsSite plain_run S.facts K.facts E.facts source.old source.new out.old out.new
-        err.old err.new result }
+    ensures { RunsSite (site_run plans) S.facts K.facts E.facts source.old source.new
+        out.old out.new err.old err.new result }
 {
-    let ending = ending_of(rt, alloc, source, gate);
+    let ending = ending_of(rt, alloc, plans, source, gate);
     tell(out, err, &ending)
 }

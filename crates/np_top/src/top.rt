@@ -6,7 +6,7 @@ ghost use Rattle.np_replay.specs.Replay.{Replays};
 ghost use Rattle.np_replay.specs.Resume.{Resumes};
 ghost use Rattle.np_top.specs.Audit.{Audits};
 ghost use Rattle.np_top.specs.Drill.{Drills};
-ghost use Rattle.np_top.specs.Run.{RunsSite, plain_run};
+ghost use Rattle.np_top.specs.Run.{RunsSite, plain_run, planned_run};
 ghost use Rattle.np_top.specs.RunHosts.{hosted_run};
 ghost use Rattle.np_top.specs.Words.{IsNoCommand};
 ghost use Rattle.np_words.specs.Command.{command};
@@ -51,6 +51,9 @@ pub fn poolsim<R: Threads + Wait + Sync, S: Source, K: Sink, E: Sink, G: Gate + 
     ensures run_hosts { command (map string_bytes words.now) ≡ Some the.RunHosts →
         (disk.new ≡ disk.old) × RunsSite hosted_run S.facts K.facts E.facts source.old source.new
         out.old out.new err.old err.new result }
+    ensures run_planned { command (map string_bytes words.now) ≡ Some the.RunPlanned →
+        (disk.new ≡ disk.old) × RunsSite planned_run S.facts K.facts E.facts source.old source.new
+        out.old out.new err.old err.new result }
     ensures audit { command (map string_bytes words.now) ≡ Some the.Audit → (disk.new ≡ disk.old)
         × Audits S.facts K.facts E.facts source.old source.new out.old out.new err.old err.new
         result }
@@ -69,7 +72,8 @@ pub fn poolsim<R: Threads + Wait + Sync, S: Source, K: Sink, E: Sink, G: Gate + 
         Err(NoMemory) => tell(out, err, &Ending::NoMemory),
         Ok(None) => tell(out, err, &Ending::NoCommand),
         Ok(Some(Command::Replay)) => replay(alloc, source, out, err),
-        Ok(Some(Command::Run)) => run(rt, alloc, source, out, err, gate),
+        Ok(Some(Command::Run)) => run(rt, alloc, false, source, out, err, gate),
+        Ok(Some(Command::RunPlanned)) => run(rt, alloc, true, source, out, err, gate),
         Ok(Some(Command::RunHosts)) => run_hosts(rt, alloc, source, out, err, gate),
         Ok(Some(Command::Audit)) => audit(alloc, source, out, err),
         Ok(Some(Command::Drill { jobs })) => drill(rt, alloc, jobs, out, err, gate),

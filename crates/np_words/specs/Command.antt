@@ -26,7 +26,10 @@ drill_of (Some n) = if n == 0 then None else Some (the.Drill n)
 
 -- what is run, by the word after `run`
 abbrev pub run_of : List ℕ → Option Command
-run_of w = if bytes_eq w (codes "hosts") then Some the.RunHosts else None
+run_of w =
+    if bytes_eq w (codes "hosts") then Some the.RunHosts
+    else if bytes_eq w (codes "planned") then Some the.RunPlanned
+    else None
 
 -- the command of two words: `run` and what is run, `drill` and a decimal number of at most 4,000
 -- without leading zeros, or `keep` or `resume` and the name of a file
@@ -54,6 +57,7 @@ abbrev pub HasJobs : Command → Type 0
 HasJobs the.Replay = Unit {0}
 HasJobs the.Run = Unit {0}
 HasJobs the.RunHosts = Unit {0}
+HasJobs the.RunPlanned = Unit {0}
 HasJobs the.Audit = Unit {0}
 HasJobs (the.Drill jobs) = (1 ≤ jobs) × (jobs ≤ 4000)
 HasJobs (the.Keep file) = Unit {0}

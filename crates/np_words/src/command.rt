@@ -21,6 +21,9 @@ pub enum Command {
     /// Plays a site by threads to its end, of which some pools are served by fixed hosts, and
     /// prints the Text of the run.
     RunHosts,
+    /// Plays a site by threads to its end, at whose board launchers plan, and prints the Text of the
+    /// run.
+    RunPlanned,
     /// Says whether its input is the Text of a run.
     Audit,
     /// Plays the generated site of this number of jobs, from 1 to 4,000, by threads to its end, and
@@ -65,6 +68,7 @@ fn run_of(what: &str) -> Option<Command>
 {
     match what {
         "hosts" => Some(Command::RunHosts),
+        "planned" => Some(Command::RunPlanned),
         _ => None,
     }
 }

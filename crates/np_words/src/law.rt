@@ -15,6 +15,11 @@ pub fn worked_commands()
         × (command (codes "hosts" ∷ []) ≡ None)
         × (command (codes "replay" ∷ codes "hosts" ∷ []) ≡ None)
         × (command (codes "run" ∷ codes "hosts" ∷ codes "x" ∷ []) ≡ None) }
+    ensures planned { (command (codes "run" ∷ codes "planned" ∷ []) ≡ Some the.RunPlanned)
+        × (command (codes "--" ∷ codes "run" ∷ codes "planned" ∷ []) ≡ Some the.RunPlanned)
+        × (command (codes "run" ∷ codes "plan" ∷ []) ≡ None)
+        × (command (codes "planned" ∷ []) ≡ None)
+        × (command (codes "run" ∷ codes "planned" ∷ codes "hosts" ∷ []) ≡ None) }
     ensures drill { (command (codes "drill" ∷ codes "12" ∷ []) ≡ Some (the.Drill 12))
         × (command (codes "drill" ∷ codes "4000" ∷ []) ≡ Some (the.Drill 4000))
         × (command (codes "drill" ∷ codes "4001" ∷ []) ≡ None)

@@ -1,6 +1,5 @@
 use Rattle.std.proofs.Common.{◌∙◌, refl, ap, true, false}
-use Rattle.np_machine.specs.Fates.{fates}
-use Rattle.np_machine.specs.State.{State}
+use Rattle.np_changes.specs.Prelude.{State, fates}
 use Rattle.np_rules.specs.Running.{ran_of}
 use Rattle.np_report.specs.Summary.{summary_of}
 use Rattle.np_lines.proofs.ToldRuns.{jobs-Runs}

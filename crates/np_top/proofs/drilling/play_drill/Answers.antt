@@ -1,7 +1,6 @@
 use Rattle.std.proofs.Common.{◌∙◌, sym, subst}
 use Rattle.std.specs.Prelude.{IfOk}
-use Rattle.np_site.specs.Configuration.{Configuration}
-use Rattle.np_site.specs.Sound.{IsSound}
+use Rattle.np_changes.specs.Prelude.{Configuration, IsSound}
 use Rattle.np_useful.specs.Driven.{Driven}
 use Rattle.np_top.specs.Drill.{EndsDrill}
 use Rattle.np_top.specs.Play.{HasEnded}

@@ -1,6 +1,5 @@
 use Rattle.std.proofs.Common.{map, subst}
-use Rattle.std.specs.List.{AllByRecursion}
-use Rattle.np_event.specs.declared.entry.Entry.{Entry}
+use Rattle.np_changes.specs.Prelude.{AllByRecursion, Entry}
 use Rattle.np_answers.specs.Drive.{driving}
 use Rattle.np_driven.specs.Players.{WasAnswered}
 use Rattle.np_top.specs.Typed.{IsTyped}

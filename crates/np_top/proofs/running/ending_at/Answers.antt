@@ -1,43 +1,41 @@
 use Rattle.std.proofs.Common.{◌∙◌, refl, ap, true, false}
-use Rattle.np_machine.specs.Fates.{fates}
-use Rattle.np_machine.specs.State.{State}
+use Rattle.np_changes.specs.Prelude.{State, fates}
 use Rattle.np_rules.specs.Running.{ran_of}
+use Rattle.np_rules.proofs.First.{Runs-first}
 use Rattle.np_lines.proofs.ToldRuns.{jobs-Runs}
 use Rattle.np_top.specs.Play.{status_of_fates}
 use Rattle.np_top.proofs.Sites.{played_to, status_then, ended_is, rows_runs, rows_printed, rows_jobs, rows_state}
 use Rattle.np_top.proofs.running.ending_at.Goals as goal
 
 pub text-requires-clause-runs : goal.text-requires-clause-runs
-text-requires-clause-runs c =
-    rows_runs c.args.board.now (ran_of c.machine.result.now) c.machine.ensures.same _ _ c.rows-rows.ensures.site c.rows-rows.ensures.state
-    c.journal.result.now c.journal.ensures c.soundness.ensures.runs
+text-requires-clause-runs g c =
+    let m = c.args.machine.now in
+    rows_runs (ran_of m) (ran_of m) refl _ _ c.rows-rows.ensures.site c.rows-rows.ensures.state c.journal.result.now c.journal.ensures
+    (Runs-first m.configuration m.earlier m.journal m.state c.requires.first c.soundness.ensures.runs)
 
 pub status_of-requires : goal.status_of-requires
-status_of-requires c =
-    let board = c.args.board.now in let machine = ran_of c.machine.result.now in
-    let printed = rows_printed board machine c.machine.ensures.same _ _ c.rows-rows.ensures.site c.rows-rows.ensures.state
+status_of-requires g c =
+    let m = c.args.machine.now in
+    let printed = rows_printed (ran_of m) (ran_of m) refl _ _ c.rows-rows.ensures.site c.rows-rows.ensures.state
     c.journal.result.now c.in_ok-text.text.items c.journal.ensures c.in_ok-text.ensures in
     record {
-      jobs = rows_jobs board machine c.machine.ensures.same _ _ c.rows-rows.ensures.site c.rows-rows.ensures.state
-          (jobs-Runs board.configuration board.journal board.state printed.sound c.soundness.ensures.runs);
+      jobs = rows_jobs (ran_of m) (ran_of m) refl _ _ c.rows-rows.ensures.site c.rows-rows.ensures.state
+          (jobs-Runs m.configuration m.journal m.state printed.sound (Runs-first m.configuration m.earlier m.journal m.state c.requires.first c.soundness.ensures.runs));
     }
 
 pub returns-then-full : goal.returns-then-full
-returns-then-full c =
-    let board = c.args.board.now in let text = c.in_ok-text.text.items in
-    let printed = rows_printed board (ran_of c.machine.result.now) c.machine.ensures.same _ _ c.rows-rows.ensures.site c.rows-rows.ensures.state
-    c.journal.result.now text c.journal.ensures c.in_ok-text.ensures in
-    played_to board.configuration board.configuration board.journal board.state refl c.soundness.ensures.runs text true
-    printed (ended_is board.configuration board.journal c.args.full true c.if-full.true c.requires.ended)
+returns-then-full g c =
+    let m = c.args.machine.now in let text = c.in_ok-text.text.items in
+    let printed = rows_printed (ran_of m) (ran_of m) refl _ _ c.rows-rows.ensures.site c.rows-rows.ensures.state c.journal.result.now text c.journal.ensures c.in_ok-text.ensures in
+    played_to m.configuration m.configuration m.journal m.state refl (Runs-first m.configuration m.earlier m.journal m.state c.requires.first c.soundness.ensures.runs) text true
+    printed (ended_is m.configuration m.journal c.args.full true c.if-full.true c.requires.ended)
 
 pub returns : goal.returns
-returns c =
-    let board = c.args.board.now in let machine = ran_of c.machine.result.now in let text = c.in_ok-text.text.items in
-    let printed = rows_printed board machine c.machine.ensures.same _ _ c.rows-rows.ensures.site c.rows-rows.ensures.state
-    c.journal.result.now text c.journal.ensures c.in_ok-text.ensures in
-    let state = rows_state board machine c.machine.ensures.same _ _ c.rows-rows.ensures.site c.rows-rows.ensures.state in (
-      played_to board.configuration board.configuration board.journal board.state refl c.soundness.ensures.runs text false
-          printed (ended_is board.configuration board.journal c.args.full false c.if-full.false c.requires.ended),
-      status_then board.configuration board.configuration board.journal board.state refl c.soundness.ensures.runs c.status_of.result
-          (c.status_of.ensures ∙ ap (λ (s : State). status_of_fates (fates s)) state),
+returns g c =
+    let m = c.args.machine.now in let text = c.in_ok-text.text.items in
+    let runs = Runs-first m.configuration m.earlier m.journal m.state c.requires.first c.soundness.ensures.runs in
+    let printed = rows_printed (ran_of m) (ran_of m) refl _ _ c.rows-rows.ensures.site c.rows-rows.ensures.state c.journal.result.now text c.journal.ensures c.in_ok-text.ensures in
+    let state = rows_state (ran_of m) (ran_of m) refl _ _ c.rows-rows.ensures.site c.rows-rows.ensures.state in (
+      played_to m.configuration m.configuration m.journal m.state refl runs text false printed (ended_is m.configuration m.journal c.args.full false c.if-full.false c.requires.ended),
+      status_then m.configuration m.configuration m.journal m.state refl runs c.status_of.result (c.status_of.ensures ∙ ap (λ (s : State). status_of_fates (fates s)) state),
     )

@@ -1,13 +1,13 @@
-use Rattle.std.proofs.Common.{inl, refl}
+use Rattle.std.proofs.Common.{inl, refl, true, false}
 use Rattle.np_replay.specs.declared.ending.Ending.TheVariants as ending
-use Rattle.np_top.specs.Run.{plain_run}
+use Rattle.np_top.specs.Run.{plain_run, planned_run}
 use Rattle.np_top.specs.RunHosts.{hosted_run}
 use Rattle.np_replay.proofs.Statuses.{replays}
 use Rattle.np_replay.proofs.KeepStatuses.{keeps}
 use Rattle.np_replay.proofs.ResumeStatuses.{resumes}
 use Rattle.np_top.proofs.AuditStatuses.{audits}
 use Rattle.np_top.proofs.DrillStatuses.{drills}
-use Rattle.np_top.proofs.RunStatuses.{faults-hosted, faults-plain, runs_site}
+use Rattle.np_top.proofs.RunStatuses.{faults-hosted, faults-run, runs_site}
 use Rattle.np_top.proofs.top.poolsim.Goals as goal
 
 pub returns-in-Err-clause-replay : goal.returns-in-Err-clause-replay
@@ -20,7 +20,7 @@ returns-in-Err-clause-replay g c is = (
 pub returns-in-Err-clause-run : goal.returns-in-Err-clause-run
 returns-in-Err-clause-run g c is = (
   refl,
-  runs_site plain_run faults-plain g.S.Source.facts g.K.Sink.facts g.E.Sink.facts c.args.source.now c.args.source.now c.args.out.now c.tell.new.out c.args.err.now c.tell.new.err
+  runs_site plain_run (faults-run false) g.S.Source.facts g.K.Sink.facts g.E.Sink.facts c.args.source.now c.args.source.now c.args.out.now c.tell.new.out c.args.err.now c.tell.new.err
       c.tell.result ending.NoMemory tt c.tell.ensures,
 )
 
@@ -28,6 +28,13 @@ pub returns-in-Err-clause-run_hosts : goal.returns-in-Err-clause-run_hosts
 returns-in-Err-clause-run_hosts g c is = (
   refl,
   runs_site hosted_run faults-hosted g.S.Source.facts g.K.Sink.facts g.E.Sink.facts c.args.source.now c.args.source.now c.args.out.now c.tell.new.out c.args.err.now c.tell.new.err
+      c.tell.result ending.NoMemory tt c.tell.ensures,
+)
+
+pub returns-in-Err-clause-run_planned : goal.returns-in-Err-clause-run_planned
+returns-in-Err-clause-run_planned g c is = (
+  refl,
+  runs_site planned_run (faults-run true) g.S.Source.facts g.K.Sink.facts g.E.Sink.facts c.args.source.now c.args.source.now c.args.out.now c.tell.new.out c.args.err.now c.tell.new.err
       c.tell.result ending.NoMemory tt c.tell.ensures,
 )
 

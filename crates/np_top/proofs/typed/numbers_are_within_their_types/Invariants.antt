@@ -1,6 +1,5 @@
 use Rattle.std.proofs.Common.{take}
-use Rattle.std.specs.List.{AllByRecursion}
-use Rattle.np_event.specs.declared.entry.Entry.{Entry}
+use Rattle.np_changes.specs.Prelude.{AllByRecursion, Entry}
 use Rattle.np_top.specs.Typed.{IsTyped}
 use Rattle.np_top.proofs.typed.numbers_are_within_their_types.Given as goal
 

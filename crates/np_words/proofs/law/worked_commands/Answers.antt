@@ -7,6 +7,7 @@ unfolding number_of digits_within
 returns c = record {
   bare = (refl, refl, refl);
   hosts = (refl, refl, refl, refl, refl, refl);
+  planned = (refl, refl, refl, refl, refl);
   drill = (refl, refl, refl, refl, refl);
   file = (refl, refl, refl, refl, refl, refl);
   dashes = (refl, refl, refl, refl, refl, refl);

@@ -1,5 +1,5 @@
 use Rattle.std.proofs.Common.{◌≡◌}
-use Rattle.np_desk_tests.proofs.desks.ask_in_series.Given as goal
+use Rattle.np_keep_tests.proofs.desks.ask_in_series.Given as goal
 
 abbrev pub invariant-loop-series : goal.invariant-loop-series
 invariant-loop-series g l = record {

@@ -1,5 +1,5 @@
 use Rattle.std.proofs.Common.{◌≡◌}
-use Rattle.np_desk_tests.proofs.desks.ask_each.Given as goal
+use Rattle.np_keep_tests.proofs.desks.ask_each.Given as goal
 
 abbrev pub invariant-loop-ask : goal.invariant-loop-ask
 invariant-loop-ask g l = record {
