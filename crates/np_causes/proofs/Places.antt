@@ -1,0 +1,75 @@
+-- the places of what a fact names
+use Rattle.std.proofs.Common.{◌≡◌, ◌≤◌, ◌<◌, ◌+◌, ◌-◌, ℕ, suc, zero, List, [], ◌∷◌, length, Option, Some, None, refl, sym, ap, ◌∙◌, arith}
+use Rattle.std.specs.Prelude.{map, slice_get}
+use Rattle.std.proofs.lemmas.Option.{slice_get-map, slice_get-get_or, slice_get_past, slice_get_within}
+use Rattle.std.proofs.lemmas.List.FromFn.{get_or-map-range_with_len, length-map-range_with_len}
+use Rattle.np_changes.specs.Prelude.{Configuration, NodeId, Pool, RequestId, RequestRecord, Role, State, asked_of, option_map, option_map_or, range_with_len, request_in}
+use Rattle.np_changes.specs.declared.asked.Asked.{Asked}
+use Rattle.np_causes.specs.Names.{a_node, if_live, nodes_in, offers_for, sessions_for}
+use Rattle.np_causes.specs.declared.fact.Thing.{Thing}
+use Rattle.np_causes.specs.declared.fact.Thing.TheVariants as thing
+
+-- ## a list that begins with one thing, and with two
+
+pub after_first : {X : Type 0} (x : X) (xs : List X) (at : ℕ) → (at ≡ 0 → ⊥) → slice_get (x ∷ xs) at ≡ slice_get xs (at - 1)
+after_first x xs zero none = absurd (none refl)
+after_first x xs (suc at) none = ap (λ (k : ℕ). slice_get xs k) (omega arith)
+
+pub after_second : {X : Type 0} (x y : X) (xs : List X) (at : ℕ) → (at ≡ 0 → ⊥) → (at ≡ 1 → ⊥) → slice_get (x ∷ y ∷ xs) at ≡ slice_get xs (at - 2)
+after_second x y xs zero none one = absurd (none refl)
+after_second x y xs (suc zero) none one = absurd (one (omega arith))
+after_second x y xs (suc (suc at)) none one = ap (λ (k : ℕ). slice_get xs k) (omega arith)
+
+-- ## rows by their views
+
+pub seen_at : {A B C : Type 0} (view : A → B) (f : A → C) (g : B → C) → ((e : A) → f e ≡ g (view e)) → (xs : List A) (at : ℕ) (o : Option B)
+    → o ≡ option_map view (slice_get xs at) → slice_get (map f xs) at ≡ option_map g o
+seen_at view f g same [] at o is = ap (option_map g) (sym is)
+seen_at view f g same (x ∷ xs) zero o is = ap Some (same x) ∙ ap (option_map g) (sym is)
+seen_at view f g same (x ∷ xs) (suc at) o is = seen_at view f g same xs at o is
+
+pub mapped_at : {A C : Type 0} (f : A → C) (xs : List A) (at : ℕ) (o : Option A) → o ≡ slice_get xs at → slice_get (map f xs) at ≡ option_map f o
+mapped_at f xs at o is = slice_get-map f xs at ∙ ap (option_map f) (sym is)
+
+-- ## numbers from one on
+
+pub range_at : {X : Type 0} (f : ℕ → X) (a n at : ℕ) → at < n → slice_get (map f (range_with_len a n)) at ≡ Some (f (a + at))
+range_at f a n at less =
+    let within : at < length (map f (range_with_len a n)) = omega (arith, length-map-range_with_len f a n) in
+    slice_get-get_or (map f (range_with_len a n)) at (f 0) within ∙ ap Some (get_or-map-range_with_len f a n at (a + at) (f 0) less refl)
+
+pub range_past : {X : Type 0} (f : ℕ → X) (a n at : ℕ) → n ≤ at → slice_get (map f (range_with_len a n)) at ≡ None
+range_past f a n at past = slice_get_past (map f (range_with_len a n)) at (omega (arith, length-map-range_with_len f a n))
+
+pub offer_there : (c : Configuration) (r : RequestId) (at : ℕ) (p : Pool) → slice_get c.pools at ≡ Some p
+    → slice_get (offers_for c r) at ≡ Some (Some (thing.Offer r (record { 0 = at })))
+offer_there c r at p there =
+    let same : 0 + at ≡ at = omega arith in
+    range_at (λ (k : ℕ). Some (thing.Offer r (record { 0 = k }))) 0 (length c.pools) at (slice_get_within c.pools at p there)
+    ∙ ap (λ (k : ℕ). Some (Some (thing.Offer r (record { 0 = k })))) same
+
+pub no_offer : (c : Configuration) (r : RequestId) (at : ℕ) → length c.pools ≤ at → slice_get (offers_for c r) at ≡ None
+no_offer c r at past = range_past (λ (k : ℕ). Some (thing.Offer r (record { 0 = k }))) 0 (length c.pools) at past
+
+pub session_there : (role : Role) (s : State) (at : ℕ) → at < length s.sessions → slice_get (sessions_for role s) at ≡ Some (if_live role s (record { 0 = at + 1 }))
+session_there role s at less =
+    let same : 1 + at ≡ at + 1 = omega arith in
+    range_at (λ (k : ℕ). if_live role s (record { 0 = k })) 1 (length s.sessions) at less
+    ∙ ap (λ (k : ℕ). Some (if_live role s (record { 0 = k }))) same
+
+pub no_session : (role : Role) (s : State) (at : ℕ) → length s.sessions ≤ at → slice_get (sessions_for role s) at ≡ None
+no_session role s at past = range_past (λ (k : ℕ). if_live role s (record { 0 = k })) 1 (length s.sessions) at past
+
+-- ## the nodes of a request
+
+pub node_there : (r : RequestId) (s : State) (at : ℕ) (a : Asked) (n : NodeId) → Some a ≡ option_map asked_of (request_in r s.requests) → Some n ≡ slice_get a.nodes at
+    → Some (Some (thing.Node n)) ≡ slice_get (map a_node (nodes_in r s)) at
+node_there r s at a n asked there = by (request_in r s.requests) asked
+  where
+    by : (o : Option RequestRecord) → Some a ≡ option_map asked_of o → Some (Some (thing.Node n)) ≡ slice_get (map a_node (option_map_or (λ request. request.nodes) o [])) at
+    by None is = absurd cc
+    by (Some k) is =
+        let whole : a ≡ asked_of k = cc in
+        let same : a.nodes ≡ k.nodes = ap (λ (x : Asked). x.nodes) whole in
+        let here : Some n ≡ slice_get k.nodes at = there ∙ ap (λ (ns : List NodeId). slice_get ns at) same in
+        sym (mapped_at a_node k.nodes at (Some n) here)

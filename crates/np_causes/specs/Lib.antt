@@ -1,0 +1,3 @@
+pub mod Fact
+pub mod Names
+pub mod Explains
