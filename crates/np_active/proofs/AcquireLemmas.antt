@@ -1,7 +1,8 @@
 -- the first of a requester's jobs that may acquire its handles
 use Rattle.std.proofs.Common.{◌≡◌, ◌∙◌, ◌⊎◌, inl, inr, ℕ, Bool, true, false, not, Option, None, refl, sym, ap}
 use Rattle.std.specs.Prelude.{◌&&◌, is_none}
-use Rattle.np_keys.specs.Prelude.{Configuration, JobId, JobRecord, RequesterId, State, first_full, request_state_of}
+use Rattle.np_changes.specs.Prelude.{Configuration, JobId, JobRecord, RequesterId, State, first_full}
+use Rattle.np_look.specs.Readers.{request_state_of}
 use Rattle.np_look.specs.Jobs.{is_job_to_acquire, is_supplied, job_to_acquire, may_acquire, was_given}
 use Rattle.np_active.specs.Active.{ActiveOf, AreActive, is_job_in, lacking_group, lacking_ones}
 use Rattle.np_active.specs.Begin.{IsBest, comes_first}

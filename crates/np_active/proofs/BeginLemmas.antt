@@ -2,7 +2,7 @@
 use Rattle.std.proofs.Common.{◌≡◌, ◌∙◌, ◌⊎◌, inl, inr, ℕ, Bool, true, false, Option, Some, None, refl, sym, ap}
 use Rattle.std.specs.Prelude.{◌||◌, find, is_none}
 use Rattle.std.proofs.lemmas.Bool.{or_parts}
-use Rattle.np_keys.specs.Prelude.{Configuration, JobId, JobRecord, RequesterId, State, first_full, is_new}
+use Rattle.np_changes.specs.Prelude.{Configuration, JobId, JobRecord, RequesterId, State, first_full, is_new}
 use Rattle.np_lists.proofs.FoundLemmas.{find-passes}
 use Rattle.np_groups.specs.Groups.{ids_in}
 use Rattle.np_look.specs.Jobs.{is_job_to_begin, is_supplied, job_to_begin, may_begin}

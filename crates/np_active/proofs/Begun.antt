@@ -1,13 +1,10 @@
 -- a planned event mutes or ends only a session that was begun
 use Rattle.std.proofs.Common.{◌≡◌, Bool, true, false, None, Some, refl, sym, subst}
 use Rattle.std.specs.Prelude.{◌==◌, slice_get}
-use Rattle.np_text.specs.declared.id.Role.TheVariants.{Launcher, Janitor, Requester}
-use Rattle.np_keys.specs.Prelude.{Changes, Configuration, IsPlanned, SessionFacts, SessionId, SessionsChange, State, next_label, node_in, request_in, session_of}
-use Rattle.np_event.specs.declared.event.Event.{Event}
+use Rattle.np_changes.specs.Prelude.{Configuration, Event, IsPlanned, Janitor, Launcher, Requester, SessionFacts, SessionId, State, janitor, launcher, maker, next_label, node_in, plan, request_in, request_of_job, requester, session_of}
+use Rattle.np_changes.specs.declared.changes.Changes.{Changes}
+use Rattle.np_changes.specs.declared.changes.SessionsChange.{SessionsChange}
 use Rattle.np_event.specs.declared.event.Event.TheVariants as ev
-use Rattle.np_machine.specs.Request.{request_of_job}
-use Rattle.np_machine.specs.Tests.{janitor, launcher, maker, requester}
-use Rattle.np_changes.specs.Plan.{plan}
 use Rattle.np_changes.specs.declared.changes.SessionsChange.TheVariants as sessions
 use Rattle.np_laws.proofs.Through.{plan-found, plan-given, plan-made}
 

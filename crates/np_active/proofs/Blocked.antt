@@ -2,13 +2,10 @@
 use Rattle.std.proofs.Common.{◌≡◌, ◌∙◌, ℕ, Bool, true, false, cond, List, [], ◌∷◌, length, not, Option, Some, None, refl, sym, ap, subst, arith}
 use Rattle.std.specs.Prelude.{◌==◌, ◌&&◌, ◌||◌, find, is_none, slice_get}
 use Rattle.std.specs.Bool.{Decides}
-use Rattle.std.specs.List.{list_any}
-use Rattle.std.specs.Option.{option_map_or}
+use Rattle.np_changes.specs.Prelude.{Configuration, Job, JobId, SemId, State, first_full, has_handle, is_full, list_any, option_map_or}
 use Rattle.std.proofs.lemmas.Bool.{or_parts}
 use Rattle.std.proofs.lemmas.Bool.Decides.{nat_tests}
 use Rattle.std.proofs.lemmas.Slice.Eq.{slice_eq-Decides}
-use Rattle.np_keys.specs.Prelude.{Configuration, Job, JobId, SemId, State, has_handle}
-use Rattle.np_machine.specs.Semaphore.{first_full, is_full}
 use Rattle.np_laws.proofs.Ids.{same_semaphore}
 use Rattle.np_look.specs.Jobs.{is_supplied, may_begin}
 use Rattle.np_active.specs.Begin.{is_free, may_begin_of}

@@ -1,9 +1,7 @@
 -- the first of the jobs that pass, where some of them wait in lines: it is the earliest that the search finds
 use Rattle.std.proofs.Common.{◌≡◌, ◌∙◌, ◌⊎◌, inl, inr, ℕ, Bool, true, false, List, Option, Some, None, refl, sym, ap}
 use Rattle.std.specs.Prelude.{find, slice_get}
-use Rattle.std.specs.List.{list_any}
-use Rattle.std.specs.Option.{option_map_or}
-use Rattle.np_keys.specs.Prelude.{Configuration, JobId, JobRecord, Rises, State}
+use Rattle.np_changes.specs.Prelude.{Configuration, JobId, JobRecord, Rises, State, list_any, option_map_or}
 use Rattle.np_groups.specs.declared.groups.Group.{Group}
 use Rattle.np_groups.specs.Groups.{ids_in}
 use Rattle.np_groups.proofs.Ids.{ids-has, ids-rise, same-itself}

@@ -1,12 +1,13 @@
 -- what the changes of an event leave of the handles of jobs that they do not name
 use Rattle.std.proofs.Common.{◌≡◌, ◌∙◌, Bool, true, false, cond, List, [], ◌∷◌, Option, refl, sym, ap, subst}
 use Rattle.std.specs.Prelude.{◌==◌, ◌||◌, fold, nat_lt, not, unwrap_or}
-use Rattle.np_keys.specs.Prelude.{Changes, Configuration, Growth, JobId, Maker, SemId, State, change_at, has_handle, insert_before, is_among, with_handle, without_handle}
+use Rattle.np_changes.specs.declared.changes.Changes.{Changes}
+use Rattle.np_changes.specs.Prelude.{Configuration, JobId, SemId, State, change_at, changed, grown, handles_changed, has_handle, insert_before, is_among, registers, semaphores_of, with_handle, without_handle}
+use Rattle.np_changes.specs.declared.changes.Growth.{Growth}
+use Rattle.np_changes.specs.declared.changes.Maker.{Maker}
 use Rattle.np_lists.proofs.ChangeLemmas.{kept-change_at}
 use Rattle.np_lists.proofs.FilterLemmas.{list_any-insert_before}
 use Rattle.np_keys.specs.Keys.{job_equal, same_job}
-use Rattle.np_machine.specs.Request.{registers}
-use Rattle.np_changes.specs.Changes.{changed, grown, handles_changed, semaphores_of}
 use Rattle.np_changes.specs.declared.changes.Growth.TheVariants as grow
 use Rattle.np_changes.specs.declared.changes.HandlesChange.{HandlesChange}
 use Rattle.np_changes.specs.declared.changes.HandlesChange.TheVariants as handles

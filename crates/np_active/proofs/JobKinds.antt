@@ -1,17 +1,17 @@
 -- to whom jobs belong: the groups of two kinds of jobs, and what passes for one only
-use Rattle.std.proofs.Common.{◌≡◌, ◌∙◌, ℕ, Bool, true, false, List, [], Option, None, Some, refl, sym, ap, arith}
+use Rattle.std.proofs.Common.{◌≡◌, ◌∙◌, ℕ, Bool, true, false, List, [], Option, None, Some, refl, sym, ap}
 use Rattle.std.specs.Prelude.{◌&&◌, ◌||◌, ◌==◌, not, slice_get}
-use Rattle.std.specs.Option.{option_map_or}
-use Rattle.std.specs.List.{list_any}
+use Rattle.np_changes.specs.Prelude.{Configuration, Job, JobId, JobRecord, RequesterId, State, has_handle, is_asked, is_failed, is_new, is_over, is_using, list_any, option_map_or}
 use Rattle.std.proofs.lemmas.Bool.{and_parts}
-use Rattle.std.proofs.lemmas.Bool.Decides.{nat_tests}
-use Rattle.np_keys.specs.Prelude.{Configuration, Job, JobId, JobRecord, RequesterId, State, has_handle, is_asked, is_failed, is_new, is_over, is_supplied, is_using, request_state_of, was_given}
+use Rattle.np_look.specs.Jobs.{is_supplied, was_given}
+use Rattle.np_look.specs.Readers.{request_state_of}
 use Rattle.np_groups.specs.Groups.{same_group}
 use Rattle.np_active.specs.Active.{JobKind, ending_ones, is_job_in, is_prompt, job_group, lacking_ones, prompt_ones, releasing_ones, supplied_ones, waiting_ones}
 use Rattle.np_active.specs.Lines.{line_of}
 use Rattle.np_active.specs.Members.{job_kinds_of, kinds_of_job}
 use Rattle.np_active.proofs.OwnJobs.{waits_in}
-use Rattle.np_active.proofs.Roles.{and_false, and_true, or_false, requester-equal, same_requester}
+use Rattle.np_active.proofs.Roles.{requester-equal, same_requester}
+use Rattle.np_lists.proofs.Plain.{equal-numbers, and_false, and_true, or_false}
 
 -- ## groups
 
@@ -33,13 +33,10 @@ job-groups (releasing_ones r) (releasing_ones q) = and_true (r.0 == q.0)
 job-groups (lacking_ones r l) (lacking_ones q m) = refl
 job-groups _ _ = refl
 
-pub number-equal : (a b : ℕ) → (a == b) ≡ true → a ≡ b
-number-equal a b is = grind (arith, nat_tests)
-
 line-equal : (of_line : RequesterId → ℕ → JobKind) (r q : RequesterId) (l m : ℕ) → (same_requester r q && (l == m)) ≡ true → of_line r l ≡ of_line q m
 line-equal of_line r q l m is =
     let parts = and_parts (same_requester r q) (l == m) is in
-    let line : l ≡ m = number-equal l m parts.1 in
+    let line : l ≡ m = equal-numbers l m parts.1 in
     ap (λ (x : RequesterId). of_line x l) (requester-equal r q parts.0) ∙ ap (λ (n : ℕ). of_line q n) line
 
 pub job_kind-equal : (r q : JobKind) → same_job_kind r q ≡ true → r ≡ q

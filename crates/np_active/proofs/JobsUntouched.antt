@@ -1,14 +1,13 @@
 -- what the changes of an event leave of the jobs that they do not name, and that do not ask for the request that they answer or remove
-use Rattle.std.proofs.Common.{◌≡◌, ◌≢◌, ◌∙◌, ℕ, zero, suc, Bool, false, List, [], ◌∷◌, length, not, Option, None, Some, refl, sym, ap, arith}
-use Rattle.std.specs.Prelude.{◌==◌, ◌||◌, ◌&&◌, slice_get, slice_set}
-use Rattle.std.specs.List.{list_any}
-use Rattle.std.specs.Option.{option_map_or}
+use Rattle.std.proofs.Common.{◌≡◌, ◌∙◌, ℕ, zero, suc, Bool, false, List, length, not, Option, None, Some, refl, sym, ap, arith}
+use Rattle.std.specs.Prelude.{◌==◌, ◌||◌, ◌&&◌, slice_get}
+use Rattle.np_changes.specs.Prelude.{Configuration, IsPlanned, IsReached, Job, JobId, JobRecord, NodeId, Phase, RequestId, RequestState, RequesterId, SemId, State, changed, grown, has_handle, is_asked, is_failed, is_fulfilled, is_new, is_over, is_using, jobs_changed, list_any, option_map_or, with_mark}
 use Rattle.std.proofs.lemmas.Bool.Decides.{nat_tests}
-use Rattle.np_keys.specs.Prelude.{Changes, Configuration, IsPlanned, IsReached, Job, JobId, JobRecord, JobsChange, NodeId, Phase, RequestId, RequesterId, SemId, State, changed, grown, has_handle, jobs_changed, request_state_of, with_mark}
+use Rattle.np_changes.specs.declared.changes.Changes.{Changes}
+use Rattle.np_changes.specs.declared.changes.JobsChange.{JobsChange}
+use Rattle.np_look.specs.Readers.{request_state_of}
 use Rattle.np_text.specs.declared.word.Phase.TheVariants as phase
-use Rattle.np_text.specs.declared.word.RequestState.{RequestState}
 use Rattle.np_lists.proofs.ChangeLemmas.{kept-change_at}
-use Rattle.np_machine.specs.Kinds.{is_asked, is_failed, is_fulfilled, is_new, is_over, is_using}
 use Rattle.np_changes.specs.declared.changes.JobsChange.TheVariants as jobs
 use Rattle.np_laws.specs.Parts.{Invariant, JobIn}
 use Rattle.np_laws.proofs.JobsLater.{jobs-grown}
@@ -21,14 +20,7 @@ use Rattle.np_active.specs.Members.{job_put, job_releasing, job_taking}
 use Rattle.np_active.proofs.HandlesUntouched.{handle-untouched}
 use Rattle.np_active.proofs.OwnJobs.{waits_in}
 use Rattle.np_active.proofs.RequestsUntouched.{OfAnswered, is_named, of-failed, of-fulfilled, request-untouched}
-
--- a put at another place
-set-other : {X : Type 0} (xs : List X) (i j : ℕ) (x : X) → i ≢ j → slice_get (slice_set xs i x) j ≡ slice_get xs j
-set-other [] i j x other = refl
-set-other (z ∷ xs) zero zero x other = absurd (other refl)
-set-other (z ∷ xs) zero (suc j) x other = refl
-set-other (z ∷ xs) (suc i) zero x other = refl
-set-other (z ∷ xs) (suc i) (suc j) x other = set-other xs i j x (λ same. other (ap suc same))
+use Rattle.np_lists.proofs.Plain.{any-same, set-other}
 
 -- whether by this row the job is of the kind
 abbrev kind_in_row : Configuration → State → List JobId → JobKind → JobId → Option JobRecord → Bool
@@ -51,11 +43,6 @@ rows-untouched c t lines (jobs.EndNode j n) kind i rows out = kept-change_at (ki
 
 -- ## handles
 
--- tests of a list that are alike
-any-alike : {X : Type 0} (p q : X → Bool) → ((x : X) → p x ≡ q x) → (xs : List X) → list_any p xs ≡ list_any q xs
-any-alike p q alike [] = refl
-any-alike p q alike (x ∷ xs) = rw (alike x, any-alike p q alike xs) refl
-
 -- tests of its own jobs that are alike
 own-alike : (c : Configuration) (q : RequesterId) (i : JobId) (such also : Job → Bool) → ((row : Job) → such row ≡ also row) → is_own c q i such ≡ is_own c q i also
 own-alike c q i such also alike = by (slice_get c.jobs i.0) where
@@ -67,7 +54,7 @@ own-alike c q i such also alike = by (slice_get c.jobs i.0) where
 module _ (c : Configuration) (ch : Changes) (s : State) (i : JobId) (old : is_named (job_taking ch.grows) i ≡ false) (kept : is_named (job_releasing ch.handles) i ≡ false) where
   handles-untouched : (semaphores : List SemId) → list_any (has_handle i (changed c ch s).handles) semaphores ≡ list_any (has_handle i s.handles) semaphores
   handles-untouched semaphores =
-      any-alike (has_handle i (changed c ch s).handles) (has_handle i s.handles) (λ x. handle-untouched c i x ch s old kept) semaphores
+      any-same (has_handle i (changed c ch s).handles) (has_handle i s.handles) (λ x. handle-untouched c i x ch s old kept) semaphores
 
   supplied-untouched : (row : Job) → is_supplied (changed c ch s) i row ≡ is_supplied s i row
   supplied-untouched row = ap (λ (b : Bool). (length row.semaphores == 0) || b) (handles-untouched row.semaphores)

@@ -1,23 +1,20 @@
 -- jobs of a requester that wait in lines, for one purpose or another
-use Rattle.std.proofs.Common.{◌≡◌, ◌∙◌, ◌⊎◌, inl, inr, ℕ, Bool, true, false, List, not, refl, sym, ap, arith}
+use Rattle.std.proofs.Common.{◌≡◌, ◌∙◌, ◌⊎◌, inl, inr, ℕ, Bool, true, false, List, not, refl, sym, ap}
 use Rattle.std.specs.Prelude.{◌==◌, ◌&&◌, is_none}
 use Rattle.std.proofs.lemmas.Bool.{and_parts, not-true}
-use Rattle.std.proofs.lemmas.Bool.Decides.{nat_tests}
-use Rattle.np_keys.specs.Prelude.{Configuration, Job, JobId, JobRecord, RequesterId, State, first_full, is_supplied}
+use Rattle.np_changes.specs.Prelude.{Configuration, Job, JobId, JobRecord, RequesterId, State, first_full}
+use Rattle.np_look.specs.Jobs.{is_supplied}
 use Rattle.np_active.specs.Begin.{is_free}
 use Rattle.np_active.specs.Lines.{line_of}
 use Rattle.np_active.proofs.Blocked.{IsInLine, free-is}
-use Rattle.np_active.proofs.JobKinds.{number-equal}
 use Rattle.np_active.proofs.OwnJobs.{IsOwn, is_such, own-such, such-own, waits_in}
+use Rattle.np_lists.proofs.Plain.{equal-itself, equal-numbers}
 
 -- jobs wait in lines unless their rows pass: one that waits lacks handles, and it may go on if it finds none of
 -- its semaphores full
 pub record Waits (c : Configuration) (s : State) (prompt may : JobId → Job → Bool) : Type 0 where
   pub lacks : (j : JobId) (row : Job) → prompt j row ≡ false → is_supplied s j row ≡ false
   pub goes_on : (j : JobId) (row : Job) → prompt j row ≡ false → may j row ≡ is_none (first_full c s j row)
-
-number-itself : (a : ℕ) → (a == a) ≡ true
-number-itself a = grind (arith, nat_tests)
 
 -- a job of the requester whose record passes, and that waits in this line
 abbrev pub is_lined : Configuration → State → List JobId → RequesterId → (JobRecord → Bool) → (JobId → Job → Bool) → ℕ → JobId → Bool
@@ -30,7 +27,7 @@ module _ (c : Configuration) (s : State) (q : RequesterId) (lines : List JobId) 
     by : (own : IsOwn c s q at j) × (waits_in c lines prompt line j own.row ≡ true) → (own : IsOwn c s q at j) × (prompt j own.row ≡ false) × (line_of c lines j own.row ≡ line)
     by (own, tests) =
         let parts = and_parts (not (prompt j own.row)) (line_of c lines j own.row == line) tests in
-        (own, not-true (prompt j own.row) parts.0, number-equal (line_of c lines j own.row) line parts.1)
+        (own, not-true (prompt j own.row) parts.0, equal-numbers (line_of c lines j own.row) line parts.1)
 
   pub lined-in : (line : ℕ) (j : JobId) → is_lined c s lines q at prompt line j ≡ true → IsInLine c s lines line j
   lined-in line j is =
@@ -50,4 +47,4 @@ module _ (c : Configuration) (s : State) (q : RequesterId) (lines : List JobId) 
     by true is = inl is
     by false out =
         let line = line_of c lines j own.row in
-        inr (line, own-such c s q at j (waits_in c lines prompt line j) own ∙ ap (λ (b : Bool). not b && (line == line)) out ∙ number-itself line)
+        inr (line, own-such c s q at j (waits_in c lines prompt line j) own ∙ ap (λ (b : Bool). not b && (line == line)) out ∙ equal-itself line)

@@ -1,8 +1,10 @@
 -- the members of groups after the changes of an event, from those before it
 use Rattle.std.proofs.Common.{◌≡◌, ◌∙◌, Bool, true, false, cond, List, [], ◌∷◌, length, Option, None, Some, refl, sym, ap, subst}
 use Rattle.std.specs.Prelude.{fold}
-use Rattle.std.specs.Option.{option_map_or}
-use Rattle.np_keys.specs.Prelude.{Changes, Configuration, Growth, IsPlanned, IsReached, JobId, SessionFacts, SessionId, SessionsChange, State, changed, role_of, session_of}
+use Rattle.np_changes.specs.Prelude.{Configuration, IsPlanned, IsReached, JobId, SessionFacts, SessionId, State, changed, option_map_or, role_of, session_of}
+use Rattle.np_changes.specs.declared.changes.Changes.{Changes}
+use Rattle.np_changes.specs.declared.changes.Growth.{Growth}
+use Rattle.np_changes.specs.declared.changes.SessionsChange.{SessionsChange}
 use Rattle.np_groups.specs.declared.groups.Member.{Member}
 use Rattle.np_keys.specs.Keys.{is_job_before, same_job, job_transitive, job_one_way, job_some_way, job_equal, is_session_before, same_session, session_transitive, session_one_way, session_some_way, session_equal}
 use Rattle.np_changes.specs.declared.changes.Growth.TheVariants as grow

@@ -1,8 +1,7 @@
 -- which members there are after an id is put into the groups that it may be in, or taken out of them
 use Rattle.std.proofs.Common.{◌≡◌, ◌∙◌, Bool, true, false, cond, List, [], ◌∷◌, refl, sym, ap, subst}
 use Rattle.std.specs.Prelude.{◌&&◌, ◌||◌, not}
-use Rattle.std.specs.List.{list_any}
-use Rattle.np_lists.specs.Rising.{Rises}
+use Rattle.np_changes.specs.Prelude.{Rises, list_any}
 use Rattle.np_groups.specs.declared.groups.Group.{Group}
 use Rattle.np_groups.specs.declared.groups.Member.{Member}
 use Rattle.np_groups.specs.Groups.{same_group, is_member_before, same_member, member, has_member}

@@ -1,9 +1,8 @@
 -- jobs of a requester whose record passes one test and whose row passes another
 use Rattle.std.proofs.Common.{◌≡◌, ◌∙◌, ℕ, Bool, true, false, List, not, Option, Some, None, refl, ap}
 use Rattle.std.specs.Prelude.{◌==◌, ◌&&◌, slice_get}
-use Rattle.std.specs.Option.{option_map_or}
+use Rattle.np_changes.specs.Prelude.{Configuration, Job, JobId, JobRecord, RequesterId, State, option_map_or}
 use Rattle.std.proofs.lemmas.Bool.{and_parts}
-use Rattle.np_keys.specs.Prelude.{Configuration, Job, JobId, JobRecord, RequesterId, State}
 use Rattle.np_look.specs.Jobs.{is_own}
 use Rattle.np_active.specs.Lines.{line_of}
 

@@ -1,7 +1,7 @@
 -- a walk to the first of a list that passes
 use Rattle.std.proofs.Common.{◌≡◌, ◌∙◌, ◌+◌, ℕ, suc, Bool, true, false, List, drop, add-one, Some, refl, sym, ap}
 use Rattle.std.specs.Prelude.{find, slice_get}
-use Rattle.np_look.proofs.Placed.{there}
+use Rattle.np_lists.proofs.Plain.{drop-there}
 
 -- none before the place passes
 pub record IsAfter {X : Type 0} (p : X → Bool) (xs : List X) (at : ℕ) : Type 0 where
@@ -9,9 +9,9 @@ pub record IsAfter {X : Type 0} (p : X → Bool) (xs : List X) (at : ℕ) : Type
 
 module _ {X : Type 0} (p : X → Bool) (xs : List X) (at : ℕ) (after : IsAfter p xs at) (x : X) (is : slice_get xs at ≡ Some x) where
   pub here-passes : p x ≡ true → Some x ≡ find p xs
-  here-passes passes = let found : find p (drop at xs) ≡ Some x = rw (there xs at x is, passes) refl in sym found ∙ after.rest
+  here-passes passes = let found : find p (drop at xs) ≡ Some x = rw (drop-there xs at x is, passes) refl in sym found ∙ after.rest
 
   pub next-after : p x ≡ false → IsAfter p xs (at + 1)
   next-after fails =
-      let passed : find p (drop at xs) ≡ find p (drop (suc at) xs) = rw (there xs at x is, fails) refl in
+      let passed : find p (drop at xs) ≡ find p (drop (suc at) xs) = rw (drop-there xs at x is, fails) refl in
       record { rest = ap (λ (n : ℕ). find p (drop n xs)) (add-one at) ∙ sym passed ∙ after.rest }

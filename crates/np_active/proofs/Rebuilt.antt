@@ -1,14 +1,14 @@
 -- the members of groups, made row by row
 use Rattle.std.proofs.Common.{◌≡◌, ◌∙◌, ◌<◌, ◌≤◌, ◌+◌, ◌-◌, ℕ, Bool, true, false, cond, List, length, Option, None, refl, sym, ap, subst, arith}
 use Rattle.std.specs.Prelude.{◌==◌, ◌&&◌, nat_lt, slice_get}
-use Rattle.std.specs.Option.{option_map_or}
+use Rattle.np_changes.specs.Prelude.{Configuration, JobId, JobRecord, SessionId, State, option_map_or}
 use Rattle.std.proofs.lemmas.Bool.Decides.{nat_tests}
 use Rattle.std.proofs.lemmas.Option.{slice_get_past}
-use Rattle.np_keys.specs.Prelude.{Configuration, JobId, JobRecord, SessionId, State}
 use Rattle.np_groups.specs.declared.groups.Member.{Member}
 use Rattle.np_active.specs.Active.{AreJobGroups, AreSessionGroups, JobKind, SessionKind, is_job_in, is_job_of, is_kind_in, is_of_kind}
 use Rattle.np_active.specs.Members.{with_job, with_session}
 use Rattle.np_active.proofs.Noted.{AreJobsBy, AreSessionsBy, job-put, jobs-by, session-put, sessions-by}
+use Rattle.np_lists.proofs.Plain.{not-below}
 
 below_it : (a : ℕ) → nat_lt a a ≡ false
 below_it a = grind (arith, nat_tests)
@@ -19,9 +19,6 @@ below_more n i b = by (n == i) refl where
   by : (e : Bool) → (n == i) ≡ e → cond e b (nat_lt i n && b) ≡ (nat_lt i (n + 1) && b)
   by true is = let below : nat_lt i (n + 1) ≡ true = grind (arith, nat_tests) in rw below refl
   by false is = let alike : nat_lt i (n + 1) ≡ nat_lt i n = grind (arith, nat_tests) in rw alike refl
-
-past-end : (i n : ℕ) → nat_lt i n ≡ false → n ≤ i
-past-end i n is = grind (arith, nat_tests)
 
 -- ## jobs
 
@@ -42,7 +39,7 @@ jobs-all c s lines n ms all are = jobs-by _ _ _ (λ q i. by q i (nat_lt i.0 n) r
   by : (q : JobKind) (i : JobId) (b : Bool) → nat_lt i.0 n ≡ b → (b && is_job_in c s lines q i) ≡ is_job_in c s lines q i
   by q i true is = refl
   by q i false out =
-      let past : length s.jobs ≤ i.0 = omega (arith, all, past-end i.0 n out) in
+      let past : length s.jobs ≤ i.0 = omega (arith, all, not-below i.0 n out) in
       sym (ap (λ (o : Option JobRecord). option_map_or (λ kept. is_job_of c s lines q i kept) o false) (slice_get_past s.jobs i.0 past))
 
 -- ## sessions
@@ -63,7 +60,7 @@ sessions-all s n ms all are = sessions-by _ _ _ (λ q i. by q i (nat_lt i.0 n) r
   by : (q : SessionKind) (i : SessionId) (b : Bool) → nat_lt i.0 n ≡ b → (b && is_kind_in s q i) ≡ is_kind_in s q i
   by q i true is = refl
   by q i false out =
-      let past : length s.sessions ≤ i.0 - 1 = omega (arith, all, past-end i.0 n out) in
+      let past : length s.sessions ≤ i.0 - 1 = omega (arith, all, not-below i.0 n out) in
       none (i.0 == 0) (slice_get_past s.sessions (i.0 - 1) past)
     where
       none : (z : Bool) → slice_get s.sessions (i.0 - 1) ≡ None → false ≡ option_map_or (is_of_kind q) (cond z None (slice_get s.sessions (i.0 - 1))) false

@@ -1,20 +1,21 @@
 -- what the changes of an event leave of the requests that they do not answer or remove: whether they pass a test that only answered ones pass
 use Rattle.std.proofs.Common.{◌≡◌, ◌∙◌, ◌<◌, Bool, true, false, cond, List, Option, None, Some, refl, sym, ap, subst, arith}
 use Rattle.std.specs.Prelude.{◌||◌, ◌&&◌, option_and_then}
-use Rattle.std.specs.Option.{option_map, option_map_or}
+use Rattle.np_changes.specs.Prelude.{Configuration, EditPremise, IsPlanned, JobId, Premises, RequestEntry, RequestId, RequestRecord, RequestState, RequestsPremise, State, changed, edited, grown, is_failed, is_fulfilled, is_pending, is_requested, option_map, option_map_or, request_in, requests_changed, same_request}
 use Rattle.std.proofs.lemmas.Bool.Decides.{nat_tests}
-use Rattle.np_keys.specs.Prelude.{Changes, Configuration, IsPlanned, JobId, Maker, RequestEdit, RequestEntry, RequestId, RequestRecord, RequestsChange, State, changed, edited, grown, request_in, requests_changed, same_request}
-use Rattle.np_text.specs.declared.word.RequestState.{RequestState}
+use Rattle.np_changes.specs.declared.changes.Changes.{Changes}
+use Rattle.np_changes.specs.declared.changes.Maker.{Maker}
+use Rattle.np_changes.specs.declared.changes.RequestEdit.{RequestEdit}
+use Rattle.np_changes.specs.declared.changes.RequestsChange.{RequestsChange}
 use Rattle.np_text.specs.declared.word.RequestState.TheVariants as request_state
 use Rattle.np_keys.specs.Keys.{same_job}
-use Rattle.np_machine.specs.Kinds.{is_failed, is_fulfilled, is_pending, is_requested}
-use Rattle.np_changes.specs.Premises.{EditPremise, Premises, RequestsPremise}
 use Rattle.np_changes.specs.declared.changes.RequestEdit.TheVariants as edit
 use Rattle.np_changes.specs.declared.changes.RequestsChange.TheVariants as requests
 use Rattle.np_changes.proofs.PremisesOf.{premises}
 use Rattle.np_laws.proofs.After.{calm-request, found-grown, left-request}
-use Rattle.np_laws.proofs.Lookups.{request_in-edit, request_in-remove, same_request-is}
+use Rattle.np_laws.proofs.Lookups.{request_in-edit, request_in-remove}
 use Rattle.np_active.specs.Active.{answers, asker_of, asker_of_request}
+use Rattle.np_machine.proofs.Ids.{request-equal}
 
 -- ## who asks for a request that is answered or removed
 
@@ -29,7 +30,7 @@ same-itself i = grind (arith, nat_tests)
 module _ (s : State) (r : RequestId) (request : RequestRecord) (i : JobId) (stands : request_in r s.requests ≡ Some request) (names : request.job ≡ Some i) where
   asker-is : (x : RequestId) → same_request x r ≡ true → is_named (asker_of_request x s) i ≡ true
   asker-is x same =
-      ap (λ (y : RequestId). is_named (asker_of_request y s) i) (same_request-is x r same)
+      ap (λ (y : RequestId). is_named (asker_of_request y s) i) (request-equal x r same)
       ∙ ap (λ (o : Option RequestRecord). is_named (option_and_then (λ q. q.job) o) i) stands
       ∙ ap (λ (o : Option JobId). is_named o i) names ∙ same-itself i
 
@@ -109,7 +110,7 @@ module _ (test : RequestState → Bool) (of : OfAnswered test) where
       edit-untouched false other = refl
       edit-untouched true same = by b answer out where
         here : request_in x s.requests ≡ Some request
-        here = subst (λ (y : RequestId). request_in y s.requests ≡ Some request) (sym (same_request-is x r same)) stands
+        here = subst (λ (y : RequestId). request_in y s.requests ≡ Some request) (sym (request-equal x r same)) stands
 
         by : (d : Bool) → answers change ≡ d → is_named (cond d (asker_of_request x s) None) i ≡ false → test (edited change request).state ≡ test request.state
         by true answering not_asking = absurd (let asking = asker-is s r request i stands names x same in cc)

@@ -1,19 +1,13 @@
 -- to whom sessions belong: the groups of two kinds of sessions, and what passes for one only
 use Rattle.std.proofs.Common.{◌≡◌, ◌≢◌, ◌∙◌, ℕ, Bool, true, false, List, [], Option, None, Some, refl, sym, ap, arith}
-use Rattle.std.specs.Prelude.{◌&&◌, ◌||◌, ◌==◌}
-use Rattle.std.specs.Option.{option_map, option_map_or}
-use Rattle.std.specs.List.{list_any}
+use Rattle.std.specs.Prelude.{◌==◌}
+use Rattle.np_changes.specs.Prelude.{Janitor, Launcher, PoolId, Reaper, Requester, RequesterId, Role, SessionFacts, SessionId, State, list_any, option_map, option_map_or, role_of, same_role, session_of}
 use Rattle.std.proofs.lemmas.Bool.Decides.{nat_tests}
-use Rattle.np_keys.specs.Prelude.{PoolId, RequesterId, Role, SessionFacts, SessionId, State, role_of, session_of}
-use Rattle.np_text.specs.declared.id.Role.TheVariants.{Launcher, Janitor, Requester, Reaper}
 use Rattle.np_groups.specs.Groups.{same_group}
-use Rattle.np_machine.specs.Laws.{same_role}
 use Rattle.np_active.specs.Active.{SessionKind, is_kind_in, is_of_kind, live_group, live_ones, mute_group, mute_ones, role_group, session_group, speakers}
 use Rattle.np_active.specs.Members.{kinds_of}
-
-pub and_true : (b : Bool) → (b && true) ≡ b
-and_true true = refl
-and_true false = refl
+use Rattle.np_lists.proofs.Plain.{and_true, or_false, and_false}
+use Rattle.np_laws.proofs.Ids.{same_pool}
 
 -- ## requesters
 
@@ -22,10 +16,6 @@ same_requester r q = r.0 == q.0
 
 pub requester-equal : (r q : RequesterId) → same_requester r q ≡ true → r ≡ q
 requester-equal r q is = let number : r.0 ≡ q.0 = grind (arith, nat_tests) in ap (λ (n : ℕ). record { 0 = n }) number
-
-pub or_false : (b : Bool) → (b || false) ≡ b
-or_false true = refl
-or_false false = refl
 
 -- ## roles
 
@@ -47,16 +37,13 @@ role-groups Reaper (Janitor q) = refl
 role-groups Reaper (Requester q) = refl
 role-groups Reaper Reaper = refl
 
-pool-equal : (p q : PoolId) → (p.0 == q.0) ≡ true → p ≡ q
-pool-equal p q is = let number : p.0 ≡ q.0 = grind (arith, nat_tests) in ap (λ (n : ℕ). record { 0 = n }) number
-
 role-equal : (r q : Role) → same_role r q ≡ true → r ≡ q
-role-equal (Launcher p) (Launcher q) is = ap (λ (x : PoolId). Launcher x) (pool-equal p q is)
+role-equal (Launcher p) (Launcher q) is = ap (λ (x : PoolId). Launcher x) (same_pool p q is)
 role-equal (Launcher p) (Janitor q) is = absurd cc
 role-equal (Launcher p) (Requester q) is = absurd cc
 role-equal (Launcher p) Reaper is = absurd cc
 role-equal (Janitor p) (Launcher q) is = absurd cc
-role-equal (Janitor p) (Janitor q) is = ap (λ (x : PoolId). Janitor x) (pool-equal p q is)
+role-equal (Janitor p) (Janitor q) is = ap (λ (x : PoolId). Janitor x) (same_pool p q is)
 role-equal (Janitor p) (Requester q) is = absurd cc
 role-equal (Janitor p) Reaper is = absurd cc
 role-equal (Requester p) (Launcher q) is = absurd cc
@@ -114,10 +101,6 @@ kind-equal (live_ones r) (live_ones q) is = ap (λ (x : RequesterId). live_ones 
 -- the kind is one of these
 abbrev pub is_among_kinds : SessionKind → List SessionKind → Bool
 is_among_kinds kind kinds = list_any (λ r. same_kind r kind) kinds
-
-pub and_false : (b : Bool) → (b && false) ≡ false
-and_false true = refl
-and_false false = refl
 
 -- a session is of no other kind than one of its role can be of
 facts-own : (role : Role) (live mute : Bool) (kind : SessionKind) → is_among_kinds kind (kinds_of role) ≡ false → is_of_kind kind (record { role = role; live = live; mute = mute }) ≡ false

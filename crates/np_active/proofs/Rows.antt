@@ -1,16 +1,9 @@
 -- the numbers of the rows that pass, in order
 use Rattle.std.proofs.Common.{◌≡◌, ◌∙◌, ◌<◌, ℕ, zero, suc, ◌+◌, ◌-◌, Bool, true, false, cond, List, [], ◌∷◌, length, Option, None, Some, refl, sym, ap, arith}
 use Rattle.std.specs.Prelude.{◌==◌, nat_lt, slice_get}
-use Rattle.std.specs.Option.{option_map_or, option_or}
-use Rattle.std.specs.List.{AllByRecursion, list_any}
+use Rattle.np_changes.specs.Prelude.{AllByRecursion, Rises, list_any, option_map_or, option_or}
 use Rattle.std.proofs.lemmas.Bool.Decides.{nat_tests}
-use Rattle.np_lists.specs.Rising.{Rises}
-
-less-is : (a b : ℕ) → a < b → nat_lt a b ≡ true
-less-is a b less = grind (arith, nat_tests)
-
-other-number : (a b : ℕ) → b < a → (a == b) ≡ false
-other-number a b less = grind (arith, nat_tests)
+use Rattle.np_lists.proofs.Plain.{is-below, above-apart}
 
 same-number : (a b : ℕ) → b ≡ a → (a == b) ≡ true
 same-number a b same = grind (arith, nat_tests)
@@ -47,7 +40,7 @@ module _ {K R : Type 0} (number : K → ℕ) (id : ℕ → K)
   all-past k n (row ∷ rows) less = by (passes (id n) row) (all-past k (suc n) rows (omega arith)) where
     by : (b : Bool) → AllByRecursion (λ i. nat_lt (number k) (number i) ≡ true) (ids_from (suc n) rows)
         → AllByRecursion (λ i. nat_lt (number k) (number i) ≡ true) (cond b (id n ∷ ids_from (suc n) rows) (ids_from (suc n) rows))
-    by true later = (rw (number-id n) (less-is (number k) n less), later)
+    by true later = (rw (number-id n) (is-below (number k) n less), later)
     by false later = later
 
   -- they rise
@@ -70,7 +63,7 @@ module _ {K R : Type 0} (number : K → ℕ) (id : ℕ → K)
   none-before k n [] less = refl
   none-before k n (row ∷ rows) less = by (passes (id n) row) (none-before k (suc n) rows (omega arith)) where
     by : (b : Bool) → has k (ids_from (suc n) rows) ≡ false → has k (cond b (id n ∷ ids_from (suc n) rows) (ids_from (suc n) rows)) ≡ false
-    by true later = rw (number-id n, other-number n (number k) less) later
+    by true later = rw (number-id n, above-apart n (number k) less) later
     by false later = later
 
   -- one from the first on is there if its row passes

@@ -1,13 +1,14 @@
 -- what the changes of an event leave of the sessions that they do not name
 use Rattle.std.proofs.Common.{◌≡◌, ◌≢◌, ◌∙◌, ℕ, zero, suc, ◌+◌, ◌-◌, Bool, true, false, cond, List, [], ◌∷◌, ◌++◌, length, length-append, Option, None, Some, refl, sym, ap, arith}
 use Rattle.std.specs.Prelude.{◌==◌, slice_get}
-use Rattle.std.specs.Option.{option_map}
+use Rattle.np_changes.specs.Prelude.{Configuration, Role, SessionFacts, SessionId, State, changed, ended, grown, muted, option_map, registers, role_of, session_of, sessions_changed}
 use Rattle.std.proofs.lemmas.Bool.Decides.{nat_tests}
-use Rattle.np_keys.specs.Prelude.{Changes, Configuration, Growth, Maker, Role, SessionFacts, SessionId, SessionsChange, State, ended, muted, role_of, session_of}
+use Rattle.np_changes.specs.declared.changes.Changes.{Changes}
+use Rattle.np_changes.specs.declared.changes.Growth.{Growth}
+use Rattle.np_changes.specs.declared.changes.Maker.{Maker}
+use Rattle.np_changes.specs.declared.changes.SessionsChange.{SessionsChange}
 use Rattle.np_lists.proofs.ChangeLemmas.{kept-change_at, length-change_at, slice_get-change_at_other}
 use Rattle.np_keys.specs.Keys.{same_session}
-use Rattle.np_machine.specs.Request.{registers}
-use Rattle.np_changes.specs.Changes.{changed, grown, sessions_changed}
 use Rattle.np_changes.specs.declared.changes.Growth.TheVariants as grow
 use Rattle.np_changes.specs.declared.changes.SessionsChange.TheVariants as sessions
 use Rattle.np_laws.proofs.After.{made-look}

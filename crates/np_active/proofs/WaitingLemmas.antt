@@ -1,10 +1,8 @@
 -- lines in which jobs wait, one after another
-use Rattle.std.proofs.Common.{◌≡◌, ℕ, suc, ◌-◌, ◌^◌, ◌<◌, ◌≤◌, Bool, true, false, cond, List, [], ◌∷◌, Option, Some, None, not, refl, sym, ap, subst, arith}
+use Rattle.std.proofs.Common.{◌≡◌, ℕ, suc, ◌-◌, ◌^◌, ◌<◌, ◌≤◌, Bool, true, false, cond, List, Option, Some, None, not, refl, sym, ap, subst, arith}
 use Rattle.std.specs.Prelude.{◌==◌, ◌||◌, find, map, nat_lt, slice_get}
-use Rattle.std.specs.List.{AllByRecursion}
-use Rattle.std.specs.Option.{option_map, option_map_or}
+use Rattle.np_changes.specs.Prelude.{AllByRecursion, JobId, NonePass, Rises, option_map, option_map_or}
 use Rattle.std.proofs.lemmas.Bool.Decides.{nat_tests}
-use Rattle.np_keys.specs.Prelude.{JobId, NonePass, Rises}
 use Rattle.np_lists.proofs.Each.{all-weaker}
 use Rattle.np_lists.proofs.FilterLemmas.{filter-nothing}
 use Rattle.np_lists.proofs.FoundLemmas.{find-passes}
@@ -16,14 +14,11 @@ use Rattle.np_groups.proofs.Order.{group-equal}
 use Rattle.np_groups.proofs.Walk.{IsLeast, least-found}
 use Rattle.np_keys.specs.Keys.{is_job_before}
 use Rattle.np_active.specs.Begin.{at_line, first_line, first_of_line, line_after, line_if}
+use Rattle.np_lists.proofs.Plain.{find-alike}
 
 -- how far the next line is from the greatest number of a line; 0 if there is no next
 abbrev pub lines_left : Option ℕ → ℕ
 lines_left next = option_map_or (λ line. 2 ^ 64 - line) next 0
-
-find-alike : {X : Type 0} (p r : X → Bool) (xs : List X) → ((x : X) → p x ≡ r x) → find p xs ≡ find r xs
-find-alike p r [] alike = refl
-find-alike p r (x ∷ xs) alike = rw (alike x, find-alike p r xs alike) refl
 
 module _ (lines : Group) where
   -- ## groups of lines

@@ -1,14 +1,13 @@
 -- the groups of jobs and of sessions, and what a state says of them
 use Rattle.std.specs.Prelude.{◌≡◌, ◌≤◌, ◌==◌, ◌&&◌, ◌||◌, ℕ, List, Bool, true, false, not, if◌then◌else◌, Option, Some, None, option_and_then, slice_get}
-use Rattle.std.specs.Option.{option_map_or}
-use Rattle.np_keys.specs.Prelude.{Configuration, Job, JobId, JobRecord, RequestEdit, RequestId, RequesterId, RequestsChange, Rises, Role, SessionFacts, SessionId, State, is_new, request_in, request_state_of, session_of}
-use Rattle.np_text.specs.declared.id.Role.TheVariants.{Launcher, Janitor, Requester, Reaper}
+use Rattle.np_changes.specs.Prelude.{Configuration, Janitor, Job, JobId, JobRecord, Launcher, Reaper, RequestId, Requester, RequesterId, Rises, Role, SessionFacts, SessionId, State, is_new, is_requesters, option_map_or, request_in, session_of, speaks_for}
+use Rattle.np_changes.specs.declared.changes.RequestEdit.{RequestEdit}
+use Rattle.np_changes.specs.declared.changes.RequestsChange.{RequestsChange}
+use Rattle.np_look.specs.Readers.{request_state_of}
 use Rattle.np_groups.specs.declared.groups.Group.{Group}
 use Rattle.np_groups.specs.declared.groups.Member.{Member}
 use Rattle.np_groups.specs.Groups.{has_member, is_member_before}
 use Rattle.np_keys.specs.Keys.{is_job_before, is_session_before, same_job, same_session}
-use Rattle.np_machine.specs.Laws.{speaks_for}
-use Rattle.np_machine.specs.Semaphore.{is_requesters}
 use Rattle.np_changes.specs.declared.changes.RequestEdit.TheVariants as edit
 use Rattle.np_changes.specs.declared.changes.RequestsChange.TheVariants as requests
 use Rattle.np_look.specs.Jobs.{is_job_to_finish, is_job_to_release, is_job_to_take, is_own, is_supplied, was_given}

@@ -1,8 +1,7 @@
 -- the first of a requester's jobs that may begin, and the first that may acquire its handles, by the groups and
 -- the handles of a state: the search through lines is for both
 use Rattle.std.specs.Prelude.{◌≡◌, ◌<◌, ◌⊎◌, ℕ, List, Bool, true, false, ◌&&◌, if◌then◌else◌, Option, Some, None, is_none, option_and_then, slice_get}
-use Rattle.std.specs.Option.{option_map_or}
-use Rattle.np_keys.specs.Prelude.{Configuration, JobId, State, first_full}
+use Rattle.np_changes.specs.Prelude.{Configuration, JobId, State, first_full, option_map_or}
 use Rattle.np_groups.specs.declared.groups.Group.{Group}
 use Rattle.np_groups.specs.declared.groups.Member.{Member}
 use Rattle.np_groups.specs.Groups.{group_after, group_from, ids_in, same_group}

@@ -2,8 +2,7 @@
 -- so a semaphore that is full blocks all of them
 use Rattle.std.specs.Prelude.{ℕ, List, Bool, false, ◌==◌, if◌then◌else◌, slice_get}
 use Rattle.std.specs.Cmp.Lexicographic.{pointwise}
-use Rattle.std.specs.Option.{option_map_or}
-use Rattle.np_keys.specs.Prelude.{Configuration, Job, JobId, SemId}
+use Rattle.np_changes.specs.Prelude.{Configuration, Job, JobId, SemId, option_map_or}
 
 -- the same semaphores, in the same order
 abbrev pub same_semaphores : List SemId → List SemId → Bool

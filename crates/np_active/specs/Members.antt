@@ -1,8 +1,10 @@
 -- what a job or a session makes of the members of groups, and what the changes of an event do (own)
 use Rattle.std.specs.Prelude.{ℕ, Bool, List, [], ◌∷◌, if◌then◌else◌, Option, Some, None, fold, slice_get, length}
-use Rattle.std.specs.Option.{option_map_or}
-use Rattle.np_keys.specs.Prelude.{Changes, Configuration, Growth, JobId, JobsChange, RequesterId, Role, SessionId, SessionsChange, State, role_of}
-use Rattle.np_text.specs.declared.id.Role.TheVariants.{Requester}
+use Rattle.np_changes.specs.Prelude.{Configuration, JobId, Requester, RequesterId, Role, SessionId, State, option_map_or, role_of}
+use Rattle.np_changes.specs.declared.changes.Changes.{Changes}
+use Rattle.np_changes.specs.declared.changes.Growth.{Growth}
+use Rattle.np_changes.specs.declared.changes.JobsChange.{JobsChange}
+use Rattle.np_changes.specs.declared.changes.SessionsChange.{SessionsChange}
 use Rattle.np_groups.specs.declared.groups.Group.{Group}
 use Rattle.np_groups.specs.declared.groups.Member.{Member}
 use Rattle.np_groups.specs.Groups.{with_member, without_member}

@@ -1,8 +1,7 @@
 //! The groups of a state's jobs and of its sessions, kept as events change it.
 
 ghost use Rattle.std.specs.Prelude.{◌≡◌, IfOk, OnOk};
-ghost use Rattle.np_keys.specs.Prelude.{Configuration, IsPlanned, IsReached, State, changed};
-ghost use Rattle.np_machine.specs.Semaphore.{has_live_session};
+ghost use Rattle.np_changes.specs.Prelude.{Configuration, IsPlanned, IsReached, State, changed, has_live_session};
 ghost use Rattle.np_look.specs.Jobs.{job_to_finish, job_to_release, job_to_take};
 ghost use Rattle.np_look.specs.Readers.{current_of, first_mute};
 ghost use Rattle.np_active.specs.Active.{AreActive, HasRoom, asker_of};

@@ -8,10 +8,10 @@ ghost use Rattle.np_active.specs.Members.{job_put, job_releasing, job_taking, wi
 use crate::lines::line_of;
 use crate::members::put_if;
 use np_changes::{Changes, Growth, HandlesChange, JobsChange, RequestEdit, RequestsChange};
+use np_config::Job;
 use np_groups::{Group, Groups};
 use np_keys::ByJob;
 use np_look::{Rows, has_handles, is_job_to_finish, is_supplied, request_state, was_given};
-use np_site::Job;
 use np_text::{JobId, Phase, RequesterId};
 use std::alloc::{AllocError, Global};
 

@@ -3,8 +3,7 @@
 ghost use Rattle.std.specs.Prelude.{◌≡◌};
 ghost use Rattle.np_active.specs.Lines.{is_like, line_of};
 
-use np_config::Config;
-use np_site::Job;
+use np_config::{Config, Job};
 use np_text::JobId;
 use std::alloc::{AllocError, Global};
 

@@ -9,7 +9,7 @@ use Rattle.std.proofs.lemmas.List.Sums.{sum_by-cons, sum_by-remove, sum_by-inser
 use Rattle.std.proofs.lemmas.List.Elements.{All-weaker}
 use Rattle.np_amount.specs.declared.amount.Amount.{Amount}
 use Rattle.np_amount.specs.declared.amount.Limit.{Limit}
-use Rattle.np_amount.specs.Amounts.{no_limit, nothing, plus, minus, times, is_within, fits, total, IsAtMost}
+use Rattle.np_amount.specs.Amounts.{nothing, plus, minus, times, is_within, fits, total, IsAtMost}
 
 abbrev amount_of : ℕ → ℕ → ℕ → Amount
 amount_of i c r = record { instances = i; cores = c; ram = r }
@@ -30,9 +30,6 @@ nothing-plus a = same_amount _ _ (omega arith) (omega arith) (omega arith)
 
 pub minus-plus : (a b : Amount) → minus (plus a b) b ≡ a
 minus-plus a b = same_amount _ _ (omega arith) (omega arith) (omega arith)
-
-pub plus-minus : (a b : Amount) → IsAtMost b a → plus (minus a b) b ≡ a
-plus-minus a b most = same_amount _ _ (omega arith) (omega arith) (omega arith)
 
 pub IsAtMost-refl : (a : Amount) → IsAtMost a a
 IsAtMost-refl a = record { instances = omega arith; cores = omega arith; ram = omega arith }
@@ -117,11 +114,6 @@ total-at_most xs most each = record {
   ram = omega (arith, total-ram xs, sum_by-le (λ (a : Amount). a.ram) most.ram xs (All-weaker (λ (a : Amount). IsAtMost a most) (λ (a : Amount). a.ram ≤ most.ram) (λ a h. h.ram) xs each));
 }
 
--- members that take nothing
-pub total-nothing : {X : Type 0} (xs : List X) → total (map (λ x. nothing) xs) ≡ nothing
-total-nothing [] = refl
-total-nothing (x ∷ xs) = nothing-plus _ ∙ total-nothing xs
-
 -- ## The same for each of n
 
 pub times-suc : (n : ℕ) (a : Amount) → times (suc n) a ≡ plus a (times n a)
@@ -152,6 +144,3 @@ total-filter_at_most f most each test (x ∷ xs) =
         → IsAtMost (total (map f (filter test (x ∷ xs)))) (plus most (times (length xs) most))
     cases true passes rest = rw passes (IsAtMost-plus (f x) most (total (map f (filter test xs))) (times (length xs) most) (each x) rest)
     cases false fails rest = rw fails (IsAtMost-trans _ _ _ rest (rw (plus-comm most (times (length xs) most)) (IsAtMost-part (times (length xs) most) most)))
-
-pub fits-no_limit : (a : Amount) → fits a no_limit ≡ true
-fits-no_limit a = refl

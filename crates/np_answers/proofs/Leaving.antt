@@ -1,5 +1,5 @@
 -- How servers leave a driver.
-use Rattle.std.proofs.Common.{◌≡◌, ℕ, zero, suc, ◌<◌, ◌⊎◌, inl, inr, List, [], ◌∷◌, length, get_or, sym, refl, ap, arith, Bool, true, false, cond, eqb-true}
+use Rattle.std.proofs.Common.{◌≡◌, ℕ, zero, suc, ◌<◌, ◌⊎◌, inl, inr, List, [], ◌∷◌, length, get_or, sym, refl, ap, arith, Bool, true, cond, eqb-true}
 use Rattle.std.specs.Prelude.{Contains, filter, not, ◌==◌}
 use Rattle.std.proofs.lemmas.List.Elements.{Contains-append_left}
 use Rattle.np_event.specs.declared.event.Outcome.{Outcome}
@@ -10,17 +10,14 @@ use Rattle.np_cloud.specs.Calls.{with_launched, without_number}
 use Rattle.np_answers.specs.Move.{Move, asked, launched, removed}
 use Rattle.np_answers.specs.Drive.{servers_after}
 use Rattle.np_answers.specs.Trace.{WasRemoved}
+use Rattle.np_lists.proofs.Plain.{by_bool}
 
-by_bool : (P : Bool → Type 0) (b : Bool) → (b ≡ true → P true) → (b ≡ false → P false) → P b
-by_bool P true t f = t refl
-by_bool P false t f = f refl
-
-kept_at : (f : Server → Bool) (xs : List Server) (s : Server) → f s ≡ true → (k : ℕ) → k < length xs → get_or xs k s ≡ s → Contains (filter f xs) s
+pub kept_at : (f : Server → Bool) (xs : List Server) (s : Server) → f s ≡ true → (k : ℕ) → k < length xs → get_or xs k s ≡ s → Contains (filter f xs) s
 kept_at f [] s e k l i = absurd (omega arith)
 kept_at f (x ∷ xs) s e zero l i = by_bool (λ b. Contains (cond b (x ∷ filter f xs) (filter f xs)) s) (f x) (λ t. (0, omega arith, i)) (λ t. let u : f x ≡ f s = ap f i in absurd (cc))
 kept_at f (x ∷ xs) s e (suc k) l i = let r = kept_at f xs s e k (omega arith) i in by_bool (λ b. Contains (cond b (x ∷ filter f xs) (filter f xs)) s) (f x) (λ t. (suc r.0, omega (arith, r.1), r.2)) (λ t. r)
 
-launched_stay : (tag : Tag) (o : Outcome) (servers : List Server) (s : Server) → Contains servers s → Contains (with_launched tag o servers) s
+pub launched_stay : (tag : Tag) (o : Outcome) (servers : List Server) (s : Server) → Contains servers s → Contains (with_launched tag o servers) s
 launched_stay tag (outcome.Launched x) servers s h = Contains-append_left servers (record { tag = tag; number = x } ∷ []) s h
 launched_stay tag outcome.Failed servers s h = h
 

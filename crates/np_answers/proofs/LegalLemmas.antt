@@ -1,35 +1,26 @@
 -- a legal journal is one that runs
-use Rattle.std.proofs.Common.{◌≡◌, ◌∙◌, ◌<◌, ◌≤◌, ℕ, zero, suc, Bool, true, false, List, [], ◌∷◌, ◌++◌, length, take, Some, refl, sym, ap, subst, arith, length-append}
-use Rattle.std.specs.Prelude.{◌&&◌, nat_le, slice_get}
+use Rattle.std.proofs.Common.{◌≡◌, ◌∙◌, ◌<◌, ◌≤◌, ℕ, zero, suc, true, List, [], ◌∷◌, ◌++◌, length, take, Some, refl, sym, ap, subst, arith, length-append}
+use Rattle.std.specs.Prelude.{nat_le, slice_get}
 use Rattle.std.proofs.lemmas.Bool.Decides.{nat_tests}
-use Rattle.np_site.specs.Configuration.{Configuration}
-use Rattle.np_event.specs.declared.entry.Entry.{Entry}
-use Rattle.np_event.specs.declared.reply.Reply.{Reply}
-use Rattle.np_machine.specs.State.{State, start}
-use Rattle.np_machine.specs.Step.{judge, next, reply_of}
-use Rattle.np_machine.specs.History.{state_after, replayed, after, Runs}
+use Rattle.np_changes.specs.Prelude.{Configuration, Entry, Reply, Runs, State, after, judge, next, replayed, reply_of, start, state_after}
 use Rattle.np_machine.proofs.Runs.{Runs-prefix}
 use Rattle.np_laws.proofs.Replies.{head-reply, tail-replies}
-use Rattle.np_fits.proofs.RunSteps.{Runs-next}
+use Rattle.np_changes.proofs.RunSteps.{Runs-next}
 use Rattle.np_answers.specs.Answers.{IsReplied}
 use Rattle.np_answers.specs.Legal.{has_replies, is_legal}
 use Rattle.np_answers.specs.Replies.{is_same_reply}
 use Rattle.np_answers.proofs.ReplyLemmas.{same-reply, reply-same}
-
-pub both-true : (a b : Bool) → (a && b) ≡ true → (a ≡ true) × (b ≡ true)
-both-true true b is = (refl, is)
-both-true false b is = absurd cc
-
-pub and-true : (a b : Bool) → a ≡ true → b ≡ true → (a && b) ≡ true
-and-true a b one two = rw (one, two) refl
+use Rattle.np_lists.proofs.Plain.{is-at_most}
+use Rattle.std.proofs.lemmas.Bool.{and_parts, and_from}
+use Rattle.np_laws.proofs.LiveHolders.{replied-at}
 
 -- ## the replies
 
 replies-by : (c : Configuration) (s : State) (journal : List Entry) → has_replies c s journal ≡ true → replayed c s journal ≡ journal
 replies-by c s [] is = refl
 replies-by c s (e ∷ journal) is =
-    let says : is_same_reply e.reply (reply_of (judge c s e.event)) ≡ true = (both-true (is_same_reply e.reply (reply_of (judge c s e.event))) (has_replies c (next c s e.event) journal) is).0 in
-    let more : has_replies c (next c s e.event) journal ≡ true = (both-true (is_same_reply e.reply (reply_of (judge c s e.event))) (has_replies c (next c s e.event) journal) is).1 in
+    let says : is_same_reply e.reply (reply_of (judge c s e.event)) ≡ true = (and_parts (is_same_reply e.reply (reply_of (judge c s e.event))) (has_replies c (next c s e.event) journal) is).0 in
+    let more : has_replies c (next c s e.event) journal ≡ true = (and_parts (is_same_reply e.reply (reply_of (judge c s e.event))) (has_replies c (next c s e.event) journal) is).1 in
     let reply : e.reply ≡ reply_of (judge c s e.event) = same-reply e.reply (reply_of (judge c s e.event)) says in
     ap (λ (r : Reply). record { event = e.event; reply = r } ∷ replayed c (next c s e.event) journal) (sym reply)
     ∙ ap (λ (j : List Entry). e ∷ j) (replies-by c (next c s e.event) journal more)
@@ -39,26 +30,23 @@ by-replies c s [] is = refl
 by-replies c s (e ∷ journal) is =
     let says : is_same_reply e.reply (reply_of (judge c s e.event)) ≡ true =
     subst (λ (r : Reply). is_same_reply e.reply r ≡ true) (sym (head-reply c s e journal is)) (reply-same e.reply) in
-    and-true (is_same_reply e.reply (reply_of (judge c s e.event))) (has_replies c (next c s e.event) journal) says (by-replies c (next c s e.event) journal (tail-replies c s e journal is))
+    and_from (is_same_reply e.reply (reply_of (judge c s e.event))) (has_replies c (next c s e.event) journal) says (by-replies c (next c s e.event) journal (tail-replies c s e journal is))
 
 -- ## the journal
 
 at-most : (n m : ℕ) → nat_le n m ≡ true → n ≤ m
 at-most n m is = grind (arith, nat_tests)
 
-le-true : (n m : ℕ) → n ≤ m → nat_le n m ≡ true
-le-true n m is = grind (arith, nat_tests)
-
 pub legal-Runs : (c : Configuration) (journal : List Entry) → is_legal c journal ≡ true → Runs c journal (after c journal)
 unfolding is_legal
 legal-Runs c journal is =
-    let parts = both-true (has_replies c (start c) journal) (nat_le (length journal) 262144) is in
+    let parts = and_parts (has_replies c (start c) journal) (nat_le (length journal) 262144) is in
     record { replies = replies-by c (start c) journal parts.0; ends = refl; short = at-most (length journal) 262144 parts.1 }
 
 pub Runs-legal : (c : Configuration) (journal : List Entry) (s : State) → Runs c journal s → is_legal c journal ≡ true
 unfolding is_legal
 Runs-legal c journal s runs =
-    and-true (has_replies c (start c) journal) (nat_le (length journal) 262144) (by-replies c (start c) journal runs.replies) (le-true (length journal) 262144 runs.short)
+    and_from (has_replies c (start c) journal) (nat_le (length journal) 262144) (by-replies c (start c) journal runs.replies) (is-at_most (length journal) 262144 runs.short)
 
 pub legal-beginning : (c : Configuration) (journal rest : List Entry) → is_legal c (journal ++ rest) ≡ true → is_legal c journal ≡ true
 legal-beginning c journal rest is =
@@ -90,14 +78,10 @@ legal-at c journal at e is there =
       reply = reply-at c (start c) journal at e runs.replies there;
     }
 
-reply-between : (c : Configuration) (s : State) (before : List Entry) (e : Entry) (rest : List Entry) → replayed c s (before ++ e ∷ rest) ≡ before ++ e ∷ rest → e.reply ≡ reply_of (judge c (state_after c s before) e.event)
-reply-between c s [] e rest is = sym (head-reply c s e rest is)
-reply-between c s (first ∷ before) e rest is = reply-between c (next c s first.event) before e rest (tail-replies c s first (before ++ e ∷ rest) is)
-
 pub legal-between : (c : Configuration) (before : List Entry) (e : Entry) (rest : List Entry) → is_legal c (before ++ e ∷ rest) ≡ true → IsReplied c before e
 legal-between c before e rest is =
     let runs = legal-Runs c (before ++ e ∷ rest) is in
     record {
       room = omega (arith, length-append before (e ∷ rest), runs.short);
-      reply = reply-between c (start c) before e rest runs.replies;
+      reply = replied-at c (start c) before e rest runs.replies;
     }

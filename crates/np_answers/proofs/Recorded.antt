@@ -1,7 +1,6 @@
 -- an entry that a turn recorded
 use Rattle.std.proofs.Common.{◌≡◌, List, Some, subst}
-use Rattle.np_site.specs.Configuration.{Configuration}
-use Rattle.np_event.specs.declared.entry.Entry.{Entry}
+use Rattle.np_changes.specs.Prelude.{Configuration, Entry}
 use Rattle.np_answers.specs.declared.ask.Ask.{Ask}
 use Rattle.np_answers.specs.declared.ask.Ask.TheVariants as asks
 use Rattle.np_answers.specs.declared.ask.Turn.{Turn}

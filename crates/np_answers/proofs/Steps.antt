@@ -1,12 +1,8 @@
 -- What follows a phase, case by case.
 use Rattle.std.proofs.Common.{◌≡◌, ℕ, zero, suc, List, [], ◌∷◌, sym, refl, subst, Bool, true, false, cond}
 use Rattle.std.specs.Prelude.{Option, Some, None}
-use Rattle.np_text.specs.declared.id.NodeId.{NodeId}
-use Rattle.np_text.specs.declared.id.PoolId.{PoolId}
-use Rattle.np_text.specs.declared.id.Role.{Role}
+use Rattle.np_changes.specs.Prelude.{Entry, NodeId, Outcome, PoolId, Role}
 use Rattle.np_text.specs.declared.id.Role.TheVariants as role
-use Rattle.np_event.specs.declared.entry.Entry.{Entry}
-use Rattle.np_event.specs.declared.event.Outcome.{Outcome}
 use Rattle.np_cloud.specs.declared.driver.Tag.{Tag}
 use Rattle.np_answers.specs.declared.ask.Ask.{Ask}
 use Rattle.np_answers.specs.declared.ask.Ask.TheVariants as ask

@@ -2,30 +2,15 @@
 use Rattle.std.proofs.Common.{◌≡◌, ◌∙◌, ◌<◌, ◌-◌, ℕ, Bool, true, List, Some, Ok, refl, ap, arith}
 use Rattle.std.specs.Prelude.{◌&&◌, not, if◌then◌else◌, slice_get}
 use Rattle.std.proofs.lemmas.Bool.Decides.{nat_tests}
-use Rattle.np_text.specs.declared.id.SessionId.{SessionId}
-use Rattle.np_text.specs.declared.id.PoolId.{PoolId}
-use Rattle.np_text.specs.declared.id.NodeId.{NodeId}
-use Rattle.np_text.specs.declared.id.Role.{Role}
-use Rattle.np_text.specs.declared.id.Role.TheVariants.{Launcher, Janitor, Requester, Reaper}
-use Rattle.np_site.specs.Configuration.{Configuration}
-use Rattle.np_event.specs.declared.entry.Entry.{Entry}
-use Rattle.np_event.specs.declared.event.Event.{Event}
+use Rattle.np_changes.specs.Prelude.{Configuration, Entry, Event, Janitor, Launcher, NodeId, PoolId, Reaper, Requester, Role, SessionFacts, SessionId, State, after, is_wanted, janitor, judge, reply_of, same_role, session_of}
 use Rattle.np_event.specs.declared.event.Event.TheVariants as ev
 use Rattle.np_event.specs.declared.reply.Done.TheVariants as done
 use Rattle.np_event.specs.declared.reply.Reply.TheVariants as reply
-use Rattle.np_machine.specs.declared.state.SessionFacts.{SessionFacts}
-use Rattle.np_machine.specs.Laws.{same_role}
-use Rattle.np_machine.specs.State.{State}
-use Rattle.np_machine.specs.Step.{judge, reply_of}
-use Rattle.np_machine.specs.History.{after}
-use Rattle.np_machine.specs.Tables.{session_of}
-use Rattle.np_machine.specs.Tests.{janitor}
-use Rattle.np_machine.specs.Node.{is_wanted}
 use Rattle.np_useful.specs.Sessions.{is_current}
 use Rattle.np_roles.proofs.Currents.{current-speaks}
 use Rattle.np_answers.specs.declared.ask.Turn.TheVariants as turn
 use Rattle.np_answers.specs.Answers.{answers_sweep}
-use Rattle.np_answers.proofs.LegalLemmas.{both-true}
+use Rattle.std.proofs.lemmas.Bool.{and_parts}
 
 module _ (s : State) (p : PoolId) (session : SessionId) where
   janitor-role : (role : Role) → same_role role (Janitor p) ≡ true → role ≡ Janitor p
@@ -45,8 +30,8 @@ module _ (s : State) (p : PoolId) (session : SessionId) where
   pub janitor-is : is_current (Janitor p) session s ≡ true → janitor s session ≡ Ok p
   janitor-is current =
       let who = current-speaks (Janitor p) s session current in
-      let parts = both-true (same_role who.facts.role (Janitor p) && who.facts.live) (not who.facts.mute) who.speaks in
-      let firsts = both-true (same_role who.facts.role (Janitor p)) who.facts.live parts.0 in
+      let parts = and_parts (same_role who.facts.role (Janitor p) && who.facts.live) (not who.facts.mute) who.speaks in
+      let firsts = and_parts (same_role who.facts.role (Janitor p)) who.facts.live parts.0 in
       janitor-by who.facts (session-there who.facts who.begun who.there) (janitor-role who.facts.role firsts.0) firsts.1 parts.1
 
   pub sweep-judged : (c : Configuration) (n : NodeId) (x : ℕ) → is_current (Janitor p) session s ≡ true → judge c s (ev.Sweep session n x) ≡ Ok (if is_wanted s n x then done.Keep else done.Remove)

@@ -28,7 +28,7 @@ IsPhaseOf w (sweeps pool) = of_pool pool ≡ w
 IsPhaseOf w (owes_swept pool x) = of_pool pool ≡ w
 IsPhaseOf w _ = Unit {0}
 
-role_ask : (r : Role) → IsAskOf (work_of r) (ask.Act r)
+pub role_ask : (r : Role) → IsAskOf (work_of r) (ask.Act r)
 role_ask (role.Launcher pool) = inl refl
 role_ask (role.Janitor pool) = inr refl
 role_ask (role.Requester q) = refl

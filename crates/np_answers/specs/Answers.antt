@@ -1,21 +1,7 @@
 -- which answers an ask may have, after a journal of the machine
 use Rattle.std.specs.Prelude.{◌≡◌, ◌<◌, ◌≤◌, ◌⊎◌, ℕ, true, false, List, length, Option, Some}
-use Rattle.np_text.specs.declared.id.SessionId.{SessionId}
-use Rattle.np_text.specs.declared.id.PoolId.{PoolId}
-use Rattle.np_text.specs.declared.id.NodeId.{NodeId}
-use Rattle.np_text.specs.declared.id.Role.{Role}
-use Rattle.np_text.specs.declared.id.Role.TheVariants.{Janitor}
-use Rattle.np_site.specs.Configuration.{Configuration}
-use Rattle.np_event.specs.declared.event.Event.{Event}
+use Rattle.np_changes.specs.Prelude.{Configuration, Entry, Event, Janitor, NodeId, NodeRecord, PoolId, Role, SessionId, State, after, is_deleting, is_swept, is_wanted, judge, node_holder, node_in, reply_of}
 use Rattle.np_event.specs.declared.event.Event.TheVariants as ev
-use Rattle.np_event.specs.declared.entry.Entry.{Entry}
-use Rattle.np_record.specs.declared.record.NodeRecord.{NodeRecord}
-use Rattle.np_machine.specs.State.{State}
-use Rattle.np_machine.specs.Kinds.{is_deleting}
-use Rattle.np_machine.specs.Step.{judge, reply_of}
-use Rattle.np_machine.specs.History.{after}
-use Rattle.np_machine.specs.Tables.{node_in, node_holder}
-use Rattle.np_machine.specs.Node.{is_wanted, is_swept}
 use Rattle.np_useful.specs.Sessions.{is_current, has_current}
 use Rattle.np_useful.specs.Useful.{IsUseful}
 use Rattle.np_answers.specs.declared.ask.Ask.{Ask}

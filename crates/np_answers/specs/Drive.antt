@@ -1,7 +1,6 @@
 -- what a round did with its driver
 use Rattle.std.specs.Prelude.{◌≡◌, ◌⊎◌, ◌≤◌, ℕ, List, [], ◌∷◌, ◌++◌, length, Bool, Contains, IsTrue, Option, Some, None, IfSome}
-use Rattle.std.specs.Option.{option_map}
-use Rattle.np_event.specs.declared.event.Outcome.{Outcome}
+use Rattle.np_changes.specs.Prelude.{Outcome, option_map}
 use Rattle.np_event.specs.declared.event.Outcome.TheVariants as outcome
 use Rattle.np_cloud.specs.declared.driver.Tag.{Tag}
 use Rattle.np_cloud.specs.declared.driver.Launch.{Launch}

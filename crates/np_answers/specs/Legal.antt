@@ -1,9 +1,6 @@
 -- which journals are the machine's, as a test
 use Rattle.std.specs.Prelude.{List, [], ◌∷◌, Bool, true, ◌&&◌, nat_le, length}
-use Rattle.np_site.specs.Configuration.{Configuration}
-use Rattle.np_event.specs.declared.entry.Entry.{Entry}
-use Rattle.np_machine.specs.State.{State, start}
-use Rattle.np_machine.specs.Step.{judge, next, reply_of}
+use Rattle.np_changes.specs.Prelude.{Configuration, Entry, State, judge, next, reply_of, start}
 use Rattle.np_answers.specs.Replies.{is_same_reply}
 
 -- from this state on, the machine gives the journal's replies, one by one (own)

@@ -7,3 +7,4 @@ pub mod Phase
 pub mod Drive
 pub mod Walk
 pub mod Trace
+pub mod Prelude

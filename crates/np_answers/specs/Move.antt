@@ -1,8 +1,7 @@
 -- what a round does, in order: its turns, and what its driver did
 use Rattle.std.specs.Prelude.{ℕ, List, [], ◌∷◌, ◌++◌}
 use Rattle.np_desk.specs.Turned as turned
-use Rattle.np_event.specs.declared.entry.Entry.{Entry}
-use Rattle.np_event.specs.declared.event.Outcome.{Outcome}
+use Rattle.np_changes.specs.Prelude.{Entry, Outcome}
 use Rattle.np_cloud.specs.declared.driver.Tag.{Tag}
 use Rattle.np_cloud.specs.declared.driver.Launch.{Launch}
 use Rattle.np_answers.specs.declared.ask.Ask.{Ask}

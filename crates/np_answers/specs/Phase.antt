@@ -5,16 +5,9 @@
 -- due node, and owes the removal of that node's server, if it has one. Last it asks about servers,
 -- and owes the removal of each that nobody wants.
 use Rattle.std.specs.Prelude.{◌≡◌, ℕ, zero, suc, List, [], ◌∷◌, Bool, true, false, cond, Option, Some, None}
-use Rattle.np_text.specs.declared.id.PoolId.{PoolId}
-use Rattle.np_text.specs.declared.id.NodeId.{NodeId}
-use Rattle.np_text.specs.declared.id.RequesterId.{RequesterId}
-use Rattle.np_text.specs.declared.id.Role.{Role}
+use Rattle.np_changes.specs.Prelude.{Entry, Event, NodeId, Outcome, PoolId, Reply, RequesterId, Role}
 use Rattle.np_text.specs.declared.id.Role.TheVariants as role
-use Rattle.np_event.specs.declared.entry.Entry.{Entry}
-use Rattle.np_event.specs.declared.event.Event.{Event}
 use Rattle.np_event.specs.declared.event.Event.TheVariants as event
-use Rattle.np_event.specs.declared.event.Outcome.{Outcome}
-use Rattle.np_event.specs.declared.reply.Reply.{Reply}
 use Rattle.np_event.specs.declared.reply.Reply.TheVariants as reply
 use Rattle.np_event.specs.declared.reply.Done.TheVariants as done
 use Rattle.np_cloud.specs.declared.driver.Tag.{Tag}

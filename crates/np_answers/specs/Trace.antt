@@ -1,10 +1,8 @@
 -- what holds of the moves of every round
 use Rattle.std.specs.Prelude.{◌≡◌, ◌⊎◌, ◌≤◌, ℕ, ◌+◌, List, [], ◌∷◌, ◌++◌, slice_get, Bool, true, false, cond, ◌&&◌, Contains, Option, Some, None, IfSome}
-use Rattle.np_text.specs.declared.id.PoolId.{PoolId}
+use Rattle.np_changes.specs.Prelude.{Entry, Outcome, PoolId}
 use Rattle.np_text.specs.declared.id.Role.TheVariants as role
 use Rattle.np_desk.specs.Pass.{Sight}
-use Rattle.np_event.specs.declared.entry.Entry.{Entry}
-use Rattle.np_event.specs.declared.event.Outcome.{Outcome}
 use Rattle.np_cloud.specs.declared.driver.Tag.{Tag}
 use Rattle.np_cloud.specs.declared.driver.Server.{Server}
 use Rattle.np_answers.specs.declared.ask.Ask.{Ask}

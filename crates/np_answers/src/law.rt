@@ -1,19 +1,10 @@
 //! Laws on legal journals and on answers. Each function does nothing: its contract is the law.
 
 ghost use Rattle.std.specs.Prelude.{◌≡◌, ℕ, List, [], ◌∷◌, ◌++◌, Some, Ok, true, take, slice_get, if◌then◌else◌};
-ghost use Rattle.np_text.specs.declared.id.SessionId.{SessionId};
-ghost use Rattle.np_text.specs.declared.id.PoolId.{PoolId};
-ghost use Rattle.np_text.specs.declared.id.NodeId.{NodeId};
-ghost use Rattle.np_text.specs.declared.id.Role.TheVariants.{Janitor};
-ghost use Rattle.np_site.specs.Configuration.{Configuration};
-ghost use Rattle.np_event.specs.declared.entry.Entry.{Entry};
+ghost use Rattle.np_changes.specs.Prelude.{Configuration, Entry, Janitor, NodeId, PoolId, Runs, SessionId, State, after, is_wanted, judge};
 ghost use Rattle.np_event.specs.declared.event.Event.TheVariants as ev;
 ghost use Rattle.np_event.specs.declared.reply.Done.TheVariants as done;
 ghost use Rattle.np_event.specs.declared.reply.Reply.TheVariants as reply;
-ghost use Rattle.np_machine.specs.State.{State};
-ghost use Rattle.np_machine.specs.Step.{judge};
-ghost use Rattle.np_machine.specs.Node.{is_wanted};
-ghost use Rattle.np_machine.specs.History.{Runs, after};
 ghost use Rattle.np_useful.specs.Sessions.{is_current};
 ghost use Rattle.np_answers.specs.declared.ask.Ask.{Ask};
 ghost use Rattle.np_answers.specs.declared.ask.Turn.{Turn};

@@ -2,14 +2,12 @@
 
 ghost use Rattle.std.specs.Prelude.{◌≡◌, ◌⊎◌, ◌+◌, ◌++◌, List, map, length, Contains};
 ghost use Rattle.np_desk.specs.Pass.{Sight};
-ghost use Rattle.np_event.specs.declared.entry.Entry.{Entry};
+ghost use Rattle.np_changes.specs.Prelude.{Entry, PoolId, RequesterId};
 ghost use Rattle.np_cloud.specs.declared.driver.Server.{Server};
 ghost use Rattle.np_cloud.specs.declared.driver.Launch.{Launch};
 ghost use Rattle.np_answers.specs.Drive.{servers_after};
 ghost use Rattle.np_answers.specs.Move.{Move, entries_of, launches_of};
 ghost use Rattle.np_answers.specs.Phase.{Phase, Work, Leads, OwesRemoval, ended, first_phase, of_pool, of_requester, of_reaper, rests};
-ghost use Rattle.np_text.specs.declared.id.PoolId.{PoolId};
-ghost use Rattle.np_text.specs.declared.id.RequesterId.{RequesterId};
 ghost use Rattle.np_answers.specs.Trace.{AreAsksOf, AreInOrder, AreNamed, AreReported, EndsWhereFull, Gains, IsPastJanitor, IsPastLauncher, TookAll, WasFull, WasRemoved, is_janitor_act, is_launcher_act, is_lone_act, owed_tags, starts_of, tags_launched};
 ghost use Rattle.np_answers.specs.Walk.{Walk};
 

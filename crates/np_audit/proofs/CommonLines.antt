@@ -1,13 +1,11 @@
 -- the lines that two texts begin with
 use Rattle.std.proofs.Common.{◌≡◌, ℕ, ◌+◌, ◌<◌, ◌≤◌, Bool, true, false, not, ◌==◌, List, [], ◌∷◌, ◌++◌, length, refl, sym, ap, arith, subst, drop, get_or}
 use Rattle.std.specs.Prelude.{if◌then◌else◌}
-use Rattle.std.specs.List.{flat_map, list_all}
-use Rattle.std.proofs.lemmas.Bool.{eq-eqb, eqb-true}
+use Rattle.np_changes.specs.Prelude.{flat_map, is_line, line, list_all}
+use Rattle.std.proofs.lemmas.Bool.{eq-eqb, eqb-true, and_parts}
 use Rattle.std.proofs.lemmas.Bool.Decides.{nat_tests}
 use Rattle.std.proofs.lemmas.List.{drop_all, drop_more}
 use Rattle.std.proofs.lemmas.List.Sums.{sum_by-cons}
-use Rattle.np_text.specs.Lines.{is_line, line}
-use Rattle.np_text.proofs.SpellingLemmas.{both_true}
 use Rattle.np_audit.specs.Agreement.{common_lines, newline_count, newlines}
 use Rattle.np_audit.proofs.LineParts.{line-some}
 
@@ -51,7 +49,7 @@ common-byte b x y n other both = cases both.lines both.plain both.left_is both.r
     longer : (l p q : List ℕ) → is_line l ≡ true → b ∷ both.left ≡ line l ++ p → b ∷ both.right ≡ line l ++ q → ⊥
     longer [] p q plain one two = grind (arith, nat_tests, head_same b 10 both.left p one)
     longer (c ∷ l) p q plain one two =
-        both.whole l p q (both_true (not (c == 10)) (is_line l) plain).1 (tail_same b c both.left (line l ++ p) one) (tail_same b c both.right (line l ++ q) two)
+        both.whole l p q (and_parts (not (c == 10)) (is_line l) plain).1 (tail_same b c both.left (line l ++ p) one) (tail_same b c both.right (line l ++ q) two)
 
     cases : (ls : List (List ℕ)) → list_all is_line ls ≡ true → x ≡ flat_map line ls ++ both.left → y ≡ flat_map line ls ++ both.right → length ls ≡ n → Common (b ∷ x) (b ∷ y) n
     cases [] plain left right number = record {

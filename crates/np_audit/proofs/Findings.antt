@@ -1,15 +1,10 @@
 -- what the comparison finds is so
 use Rattle.std.proofs.Common.{◌≡◌, ℕ, ◌+◌, Bool, true, false, List, [], ◌∷◌, ◌++◌, Ok, Err, refl, sym, ap, subst, ◌∙◌, append_assoc, arith}
 use Rattle.std.specs.Prelude.{if◌then◌else◌}
-use Rattle.std.specs.List.{flat_map, list_all}
+use Rattle.np_changes.specs.Prelude.{Configuration, IsSound, bar, flat_map, is_line, line, list_all}
 use Rattle.std.specs.Str.{bytes_eq}
 use Rattle.std.proofs.lemmas.List.{append_cancel_left}
-use Rattle.np_text.specs.Lines.{is_line, line}
-use Rattle.np_text.specs.Sections.{bar}
-use Rattle.np_text.proofs.SpellingLemmas.{both_true}
 use Rattle.np_json.specs.declared.fault.ConfigFault.{ConfigFault}
-use Rattle.np_site.specs.Configuration.{Configuration}
-use Rattle.np_site.specs.Sound.{IsSound}
 use Rattle.np_config_text.specs.Canonical.{canonical}
 use Rattle.np_config_read.specs.Walk.{reads}
 use Rattle.np_event_lines.proofs.KindLemmas.{bytes_eq-refl, same_bytes}
@@ -28,6 +23,7 @@ use Rattle.np_audit.specs.Entries.{first_line, later_lines, leading_events}
 use Rattle.np_audit.proofs.LineParts.{are_lines-push, first_line-line, flat_map-push, line-injective}
 use Rattle.np_audit.proofs.CommonLines.{Common, common}
 use Rattle.np_audit.proofs.PrintedParts.{entries_of_a_run, entries_played, is_line-canonical, run_part, text_of-parts, text_played, text_played-begins, text_played-whole}
+use Rattle.std.proofs.lemmas.Bool.{and_parts}
 
 true_false : true ≡ false → ⊥
 true_false same = cc
@@ -68,7 +64,7 @@ text_played-lines : (c : Configuration) (bytes rest : List ℕ) (lines : List (L
     BeginsAText (flat_map line lines) → (r : List ℕ) × (text_played c bytes ≡ flat_map line lines ++ r)
 text_played-lines c bytes rest [] read plain split begins = (text_played c bytes, refl)
 text_played-lines c bytes rest (a ∷ lines) read plain split begins =
-    let parts = both_true (is_line a) (list_all is_line lines) plain in
+    let parts = and_parts (is_line a) (list_all is_line lines) plain in
     let text = begins.whole in
     let d = text.configuration in
     let p = text.printed in

@@ -1,17 +1,12 @@
 -- the events of a text's lines, one line after another
-use Rattle.std.proofs.Common.{◌≡◌, ℕ, ◌+◌, ◌-◌, ◌<◌, ◌≤◌, true, false, ◌==◌, List, [], ◌∷◌, ◌++◌, length, take, drop, Option, Some, None, refl, sym, ap, ◌∙◌, arith, append_assoc, append-nil, length-drop, length-take, zero, suc, subst}
-use Rattle.std.specs.List.{AllByRecursion}
-use Rattle.std.specs.Option.{option_map}
+use Rattle.std.proofs.Common.{◌≡◌, ℕ, ◌+◌, ◌-◌, ◌<◌, ◌≤◌, true, false, ◌==◌, List, [], ◌∷◌, ◌++◌, length, take, drop, Option, Some, None, refl, sym, ap, ◌∙◌, arith, append_assoc, append-nil, length-take, zero, suc, subst}
+use Rattle.np_changes.specs.Prelude.{AllByRecursion, Configuration, Entry, Event, IsSound, option_map}
 use Rattle.std.proofs.lemmas.Bool.Decides.{nat_tests}
 use Rattle.std.proofs.lemmas.List.{length_push, nil_from_length, take_all, take_at}
 use Rattle.np_text.specs.Lines.{line_in, line_length, lines_of}
 use Rattle.np_text.proofs.LineLemmas.{lines_of-walk}
-use Rattle.np_event.specs.declared.event.Event.{Event}
-use Rattle.np_event.specs.declared.entry.Entry.{Entry}
 use Rattle.np_event_lines.specs.Line.{HasEventLine, entry_in}
 use Rattle.np_event_lines.proofs.EntryLemmas.{entry_in-told}
-use Rattle.np_site.specs.Configuration.{Configuration}
-use Rattle.np_site.specs.Sound.{IsSound}
 use Rattle.np_script.specs.Script.{IsPlayable}
 use Rattle.np_audit.specs.Entries.{event_told, events_told, first_line, later_lines, leading_events, with_event}
 
@@ -35,9 +30,6 @@ events_told-stop : (text : List ℕ) → 0 < length text → event_told (first_l
 events_told-stop text some told =
     ap events_told (lines_of-split text some)
     ∙ ap (λ (o : Option Event). with_event o (events_told (lines_of (later_lines text)))) told
-
-pub length-later_lines : (text : List ℕ) → 0 < length text → length (later_lines text) < length text
-length-later_lines text some = omega (arith, length-drop (line_length text + 1) text, some)
 
 -- ## the loop: `events` were read, and `rest` is left of the text
 

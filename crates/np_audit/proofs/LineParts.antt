@@ -3,14 +3,14 @@ use Rattle.std.proofs.Common.{◌≡◌, ℕ, ◌+◌, true, not, ◌==◌, List
 use Rattle.std.specs.List.{flat_map, list_all}
 use Rattle.std.proofs.lemmas.List.{take_at, drop_at, length_push, append-nil}
 use Rattle.np_text.specs.Lines.{is_line, line, line_length}
-use Rattle.np_text.proofs.SpellingLemmas.{both_true}
 use Rattle.np_audit.specs.Entries.{first_line, later_lines}
+use Rattle.std.proofs.lemmas.Bool.{and_parts}
 
 -- the length of a line that comes first
 line_length-line : (bytes rest : List ℕ) → is_line bytes ≡ true → line_length (bytes ++ 10 ∷ rest) ≡ length bytes
 line_length-line [] rest plain = refl
 line_length-line (b ∷ bs) rest plain =
-    let parts = both_true (not (b == 10)) (is_line bs) plain in
+    let parts = and_parts (not (b == 10)) (is_line bs) plain in
     let later = line_length-line bs rest parts.1 in
     rw (parts.0, later) (omega arith)
 
@@ -46,5 +46,5 @@ flat_map-push (x ∷ ls) l = ap (λ (t : List ℕ). line x ++ t) (flat_map-push 
 pub are_lines-push : (ls : List (List ℕ)) (l : List ℕ) → list_all is_line ls ≡ true → is_line l ≡ true → list_all is_line (ls ++ l ∷ []) ≡ true
 are_lines-push [] l plain last = rw last refl
 are_lines-push (x ∷ ls) l plain last =
-    let parts = both_true (is_line x) (list_all is_line ls) plain in
+    let parts = and_parts (is_line x) (list_all is_line ls) plain in
     rw parts.0 (are_lines-push ls l parts.1 last)

@@ -1,36 +1,21 @@
 -- a Text has fewer newlines than a number of 32 bits counts
 use Rattle.std.proofs.Common.{◌≡◌, ℕ, ◌+◌, ◌<◌, ◌≤◌, Bool, true, false, not, ◌&&◌, ◌==◌, List, [], ◌∷◌, ◌++◌, length, codes, decimal, Option, Some, None, refl, sym, ap, ◌∙◌, arith}
 use Rattle.std.specs.Prelude.{nat_le, slice_get}
-use Rattle.std.specs.List.{AllByRecursion, flat_map, list_all}
-use Rattle.std.specs.Option.{option_map_or}
-use Rattle.std.proofs.lemmas.Bool.{eqb-true}
+use Rattle.np_changes.specs.Prelude.{AllByRecursion, Configuration, Declined, EachAfter, Entry, Fate, Job, NodeId, Phase, PoolId, Reason, after, bar, fates, flat_map, is_line, line, list_all, option_map_or}
+use Rattle.std.proofs.lemmas.Bool.{eqb-true, and_parts}
 use Rattle.std.proofs.lemmas.Bool.Decides.{nat_tests}
 use Rattle.std.proofs.lemmas.List.Sums.{sum_by-append, sum_by-cons}
-use Rattle.np_text.specs.declared.id.NodeId.{NodeId}
-use Rattle.np_text.specs.declared.id.PoolId.{PoolId}
-use Rattle.np_text.specs.declared.word.Phase.{Phase}
 use Rattle.np_text.specs.declared.word.Phase.TheVariants as phase
-use Rattle.np_text.specs.declared.word.Reason.{Reason}
 use Rattle.np_text.specs.declared.word.Reason.TheVariants as reason
-use Rattle.np_text.specs.Lines.{is_line, line}
 use Rattle.np_text.specs.Name.{is_name_byte, is_name_text}
-use Rattle.np_text.specs.Sections.{bar}
 use Rattle.np_text.specs.Word.{phase_word, reason_text_of}
-use Rattle.np_text.proofs.SpellingLemmas.{both_true}
-use Rattle.np_lists.specs.EachAfter.{EachAfter}
-use Rattle.np_site.specs.declared.row.Job.{Job}
-use Rattle.np_site.specs.declared.row.Requester.{Requester}
-use Rattle.np_site.specs.Configuration.{Configuration}
-use Rattle.np_site.specs.Sound.{IsJob, IsRequester, IsSound, StandsByOwner}
+use Rattle.np_config.specs.declared.row.Requester.{Requester}
+use Rattle.np_config.specs.Sound.{IsJob, IsRequester, IsSound, StandsByOwner}
 use Rattle.np_config_text.specs.Canonical.{canonical}
 use Rattle.np_config_text.proofs.Ascii.{at_place}
-use Rattle.np_event.specs.declared.entry.Entry.{Entry}
 use Rattle.np_event_lines.specs.Line.{HasEntryLine, entry_line}
 use Rattle.np_event_lines.proofs.EntryLemmas.{is_line-entry}
-use Rattle.np_record.specs.declared.record.Declined.{Declined}
-use Rattle.np_machine.specs.Fates.{Fate, fates}
 use Rattle.np_machine.specs.Fates as fate
-use Rattle.np_machine.specs.History.{after}
 use Rattle.np_report.specs.Printed.{IsPrinted}
 use Rattle.np_report.specs.Text.{decline_text, entry_lines, fate_lines, fate_text, job_text, node_text, pool_text, requester_name}
 use Rattle.np_report.proofs.Compact.{is_line-append, is_line-decimal}
@@ -45,7 +30,7 @@ newlines-append xs ys = sum_by-append newline_count xs ys
 newlines-none : (bytes : List ℕ) → is_line bytes ≡ true → newlines bytes ≡ 0
 newlines-none [] plain = refl
 newlines-none (b ∷ bs) plain =
-    let parts = both_true (not (b == 10)) (is_line bs) plain in
+    let parts = and_parts (not (b == 10)) (is_line bs) plain in
     let other : (b == 10) ≡ false = grind (arith, nat_tests) in
     let first : newline_count b ≡ 0 = rw other refl in
     let all : newlines (b ∷ bs) ≡ newline_count b + newlines bs = sum_by-cons newline_count b bs in
@@ -78,13 +63,13 @@ name_byte-plain b named = cases (b == 10) refl
 name_bytes-plain : (bytes : List ℕ) → list_all is_name_byte bytes ≡ true → is_line bytes ≡ true
 name_bytes-plain [] named = refl
 name_bytes-plain (b ∷ bs) named =
-    let parts = both_true (is_name_byte b) (list_all is_name_byte bs) named in
+    let parts = and_parts (is_name_byte b) (list_all is_name_byte bs) named in
     rw (name_byte-plain b parts.0) (name_bytes-plain bs parts.1)
 
 is_line-name : (text : List ℕ) → is_name_text text ≡ true → is_line text ≡ true
 unfolding is_name_text
 is_line-name text named =
-    name_bytes-plain text (both_true (nat_le 1 (length text) && nat_le (length text) 64) (list_all is_name_byte text) named).1
+    name_bytes-plain text (and_parts (nat_le 1 (length text) && nat_le (length text) 64) (list_all is_name_byte text) named).1
 
 is_line-found : (o : Option Requester) → ((q : Requester) → o ≡ Some q → is_line q.name ≡ true) → is_line (option_map_or (λ q. q.name) o []) ≡ true
 is_line-found None plain = refl

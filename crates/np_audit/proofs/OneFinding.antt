@@ -1,12 +1,11 @@
 -- there is one finding for the same bytes
 use Rattle.std.proofs.Common.{◌≡◌, ℕ, suc, ◌+◌, List, [], ◌∷◌, ◌++◌, length, true, refl, sym, ap, subst, ◌∙◌, append_assoc, append-nil}
-use Rattle.std.specs.List.{flat_map, list_all}
-use Rattle.np_text.specs.Lines.{is_line, line}
-use Rattle.np_text.proofs.SpellingLemmas.{both_true}
+use Rattle.np_changes.specs.Prelude.{flat_map, is_line, line, list_all}
 use Rattle.np_audit.specs.declared.finding.Finding.{Finding}
 use Rattle.np_audit.specs.declared.finding.Finding.TheVariants.{Yes, No}
 use Rattle.np_audit.specs.Audit.{IsAText, BeginsAText, IsNoText, IsSo}
 use Rattle.np_audit.proofs.LineParts.{line-injective}
+use Rattle.std.proofs.lemmas.Bool.{and_parts}
 
 BeginsAText-shorter : (front behind : List ℕ) → BeginsAText (front ++ behind) → BeginsAText front
 BeginsAText-shorter front behind begins = record {
@@ -31,14 +30,14 @@ one_count : (front : List ℕ) (ls ms : List (List ℕ)) (r s : List ℕ) → li
     BeginsAText (front ++ flat_map line ls) → BeginsAText (front ++ flat_map line ms) → Ends (front ++ flat_map line ls) r → Ends (front ++ flat_map line ms) s → length ls ≡ length ms
 one_count front [] [] r s plain_l plain_m same begin_l begin_m ends_l ends_m = refl
 one_count front [] (m ∷ ms) r s plain_l plain_m same begin_l begin_m ends_l ends_m =
-    let parts = both_true (is_line m) (list_all is_line ms) plain_m in
+    let parts = and_parts (is_line m) (list_all is_line ms) plain_m in
     absurd (begins-more front m (flat_map line ms) s r parts.0 same ends_l begin_m)
 one_count front (l ∷ ls) [] r s plain_l plain_m same begin_l begin_m ends_l ends_m =
-    let parts = both_true (is_line l) (list_all is_line ls) plain_l in
+    let parts = and_parts (is_line l) (list_all is_line ls) plain_l in
     absurd (begins-more front l (flat_map line ls) r s parts.0 (sym same) ends_m begin_l)
 one_count front (l ∷ ls) (m ∷ ms) r s plain_l plain_m same begin_l begin_m ends_l ends_m =
-    let one = both_true (is_line l) (list_all is_line ls) plain_l in
-    let two = both_true (is_line m) (list_all is_line ms) plain_m in
+    let one = and_parts (is_line l) (list_all is_line ls) plain_l in
+    let two = and_parts (is_line m) (list_all is_line ms) plain_m in
     let cut = line-injective l m (flat_map line ls ++ r) (flat_map line ms ++ s) one.0 two.0
     (sym (append_assoc (line l) (flat_map line ls) r) ∙ same ∙ append_assoc (line m) (flat_map line ms) s) in
     let first : line m ≡ line l = ap line (sym cut.0) in

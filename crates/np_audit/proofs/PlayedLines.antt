@@ -1,22 +1,13 @@
 -- the lines that a text begins with are played into the journal that they show
 use Rattle.std.proofs.Common.{◌≡◌, ℕ, zero, suc, ◌≤◌, ◌⊎◌, inl, inr, List, [], ◌∷◌, ◌++◌, map, length, take, Option, None, refl, sym, ap, ◌∙◌, arith, append_assoc, true}
-use Rattle.std.specs.List.{AllByRecursion, flat_map, list_all}
-use Rattle.std.specs.Option.{option_map}
-use Rattle.np_text.specs.Lines.{is_line, line}
-use Rattle.np_text.specs.Sections.{bar}
-use Rattle.np_text.proofs.SpellingLemmas.{both_true}
-use Rattle.np_site.specs.Configuration.{Configuration}
-use Rattle.np_event.specs.declared.event.Event.{Event}
-use Rattle.np_event.specs.declared.entry.Entry.{Entry}
+use Rattle.np_changes.specs.Prelude.{AllByRecursion, Configuration, Entry, Event, State, bar, flat_map, is_line, judge, line, list_all, next, option_map, replayed, reply_of}
 use Rattle.np_event_lines.specs.Line.{HasEntryLine, entry_in, entry_line, sides_of}
 use Rattle.np_event_lines.proofs.EntryLemmas.{entry_in-line, is_line-entry}
-use Rattle.np_machine.specs.State.{State}
-use Rattle.np_machine.specs.Step.{judge, next, reply_of}
-use Rattle.np_machine.specs.History.{replayed}
 use Rattle.np_report.specs.Played.{played_from}
 use Rattle.np_report.specs.Text.{entry_lines}
 use Rattle.np_audit.specs.Entries.{event_told, events_told, with_event}
 use Rattle.np_audit.proofs.LineParts.{line-injective}
+use Rattle.std.proofs.lemmas.Bool.{and_parts}
 
 -- ## the events of lines
 
@@ -94,12 +85,12 @@ pub shows-lines : (c : Configuration) (s : State) (room : ℕ) (journal : List E
     Shows (played_from c s (take room (events_told (lines ++ more)))) lines journal
 shows-lines c s room journal [] more r behind few is has plain same = inl (entry_lines (played_lines c s room more), refl)
 shows-lines c s room [] (l ∷ lines) more r behind few is has plain same =
-    let parts = both_true (is_line l) (list_all is_line lines) plain in
+    let parts = and_parts (is_line l) (list_all is_line lines) plain in
     let cut = line-injective l bar (flat_map line lines ++ r) behind parts.0 refl (sym (append_assoc (line l) (flat_map line lines) r) ∙ same) in
     shows-bar c s room l lines more cut.0
 shows-lines c s zero (e ∷ journal) (l ∷ lines) more r behind few is has plain same = absurd (omega arith)
 shows-lines c s (suc room) (e ∷ journal) (l ∷ lines) more r behind few is has plain same =
-    let parts = both_true (is_line l) (list_all is_line lines) plain in
+    let parts = and_parts (is_line l) (list_all is_line lines) plain in
     let cut = line-injective l (entry_line e) (flat_map line lines ++ r) (entry_lines journal ++ (line bar ++ behind)) parts.0 (is_line-entry e has.0)
     (sym (append_assoc (line l) (flat_map line lines) r) ∙ same ∙ append_assoc (line (entry_line e)) (entry_lines journal) (line bar ++ behind)) in
     let tail : replayed c (next c s e.event) journal ≡ journal = cc in

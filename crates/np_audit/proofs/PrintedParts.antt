@@ -1,19 +1,10 @@
 -- the parts of a Text, and what is played from them
 use Rattle.std.proofs.Common.{◌≡◌, ℕ, ◌≤◌, inl, inr, true, List, [], ◌∷◌, ◌++◌, length, map, take, refl, sym, ap, ◌∙◌, append_assoc, append-nil}
-use Rattle.std.specs.List.{AllByRecursion, flat_map, list_all}
-use Rattle.np_text.specs.Lines.{is_line, line, lines_of}
-use Rattle.np_text.specs.Sections.{bar}
+use Rattle.np_changes.specs.Prelude.{AllByRecursion, Configuration, Entry, Event, after, bar, fates, flat_map, is_line, line, lines_of, list_all, replayed, start}
 use Rattle.np_text.proofs.LineLemmas.{lines_of-line, lines_of-lines}
-use Rattle.np_text.proofs.SpellingLemmas.{both_true}
-use Rattle.np_site.specs.Configuration.{Configuration}
 use Rattle.np_config_text.specs.Canonical.{canonical, configuration_data}
-use Rattle.np_event.specs.declared.event.Event.{Event}
-use Rattle.np_event.specs.declared.entry.Entry.{Entry}
 use Rattle.np_event_lines.specs.Line.{HasEntryLine, entry_line}
 use Rattle.np_event_lines.proofs.EntryLemmas.{is_line-entry}
-use Rattle.np_machine.specs.State.{start}
-use Rattle.np_machine.specs.Fates.{fates}
-use Rattle.np_machine.specs.History.{after, replayed}
 use Rattle.np_lines.proofs.LineRuns.{lines-Runs}
 use Rattle.np_report.specs.Played.{played}
 use Rattle.np_report.specs.Printed.{IsPrinted}
@@ -22,6 +13,7 @@ use Rattle.np_report.proofs.Compact.{is_line-compact_text}
 use Rattle.np_audit.specs.Entries.{events_told, later_lines, leading_events}
 use Rattle.np_audit.proofs.LineParts.{later_lines-line, line-injective}
 use Rattle.np_audit.proofs.PlayedLines.{Shows, played_lines-whole, shows-lines}
+use Rattle.std.proofs.lemmas.Bool.{and_parts}
 
 -- ## parts
 
@@ -110,7 +102,7 @@ module _ (d : Configuration) (journal : List Entry) (runs : replayed d (start d)
       (r' : List ℕ) × (text_played d bytes ≡ flat_map line lines ++ r')
   text_played-begins [] bytes rest r plain split same = (text_played d bytes, refl)
   text_played-begins (a ∷ []) bytes rest r plain split same =
-      let parts = both_true (is_line a) true plain in
+      let parts = and_parts (is_line a) true plain in
       let cut = line-injective a (canonical d) ([] ++ r) (line bar ++ run_part d journal) parts.0 (is_line-canonical d) (sym (append_assoc (line a) [] r) ∙ same ∙ text_of-parts d journal) in
       let behind = line bar ++ run_part d (entries_played d bytes) in (
         behind,
@@ -119,8 +111,8 @@ module _ (d : Configuration) (journal : List Entry) (runs : replayed d (start d)
             ∙ ap (λ (t : List ℕ). t ++ behind) (sym (append-nil (line a))),
       )
   text_played-begins (a ∷ b ∷ ls) bytes rest r plain split same =
-      let parts = both_true (is_line a) (list_all is_line (b ∷ ls)) plain in
-      let more = both_true (is_line b) (list_all is_line ls) parts.1 in
+      let parts = and_parts (is_line a) (list_all is_line (b ∷ ls)) plain in
+      let more = and_parts (is_line b) (list_all is_line ls) parts.1 in
       let cut = line-injective a (canonical d) (flat_map line (b ∷ ls) ++ r) (line bar ++ run_part d journal) parts.0 (is_line-canonical d)
       (sym (append_assoc (line a) (flat_map line (b ∷ ls)) r) ∙ same ∙ text_of-parts d journal) in
       let cut_more = line-injective b bar (flat_map line ls ++ r) (run_part d journal) more.0 refl (sym (append_assoc (line b) (flat_map line ls) r) ∙ cut.1) in

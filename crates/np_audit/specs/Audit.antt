@@ -1,10 +1,7 @@
 -- whether bytes are the Text of a run, and otherwise which of their lines is the first that a Text
 -- cannot have
 use Rattle.std.specs.Prelude.{◌≡◌, ℕ, ◌+◌, true, List, ◌++◌, length}
-use Rattle.std.specs.List.{flat_map, list_all}
-use Rattle.np_text.specs.Lines.{is_line, line}
-use Rattle.np_site.specs.Configuration.{Configuration}
-use Rattle.np_event.specs.declared.entry.Entry.{Entry}
+use Rattle.np_changes.specs.Prelude.{Configuration, Entry, flat_map, is_line, line, list_all}
 use Rattle.np_report.specs.Printed.{IsPrinted}
 use Rattle.np_audit.specs.declared.finding.Finding.{Finding}
 use Rattle.np_audit.specs.declared.finding.Finding.TheVariants.{Yes, No}

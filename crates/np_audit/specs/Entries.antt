@@ -1,8 +1,7 @@
 -- the events of the entries that a text begins with
 use Rattle.std.specs.Prelude.{ℕ, ◌+◌, List, [], ◌∷◌, Option, Some, None, take, drop}
-use Rattle.std.specs.Option.{option_map}
+use Rattle.np_changes.specs.Prelude.{Event, option_map}
 use Rattle.np_text.specs.Lines.{line_length, lines_of}
-use Rattle.np_event.specs.declared.event.Event.{Event}
 use Rattle.np_event_lines.specs.Line.{entry_in}
 
 -- the text's first line, without its newline

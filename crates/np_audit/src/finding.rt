@@ -1,7 +1,7 @@
 //! The audit, and what it finds.
 
 ghost use Rattle.std.specs.Prelude.{◌≡◌, ◌<◌, ◌^◌, ◌-◌, [], IfOk};
-ghost use Rattle.np_site.specs.Sound.{IsSound};
+ghost use Rattle.np_config.specs.Sound.{IsSound};
 ghost use Rattle.np_config_read.specs.Walk.{reads};
 ghost use Rattle.np_report.specs.Played.{played};
 ghost use Rattle.np_report.specs.Printed.{IsPrinted};

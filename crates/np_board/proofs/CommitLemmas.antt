@@ -1,48 +1,24 @@
 -- what a turn at a board leaves at which launchers plan
-use Rattle.std.proofs.Common.{◌≡◌, ◌∙◌, ◌<◌, ◌+◌, ℕ, true, List, [], ◌∷◌, ◌++◌, map, take, Option, Some, None, Result, Ok, Err, IfOk, OnErr, refl, sym, ap, subst, arith, append-nil}
+use Rattle.std.proofs.Common.{◌≡◌, ◌∙◌, ◌<◌, ◌+◌, ℕ, true, List, [], ◌∷◌, ◌++◌, take, Option, Some, None, Result, Ok, Err, IfOk, OnErr, refl, sym, ap, subst, arith, append-nil}
 use Rattle.std.specs.Prelude.{find, is_ok, option_and_then, slice_get, MatchResult}
-use Rattle.std.specs.Option.{is_some, option_map}
-use Rattle.std.proofs.lemmas.Option.{slice_get-map}
+use Rattle.np_changes.specs.Prelude.{Configuration, Done, Entry, Event, Launcher, NoMemory, PoolId, Refusal, Reply, Runs, State, after, is_some, judge, remove_first, reply_of}
 use Rattle.std.proofs.lemmas.Bool.Decides.{nat_tests}
-use Rattle.np_text.specs.declared.id.PoolId.{PoolId}
-use Rattle.np_text.specs.declared.id.Role.TheVariants.{Launcher}
-use Rattle.np_text.specs.declared.memory.NoMemory.{NoMemory}
-use Rattle.np_lists.specs.Change.{remove_first}
 use Rattle.np_lists.proofs.ChangeLemmas.{remove_first-absent}
 use Rattle.np_lists.proofs.Each.{all-find}
-use Rattle.np_nodes.specs.TreeState.{TreeState}
-use Rattle.np_views.specs.Dates.{IsLater}
-use Rattle.np_views.proofs.LaterLemmas.{later-than-itself}
+use Rattle.np_layout.specs.Prelude.{IsLater, TreeState}
+use Rattle.np_tree.proofs.LaterLemmas.{later-than-itself}
 use Rattle.np_watch.specs.Watching.{is_fired}
 use Rattle.np_watch.specs.declared.watch.Watch.{Watch}
-use Rattle.np_site.specs.Configuration.{Configuration}
-use Rattle.np_event.specs.declared.event.Event.{Event}
-use Rattle.np_event.specs.declared.entry.Entry.{Entry}
-use Rattle.np_event.specs.declared.reply.Done.{Done}
-use Rattle.np_event.specs.declared.reply.Refusal.{Refusal}
-use Rattle.np_event.specs.declared.reply.Reply.{Reply}
 use Rattle.np_event.specs.declared.reply.Reply.TheVariants as reply
-use Rattle.np_machine.specs.History.{Runs, after}
-use Rattle.np_machine.specs.State.{State}
-use Rattle.np_machine.specs.Step.{judge, reply_of}
 use Rattle.np_rules.specs.Ran.{Ran, answer_of, applied, has_room}
-use Rattle.np_useful.specs.Planned.{WasUseful, is_planned}
-use Rattle.np_useful.specs.Useful.{IsUseful}
-use Rattle.np_planned.specs.Spots.{path_at, paths_at}
-use Rattle.np_planned.specs.Stale.{IsFirstStale}
+use Rattle.np_answers.specs.Prelude.{IsReplied, IsUseful, WasUseful, entries_of, is_legal, is_planned}
 use Rattle.np_planned.specs.declared.spot.Spot.{Spot}
-use Rattle.np_desk.specs.Turned.{entries_of}
-use Rattle.np_answers.specs.Answers.{IsReplied}
-use Rattle.np_answers.specs.declared.ask.Ask.{Ask}
-use Rattle.np_answers.specs.declared.ask.Turn.{Turn}
-use Rattle.np_answers.specs.Legal.{is_legal}
 use Rattle.np_answers.proofs.LegalLemmas.{legal-next}
 use Rattle.np_answers.proofs.Recorded.{turn-replied}
 use Rattle.np_board.specs.Outstanding.{AreOfSpots, FreshAreAccepted, IsOutstanding, IsPlanning, Outstanding, Planning, plan_of, ran_of, with_plan}
 use Rattle.np_board.specs.PlanAnswers.{plan_answers, plan_recorded}
-use Rattle.np_board.specs.PlanTaken.{HasNoNews, IsAsBefore, IsCommitted, IsNews, IsPlain, IsPlanTaken, IsStale, TakenNews}
-use Rattle.np_board.specs.PlanTested.{IsMayDo, IsMayNot, IsStaleSpot, fired_spot, told_by}
-use Rattle.np_board.specs.Taken.{IsTaken}
+use Rattle.np_board.specs.PlanTaken.{HasNoNews, IsAsBefore, IsCommitted, IsNews, IsPlanTaken, TakenNews}
+use Rattle.np_board.specs.PlanTested.{IsMayDo, fired_spot, told_by}
 use Rattle.np_board.specs.declared.planned.plan.PlanAsk.{PlanAsk}
 use Rattle.np_board.specs.declared.planned.plan.PlanAsk.TheVariants as ask
 use Rattle.np_board.specs.declared.planned.plan.PlanTurn.{PlanTurn}
@@ -50,16 +26,6 @@ use Rattle.np_board.specs.declared.planned.plan.PlanTurn.TheVariants as turn
 use Rattle.np_board.proofs.PlanLemmas.{plan-there, with-none, with-same, with-twice}
 
 -- ## the spot of a path
-
-spot-of : (spots : List Spot) (at : ℕ) (path : List ℕ) → slice_get (map path_at spots) at ≡ Some path → slice_get spots at ≡ None → ⊥
-spot-of spots at path there none =
-    let told : option_map path_at (slice_get spots at) ≡ Some path = sym (slice_get-map path_at spots at) ∙ there in
-    let nothing : option_map path_at (slice_get spots at) ≡ None = ap (option_map path_at) none in
-    cc
-
--- the place of a path that is not fresh is that of a spot
-pub no-spot : (spots : List Spot) (paths : List (List ℕ)) (at : ℕ) (path : List ℕ) → paths ≡ paths_at spots → slice_get paths at ≡ Some path → slice_get spots at ≡ None → ⊥
-no-spot spots paths at path same there none = spot-of spots at path (subst (λ (ps : List (List ℕ)). slice_get ps at ≡ Some path) same there) none
 
 -- ## news
 
@@ -259,27 +225,8 @@ plan-history old new a (Err e) taken before = ap (λ (m : Ran). m.journal) befor
 
 -- ## what the methods leave
 
-pub plain-taken : (old new : Planning) (a : Ask) (t : Turn) → IsTaken (ran_of old) a t (ran_of new) → new.plans ≡ old.plans → new.commits ≡ old.commits → IsLater old.tree new.tree → IsPlain old a t new
-plain-taken old new a t taken plans commits later = record { taken = taken; plans = plans; commits = commits; later = later }
-
-pub as-before : (old new : Planning) → ran_of new ≡ ran_of old → new.plans ≡ old.plans → new.commits ≡ old.commits → IsLater old.tree new.tree → IsAsBefore old new
-as-before old new ran plans commits later = record { ran = ran; plans = plans; commits = commits; later = later }
-
 pub not-at-all : (old new : Planning) → new ≡ old → IsAsBefore old new
 not-at-all old new is = rw is (record { ran = refl; plans = refl; commits = refl; later = later-than-itself old.tree })
-
--- a spot of the plan isn't fresh
-pub stale-left : (old new : Planning) (p : PoolId) (spot : Spot) (change : ℕ) → IsMayNot old p spot change → new ≡ record old { plans = with_plan p None old.plans } → IsStale old p spot change new
-stale-left old new p spot change may left = record {
-  plan = may.plan;
-  there = may.there;
-  room = may.room;
-  place = may.stale.place;
-  first = may.stale.first;
-  of = may.stale.of;
-  late = may.stale.late;
-  left = left;
-}
 
 -- there is no plan, and so no news
 pub no-plan-news : (old new : Planning) (p : PoolId) → plan_of p old.plans ≡ None → new ≡ record old { plans = with_plan p None old.plans } → HasNoNews old p × (new ≡ old)
@@ -295,10 +242,6 @@ none-news old new p x there of none left =
       λ plan is. let same : x ≡ plan = cc in subst (λ (y : Outstanding). find (is_fired old.tree) y.watches ≡ None) same quiet,
       left ∙ ap (λ (plans : List (Option Outstanding)). record old { plans = plans }) (no-news-left old p x there quiet),
     )
-
--- no plan is put out by taking none
-pub stale-of : (t : TreeState) (x : Outstanding) (spot : Spot) (place change : ℕ) → IsFirstStale t x.plan.at x.paths (record { place = place; change = change }) → slice_get x.plan.spots place ≡ Some spot → x.plan.at < change → IsStaleSpot t x (record { spot = spot; change = change })
-stale-of t x spot place change first of late = record { place = place; first = first; of = of; late = late }
 
 pub err-before : (old new : Planning) (r : Result PlanTurn NoMemory) → OnErr r (new ≡ old) → OnErr r (IsAsBefore old new)
 err-before old new (Ok t) is = is

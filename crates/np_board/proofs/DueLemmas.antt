@@ -1,34 +1,17 @@
 -- the nodes that are due
-use Rattle.std.proofs.Common.{◌≡◌, ◌<◌, ℕ, Bool, true, false, length, Option, Some, None, refl, ap, subst, arith}
+use Rattle.std.proofs.Common.{◌≡◌, ◌<◌, ℕ, Bool, true, false, length, Option, Some, None, refl, subst}
 use Rattle.std.specs.Prelude.{◌==◌, ◌&&◌, slice_get}
-use Rattle.std.specs.Option.{option_map_or}
-use Rattle.std.proofs.lemmas.Bool.Decides.{nat_tests}
-use Rattle.np_text.specs.declared.id.SessionId.{SessionId}
-use Rattle.np_text.specs.declared.id.PoolId.{PoolId}
-use Rattle.np_text.specs.declared.id.NodeId.{NodeId}
-use Rattle.np_text.specs.declared.id.Role.TheVariants.{Janitor}
-use Rattle.np_record.specs.declared.record.NodeRecord.{NodeRecord}
+use Rattle.np_changes.specs.Prelude.{Janitor, NodeId, NodeRecord, PoolId, SessionId, State, is_deleting, is_session_of, node_holder, node_in, node_queue, option_map_or}
 use Rattle.np_look.specs.Readers.{queued_nodes}
-use Rattle.np_machine.specs.Kinds.{is_deleting}
-use Rattle.np_machine.specs.State.{State}
-use Rattle.np_machine.specs.Tables.{is_session_of, node_in, node_queue, node_holder}
 use Rattle.np_useful.specs.Sessions.{is_current, has_current}
 use Rattle.np_roles.proofs.Places.{StandsIn}
 use Rattle.np_roles.proofs.Queues.{holder-queued, queued-node}
 use Rattle.np_roles.proofs.Currents.{one-current, current-has}
 use Rattle.np_answers.specs.Answers.{IsDue}
 use Rattle.np_board.specs.Due.{is_due}
-use Rattle.np_answers.proofs.LegalLemmas.{both-true, and-true}
-
-same-number : (a : ℕ) → (a == a) ≡ true
-same-number a = grind (arith, nat_tests)
-
-equal-numbers : (a b : ℕ) → (a == b) ≡ true → a ≡ b
-equal-numbers a b is = grind (arith, nat_tests)
-
-held-by : (session : SessionId) (o : Option SessionId) → is_session_of session o ≡ true → o ≡ Some session
-held-by session None is = absurd cc
-held-by session (Some other) is = ap (λ (n : ℕ). Some (record { 0 = n })) (equal-numbers other.0 session.0 is)
+use Rattle.np_lists.proofs.Plain.{equal-itself, equal-numbers}
+use Rattle.np_laws.proofs.Pinned.{holder-waits}
+use Rattle.std.proofs.lemmas.Bool.{and_parts, and_from}
 
 module _ (s : State) (p : PoolId) (session : SessionId) where
   abbrev seen : NodeId → Bool
@@ -38,7 +21,7 @@ module _ (s : State) (p : PoolId) (session : SessionId) where
   held n = is_session_of session (node_holder n s.nodes)
 
   parts : (n : NodeId) → is_due p session n s ≡ true → (seen n ≡ true) × (held n ≡ true)
-  parts n is = both-true (seen n) (held n) is
+  parts n is = and_parts (seen n) (held n) is
 
   -- ## the search
 
@@ -68,7 +51,7 @@ module _ (s : State) (p : PoolId) (session : SessionId) where
     pub due-is : (n : NodeId) (kept : NodeRecord) → node_in n s.nodes ≡ Some kept → is_due p session n s ≡ true → IsDue p s n kept.server
     due-is n kept stands is =
         let both = parts n is in
-        let sees = both-true (kept.pool.0 == p.0) (is_deleting kept.state) (rw stands at both.0) in
+        let sees = and_parts (kept.pool.0 == p.0) (is_deleting kept.state) (rw stands at both.0) in
         record {
           node = kept;
           stands = stands;
@@ -76,16 +59,16 @@ module _ (s : State) (p : PoolId) (session : SessionId) where
           deleting = sees.1;
           server = refl;
           session = session;
-          holder = held-by session (node_holder n s.nodes) both.1;
+          holder = holder-waits session (node_holder n s.nodes) both.1;
           current = current;
         }
 
     pub none-due : (n : NodeId) (x : Option ℕ) → is_due p session n s ≡ false → IsDue p s n x → ⊥
     none-due n x none due =
         let one : due.session ≡ session = one-current (Janitor p) s due.session session due.current current in
-        let sees : seen n ≡ true = rw (due.stands, due.of_pool) (and-true (p.0 == p.0) (is_deleting due.node.state) (same-number p.0) due.deleting) in
-        let holds : held n ≡ true = rw (due.holder, one) (same-number session.0) in
-        let is : is_due p session n s ≡ true = and-true (seen n) (held n) sees holds in
+        let sees : seen n ≡ true = rw (due.stands, due.of_pool) (and_from (p.0 == p.0) (is_deleting due.node.state) (equal-itself p.0) due.deleting) in
+        let holds : held n ≡ true = rw (due.holder, one) (equal-itself session.0) in
+        let is : is_due p session n s ≡ true = and_from (seen n) (held n) sees holds in
         cc
 
 pub no-janitor : (s : State) (p : PoolId) → has_current (Janitor p) s ≡ false → (n : NodeId) (x : Option ℕ) → IsDue p s n x → ⊥

@@ -1,35 +1,21 @@
 -- outstanding plans, from turn to turn
 use Rattle.std.proofs.Common.{◌≡◌, ◌∙◌, ◌<◌, ◌≤◌, ◌+◌, ℕ, zero, suc, Bool, true, List, [], ◌∷◌, ◌++◌, length, take, map, Option, Some, None, Result, Ok, Err, IfOk, OnErr, refl, sym, ap, subst, arith, append-nil, length-append}
 use Rattle.std.specs.Prelude.{slice_get, is_ok, replicate}
-use Rattle.std.specs.List.{AllByRecursion}
-use Rattle.std.specs.Option.{is_some, option_map}
+use Rattle.np_changes.specs.Prelude.{AllByRecursion, Configuration, Entry, Launcher, NoMemory, PoolId, Runs, State, change_at, is_some, judge, option_map, remove_first}
 use Rattle.std.proofs.Math.Seq.{take-length}
 use Rattle.std.proofs.lemmas.List.{length-replicate, take-append-le}
 use mathlib.Core.Logic.{dite}
 use native.Mathlib.Decide.{ℕ_discrete}
-use Rattle.np_text.specs.declared.id.PoolId.{PoolId}
-use Rattle.np_text.specs.declared.id.Role.TheVariants.{Launcher}
-use Rattle.np_text.specs.declared.memory.NoMemory.{NoMemory}
-use Rattle.np_lists.specs.Change.{change_at, remove_first}
 use Rattle.np_lists.proofs.ChangeLemmas.{length-change_at, slice_get-change_at, slice_get-change_at_other}
 use Rattle.np_lists.proofs.Each.{all-remove_first}
-use Rattle.np_nodes.specs.TreeState.{TreeState}
-use Rattle.np_views.specs.Dates.{IsLater, Since}
-use Rattle.np_views.proofs.LaterLemmas.{later-joined, later-than-itself}
+use Rattle.np_layout.specs.Prelude.{IsLater, IsStored, Since, TreeState}
+use Rattle.np_tree.proofs.LaterLemmas.{later-joined, later-than-itself}
 use Rattle.np_watch.specs.Fresh.{AreFreshPaths}
 use Rattle.np_watch.specs.Watching.{is_fired}
 use Rattle.np_watch.specs.declared.watch.Watch.{Watch}
-use Rattle.np_site.specs.Configuration.{Configuration}
-use Rattle.np_event.specs.declared.entry.Entry.{Entry}
-use Rattle.np_machine.specs.History.{Runs}
-use Rattle.np_machine.specs.State.{State}
-use Rattle.np_machine.specs.Step.{judge}
-use Rattle.np_layout.specs.Carried.{IsStored}
 use Rattle.np_keeper.specs.Keeper.{Holds}
-use Rattle.np_useful.specs.Useful.{IsUseful}
+use Rattle.np_answers.specs.Prelude.{IsUseful, entries_of, recorded}
 use Rattle.np_rules.specs.Ran.{Ran}
-use Rattle.np_desk.specs.Turned.{entries_of}
-use Rattle.np_answers.specs.Asks.{recorded}
 use Rattle.np_answers.specs.declared.ask.Ask.{Ask}
 use Rattle.np_answers.specs.declared.ask.Turn.{Turn}
 use Rattle.np_planned.specs.Commits.{FreshCommits}
@@ -46,10 +32,6 @@ pub is-some-within : {X : Type 0} (xs : List X) (i : ℕ) → i < length xs → 
 is-some-within [] i within = absurd (omega arith)
 is-some-within (x ∷ xs) zero within = refl
 is-some-within (x ∷ xs) (suc i) within = is-some-within xs i (omega arith)
-
-pub some-of : {X : Type 0} (o : Option X) → is_some o ≡ true → (x : X) × (o ≡ Some x)
-some-of None is = absurd cc
-some-of (Some x) is = (x, refl)
 
 -- ## the plan of a pool
 

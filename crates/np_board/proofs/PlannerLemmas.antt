@@ -1,30 +1,20 @@
 -- turns at the desk of a board at which launchers plan, as those of any board
 use Rattle.std.proofs.Common.{◌≡◌, ◌∙◌, ◌⊎◌, inl, inr, ℕ, ◌+◌, ◌≤◌, List, [], ◌∷◌, ◌++◌, length, Option, Some, None, Result, Ok, Err, refl, sym, ap, subst, arith, length-append}
-use Rattle.np_text.specs.declared.id.PoolId.{PoolId}
-use Rattle.np_text.specs.declared.id.Role.{Role}
+use Rattle.np_changes.specs.Prelude.{Configuration, Entry, Event, NoMemory, PoolId, Role}
 use Rattle.np_text.specs.declared.id.Role.TheVariants as role
-use Rattle.np_text.specs.declared.memory.NoMemory.{NoMemory}
-use Rattle.np_site.specs.Configuration.{Configuration}
-use Rattle.np_event.specs.declared.event.Event.{Event}
-use Rattle.np_event.specs.declared.entry.Entry.{Entry}
-use Rattle.np_useful.specs.Planned.{WasUseful}
-use Rattle.np_desk.specs.History.{StartsWith}
-use Rattle.np_desk.specs.Pass.{Sight}
+use Rattle.np_answers.specs.Prelude.{Answered, Records, Sight, StartsWith, Turned, Unturned, WasUseful, recorded}
 use Rattle.np_desk.specs.Series.{Asked, Walked, Heard, Took}
-use Rattle.np_desk.specs.Turned.{Answered, Records, Turned, Unturned}
 use Rattle.np_desk.proofs.HistoryLemmas.{starts_same, starts_on}
 use Rattle.np_answers.specs.declared.ask.Ask.{Ask}
 use Rattle.np_answers.specs.declared.ask.Ask.TheVariants as asks
 use Rattle.np_answers.specs.declared.ask.Turn.{Turn}
 use Rattle.np_answers.specs.declared.ask.Turn.TheVariants as turn
 use Rattle.np_answers.specs.Answers.{Also, answers, answers_also}
-use Rattle.np_answers.specs.Asks.{recorded}
 use Rattle.np_board.specs.PlanAnswers.{plan_answers, plan_recorded}
-use Rattle.np_board.specs.Planner.{Commits, Tried, launchers_before}
+use Rattle.np_board.specs.Planner.{launchers_before}
 use Rattle.np_board.specs.declared.planned.plan.PlanAsk.TheVariants as ask_of
 use Rattle.np_board.specs.declared.planned.plan.PlanTurn.{PlanTurn}
 use Rattle.np_board.specs.declared.planned.plan.PlanTurn.TheVariants as plan_turn
-use Rattle.np_board.specs.declared.planner.Try.{Try}
 use Rattle.np_board.specs.declared.planner.Try.TheVariants as tried
 
 -- ## turns after others
@@ -54,9 +44,6 @@ module _ {F E A T : Type 0} (says : F → List E → A → T → Type 0) (record
 
 pub unturned-same : {E : Type 0} (v : Sight E) → Unturned v v
 unturned-same v = (starts_same v.seen, refl)
-
-pub unturned-more : {E : Type 0} (v u w : Sight E) → Unturned v u → Unturned u w → Unturned v w
-unturned-more v u w h k = (starts_on w.seen u.seen v.seen k.0 h.0, k.1 ∙ h.1)
 
 -- ## answers of any board
 
@@ -130,18 +117,6 @@ module _ (c : Configuration) (v w : Sight Entry) where
   commit-again p (plan_turn.Stale spot change) other h = nothing-turned plan_answers plan_recorded c v w (ask_of.Commit p) (plan_turn.Stale spot change) refl h
   commit-again p plan_turn.Idle other h = nothing-turned plan_answers plan_recorded c v w (ask_of.Commit p) plan_turn.Idle refl h
   commit-again p plan_turn.Full other h = nothing-turned plan_answers plan_recorded c v w (ask_of.Commit p) plan_turn.Full refl h
-
--- tries after others
-pub commits-on : (p : PoolId) (c : Configuration) (v u w : Sight Entry) (r : Result (Option Entry) NoMemory) → Unturned v u → Commits p c u r w → Commits p c v r w
-commits-on p c v u w (Ok (Some e)) saw h = turned-on (answers_also launchers_before) recorded c v u w (asks.Act (role.Launcher p)) (Ok (turn.Did e)) saw h
-commits-on p c v u w (Ok None) saw h = unturned-more v u w saw h
-commits-on p c v u w (Err e) saw h = unturned-more v u w saw h
-
-pub tried-on : (p : PoolId) (c : Configuration) (v u w : Sight Entry) (r : Result Try NoMemory) → Unturned v u → Tried p c u r w → Tried p c v r w
-tried-on p c v u w (Ok (tried.Did e)) saw h = turned-on (answers_also launchers_before) recorded c v u w (asks.Act (role.Launcher p)) (Ok (turn.Did e)) saw h
-tried-on p c v u w (Ok tried.Again) saw h = unturned-more v u w saw h
-tried-on p c v u w (Ok tried.Idle) saw h = unturned-more v u w saw h
-tried-on p c v u w (Err e) saw h = unturned-more v u w saw h
 
 -- ## a series of turns
 

@@ -1,32 +1,16 @@
 -- what a turn leaves
 use Rattle.std.proofs.Common.{◌≡◌, ◌∙◌, ◌<◌, length, arith, ◌∷◌, [], ℕ, true, false, List, ◌++◌, Option, Some, None, Result, Ok, Err, IfOk, OnErr, refl, sym, ap, subst, append-nil}
 use Rattle.std.proofs.lemmas.Bool.Decides.{nat_tests}
-use Rattle.np_text.specs.declared.memory.NoMemory.{NoMemory}
-use Rattle.np_text.specs.declared.id.SessionId.{SessionId}
-use Rattle.np_text.specs.declared.id.PoolId.{PoolId}
-use Rattle.np_text.specs.declared.id.NodeId.{NodeId}
-use Rattle.np_text.specs.declared.id.Role.{Role}
-use Rattle.np_text.specs.declared.id.Role.TheVariants.{Janitor}
-use Rattle.np_site.specs.Configuration.{Configuration}
-use Rattle.np_event.specs.declared.event.Event.{Event}
+use Rattle.np_changes.specs.Prelude.{Configuration, Entry, Event, Janitor, NoMemory, NodeId, PoolId, Reply, Role, Runs, SessionId, State, after, is_swept, judge, reply_of}
 use Rattle.np_event.specs.declared.event.Event.TheVariants as ev
-use Rattle.np_event.specs.declared.entry.Entry.{Entry}
-use Rattle.np_event.specs.declared.reply.Reply.{Reply}
-use Rattle.np_machine.specs.State.{State}
-use Rattle.np_machine.specs.Step.{judge, reply_of}
-use Rattle.np_machine.specs.History.{after, Runs}
-use Rattle.np_machine.specs.Node.{is_swept}
 use Rattle.np_rules.specs.Ran.{Ran, answer_of, applied, has_room}
-use Rattle.np_desk.specs.Turned.{entries_of}
+use Rattle.np_answers.specs.Prelude.{IsUseful, entries_of, is_legal, recorded}
 use Rattle.np_useful.specs.Sessions.{is_current}
-use Rattle.np_useful.specs.Useful.{IsUseful}
 use Rattle.np_answers.specs.declared.ask.Ask.{Ask}
 use Rattle.np_answers.specs.declared.ask.Ask.TheVariants as asks
 use Rattle.np_answers.specs.declared.ask.Turn.{Turn}
 use Rattle.np_answers.specs.declared.ask.Turn.TheVariants as turn
 use Rattle.np_answers.specs.Answers.{IsKept, IsNotKept, answers, answers_act, answers_do, answers_due, answers_sweep}
-use Rattle.np_answers.specs.Asks.{recorded}
-use Rattle.np_answers.specs.Legal.{is_legal}
 use Rattle.np_board.specs.Taken.{IsTaken}
 use Rattle.np_answers.proofs.LegalLemmas.{legal-next}
 use Rattle.np_answers.proofs.Recorded.{turn-replied}

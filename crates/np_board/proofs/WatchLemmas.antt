@@ -1,12 +1,10 @@
 -- watches of all paths, set one after another
 use Rattle.std.proofs.Common.{◌≡◌, ◌∙◌, ◌<◌, ◌≤◌, ◌+◌, ℕ, zero, suc, Bool, true, false, not, List, [], ◌∷◌, ◌++◌, length, take, Some, refl, sym, ap, subst, arith}
 use Rattle.std.specs.Prelude.{nat_lt, ◌==◌, slice_get, if◌then◌else◌}
-use Rattle.std.specs.List.{list_any}
+use Rattle.np_layout.specs.Prelude.{TreeState, insert_before, list_any}
 use Rattle.std.proofs.lemmas.Bool.Decides.{nat_tests}
 use Rattle.std.proofs.lemmas.List.{take_more}
 use Rattle.std.proofs.lemmas.Option.{get_or_from_slice_get}
-use Rattle.np_lists.specs.Change.{insert_before}
-use Rattle.np_nodes.specs.TreeState.{TreeState}
 use Rattle.np_watch.specs.Watching.{has_key, is_watched, key_before, watch_of, with_watch}
 use Rattle.np_watch.specs.declared.watch.Watch.{Watch}
 use Rattle.np_board.specs.Outstanding.{watches_from, watches_of}

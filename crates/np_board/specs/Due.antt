@@ -1,12 +1,6 @@
 -- which nodes are due, as a test
 use Rattle.std.specs.Prelude.{Bool, false, ◌==◌, ◌&&◌}
-use Rattle.std.specs.Option.{option_map_or}
-use Rattle.np_text.specs.declared.id.SessionId.{SessionId}
-use Rattle.np_text.specs.declared.id.PoolId.{PoolId}
-use Rattle.np_text.specs.declared.id.NodeId.{NodeId}
-use Rattle.np_machine.specs.Kinds.{is_deleting}
-use Rattle.np_machine.specs.State.{State}
-use Rattle.np_machine.specs.Tables.{is_session_of, node_in, node_holder}
+use Rattle.np_changes.specs.Prelude.{NodeId, PoolId, SessionId, State, is_deleting, is_session_of, node_holder, node_in, option_map_or}
 
 -- the node is there, is of the pool and is being deleted, and the session holds it (own)
 abbrev pub is_due : PoolId → SessionId → NodeId → State → Bool

@@ -1,22 +1,10 @@
 -- plans that were made and not committed
 use Rattle.std.specs.Prelude.{◌≡◌, ◌≤◌, ℕ, suc, true, List, [], ◌∷◌, length, take, Option, Some, None, slice_get, is_ok}
-use Rattle.std.specs.List.{AllByRecursion}
-use Rattle.std.specs.Option.{is_some}
-use Rattle.np_text.specs.declared.id.PoolId.{PoolId}
-use Rattle.np_text.specs.declared.id.Role.TheVariants.{Launcher}
-use Rattle.np_lists.specs.Change.{change_at}
-use Rattle.np_nodes.specs.TreeState.{TreeState}
-use Rattle.np_views.specs.Dates.{IsLater}
+use Rattle.np_changes.specs.Prelude.{AllByRecursion, Configuration, Entry, Launcher, PoolId, Runs, State, change_at, is_some, judge}
+use Rattle.np_layout.specs.Prelude.{IsLater, IsStored, TreeState}
 use Rattle.np_watch.specs.Fresh.{AreFreshPaths}
 use Rattle.np_watch.specs.declared.watch.Watch.{Watch}
-use Rattle.np_site.specs.Configuration.{Configuration}
-use Rattle.np_event.specs.declared.entry.Entry.{Entry}
-use Rattle.np_machine.specs.History.{Runs}
-use Rattle.np_machine.specs.State.{State}
-use Rattle.np_machine.specs.Step.{judge}
-use Rattle.np_layout.specs.Carried.{IsStored}
-use Rattle.np_useful.specs.Planned.{is_planned}
-use Rattle.np_useful.specs.Useful.{IsUseful}
+use Rattle.np_answers.specs.Prelude.{IsUseful, is_planned}
 use Rattle.np_planned.specs.Spots.{paths_at, spots_of}
 use Rattle.np_rules.specs.Ran.{Ran}
 use Rattle.np_rules.specs.Running.{Running}

@@ -1,12 +1,7 @@
 -- which answers an ask may have at a board at which launchers plan, after a journal
 use Rattle.std.specs.Prelude.{List, Option, Some, None}
-use Rattle.np_text.specs.declared.id.PoolId.{PoolId}
-use Rattle.np_text.specs.declared.id.Role.TheVariants.{Launcher}
-use Rattle.np_site.specs.Configuration.{Configuration}
-use Rattle.np_event.specs.declared.entry.Entry.{Entry}
-use Rattle.np_useful.specs.Planned.{WasUseful}
-use Rattle.np_answers.specs.Answers.{IsFull, IsReplied, answers}
-use Rattle.np_answers.specs.Asks.{recorded}
+use Rattle.np_changes.specs.Prelude.{Configuration, Entry, Launcher, PoolId}
+use Rattle.np_answers.specs.Prelude.{IsFull, IsReplied, WasUseful, answers, recorded}
 use Rattle.np_answers.specs.declared.ask.Ask.{Ask}
 use Rattle.np_board.specs.declared.planned.plan.PlanAsk.{PlanAsk}
 use Rattle.np_board.specs.declared.planned.plan.PlanAsk.TheVariants as ask

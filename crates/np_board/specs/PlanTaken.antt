@@ -1,21 +1,14 @@
 -- what a turn at a board leaves at which launchers plan
 use Rattle.std.specs.Prelude.{◌≡◌, ◌<◌, ◌+◌, ℕ, true, ◌++◌, ◌∷◌, [], length, Some, None, find, slice_get}
-use Rattle.np_text.specs.declared.id.PoolId.{PoolId}
-use Rattle.np_text.specs.declared.id.Role.TheVariants.{Launcher}
-use Rattle.np_lists.specs.Change.{remove_first}
-use Rattle.np_views.specs.Dates.{IsLater}
+use Rattle.np_changes.specs.Prelude.{Done, Entry, Event, Launcher, PoolId, remove_first}
+use Rattle.np_tree.specs.Dates.{IsLater}
 use Rattle.np_watch.specs.Fresh.{AreFreshPaths}
 use Rattle.np_watch.specs.Watching.{is_fired}
 use Rattle.np_watch.specs.declared.watch.Watch.{Watch}
-use Rattle.np_event.specs.declared.event.Event.{Event}
-use Rattle.np_event.specs.declared.entry.Entry.{Entry}
-use Rattle.np_event.specs.declared.reply.Done.{Done}
 use Rattle.np_event.specs.declared.reply.Reply.TheVariants as reply
-use Rattle.np_useful.specs.Planned.{WasUseful, is_planned}
-use Rattle.np_useful.specs.Useful.{IsUseful}
+use Rattle.np_answers.specs.Prelude.{IsFull, IsReplied, IsUseful, WasUseful, is_planned}
 use Rattle.np_planned.specs.Stale.{IsFirstStale}
 use Rattle.np_planned.specs.declared.spot.Spot.{Spot}
-use Rattle.np_answers.specs.Answers.{IsFull, IsReplied}
 use Rattle.np_answers.specs.declared.ask.Ask.{Ask}
 use Rattle.np_answers.specs.declared.ask.Turn.{Turn}
 use Rattle.np_board.specs.Outstanding.{IsNewPlan, Outstanding, Planning, plan_of, ran_of, with_plan}

@@ -1,10 +1,9 @@
 -- what is tested of an outstanding plan
 use Rattle.std.specs.Prelude.{◌≡◌, ◌<◌, ℕ, Option, Some, None, length, find, option_and_then, slice_get}
-use Rattle.np_text.specs.declared.id.PoolId.{PoolId}
+use Rattle.np_changes.specs.Prelude.{Event, PoolId}
 use Rattle.np_nodes.specs.TreeState.{TreeState}
 use Rattle.np_watch.specs.Fresh.{AreFreshPaths}
 use Rattle.np_watch.specs.Watching.{is_fired}
-use Rattle.np_event.specs.declared.event.Event.{Event}
 use Rattle.np_planned.specs.Stale.{IsFirstStale}
 use Rattle.np_planned.specs.declared.spot.Spot.{Spot}
 use Rattle.np_board.specs.Outstanding.{Outstanding, Planning, plan_of}

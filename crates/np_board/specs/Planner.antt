@@ -1,15 +1,9 @@
 -- what a launcher's try to commit a plan does to a history
 use Rattle.std.specs.Prelude.{Option, Some, None, Result, Ok, Err}
-use Rattle.np_text.specs.declared.id.PoolId.{PoolId}
+use Rattle.np_changes.specs.Prelude.{Configuration, Entry, NoMemory, PoolId}
 use Rattle.np_text.specs.declared.id.Role.TheVariants as role
-use Rattle.np_text.specs.declared.memory.NoMemory.{NoMemory}
-use Rattle.np_site.specs.Configuration.{Configuration}
-use Rattle.np_event.specs.declared.entry.Entry.{Entry}
-use Rattle.np_useful.specs.Planned.{WasUseful}
-use Rattle.np_desk.specs.Pass.{Sight}
-use Rattle.np_desk.specs.Turned.{Answered, Unturned}
+use Rattle.np_answers.specs.Prelude.{Answered, Sight, Unturned, WasUseful, recorded}
 use Rattle.np_answers.specs.Answers.{Also, answers_also}
-use Rattle.np_answers.specs.Asks.{recorded}
 use Rattle.np_answers.specs.declared.ask.Ask.TheVariants as asks
 use Rattle.np_answers.specs.declared.ask.Turn.TheVariants as turn
 use Rattle.np_board.specs.declared.planner.Try.{Try}

@@ -1,9 +1,7 @@
 //! The board.
 
 ghost use Rattle.std.specs.Prelude.{◌≡◌, ◌↔◌, [], true, IfOk, OnErr, OnOk, length};
-ghost use Rattle.np_machine.specs.History.{Runs};
-ghost use Rattle.np_machine.specs.State.{start};
-ghost use Rattle.np_fits.specs.Fits.{IsFitSite};
+ghost use Rattle.np_changes.specs.Prelude.{IsFitSite, Runs, start};
 ghost use Rattle.np_layout.specs.Decoded.{decoded};
 ghost use Rattle.np_keeper.specs.Keeper.{IsHeld};
 ghost use Rattle.np_rules.specs.Ran.{answer_of, applied};

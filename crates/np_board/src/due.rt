@@ -1,9 +1,7 @@
 //! What the turns read of a state.
 
 ghost use Rattle.std.specs.Prelude.{◌≡◌, false, true, IfSome, None};
-ghost use Rattle.np_text.specs.declared.id.NodeId.{NodeId};
-ghost use Rattle.np_machine.specs.Tables.{is_session_of, node_holder, node_in};
-ghost use Rattle.np_machine.specs.Node.{is_server, is_swept, is_wanted};
+ghost use Rattle.np_changes.specs.Prelude.{NodeId, is_server, is_session_of, is_swept, is_wanted, node_holder, node_in};
 ghost use Rattle.np_board.specs.Due.{is_due};
 
 use np_look::{Look, Rows, node_holder};

@@ -2,11 +2,7 @@
 
 ghost use Rattle.std.specs.Prelude.{◌≡◌, Some};
 ghost use Rattle.np_text.specs.declared.id.Role.TheVariants.{Launcher};
-ghost use Rattle.np_useful.specs.Planned.{WasUseful};
-ghost use Rattle.np_desk.specs.Pass.{IsOf, sight_of};
-ghost use Rattle.np_desk.specs.Turned.{Turned, Unturned};
-ghost use Rattle.np_answers.specs.Answers.{answers, answers_also};
-ghost use Rattle.np_answers.specs.Asks.{recorded};
+ghost use Rattle.np_answers.specs.Prelude.{IsOf, Turned, Unturned, WasUseful, answers, answers_also, recorded, sight_of};
 ghost use Rattle.np_answers.specs.declared.ask.Ask.TheVariants as asks;
 ghost use Rattle.np_board.specs.Planner.{Commits, Tried, launchers_before};
 

@@ -6,7 +6,7 @@ ghost use Rattle.np_answers.specs.declared.ask.Ask.TheVariants as asks;
 ghost use Rattle.np_board.specs.Taken.{IsTaken};
 ghost use Rattle.np_rules.specs.Running.{ran_of};
 ghost use Rattle.np_useful.specs.Settled.{IsSettled};
-ghost use Rattle.np_views.specs.Dates.{IsLater};
+ghost use Rattle.np_tree.specs.Dates.{IsLater};
 
 use crate::due::{due_node, is_wanted, node, was_swept};
 use np_answers::{Ask, Turn};

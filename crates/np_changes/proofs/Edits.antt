@@ -1,26 +1,12 @@
 -- an edit of the request that is found
 use Rattle.std.proofs.Common.{◌≡◌, ◌∙◌, sym, ℕ, zero, suc, List, [], ◌∷◌, refl, ap, Option, Some, None, Bool, true, false}
 use Rattle.std.specs.Prelude.{◌++◌, ◌==◌, ◌||◌}
-use Rattle.std.specs.Option.{option_map}
-use Rattle.std.specs.List.{position}
+use Rattle.np_machine.specs.Prelude.{Declined, JobRecord, NodeId, PoolId, Reason, RequestEntry, RequestId, RequestRecord, change_at, change_first, is_declined_by, is_marked, new_job, option_map, position, put_request, request_entry, request_in, same_request, with_mark}
 use Rattle.std.proofs.lemmas.List.Quantifiers.{position-Some}
-use Rattle.np_text.specs.declared.id.NodeId.{NodeId}
-use Rattle.np_text.specs.declared.id.PoolId.{PoolId}
-use Rattle.np_text.specs.declared.word.Reason.{Reason}
-use Rattle.np_text.specs.declared.id.RequestId.{RequestId}
-use Rattle.np_record.specs.declared.record.RequestRecord.{RequestRecord}
-use Rattle.np_record.specs.declared.record.JobRecord.{JobRecord}
-use Rattle.np_record.specs.declared.record.Declined.{Declined}
-use Rattle.np_lists.specs.Change.{change_first, change_at}
 use Rattle.np_lists.proofs.ChangeLemmas.{change_first-same, change_first-absent, change_at-set}
 use Rattle.np_lists.proofs.PositionLemmas.{change_first-position, change_first-nowhere}
-use Rattle.np_machine.specs.Entries.{RequestEntry}
-use Rattle.np_machine.specs.State.{new_job}
-use Rattle.np_machine.specs.Tables.{same_request, request_entry, request_in, put_request, is_marked}
 use Rattle.np_machine.specs.declared.state.Registration.{Registration}
-use Rattle.np_machine.specs.Order.{is_declined_by}
 use Rattle.np_machine.specs.Request.{all_declined, declined_with}
-use Rattle.np_machine.specs.Node.{with_mark}
 use Rattle.np_changes.specs.declared.changes.RequestEdit.{RequestEdit}
 use Rattle.np_changes.specs.declared.changes.RequestsChange.TheVariants as requests
 use Rattle.np_changes.specs.Changes.{edited, requests_changed, jobs_changed}

@@ -2,20 +2,8 @@
 use Rattle.std.proofs.Common.{◌≡◌, refl, sym, ap, inl, inr, Option, Some, None, Ok}
 use Rattle.std.specs.Prelude.{◌==◌, ◌||◌, map, slice_get}
 use Rattle.std.proofs.lemmas.Bool.{eqb-true}
-use Rattle.np_text.specs.declared.id.SessionId.{SessionId}
-use Rattle.np_text.specs.declared.id.JobId.{JobId}
-use Rattle.np_text.specs.declared.id.RequestId.{RequestId}
-use Rattle.np_text.specs.declared.id.RequesterId.{RequesterId}
-use Rattle.np_text.specs.declared.id.Role.TheVariants.{Requester}
+use Rattle.np_machine.specs.Prelude.{Configuration, Done, JobId, JobRecord, RequestId, RequestRecord, Requester, RequesterId, SessionId, State, is_asked, is_fulfilled, is_new, is_over, maker, missing_handles, request_in, requester}
 use Rattle.np_text.specs.declared.word.Phase.TheVariants as phase
-use Rattle.np_site.specs.Configuration.{Configuration}
-use Rattle.np_record.specs.declared.record.RequestRecord.{RequestRecord}
-use Rattle.np_record.specs.declared.record.JobRecord.{JobRecord}
-use Rattle.np_event.specs.declared.reply.Done.{Done}
-use Rattle.np_machine.specs.State.{State}
-use Rattle.np_machine.specs.Kinds.{is_new, is_asked, is_fulfilled, is_over}
-use Rattle.np_machine.specs.Tables.{request_in}
-use Rattle.np_machine.specs.Tests.{maker, requester, missing_handles}
 use Rattle.np_machine.specs.Semaphore.{first_full, judge_acquire, unheld, unended, may_take, judge_take, is_finishable, may_finish, requester_or_janitor, judge_finish, judge_withdraw, may_release, judge_release}
 use Rattle.np_changes.specs.declared.changes.Changes.{Changes}
 use Rattle.np_changes.specs.declared.changes.RequestsChange.TheVariants as requests

@@ -8,3 +8,14 @@ pub mod RequestPremises
 pub mod NodePremises
 pub mod JobPremises
 pub mod PremisesOf
+pub mod Passed
+pub mod Shape
+pub mod Settings
+pub mod Shaping
+pub mod Shapes
+pub mod ShapeRuns
+pub mod FitsRuns
+pub mod Sites
+pub mod Offered
+pub mod RunSteps
+pub mod Facts

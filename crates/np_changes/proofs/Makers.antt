@@ -2,16 +2,8 @@
 use Rattle.std.proofs.Common.{◌≡◌, true, refl, ap, arith, Option, Some, None, Result, Ok, Err}
 use Rattle.std.specs.Prelude.{is_ok}
 use Rattle.std.proofs.lemmas.Bool.Decides.{nat_tests}
-use Rattle.np_text.specs.declared.id.SessionId.{SessionId}
-use Rattle.np_text.specs.declared.id.PoolId.{PoolId}
-use Rattle.np_text.specs.declared.id.RequesterId.{RequesterId}
-use Rattle.np_text.specs.declared.id.Role.{Role}
-use Rattle.np_text.specs.declared.id.Role.TheVariants.{Launcher, Janitor, Requester, Reaper}
-use Rattle.np_event.specs.declared.reply.Refusal.{Refusal}
-use Rattle.np_lists.specs.Refusals.{◌>>=◌}
-use Rattle.np_machine.specs.State.{State}
+use Rattle.np_machine.specs.Prelude.{Janitor, Launcher, PoolId, Reaper, Refusal, Requester, RequesterId, Role, SessionId, State, role_of, session_of, ◌>>=◌}
 use Rattle.np_machine.specs.declared.state.SessionFacts.{SessionFacts}
-use Rattle.np_machine.specs.Tables.{role_of, session_of}
 use Rattle.np_machine.specs.Tests.{maker, launcher, janitor, requester, as_launcher, as_janitor, as_requester}
 
 -- an accepted row found what it looked for first

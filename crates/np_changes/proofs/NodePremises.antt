@@ -1,29 +1,8 @@
 -- the premises of the events on nodes
 use Rattle.std.proofs.Common.{◌≡◌, refl, inl, inr, ℕ, ◌+◌, Bool, true, false, Option, Some, None, Ok}
 use Rattle.std.specs.Prelude.{◌==◌, ◌&&◌, not, is_none, is_some, if◌then◌else◌}
-use Rattle.np_text.specs.declared.id.SessionId.{SessionId}
-use Rattle.np_text.specs.declared.id.PoolId.{PoolId}
-use Rattle.np_text.specs.declared.id.LabelId.{LabelId}
-use Rattle.np_text.specs.declared.id.JobId.{JobId}
-use Rattle.np_text.specs.declared.id.NodeId.{NodeId}
-use Rattle.np_text.specs.declared.id.RequestId.{RequestId}
-use Rattle.np_text.specs.declared.id.Role.TheVariants.{Launcher, Janitor, Requester}
-use Rattle.np_text.specs.declared.word.EndAs.{EndAs}
-use Rattle.np_text.specs.declared.word.NodeState.{NodeState}
+use Rattle.np_machine.specs.Prelude.{Configuration, Done, EndAs, Janitor, JobId, LabelId, Launcher, NodeId, NodeRecord, NodeState, Outcome, PoolId, RequestId, RequestRecord, Requester, SessionId, State, is_building, is_deleting, is_in_use, is_pending_by, is_queued, is_ready, is_session_of, is_short, janitor, launcher, maker, next_label, node_holder, node_in, node_queue, registered, request_holder, request_in, requester, tenant_of_request}
 use Rattle.np_text.specs.declared.word.NodeState.TheVariants as node_state
-use Rattle.np_site.specs.Configuration.{Configuration}
-use Rattle.np_record.specs.declared.record.RequestRecord.{RequestRecord}
-use Rattle.np_record.specs.declared.record.NodeRecord.{NodeRecord}
-use Rattle.np_event.specs.declared.reply.Done.{Done}
-use Rattle.np_event.specs.declared.event.Outcome.{Outcome}
-use Rattle.np_machine.specs.State.{State}
-use Rattle.np_machine.specs.Kinds.{is_building, is_ready, is_in_use, is_deleting}
-use Rattle.np_machine.specs.Tables.{is_session_of, is_queued, registered, request_in, request_holder, node_in, node_queue, node_holder}
-use Rattle.np_machine.specs.Count.{is_short}
-use Rattle.np_machine.specs.Order.{is_pending_by}
-use Rattle.np_machine.specs.Tenants.{tenant_of_request}
-use Rattle.np_machine.specs.Reasons.{next_label}
-use Rattle.np_machine.specs.Tests.{launcher, janitor, requester, maker}
 use Rattle.np_machine.specs.Node.{judge_take_ready, judge_create, starts_of, judge_start, judge_done, judge_lock_node, judge_unlock_node, judge_end_node, may_delete, judge_mark_deleting, judge_gone, standing, judge_free_node, is_wanted, judge_sweep}
 use Rattle.np_changes.specs.declared.changes.Changes.{Changes}
 use Rattle.np_changes.specs.declared.changes.Growth.TheVariants as grow

@@ -1,37 +1,13 @@
 -- the planned changes of an accepted event are its effect and one act of its maker
 use Rattle.std.proofs.Common.{◌≡◌, ◌∙◌, sym, ℕ, List, refl, ap, Option, Some, None, Result, Ok, Err, Bool, true, false}
 use Rattle.std.specs.Prelude.{is_ok, is_some, slice_get, if◌then◌else◌, ◌||◌}
-use Rattle.np_text.specs.declared.id.SessionId.{SessionId}
-use Rattle.np_text.specs.declared.id.PoolId.{PoolId}
-use Rattle.np_text.specs.declared.id.LabelId.{LabelId}
-use Rattle.np_text.specs.declared.id.JobId.{JobId}
-use Rattle.np_text.specs.declared.id.NodeId.{NodeId}
-use Rattle.np_text.specs.declared.id.RequestId.{RequestId}
-use Rattle.np_text.specs.declared.id.Role.{Role}
-use Rattle.np_text.specs.declared.id.Role.TheVariants.{Launcher, Janitor, Requester}
-use Rattle.np_text.specs.declared.word.Reason.{Reason}
-use Rattle.np_text.specs.declared.word.EndAs.{EndAs}
-use Rattle.np_site.specs.Configuration.{Configuration}
-use Rattle.np_site.specs.declared.row.Job.{Job}
-use Rattle.np_record.specs.declared.record.RequestRecord.{RequestRecord}
-use Rattle.np_record.specs.declared.record.NodeRecord.{NodeRecord}
-use Rattle.np_record.specs.declared.record.JobRecord.{JobRecord}
-use Rattle.np_record.specs.declared.record.RoleRecord.{RoleRecord}
-use Rattle.np_event.specs.declared.event.Event.{Event}
+use Rattle.np_machine.specs.Prelude.{Configuration, EndAs, Event, Janitor, Job, JobId, JobRecord, LabelId, Launcher, NodeId, NodeRecord, Outcome, PoolId, Reason, Refusal, RequestEntry, RequestId, RequestRecord, Requester, Role, RoleRecord, SessionId, State, acting, after_found, all_freed, effect, janitor, judge, launcher, maker, next, next_label, node_at, node_in, one_more_act, own_job, put_request, request_in, requester, role_of, session_of, with_act}
 use Rattle.np_event.specs.declared.event.Event.TheVariants as ev
-use Rattle.np_event.specs.declared.event.Outcome.{Outcome}
-use Rattle.np_event.specs.declared.reply.Refusal.{Refusal}
-use Rattle.np_machine.specs.Entries.{RequestEntry}
 use Rattle.np_machine.specs.declared.state.SessionFacts.{SessionFacts}
-use Rattle.np_machine.specs.State.{State}
-use Rattle.np_machine.specs.Tables.{role_of, session_of, request_in, node_in, put_request, all_freed}
-use Rattle.np_machine.specs.Tests.{maker, launcher, janitor, requester, node_at, own_job, after_found}
-use Rattle.np_machine.specs.Reasons.{next_label}
 use Rattle.np_machine.specs.Request.{judge_register, effect_register, judge_submit, submit_for, submitted, effect_submit, judge_revise, request_of_job, revised, revise_request, effect_revise, judge_min_ready, effect_min_ready, judge_lock_request, effect_lock_request, judge_unlock_request, effect_unlock_request, judge_accept, accepted, effect_accept, judge_decline, declined, effect_decline, judge_fulfil, fulfilled, effect_fulfil, judge_reset, given_back, effect_reset, judge_fail_declined, failed, effect_fail_declined}
 use Rattle.np_machine.specs.Node.{judge_take_ready, took_ready, effect_take_ready, judge_create, create_for, created, effect_create, judge_start, started, effect_start, one_more_start, judge_done, reported, effect_done, judge_lock_node, effect_lock_node, judge_unlock_node, effect_unlock_node, judge_end_node, node_ended, effect_end_node, judge_mark_deleting, given_up, effect_mark_deleting, judge_gone, effect_gone, judge_free_node, node_freed, effect_free_node, judge_sweep, is_wanted, effect_sweep}
 use Rattle.np_machine.specs.Semaphore.{judge_acquire, effect_acquire, judge_take, take_for, take_from, taken, effect_take, judge_finish, finished, effect_finish, judge_withdraw, withdrawn, effect_withdraw, judge_release, effect_release}
 use Rattle.np_machine.specs.Session.{effect_crash, effect_expire}
-use Rattle.np_machine.specs.Step.{judge, effect, acting, with_act, next, one_more_act}
 use Rattle.np_changes.specs.declared.changes.Changes.{Changes}
 use Rattle.np_changes.specs.declared.changes.Growth.TheVariants as grow
 use Rattle.np_changes.specs.declared.changes.RequestsChange.TheVariants as requests

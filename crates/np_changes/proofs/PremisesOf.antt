@@ -1,12 +1,8 @@
 -- the premises of the planned changes of every accepted event
 use Rattle.std.proofs.Common.{◌≡◌, true, Ok}
 use Rattle.std.specs.Prelude.{is_ok}
-use Rattle.np_site.specs.Configuration.{Configuration}
-use Rattle.np_event.specs.declared.event.Event.{Event}
+use Rattle.np_machine.specs.Prelude.{Configuration, Done, Event, State, judge}
 use Rattle.np_event.specs.declared.event.Event.TheVariants as ev
-use Rattle.np_event.specs.declared.reply.Done.{Done}
-use Rattle.np_machine.specs.State.{State}
-use Rattle.np_machine.specs.Step.{judge}
 use Rattle.np_changes.specs.Plan.{plan}
 use Rattle.np_changes.specs.Premises.{Premises}
 use Rattle.np_changes.proofs.Tested.{ok-is}

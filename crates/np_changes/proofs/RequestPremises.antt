@@ -1,35 +1,11 @@
 -- the premises of the events on sessions and requests
 use Rattle.std.proofs.Common.{◌≡◌, refl, inl, inr, ℕ, Bool, true, false, Option, Some, None, Ok, length}
 use Rattle.std.specs.Prelude.{◌==◌, ◌||◌, is_some, nat_lt, slice_get}
-use Rattle.std.specs.List.{list_any}
+use Rattle.np_machine.specs.Prelude.{Configuration, Done, Janitor, Job, JobId, JobRecord, LabelId, Launcher, PoolId, Reaper, Reason, RequestId, RequestRecord, Requester, Role, SessionId, State, blocking, first_unoffered, in_state_for, is_asked, is_declined_by, is_new, is_offered, is_pending, is_pending_by, is_pinned_away, is_requested, is_role, is_session_of, is_short, is_spent_min_ready, is_true, janitor, judge_accept, judge_decline, judge_expire, judge_fail_declined, judge_fulfil, judge_lock_request, judge_min_ready, judge_open, judge_register, judge_reset, judge_revise, judge_submit, judge_unlock_request, launcher, list_any, lock_request_as, maker, never_fits, next_id, ready_count, registered, request_holder, request_in, request_of_job, requester, session_of, tenant_never_fits, undeclined, unfilled, unlock_request_as}
 use Rattle.std.proofs.lemmas.Bool.{eqb-true}
-use Rattle.np_text.specs.declared.id.SessionId.{SessionId}
-use Rattle.np_text.specs.declared.id.PoolId.{PoolId}
-use Rattle.np_text.specs.declared.id.LabelId.{LabelId}
-use Rattle.np_text.specs.declared.id.JobId.{JobId}
-use Rattle.np_text.specs.declared.id.RequestId.{RequestId}
-use Rattle.np_text.specs.declared.id.Role.{Role}
-use Rattle.np_text.specs.declared.id.Role.TheVariants.{Launcher, Janitor, Requester, Reaper}
-use Rattle.np_text.specs.declared.word.Reason.{Reason}
 use Rattle.np_text.specs.declared.word.Reason.TheVariants as reason
 use Rattle.np_text.specs.declared.word.Phase.TheVariants as phase
-use Rattle.np_site.specs.Configuration.{Configuration}
-use Rattle.np_site.specs.declared.row.Job.{Job}
-use Rattle.np_record.specs.declared.record.RequestRecord.{RequestRecord}
-use Rattle.np_record.specs.declared.record.JobRecord.{JobRecord}
-use Rattle.np_event.specs.declared.reply.Done.{Done}
 use Rattle.np_machine.specs.declared.state.SessionFacts.{SessionFacts}
-use Rattle.np_machine.specs.State.{State}
-use Rattle.np_machine.specs.Kinds.{is_requested, is_pending, is_new, is_asked}
-use Rattle.np_machine.specs.Tables.{session_of, is_session_of, registered, request_in, request_holder}
-use Rattle.np_machine.specs.Count.{is_offered, is_short}
-use Rattle.np_machine.specs.Order.{is_pinned_away, is_declined_by, is_pending_by}
-use Rattle.np_machine.specs.Tenants.{tenant_never_fits}
-use Rattle.np_machine.specs.Reasons.{first_unoffered, never_fits, is_true}
-use Rattle.np_machine.specs.First.{blocking}
-use Rattle.np_machine.specs.Tests.{launcher, janitor, requester, maker}
-use Rattle.np_machine.specs.Request.{next_id, judge_register, judge_submit, judge_revise, request_of_job, is_spent_min_ready, ready_count, judge_min_ready, lock_request_as, judge_lock_request, unlock_request_as, judge_unlock_request, judge_accept, in_state_for, judge_decline, unfilled, judge_fulfil, judge_reset, undeclined, judge_fail_declined}
-use Rattle.np_machine.specs.Session.{is_role, judge_open, judge_expire}
 use Rattle.np_changes.specs.declared.changes.Changes.{Changes}
 use Rattle.np_changes.specs.declared.changes.RequestsChange.TheVariants as requests
 use Rattle.np_changes.specs.declared.changes.JobsChange.TheVariants as jobs

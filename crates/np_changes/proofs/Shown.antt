@@ -1,22 +1,7 @@
 -- what the plan of an accepted event looks up, and what is known of its maker
 use Rattle.std.proofs.Common.{◌≡◌, refl, true, Option, Some, Result, Ok, Err}
 use Rattle.std.specs.Prelude.{◌==◌, slice_get}
-use Rattle.np_text.specs.declared.id.SessionId.{SessionId}
-use Rattle.np_text.specs.declared.id.PoolId.{PoolId}
-use Rattle.np_text.specs.declared.id.JobId.{JobId}
-use Rattle.np_text.specs.declared.id.RequestId.{RequestId}
-use Rattle.np_text.specs.declared.id.RequesterId.{RequesterId}
-use Rattle.np_text.specs.declared.id.Role.{Role}
-use Rattle.np_text.specs.declared.id.Role.TheVariants.{Launcher, Janitor, Requester}
-use Rattle.np_site.specs.Configuration.{Configuration}
-use Rattle.np_site.specs.declared.row.Job.{Job}
-use Rattle.np_record.specs.declared.record.RequestRecord.{RequestRecord}
-use Rattle.np_record.specs.declared.record.JobRecord.{JobRecord}
-use Rattle.np_event.specs.declared.reply.Refusal.{Refusal}
-use Rattle.np_lists.specs.Refusals.{◌>>=◌}
-use Rattle.np_machine.specs.State.{State}
-use Rattle.np_machine.specs.Tables.{session_of, is_session_of, registered, request_in, request_holder}
-use Rattle.np_machine.specs.Tests.{maker, launcher, janitor, requester, own_job}
+use Rattle.np_machine.specs.Prelude.{Configuration, Janitor, Job, JobId, JobRecord, Launcher, PoolId, Refusal, RequestId, RequestRecord, Requester, RequesterId, Role, SessionId, State, is_session_of, janitor, launcher, maker, own_job, registered, request_holder, request_in, requester, session_of, ◌>>=◌}
 use Rattle.np_changes.specs.declared.changes.Changes.{Changes}
 use Rattle.np_changes.specs.Plan.{made_by, with_found, with_given}
 use Rattle.np_changes.specs.Premises.{IsHeard, IsWorkedOn, Premises}

@@ -1,8 +1,7 @@
 -- what a row of tests that passed has shown, test by test
 use Rattle.std.proofs.Common.{◌≡◌, refl, Bool, true, false, Option, Some, None, Result, Ok, Err}
 use Rattle.std.specs.Prelude.{is_ok, not, ◌&&◌}
-use Rattle.np_event.specs.declared.reply.Refusal.{Refusal}
-use Rattle.np_lists.specs.Refusals.{◌>>=◌, ◌>>◌, need, found, vacant}
+use Rattle.np_machine.specs.Prelude.{Refusal, found, need, vacant, ◌>>=◌, ◌>>◌}
 
 pub ok-is : {A E : Type 0} (o : Result A E) → is_ok o ≡ true → (a : A) × (o ≡ Ok a)
 ok-is (Ok a) is = (a, refl)

@@ -1,27 +1,9 @@
 -- what a change does to the state: a line for each way of changing
 use Rattle.std.specs.Prelude.{ℕ, ◌+◌, List, [], ◌∷◌, ◌++◌, true, false, ◌==◌, not, if◌then◌else◌, Option, Some, None, filter, map, slice_get}
-use Rattle.std.specs.Option.{option_map_or}
-use Rattle.np_text.specs.declared.id.SessionId.{SessionId}
-use Rattle.np_text.specs.declared.id.JobId.{JobId}
-use Rattle.np_text.specs.declared.id.SemId.{SemId}
-use Rattle.np_text.specs.declared.id.Role.{Role}
-use Rattle.np_text.specs.declared.id.Role.TheVariants.{Launcher}
+use Rattle.np_machine.specs.Prelude.{Configuration, JobId, JobRecord, Launcher, NodeEntry, RequestEntry, RequestRecord, Role, RoleRecord, SemId, SessionId, State, all_freed, all_in_use, all_with_handle, all_without_handle, allocated, change_at, change_first, change_janitor, change_launcher, change_requester, change_session, declined_with, ended, insert_request, is_session, joined, left, muted, next_id, node_left, node_queue, one_more_act, one_more_start, option_map_or, put_job, put_node, put_node_queue, put_request_queue, registers, remove_node, remove_request, request_left, request_queue, same_request, struck_unless, with_mark, with_node, with_pair}
 use Rattle.np_text.specs.declared.word.RequestState.TheVariants as request_state
-use Rattle.np_record.specs.declared.record.RequestRecord.{RequestRecord}
-use Rattle.np_record.specs.declared.record.JobRecord.{JobRecord}
-use Rattle.np_record.specs.declared.record.RoleRecord.{RoleRecord}
-use Rattle.np_site.specs.Configuration.{Configuration}
-use Rattle.np_lists.specs.Change.{change_first, change_at}
-use Rattle.np_machine.specs.Entries.{RequestEntry, NodeEntry}
 use Rattle.np_machine.specs.declared.state.SessionFacts.{SessionFacts}
 use Rattle.np_machine.specs.declared.state.Registration.{Registration}
-use Rattle.np_machine.specs.State.{State}
-use Rattle.np_machine.specs.Tables.{change_session, is_session, joined, left, same_request, request_queue, put_request_queue, remove_request, node_queue, put_node, put_node_queue, remove_node, all_freed, put_job, change_launcher, change_janitor, change_requester}
-use Rattle.np_machine.specs.Request.{insert_request, registers, next_id, declined_with}
-use Rattle.np_machine.specs.Node.{with_node, allocated, one_more_start, with_mark, with_pair}
-use Rattle.np_machine.specs.Semaphore.{all_in_use, all_with_handle, all_without_handle}
-use Rattle.np_machine.specs.Session.{muted, ended, struck_unless, request_left, node_left}
-use Rattle.np_machine.specs.Step.{one_more_act}
 use Rattle.np_changes.specs.Asked.{new_record}
 use Rattle.np_changes.specs.declared.changes.Maker.{Maker}
 use Rattle.np_changes.specs.declared.changes.Changes.{Changes}

@@ -4,3 +4,5 @@ pub mod Changes
 pub mod Plan
 pub mod Planned
 pub mod Premises
+pub mod Fits
+pub mod Prelude

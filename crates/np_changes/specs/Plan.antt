@@ -1,37 +1,11 @@
 -- what each accepted event changes, as data
 use Rattle.std.specs.Prelude.{ℕ, [], ◌∷◌, ◌+◌, Bool, true, false, ◌||◌, if◌then◌else◌, Option, Some, None, Result, Ok, Err, is_some, map, slice_get}
-use Rattle.np_text.specs.declared.id.SessionId.{SessionId}
-use Rattle.np_text.specs.declared.id.PoolId.{PoolId}
-use Rattle.np_text.specs.declared.id.LabelId.{LabelId}
-use Rattle.np_text.specs.declared.id.JobId.{JobId}
-use Rattle.np_text.specs.declared.id.NodeId.{NodeId}
-use Rattle.np_text.specs.declared.id.RequestId.{RequestId}
-use Rattle.np_text.specs.declared.id.Role.{Role}
-use Rattle.np_text.specs.declared.id.Role.TheVariants.{Launcher, Janitor, Requester}
-use Rattle.np_text.specs.declared.word.Reason.{Reason}
-use Rattle.np_text.specs.declared.word.EndAs.{EndAs}
+use Rattle.np_machine.specs.Prelude.{Configuration, EndAs, Event, Janitor, Job, JobId, JobRecord, LabelId, Launcher, NodeId, NodeRecord, Outcome, PoolId, Reason, Refusal, RequestId, RequestRecord, Requester, Role, SessionId, State, ended_as, ending_of, freed, is_wanted, janitor, launched, launcher, maker, next_id, next_label, node_in, request_in, request_of_job, requester, retries_of, session_of, starts_of, tenant_of_request, unended}
 use Rattle.np_text.specs.declared.word.Ending.TheVariants as ending
 use Rattle.np_text.specs.declared.word.RequestState.TheVariants as request_state
 use Rattle.np_text.specs.declared.word.NodeState.TheVariants as node_state
 use Rattle.np_text.specs.declared.word.Phase.TheVariants as phase
-use Rattle.np_site.specs.Configuration.{Configuration}
-use Rattle.np_site.specs.declared.row.Job.{Job}
-use Rattle.np_record.specs.declared.record.RequestRecord.{RequestRecord}
-use Rattle.np_record.specs.declared.record.NodeRecord.{NodeRecord}
-use Rattle.np_record.specs.declared.record.JobRecord.{JobRecord}
-use Rattle.np_event.specs.declared.reply.Refusal.{Refusal}
-use Rattle.np_event.specs.declared.event.Event.{Event}
 use Rattle.np_event.specs.declared.event.Event.TheVariants as ev
-use Rattle.np_event.specs.declared.event.Outcome.{Outcome}
-use Rattle.np_machine.specs.State.{State}
-use Rattle.np_machine.specs.Tables.{request_in, node_in, session_of, freed}
-use Rattle.np_machine.specs.Tests.{maker, launcher, janitor, requester}
-use Rattle.np_machine.specs.Count.{retries_of}
-use Rattle.np_machine.specs.Reasons.{next_label}
-use Rattle.np_machine.specs.Tenants.{tenant_of_request}
-use Rattle.np_machine.specs.Request.{next_id, request_of_job}
-use Rattle.np_machine.specs.Node.{starts_of, launched, ended_as, is_wanted}
-use Rattle.np_machine.specs.Semaphore.{unended, ending_of}
 use Rattle.np_changes.specs.Readers.{is_last_pool, owner_of}
 use Rattle.np_changes.specs.declared.asked.Asked.{Asked}
 use Rattle.np_changes.specs.declared.changes.Changes.{Changes}

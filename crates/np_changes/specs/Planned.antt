@@ -1,11 +1,6 @@
 -- which changes a keeper of a state is given
 use Rattle.std.specs.Prelude.{◌≡◌, List, true, is_ok}
-use Rattle.np_site.specs.Configuration.{Configuration}
-use Rattle.np_event.specs.declared.entry.Entry.{Entry}
-use Rattle.np_event.specs.declared.event.Event.{Event}
-use Rattle.np_machine.specs.State.{State}
-use Rattle.np_machine.specs.Step.{judge}
-use Rattle.np_machine.specs.History.{Runs}
+use Rattle.np_machine.specs.Prelude.{Configuration, Entry, Event, Runs, State, judge}
 use Rattle.np_changes.specs.Plan.{plan}
 use Rattle.np_changes.specs.declared.changes.Changes.{Changes}
 

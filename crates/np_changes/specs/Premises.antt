@@ -1,38 +1,10 @@
 -- what the tests of an accepted event have shown of each change that it makes: a line for each way of changing
 use Rattle.std.specs.Prelude.{◌≡◌, ◌⊎◌, ℕ, ◌+◌, Bool, true, false, ◌==◌, ◌&&◌, ◌||◌, not, Option, Some, None, is_some, length, map, slice_get}
-use Rattle.np_text.specs.declared.id.SessionId.{SessionId}
-use Rattle.np_text.specs.declared.id.PoolId.{PoolId}
-use Rattle.np_text.specs.declared.id.LabelId.{LabelId}
-use Rattle.np_text.specs.declared.id.JobId.{JobId}
-use Rattle.np_text.specs.declared.id.NodeId.{NodeId}
-use Rattle.np_text.specs.declared.id.RequestId.{RequestId}
-use Rattle.np_text.specs.declared.id.Role.{Role}
-use Rattle.np_text.specs.declared.id.Role.TheVariants.{Launcher}
-use Rattle.np_text.specs.declared.word.Reason.{Reason}
-use Rattle.np_text.specs.declared.word.EndAs.{EndAs}
+use Rattle.np_machine.specs.Prelude.{Configuration, EndAs, Job, JobId, JobRecord, LabelId, Launcher, NodeId, NodeRecord, Outcome, PoolId, Reason, RequestId, RequestRecord, Role, SessionId, State, blocking, ended_as, ending_of, first_full, first_unoffered, freed, is_asked, is_building, is_declined_by, is_deleting, is_finishable, is_fulfilled, is_in_use, is_new, is_offered, is_over, is_pending, is_pending_by, is_queued, is_ready, is_requested, is_role, is_session_of, is_short, is_true, launched, missing_handles, never_fits, next_id, next_label, node_holder, node_in, node_queue, registered, request_holder, request_in, retries_of, session_of, standing, tenant_never_fits, tenant_of_request, undeclined, unended, unfilled, unheld}
 use Rattle.np_text.specs.declared.word.Ending.TheVariants as ending
 use Rattle.np_text.specs.declared.word.NodeState.TheVariants as node_state
 use Rattle.np_text.specs.declared.word.Phase.TheVariants as phase
-use Rattle.np_site.specs.Configuration.{Configuration}
-use Rattle.np_site.specs.declared.row.Job.{Job}
-use Rattle.np_record.specs.declared.record.RequestRecord.{RequestRecord}
-use Rattle.np_record.specs.declared.record.NodeRecord.{NodeRecord}
-use Rattle.np_record.specs.declared.record.JobRecord.{JobRecord}
-use Rattle.np_event.specs.declared.event.Outcome.{Outcome}
 use Rattle.np_machine.specs.declared.state.SessionFacts.{SessionFacts}
-use Rattle.np_machine.specs.State.{State}
-use Rattle.np_machine.specs.Kinds.{is_requested, is_pending, is_fulfilled, is_building, is_ready, is_in_use, is_deleting, is_new, is_asked, is_over}
-use Rattle.np_machine.specs.Tables.{session_of, is_session_of, is_queued, registered, request_in, request_holder, node_in, node_queue, node_holder, freed}
-use Rattle.np_machine.specs.Count.{is_offered, is_short, retries_of}
-use Rattle.np_machine.specs.Order.{is_declined_by, is_pending_by}
-use Rattle.np_machine.specs.Tenants.{tenant_of_request, tenant_never_fits}
-use Rattle.np_machine.specs.Reasons.{next_label, first_unoffered, never_fits, is_true}
-use Rattle.np_machine.specs.First.{blocking}
-use Rattle.np_machine.specs.Tests.{missing_handles}
-use Rattle.np_machine.specs.Request.{next_id, unfilled, undeclined}
-use Rattle.np_machine.specs.Node.{launched, ended_as, standing}
-use Rattle.np_machine.specs.Semaphore.{first_full, unheld, unended, is_finishable, ending_of}
-use Rattle.np_machine.specs.Session.{is_role}
 use Rattle.np_changes.specs.Readers.{owner_of, is_last_pool}
 use Rattle.np_changes.specs.Plan.{asked_for, asked_to_keep, new_node, request_after_withdraw}
 use Rattle.np_changes.specs.declared.asked.Asked.{Asked}

@@ -1,15 +1,7 @@
 -- what a plan reads of a state beyond the machine's own words
 use Rattle.std.specs.Prelude.{List, Bool, ◌==◌, ◌||◌, Option}
-use Rattle.std.specs.Option.{option_map}
-use Rattle.std.specs.List.{list_all, position}
-use Rattle.np_text.specs.declared.id.PoolId.{PoolId}
-use Rattle.np_text.specs.declared.id.JobId.{JobId}
-use Rattle.np_text.specs.declared.id.NodeId.{NodeId}
-use Rattle.np_record.specs.declared.record.RequestRecord.{RequestRecord}
-use Rattle.np_record.specs.declared.record.JobRecord.{JobRecord}
+use Rattle.np_machine.specs.Prelude.{JobId, JobRecord, NodeId, PoolId, RequestRecord, is_declined_by, is_marked, list_all, option_map, position}
 use Rattle.np_machine.specs.declared.state.Registration.{Registration}
-use Rattle.np_machine.specs.Tables.{is_marked}
-use Rattle.np_machine.specs.Order.{is_declined_by}
 
 -- every registered pool has declined the request, or is this one
 abbrev pub is_last_pool : List Registration → RequestRecord → PoolId → Bool

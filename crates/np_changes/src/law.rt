@@ -1,10 +1,7 @@
 //! That the changes are what the machine does, and what its tests have shown of them.
 
 ghost use Rattle.std.specs.Prelude.{◌≡◌, is_ok, true};
-ghost use Rattle.np_site.specs.Configuration.{Configuration};
-ghost use Rattle.np_event.specs.declared.event.Event.{Event};
-ghost use Rattle.np_machine.specs.State.{State};
-ghost use Rattle.np_machine.specs.Step.{judge, next};
+ghost use Rattle.np_machine.specs.Prelude.{Configuration, Event, State, judge, next};
 ghost use Rattle.np_changes.specs.Changes.{changed};
 ghost use Rattle.np_changes.specs.Plan.{plan};
 ghost use Rattle.np_changes.specs.Premises.{Premises};

@@ -5,11 +5,18 @@
 //! `law` says that both together are the machine's step. `specs/Premises` says what the tests of an
 //! accepted event have shown of each change, which is the other law. `specs/Planned` says which changes
 //! a keeper of a state is given.
+//!
+//! The numbers of every state that a run leads to fit.
+//!
+//! `specs/Fits` says when a state fits: its numbers leave room for one more event, and its rows for
+//! one more member (`Fits`); and what a configuration must be for that (`IsFitSite`). The laws in
+//! `law` say that every state of a run fits, and that a sound configuration is such a site.
 #![tactic(auto)]
 
 mod asked;
 mod changes;
 mod law;
+mod numbers;
 
 pub use asked::Asked;
 pub use changes::{
@@ -19,3 +26,4 @@ pub use changes::{
 pub use law::{
     an_accepted_event_changes_what_is_planned, the_changes_of_an_accepted_event_have_their_premises,
 };
+pub use numbers::{a_sound_configuration_is_a_fit_site, the_numbers_of_every_run_fit};

@@ -1,13 +1,7 @@
 -- each session of a run belongs to a role of the configuration
 use Rattle.std.proofs.Common.{◌≡◌, ℕ, zero, suc, List, [], ◌∷◌, subst, Bool, true, false, Some, None, cond}
 use Rattle.std.specs.Prelude.{◌==◌, ◌-◌, slice_get}
-use Rattle.np_text.specs.declared.id.SessionId.{SessionId}
-use Rattle.np_site.specs.Configuration.{Configuration}
-use Rattle.np_machine.specs.declared.state.SessionFacts.{SessionFacts}
-use Rattle.np_machine.specs.Session.{is_role}
-use Rattle.np_machine.specs.State.{State}
-use Rattle.np_machine.specs.Tables.{session_of}
-use Rattle.np_changes.specs.Planned.{IsReached}
+use Rattle.np_changes.specs.Prelude.{Configuration, IsReached, SessionFacts, SessionId, State, is_role, session_of}
 use Rattle.np_janitor.proofs.Undeclined.{AreOfSite, sessions-of_site}
 
 module _ (c : Configuration) where

@@ -1,16 +1,8 @@
 -- a role that is not in the configuration has nothing to do
 use Rattle.std.proofs.Common.{◌≡◌, refl, subst, Bool, true, false, Option, Some, None}
-use Rattle.std.specs.Prelude.{◌&&◌, not, is_ok, is_some}
-use Rattle.np_text.specs.declared.id.SessionId.{SessionId}
-use Rattle.np_text.specs.declared.id.Role.{Role}
-use Rattle.np_text.specs.declared.id.Role.TheVariants.{Launcher, Janitor, Requester, Reaper}
-use Rattle.np_site.specs.Configuration.{Configuration}
+use Rattle.std.specs.Prelude.{not, is_ok, is_some}
+use Rattle.np_changes.specs.Prelude.{Configuration, IsReached, Janitor, Launcher, Reaper, Requester, Role, SessionId, State, is_role, judge, maker_of, same_role}
 use Rattle.np_event.specs.declared.event.Event.TheVariants as ev
-use Rattle.np_machine.specs.Laws.{same_role}
-use Rattle.np_machine.specs.Session.{is_role}
-use Rattle.np_machine.specs.State.{State}
-use Rattle.np_machine.specs.Step.{judge, maker_of}
-use Rattle.np_changes.specs.Planned.{IsReached}
 use Rattle.np_useful.specs.Sessions.{is_current}
 use Rattle.np_useful.specs.Settled.{takes_part}
 use Rattle.np_useful.specs.Useful.{IsUseful, is_maker_of, row_holds}
@@ -18,10 +10,7 @@ use Rattle.np_roles.proofs.Currents.{current-speaks}
 use Rattle.np_roles.proofs.Openings.{same-role}
 use Rattle.np_choices.specs.Idle.{IsIdle}
 use Rattle.np_choices.proofs.OfSite.{role-at}
-
-first-part : (t u : Bool) → (t && u) ≡ true → t ≡ true
-first-part true u is = refl
-first-part false u is = absurd cc
+use Rattle.np_lists.proofs.Plain.{and-first}
 
 module _ (c : Configuration) (s : State) where
   -- a role that is neither the reaper nor in the configuration
@@ -35,7 +24,7 @@ module _ (c : Configuration) (s : State) where
   current-of : (role : Role) (session : SessionId) → IsReached c s → is_current role session s ≡ true → is_role c role ≡ true
   current-of role session reached is =
       let who = current-speaks role s session is in
-      let same : who.facts.role ≡ role = same-role who.facts.role role (first-part (same_role who.facts.role role) _ (first-part _ (not who.facts.mute) who.speaks)) in
+      let same : who.facts.role ≡ role = same-role who.facts.role role (and-first (same_role who.facts.role role) _ (and-first _ (not who.facts.mute) who.speaks)) in
       subst (λ (r : Role). is_role c r ≡ true) same (role-at c s _ who.facts reached who.there)
 
   made-by : (role : Role) → IsReached c s → takes_part c role ≡ false → (o : Option SessionId) → is_some o ≡ true → is_maker_of role s o ≡ true → ⊥
@@ -50,9 +39,9 @@ module _ (c : Configuration) (s : State) where
     by false is = absurd (let refused : is_ok (judge c s (ev.OpenSession other)) ≡ false = rw is refl in cc)
 
   opened : (role other : Role) → takes_part c role ≡ false → row_holds c s role (ev.OpenSession other) ≡ true → other ≡ role
-  opened (Launcher p) other outside is = same-role other (Launcher p) (first-part _ _ is)
-  opened (Janitor p) other outside is = same-role other (Janitor p) (first-part _ _ is)
-  opened (Requester q) other outside is = same-role other (Requester q) (first-part _ _ is)
+  opened (Launcher p) other outside is = same-role other (Launcher p) (and-first _ _ is)
+  opened (Janitor p) other outside is = same-role other (Janitor p) (and-first _ _ is)
+  opened (Requester q) other outside is = same-role other (Requester q) (and-first _ _ is)
   opened Reaper other outside is = absurd cc
 
   opens : (role other : Role) → takes_part c role ≡ false → IsUseful c s role (ev.OpenSession other) → ⊥

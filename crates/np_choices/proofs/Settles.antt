@@ -1,22 +1,12 @@
 -- when no role has a useful event
-use Rattle.std.proofs.Common.{◌≡◌, ◌<◌, ℕ, length, refl, arith, Bool, true, false, List, Option, Some, None}
+use Rattle.std.proofs.Common.{◌≡◌, ◌<◌, ℕ, length, refl, arith, Bool, true, false, Option, Some, None}
 use Rattle.std.specs.Prelude.{◌↔◌, not, is_some, slice_get}
-use Rattle.np_text.specs.declared.id.Role.{Role}
-use Rattle.np_text.specs.declared.id.Role.TheVariants.{Launcher, Janitor, Requester, Reaper}
-use Rattle.np_site.specs.Configuration.{Configuration}
-use Rattle.np_site.specs.Sound.{IsSound}
-use Rattle.np_event.specs.declared.event.Event.{Event}
-use Rattle.np_machine.specs.State.{State}
-use Rattle.np_changes.specs.Planned.{IsReached}
+use Rattle.np_changes.specs.Prelude.{Configuration, Event, IsReached, IsSound, Janitor, Launcher, Reaper, Requester, Role, State}
 use Rattle.np_useful.specs.Settled.{takes_part, IsSettled}
 use Rattle.np_roles.specs.Choices.{Chooses}
-use Rattle.np_roles.proofs.Places.{within}
 use Rattle.np_choices.specs.Idle.{IsIdle, ArePoolsIdle, AreRequestersIdle}
 use Rattle.np_choices.proofs.Outside.{outside-idle}
-
-there : {X : Type 0} (xs : List X) (i : ℕ) (o : Option X) → slice_get xs i ≡ o → is_some o ≡ true → i < length xs
-there xs i None is some = absurd cc
-there xs i (Some x) is some = within xs i x is
+use Rattle.np_lists.proofs.Plain.{some-within}
 
 module _ (c : Configuration) (s : State) where
   -- a choice returns none if and only if the role is idle
@@ -28,13 +18,13 @@ module _ (c : Configuration) (s : State) where
 
   pub all-idle : IsSound c → ArePoolsIdle c s → AreRequestersIdle c s → IsIdle c s Reaper → IsSettled c s
   all-idle sound pools requesters reaper (Launcher p) e part useful =
-      let place : p.0 < length c.pools = there c.pools p.0 (slice_get c.pools p.0) refl part in
+      let place : p.0 < length c.pools = some-within c.pools p.0 (slice_get c.pools p.0) refl part in
       (pools p.0 (omega (arith, sound.supply.few_pools))).0 e useful
   all-idle sound pools requesters reaper (Janitor p) e part useful =
-      let place : p.0 < length c.pools = there c.pools p.0 (slice_get c.pools p.0) refl part in
+      let place : p.0 < length c.pools = some-within c.pools p.0 (slice_get c.pools p.0) refl part in
       (pools p.0 (omega (arith, sound.supply.few_pools))).1 e useful
   all-idle sound pools requesters reaper (Requester q) e part useful =
-      let place : q.0 < length c.requesters = there c.requesters q.0 (slice_get c.requesters q.0) refl part in
+      let place : q.0 < length c.requesters = some-within c.requesters q.0 (slice_get c.requesters q.0) refl part in
       requesters q.0 (omega (arith, sound.few_requesters)) e useful
   all-idle sound pools requesters reaper Reaper e part useful = reaper e useful
 

@@ -1,12 +1,7 @@
 -- when a role has nothing to do
 use Rattle.std.specs.Prelude.{ℕ, ◌<◌}
-use Rattle.np_text.specs.declared.id.PoolId.{PoolId}
-use Rattle.np_text.specs.declared.id.Role.{Role}
-use Rattle.np_text.specs.declared.id.Role.TheVariants.{Launcher, Janitor, Requester}
+use Rattle.np_changes.specs.Prelude.{Configuration, Event, Janitor, Launcher, PoolId, Requester, Role, State}
 use Rattle.np_text.specs.declared.limit.TheConstants.{POOLS, REQUESTERS}
-use Rattle.np_site.specs.Configuration.{Configuration}
-use Rattle.np_event.specs.declared.event.Event.{Event}
-use Rattle.np_machine.specs.State.{State}
 use Rattle.np_useful.specs.Useful.{IsUseful}
 
 -- the role has no useful event (own)

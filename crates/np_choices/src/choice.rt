@@ -1,8 +1,7 @@
 //! The choice of any role.
 
 ghost use Rattle.std.specs.Prelude.{◌≡◌};
-ghost use Rattle.np_changes.specs.Planned.{IsReached};
-ghost use Rattle.np_fits.specs.Fits.{Fits};
+ghost use Rattle.np_changes.specs.Prelude.{Fits, IsReached};
 ghost use Rattle.np_roles.specs.Choices.{Chooses};
 ghost use Rattle.np_useful.specs.Settled.{takes_part};
 

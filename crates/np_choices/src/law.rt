@@ -1,14 +1,7 @@
 //! What is true of the sessions of a run. Each function does nothing: its contract is the law.
 
 ghost use Rattle.std.specs.Prelude.{◌≡◌, Some, true, false};
-ghost use Rattle.np_text.specs.declared.id.SessionId.{SessionId};
-ghost use Rattle.np_text.specs.declared.id.Role.{Role};
-ghost use Rattle.np_site.specs.Configuration.{Configuration};
-ghost use Rattle.np_machine.specs.declared.state.SessionFacts.{SessionFacts};
-ghost use Rattle.np_machine.specs.Session.{is_role};
-ghost use Rattle.np_machine.specs.State.{State};
-ghost use Rattle.np_machine.specs.Tables.{session_of};
-ghost use Rattle.np_changes.specs.Planned.{IsReached};
+ghost use Rattle.np_changes.specs.Prelude.{Configuration, IsReached, Role, SessionFacts, SessionId, State, is_role, session_of};
 ghost use Rattle.np_useful.specs.Settled.{takes_part};
 ghost use Rattle.np_choices.specs.Idle.{IsIdle};
 

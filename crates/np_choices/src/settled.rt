@@ -1,8 +1,7 @@
 //! Whether nothing is left to do.
 
 ghost use Rattle.std.specs.Prelude.{◌≡◌, ◌↔◌, true};
-ghost use Rattle.np_changes.specs.Planned.{IsReached};
-ghost use Rattle.np_fits.specs.Fits.{Fits};
+ghost use Rattle.np_changes.specs.Prelude.{Fits, IsReached};
 ghost use Rattle.np_useful.specs.Settled.{IsSettled};
 ghost use Rattle.np_choices.specs.Idle.{IsIdle, IsPoolIdle, ArePoolsIdle, AreRequestersIdle};
 

@@ -3,7 +3,7 @@ use Rattle.std.proofs.Common.{◌≡◌, ◌<◌, ◌≤◌, ◌+◌, ◌*◌, �
 use Rattle.std.specs.Prelude.{if◌then◌else◌}
 use Rattle.std.proofs.Math.Nat.{pow-le-pow_right}
 use Rattle.std.proofs.lemmas.Bool.{cases_lt}
-use Rattle.np_keys.specs.Prelude.{Declined, PoolId, is_declined_by}
+use Rattle.np_changes.specs.Prelude.{Declined, PoolId, is_declined_by}
 use Rattle.np_classes.specs.Classes.{decline_digits, decline_set}
 
 abbrev pub digit : Bool → ℕ

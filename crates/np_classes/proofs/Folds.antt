@@ -1,18 +1,14 @@
 -- which members there are after ids are put in their groups
 use Rattle.std.proofs.Common.{◌≡◌, ◌∙◌, Bool, true, false, List, [], ◌∷◌, refl, ap}
 use Rattle.std.specs.Prelude.{◌&&◌, ◌||◌}
-use Rattle.std.specs.List.{list_any}
-use Rattle.np_lists.specs.Rising.{Rises}
+use Rattle.np_changes.specs.Prelude.{Rises, list_any}
 use Rattle.np_groups.specs.declared.groups.Group.{Group}
 use Rattle.np_groups.specs.declared.groups.Member.{Member}
 use Rattle.np_groups.specs.Groups.{is_member_before, has_member}
 use Rattle.np_groups.specs.Moves.{Placed, is_among, with_groups}
 use Rattle.np_groups.proofs.MoveLemmas.{rises-moved, with-groups}
 use Rattle.np_classes.specs.Placed.{with_all}
-
-and_true : (a : Bool) → (a && true) ≡ a
-and_true true = refl
-and_true false = refl
+use Rattle.np_lists.proofs.Plain.{and_true}
 
 one_before : (p r a : Bool) → (r || (p || a)) ≡ ((p || r) || a)
 one_before true true a = refl

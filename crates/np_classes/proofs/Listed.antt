@@ -1,9 +1,15 @@
 -- all that the changes of an event touch is listed before it
 use Rattle.std.proofs.Common.{◌≡◌, ◌≤◌, ◌∙◌, ◌⊎◌, inl, inr, ℕ, Bool, true, false, cond, List, [], ◌∷◌, ◌++◌, Option, None, Some, length, refl, sym, ap, subst, arith}
 use Rattle.std.specs.Prelude.{◌==◌, ◌||◌, map, filter, find}
-use Rattle.std.specs.Option.{option_map_or}
-use Rattle.std.specs.List.{list_any}
-use Rattle.np_keys.specs.Prelude.{Asked, Changes, Configuration, Growth, IsPlanned, IsReached, NodeEntry, NodeId, NodeRecord, NodesChange, Phase, RequestEdit, RequestEntry, RequestId, RequestRecord, RequestsChange, SessionId, SessionsChange, State, is_asked, is_new, is_queued, is_request, node_in, queued_nodes, queued_requests, request_in, same_request, tenant_of_request}
+use Rattle.np_changes.specs.Prelude.{Configuration, IsPlanned, IsReached, NodeEntry, NodeId, NodeRecord, Phase, RequestEntry, RequestId, RequestRecord, SessionId, State, is_asked, is_new, is_queued, is_request, list_any, new_node, node_in, option_map_or, request_in, same_request, tenant_of_request}
+use Rattle.np_changes.specs.declared.asked.Asked.{Asked}
+use Rattle.np_changes.specs.declared.changes.Changes.{Changes}
+use Rattle.np_changes.specs.declared.changes.Growth.{Growth}
+use Rattle.np_changes.specs.declared.changes.NodesChange.{NodesChange}
+use Rattle.np_changes.specs.declared.changes.RequestEdit.{RequestEdit}
+use Rattle.np_changes.specs.declared.changes.RequestsChange.{RequestsChange}
+use Rattle.np_changes.specs.declared.changes.SessionsChange.{SessionsChange}
+use Rattle.np_look.specs.Readers.{queued_nodes, queued_requests}
 use Rattle.np_text.specs.declared.word.Phase.TheVariants as phase
 use Rattle.np_keys.specs.Keys.{same_node, request_equal}
 use Rattle.np_changes.specs.declared.changes.Growth.TheVariants as grow
@@ -12,23 +18,16 @@ use Rattle.np_changes.specs.declared.changes.RequestsChange.TheVariants as reque
 use Rattle.np_changes.specs.declared.changes.NodesChange.TheVariants as nodes
 use Rattle.np_changes.specs.declared.changes.SessionsChange.TheVariants as sessions
 use Rattle.np_changes.specs.Premises.{Premises, NodesPremise, RequestsPremise, EditPremise, GoesWithdrawn, EmptiesRequest, IsTaken, IsMade}
-use Rattle.np_changes.specs.Plan.{new_node}
 use Rattle.np_changes.proofs.PremisesOf.{premises}
 use Rattle.np_laws.specs.Parts.{AllocationsListed, Invariant, IsAsking, JobIn, JobsStand}
 use Rattle.np_laws.proofs.Runs.{invariant-Runs}
 use Rattle.np_classes.specs.Touched.{grows_node, changes_node, ends_at_node, unclaims_node, touches_node, grows_request, changes_request, touches_request, grows_request_queue, leaves_request_queue, ends_at_request, touches_request_queue}
 use Rattle.np_classes.specs.Placed.{past_node, past_queue, past_request}
 use Rattle.np_classes.specs.Prepared.{IsPrepared, TouchedOf, ended, grown_nodes, changed_nodes, unclaimed_nodes, touched_nodes, grown_requests, changed_requests, touched_requests, grown_queues, left_queues, touched_queues}
+use Rattle.np_lists.proofs.Plain.{or_false, or_true}
+use Rattle.np_changes.proofs.Facts.{remove-alone}
 
 -- ## lists
-
-or_false : (a : Bool) → (a || false) ≡ a
-or_false true = refl
-or_false false = refl
-
-or_true : (a : Bool) → (a || true) ≡ true
-or_true true = refl
-or_true false = refl
 
 list_any-append : {X : Type 0} (p : X → Bool) (xs ys : List X) → list_any p (xs ++ ys) ≡ (list_any p xs || list_any p ys)
 list_any-append p [] ys = refl
@@ -244,12 +243,6 @@ edit-alone c s ch r edit.Fulfil may priority asked is = let none : ch.grows ≡ 
 edit-alone c s ch r edit.GiveBack may priority asked is = let none : ch.grows ≡ grow.Nothing = may.same_size in cc
 edit-alone c s ch r edit.Fail may priority asked is = let none : ch.grows ≡ grow.Nothing = may.same_size in cc
 edit-alone c s ch r (edit.Revise relative) may priority asked is = let none : ch.grows ≡ grow.Nothing = may.same_size in cc
-
--- nor beside one that goes away
-remove-alone : (c : Configuration) (s : State) (ch : Changes) (r : RequestId) → RequestsPremise c s ch (requests.Remove r) → ch.grows ≡ grow.Nothing
-remove-alone c s ch r (inl goes) = goes.fulfils.same_size
-remove-alone c s ch r (inr (inl takes)) = takes.same_size
-remove-alone c s ch r (inr (inr goes)) = goes.withdraws.same_size
 
 grown-one : (g : Growth) (s : State) → length (grown_requests g s ++ []) ≤ 1
 grown-one grow.Nothing s = omega arith

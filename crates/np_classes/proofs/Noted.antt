@@ -1,17 +1,17 @@
 -- the members of groups after a change, from those before it
-use Rattle.std.proofs.Common.{◌≡◌, ◌∙◌, Bool, true, false, cond, List, Option, None, Some, refl, sym, ap, subst}
-use Rattle.std.specs.Prelude.{◌||◌, map, is_none}
-use Rattle.std.specs.Option.{option_map_or}
-use Rattle.std.specs.List.{list_any}
+use Rattle.std.proofs.Common.{◌≡◌, ◌∙◌, Bool, false, cond, List, Option, None, Some, refl, sym, ap, subst}
+use Rattle.std.specs.Prelude.{map, is_none}
+use Rattle.np_changes.specs.Prelude.{Configuration, IsReached, NodeId, NodeRecord, RequestId, RequestRecord, Rises, SessionId, State, changed, holder, is_id_before, list_any, node_holder, node_in, option_map_or, request_holder, request_in, same_request}
 use Rattle.std.proofs.lemmas.Simd.{map-map}
-use Rattle.np_keys.specs.Prelude.{Changes, Configuration, IsNumbered, IsReached, NodeId, NodeRecord, RequestId, RequestRecord, Rises, SessionId, State, changed, is_id_before, is_unclaimed}
+use Rattle.np_changes.specs.declared.changes.Changes.{Changes}
+use Rattle.np_laws.specs.Parts.{IsNumbered}
+use Rattle.np_look.specs.Readers.{is_unclaimed}
 use Rattle.np_groups.specs.declared.groups.Group.{Group}
 use Rattle.np_groups.specs.declared.groups.Member.{Member}
 use Rattle.np_groups.specs.Groups.{has_member, is_member_before}
 use Rattle.np_groups.specs.Moves.{Placed, is_among, shift, with_all_moved}
 use Rattle.np_groups.proofs.MoveLemmas.{all-moved, each-moved, rises-all_moved}
 use Rattle.np_keys.specs.Keys.{is_node_before, same_node, node_transitive, node_one_way, node_some_way, node_equal, request_transitive, request_one_way, request_some_way, request_equal}
-use Rattle.np_machine.specs.Tables.{holder, node_in, node_holder, request_holder, request_in, same_request}
 use Rattle.np_laws.proofs.Numbered.{numbered}
 use Rattle.np_laws.proofs.Runs.{invariant-Runs}
 use Rattle.np_classes.specs.Classes.{ClassesOf, AreClasses, AreNodeGroups, AreRequestGroups, node_groups, node_is_in, request_groups, request_is_in}
@@ -20,6 +20,7 @@ use Rattle.np_classes.specs.Prepared.{IsPrepared, TouchedOf}
 use Rattle.np_classes.specs.Touched.{touches_node, touches_request, touches_request_queue}
 use Rattle.np_classes.proofs.Untouched.{node-untouched, queue-untouched, request-untouched, unclaimed-untouched}
 use Rattle.np_classes.proofs.Unheld.{noted-both, others-stay, unheld-alone, unheld-among}
+use Rattle.np_lists.proofs.Plain.{untouched}
 
 -- the groups of a node that is not there are none
 pub node-among : (c : Configuration) (s : State) (g : Group) (n : NodeId) → is_among g (groups_of_node c s n) ≡ node_is_in c s g n
@@ -34,15 +35,6 @@ request-among s g r = by (request_in r s.requests) where
       ≡ option_map_or (λ k. is_among g (request_groups k (is_none (request_holder r s.requests)))) o false
   by None = refl
   by (Some k) = refl
-
-or_false : (a : Bool) → (a || false) ≡ a
-or_false true = refl
-or_false false = refl
-
--- what is not listed is not touched
-untouched : (a b : Bool) → (a ≡ true → b ≡ true) → b ≡ false → a ≡ false
-untouched true b all out = let is : b ≡ true = all refl in cc
-untouched false b all out = refl
 
 -- the record of a request that is not listed stays
 pub record-stays : (c : Configuration) (s : State) (ch : Changes) (touched : TouchedOf) → IsPrepared c s ch touched

@@ -1,9 +1,10 @@
 -- the members of groups, made row by row
 use Rattle.std.proofs.Common.{◌≡◌, ◌∙◌, ◌+◌, ℕ, Bool, true, false, cond, List, [], ◌∷◌, ◌++◌, Option, None, Some, length, take, refl, sym, ap, subst}
 use Rattle.std.specs.Prelude.{◌&&◌, ◌||◌, find, map, slice_get, is_none}
-use Rattle.std.specs.Option.{option_map, option_map_or}
-use Rattle.std.specs.List.{AllByRecursion, list_any}
-use Rattle.np_keys.specs.Prelude.{Configuration, IsNumbered, IsReached, NodeEntry, NodeId, RequestEntry, RequestId, Rises, State, holder, is_id_before, is_unclaimed, node_view, request_view, same_request}
+use Rattle.np_changes.specs.Prelude.{AllByRecursion, Configuration, IsReached, NodeEntry, NodeId, RequestEntry, RequestId, Rises, State, holder, is_id_before, list_any, option_map, option_map_or, same_request}
+use Rattle.np_laws.specs.Parts.{IsNumbered}
+use Rattle.np_look.specs.Readers.{is_unclaimed}
+use Rattle.np_look.specs.Views.{node_view, request_view}
 use Rattle.np_groups.specs.declared.groups.Group.{Group}
 use Rattle.np_groups.specs.declared.groups.Member.{Member}
 use Rattle.np_groups.specs.Groups.{has_member}
@@ -14,18 +15,7 @@ use Rattle.np_classes.specs.Classes.{AreNodeGroups, AreRequestGroups, is_among, 
 use Rattle.np_groups.specs.Moves.{Placed, with_groups}
 use Rattle.np_classes.specs.Placed.{placed_node_view, placed_request_view, with_all}
 use Rattle.np_classes.proofs.Folds.{is_placed, rises-with_all, with-all}
-
-or_false : (a : Bool) → (a || false) ≡ a
-or_false true = refl
-or_false false = refl
-
-map-push : {X Y : Type 0} (f : X → Y) (xs : List X) (x : X) → map f (xs ++ x ∷ []) ≡ map f xs ++ f x ∷ []
-map-push f [] x = refl
-map-push f (y ∷ xs) x = ap (λ (ys : List _). f y ∷ ys) (map-push f xs x)
-
-take-all : {X : Type 0} (xs : List X) → take (length xs) xs ≡ xs
-take-all [] = refl
-take-all {X} (x ∷ xs) = ap (λ (rest : List X). x ∷ rest) (take-all xs)
+use Rattle.np_lists.proofs.Plain.{or_false, map-push, take-all}
 
 module _ {K : Type 0} (before same : K → K → Bool) where
   with_all-push : (placed : List (Placed K)) (p : Placed K) (ms : List (Member K)) → with_all before same (placed ++ p ∷ []) ms ≡ with_groups before same p.id [] p.groups (with_all before same placed ms)

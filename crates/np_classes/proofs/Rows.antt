@@ -1,9 +1,7 @@
 -- rows by their ids, of which no two are the same
 use Rattle.std.proofs.Common.{◌≡◌, ◌∙◌, Bool, true, false, cond, List, [], ◌∷◌, map, Some, refl, sym, ap}
 use Rattle.std.specs.Prelude.{filter, find}
-use Rattle.std.specs.Option.{option_map_or}
-use Rattle.std.specs.List.{AllByRecursion, list_any}
-use Rattle.np_lists.specs.Rising.{Rises, NonePass}
+use Rattle.np_changes.specs.Prelude.{AllByRecursion, NonePass, Rises, list_any, option_map_or}
 use Rattle.np_lists.proofs.Each.{all-filter, all-mapped}
 use Rattle.np_lists.proofs.FilterLemmas.{list_any-none}
 

@@ -1,27 +1,25 @@
 -- what the changes of an event do not touch is found after them as before
 use Rattle.std.proofs.Common.{◌≡◌, ◌∙◌, sym, ℕ, List, refl, ap, Option, Some, None, Bool, true, false, cond, subst}
 use Rattle.std.specs.Prelude.{◌==◌, ◌||◌, is_none}
-use Rattle.std.specs.Option.{option_map, option_map_or}
-use Rattle.std.specs.List.{list_any}
-use Rattle.np_keys.specs.Prelude.{Changes, Configuration, Growth, Maker, NodeEntry, NodeId, NodeRecord, NodesChange, RequestEntry, RequestId, RequestRecord, RequestsChange, SessionId, SessionsChange, State, TenantId, change_first, is_unclaimed}
+use Rattle.np_changes.specs.Prelude.{Configuration, NodeEntry, NodeId, NodeRecord, RequestEntry, RequestId, RequestRecord, SessionId, State, TenantId, allocated, change_first, changed, edited, freed, grown, is_queued, is_request, is_session, joined, left, list_any, node_in, node_queue, nodes_changed, nodes_left, option_map, option_map_or, put_node_queue, put_request_queue, request_in, request_queue, requests_changed, requests_left, same_request, standing}
+use Rattle.np_changes.specs.declared.changes.Changes.{Changes}
+use Rattle.np_changes.specs.declared.changes.Growth.{Growth}
+use Rattle.np_changes.specs.declared.changes.Maker.{Maker}
+use Rattle.np_changes.specs.declared.changes.NodesChange.{NodesChange}
+use Rattle.np_changes.specs.declared.changes.RequestsChange.{RequestsChange}
+use Rattle.np_changes.specs.declared.changes.SessionsChange.{SessionsChange}
+use Rattle.np_look.specs.Readers.{is_unclaimed}
 use Rattle.np_lists.proofs.FilterLemmas.{none-list_any, filter-not_none}
-use Rattle.np_machine.specs.Tables.{is_queued, is_request, is_session, same_request, joined, left, request_in, request_queue, put_request_queue, node_in, node_queue, put_node_queue, freed}
-use Rattle.np_machine.specs.Node.{allocated, standing}
 use Rattle.np_keys.specs.Keys.{request_equal}
 use Rattle.np_changes.specs.declared.changes.Growth.TheVariants as grow
 use Rattle.np_changes.specs.declared.changes.RequestsChange.TheVariants as requests
 use Rattle.np_changes.specs.declared.changes.NodesChange.TheVariants as nodes
 use Rattle.np_changes.specs.declared.changes.SessionsChange.TheVariants as sessions
-use Rattle.np_changes.specs.Changes.{grown, edited, requests_changed, requests_left, nodes_changed, nodes_left, changed}
 use Rattle.np_laws.specs.Parts.{AllocationsListed}
 use Rattle.np_laws.proofs.Lookups.{request_in-edit, request_in-insert, request_in-queue, request_in-remove, request_queue-edit, request_queue-insert, request_queue-left, request_queue-nowhere, request_queue-queue, request_queue-remove, used_from, node_in-put, node_in-allocated, node_in-queue, node_in-left, node_in-freed, node_in-in_use, node_in-other, node_in-remove, node_queue-put, node_queue-freed, node_queue-in_use, node_queue-allocated, node_queue-queue, node_queue-nowhere, node_queue-left, node_queue-other, node_queue-remove}
 use Rattle.np_laws.proofs.After.{found-grown, grown-request, calm-request, left-request}
 use Rattle.np_classes.specs.Touched.{grows_node, changes_node, ends_at_node, unclaims_node, touches_node, grows_request, changes_request, touches_request, grows_request_queue, leaves_request_queue, ends_at_request, touches_request_queue}
-
--- none of two
-neither : (a b : Bool) → (a || b) ≡ false → (a ≡ false) × (b ≡ false)
-neither true b out = absurd cc
-neither false b out = (refl, out)
+use Rattle.std.proofs.lemmas.Bool.{or_parts}
 
 -- what a test that fails would change stays
 unchanged : {K : Type 0} (b : Bool) (f : K → K) (o : Option K) → b ≡ false → option_map (λ k. cond b (f k) k) o ≡ o
@@ -98,9 +96,9 @@ left-untouched (sessions.End session) s n rows same out =
 -- a node that the changes do not touch has the same record and the same queue after them
 pub node-untouched : (c : Configuration) (ch : Changes) (s : State) (n : NodeId) → touches_node ch s n ≡ false → (node_in n (changed c ch s).nodes ≡ node_in n s.nodes) × (node_queue n (changed c ch s).nodes ≡ node_queue n s.nodes)
 node-untouched c ch s n out =
-    let all = neither (grows_node ch.grows s n || changes_node ch.nodes s n || ends_at_node ch.sessions s n) (unclaims_node ch.requests s n) out in
-    let both = neither (grows_node ch.grows s n || changes_node ch.nodes s n) (ends_at_node ch.sessions s n) all.0 in
-    let first = neither (grows_node ch.grows s n) (changes_node ch.nodes s n) both.0 in
+    let all = or_parts (grows_node ch.grows s n || changes_node ch.nodes s n || ends_at_node ch.sessions s n) (unclaims_node ch.requests s n) out in
+    let both = or_parts (grows_node ch.grows s n || changes_node ch.nodes s n) (ends_at_node ch.sessions s n) all.0 in
+    let first = or_parts (grows_node ch.grows s n) (changes_node ch.nodes s n) both.0 in
     let more : State = grown c ch.maker ch.grows s in
     let grew = grown-untouched c ch.maker ch.grows s n first.0 in
     let change = changed-untouched ch.maker more.tick ch.nodes s n more.nodes grew.0 first.1 in
@@ -123,7 +121,7 @@ request-changed maker change r rows other = calm-request maker change r rows tt
 -- a request that the changes do not touch has the same record after them
 pub request-untouched : (c : Configuration) (ch : Changes) (s : State) (r : RequestId) → touches_request ch s r ≡ false → request_in r (changed c ch s).requests ≡ request_in r s.requests
 request-untouched c ch s r out =
-    let both = neither (grows_request ch.grows s r) (changes_request ch.requests r) out in
+    let both = or_parts (grows_request ch.grows s r) (changes_request ch.requests r) out in
     let more : State = grown c ch.maker ch.grows s in
     left-request ch.sessions r (requests_changed ch.maker ch.requests more.requests)
     ∙ request-changed ch.maker ch.requests r more.requests both.1
@@ -165,13 +163,13 @@ queue-left (sessions.Mute session) s r rows same out = refl
 queue-left (sessions.End session) s r rows same out =
     request_queue-left session r rows ∙ left-same session (request_queue r rows) (ap (λ (queue : List SessionId). is_queued session queue) same ∙ out)
 
--- a request of which the changes touch neither the record nor the queue has the same queue after them
+-- a request of which the changes touch or_parts the record nor the queue has the same queue after them
 pub queue-untouched : (c : Configuration) (ch : Changes) (s : State) (r : RequestId) → touches_request ch s r ≡ false → touches_request_queue ch s r ≡ false
     → request_queue r (changed c ch s).requests ≡ request_queue r s.requests
 queue-untouched c ch s r out calm =
-    let both = neither (grows_request ch.grows s r) (changes_request ch.requests r) out in
-    let all = neither (grows_request_queue ch.grows r || leaves_request_queue ch.requests r) (ends_at_request ch.sessions s r) calm in
-    let first = neither (grows_request_queue ch.grows r) (leaves_request_queue ch.requests r) all.0 in
+    let both = or_parts (grows_request ch.grows s r) (changes_request ch.requests r) out in
+    let all = or_parts (grows_request_queue ch.grows r || leaves_request_queue ch.requests r) (ends_at_request ch.sessions s r) calm in
+    let first = or_parts (grows_request_queue ch.grows r) (leaves_request_queue ch.requests r) all.0 in
     let more : State = grown c ch.maker ch.grows s in
     let grew = queue-grown c ch.maker ch.grows s r both.0 first.0 in
     let change = queue-changed ch.maker ch.requests r more.requests both.1 first.1 in
@@ -211,7 +209,7 @@ pub unclaimed-untouched : (c : Configuration) (ch : Changes) (s : State) (n : No
     → is_unclaimed (changed c ch s) k ≡ is_unclaimed s k
 unclaimed-untouched c ch s n k allocations at out = by k.allocated_to refl where
   stays : unclaims_node ch.requests s n ≡ false
-  stays = (neither (grows_node ch.grows s n || changes_node ch.nodes s n || ends_at_node ch.sessions s n) (unclaims_node ch.requests s n) out).1
+  stays = (or_parts (grows_node ch.grows s n || changes_node ch.nodes s n || ends_at_node ch.sessions s n) (unclaims_node ch.requests s n) out).1
 
   by : (o : Option RequestId) → k.allocated_to ≡ o → is_none (standing (changed c ch s) o) ≡ is_none (standing s o)
   by None to = refl

@@ -1,11 +1,10 @@
 -- ids with the groups that they are in, and what they make of the members of groups
 use Rattle.std.specs.Prelude.{Bool, List, [], ◌∷◌, Option, None, is_none, option_and_then}
-use Rattle.std.specs.Option.{option_map_or}
-use Rattle.np_keys.specs.Prelude.{Configuration, NodeId, RequestId, State, is_unclaimed}
+use Rattle.np_changes.specs.Prelude.{Configuration, NodeId, RequestId, State, node_holder, node_in, option_map_or, request_holder, request_in}
+use Rattle.np_look.specs.Readers.{is_unclaimed}
 use Rattle.np_groups.specs.declared.groups.Group.{Group}
 use Rattle.np_groups.specs.declared.groups.Member.{Member}
 use Rattle.np_groups.specs.Moves.{Placed, with_groups}
-use Rattle.np_machine.specs.Tables.{node_in, node_holder, request_holder, request_in}
 use Rattle.np_look.specs.declared.asked.NodeView.{NodeView}
 use Rattle.np_look.specs.declared.asked.RequestView.{RequestView}
 use Rattle.np_classes.specs.declared.touched.PastNode.{PastNode}

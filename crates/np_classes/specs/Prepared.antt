@@ -1,8 +1,11 @@
 -- which nodes and requests are listed before a change, and what is prepared for it
 use Rattle.std.specs.Prelude.{◌≡◌, ◌≤◌, ◌+◌, ◌*◌, List, [], ◌∷◌, ◌++◌, true, length, map}
-use Rattle.std.specs.Option.{option_map_or}
-use Rattle.std.specs.List.{list_any}
-use Rattle.np_keys.specs.Prelude.{Changes, Configuration, Growth, NodeId, NodesChange, RequestId, RequestsChange, SessionsChange, State, next_id, request_in, same_request}
+use Rattle.np_changes.specs.Prelude.{Configuration, NodeId, RequestId, State, list_any, next_id, option_map_or, request_in, same_request}
+use Rattle.np_changes.specs.declared.changes.Changes.{Changes}
+use Rattle.np_changes.specs.declared.changes.Growth.{Growth}
+use Rattle.np_changes.specs.declared.changes.NodesChange.{NodesChange}
+use Rattle.np_changes.specs.declared.changes.RequestsChange.{RequestsChange}
+use Rattle.np_changes.specs.declared.changes.SessionsChange.{SessionsChange}
 use Rattle.np_keys.specs.Keys.{same_node}
 use Rattle.np_changes.specs.declared.changes.Growth.TheVariants as grow
 use Rattle.np_changes.specs.declared.changes.RequestsChange.TheVariants as requests

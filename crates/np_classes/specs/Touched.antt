@@ -1,8 +1,11 @@
 -- which nodes and requests the changes of an event may change
 use Rattle.std.specs.Prelude.{Bool, false, ◌==◌, ◌||◌}
-use Rattle.std.specs.Option.{option_map_or}
-use Rattle.std.specs.List.{list_any}
-use Rattle.np_keys.specs.Prelude.{Changes, Growth, NodeId, NodesChange, RequestId, RequestsChange, SessionsChange, State, is_queued, is_request, next_id, node_in, node_queue, request_queue, same_request}
+use Rattle.np_changes.specs.Prelude.{NodeId, RequestId, State, is_queued, is_request, list_any, next_id, node_in, node_queue, option_map_or, request_queue, same_request}
+use Rattle.np_changes.specs.declared.changes.Changes.{Changes}
+use Rattle.np_changes.specs.declared.changes.Growth.{Growth}
+use Rattle.np_changes.specs.declared.changes.NodesChange.{NodesChange}
+use Rattle.np_changes.specs.declared.changes.RequestsChange.{RequestsChange}
+use Rattle.np_changes.specs.declared.changes.SessionsChange.{SessionsChange}
 use Rattle.np_changes.specs.declared.changes.Growth.TheVariants as grow
 use Rattle.np_changes.specs.declared.changes.RequestsChange.TheVariants as requests
 use Rattle.np_changes.specs.declared.changes.NodesChange.TheVariants as nodes

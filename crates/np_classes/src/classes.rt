@@ -1,7 +1,9 @@
 //! The groups of a state's nodes and requests, kept as events change the state.
 
 ghost use Rattle.std.specs.Prelude.{◌≡◌, IfOk, length, slice_get};
-ghost use Rattle.np_keys.specs.Prelude.{Changes, Configuration, IsPlanned, IsReached, SessionId, State, changed, queued_nodes, queued_requests};
+ghost use Rattle.np_changes.specs.declared.changes.Changes.{Changes};
+ghost use Rattle.np_changes.specs.Prelude.{Configuration, IsPlanned, IsReached, SessionId, State, changed};
+ghost use Rattle.np_look.specs.Readers.{queued_nodes, queued_requests};
 ghost use Rattle.np_changes.specs.declared.changes.SessionsChange.TheVariants as sessions;
 ghost use Rattle.np_groups.specs.Groups.{group_after, group_from, ids_in};
 ghost use Rattle.np_classes.specs.Classes.{AreClasses};

@@ -1,8 +1,7 @@
 //! Which groups nodes and requests are in, by their records.
 
 ghost use Rattle.std.specs.Prelude.{◌≡◌, ◌≤◌, ◌&&◌, None, if◌then◌else◌};
-ghost use Rattle.std.specs.Option.{option_map};
-ghost use Rattle.np_keys.specs.Prelude.{is_declined_by, is_pending};
+ghost use Rattle.np_changes.specs.Prelude.{is_declined_by, is_pending, option_map};
 ghost use Rattle.np_classes.specs.Classes.{coming_group, coming_group_of, decline_set, declined_group, declined_group_of, free_group, group_if, kind_group, next_label_group, next_label_group_of, node_groups, pending_group, pending_group_of, pinned_label_group, pinned_label_group_of, request_groups, spare_group, spent_group, spent_group_of, tenant_group, unheld_class, unheld_group, unheld_group_of, unheld_pending_group};
 
 use np_config::Config;

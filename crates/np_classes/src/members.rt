@@ -2,7 +2,7 @@
 
 ghost use Rattle.std.specs.Prelude.{◌≡◌, ◌≤◌, ◌+◌, ◌*◌, [], IfOk, OnOk, length, map};
 ghost use Rattle.np_keys.specs.Keys.{is_node_before, same_node};
-ghost use Rattle.np_keys.specs.Prelude.{IsReached, is_id_before, same_request};
+ghost use Rattle.np_changes.specs.Prelude.{IsReached, is_id_before, same_request};
 ghost use Rattle.np_classes.specs.Classes.{AreNodeGroups, AreRequestGroups};
 ghost use Rattle.np_groups.specs.Moves.{with_all_moved, with_groups};
 ghost use Rattle.np_classes.specs.Placed.{groups_of_node, groups_of_request, node_before, placed_node_view, placed_request_view, queue_before, request_before, unheld_groups};

@@ -2,7 +2,8 @@
 //! before it.
 
 ghost use Rattle.std.specs.Prelude.{◌≡◌, ◌≤◌, ◌++◌, IfOk, OnOk, length, map, option_to_list};
-ghost use Rattle.np_keys.specs.Prelude.{IsPlanned, IsReached, SessionId, queued_nodes, queued_requests};
+ghost use Rattle.np_changes.specs.Prelude.{IsPlanned, IsReached, SessionId};
+ghost use Rattle.np_look.specs.Readers.{queued_nodes, queued_requests};
 ghost use Rattle.np_changes.specs.declared.changes.SessionsChange.TheVariants as sessions;
 ghost use Rattle.np_classes.specs.Placed.{groups_of_node, groups_of_request, past_node, past_queue, past_request, unheld_group_of_request};
 ghost use Rattle.np_classes.specs.Prepared.{IsPrepared, changed_nodes, changed_requests, ended, grown_nodes, grown_queues, grown_requests, left_queues, touched_nodes, touched_queues, touched_requests, unclaimed_nodes};

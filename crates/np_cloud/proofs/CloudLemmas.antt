@@ -1,14 +1,10 @@
 -- The simulated clouds of the first pools.
 use Rattle.std.proofs.Common.{◌≡◌, ◌≤◌, ◌<◌, ◌∙◌, refl, sym, ap, subst, arith, true, ℕ, zero, suc, ◌+◌, List, [], ◌∷◌, ◌++◌, length, length-append}
 use Rattle.std.specs.Prelude.{map, All, Option, Some, None, is_some, slice_get}
-use Rattle.std.specs.Option.{option_map}
+use Rattle.np_machine.specs.Prelude.{Configuration, Outcome, PoolId, option_map, outcome_of}
 use Rattle.std.proofs.lemmas.Option.{slice_get_within}
 use Rattle.std.proofs.lemmas.List.{map-append}
 use Rattle.std.proofs.lemmas.List.Elements.{All-nil, All-cons, All-append}
-use Rattle.np_text.specs.declared.id.PoolId.{PoolId}
-use Rattle.np_site.specs.Configuration.{Configuration}
-use Rattle.np_event.specs.declared.event.Outcome.{Outcome}
-use Rattle.np_machine.specs.Plan.{outcome_of}
 use Rattle.np_cloud.specs.declared.driver.Tag.{Tag}
 use Rattle.np_cloud.specs.Sim.{Simulation, simulation_of, simulation_facts, simulation_plan}
 use Rattle.np_cloud.specs.Clouds.{ArePlanned, simulations}

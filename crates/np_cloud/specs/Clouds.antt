@@ -1,8 +1,6 @@
 -- the clouds of all pools
 use Rattle.std.specs.Prelude.{◌≡◌, ℕ, zero, suc, List, [], ◌∷◌, ◌++◌, Option, Some}
-use Rattle.np_site.specs.Configuration.{Configuration}
-use Rattle.np_event.specs.declared.event.Outcome.{Outcome}
-use Rattle.np_machine.specs.Plan.{outcome_of}
+use Rattle.np_machine.specs.Prelude.{Configuration, Outcome, outcome_of}
 use Rattle.np_cloud.specs.declared.driver.Tag.{Tag}
 use Rattle.np_cloud.specs.Sim.{Simulation, simulation_of}
 

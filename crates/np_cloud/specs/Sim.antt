@@ -1,9 +1,6 @@
 -- the simulated cloud, as contracts see it
 use Rattle.std.specs.Prelude.{ℕ, List, ◌==◌, if◌then◌else◌, Option, Some}
-use Rattle.std.specs.List.{list_any}
-use Rattle.np_text.specs.declared.id.PoolId.{PoolId}
-use Rattle.np_site.specs.Configuration.{Configuration}
-use Rattle.np_event.specs.declared.event.Outcome.{Outcome}
+use Rattle.np_machine.specs.Prelude.{Configuration, Outcome, PoolId, list_any}
 use Rattle.np_event.specs.declared.event.Outcome.TheVariants as outcome
 use Rattle.np_machine.specs.Plan.{fail_starts_of}
 use Rattle.np_cloud.specs.declared.driver.Tag.{Tag}

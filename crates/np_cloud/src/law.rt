@@ -1,7 +1,7 @@
 //! What is known of every simulated cloud. Each function does nothing: its contract is the law.
 
 ghost use Rattle.std.specs.Prelude.{◌≡◌, ℕ, List, [], map, All, Some, Err};
-ghost use Rattle.np_site.specs.Configuration.{Configuration};
+ghost use Rattle.np_config.specs.Configuration.{Configuration};
 ghost use Rattle.np_cloud.specs.declared.driver.RemoveFailed.{RemoveFailed};
 ghost use Rattle.np_cloud.specs.Calls.{Removes};
 ghost use Rattle.np_cloud.specs.Inventory.{facts_of};

@@ -1,8 +1,7 @@
 //! The simulated cloud.
 
 ghost use Rattle.std.specs.Prelude.{◌≡◌, ◌==◌, Option, Some, IfOk, IsOk, slice_get};
-ghost use Rattle.std.specs.List.{list_any};
-ghost use Rattle.np_machine.specs.Plan.{outcome_of};
+ghost use Rattle.np_machine.specs.Prelude.{list_any, outcome_of};
 ghost use Rattle.np_cloud.specs.declared.driver.Tag.{Tag};
 ghost use Rattle.np_cloud.specs.Calls.{KeepsCounts};
 ghost use Rattle.np_cloud.specs.Sound.{every_list, soundness_of_every_list};

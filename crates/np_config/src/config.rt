@@ -4,7 +4,7 @@ ghost use Rattle.std.specs.Prelude.{◌≡◌, slice_get};
 ghost use Rattle.std.specs.Option.{option_copied};
 
 use crate::tenant::default_tenant;
-use np_site::{Fault, Job, Label, Pool, Provider, Requester, Sem, Tenant};
+use crate::{Fault, Job, Label, Pool, Provider, Requester, Sem, Tenant};
 use np_text::{JobId, LabelId, NoMemory, PoolId, RequesterId, SemId, TenantId};
 use std::alloc::Global;
 use std::marker::Model;
@@ -28,8 +28,8 @@ pub struct Config {
 
 impl Model for Config {
     ghost use Rattle.std.specs.Prelude.{◌≡◌};
-    ghost use Rattle.np_site.specs.Configuration.{Configuration, configuration, default_tenant};
-    ghost use Rattle.np_site.specs.Sound.{IsSound};
+    ghost use Rattle.np_config.specs.Configuration.{Configuration, configuration, default_tenant};
+    ghost use Rattle.np_config.specs.Sound.{IsSound};
 
     ghost Value = { Configuration };
 
@@ -42,8 +42,8 @@ impl Model for Config {
         c.faults.items c.max_hold_age) × (c.unlisted ≡ default_tenant) };
 }
 
-ghost use Rattle.np_site.specs.Configuration.{configuration, tenant_of};
-ghost use Rattle.np_site.specs.Sound.{IsSound};
+ghost use Rattle.np_config.specs.Configuration.{configuration, tenant_of};
+ghost use Rattle.np_config.specs.Sound.{IsSound};
 ghost use Rattle.std.specs.Prelude.{IfOk};
 
 impl Config {

@@ -1,11 +1,24 @@
 //! The configuration as one value: its tables, read by id or whole.
 //!
-//! Ids are places in the tables, whose rows np_site has. Every `Config` is one that a text can have
-//! (np_site's `specs/Sound`): `of_parts` requires it, nothing changes a configuration afterwards, and
+//! Ids are places in the tables, whose rows np_config has. Every `Config` is one that a text can have
+//! (np_config's `specs/Sound`): `of_parts` requires it, nothing changes a configuration afterwards, and
 //! `soundness` gives the fact to a caller. Nothing here reads or prints a text.
+//!
+//! What a configuration says: the rows of its tables, and what makes one sound.
+//!
+//! Nothing here reads or prints. Ids are places in the tables. `specs/Configuration` has the tables,
+//! `specs/Sound` the ranges, lengths, order and references of each row, `specs/Word` the words of
+//! planned faults.
 #![tactic(auto)]
 
 mod config;
+mod named;
+mod row;
 mod tenant;
 
 pub use config::Config;
+pub use named::{Named, Numbered};
+pub use row::{
+    Fault, FaultKind, Job, Label, LabelList, Name, NumberList, Offer, OfferList, Pool, Provider,
+    Requester, Sem, SemList, Tenant,
+};

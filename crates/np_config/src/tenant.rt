@@ -1,10 +1,10 @@
 //! The tenant that no text lists.
 
 ghost use Rattle.std.specs.Prelude.{◌≡◌, IfOk};
-ghost use Rattle.np_site.specs.Configuration.{default_tenant};
+ghost use Rattle.np_config.specs.Configuration.{default_tenant};
 
+use crate::{Name, Tenant};
 use np_amount::Limit;
-use np_site::{Name, Tenant};
 use std::alloc::{AllocError, Global};
 
 /// The tenant of the jobs that name none.

@@ -1,14 +1,13 @@
 -- an object without an optional key reads as the object with its default put in
-use Rattle.std.proofs.Common.{◌≡◌, ℕ, ◌+◌, ◌≤◌, List, codes, true, false, length, nat_le, refl, arith}
-use Rattle.std.proofs.lemmas.Bool.Decides.{nat_tests}
+use Rattle.std.proofs.Common.{ℕ, ◌+◌, ◌≤◌, List, codes, false, length, refl, arith}
 use Rattle.serde_json.specs.Data.{boolean, string}
 use Rattle.np_text.specs.declared.limit.TheConstants.{JOBS}
 use Rattle.np_json.specs.Leaf.{name_at, named_at}
 use Rattle.np_json.specs.Rows.{items_from, list_at, list_required, list_maybe}
-use Rattle.np_site.specs.declared.row.Label.{Label}
-use Rattle.np_site.specs.declared.row.Offer.{Offer}
-use Rattle.np_site.specs.declared.row.Sem.{Sem}
-use Rattle.np_site.specs.declared.row.Tenant.{Tenant}
+use Rattle.np_config.specs.declared.row.Label.{Label}
+use Rattle.np_config.specs.declared.row.Offer.{Offer}
+use Rattle.np_config.specs.declared.row.Sem.{Sem}
+use Rattle.np_config.specs.declared.row.Tenant.{Tenant}
 use Rattle.np_config_read.specs.declared.providers.PoolsOf.{PoolsOf}
 use Rattle.np_config_read.specs.declared.providers.Providers.{Providers}
 use Rattle.np_config_read.specs.declared.requesters.JobsOf.{JobsOf}
@@ -20,6 +19,7 @@ use Rattle.np_config_read.specs.Requesters.{word_value, wants_at, takes_at, dema
 use Rattle.np_config_read.specs.Walk.{configuration_at}
 use Rattle.np_config_read.specs.Defaults.{count, StandsFor, AllStand, default, no_rows, top_defaults, label_defaults, provider_defaults, pool_defaults, offer_defaults, semaphore_defaults, requester_defaults, job_defaults}
 use Rattle.np_config_read.proofs.Puts.{get-put, get-put_other, keys-put}
+use Rattle.np_lists.proofs.Plain.{is-at_most}
 
 module _ (at : List ℕ) (earlier : List Label) where
   label-min_ready : StandsFor (label_at at earlier) (default (codes "min-ready") (count 0))
@@ -90,9 +90,6 @@ module _ (at : List ℕ) (earlier : List Sem) where
   pub semaphore-defaults : AllStand (semaphore_at at earlier) semaphore_defaults
   semaphore-defaults = (semaphore-max, tt)
 
-most_test : (n m : ℕ) → n ≤ m → nat_le n m ≡ true
-most_test n m h = grind (arith, nat_tests)
-
 module _ (labels : List Label) (semaphores : List Sem) (tenants : List Tenant) (at : List ℕ) (s : Requesters) (few : length s.jobs ≤ JOBS) where
   requester-window : StandsFor (requester_at labels semaphores tenants at s) (default (codes "window") (count 20))
   unfolding requester_at requester_row jobs_at list_maybe list_at items_from named_at name_at
@@ -106,7 +103,7 @@ module _ (labels : List Label) (semaphores : List Sem) (tenants : List Tenant) (
   requester-jobs ms absent =
       let key = codes "jobs" in
       let value = no_rows in
-      rw (keys-put key value requester_keys ms refl, get-put_other key value (codes "name") ms refl absent, get-put_other key value (codes "window") ms refl absent, get-put key value ms refl, absent, most_test (length s.jobs + 0) JOBS (omega arith)) refl
+      rw (keys-put key value requester_keys ms refl, get-put_other key value (codes "name") ms refl absent, get-put_other key value (codes "window") ms refl absent, get-put key value ms refl, absent, is-at_most (length s.jobs + 0) JOBS (omega arith)) refl
 
   pub requester-defaults : AllStand (requester_at labels semaphores tenants at s) requester_defaults
   requester-defaults = (requester-window, (requester-jobs, tt))

@@ -5,21 +5,17 @@ use Rattle.std.specs.List.{list_any, list_all}
 use Rattle.std.specs.Option.{option_map_or}
 use Rattle.std.specs.Str.{bytes_eq}
 use Rattle.std.proofs.lemmas.Bool.Decides.{nat_tests}
-use Rattle.std.proofs.lemmas.Bool.{or_parts}
+use Rattle.std.proofs.lemmas.Bool.{or_parts, and_parts}
 use Rattle.std.proofs.lemmas.List.Elements.{All-head, All-tail}
 use Rattle.std.proofs.lemmas.List.{map-append}
 use Rattle.np_text.specs.Name.{is_name_byte, is_name_text}
-use Rattle.np_text.proofs.SpellingLemmas.{both_true}
 use Rattle.std.specs.Prelude.{nat_le}
-use Rattle.np_site.specs.declared.row.Provider.{Provider}
-use Rattle.np_site.specs.declared.row.Pool.{Pool}
+use Rattle.np_config.specs.declared.row.Provider.{Provider}
+use Rattle.np_config.specs.declared.row.Pool.{Pool}
 use Rattle.np_config_read.specs.Names.{pool_name, pool_names, IsUnused}
 use Rattle.np_lists.specs.EachAfter.{EachAfter}
-use Rattle.np_site.specs.Sound.{StandsByOwner, IsProvider, IsPool, AreProviders}
-
--- a text without `/`
-has_no_slash : List ℕ → Bool
-has_no_slash = list_all (λ b. not (b == 47))
+use Rattle.np_config.specs.Sound.{StandsByOwner, IsProvider, IsPool, AreProviders}
+use Rattle.np_lists.proofs.Plain.{and_false}
 
 abbrev plain : List ℕ → Type 0
 plain text = list_all (λ b. not (b == 47)) text ≡ true
@@ -30,12 +26,12 @@ plain_byte b named = grind (arith, nat_tests)
 plain_bytes : (text : List ℕ) → list_all is_name_byte text ≡ true → plain text
 plain_bytes [] named = refl
 plain_bytes (b ∷ text) named =
-    let parts = both_true (is_name_byte b) (list_all is_name_byte text) named in
+    let parts = and_parts (is_name_byte b) (list_all is_name_byte text) named in
     rw (plain_byte b parts.0) (plain_bytes text parts.1)
 
 plain_name : (text : List ℕ) → is_name_text text ≡ true → plain text
 unfolding is_name_text
-plain_name text named = plain_bytes text (both_true (nat_le 1 (length text) && nat_le (length text) 64) (list_all is_name_byte text) named).1
+plain_name text named = plain_bytes text (and_parts (nat_le 1 (length text) && nat_le (length text) 64) (list_all is_name_byte text) named).1
 
 and_assoc : (a b c : Bool) → (a && (b && c)) ≡ ((a && b) && c)
 and_assoc true b c = refl
@@ -45,16 +41,16 @@ and_assoc false b c = refl
 pub bytes_eq-slash : (p q m n : List ℕ) → plain p → plain q → bytes_eq (p ++ 47 ∷ m) (q ++ 47 ∷ n) ≡ (bytes_eq p q && bytes_eq m n)
 bytes_eq-slash [] [] m n no_slash none = refl
 bytes_eq-slash [] (b ∷ q) m n no_slash none =
-    let parts = both_true (not (b == 47)) (list_all (λ c. not (c == 47)) q) none in
+    let parts = and_parts (not (b == 47)) (list_all (λ c. not (c == 47)) q) none in
     let other : (47 == b) ≡ false = grind (arith, nat_tests, parts.0) in
     rw other refl
 bytes_eq-slash (a ∷ p) [] m n no_slash none =
-    let parts = both_true (not (a == 47)) (list_all (λ c. not (c == 47)) p) no_slash in
+    let parts = and_parts (not (a == 47)) (list_all (λ c. not (c == 47)) p) no_slash in
     let other : (a == 47) ≡ false = grind (arith, nat_tests, parts.0) in
     rw other refl
 bytes_eq-slash (a ∷ p) (b ∷ q) m n no_slash none =
-    let one = both_true (not (a == 47)) (list_all (λ c. not (c == 47)) p) no_slash in
-    let two = both_true (not (b == 47)) (list_all (λ c. not (c == 47)) q) none in
+    let one = and_parts (not (a == 47)) (list_all (λ c. not (c == 47)) p) no_slash in
+    let two = and_parts (not (b == 47)) (list_all (λ c. not (c == 47)) q) none in
     ap (λ r. (a == b) && r) (bytes_eq-slash p q m n one.1 two.1) ∙ and_assoc (a == b) (bytes_eq p q) (bytes_eq m n)
 
 -- ## Names of providers
@@ -91,10 +87,6 @@ apart_places ps i j less within each =
     rw (late.1, early.1) (none_before (λ (row : Provider). bytes_eq late.0.name row.name) ps j i early.0 late.2.name.new less early.1)
 
 -- ## Names of pools
-
-and_false : (b : Bool) → (b && false) ≡ false
-and_false true = refl
-and_false false = refl
 
 module _ (ps : List Provider) (good : EachAfter IsProvider [] ps) where
   unused : (x : Pool) (e : List Pool) → x.provider < length ps → All (λ y. y.provider ≤ x.provider) e → list_any (λ r. bytes_eq x.name r.name) (filter (λ y. y.provider == x.provider) e) ≡ false

@@ -24,22 +24,22 @@ use Rattle.np_text.specs.declared.limit.TheConstants.{JOBS, JOB_LABELS, JOB_SEMA
 use Rattle.np_json.specs.Leaf.{at_most, one_to, behind}
 use Rattle.np_config_read.specs.Keys.{requester_keys, job_keys}
 use Rattle.np_text.specs.Word.{end_as_of}
-use Rattle.np_site.specs.declared.row.Label.{Label}
-use Rattle.np_site.specs.declared.row.Sem.{Sem}
-use Rattle.np_site.specs.declared.row.Tenant.{Tenant}
-use Rattle.np_site.specs.declared.row.Requester.{Requester}
-use Rattle.np_site.specs.declared.row.Job.{Job}
+use Rattle.np_config.specs.declared.row.Label.{Label}
+use Rattle.np_config.specs.declared.row.Sem.{Sem}
+use Rattle.np_config.specs.declared.row.Tenant.{Tenant}
+use Rattle.np_config.specs.declared.row.Requester.{Requester}
+use Rattle.np_config.specs.declared.row.Job.{Job}
 use Rattle.np_config_read.specs.declared.requesters.Demand.{Demand}
 use Rattle.np_config_read.specs.declared.requesters.JobsOf.{JobsOf}
 use Rattle.np_config_read.specs.declared.requesters.Requesters.{Requesters}
 use Rattle.np_config_read.specs.Names.{semaphore_named, tenant_id, tenant_named}
 use Rattle.np_config_read.specs.Providers.{label_value}
 use Rattle.np_config_read.specs.Requesters.{wanted_at, semaphore_for, taken_at, priority_of, meaning_of, word_value, word_or, wants_at, takes_at, demand_at, job_row, job_at, jobs_at, requester_row, requester_at}
-use Rattle.np_site.specs.Sound.{is_untaken}
+use Rattle.np_config.specs.Sound.{is_untaken}
 use Rattle.np_lists.specs.EachAfter.{EachAfter}
-use Rattle.np_site.specs.Sound.{StandsByOwner, IsWanted, IsTaken, IsPriority, IsJob, IsRequester, AreRequesters}
+use Rattle.np_config.specs.Sound.{StandsByOwner, IsWanted, IsTaken, IsPriority, IsJob, IsRequester, AreRequesters}
 use Rattle.np_lists.proofs.EachAfterLemmas.{EachAfter-push, EachAfter-append}
-use Rattle.np_site.proofs.Owners.{after_earlier}
+use Rattle.np_config.proofs.Owners.{after_earlier}
 use Rattle.np_config_read.proofs.RowTakes.{Rows, Rows-push, RowsAlone, RowsAlone-push, RowsAlone-none, new_name, found_within, label_value-takes}
 use Rattle.np_config_read.proofs.TenantTakes.{tenant-takes}
 

@@ -15,19 +15,19 @@ use Rattle.np_json.proofs.Takes.{ok, same_ok, whole_or-takes, whole_maybe-takes,
 use Rattle.np_text.specs.declared.limit.TheConstants.{LABELS, POOLS, FAIL_STARTS, LAUNCHES, CONCURRENCY, POOL_SERVERS, POOL_CORES, POOL_RAM}
 use Rattle.np_json.specs.Leaf.{one_to, behind}
 use Rattle.np_config_read.specs.Keys.{provider_keys, pool_keys}
-use Rattle.np_site.specs.declared.row.Label.{Label}
-use Rattle.np_site.specs.declared.row.Provider.{Provider}
-use Rattle.np_site.specs.declared.row.Pool.{Pool}
-use Rattle.np_site.specs.declared.row.Offer.{Offer}
+use Rattle.np_config.specs.declared.row.Label.{Label}
+use Rattle.np_config.specs.declared.row.Provider.{Provider}
+use Rattle.np_config.specs.declared.row.Pool.{Pool}
+use Rattle.np_config.specs.declared.row.Offer.{Offer}
 use Rattle.np_config_read.specs.declared.providers.PoolsOf.{PoolsOf}
 use Rattle.np_config_read.specs.declared.providers.Providers.{Providers}
 use Rattle.np_config_read.specs.Providers.{limit_at, offers_at, starts_at, pool_row, pool_at, provider_row, pools_at, provider_at}
 use Rattle.np_lists.specs.EachAfter.{EachAfter}
-use Rattle.np_site.specs.Sound.{StandsByOwner, IsLimit, IsOffer, IsStart, IsPool, IsProvider, AreProviders}
+use Rattle.np_config.specs.Sound.{StandsByOwner, IsLimit, IsOffer, IsStart, IsPool, IsProvider, AreProviders}
 use Rattle.np_lists.proofs.EachAfterLemmas.{EachAfter-push, EachAfter-append}
 use Rattle.std.proofs.lemmas.List.Elements.{filter-append}
 use Rattle.np_lists.proofs.KeptLemmas.{filter-keeps_all}
-use Rattle.np_site.proofs.Owners.{after_earlier}
+use Rattle.np_config.proofs.Owners.{after_earlier}
 use Rattle.np_config_read.proofs.RowTakes.{Rows, Rows-push, new_name, offers_at-takes, starts_at-takes}
 
 up_to : (most : ℕ) (o : Option ℕ) → IfSome o (λ n. (0 ≤ n) × (n ≤ most)) → IfSome o (λ n. n ≤ most)

@@ -19,15 +19,15 @@ use Rattle.np_json.proofs.Takes.{ok, same_ok, whole_value-takes, whole_or-takes,
 use Rattle.np_text.specs.declared.limit.TheConstants.{LABELS, FAIL_STARTS, MIN_READY, AGE, NODE_CORES, NODE_RAM, START_NUMBER, HANDLES}
 use Rattle.np_json.specs.Leaf.{at_most}
 use Rattle.np_config_read.specs.Keys.{label_keys, offer_keys, semaphore_keys}
-use Rattle.np_site.specs.declared.row.Label.{Label}
-use Rattle.np_site.specs.declared.row.Sem.{Sem}
-use Rattle.np_site.specs.declared.row.Offer.{Offer}
+use Rattle.np_config.specs.declared.row.Label.{Label}
+use Rattle.np_config.specs.declared.row.Sem.{Sem}
+use Rattle.np_config.specs.declared.row.Offer.{Offer}
 use Rattle.np_config_read.specs.Names.{label_named}
 use Rattle.np_config_read.specs.Labels.{label_row, label_at, semaphore_at}
 use Rattle.np_config_read.specs.Providers.{label_for, label_value, offer_label, offer_amount, offer_at, start_at, offers_at, starts_at}
-use Rattle.np_site.specs.Sound.{is_unoffered, is_above}
+use Rattle.np_config.specs.Sound.{is_unoffered, is_above}
 use Rattle.np_lists.specs.EachAfter.{EachAfter}
-use Rattle.np_site.specs.Sound.{HasNewName, IsLabel, IsSem, IsOffer, IsStart}
+use Rattle.np_config.specs.Sound.{HasNewName, IsLabel, IsSem, IsOffer, IsStart}
 use Rattle.np_lists.proofs.EachAfterLemmas.{EachAfter-push}
 
 -- this many rows, each of which is sound

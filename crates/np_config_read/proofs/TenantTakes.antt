@@ -13,10 +13,10 @@ use Rattle.np_lists.specs.Refusals.{◌>>=◌, ◌>>◌, need}
 use Rattle.np_json.specs.Reading.{fault, below}
 use Rattle.np_json.specs.Leaf.{text_value, named_at}
 use Rattle.np_lists.proofs.RefusalLemmas.{bind-ok, need-ok, found-some}
-use Rattle.np_json.proofs.Takes.{ok, same_ok, not_true, named_at-takes}
-use Rattle.np_site.specs.declared.row.Tenant.{Tenant}
-use Rattle.np_site.specs.Configuration.{default_name}
-use Rattle.np_site.specs.Sound.{IsTenant}
+use Rattle.np_json.proofs.Takes.{ok, same_ok, named_at-takes}
+use Rattle.np_config.specs.declared.row.Tenant.{Tenant}
+use Rattle.np_config.specs.Configuration.{default_name}
+use Rattle.np_config.specs.Sound.{IsTenant}
 use Rattle.np_config_read.specs.Keys.{tenant_keys}
 use Rattle.np_config_read.specs.Names.{tenant_id, tenant_named}
 use Rattle.np_config_read.specs.Providers.{limit_at}
@@ -24,6 +24,7 @@ use Rattle.np_config_read.specs.Tenants.{tenant_at}
 use Rattle.np_config_read.specs.Requesters.{meaning_of, word_value, word_or}
 use Rattle.np_config_read.proofs.RowTakes.{Rows, Rows-push, new_name, found_within}
 use Rattle.np_config_read.proofs.PoolTakes.{limit_at-takes}
+use Rattle.std.proofs.lemmas.Bool.{not-true}
 
 abbrev made_tenant : List ℕ → Limit → Tenant
 made_tenant name l = record { name = name; limit = l }
@@ -40,7 +41,7 @@ tenant_at-takes at n s t d rows e =
     let x = made_tenant a.0 l.0 in
     let is : IsTenant s x = record {
       name = new_name (λ (r : Tenant). r.name) s x a.0 refl (named_at-takes (λ (r : Tenant). r.name) tenant_keys at s d a.0 a.1);
-      listed = not_true (bytes_eq a.0 default_name) u.0;
+      listed = not-true (bytes_eq a.0 default_name) u.0;
       limit = limit_at-takes at d l.0 l.1;
     } in
     Rows-push IsTenant n s t x (same_ok (s ++ x ∷ []) t l.2) rows is

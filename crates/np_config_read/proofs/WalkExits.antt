@@ -9,11 +9,11 @@ use Rattle.np_json.specs.Reading.{Fails, fault_of}
 use Rattle.np_json.specs.Leaf.{object_at, whole_or}
 use Rattle.np_json.proofs.Binds.{binds}
 use Rattle.np_json.proofs.Takes.{ok}
-use Rattle.np_site.specs.declared.row.Label.{Label}
-use Rattle.np_site.specs.declared.row.Sem.{Sem}
-use Rattle.np_site.specs.declared.row.Tenant.{Tenant}
-use Rattle.np_site.specs.declared.row.Fault.{Fault}
-use Rattle.np_site.specs.Configuration.{Configuration, configuration}
+use Rattle.np_config.specs.declared.row.Label.{Label}
+use Rattle.np_config.specs.declared.row.Sem.{Sem}
+use Rattle.np_config.specs.declared.row.Tenant.{Tenant}
+use Rattle.np_config.specs.declared.row.Fault.{Fault}
+use Rattle.np_config.specs.Configuration.{Configuration, configuration}
 use Rattle.np_config_read.specs.declared.providers.Providers.{Providers}
 use Rattle.np_config_read.specs.declared.requesters.Requesters.{Requesters}
 use Rattle.np_config_read.specs.Keys.{top_keys}

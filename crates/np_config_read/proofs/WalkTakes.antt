@@ -1,7 +1,6 @@
 -- a configuration that was read is sound
-use Rattle.std.proofs.Common.{◌≡◌, ℕ, ◌+◌, ◌<◌, ◌≤◌, List, [], ◌∷◌, ◌++◌, codes, length, Option, Some, None, Result, Ok, Err, IfOk, refl, subst, arith}
+use Rattle.std.proofs.Common.{◌≡◌, ℕ, ◌+◌, ◌<◌, ◌≤◌, List, [], ◌∷◌, ◌++◌, codes, length, Option, Some, Result, Ok, Err, IfOk, refl, subst, arith}
 use Rattle.std.specs.Prelude.{All, ◌^◌}
-use Rattle.std.specs.Option.{option_map}
 use Rattle.std.specs.Str.{bytes_eq}
 use Rattle.std.proofs.lemmas.List.{length-map}
 use Rattle.serde_json.specs.Data.{Data}
@@ -19,18 +18,18 @@ use Rattle.np_text.specs.declared.limit.TheConstants.{LABELS, PROVIDERS, SEMAPHO
 use Rattle.np_json.specs.Leaf.{at_most, one_to}
 use Rattle.np_config_read.specs.Keys.{top_keys, fault_keys}
 use Rattle.np_text.specs.Word.{role_kind_of}
-use Rattle.np_site.specs.Word.{fault_kind_of}
-use Rattle.np_site.specs.declared.row.Label.{Label}
-use Rattle.np_site.specs.declared.row.Sem.{Sem}
-use Rattle.np_site.specs.declared.row.Tenant.{Tenant}
-use Rattle.np_site.specs.declared.row.Requester.{Requester}
-use Rattle.np_site.specs.declared.row.Fault.{Fault}
-use Rattle.np_site.specs.declared.row.FaultKind.{FaultKind}
+use Rattle.np_config.specs.Word.{fault_kind_of}
+use Rattle.np_config.specs.declared.row.Label.{Label}
+use Rattle.np_config.specs.declared.row.Sem.{Sem}
+use Rattle.np_config.specs.declared.row.Tenant.{Tenant}
+use Rattle.np_config.specs.declared.row.Requester.{Requester}
+use Rattle.np_config.specs.declared.row.Fault.{Fault}
+use Rattle.np_config.specs.declared.row.FaultKind.{FaultKind}
 use Rattle.np_text.specs.declared.word.RoleKind.{RoleKind}
 use Rattle.np_text.specs.declared.word.RoleKind.TheVariants as kind
 use Rattle.np_config_read.specs.declared.providers.Providers.{Providers}
 use Rattle.np_config_read.specs.declared.requesters.Requesters.{Requesters}
-use Rattle.np_site.specs.Configuration.{Configuration, configuration}
+use Rattle.np_config.specs.Configuration.{Configuration, configuration}
 use Rattle.np_config_read.specs.Names.{pool_names, pool_name, pool_named, requester_named, IsUnused}
 use Rattle.np_config_read.specs.Labels.{label_at, semaphore_at}
 use Rattle.np_config_read.specs.Providers.{provider_at}
@@ -40,11 +39,12 @@ use Rattle.np_config_read.specs.Faults.{role_named, required_word, role_at, faul
 use Rattle.np_config_read.specs.Walk.{labels_at, providers_at, semaphores_at, tenants_at, requesters_at, faults_at, configuration_at, parsed, reads}
 use Rattle.np_config_read.proofs.FullNames.{pool_names-unused}
 use Rattle.np_lists.specs.EachAfter.{EachAfter}
-use Rattle.np_site.specs.Sound.{IsLabel, IsSem, IsTenant, IsRole, IsFault, IsSound}
+use Rattle.np_config.specs.Sound.{IsLabel, IsSem, IsTenant, IsRole, IsFault, IsSound}
 use Rattle.np_config_read.proofs.RowTakes.{Rows, RowsAlone, RowsAlone-push, RowsAlone-none, found_within, label_at-takes, semaphore_at-takes}
 use Rattle.np_config_read.proofs.PoolTakes.{Supply, provider_at-takes, supply-none}
 use Rattle.np_config_read.proofs.TenantTakes.{tenant_at-takes}
 use Rattle.np_config_read.proofs.JobTakes.{Demands, requester_at-takes, demands-none}
+use Rattle.np_lists.proofs.Plain.{mapped}
 
 -- ## Faults
 
@@ -55,10 +55,6 @@ required_word-takes {A} meaning at key d x e =
     let v = bind-ok (required at key d) (λ v. text_value here v >>= meaning_of meaning here) x e in
     let w = bind-ok (text_value here v.0) (meaning_of meaning here) x v.2 in
     (w.0, found-some (meaning w.0) (fault UnknownName here) x w.2)
-
-mapped : {A B : Type 0} (f : A → B) (o : Option A) (y : B) → option_map f o ≡ Some y → (x : A) × (o ≡ Some x) × (f x ≡ y)
-mapped f None y e = absurd (cc)
-mapped f (Some x) y e = (x, refl, cc)
 
 role_named-takes : (pools : List (List ℕ)) (requesters : List Requester) (k : RoleKind) (text : List ℕ) (r : Role) → role_named pools requesters k text ≡ Some r → IsRole (length pools) (length requesters) r
 role_named-takes pools requesters kind.Launcher text r e =

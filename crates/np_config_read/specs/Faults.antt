@@ -13,9 +13,9 @@ use Rattle.np_lists.specs.Refusals.{◌>>=◌, ◌>>◌}
 use Rattle.np_json.specs.Reading.{below}
 use Rattle.np_json.specs.Leaf.{object_at, required, whole_required}
 use Rattle.np_json.specs.Rows.{ReadsItem}
-use Rattle.np_site.specs.declared.row.Requester.{Requester}
-use Rattle.np_site.specs.declared.row.Fault.{Fault}
-use Rattle.np_site.specs.Word.{fault_kind_of}
+use Rattle.np_config.specs.declared.row.Requester.{Requester}
+use Rattle.np_config.specs.declared.row.Fault.{Fault}
+use Rattle.np_config.specs.Word.{fault_kind_of}
 use Rattle.np_config_read.specs.Keys.{fault_keys}
 use Rattle.np_config_read.specs.Names.{pool_named, requester_named}
 use Rattle.np_config_read.specs.Requesters.{word_value}

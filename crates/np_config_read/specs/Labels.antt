@@ -6,8 +6,8 @@ use Rattle.np_lists.specs.Refusals.{◌>>=◌}
 use Rattle.np_json.specs.Leaf.{named_at, whole_or}
 use Rattle.np_json.specs.Rows.{ReadsItem}
 use Rattle.np_text.specs.declared.limit.TheConstants.{MIN_READY, AGE, HANDLES}
-use Rattle.np_site.specs.declared.row.Label.{Label}
-use Rattle.np_site.specs.declared.row.Sem.{Sem}
+use Rattle.np_config.specs.declared.row.Label.{Label}
+use Rattle.np_config.specs.declared.row.Sem.{Sem}
 use Rattle.np_config_read.specs.Keys.{label_keys, semaphore_keys}
 
 -- the rest of a label

@@ -11,13 +11,13 @@ use Rattle.np_lists.specs.Refusals.{◌>>=◌, ◌>>◌, need, found}
 use Rattle.np_json.specs.Reading.{fault, below}
 use Rattle.np_json.specs.Leaf.{at_most, one_to, behind, object_at, required, text_value, named_at, whole_value, whole_or, whole_maybe}
 use Rattle.np_json.specs.Rows.{ReadsItem, list_required, list_maybe}
-use Rattle.np_site.specs.declared.row.Label.{Label}
-use Rattle.np_site.specs.declared.row.Provider.{Provider}
-use Rattle.np_site.specs.declared.row.Pool.{Pool}
-use Rattle.np_site.specs.declared.row.Offer.{Offer}
+use Rattle.np_config.specs.declared.row.Label.{Label}
+use Rattle.np_config.specs.declared.row.Provider.{Provider}
+use Rattle.np_config.specs.declared.row.Pool.{Pool}
+use Rattle.np_config.specs.declared.row.Offer.{Offer}
 use Rattle.np_config_read.specs.declared.providers.PoolsOf.{PoolsOf}
 use Rattle.np_config_read.specs.declared.providers.Providers.{Providers}
-use Rattle.np_site.specs.Sound.{is_unoffered, is_above}
+use Rattle.np_config.specs.Sound.{is_unoffered, is_above}
 use Rattle.np_config_read.specs.Keys.{provider_keys, pool_keys, offer_keys}
 use Rattle.np_config_read.specs.Names.{label_named}
 

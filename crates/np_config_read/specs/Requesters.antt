@@ -16,15 +16,15 @@ use Rattle.np_lists.specs.Refusals.{◌>>=◌, ◌>>◌, need, found}
 use Rattle.np_json.specs.Reading.{fault, below}
 use Rattle.np_json.specs.Leaf.{at_most, one_to, behind, text_value, named_at, whole_or, flag_or}
 use Rattle.np_json.specs.Rows.{ReadsItem, list_required, list_maybe}
-use Rattle.np_site.specs.declared.row.Label.{Label}
-use Rattle.np_site.specs.declared.row.Sem.{Sem}
-use Rattle.np_site.specs.declared.row.Tenant.{Tenant}
-use Rattle.np_site.specs.declared.row.Requester.{Requester}
-use Rattle.np_site.specs.declared.row.Job.{Job}
+use Rattle.np_config.specs.declared.row.Label.{Label}
+use Rattle.np_config.specs.declared.row.Sem.{Sem}
+use Rattle.np_config.specs.declared.row.Tenant.{Tenant}
+use Rattle.np_config.specs.declared.row.Requester.{Requester}
+use Rattle.np_config.specs.declared.row.Job.{Job}
 use Rattle.np_config_read.specs.declared.requesters.Demand.{Demand}
 use Rattle.np_config_read.specs.declared.requesters.JobsOf.{JobsOf}
 use Rattle.np_config_read.specs.declared.requesters.Requesters.{Requesters}
-use Rattle.np_site.specs.Sound.{is_untaken}
+use Rattle.np_config.specs.Sound.{is_untaken}
 use Rattle.np_config_read.specs.Names.{semaphore_named, tenant_id, tenant_named}
 use Rattle.np_config_read.specs.Keys.{requester_keys, job_keys}
 use Rattle.np_config_read.specs.Providers.{label_value}

@@ -6,8 +6,8 @@ use Rattle.np_lists.specs.Refusals.{◌>>=◌, ◌>>◌, need}
 use Rattle.np_json.specs.Reading.{fault, below}
 use Rattle.np_json.specs.Leaf.{named_at}
 use Rattle.np_json.specs.Rows.{ReadsItem}
-use Rattle.np_site.specs.declared.row.Tenant.{Tenant}
-use Rattle.np_site.specs.Configuration.{default_name}
+use Rattle.np_config.specs.declared.row.Tenant.{Tenant}
+use Rattle.np_config.specs.Configuration.{default_name}
 use Rattle.np_config_read.specs.Keys.{tenant_keys}
 use Rattle.np_config_read.specs.Providers.{limit_at}
 

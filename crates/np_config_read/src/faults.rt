@@ -7,13 +7,13 @@ ghost use Rattle.np_config_read.specs.Requesters.{word_value};
 ghost use Rattle.np_config_read.specs.Names.{pool_named};
 ghost use Rattle.np_config_read.specs.Faults.{role_named, required_word, role_at, fault_at};
 ghost use Rattle.np_text.specs.Word.{role_kind_of};
-ghost use Rattle.np_site.specs.Word.{fault_kind_of};
+ghost use Rattle.np_config.specs.Word.{fault_kind_of};
 
 use crate::names::PoolName;
 use crate::requesters::meaning;
+use np_config::{Fault, FaultKind, Requester};
 use np_json::{ConfigRead, Place, Rows, Table, object, required, text_of, whole_required};
 use np_lists::Items;
-use np_site::{Fault, FaultKind, Requester};
 use np_text::{FAULT_ACTS, PoolId, RequesterId, Role, RoleKind};
 use serde_json::Value;
 use std::alloc::Global;

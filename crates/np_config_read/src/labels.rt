@@ -3,8 +3,8 @@
 ghost use Rattle.std.specs.Prelude.{◌≡◌, ◌+◌, ◌<◌, IfOk, length};
 ghost use Rattle.np_config_read.specs.Labels.{label_at, semaphore_at};
 
+use np_config::{Label, Name, Sem, Tenant};
 use np_json::{ConfigRead, NamedRow, Place, Rows, Table, named_row, whole};
-use np_site::{Label, Name, Sem, Tenant};
 use np_text::{AGE, HANDLES, MIN_READY};
 use serde_json::Value;
 use std::alloc::Global;

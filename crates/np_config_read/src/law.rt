@@ -3,10 +3,10 @@
 ghost use Rattle.std.specs.Prelude.{◌≡◌, ◌≤◌, ℕ, List, Ok, length};
 ghost use Rattle.std.specs.List.{AllByRecursion};
 ghost use Rattle.np_text.specs.declared.limit.TheConstants.{JOBS};
-ghost use Rattle.np_site.specs.declared.row.Label.{Label};
-ghost use Rattle.np_site.specs.declared.row.Offer.{Offer};
-ghost use Rattle.np_site.specs.declared.row.Sem.{Sem};
-ghost use Rattle.np_site.specs.declared.row.Tenant.{Tenant};
+ghost use Rattle.np_config.specs.declared.row.Label.{Label};
+ghost use Rattle.np_config.specs.declared.row.Offer.{Offer};
+ghost use Rattle.np_config.specs.declared.row.Sem.{Sem};
+ghost use Rattle.np_config.specs.declared.row.Tenant.{Tenant};
 ghost use Rattle.np_config_read.specs.declared.providers.PoolsOf.{PoolsOf};
 ghost use Rattle.np_config_read.specs.declared.providers.Providers.{Providers};
 ghost use Rattle.np_config_read.specs.declared.requesters.JobsOf.{JobsOf};

@@ -4,8 +4,8 @@ ghost use Rattle.std.specs.Prelude.{◌≡◌, ◌<◌, ◌^◌, [], map, length
 ghost use Rattle.np_config_read.specs.Names.{pool_name, pool_names, IsUnused};
 ghost use Rattle.np_lists.specs.EachAfter.{EachAfter};
 
+use np_config::{Name, Named, Pool, Provider};
 use np_json::Table;
-use np_site::{Name, Named, Pool, Provider};
 use std::alloc::{AllocError, Global};
 
 /// The name of a provider, `/`, and the name of its pool.

@@ -9,12 +9,12 @@ ghost use Rattle.np_config_read.specs.Providers.{label_for, label_value, offer_l
 
 use crate::labels::{Alone, Labels};
 use np_amount::{Amount, Limit};
+use np_config::{Name, NumberList, Offer, OfferList, Pool, Provider};
 use np_json::{
     ConfigKind, ConfigRead, Length, Marked, NamedRow, Place, Rows, Table, fault_in, named_row,
     object, required, rows_maybe, rows_required, text_of, whole, whole_maybe, whole_of,
 };
 use np_lists::Items;
-use np_site::{Name, NumberList, Offer, OfferList, Pool, Provider};
 use np_text::{
     CONCURRENCY, FAIL_STARTS, LABELS, LAUNCHES, LabelId, NODE_CORES, NODE_RAM, POOL_CORES,
     POOL_RAM, POOL_SERVERS, POOLS, START_NUMBER,
@@ -111,7 +111,7 @@ impl Rows<Labels> for Marked<Offer> {
     }
 }
 
-ghost use Rattle.np_site.specs.Sound.{is_above};
+ghost use Rattle.np_config.specs.Sound.{is_above};
 
 fn is_above(starts: &[u32], start: u32) -> bool
     ensures { result ≡ is_above starts.now start }

@@ -10,12 +10,12 @@ ghost use Rattle.np_config_read.specs.Requesters.{wanted_at, taken_at, semaphore
 use crate::labels::{Known, Labels};
 use crate::providers::label_of;
 use crate::tenants::tenant_of;
+use np_config::{Job, LabelList, Name, Requester, SemList};
 use np_json::{
     ConfigKind, ConfigRead, Length, Marked, NamedRow, Place, Rows, Table, fault_in, flag,
     named_row, rows_maybe, rows_required, text_of, whole,
 };
 use np_lists::Items;
-use np_site::{Job, LabelList, Name, Requester, SemList};
 use np_text::{
     EndAs, JOB_LABELS, JOB_SEMAPHORES, JOBS, RELATIVE_PRIORITY, RequesterId, SemId, WINDOW,
 };

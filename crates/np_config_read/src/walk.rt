@@ -11,12 +11,11 @@ use crate::labels::{Alone, Known, Labels};
 use crate::names::names_of_pools;
 use crate::providers::Providers;
 use crate::requesters::Requesters;
-use np_config::Config;
+use np_config::{Config, Fault, Requester, Sem, Tenant};
 use np_json::{
     ConfigKind, ConfigRead, Length, Table, fault_at, object, rows_maybe, rows_required, whole,
 };
 use np_lists::Items;
-use np_site::{Fault, Requester, Sem, Tenant};
 use np_text::{AGE, FAULTS, LABELS, PROVIDERS, REQUESTERS, SEMAPHORES, TENANTS};
 use serde_json::{Category, Value};
 use std::alloc::{AllocError, Global};
@@ -164,7 +163,7 @@ fn configuration_of(alloc: Global, value: &Value) -> Result<Config, ConfigRead>
     rest_of(alloc, age, supply, known, value)
 }
 
-ghost use Rattle.np_site.specs.Sound.{IsSound};
+ghost use Rattle.np_config.specs.Sound.{IsSound};
 
 /// The configuration that the bytes of a JSON text are, or the first fault of a walk through it:
 /// depth first, the keys of an object in the order of the documentation, lists from the front.

@@ -1,5 +1,5 @@
 -- the value of a sound configuration is read as that configuration
-use Rattle.std.proofs.Common.{◌≡◌, ℕ, ◌+◌, ◌<◌, ◌≤◌, zero, suc, Bool, true, false, List, [], ◌∷◌, ◌++◌, codes, map, length, take, nat_le, nat_lt, Option, Some, None, Ok, IfSome, decimal, refl, sym, ap, ◌∙◌, subst, append_assoc, append-nil, arith}
+use Rattle.std.proofs.Common.{◌≡◌, ℕ, ◌+◌, ◌<◌, ◌≤◌, zero, suc, Bool, true, false, List, [], ◌∷◌, ◌++◌, codes, map, length, take, nat_lt, Option, Some, None, Ok, IfSome, decimal, refl, sym, ap, ◌∙◌, subst, append_assoc, append-nil, arith}
 use Rattle.std.specs.Prelude.{slice_get, position, ◌==◌}
 use Rattle.std.specs.List.{list_any, position_or_len}
 use Rattle.std.specs.Option.{option_map, option_map_or}
@@ -20,23 +20,18 @@ use Rattle.np_json.specs.Leaf.{whole_value, name_at, named_at, new_name}
 use Rattle.np_json.specs.Rows.{ReadsItem, items_from, list_at}
 use Rattle.np_json.proofs.Takes.{ok}
 use Rattle.np_text.specs.declared.limit.TheConstants.{MIN_READY, AGE, HANDLES, START_NUMBER, NODE_CORES, NODE_RAM, POOL_SERVERS, POOL_CORES, POOL_RAM}
-use Rattle.np_site.specs.declared.row.Label.{Label}
-use Rattle.np_site.specs.declared.row.Sem.{Sem}
-use Rattle.np_site.specs.declared.row.Offer.{Offer}
-use Rattle.np_site.specs.Configuration.{Configuration}
+use Rattle.np_config.specs.declared.row.Label.{Label}
+use Rattle.np_config.specs.declared.row.Sem.{Sem}
+use Rattle.np_config.specs.declared.row.Offer.{Offer}
+use Rattle.np_config.specs.Configuration.{Configuration}
 use Rattle.np_config_read.specs.Names.{label_named, semaphore_named}
 use Rattle.np_config_read.specs.Labels.{label_row, label_at, semaphore_at}
 use Rattle.np_config_read.specs.Providers.{limit_at, label_for, label_value, offer_label, offer_amount, offer_at, start_at}
 use Rattle.np_lists.specs.EachAfter.{EachAfter}
-use Rattle.np_site.specs.Sound.{HasNewName, IsLabel, IsSem, IsOffer, IsStart, IsLimit}
+use Rattle.np_config.specs.Sound.{HasNewName, IsLabel, IsSem, IsOffer, IsStart, IsLimit}
 use Rattle.np_config_read.specs.Defaults.{count}
 use Rattle.np_config_text.specs.Canonical.{list_data, label_data, label_name, semaphore_name, semaphore_data, offer_data}
-
-pub low_test : (n : ℕ) → nat_le 0 n ≡ true
-low_test n = grind (arith, nat_tests)
-
-pub most_test : (n m : ℕ) → n ≤ m → nat_le n m ≡ true
-most_test n m h = grind (arith, nat_tests)
+use Rattle.np_lists.proofs.Plain.{is-at_most}
 
 pub items_len-of : {T : Type 0} (shown : T → Data) (xs : List T) → items_len (items_of (map shown xs)) ≡ length xs
 items_len-of shown [] = refl
@@ -52,15 +47,15 @@ module _ {T : Type 0} (read : ReadsItem (List T)) (shown : T → Data) (P : List
   pub list_again : (at : List ℕ) (l : Length) (xs : List T) → EachAfter P [] xs → l.before + length xs ≤ l.most → l.least ≤ length xs → list_at read at l [] (list_data shown xs) ≡ Ok xs
   unfolding list_at
   list_again at l xs each most least =
-      let few = most_test (l.before + length xs) l.most most in
-      let some = most_test l.least (length xs) least in
+      let few = is-at_most (l.before + length xs) l.most most in
+      let some = is-at_most l.least (length xs) least in
       rw (items_len-of shown xs, few, some, items_again at 0 [] xs each) refl
 
 -- ## Numbers
 
 -- a number of a range is read as it
 pub whole_again : (at : List ℕ) (least most n : ℕ) → least ≤ n → n ≤ most → whole_value at least most (count n) ≡ Ok n
-whole_again at least most n low high = rw (most_test least n low, most_test n most high) refl
+whole_again at least most n low high = rw (is-at_most least n low, is-at_most n most high) refl
 
 pub up_to_again : (at : List ℕ) (most n : ℕ) → n ≤ most → whole_value at 0 most (count n) ≡ Ok n
 up_to_again at most n high = whole_again at 0 most n (omega arith) high

@@ -1,5 +1,5 @@
 -- the values of faults are read as those
-use Rattle.std.proofs.Common.{◌≡◌, ℕ, ◌<◌, zero, suc, true, List, [], ◌∷◌, ◌++◌, codes, map, length, Option, Some, None, Ok, refl, sym, ap, ◌∙◌, arith}
+use Rattle.std.proofs.Common.{◌≡◌, ℕ, ◌<◌, zero, suc, true, List, [], ◌∷◌, ◌++◌, codes, length, Option, Some, None, Ok, refl, sym, ap, ◌∙◌, arith}
 use Rattle.std.specs.Prelude.{slice_get, position, nat_lt}
 use Rattle.std.specs.Option.{option_map, option_map_or}
 use Rattle.std.specs.Str.{bytes_eq}
@@ -10,27 +10,23 @@ use Rattle.np_text.specs.declared.id.RequesterId.{RequesterId}
 use Rattle.np_text.specs.declared.id.Role.{Role}
 use Rattle.np_text.specs.declared.id.Role.TheVariants as role
 use Rattle.np_json.specs.Leaf.{whole_required}
-use Rattle.np_site.specs.Word.{fault_kind_word, fault_kind_of}
-use Rattle.np_site.specs.declared.row.Requester.{Requester}
-use Rattle.np_site.specs.declared.row.Fault.{Fault}
-use Rattle.np_site.specs.declared.row.FaultKind.{FaultKind}
-use Rattle.np_site.specs.declared.row.FaultKind.TheVariants.{Expire, Crash, Stop}
-use Rattle.np_site.specs.Configuration.{Configuration}
+use Rattle.np_config.specs.Word.{fault_kind_word, fault_kind_of}
+use Rattle.np_config.specs.declared.row.Requester.{Requester}
+use Rattle.np_config.specs.declared.row.Fault.{Fault}
+use Rattle.np_config.specs.declared.row.FaultKind.{FaultKind}
+use Rattle.np_config.specs.declared.row.FaultKind.TheVariants.{Expire, Crash, Stop}
+use Rattle.np_config.specs.Configuration.{Configuration}
 use Rattle.np_config_read.specs.Names.{pool_name, pool_names, pool_named, requester_named, IsUnused}
 use Rattle.np_config_read.specs.Requesters.{word_value}
 use Rattle.np_config_read.specs.Faults.{required_word, role_at, fault_at}
 use Rattle.np_lists.specs.EachAfter.{EachAfter}
-use Rattle.np_site.specs.Sound.{IsRequester, IsRole, IsFault, AreProviders}
+use Rattle.np_config.specs.Sound.{IsRequester, IsRole, IsFault, AreProviders}
 use Rattle.np_config_text.specs.Canonical.{full_name, requester_name, fault_data}
 use Rattle.np_config_read.proofs.FullNames.{pool_names-unused}
 use Rattle.np_json.specs.Reading.{below}
 use Rattle.np_text.specs.declared.limit.TheConstants.{FAULT_ACTS}
 use Rattle.np_config_text.proofs.Again.{up_to_again, bytes_eq-refl, first_place, stands_there, found_again}
-
-slice_get-map : {A B : Type 0} (f : A → B) (xs : List A) (i : ℕ) → slice_get (map f xs) i ≡ option_map f (slice_get xs i)
-slice_get-map f [] i = refl
-slice_get-map f (x ∷ xs) zero = refl
-slice_get-map f (x ∷ xs) (suc i) = slice_get-map f xs i
+use Rattle.np_lists.proofs.Plain.{get-map}
 
 or_there : {A : Type 0} (f : A → List ℕ) (o : Option A) (t : List ℕ) → option_map f o ≡ Some t → option_map_or f o [] ≡ t
 or_there f None t e = absurd (cc)
@@ -42,7 +38,7 @@ pool_reference c labels p are within =
     let count : length names ≡ length c.pools = length-map c.pools (pool_name c.providers) in
     let inside : p.0 < length names = omega arith in
     let there = stands_there IsUnused [] names p.0 inside (pool_names-unused labels c.providers c.pools are) in
-    let here : full_name c p ≡ there.0 = or_there (pool_name c.providers) (slice_get c.pools p.0) there.0 (sym (slice_get-map (pool_name c.providers) c.pools p.0) ∙ there.1) in
+    let here : full_name c p ≡ there.0 = or_there (pool_name c.providers) (slice_get c.pools p.0) there.0 (sym (get-map (pool_name c.providers) c.pools p.0) ∙ there.1) in
     let place = first_place (bytes_eq there.0) names p.0 there.0 there.2 there.1 (bytes_eq-refl there.0) in
     let less : nat_lt p.0 (length names) ≡ true = grind (arith, nat_tests) in
     let found : position (bytes_eq there.0) names ≡ Some p.0 = rw (place, less) refl in

@@ -17,16 +17,16 @@ use Rattle.np_json.proofs.Takes.{ok}
 use Rattle.np_text.specs.declared.limit.TheConstants.{JOBS, JOB_LABELS, JOB_SEMAPHORES, WINDOW, RELATIVE_PRIORITY}
 use Rattle.np_json.specs.Leaf.{at_most, one_to, behind}
 use Rattle.np_text.specs.Word.{end_as_word, end_as_of}
-use Rattle.np_site.specs.declared.row.Requester.{Requester}
-use Rattle.np_site.specs.declared.row.Job.{Job}
-use Rattle.np_site.specs.Configuration.{Configuration}
+use Rattle.np_config.specs.declared.row.Requester.{Requester}
+use Rattle.np_config.specs.declared.row.Job.{Job}
+use Rattle.np_config.specs.Configuration.{Configuration}
 use Rattle.np_config_read.specs.Keys.{job_keys}
 use Rattle.np_config_read.specs.Providers.{label_value, label_for}
 use Rattle.np_config_read.specs.Requesters.{JobsSoFar, RequestersSoFar, wanted_at, taken_at, semaphore_for, priority_of, word_value, wants_at, takes_at, demand_at, job_row, job_at, jobs_at, requester_row, requester_at}
 use Rattle.np_lists.specs.EachAfter.{EachAfter}
-use Rattle.np_site.specs.Sound.{IsLabel, IsSem, IsTenant, IsWanted, IsTaken, IsPriority, IsJob, IsRequester, AreRequesters}
+use Rattle.np_config.specs.Sound.{IsLabel, IsSem, IsTenant, IsWanted, IsTaken, IsPriority, IsJob, IsRequester, AreRequesters}
 use Rattle.np_config_text.specs.Canonical.{list_data, label_name, semaphore_name, priority_word, job_tenant, job_data, jobs_of, requester_data, placed}
-use Rattle.np_site.proofs.Owners.{below, below-more, rows_of}
+use Rattle.np_config.proofs.Owners.{below, below-more, rows_of}
 use Rattle.np_config_text.proofs.Again.{whole_again, up_to_again, list_again, label_reference, semaphore_reference}
 use Rattle.np_config_text.proofs.Members.{keys-given, get-given}
 use Rattle.np_config_text.proofs.AgainTenants.{job_tenant_again}

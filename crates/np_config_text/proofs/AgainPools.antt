@@ -8,16 +8,17 @@ use Rattle.np_json.specs.Leaf.{at_most, name_at, named_at, new_name}
 use Rattle.np_text.specs.declared.limit.TheConstants.{LABELS, FAIL_STARTS}
 use Rattle.np_json.specs.Rows.{ReadsItem, items_from, list_at, list_required, list_maybe}
 use Rattle.np_json.proofs.Takes.{ok}
-use Rattle.np_site.specs.declared.row.Pool.{Pool}
-use Rattle.np_site.specs.Configuration.{Configuration}
+use Rattle.np_config.specs.declared.row.Pool.{Pool}
+use Rattle.np_config.specs.Configuration.{Configuration}
 use Rattle.np_config_read.specs.Keys.{pool_keys}
 use Rattle.np_config_read.specs.Providers.{PoolsSoFar, offer_at, start_at, offers_at, starts_at, pool_row, pool_at}
 use Rattle.np_lists.specs.EachAfter.{EachAfter}
-use Rattle.np_site.specs.Sound.{IsLabel, IsOffer, IsStart, IsPool}
+use Rattle.np_config.specs.Sound.{IsLabel, IsOffer, IsStart, IsPool}
 use Rattle.np_config_read.specs.Defaults.{count}
 use Rattle.np_config_text.specs.Canonical.{list_data, offer_data, pool_data}
 use Rattle.np_config_text.proofs.Members.{keys-limit, get-limit_other, get-servers, get-cores, get-ram}
-use Rattle.np_config_text.proofs.Again.{most_test, items_len-of, list_again, limit_again, offer_again, start_again}
+use Rattle.np_config_text.proofs.Again.{items_len-of, list_again, limit_again, offer_again, start_again}
+use Rattle.np_lists.proofs.Plain.{is-at_most}
 
 -- a list of this many rows, each of which is read into a state
 module _ {S T : Type 0} (read : ReadsItem S) (shown : T → Data) (Fit : S → T → Type 0) (after : S → T → S)
@@ -38,8 +39,8 @@ module _ {S T : Type 0} (read : ReadsItem S) (shown : T → Data) (Fit : S → T
   pub state_list_again : (at : List ℕ) (l : Length) (s : S) (xs : List T) → EachFits s xs → l.before + length xs ≤ l.most → l.least ≤ length xs → list_at read at l s (list_data shown xs) ≡ Ok (all_after s xs)
   unfolding list_at
   state_list_again at l s xs each most least =
-      let few = most_test (l.before + length xs) l.most most in
-      let some = most_test l.least (length xs) least in
+      let few = is-at_most (l.before + length xs) l.most most in
+      let some = is-at_most l.least (length xs) least in
       rw (items_len-of shown xs, few, some, states_again at 0 s xs each) refl
 
 abbrev pub joined : PoolsSoFar → Pool → PoolsSoFar

@@ -12,16 +12,16 @@ use Rattle.np_json.specs.Rows.{items_from, list_at, list_required}
 use Rattle.np_json.proofs.Takes.{ok}
 use Rattle.np_text.specs.declared.limit.TheConstants.{POOLS, LAUNCHES, CONCURRENCY}
 use Rattle.np_json.specs.Leaf.{one_to, behind}
-use Rattle.np_site.specs.declared.row.Provider.{Provider}
-use Rattle.np_site.specs.declared.row.Pool.{Pool}
-use Rattle.np_site.specs.Configuration.{Configuration}
+use Rattle.np_config.specs.declared.row.Provider.{Provider}
+use Rattle.np_config.specs.declared.row.Pool.{Pool}
+use Rattle.np_config.specs.Configuration.{Configuration}
 use Rattle.np_config_read.specs.Keys.{provider_keys}
 use Rattle.np_config_read.specs.Providers.{PoolsSoFar, ProvidersSoFar, pool_at, provider_row, pools_at, provider_at}
 use Rattle.np_lists.specs.EachAfter.{EachAfter}
-use Rattle.np_site.specs.Sound.{IsLabel, IsPool, IsProvider, AreProviders}
+use Rattle.np_config.specs.Sound.{IsLabel, IsPool, IsProvider, AreProviders}
 use Rattle.np_config_read.specs.Defaults.{count}
 use Rattle.np_config_text.specs.Canonical.{list_data, pool_data, pools_of, provider_data, placed}
-use Rattle.np_site.proofs.Owners.{below, below-more, rows_of}
+use Rattle.np_config.proofs.Owners.{below, below-more, rows_of}
 use Rattle.np_lists.proofs.Each.{length-filter_at_most}
 use Rattle.np_lists.proofs.KeptLemmas.{All-filter_number}
 use Rattle.np_config_text.proofs.Members.{keys-given, get-other, get-given}

@@ -10,9 +10,9 @@ use Rattle.np_text.specs.declared.limit.TheConstants.{TENANTS}
 use Rattle.np_json.specs.Leaf.{at_most, name_at, named_at, new_name}
 use Rattle.np_json.specs.Rows.{list_at}
 use Rattle.np_json.proofs.Takes.{ok}
-use Rattle.np_site.specs.declared.row.Tenant.{Tenant}
-use Rattle.np_site.specs.Configuration.{Configuration, default_name}
-use Rattle.np_site.specs.Sound.{IsTenant}
+use Rattle.np_config.specs.declared.row.Tenant.{Tenant}
+use Rattle.np_config.specs.Configuration.{Configuration, default_name}
+use Rattle.np_config.specs.Sound.{IsTenant}
 use Rattle.np_lists.specs.EachAfter.{EachAfter}
 use Rattle.np_config_read.specs.Keys.{tenant_keys}
 use Rattle.np_config_read.specs.Names.{tenant_id, tenant_named}
@@ -44,9 +44,6 @@ tenants_again at ts each few = by ts each few (length ts == 0) refl
     by (u ∷ us) each few false is = list_again tenant_at tenant_data IsTenant tenant_again at (at_most TENANTS) (u ∷ us) each (omega arith) (omega arith)
 
 -- ## The tenant of a job
-
-default_reference : (ts : List Tenant) → tenant_named ts default_name ≡ Some (tenant_id 0)
-default_reference ts = refl
 
 listed_reference : (c : Configuration) (i : ℕ) → EachAfter IsTenant [] c.tenants → i < length c.tenants → tenant_named c.tenants (tenant_name c (tenant_id (suc i))) ≡ Some (tenant_id (suc i))
 listed_reference c i each within =

@@ -11,11 +11,11 @@ use Rattle.np_json.specs.Rows.{ReadsItem, items_from, list_at, list_required, li
 use Rattle.np_json.proofs.Takes.{ok}
 use Rattle.np_text.specs.declared.limit.TheConstants.{LABELS, PROVIDERS, SEMAPHORES, REQUESTERS, FAULTS, AGE}
 use Rattle.np_json.specs.Leaf.{at_most, one_to}
-use Rattle.np_site.specs.declared.row.Provider.{Provider}
-use Rattle.np_site.specs.declared.row.Pool.{Pool}
-use Rattle.np_site.specs.declared.row.Requester.{Requester}
-use Rattle.np_site.specs.declared.row.Job.{Job}
-use Rattle.np_site.specs.Configuration.{Configuration}
+use Rattle.np_config.specs.declared.row.Provider.{Provider}
+use Rattle.np_config.specs.declared.row.Pool.{Pool}
+use Rattle.np_config.specs.declared.row.Requester.{Requester}
+use Rattle.np_config.specs.declared.row.Job.{Job}
+use Rattle.np_config.specs.Configuration.{Configuration}
 use Rattle.np_config_read.specs.Keys.{top_keys}
 use Rattle.np_config_read.specs.Names.{pool_names}
 use Rattle.np_config_read.specs.Labels.{label_at, semaphore_at}
@@ -23,17 +23,18 @@ use Rattle.np_config_read.specs.Providers.{ProvidersSoFar, provider_at}
 use Rattle.np_config_read.specs.Requesters.{RequestersSoFar, requester_at}
 use Rattle.np_config_read.specs.Faults.{fault_at}
 use Rattle.np_config_read.specs.Walk.{configuration_at, reads}
-use Rattle.np_site.specs.Sound.{IsLabel, IsSem, IsPool, IsJob, IsFault, IsSound}
+use Rattle.np_config.specs.Sound.{IsLabel, IsSem, IsPool, IsJob, IsFault, IsSound}
 use Rattle.np_config_text.specs.Canonical.{label_data, provider_data, semaphore_data, list_if_any, tenant_data, requester_data, fault_data, placed, configuration_data}
-use Rattle.np_site.proofs.Owners.{below, below-none, below-all}
+use Rattle.np_config.proofs.Owners.{below, below-none, below-all}
 use Rattle.np_config_read.proofs.Parsed.{parsed-some}
 use Rattle.np_lists.proofs.EachAfterLemmas.{EachAfter-from_all}
-use Rattle.np_config_text.proofs.Again.{most_test, up_to_again, list_again, label_again, semaphore_again}
+use Rattle.np_config_text.proofs.Again.{up_to_again, list_again, label_again, semaphore_again}
 use Rattle.np_config_text.proofs.AgainProviders.{providers_again}
 use Rattle.np_config_text.proofs.Members.{keys-given, get-given}
 use Rattle.np_config_text.proofs.AgainTenants.{tenants_again}
 use Rattle.np_config_text.proofs.AgainJobs.{requesters_again}
 use Rattle.np_config_text.proofs.AgainFaults.{fault_again}
+use Rattle.np_lists.proofs.Plain.{is-at_most}
 
 items_len-of : (ds : List Data) → items_len (items_of ds) ≡ length ds
 items_len-of [] = refl
@@ -48,8 +49,8 @@ list_at-items : {S : Type 0} (read : ReadsItem S) (at : List ℕ) (l : Length) (
     → list_at read at l s (array (items_of ds)) ≡ Ok t
 unfolding list_at
 list_at-items read at l s t ds items most least =
-    let few = most_test (l.before + length ds) l.most most in
-    let some = most_test l.least (length ds) least in
+    let few = is-at_most (l.before + length ds) l.most most in
+    let some = is-at_most l.least (length ds) least in
     rw (items_len-of ds, few, some, items) refl
 
 abbrev supply : List Provider → List Pool → ProvidersSoFar

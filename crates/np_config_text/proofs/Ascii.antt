@@ -3,22 +3,22 @@ use Rattle.std.proofs.Common.{◌≡◌, ℕ, zero, suc, length, List, [], ◌�
 use Rattle.std.specs.Prelude.{slice_get, All}
 use Rattle.std.specs.Option.{option_map_or}
 use Rattle.std.specs.Str.{IsAscii}
-use Rattle.std.proofs.lemmas.Str.{IsUtf8-from_ascii}
+use Rattle.std.proofs.lemmas.Str.{IsUtf8-from_ascii, IsAscii-append}
 use Rattle.std.proofs.lemmas.Str.Ascii.{IsAscii-nil, IsAscii-cons}
 use Rattle.np_text.specs.Name.{is_name_text}
 use Rattle.np_text.proofs.NameLemmas.{IsAscii-name}
-use Rattle.np_site.specs.declared.row.Label.{Label}
-use Rattle.np_site.specs.declared.row.Sem.{Sem}
-use Rattle.np_site.specs.declared.row.Tenant.{Tenant}
-use Rattle.np_site.specs.declared.row.Requester.{Requester}
-use Rattle.np_site.specs.declared.row.Provider.{Provider}
-use Rattle.np_site.specs.declared.row.Pool.{Pool}
-use Rattle.np_site.specs.declared.row.Job.{Job}
+use Rattle.np_config.specs.declared.row.Label.{Label}
+use Rattle.np_config.specs.declared.row.Sem.{Sem}
+use Rattle.np_config.specs.declared.row.Tenant.{Tenant}
+use Rattle.np_config.specs.declared.row.Requester.{Requester}
+use Rattle.np_config.specs.declared.row.Provider.{Provider}
+use Rattle.np_config.specs.declared.row.Pool.{Pool}
+use Rattle.np_config.specs.declared.row.Job.{Job}
 use Rattle.np_text.specs.declared.id.TenantId.{TenantId}
-use Rattle.np_site.specs.Configuration.{Configuration, default_name, default_tenant, tenant_of}
+use Rattle.np_config.specs.Configuration.{Configuration, default_name, default_tenant, tenant_of}
 use Rattle.np_config_read.specs.Names.{pool_name}
 use Rattle.np_lists.specs.EachAfter.{EachAfter}
-use Rattle.np_site.specs.Sound.{StandsByOwner, IsSound, IsLabel, IsSem, IsTenant, IsRequester, IsProvider, IsPool, IsJob}
+use Rattle.np_config.specs.Sound.{StandsByOwner, IsSound, IsLabel, IsSem, IsTenant, IsRequester, IsProvider, IsPool, IsJob}
 use Rattle.np_lists.proofs.EachAfterLemmas.{All-from_each}
 
 -- the row at a place has what each row has
@@ -74,11 +74,6 @@ pub jobs-ascii : (c : Configuration) → IsSound c → All (λ j. IsAscii j.name
 jobs-ascii c sound =
     All-from_each (StandsByOwner (λ (j : Job). j.requester.0) (IsJob (length c.labels) (length c.semaphores) (length c.tenants))) (λ (j : Job). IsAscii j.name) (λ e j is. IsAscii-name j.name is.own.name.named) [] c.jobs sound.demand.each_job
 
--- a full name is ASCII
-append-ascii : (a b : List ℕ) → IsAscii a → IsAscii b → IsAscii (a ++ b)
-append-ascii [] b one two = two
-append-ascii (x ∷ a) b one two = IsAscii-cons x (a ++ b) (one 0) (append-ascii a b (λ i. one (suc i)) two)
-
 or_empty : {T : Type 0} (name : T → List ℕ) (o : Option T) → ((x : T) → o ≡ Some x → IsAscii (name x)) → IsAscii (option_map_or name o [])
 or_empty name None some = IsAscii-nil
 or_empty name (Some x) some = some x refl
@@ -88,4 +83,4 @@ pool_name-ascii c i p sound there =
     let own : IsAscii p.name = at_place (StandsByOwner (λ (q : Pool). q.provider) (IsPool (length c.labels))) (λ (q : Pool). IsAscii q.name) (λ e q is. IsAscii-name q.name is.own.name.named) [] c.pools i p sound.supply.each_pool there in
     let provider = or_empty (λ (q : Provider). q.name) (slice_get c.providers p.provider)
     (λ x has. at_place IsProvider (λ (q : Provider). IsAscii q.name) (λ e q is. IsAscii-name q.name is.name.named) [] c.providers p.provider x sound.supply.each_provider has) in
-    append-ascii (option_map_or (λ (q : Provider). q.name) (slice_get c.providers p.provider) []) (47 ∷ p.name) provider (IsAscii-cons 47 p.name (omega arith) own)
+    IsAscii-append (option_map_or (λ (q : Provider). q.name) (slice_get c.providers p.provider) []) (47 ∷ p.name) provider (IsAscii-cons 47 p.name (omega arith) own)

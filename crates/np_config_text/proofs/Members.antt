@@ -11,8 +11,9 @@ use Rattle.np_amount.specs.declared.amount.Limit.{Limit}
 use Rattle.np_json.specs.Leaf.{only_keys}
 use Rattle.np_config_read.proofs.Puts.{other, passed, reached}
 use Rattle.np_config_read.specs.Defaults.{count}
-use Rattle.np_config_text.specs.Canonical.{given, given_count, given_limit}
-use Rattle.np_config_text.specs.Put.{put_given, put_count, put_limit}
+use Rattle.np_config_text.specs.Canonical.{given, given_limit}
+use Rattle.np_config_text.specs.Put.{put_given, put_limit}
+use Rattle.std.proofs.lemmas.Bool.{and_parts}
 
 -- ## What is found
 
@@ -52,15 +53,11 @@ pub behind-given : (k l : List ℕ) (o : Option Data) (ms : Members) → is_gt (
 behind-given k l None ms after rest = rest
 behind-given k l (Some d) ms after rest = rw (after, rest) refl
 
-both : (a b : Bool) → (a && b) ≡ true → (a ≡ true) × (b ≡ true)
-both true b e = (refl, e)
-both false b e = absurd (cc)
-
 -- a member whose key comes after all is put last
 pub put-behind : (k : List ℕ) (d : Data) (ms : Members) → is_behind k ms ≡ true → put k d ms ≡ then ms (member k d no_members)
 put-behind k d no_members after = refl
 put-behind k d (member l e ms) after =
-    let parts = both (is_gt (slice_cmp nat_cmp k l)) (is_behind k ms) after in
+    let parts = and_parts (is_gt (slice_cmp nat_cmp k l)) (is_behind k ms) after in
     by (slice_cmp nat_cmp k l) parts.0 (put-behind k d ms parts.1)
   where
     by : (r : Ordering) → is_gt r ≡ true → put k d ms ≡ then ms (member k d no_members)
@@ -84,7 +81,7 @@ then-then (member k d ms) ns os = ap (member k d) (then-then ms ns os)
 behind-then : (k : List ℕ) (ms ns : Members) → is_behind k ms ≡ true → is_behind k ns ≡ true → is_behind k (then ms ns) ≡ true
 behind-then k no_members ns one two = two
 behind-then k (member l e ms) ns one two =
-    let parts = both (is_gt (slice_cmp nat_cmp k l)) (is_behind k ms) one in
+    let parts = and_parts (is_gt (slice_cmp nat_cmp k l)) (is_behind k ms) one in
     rw (parts.0, behind-then k ms ns parts.1 two) refl
 
 -- one more after members that were put after others
@@ -183,23 +180,6 @@ pool_members starts offers name l =
 
 pub tenant_members : (name : Data) (l : Limit) → put (codes "name") name (put_limit l no_members) ≡ given_limit l (member (codes "name") name no_members)
 tenant_members name l = limit_and_name no_members name l refl refl refl refl
-
-pub provider_members : (retries name pools : Data) (concurrency : Option ℕ)
-    → put (codes "pools") pools (put (codes "name") name (put_count (codes "max-concurrency") concurrency (put (codes "launch-retries") retries no_members)))
-    ≡ member (codes "launch-retries") retries (given_count (codes "max-concurrency") concurrency (member (codes "name") name (member (codes "pools") pools no_members)))
-provider_members retries name pools concurrency =
-    let o = option_map count concurrency in
-    let base = member (codes "launch-retries") retries no_members in
-    let own : Members → Members = given (codes "max-concurrency") o in
-    let named = member (codes "name") name no_members in
-    let first : put_given (codes "max-concurrency") o base ≡ then base (own no_members) = put_given-behind (codes "max-concurrency") o base refl in
-    let second : put (codes "name") name (then base (own no_members)) ≡ then base (own named) =
-    put-behind (codes "name") name (then base (own no_members)) (behind-given (codes "name") (codes "max-concurrency") o no_members refl refl)
-    ∙ ap (then base) (then-given (codes "max-concurrency") o no_members named) in
-    let third : put (codes "pools") pools (then base (own named)) ≡ then base (own (then named (member (codes "pools") pools no_members))) =
-    put-behind (codes "pools") pools (then base (own named)) (behind-given (codes "pools") (codes "max-concurrency") o named refl refl)
-    ∙ ap (then base) (then-given (codes "max-concurrency") o named (member (codes "pools") pools no_members)) in
-    ap (λ x. put (codes "pools") pools (put (codes "name") name x)) first ∙ ap (put (codes "pools") pools) second ∙ third
 
 pub job_members : (end labels name priority relative first semaphores : Data) (tenant : Option Data)
     → put_given (codes "tenant") tenant (put (codes "semaphores") semaphores (put (codes "resources-first") first (put (codes "relative-priority") relative (

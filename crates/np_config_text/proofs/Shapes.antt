@@ -7,12 +7,12 @@ use Rattle.serde_json.specs.Written.{has_float, items_have_float, members_have_f
 use Rattle.np_text.specs.declared.id.LabelId.{LabelId}
 use Rattle.np_text.specs.declared.id.SemId.{SemId}
 use Rattle.np_text.specs.declared.id.TenantId.{TenantId}
-use Rattle.np_site.specs.declared.row.Provider.{Provider}
-use Rattle.np_site.specs.declared.row.Pool.{Pool}
-use Rattle.np_site.specs.declared.row.Tenant.{Tenant}
-use Rattle.np_site.specs.declared.row.Requester.{Requester}
-use Rattle.np_site.specs.declared.row.Job.{Job}
-use Rattle.np_site.specs.Configuration.{Configuration}
+use Rattle.np_config.specs.declared.row.Provider.{Provider}
+use Rattle.np_config.specs.declared.row.Pool.{Pool}
+use Rattle.np_config.specs.declared.row.Tenant.{Tenant}
+use Rattle.np_config.specs.declared.row.Requester.{Requester}
+use Rattle.np_config.specs.declared.row.Job.{Job}
+use Rattle.np_config.specs.Configuration.{Configuration}
 use Rattle.np_amount.specs.declared.amount.Limit.{Limit}
 use Rattle.np_config_read.specs.Defaults.{count}
 use Rattle.np_config_text.specs.Canonical.{given, given_count, given_limit, list_data, list_if_any, label_data, label_name, semaphore_name, tenant_name, tenant_data, job_tenant, offer_data, pool_data, pools_of, provider_data, placed, semaphore_data, job_data, jobs_of, requester_data, fault_data, configuration_data}

@@ -24,20 +24,20 @@ use Rattle.np_text.specs.declared.id.Role.TheVariants as role
 use Rattle.np_amount.specs.declared.amount.Limit.{Limit}
 use Rattle.np_lists.specs.EachAfter.{EachAfter}
 use Rattle.np_lists.proofs.EachAfterLemmas.{All-from_each}
-use Rattle.np_site.specs.declared.row.Label.{Label}
-use Rattle.np_site.specs.declared.row.Provider.{Provider}
-use Rattle.np_site.specs.declared.row.Pool.{Pool}
-use Rattle.np_site.specs.declared.row.Offer.{Offer}
-use Rattle.np_site.specs.declared.row.Sem.{Sem}
-use Rattle.np_site.specs.declared.row.Tenant.{Tenant}
-use Rattle.np_site.specs.declared.row.Requester.{Requester}
-use Rattle.np_site.specs.declared.row.Job.{Job}
-use Rattle.np_site.specs.declared.row.Fault.{Fault}
-use Rattle.np_site.specs.declared.row.FaultKind.{FaultKind}
-use Rattle.np_site.specs.declared.row.FaultKind.TheVariants.{Expire, Crash, Stop}
-use Rattle.np_site.specs.Word.{fault_kind_word}
-use Rattle.np_site.specs.Configuration.{Configuration, default_tenant}
-use Rattle.np_site.specs.Sound.{StandsByOwner, IsLabel, IsProvider, IsOffer, IsStart, IsLimit, IsPool, IsSem, IsTenant, IsRequester, IsJob, IsFault, IsSound}
+use Rattle.np_config.specs.declared.row.Label.{Label}
+use Rattle.np_config.specs.declared.row.Provider.{Provider}
+use Rattle.np_config.specs.declared.row.Pool.{Pool}
+use Rattle.np_config.specs.declared.row.Offer.{Offer}
+use Rattle.np_config.specs.declared.row.Sem.{Sem}
+use Rattle.np_config.specs.declared.row.Tenant.{Tenant}
+use Rattle.np_config.specs.declared.row.Requester.{Requester}
+use Rattle.np_config.specs.declared.row.Job.{Job}
+use Rattle.np_config.specs.declared.row.Fault.{Fault}
+use Rattle.np_config.specs.declared.row.FaultKind.{FaultKind}
+use Rattle.np_config.specs.declared.row.FaultKind.TheVariants.{Expire, Crash, Stop}
+use Rattle.np_config.specs.Word.{fault_kind_word}
+use Rattle.np_config.specs.Configuration.{Configuration, default_tenant}
+use Rattle.np_config.specs.Sound.{StandsByOwner, IsLabel, IsProvider, IsOffer, IsStart, IsLimit, IsPool, IsSem, IsTenant, IsRequester, IsJob, IsFault, IsSound}
 use Rattle.np_config_read.specs.Names.{pool_name}
 use Rattle.np_config_read.specs.Defaults.{count}
 use Rattle.np_config_text.specs.Canonical.{given, given_limit, list_data, list_if_any, label_data, label_name, semaphore_name, tenant_name, requester_name, full_name, offer_data, pool_data, provider_data, placed, semaphore_data, tenant_data, job_tenant, priority_word, job_data, requester_data, role_word, role_name, fault_data, configuration_data, canonical}

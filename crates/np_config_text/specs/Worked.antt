@@ -3,8 +3,8 @@ use Rattle.std.specs.Prelude.{ℕ, List, [], ◌∷◌, ◌++◌, codes, false, 
 use Rattle.np_text.specs.declared.id.LabelId.{LabelId}
 use Rattle.np_text.specs.declared.id.Role.TheVariants.{Janitor}
 use Rattle.np_text.specs.declared.word.EndAs.TheVariants.{Used}
-use Rattle.np_site.specs.declared.row.FaultKind.TheVariants.{Stop}
-use Rattle.np_site.specs.Configuration.{Configuration}
+use Rattle.np_config.specs.declared.row.FaultKind.TheVariants.{Stop}
+use Rattle.np_config.specs.Configuration.{Configuration}
 use Rattle.np_config_read.specs.FirstFaults.{json}
 
 abbrev pub worked_text : List ℕ

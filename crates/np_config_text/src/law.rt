@@ -1,8 +1,8 @@
 //! The laws. Each function does nothing: its contract is the law.
 
 ghost use Rattle.std.specs.Prelude.{◌≡◌, ◌<◌, ◌^◌, Ok, length};
-ghost use Rattle.np_site.specs.Configuration.{Configuration};
-ghost use Rattle.np_site.specs.Sound.{IsSound};
+ghost use Rattle.np_config.specs.Configuration.{Configuration};
+ghost use Rattle.np_config.specs.Sound.{IsSound};
 ghost use Rattle.np_config_read.specs.Walk.{reads};
 ghost use Rattle.np_config_text.specs.Canonical.{canonical};
 ghost use Rattle.np_config_text.specs.Worked.{worked, worked_text, worked_canonical};

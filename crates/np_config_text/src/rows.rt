@@ -3,7 +3,7 @@
 ghost use Rattle.std.specs.Prelude.{◌≡◌, ℕ};
 ghost use Rattle.std.specs.Str.{IsAscii};
 ghost use Rattle.serde_json.specs.Data.{Data, string};
-ghost use Rattle.np_site.specs.Configuration.{Configuration};
+ghost use Rattle.np_config.specs.Configuration.{Configuration};
 ghost use Rattle.np_config_read.specs.Defaults.{count};
 ghost use Rattle.np_config_text.specs.Canonical.{label_data, label_name, semaphore_name, offer_data, pool_data, provider_data, semaphore_data, tenant_data, job_data, requester_data, fault_data};
 
@@ -13,8 +13,7 @@ use crate::names::{
 use crate::value::{
     Owned, Placed, Shown, list_value, owned_value, put_count, put_given, put_limit, text_value,
 };
-use np_config::Config;
-use np_site::{Fault, Job, Label, Offer, Pool, Provider, Requester, Sem, Tenant};
+use np_config::{Config, Fault, Job, Label, Offer, Pool, Provider, Requester, Sem, Tenant};
 use np_text::{LabelId, SemId};
 use serde_json::{Map, Value, json, put};
 use std::alloc::{AllocError, Global};

@@ -1,32 +1,11 @@
 -- whether a member of a list passes a test
-use Rattle.std.proofs.Common.{◌≡◌, ◌∙◌, Bool, true, false, cond, List, [], ◌∷◌, Some, refl, sym, ap}
-use Rattle.std.specs.Prelude.{◌&&◌, ◌||◌, find}
+use Rattle.std.proofs.Common.{◌≡◌, ◌∙◌, Bool, true, false, cond, List, [], ◌∷◌, Some, refl, ap}
+use Rattle.std.specs.Prelude.{◌||◌, find}
 use Rattle.std.specs.List.{AllByRecursion, list_any}
 use Rattle.np_lists.proofs.FoundLemmas.{find-passes}
+use Rattle.std.proofs.lemmas.Bool.{or_right}
 
 -- ## answers
-
-pub and-first : (a b : Bool) → (a && b) ≡ true → a ≡ true
-and-first true b is = refl
-and-first false b is = absurd cc
-
-pub and-second : (a b : Bool) → (a && b) ≡ true → b ≡ true
-and-second true b is = is
-and-second false b is = absurd cc
-
-pub and-both : (a b : Bool) → a ≡ true → b ≡ true → (a && b) ≡ true
-and-both true b first second = second
-and-both false b first second = absurd cc
-
-pub or_true : (a b : Bool) → b ≡ true → (a || b) ≡ true
-or_true true b is = refl
-or_true false b is = is
-
--- two answers of which each makes the other true
-pub both : (a b : Bool) → (a ≡ true → b ≡ true) → (b ≡ true → a ≡ true) → a ≡ b
-both true b there back = sym (there refl)
-both false true there back = absurd (let no : false ≡ true = back refl in cc)
-both false false there back = refl
 
 -- ## two tests
 
@@ -34,11 +13,6 @@ both false false there back = refl
 pub any-each : {X : Type 0} (p q : X → Bool) (xs : List X) → AllByRecursion (λ x. p x ≡ q x) xs → list_any p xs ≡ list_any q xs
 any-each p q [] all = refl
 any-each p q (x ∷ xs) all = rw (all.0, any-each p q xs all.1) refl
-
--- that say the same of all
-pub any-same : {X : Type 0} (p q : X → Bool) → ((x : X) → p x ≡ q x) → (xs : List X) → list_any p xs ≡ list_any q xs
-any-same p q same [] = refl
-any-same p q same (x ∷ xs) = rw (same x, any-same p q same xs) refl
 
 -- a test that is one of two others
 pub any-either : {X : Type 0} (p q r : X → Bool) → ((x : X) → p x ≡ (q x || r x)) → (xs : List X) → list_any p xs ≡ (list_any q xs || list_any r xs)
@@ -69,7 +43,7 @@ find-any {X = X} p q (y ∷ xs) x found is = by (p y) (find-any p q xs x) found 
       let same : y ≡ x = cc in
       let passes : q y ≡ true = ap q same ∙ is in
       rw passes refl
-  by false later there = or_true (q y) (list_any q xs) (later there is)
+  by false later there = or_right (q y) (list_any q xs) (later there is)
 
 -- a member that passes the first test passes the second
 pub any-weaker : {X : Type 0} (p q : X → Bool) → ((x : X) → p x ≡ true → q x ≡ true) → (xs : List X) → list_any p xs ≡ true → list_any q xs ≡ true

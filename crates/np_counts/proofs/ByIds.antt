@@ -1,12 +1,12 @@
 -- each row is found by its id
 use Rattle.std.proofs.Common.{◌≡◌, Some}
-use Rattle.std.specs.List.{AllByRecursion}
-use Rattle.np_keys.specs.Prelude.{Configuration, NodeEntry, RequestEntry, State, is_id_before, node_entry, request_entry, same_request}
+use Rattle.np_changes.specs.Prelude.{AllByRecursion, Configuration, NodeEntry, RequestEntry, State, is_id_before, node_entry, request_entry, same_request}
 use Rattle.np_keys.specs.Keys.{same_node, is_node_before, node_equal, request_equal}
-use Rattle.np_laws.proofs.Lookups.{same_request-self}
 use Rattle.np_classes.specs.Classes.{ClassesOf, AreClasses}
 use Rattle.np_classes.proofs.Rows.{rows-found}
-use Rattle.np_classes.proofs.Apart.{same_node-self, node-apart, request-apart}
+use Rattle.np_classes.proofs.Apart.{same_node-self}
+use Rattle.np_machine.proofs.Ids.{request-itself}
+use Rattle.np_laws.proofs.Lookups.{node-apart, request-apart}
 
 module _ (c : Configuration) (s : State) (classes : ClassesOf) (are : AreClasses c s classes) where
   -- each node is found by its number
@@ -15,4 +15,4 @@ module _ (c : Configuration) (s : State) (classes : ClassesOf) (are : AreClasses
 
   -- each request is found by its id
   pub requests-found : AllByRecursion (λ (e : RequestEntry). request_entry e.id s.requests ≡ Some e) s.requests
-  requests-found = rows-found is_id_before same_request (λ (e : RequestEntry). e.id) request_equal request-apart same_request-self s.requests are.requests.once
+  requests-found = rows-found is_id_before same_request (λ (e : RequestEntry). e.id) request_equal request-apart request-itself s.requests are.requests.once

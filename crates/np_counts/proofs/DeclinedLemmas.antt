@@ -1,12 +1,10 @@
 -- the first request that every registered pool declined, by the sets of pools that declined
 use Rattle.std.proofs.Common.{◌≡◌, ◌∙◌, ◌<◌, ◌≤◌, ◌+◌, add-one, drop, ◌-◌, ℕ, Bool, true, false, cond, List, [], ◌∷◌, length, Option, Some, None, refl, sym, ap, subst, arith}
 use Rattle.std.specs.Prelude.{◌==◌, ◌&&◌, ◌||◌, not, if◌then◌else◌, count_by, find, nat_lt, slice_get}
-use Rattle.std.specs.Option.{option_map, option_map_or}
-use Rattle.std.specs.List.{AllByRecursion, list_any}
-use Rattle.std.proofs.lemmas.Bool.{eqb-true, eq-eqb}
+use Rattle.np_changes.specs.Prelude.{AllByRecursion, Configuration, Declined, Registration, RequestEntry, RequestId, RequestRecord, Rises, State, is_declined_by, is_id_before, is_requested, list_any, option_map, option_map_or, request_entry, request_in, same_request, undeclined}
+use Rattle.std.proofs.lemmas.Bool.{eqb-true, eq-eqb, and_from}
 use Rattle.std.proofs.lemmas.Bool.Decides.{nat_tests}
 use Rattle.std.proofs.lemmas.List.Sums.{sum_by-cons}
-use Rattle.np_keys.specs.Prelude.{Configuration, Declined, RequestEntry, RequestId, RequestRecord, Rises, State, is_declined_by, is_id_before, is_requested, request_entry, request_in, same_request}
 use Rattle.np_lists.proofs.Each.{all-find, all-weaker}
 use Rattle.np_lists.proofs.FilterLemmas.{none-list_any}
 use Rattle.np_lists.proofs.FoundLemmas.{find-passes}
@@ -15,20 +13,19 @@ use Rattle.np_groups.specs.declared.groups.Group.{Group}
 use Rattle.np_groups.specs.declared.groups.Member.{Member}
 use Rattle.np_groups.specs.Groups.{same_group, same_member, member, group_from, group_after, ids_in}
 use Rattle.np_keys.specs.Keys.{request_one_way}
-use Rattle.np_machine.specs.declared.state.Registration.{Registration}
-use Rattle.np_machine.specs.Request.{undeclined}
 use Rattle.np_look.specs.Readers.{is_declined_by_all}
 use Rattle.np_look.proofs.Walks.{any_found, any_later, as_it_is}
 use Rattle.np_classes.specs.Classes.{declined_group, decline_set, is_still_requested, request_is_in, ClassesOf, AreClasses}
 use Rattle.np_classes.proofs.Declines.{same-declines}
 use Rattle.np_counts.specs.Sets.{earlier, first_of_set, is_late, is_of_set}
 use Rattle.np_counts.specs.Thirds.{third_if}
-use Rattle.np_counts.proofs.Any.{and-both, and-first, and-second, any-weaker}
+use Rattle.np_counts.proofs.Any.{any-weaker}
 use Rattle.np_counts.proofs.ByIds.{requests-found}
 use Rattle.np_counts.proofs.DueLemmas.{first-passes}
 use Rattle.np_counts.proofs.Grouped.{requests-by}
 use Rattle.np_counts.proofs.Tests.{declined-test}
 use Rattle.np_counts.proofs.Thirds.{is_below, has_third, from-past, after-past, after-more}
+use Rattle.np_lists.proofs.Plain.{and-first, and-second}
 
 -- ## answers
 
@@ -136,7 +133,7 @@ module _ (s : State) (some : 0 < length s.registrations) where
   -- so it is among the requested requests that a pool declined
   pub still-requested : (k : RequestRecord) → is_declined_by_all s k ≡ true → is_still_requested k ≡ true
   still-requested k is =
-      and-both (is_requested k.state) (not (length k.declined == 0)) (and-first (is_requested k.state) (undeclined s.registrations k == 0) is)
+      and_from (is_requested k.state) (not (length k.declined == 0)) (and-first (is_requested k.state) (undeclined s.registrations k == 0) is)
       (first-declined k.declined s.registrations some (and-second (is_requested k.state) (undeclined s.registrations k == 0) is))
 
 -- a pool of any configuration
@@ -173,7 +170,7 @@ module _ (c : Configuration) (s : State) (classes : ClassesOf) (are : AreClasses
 
   within : (e : RequestEntry) → is_of_set s set e ≡ true → is_with s known set e ≡ true
   within e is =
-      and-both (is_still_requested e.kept) (decline_set e.kept.declined == set)
+      and_from (is_still_requested e.kept) (decline_set e.kept.declined == set)
       (still-requested s some e.kept (and-first (is_declined_by_all s e.kept) (decline_set e.kept.declined == set) is))
       (and-second (is_declined_by_all s e.kept) (decline_set e.kept.declined == set) is)
 
@@ -252,7 +249,7 @@ module _ (c : Configuration) (s : State) (classes : ClassesOf) (are : AreClasses
   row-there e row passes =
       let set = decline_set e.kept.declined in
       let g = declined_group set in
-      let both : (is_still_requested e.kept && (set == set)) ≡ true = and-both (is_still_requested e.kept) (set == set) (still-requested s some e.kept passes) (eq-eqb set set refl) in
+      let both : (is_still_requested e.kept && (set == set)) ≡ true = and_from (is_still_requested e.kept) (set == set) (still-requested s some e.kept passes) (eq-eqb set set refl) in
       let is_in : request_is_in s g e.id ≡ true = rw row (declined-test set e ∙ both) in
       any-weaker (λ (m : Member RequestId). same_member same_request m (member g e.id)) (λ m. same_group m.group g)
       (λ m same. and-first (same_group m.group g) (same_request m.id e.id) same) classes.requests (are.requests.each g e.id ∙ is_in)

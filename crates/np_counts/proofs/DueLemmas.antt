@@ -1,11 +1,9 @@
 -- the node that is due first, by the groups of its kind
 use Rattle.std.proofs.Common.{◌≡◌, ◌∙◌, ℕ, Bool, true, false, cond, List, [], ◌∷◌, map, Option, Some, None, refl, sym, ap, subst, arith}
 use Rattle.std.specs.Prelude.{◌==◌, ◌&&◌, filter, find, fold, nat_lt, slice_get}
-use Rattle.std.specs.Option.{option_map, option_map_or}
-use Rattle.std.specs.List.{AllByRecursion}
+use Rattle.np_changes.specs.Prelude.{AllByRecursion, Configuration, NodeEntry, NodeId, PoolId, State, node_entry, option_map, option_map_or}
 use Rattle.std.proofs.lemmas.Bool.{eqb-true, eq-eqb}
 use Rattle.std.proofs.lemmas.Bool.Decides.{nat_tests}
-use Rattle.np_keys.specs.Prelude.{Configuration, NodeEntry, NodeId, PoolId, State, node_entry}
 use Rattle.np_lists.proofs.Each.{all-filter_to, all-weaker}
 use Rattle.np_lists.proofs.FilterLemmas.{filter-nothing}
 use Rattle.np_groups.specs.declared.groups.Group.{Group}
@@ -16,11 +14,12 @@ use Rattle.np_look.specs.declared.asked.UnheldKind.{UnheldKind}
 use Rattle.np_look.specs.Readers.{due_of, first_due, is_unheld_as, sooner, soonest}
 use Rattle.np_classes.specs.Classes.{unheld_class, unheld_group, node_is_in, ClassesOf, AreClasses}
 use Rattle.np_counts.specs.Thirds.{third_if}
-use Rattle.np_counts.proofs.Any.{and-first, any-find, any-weaker}
+use Rattle.np_counts.proofs.Any.{any-find, any-weaker}
 use Rattle.np_counts.proofs.ByIds.{nodes-found}
 use Rattle.np_counts.proofs.Grouped.{nodes-by}
 use Rattle.np_counts.proofs.Tests.{due-test}
 use Rattle.np_counts.proofs.Thirds.{has_third, is_below, from-past, from-has}
+use Rattle.np_lists.proofs.Plain.{and-first}
 
 -- ## of any list
 

@@ -1,21 +1,19 @@
 -- members whose third number is 0: all requests but those in groups by the pools that declined them
 use Rattle.std.proofs.Common.{◌≡◌, ◌∙◌, ℕ, Bool, true, false, List, [], ◌∷◌, Option, Some, None, refl, sym, arith}
 use Rattle.std.specs.Prelude.{◌==◌, ◌&&◌, ◌||◌, if◌then◌else◌, is_none, is_some, slice_get, option_and_then}
-use Rattle.std.specs.Option.{option_map, option_map_or}
-use Rattle.std.specs.List.{AllByRecursion, list_any}
+use Rattle.np_changes.specs.Prelude.{AllByRecursion, LabelId, PoolId, RequestId, RequestRecord, State, is_failed, is_pending, is_requested, list_any, next_label, option_map, option_map_or, request_holder, request_in, same_request}
 use Rattle.std.proofs.lemmas.Bool.Decides.{nat_tests}
-use Rattle.np_keys.specs.Prelude.{LabelId, PoolId, RequestId, RequestRecord, State, is_failed, is_pending, is_requested, next_label, request_holder, request_in, same_request}
 use Rattle.np_lists.proofs.Each.{all-weaker}
 use Rattle.np_groups.specs.declared.groups.Group.{Group}
 use Rattle.np_groups.specs.declared.groups.Member.{Member}
 use Rattle.np_groups.specs.Groups.{same_group, same_member, has_member}
 use Rattle.np_groups.proofs.Order.{group-itself}
-use Rattle.np_laws.proofs.Lookups.{same_request-self}
 use Rattle.np_classes.specs.Classes.{pending_group, unheld_pending_group, coming_group, spent_group, declined_group, decline_set, is_still_requested, next_label_group, pinned_label_group, request_groups, is_among, AreRequestGroups}
 use Rattle.np_counts.specs.Waiting.{is_beside}
-use Rattle.np_counts.proofs.Any.{or_true}
 use Rattle.np_counts.proofs.Labels.{first_group, AreFlat}
 use Rattle.np_counts.proofs.Tests.{holds}
+use Rattle.np_machine.proofs.Ids.{request-itself}
+use Rattle.std.proofs.lemmas.Bool.{or_right}
 
 -- ## the groups of a request
 
@@ -64,11 +62,11 @@ each-there : {X : Type 0} (same : X → X → Bool) → ((x : X) → same x x �
 each-there same self [] = tt
 each-there {X = X} same self (x ∷ xs) = (
   rw (self x) refl,
-  all-weaker (λ (y : X). list_any (λ z. same z y) xs ≡ true) (λ (y : X). (same x y || list_any (λ z. same z y) xs) ≡ true) (λ y is. or_true (same x y) (list_any (λ z. same z y) xs) is) xs (each-there same self xs),
+  all-weaker (λ (y : X). list_any (λ z. same z y) xs ≡ true) (λ (y : X). (same x y || list_any (λ z. same z y) xs) ≡ true) (λ y is. or_right (same x y) (list_any (λ z. same z y) xs) is) xs (each-there same self xs),
 )
 
 member-itself : (m : Member RequestId) → same_member same_request m m ≡ true
-member-itself m = rw (group-itself m.group) (same_request-self m.id)
+member-itself m = rw (group-itself m.group) (request-itself m.id)
 
 module _ (s : State) (ms : List (Member RequestId)) (are : AreRequestGroups s ms) (class first : ℕ) (other : (class == 4) ≡ false) where
   flat-by : (g : Group) (unlocked : Bool) (o : Option RequestRecord) → option_map_or (λ k. is_among g (request_groups k unlocked)) o false ≡ true → is_beside g (first_group class first) ≡ true → g.third ≡ 0

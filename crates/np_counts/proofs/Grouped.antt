@@ -1,19 +1,20 @@
 -- the members of a group are the rows that are in it, in order
 use Rattle.std.proofs.Common.{◌≡◌, ◌∙◌, Bool, false, List, [], map, Option, Some, None, refl, sym, ap}
 use Rattle.std.specs.Prelude.{filter, is_none}
-use Rattle.std.specs.Option.{option_map, option_map_or}
-use Rattle.np_keys.specs.Prelude.{Configuration, NodeEntry, NodeId, RequestEntry, RequestId, State, holder, is_id_before, is_unclaimed, node_entry, request_entry, same_request}
+use Rattle.np_changes.specs.Prelude.{Configuration, NodeEntry, NodeId, RequestEntry, RequestId, State, holder, is_id_before, node_entry, option_map, option_map_or, request_entry, same_request}
+use Rattle.np_look.specs.Readers.{is_unclaimed}
 use Rattle.np_lists.proofs.RisingLemmas.{Rises-filter}
 use Rattle.np_groups.specs.declared.groups.Group.{Group}
 use Rattle.np_groups.specs.declared.groups.Member.{Member}
 use Rattle.np_groups.specs.Groups.{ids_in}
 use Rattle.np_keys.specs.Keys.{same_node, is_node_before, node_equal, node_one_way, request_equal, request_one_way}
 use Rattle.np_classes.specs.Classes.{node_groups, request_groups, is_among, AreNodeGroups, AreRequestGroups}
-use Rattle.np_laws.proofs.Lookups.{same_request-self}
 use Rattle.np_groups.proofs.Ids.{ids-rise, ids-has, same-list}
-use Rattle.np_classes.proofs.Apart.{node-apart, request-apart, same_node-self}
+use Rattle.np_classes.proofs.Apart.{same_node-self}
 use Rattle.np_classes.proofs.Rows.{filter-each, ids-in_order, row-passes}
 use Rattle.np_counts.proofs.Tests.{groups_of, groups_of_request}
+use Rattle.np_machine.proofs.Ids.{request-itself}
+use Rattle.np_laws.proofs.Lookups.{node-apart, request-apart}
 
 -- ## nodes
 
@@ -50,7 +51,7 @@ module _ (s : State) (ms : List (Member RequestId)) (are : AreRequestGroups s ms
   grouped-requests g =
       let test = λ (e : RequestEntry). is_among g (groups_of_request e) in
       let id = λ (e : RequestEntry). e.id in
-      same-list is_id_before same_request request_one_way request_equal same_request-self (ids_in g ms) (map id (filter test s.requests))
+      same-list is_id_before same_request request_one_way request_equal request-itself (ids_in g ms) (map id (filter test s.requests))
       (ids-rise g is_id_before ms are.rises)
       (ids-in_order is_id_before same_request id request_equal request-apart (filter test s.requests) (Rises-filter (λ (a b : RequestEntry). is_id_before a.id b.id) test s.requests are.once))
       (λ r. ids-has same_request g r ms ∙ are.each g r ∙ sym (row-passes is_id_before same_request id request_equal request-apart test r s.requests are.once ∙ request-by g (request_entry r s.requests)))

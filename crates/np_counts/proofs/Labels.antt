@@ -1,10 +1,8 @@
 -- the walk over the labels of a class and a pool
 use Rattle.std.proofs.Common.{◌≡◌, ◌∙◌, ◌<◌, ℕ, Bool, true, false, not, List, Option, Some, None, refl, sym, ap, subst, arith}
 use Rattle.std.specs.Prelude.{◌&&◌, ◌||◌, if◌then◌else◌, find}
-use Rattle.std.specs.Option.{option_map, option_map_or}
-use Rattle.std.specs.List.{AllByRecursion, list_any}
+use Rattle.np_changes.specs.Prelude.{AllByRecursion, LabelId, Rises, list_any, option_map, option_map_or}
 use Rattle.std.proofs.lemmas.Bool.Decides.{nat_tests}
-use Rattle.np_keys.specs.Prelude.{LabelId, Rises}
 use Rattle.np_lists.proofs.Each.{all-find, all-weaker}
 use Rattle.np_lists.proofs.FilterLemmas.{list_any-none}
 use Rattle.np_lists.proofs.FoundLemmas.{find-passes}
@@ -15,12 +13,9 @@ use Rattle.np_groups.specs.Groups.{same_group, is_group_before, is_member_before
 use Rattle.np_groups.proofs.Order.{group-equal, group-some_way, group-transitive}
 use Rattle.np_groups.proofs.Walk.{IsLeast, group-not_before, least-found}
 use Rattle.np_counts.specs.Waiting.{is_beside, label_if}
-use Rattle.np_counts.proofs.Any.{any-each, any-find, any-same, any-weaker}
-use Rattle.np_counts.proofs.Tests.{and_false}
-
-pub not-is : (b : Bool) → not b ≡ true → b ≡ false
-not-is true is = absurd cc
-not-is false is = refl
+use Rattle.np_counts.proofs.Any.{any-each, any-find, any-weaker}
+use Rattle.std.proofs.lemmas.Bool.{not-true}
+use Rattle.np_lists.proofs.Plain.{any-same, and_false}
 
 -- ## groups beside one another
 
@@ -62,7 +57,7 @@ from-up g m h past later = by (is_group_before m g) (same_group h g) refl refl w
   by : (b same : Bool) → is_group_before m g ≡ b → same_group h g ≡ same → not b ≡ true
   by false same is alike = refl
   by true true is alike = absurd (let before : is_group_before m h ≡ true = rw (group-equal h g alike) is in cc)
-  by true false is alike = absurd (let before : is_group_before m h ≡ true = group-transitive m g h is (group-some_way h g (not-is (is_group_before h g) past) alike) in cc)
+  by true false is alike = absurd (let before : is_group_before m h ≡ true = group-transitive m g h is (group-some_way h g (not-true (is_group_before h g) past) alike) in cc)
 
 pub after-up : (g m h : Group) → is_group_before g h ≡ true → is_group_before m h ≡ false → is_group_before g m ≡ true
 after-up g m h past later = by (same_group m h) refl where
@@ -194,7 +189,7 @@ module _ (class first : ℕ) (test : LabelId → Bool) where
       pub start-rest : rest_from (label_if (first_group class first) (group_from (first_group class first) ms)) ≡ list_any (λ m. is_wanted m.group) ms
       start-rest =
           let start = first_group class first in
-          sym (next-by flat (λ h. not (is_group_before h start)) (λ h past. not-is (is_group_before h start) past) (λ m h. from-up start m h)
+          sym (next-by flat (λ h. not (is_group_before h start)) (λ h past. not-true (is_group_before h start) past) (λ m h. from-up start m h)
           before rises (find (λ m. not (is_group_before m.group start)) ms) refl)
           ∙ any-same (λ m. not (is_group_before m.group start) && is_wanted m.group) (λ m. is_wanted m.group)
           (λ m. past-by (is_group_before m.group start) (is_beside m.group start) (test (record { 0 = m.group.second })) (beside-first class first m.group)) ms

@@ -12,3 +12,11 @@ pub mod DueLemmas
 pub mod DeclinedLemmas
 pub mod Totals
 pub mod TenantLemmas
+pub mod Rows
+pub mod Changed
+pub mod Shares
+pub mod Few
+pub mod Made
+pub mod Moved
+mod Small
+pub mod Noted

@@ -1,18 +1,15 @@
 -- how many members a group has, and the one at a place
 use Rattle.std.proofs.Common.{◌≡◌, ◌∙◌, ◌≤◌, ℕ, Bool, true, false, cond, List, [], ◌∷◌, length, refl, ap, arith}
 use Rattle.std.specs.Prelude.{◌||◌, filter, slice_get, nat_lt, count_by}
-use Rattle.std.specs.List.{list_any}
+use Rattle.np_changes.specs.Prelude.{Configuration, LabelId, NodeEntry, NodeId, PoolId, RequestEntry, RequestId, State, is_coming, is_free_ready, is_pending_by, is_spare, is_spent_min_ready, list_any}
 use Rattle.std.proofs.lemmas.List.{length-map}
 use Rattle.std.proofs.lemmas.List.Sums.{length-filter}
 use Rattle.std.proofs.lemmas.Option.{slice_get-map}
 use Rattle.std.proofs.lemmas.Bool.Decides.{nat_tests}
-use Rattle.np_keys.specs.Prelude.{Configuration, LabelId, NodeEntry, NodeId, PoolId, RequestEntry, RequestId, State, is_spare}
 use Rattle.np_lists.proofs.Each.{length-filter_at_most}
 use Rattle.np_groups.specs.declared.groups.Group.{Group}
 use Rattle.np_groups.specs.Groups.{ids_in}
-use Rattle.np_machine.specs.Order.{is_pending_by}
 use Rattle.np_machine.specs.Count.{is_kind, number_of}
-use Rattle.np_machine.specs.Request.{is_spent_min_ready, is_coming, is_free_ready}
 use Rattle.np_look.specs.Readers.{first_unheld_pending, free_ready_of, is_unheld_pending, pending_requests}
 use Rattle.np_classes.specs.Classes.{kind_group, spare_group, free_group, pending_group, unheld_pending_group, coming_group, spent_group, is_among, ClassesOf, AreClasses}
 use Rattle.np_counts.proofs.DueLemmas.{first-passes}

@@ -1,14 +1,13 @@
 -- what the walk over offers adds up
 use Rattle.std.proofs.Common.{◌≡◌, ◌∙◌, ◌<◌, ◌≤◌, ◌+◌, ℕ, List, length, map, take, get_or, sym, ap}
-use Rattle.np_keys.specs.Prelude.{Amount, Configuration, Fits, PoolId, State, plus, times, total}
-use Rattle.np_site.specs.declared.row.Offer.{Offer}
+use Rattle.np_changes.specs.Prelude.{Amount, Configuration, Fits, Offer, PoolId, State, plus, times, total}
 use Rattle.np_groups.specs.declared.groups.Group.{Group}
 use Rattle.np_groups.specs.Groups.{ids_in}
 use Rattle.np_machine.specs.Count.{offers_of, count_of, number_of}
-use Rattle.np_fits.proofs.Offered.{IsPart, part_bound, passed_total}
-use Rattle.np_look.proofs.CountLemmas.{total_more}
+use Rattle.np_changes.proofs.Offered.{IsPart, part_bound, passed_total}
 use Rattle.np_classes.specs.Classes.{kind_group, ClassesOf, AreClasses}
 use Rattle.np_counts.proofs.Numbers.{kind-number}
+use Rattle.np_amount.proofs.Sums.{total_more}
 
 module _ (c : Configuration) (s : State) (classes : ClassesOf) (are : AreClasses c s classes) (fits : Fits c s) (p : PoolId) where
   -- ## the part of an offer

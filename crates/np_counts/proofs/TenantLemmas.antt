@@ -1,12 +1,10 @@
 -- the walk over the groups of a tenant's nodes
 use Rattle.std.proofs.Common.{◌≡◌, ◌∙◌, ◌<◌, ◌-◌, ◌+◌, ◌*◌, ℕ, Bool, true, false, not, cond, List, length, map, Option, Some, None, refl, sym, ap, subst, arith}
 use Rattle.std.specs.Prelude.{◌==◌, ◌&&◌, ◌||◌, if◌then◌else◌, filter, find, nat_lt, slice_get}
-use Rattle.std.specs.Option.{option_map, option_map_or}
-use Rattle.std.specs.List.{AllByRecursion, list_any}
-use Rattle.std.proofs.lemmas.Bool.{eqb-true}
+use Rattle.np_changes.specs.Prelude.{AllByRecursion, Amount, Configuration, Fits, IsFew, LabelId, NodeEntry, NodeId, PoolId, Rises, State, TenantId, amount_of, amount_of_node, is_tenant, list_any, node_entry, nothing, option_map, option_map_or, plus, times, total}
+use Rattle.std.proofs.lemmas.Bool.{eqb-true, not-true}
 use Rattle.std.proofs.lemmas.Bool.Decides.{nat_tests}
 use Rattle.std.proofs.lemmas.List.{length-map}
-use Rattle.np_keys.specs.Prelude.{Amount, Configuration, Fits, IsFew, LabelId, NodeEntry, NodeId, PoolId, Rises, State, TenantId, amount_of, node_entry, nothing, plus, times, total}
 use Rattle.np_lists.proofs.Each.{all-find, all-weaker}
 use Rattle.np_lists.proofs.FilterLemmas.{filter-nothing}
 use Rattle.np_lists.proofs.FoundLemmas.{find-passes}
@@ -17,20 +15,20 @@ use Rattle.np_groups.specs.Groups.{same_group, same_member, is_group_before, is_
 use Rattle.np_groups.proofs.Order.{group-apart, group-is, group-one_way, group-turned}
 use Rattle.np_groups.proofs.Walk.{IsLeast, least-found}
 use Rattle.np_keys.specs.Keys.{same_node, is_node_before}
-use Rattle.np_machine.specs.Tenants.{amount_of_node, is_tenant}
 use Rattle.np_classes.specs.Classes.{tenant_group, node_is_in, ClassesOf, AreClasses}
 use Rattle.np_counts.specs.Taken.{taken_by}
 use Rattle.np_counts.specs.TenantGroups.{beside_if, is_in_tenant_group}
 use Rattle.np_counts.specs.Waiting.{is_beside}
-use Rattle.np_counts.proofs.Any.{and-first, any-weaker}
+use Rattle.np_counts.proofs.Any.{any-weaker}
 use Rattle.np_counts.proofs.ByIds.{nodes-found}
 use Rattle.np_counts.proofs.DueLemmas.{first-passes}
 use Rattle.np_counts.proofs.Grouped.{nodes-by}
-use Rattle.np_counts.proofs.Labels.{after-up, beside-before, not-is}
+use Rattle.np_counts.proofs.Labels.{after-up, beside-before}
 use Rattle.np_classes.proofs.Rows.{filter-each}
-use Rattle.np_counts.proofs.Tests.{and_true, tenant-test}
+use Rattle.np_counts.proofs.Tests.{tenant-test}
 use Rattle.np_counts.proofs.Thirds.{group-each, not-both}
 use Rattle.np_counts.proofs.Totals.{IsParted, total-few, total-parted, total-times}
+use Rattle.np_lists.proofs.Plain.{and-first, and_true}
 
 -- ## groups
 
@@ -192,7 +190,7 @@ module _ (c : Configuration) (s : State) (t : TenantId) where
 
       by : (b : Bool) → (b ≡ true → list_any (λ (m : Member NodeId). same_group m.group g) classes.nodes ≡ true) → (b && is_past start_next g) ≡ false
       by true has =
-          none-past t is_node_before classes.nodes are.nodes.rises (λ h. not (is_group_before h (first_of t))) (λ h past. not-is (is_group_before h (first_of t)) past)
+          none-past t is_node_before classes.nodes are.nodes.rises (λ h. not (is_group_before h (first_of t))) (λ h past. not-true (is_group_before h (first_of t)) past)
           g (own-beside t e.kept.pool e.kept.label) (ap not (own-low t e.kept.pool e.kept.label)) (has refl)
           (find (λ (m : Member NodeId). not (is_group_before m.group (first_of t))) classes.nodes) refl
       by false has = refl

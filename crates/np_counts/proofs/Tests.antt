@@ -2,20 +2,17 @@
 use Rattle.std.proofs.Common.{◌≡◌, ◌∙◌, ℕ, Bool, true, false, List, [], ◌∷◌, Option, Some, None, refl, sym, ap, arith}
 use Rattle.std.specs.Prelude.{◌==◌, ◌&&◌, ◌||◌, if◌then◌else◌, is_none, is_some, nat_lt, slice_get, option_and_then}
 use Rattle.std.proofs.lemmas.Bool.Decides.{nat_tests}
-use Rattle.std.specs.Option.{option_map, option_map_or}
-use Rattle.np_keys.specs.Prelude.{Configuration, LabelId, NodeEntry, NodeRecord, PoolId, RequestEntry, RequestRecord, State, TenantId, holder, is_spare, next_label}
+use Rattle.np_changes.specs.Prelude.{Configuration, LabelId, NodeEntry, NodeRecord, PoolId, RequestEntry, RequestRecord, State, TenantId, holder, is_failed, is_kind, is_pending, is_pending_by, is_pool, is_ready, is_requested, is_spare, next_label, option_map, option_map_or}
 use Rattle.np_groups.specs.declared.groups.Group.{Group}
 use Rattle.np_groups.specs.Groups.{same_group}
 use Rattle.np_look.specs.declared.asked.UnheldKind.{UnheldKind}
 use Rattle.np_look.specs.declared.asked.UnheldKind.TheVariants as kind
 use Rattle.np_look.specs.Readers.{due_of, is_unclaimed, is_unheld_as, is_unheld_pending, same_kind, unheld_kind}
-use Rattle.np_machine.specs.Kinds.{is_ready, is_failed, is_requested, is_pending}
-use Rattle.np_machine.specs.Count.{is_kind}
-use Rattle.np_machine.specs.Order.{is_pool, is_pending_by}
 use Rattle.np_machine.specs.Request.{is_min_ready_for, is_spent_min_ready, is_coming, is_free_ready}
 use Rattle.np_classes.specs.Classes.{kind_group, spare_group, free_group, tenant_group, unheld_class, unheld_group, unheld_group_of, group_if, node_groups, pending_group, unheld_pending_group, coming_group, spent_group, declined_group, decline_set, is_still_requested, next_label_group, pinned_label_group, pending_group_of, unheld_pending_group_of, coming_group_of, spent_group_of, declined_group_of, next_label_group_of, pinned_label_group_of, request_groups, is_among}
 use Rattle.np_counts.specs.TenantGroups.{is_in_tenant_group}
 use Rattle.np_counts.specs.Waiting.{label_group, is_pinned_as}
+use Rattle.np_lists.proofs.Plain.{and_true, or_false, and_false}
 
 -- the option holds the group
 abbrev pub holds : Group → Option Group → Bool
@@ -38,10 +35,6 @@ apart-map g f (Some x) other = other x
 
 -- ## one of several groups
 
-or_false : (b : Bool) → (b || false) ≡ b
-or_false true = refl
-or_false false = refl
-
 -- the first fails, and the question is whether one of the others passes
 past : {a rest x : Bool} → a ≡ false → rest ≡ x → (a || rest) ≡ x
 past {a} {rest} {x} other later = ap (λ (b : Bool). b || rest) other ∙ later
@@ -52,17 +45,9 @@ here {a} {rest} {x} is later = ap (λ (b : Bool). a || b) later ∙ or_false a �
 
 -- ## nodes
 
-pub and_true : (b : Bool) → (b && true) ≡ b
-and_true true = refl
-and_true false = refl
-
 and_assoc : (a b c : Bool) → ((a && b) && c) ≡ (a && (b && c))
 and_assoc true b c = refl
 and_assoc false b c = refl
-
-pub and_false : (b : Bool) → (b && false) ≡ false
-and_false true = refl
-and_false false = refl
 
 -- what follows is true
 two-true : (a b : Bool) → (a && (b && true)) ≡ (a && b)

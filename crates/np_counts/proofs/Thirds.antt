@@ -1,10 +1,8 @@
 -- the walk over groups that differ in their third number alone
 use Rattle.std.proofs.Common.{◌≡◌, ◌∙◌, ℕ, Bool, true, false, not, List, Option, Some, None, refl, sym, ap, subst, arith}
 use Rattle.std.specs.Prelude.{◌||◌, if◌then◌else◌, find, nat_lt}
-use Rattle.std.specs.Option.{option_map}
-use Rattle.std.specs.List.{AllByRecursion, list_any}
+use Rattle.np_changes.specs.Prelude.{AllByRecursion, Rises, list_any, option_map}
 use Rattle.std.proofs.lemmas.Bool.Decides.{nat_tests}
-use Rattle.np_lists.specs.Rising.{Rises}
 use Rattle.np_lists.proofs.Each.{all-find}
 use Rattle.np_lists.proofs.FoundLemmas.{find-passes}
 use Rattle.np_lists.proofs.Halves.{none-find}
@@ -15,7 +13,7 @@ use Rattle.np_groups.proofs.Order.{group-equal}
 use Rattle.np_groups.proofs.Walk.{IsLeast, least-found}
 use Rattle.np_counts.specs.Thirds.{is_alike, third_if}
 use Rattle.np_counts.proofs.Any.{any-find}
-use Rattle.np_counts.proofs.Labels.{not-is}
+use Rattle.std.proofs.lemmas.Bool.{not-true}
 
 -- ## numbers
 
@@ -98,7 +96,7 @@ module _ (class first second : ℕ) where
     -- no group with a member is below the first
     pub from-past : (k : ℕ) → has_third k ≡ true → is_below (third_if (third_group 0) (group_from (third_group 0) ms)) k ≡ false
     from-past k there =
-        none-by (λ h. not (is_group_before h (third_group 0))) (λ h past. not-is (is_group_before h (third_group 0)) past) k (first-low k) there
+        none-by (λ h. not (is_group_before h (third_group 0))) (λ h past. not-true (is_group_before h (third_group 0)) past) k (first-low k) there
         (find (λ (m : Member K). not (is_group_before m.group (third_group 0))) ms) refl
 
     -- the first has a member

@@ -1,18 +1,14 @@
 -- totals over the members of a list that pass a test
 use Rattle.std.proofs.Common.{◌≡◌, ◌∙◌, ◌≤◌, ℕ, Bool, true, false, cond, List, [], ◌∷◌, length, map, refl, sym, ap, arith}
 use Rattle.std.specs.Prelude.{◌&&◌, ◌||◌, filter}
-use Rattle.std.specs.List.{AllByRecursion}
-use Rattle.np_keys.specs.Prelude.{Amount, nothing, plus, times, total}
-use Rattle.np_amount.proofs.Sums.{same_amount, plus-assoc, plus-comm, nothing-plus, times-suc, total-filter_at_most}
-use Rattle.np_fits.specs.Fits.{AmountFits, IsFew}
+use Rattle.np_changes.specs.Prelude.{AllByRecursion, Amount, AmountFits, IsFew, nothing, plus, times, total}
+use Rattle.np_amount.proofs.Sums.{same_amount, plus-assoc, nothing-plus, times-suc, total-filter_at_most}
+use Rattle.np_laws.proofs.Sums.{swapped}
 
 -- one of two tests is passed, and never both
 pub record IsParted {X : Type 0} (p q r : X → Bool) (x : X) : Type 0 where
   pub either : r x ≡ (p x || q x)
   pub apart : (p x && q x) ≡ false
-
-plus-turned : (a b d : Amount) → plus a (plus b d) ≡ plus b (plus a d)
-plus-turned a b d = sym (plus-assoc a b d) ∙ ap (λ (x : Amount). plus x d) (plus-comm a b) ∙ plus-assoc b a d
 
 module _ {X : Type 0} (f : X → Amount) where
   -- those that pass one of two tests take together what those of each test take
@@ -23,7 +19,7 @@ module _ {X : Type 0} (f : X → Amount) where
         → total (map f (cond (a || b) (x ∷ filter r xs) (filter r xs))) ≡ plus (total (map f (cond a (x ∷ filter p xs) (filter p xs)))) (total (map f (cond b (x ∷ filter q xs) (filter q xs))))
     by true true apart rest = absurd cc
     by true false apart rest = ap (plus (f x)) rest ∙ sym (plus-assoc (f x) (total (map f (filter p xs))) (total (map f (filter q xs))))
-    by false true apart rest = ap (plus (f x)) rest ∙ plus-turned (f x) (total (map f (filter p xs))) (total (map f (filter q xs)))
+    by false true apart rest = ap (plus (f x)) rest ∙ swapped (f x) (total (map f (filter p xs))) (total (map f (filter q xs)))
     by false false apart rest = rest
 
   -- if each takes the same, that times their number

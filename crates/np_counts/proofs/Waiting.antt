@@ -1,29 +1,26 @@
 -- the members of the groups by next label, and the requests that are stuck or under way
 use Rattle.std.proofs.Common.{◌≡◌, ◌∙◌, ℕ, ◌-◌, ◌<◌, Bool, true, false, List, [], Option, Some, None, refl, sym, ap, subst, arith}
 use Rattle.std.specs.Prelude.{◌==◌, ◌&&◌, ◌||◌, not, is_some, is_none, if◌then◌else◌}
-use Rattle.std.specs.Option.{option_map, option_map_or}
-use Rattle.std.specs.List.{list_any}
-use Rattle.std.proofs.lemmas.Bool.{eqb-true, eq-eqb}
+use Rattle.np_changes.specs.Prelude.{Amount, Configuration, LabelId, PoolId, RequestEntry, RequestId, RequestRecord, State, amount_of, count_of, fits, holder, is_id_before, is_pending_by, is_short, limit_of, list_any, option_map, option_map_or, plus, request_entry, same_request}
+use Rattle.std.proofs.lemmas.Bool.{eq-eqb, and_from}
 use Rattle.std.proofs.lemmas.Bool.Decides.{nat_tests}
-use Rattle.np_keys.specs.Prelude.{Amount, Configuration, LabelId, PoolId, RequestEntry, RequestId, RequestRecord, State, holder, request_entry, same_request}
-use Rattle.np_amount.specs.Amounts.{plus, fits}
 use Rattle.np_lists.proofs.Each.{all-find}
 use Rattle.np_lists.proofs.FoundLemmas.{find-passes}
 use Rattle.np_groups.specs.declared.groups.Group.{Group}
 use Rattle.np_groups.specs.declared.groups.Member.{Member}
 use Rattle.np_groups.specs.Groups.{same_group, same_member, member, group_from, group_after, has_member}
 use Rattle.np_groups.proofs.Order.{group-equal, group-itself}
-use Rattle.np_machine.specs.Count.{count_of, amount_of, limit_of, is_short}
-use Rattle.np_machine.specs.Order.{is_id_before, is_pending_by}
 use Rattle.np_machine.specs.Reasons.{next_label, is_spare, is_stuck_at}
-use Rattle.np_laws.proofs.Lookups.{same_request-self}
 use Rattle.np_classes.specs.Classes.{request_groups, is_among, request_is_in, AreRequestGroups, ClassesOf, AreClasses}
 use Rattle.np_counts.specs.Waiting.{label_group, is_beside, label_if, is_pinned_as, is_stuck_label, is_stuck_as, is_under_way_as}
-use Rattle.np_counts.proofs.Any.{and-both, and-first, and-second, both, any-either, any-find, any-same, find-any, any-weaker}
+use Rattle.np_counts.proofs.Any.{any-either, any-find, find-any, any-weaker}
 use Rattle.np_counts.proofs.ByIds.{requests-found}
 use Rattle.np_counts.proofs.Flat.{third-test, flat-requests}
 use Rattle.np_counts.proofs.Labels.{AreFlat, group_of, first_group, beside-is, beside-of, is_wanted, has_label, rest_from, start-rest, start-has, now-rest, after-rest, after-has, after-greater}
 use Rattle.np_counts.proofs.Tests.{groups_of_request, waits_for, label-test}
+use Rattle.np_laws.proofs.Ids.{same_label}
+use Rattle.np_machine.proofs.Ids.{request-itself}
+use Rattle.np_lists.proofs.Plain.{and-first, and-second, both-ways, any-same}
 
 -- ## a request and its next label
 
@@ -41,9 +38,6 @@ pinned-by true (Some q) is = refl
 pinned-by true None is = absurd cc
 pinned-by false (Some q) is = absurd cc
 pinned-by false None is = refl
-
-label-same : (m l : LabelId) → (m.0 == l.0) ≡ true → m ≡ l
-label-same m l is = let same : m.0 ≡ l.0 = eqb-true m.0 l.0 is in let label : record { 0 = m.0 } ≡ record { 0 = l.0 } = rw same refl in label
 
 -- a group beside others is of their class
 class-apart : (class first : ℕ) (g : Group) → is_beside g (first_group class first) ≡ true → (class == 4) ≡ false → (g.class == 4) ≡ false
@@ -72,7 +66,7 @@ module _ (p : PoolId) (pinned : Bool) (test : LabelId → Bool) where
   for-next k None next alike pending passes = absurd cc
   for-next k (Some l) next alike pending passes = record {
     label = l;
-    waits = and-both (is_pinned_as pinned k) _ alike (and-both (is_pending_by p k) _ pending (rw next (label-itself l)));
+    waits = and_from (is_pinned_as pinned k) _ alike (and_from (is_pending_by p k) _ pending (rw next (label-itself l)));
     passes = passes;
   }
 
@@ -86,14 +80,14 @@ module _ (p : PoolId) (pinned : Bool) (test : LabelId → Bool) where
   -- the other way round
   at-next : (l : LabelId) (o : Option LabelId) → option_map_or (λ other. other.0 == l.0) o false ≡ true → test l ≡ true → option_map_or test o false ≡ true
   at-next l None waits passes = absurd cc
-  at-next l (Some m) waits passes = ap test (label-same m l waits) ∙ passes
+  at-next l (Some m) waits passes = ap test (same_label m l waits) ∙ passes
 
   for-waits : (e : RequestEntry) (l : LabelId) → waits_for pinned p l e.kept ≡ true → test l ≡ true → waits_at e ≡ true
   for-waits e l waits passes =
       let next = option_map_or (λ (other : LabelId). other.0 == l.0) (next_label e.kept) false in
       let rest = and-second (is_pinned_as pinned e.kept) (is_pending_by p e.kept && next) waits in
-      and-both (is_pinned_as pinned e.kept) (is_pending_by p e.kept && option_map_or test (next_label e.kept) false) (and-first (is_pinned_as pinned e.kept) (is_pending_by p e.kept && next) waits)
-      (and-both (is_pending_by p e.kept) (option_map_or test (next_label e.kept) false) (and-first (is_pending_by p e.kept) next rest)
+      and_from (is_pinned_as pinned e.kept) (is_pending_by p e.kept && option_map_or test (next_label e.kept) false) (and-first (is_pinned_as pinned e.kept) (is_pending_by p e.kept && next) waits)
+      (and_from (is_pending_by p e.kept) (option_map_or test (next_label e.kept) false) (and-first (is_pending_by p e.kept) next rest)
       (at-next l (next_label e.kept) (and-second (is_pending_by p e.kept) next rest) passes))
 
   -- a member of a group by next label, whose label passes
@@ -119,7 +113,7 @@ module _ (p : PoolId) (pinned : Bool) (test : LabelId → Bool) where
     member-waits some =
         let found = any-find is_wanted_member classes.requests some in
         let m = found.0 in
-        let here : same_member same_request m (member m.group m.id) ≡ true = and-both (same_group m.group m.group) (same_request m.id m.id) (group-itself m.group) (same_request-self m.id) in
+        let here : same_member same_request m (member m.group m.id) ≡ true = and_from (same_group m.group m.group) (same_request m.id m.id) (group-itself m.group) (request-itself m.id) in
         let there : has_member same_request m.group m.id classes.requests ≡ true = find-any is_wanted_member (λ x. same_member same_request x (member m.group m.id)) classes.requests m found.1 here in
         row-waits m (request_entry m.id s.requests) refl (find-passes is_wanted_member classes.requests m found.1) (sym (are.requests.each m.group m.id) ∙ there)
 
@@ -134,11 +128,11 @@ module _ (p : PoolId) (pinned : Bool) (test : LabelId → Bool) where
         any-weaker (λ m. same_member same_request m (member g e.id)) is_wanted_member
         (λ m same. subst (λ (h : Group). (is_beside h (first_group (class_of pinned) p.0) && test (record { 0 = h.second })) ≡ true)
         (sym (group-equal m.group g (and-first (same_group m.group g) (same_request m.id e.id) same) ∙ label-group pinned p for.label))
-        (and-both _ _ (beside-of (class_of pinned) p.0 for.label) for.passes)) classes.requests (are.requests.each g e.id ∙ is_in)
+        (and_from _ _ (beside-of (class_of pinned) p.0 for.label) for.passes)) classes.requests (are.requests.each g e.id ∙ is_in)
 
     -- a member of a group whose label passes is a request that waits for such a label
     pub members-wait : list_any is_wanted_member classes.requests ≡ list_any waits_at s.requests
-    members-wait = both (list_any is_wanted_member classes.requests) (list_any waits_at s.requests) member-waits waits-member
+    members-wait = both-ways (list_any is_wanted_member classes.requests) (list_any waits_at s.requests) member-waits waits-member
 
 -- ## the requests that are stuck
 

@@ -3,3 +3,4 @@ pub mod Waiting
 pub mod Thirds
 pub mod Sets
 pub mod TenantGroups
+pub mod Awaited

@@ -1,8 +1,6 @@
 -- the requests that every registered pool declined, by the sets of pools that declined (own)
 use Rattle.std.specs.Prelude.{ℕ, Bool, ◌==◌, ◌&&◌, not, nat_lt, if◌then◌else◌, find, Option, Some, None}
-use Rattle.std.specs.Option.{option_map}
-use Rattle.np_keys.specs.Prelude.{RequestEntry, RequestId, State, is_id_before}
-use Rattle.np_machine.specs.declared.state.Registration.{Registration}
+use Rattle.np_changes.specs.Prelude.{Registration, RequestEntry, RequestId, State, is_id_before, option_map}
 use Rattle.np_look.specs.Readers.{is_declined_by_all}
 use Rattle.np_classes.specs.Classes.{decline_set}
 

@@ -1,6 +1,5 @@
 -- what is read of a node by its id
-use Rattle.std.specs.Option.{option_map_or}
-use Rattle.np_keys.specs.Prelude.{Amount, Configuration, NodeId, State, amount_of, node_in, nothing}
+use Rattle.np_changes.specs.Prelude.{Amount, Configuration, NodeId, State, amount_of, node_in, nothing, option_map_or}
 
 -- what the node takes of its pool, nothing if it is not there
 abbrev pub taken_by : Configuration → State → NodeId → Amount

@@ -1,8 +1,7 @@
 //! What a node takes.
 
 ghost use Rattle.std.specs.Prelude.{◌≡◌};
-ghost use Rattle.np_keys.specs.Prelude.{LabelId, PoolId, amount_of};
-ghost use Rattle.np_fits.specs.Fits.{AmountFits, IsFew};
+ghost use Rattle.np_changes.specs.Prelude.{AmountFits, IsFew, LabelId, PoolId, amount_of};
 ghost use Rattle.np_counts.specs.Taken.{taken_by};
 
 use np_amount::Amount;

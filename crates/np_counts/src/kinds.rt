@@ -2,7 +2,7 @@
 //! that nobody holds, and the node that is due first.
 
 ghost use Rattle.std.specs.Prelude.{◌≡◌, length};
-ghost use Rattle.np_keys.specs.Prelude.{Configuration, State};
+ghost use Rattle.np_changes.specs.Prelude.{Configuration, State};
 ghost use Rattle.np_look.specs.Readers.{first_due, first_unheld_pending, pending_requests};
 ghost use Rattle.np_classes.specs.Classes.{AreClasses};
 ghost use Rattle.np_counts.specs.Thirds.{third_if};

@@ -1,9 +1,7 @@
 //! What is there and what is coming of a label.
 
 ghost use Rattle.std.specs.Prelude.{◌≡◌};
-ghost use Rattle.std.specs.List.{list_any};
-ghost use Rattle.np_keys.specs.Prelude.{Configuration, Fits, State};
-ghost use Rattle.np_machine.specs.Request.{is_spent_min_ready, ready_count};
+ghost use Rattle.np_changes.specs.Prelude.{Configuration, Fits, State, is_spent_min_ready, list_any, ready_count};
 ghost use Rattle.np_classes.specs.Classes.{AreClasses};
 
 use np_classes::{Classes, coming_group, free_group, spent_group};

@@ -1,12 +1,12 @@
 //! Whether a request's tenant has room for it.
 
 ghost use Rattle.std.specs.Prelude.{◌≡◌};
-ghost use Rattle.np_keys.specs.Prelude.{Fits, blocking, new_record};
-ghost use Rattle.np_awaited.specs.Awaited.{AreAwaited};
+ghost use Rattle.np_changes.specs.Prelude.{Fits, blocking, new_record};
+ghost use Rattle.np_counts.specs.Awaited.{AreAwaited};
 ghost use Rattle.np_classes.specs.Classes.{AreClasses};
 
+use crate::Awaited;
 use crate::tenant::used_by;
-use np_awaited::Awaited;
 use np_changes::Asked;
 use np_classes::Classes;
 use np_look::{Rows, is_short_of, limited_tenant};

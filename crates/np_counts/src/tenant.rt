@@ -1,15 +1,14 @@
 //! What a tenant uses.
 
 ghost use Rattle.std.specs.Prelude.{◌≡◌, ◌<◌, ◌^◌, filter, map};
-ghost use Rattle.np_keys.specs.Prelude.{Fits, IsFew, total};
-ghost use Rattle.np_machine.specs.Tenants.{amount_of_node, count_of_tenant, is_pending_of, is_tenant, rest_of_request};
-ghost use Rattle.np_awaited.specs.Awaited.{AreAwaited};
+ghost use Rattle.np_changes.specs.Prelude.{Fits, IsFew, amount_of_node, count_of_tenant, is_pending_of, is_tenant, rest_of_request, total};
+ghost use Rattle.np_counts.specs.Awaited.{AreAwaited};
 ghost use Rattle.np_classes.specs.Classes.{AreClasses};
 ghost use Rattle.np_counts.specs.TenantGroups.{beside_if, is_in_tenant_group, tenant_class};
 
+use crate::Awaited;
 use crate::amounts::taken_by;
 use np_amount::Amount;
-use np_awaited::Awaited;
 use np_classes::{Classes, tenant_group};
 use np_groups::Group;
 use np_look::{NOTHING, Rows};

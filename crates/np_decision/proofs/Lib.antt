@@ -1,3 +1,4 @@
 pub mod PlaceLemmas
 pub mod Reasons
 pub mod Room
+pub mod OwnerLemmas

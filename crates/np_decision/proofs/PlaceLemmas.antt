@@ -1,13 +1,7 @@
 -- the places of a request, one after another
 use Rattle.std.proofs.Common.{◌≡◌, ◌<◌, ℕ, zero, suc, ◌+◌, List, [], ◌∷◌, length, drop, refl, arith, None}
 use Rattle.std.specs.Prelude.{slice_get}
-use Rattle.np_text.specs.declared.id.SessionId.{SessionId}
-use Rattle.np_text.specs.declared.id.PoolId.{PoolId}
-use Rattle.np_text.specs.declared.id.LabelId.{LabelId}
-use Rattle.np_text.specs.declared.id.NodeId.{NodeId}
-use Rattle.np_text.specs.declared.id.RequestId.{RequestId}
-use Rattle.np_machine.specs.Entries.{NodeEntry}
-use Rattle.np_machine.specs.Request.{unfilled}
+use Rattle.np_changes.specs.Prelude.{LabelId, NodeEntry, NodeId, PoolId, RequestId, SessionId, unfilled}
 use Rattle.np_decision.specs.Places.{lack_at}
 
 unfilled-none : (p : PoolId) (session : SessionId) (r : RequestId) (nodes : List NodeEntry) (labels : List LabelId) (i : ℕ) → i < length labels →

@@ -1,21 +1,9 @@
 -- a decline that finds the request in another state
 use Rattle.std.proofs.Common.{◌≡◌, refl, sym, ap, ◌∙◌, Option, Some, None, Ok, Err}
-use Rattle.np_text.specs.declared.id.SessionId.{SessionId}
-use Rattle.np_text.specs.declared.id.PoolId.{PoolId}
-use Rattle.np_text.specs.declared.id.RequestId.{RequestId}
-use Rattle.np_text.specs.declared.word.Reason.{Reason}
+use Rattle.np_changes.specs.Prelude.{Configuration, PoolId, Reason, Refusal, RequestId, RequestRecord, SessionId, State, asked_of, by_registrant, by_request_holder, found, in_state_for, judge_decline, launcher, new_record, request_at, request_in}
 use Rattle.np_text.specs.declared.word.Reason.TheVariants.{NoLabel, NeverFits, TenantNeverFits, Spent}
-use Rattle.np_record.specs.declared.record.RequestRecord.{RequestRecord}
-use Rattle.np_event.specs.declared.reply.Refusal.{Refusal}
 use Rattle.np_event.specs.declared.reply.Refusal.TheVariants as no
-use Rattle.np_lists.specs.Refusals.{found}
-use Rattle.np_site.specs.Configuration.{Configuration}
-use Rattle.np_machine.specs.State.{State}
-use Rattle.np_machine.specs.Tables.{request_in}
-use Rattle.np_machine.specs.Tests.{launcher, request_at, by_registrant, by_request_holder}
-use Rattle.np_machine.specs.Request.{in_state_for, judge_decline}
 use Rattle.np_changes.specs.declared.asked.Asked.{Asked}
-use Rattle.np_changes.specs.Asked.{asked_of, new_record}
 use Rattle.np_decision.specs.Verdicts.{without_declines}
 
 -- a reason does not depend on a request's declines

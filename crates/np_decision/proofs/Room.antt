@@ -1,16 +1,8 @@
 -- what a state that fits leaves room for, by what is read of it
 use Rattle.std.proofs.Common.{◌≡◌, ◌≤◌, ◌<◌, refl, Option, Some, None, true}
 use Rattle.std.specs.Prelude.{not, ◌&&◌, ◌==◌}
-use Rattle.std.specs.Option.{option_map}
-use Rattle.np_text.specs.declared.id.NodeId.{NodeId}
-use Rattle.np_site.specs.Configuration.{Configuration}
-use Rattle.np_record.specs.declared.record.NodeRecord.{NodeRecord}
+use Rattle.np_changes.specs.Prelude.{Configuration, Fits, NodeEntry, NodeFits, NodeId, NodeRecord, State, is_building, node_entry, node_in, option_map}
 use Rattle.np_lists.proofs.Each.{all-find}
-use Rattle.np_machine.specs.Entries.{NodeEntry}
-use Rattle.np_machine.specs.State.{State}
-use Rattle.np_machine.specs.Kinds.{is_building}
-use Rattle.np_machine.specs.Tables.{node_entry, node_in}
-use Rattle.np_fits.specs.Fits.{Fits, NodeFits}
 
 node-fits : (c : Configuration) (s : State) (n : NodeId) (e : NodeEntry) → Fits c s → node_entry n s.nodes ≡ Some e → NodeFits s e
 node-fits c s n e fits is = all-find (NodeFits s) (λ other. other.id.0 == n.0) s.nodes e fits.each_node is

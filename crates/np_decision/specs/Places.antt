@@ -1,13 +1,6 @@
 -- the places of a request, one by one
 use Rattle.std.specs.Prelude.{ℕ, List, Option, Some, None, if◌then◌else◌}
-use Rattle.np_text.specs.declared.id.SessionId.{SessionId}
-use Rattle.np_text.specs.declared.id.PoolId.{PoolId}
-use Rattle.np_text.specs.declared.id.LabelId.{LabelId}
-use Rattle.np_text.specs.declared.id.NodeId.{NodeId}
-use Rattle.np_text.specs.declared.id.RequestId.{RequestId}
-use Rattle.np_machine.specs.Entries.{NodeEntry}
-use Rattle.np_machine.specs.Tables.{node_entry}
-use Rattle.np_machine.specs.Request.{is_filled}
+use Rattle.np_changes.specs.Prelude.{LabelId, NodeEntry, NodeId, PoolId, RequestId, SessionId, is_filled, node_entry}
 
 -- 1 if there is a label and no node as fulfil needs it
 abbrev pub lack_at : PoolId → SessionId → RequestId → List NodeEntry → Option LabelId → Option NodeId → ℕ

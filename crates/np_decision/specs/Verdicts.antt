@@ -1,20 +1,9 @@
 -- what a verdict answers
 use Rattle.std.specs.Borrow.{Bor}
 use Rattle.std.specs.Prelude.{ℕ, Result, Ok, Err, not, slice_get}
-use Rattle.np_text.specs.declared.id.PoolId.{PoolId}
-use Rattle.np_text.specs.declared.id.LabelId.{LabelId}
-use Rattle.np_site.specs.Configuration.{Configuration}
-use Rattle.np_site.specs.declared.row.Job.{Job}
-use Rattle.np_text.specs.declared.id.RequestId.{RequestId}
-use Rattle.np_record.specs.declared.record.RequestRecord.{RequestRecord}
-use Rattle.np_record.specs.declared.record.JobRecord.{JobRecord}
-use Rattle.np_event.specs.declared.reply.Refusal.{Refusal}
+use Rattle.np_changes.specs.Prelude.{Configuration, Job, JobRecord, LabelId, PoolId, Refusal, RequestId, RequestRecord, State, asked_of, count_of, found, is_short, need, ◌>>=◌}
 use Rattle.np_event.specs.declared.reply.Refusal.TheVariants as no
-use Rattle.np_machine.specs.State.{State}
-use Rattle.np_lists.specs.Refusals.{◌>>=◌, need, found}
-use Rattle.np_machine.specs.Count.{count_of, is_short}
 use Rattle.np_machine.specs.Tests.{Answer, Check, quota_short}
-use Rattle.np_changes.specs.Asked.{asked_of}
 use Rattle.np_changes.specs.declared.asked.Asked.{Asked}
 use Rattle.np_decision.specs.declared.verdict.Verdict.{Verdict}
 

@@ -1,9 +1,7 @@
 //! The decision: one line for each event.
 
 ghost use Rattle.std.specs.Prelude.{◌≡◌, IfOk};
-ghost use Rattle.np_machine.specs.Step.{judge};
-ghost use Rattle.np_fits.specs.Fits.{Fits};
-ghost use Rattle.np_changes.specs.Plan.{plan};
+ghost use Rattle.np_changes.specs.Prelude.{Fits, judge, plan};
 ghost use Rattle.np_decision.specs.Verdicts.{answer_of};
 
 use crate::node::{

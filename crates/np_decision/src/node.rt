@@ -1,11 +1,9 @@
 //! The rows on nodes.
 
 ghost use Rattle.std.specs.Prelude.{◌≡◌, ◌<◌, ◌≤◌, ◌+◌, ◌^◌, length, slice_get, option_and_then, IfOk};
-ghost use Rattle.np_machine.specs.Count.{retries_of};
+ghost use Rattle.np_changes.specs.Prelude.{Fits, new_record, retries_of};
 ghost use Rattle.np_machine.specs.Reasons.{ready_age, is_past, due_tick};
 ghost use Rattle.np_machine.specs.Node.{judge_take_ready, judge_create, starts_of, judge_start, judge_done, state_after_launch, launched, place_reply, judge_lock_node, judge_unlock_node, is_own, judge_end_node, ended_as, may_delete, judge_mark_deleting, judge_gone, standing, judge_free_node, is_server, is_wanted, judge_sweep};
-ghost use Rattle.np_fits.specs.Fits.{Fits};
-ghost use Rattle.np_changes.specs.Asked.{new_record};
 ghost use Rattle.np_changes.specs.Plan.{plan_take_ready, new_node, plan_create, plan_start, plan_done, plan_lock_node, plan_unlock_node, end_in, plan_end_node, plan_mark_deleting, plan_gone, plan_free_node, plan_sweep};
 ghost use Rattle.np_look.specs.Readers.{tenant_of_job};
 ghost use Rattle.np_decision.specs.Verdicts.{answer_of};
@@ -369,7 +367,7 @@ fn end_in(job: Option<JobId>, node: NodeId) -> JobsChange
 }
 
 /// The requester is done with a node of its job.
-#[tactic(auto, using(np_look::proofs::OwnerLemmas::owner_at))]
+#[tactic(auto, using(crate::proofs::OwnerLemmas::owner_at))]
 pub fn decide_end_node<L: Look>(
     look: &L,
     session: SessionId,

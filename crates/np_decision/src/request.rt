@@ -1,14 +1,8 @@
 //! The rows on requests.
 
 ghost use Rattle.std.specs.Prelude.{◌≡◌, ◌<◌, ◌≤◌, ◌==◌, length, not, IfOk};
-ghost use Rattle.std.specs.List.{list_any};
-ghost use Rattle.np_text.specs.declared.id.Role.TheVariants.{Launcher, Janitor};
-ghost use Rattle.np_machine.specs.Order.{is_pinned_away};
-ghost use Rattle.np_machine.specs.Reasons.{is_spent, is_true};
-ghost use Rattle.np_machine.specs.First.{first_of};
+ghost use Rattle.np_changes.specs.Prelude.{Fits, Janitor, Launcher, first_of, is_pinned_away, is_spent, is_true, list_any, new_record};
 ghost use Rattle.np_machine.specs.Request.{judge_register, judge_submit, judge_revise, judge_min_ready, other_than, lock_pending, lock_request_as, judge_lock_request, unlock_request_as, judge_unlock_request, judge_accept, in_state_for, judge_decline, unfilled, judge_fulfil, judge_reset, judge_fail_declined};
-ghost use Rattle.np_fits.specs.Fits.{Fits};
-ghost use Rattle.np_changes.specs.Asked.{new_record};
 ghost use Rattle.np_changes.specs.Plan.{plan_register, asked_for, plan_submit, plan_revise, asked_to_keep, plan_min_ready, plan_lock_request, plan_unlock_request, plan_accept, plan_decline, request_after_fulfil, nodes_after_fulfil, plan_fulfil, plan_reset, plan_fail_declined};
 ghost use Rattle.np_decision.specs.Places.{lack_at};
 ghost use Rattle.np_decision.specs.Verdicts.{answer_of, min_ready_of};
@@ -21,10 +15,10 @@ use crate::tests::{
 };
 use crate::verdict::{Verdict, made_by};
 use np_changes::{Asked, Changes, Growth, JobsChange, NodesChange, RequestEdit, RequestsChange};
+use np_config::Job;
 use np_event::{Done, Refusal};
 use np_look::{Look, Rows, is_last_pool, node_holder, request_holder, undeclined};
 use np_record::{JobRecord, LabelRow, NodeRow};
-use np_site::Job;
 use np_text::{
     JobId, LabelId, NodeId, NodeState, Phase, PoolId, Reason, RequestId, RequestState, Role,
     SessionId,

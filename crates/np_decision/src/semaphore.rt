@@ -1,11 +1,8 @@
 //! The rows on semaphores and jobs.
 
 ghost use Rattle.std.specs.Prelude.{◌≡◌, ◌<◌, ◌≤◌, ◌^◌, length, map, IfOk};
-ghost use Rattle.std.specs.List.{list_any, list_all};
-ghost use Rattle.np_text.specs.declared.id.SemId.{SemId};
-ghost use Rattle.np_machine.specs.Tables.{role_of};
+ghost use Rattle.np_changes.specs.Prelude.{Fits, SemId, list_all, list_any, role_of};
 ghost use Rattle.np_machine.specs.Semaphore.{judge_acquire, unheld, unended, judge_take, is_busy_with, has_failed_request, is_finishable, ending_of, may_finish, requester_or_janitor, judge_finish, judge_withdraw, may_release, judge_release};
-ghost use Rattle.np_fits.specs.Fits.{Fits};
 ghost use Rattle.np_changes.specs.Plan.{plan_acquire, plan_take, plan_finish, request_after_withdraw, plan_withdraw, plan_release};
 ghost use Rattle.np_decision.specs.Verdicts.{answer_of};
 
@@ -15,10 +12,10 @@ use crate::tests::{
 };
 use crate::verdict::{Verdict, made_by};
 use np_changes::{Changes, Growth, HandlesChange, JobsChange, NodesChange, RequestsChange};
+use np_config::Job;
 use np_event::{Done, Refusal};
 use np_look::{Look, Rows, first_full, is_requester, node_holder};
 use np_record::{JobRecord, MarkRow, Marked, NodeRow};
-use np_site::Job;
 use np_text::{
     Ending, JobId, NodeId, NodeState, Phase, RequestId, RequestState, RequesterId, Role, SessionId,
 };

@@ -3,7 +3,7 @@
 ghost use Rattle.std.specs.Prelude.{◌≡◌, Ok, IfOk};
 ghost use Rattle.np_event.specs.declared.reply.Done.TheVariants.{Plain};
 ghost use Rattle.np_machine.specs.Session.{is_role, judge_open, judge_crash, judge_expire};
-ghost use Rattle.np_fits.specs.Fits.{Fits};
+ghost use Rattle.np_changes.specs.Fits.{Fits};
 ghost use Rattle.np_changes.specs.Plan.{plan_tick, plan_open, plan_crash, plan_expire};
 ghost use Rattle.np_decision.specs.Verdicts.{answer_of};
 

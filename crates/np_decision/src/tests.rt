@@ -1,24 +1,17 @@
 //! Tests that rows share, each with its refusal.
 
 ghost use Rattle.std.specs.Prelude.{◌≡◌, ◌<◌, ◌≤◌, ◌^◌, ◌==◌, length, find, not};
-ghost use Rattle.np_amount.specs.Amounts.{fits};
-ghost use Rattle.np_machine.specs.Tables.{is_session_of, is_request};
-ghost use Rattle.np_machine.specs.Order.{is_pool, is_pending_by};
-ghost use Rattle.np_machine.specs.Count.{is_offered, amount_of_all, limit_of, is_short, count_of};
-ghost use Rattle.np_machine.specs.Tenants.{tenant_never_fits};
-ghost use Rattle.np_machine.specs.Reasons.{next_label};
+ghost use Rattle.np_changes.specs.Prelude.{Fits, amount_of_all, count_of, fits, is_offered, is_pending_by, is_pool, is_request, is_session_of, is_short, limit_of, new_record, next_label, tenant_never_fits};
 ghost use Rattle.np_machine.specs.Tests.{maker, launcher, janitor, requester, request_at, node_at, job_at, record_of, of_requester, by_registrant, by_request_holder, by_node_holder, of_pool, wrong_request, wrong_node, wrong_job, none_missing, not_blocked, missing_handles};
-ghost use Rattle.np_fits.specs.Fits.{Fits};
-ghost use Rattle.np_changes.specs.Asked.{new_record};
 ghost use Rattle.np_look.specs.Readers.{tenant_of_job};
 ghost use Rattle.np_decision.specs.Verdicts.{without_declines, row_of_job, asked_request, has_room};
 
 use np_amount::Amount;
 use np_changes::Asked;
+use np_config::Job;
 use np_event::{Found, Refusal};
 use np_look::{Look, Rows, node_holder, request_holder};
 use np_record::{JobRecord, NodeRecord};
-use np_site::Job;
 use np_text::{
     JobId, LabelId, NodeId, NodeState, PoolId, RequestId, RequestState, RequesterId, Role,
     SessionId, TenantId,

@@ -1,47 +1,24 @@
 -- a call of several parts, the begin of a session after it, and the end of one
 use Rattle.std.proofs.Common.{◌≡◌, ℕ, ◌+◌, ◌-◌, ◌<◌, ◌≤◌, Bool, true, false, not, ◌||◌, List, [], ◌∷◌, ◌++◌, length, map, Option, Some, None, Result, Ok, refl, sym, ap, subst, ◌∙◌, arith}
-use Rattle.std.specs.Prelude.{◌==◌, IsOk, filter, min, nat_lt}
+use Rattle.std.specs.Prelude.{◌==◌, IsOk, filter, nat_lt}
 use Rattle.std.specs.Str.{bytes_eq}
-use Rattle.std.specs.List.{AllByRecursion, list_any}
-use Rattle.np_lists.specs.Refusals.{◌>>=◌, ◌>>◌, found, need}
+use Rattle.np_changes.specs.Prelude.{AllByRecursion, NodeEntry, Registration, RequestEntry, SessionId, State, ended, found, is_session, list_any, need, node_left, request_left, ◌>>=◌, ◌>>◌}
 use Rattle.np_lists.proofs.Each.{all-filter, all-mapped, length-filter_at_most}
 use Rattle.np_lists.proofs.ChangeLemmas.{length-change_at}
-use Rattle.np_path.specs.Parts.{name_of, parent_of, root}
-use Rattle.np_session.specs.Known.{is_in}
-use Rattle.np_text.specs.declared.id.SessionId.{SessionId}
-use Rattle.np_nodes.specs.TreeState.{TreeState}
-use Rattle.np_nodes.specs.After.{after_create_under, after_end, after_loss, after_part, next_change, where_found, with_new_child}
-use Rattle.np_nodes.specs.Answer.{child_answer, part_answer}
+use Rattle.np_layout.specs.Prelude.{Goes, HasGoodIds, HasRoomFor, IsGood, IsWhole, LaysOut, Mode, Node, Op, TreeRefusal, TreeState, after_begin, after_create_under, after_end, after_loss, after_multi, after_part, after_parts, at_path, child_answer, children_of, is_check, is_in, is_owned, name_of, next_change, parent_of, part_answer, root, rows_at, where_found, with_new_child}
 use Rattle.np_nodes.specs.Tests.{fits, has_version, there, unspent}
 use Rattle.np_nodes.specs.declared.op.OpDone.{OpDone}
 use Rattle.np_nodes.specs.declared.op.OpDone.TheVariants as done
-use Rattle.np_nodes.specs.declared.refusal.TreeRefusal.{TreeRefusal}
 use Rattle.np_nodes.specs.declared.refusal.TreeRefusal.TheVariants as no
-use Rattle.np_nodes.specs.Calls.{after_begin}
-use Rattle.np_nodes.specs.Multi.{after_multi, after_parts, is_check}
-use Rattle.np_nodes.specs.Nodes.{at_path, children_of, is_owned}
-use Rattle.np_nodes.specs.declared.kind.Mode.{Mode}
-use Rattle.np_nodes.specs.declared.node.Node.{Node}
-use Rattle.np_nodes.specs.declared.op.Op.{Op}
 use Rattle.np_nodes.specs.declared.op.Op.TheVariants as op
-use Rattle.np_tree.specs.Whole.{IsWhole}
-use Rattle.np_views.specs.Several.{Goes, HasRoomFor}
-use Rattle.np_views.specs.Relations.{is_kept}
-use Rattle.np_views.specs.Views.{rows_at}
-use Rattle.np_views.proofs.RelationLemmas.{ends-show, parts-change_nodes_alone}
-use Rattle.np_views.proofs.SeveralLemmas.{checks-leave-the-tree, goes-under-one-number}
-use Rattle.np_machine.specs.Entries.{NodeEntry, RequestEntry}
-use Rattle.np_machine.specs.Tables.{is_session}
-use Rattle.np_machine.specs.declared.state.Registration.{Registration}
-use Rattle.np_machine.specs.Session.{ended, node_left, request_left}
-use Rattle.np_machine.specs.State.{State}
-use Rattle.np_places.specs.Place.{IsGood}
-use Rattle.np_places.specs.declared.place.Place.TheVariants.{Launcher, Node as NodePlace, Request}
+use Rattle.np_tree.specs.Relations.{is_kept}
+use Rattle.np_tree.proofs.RelationLemmas.{ends-show, parts-change_nodes_alone}
+use Rattle.np_tree.proofs.SeveralLemmas.{checks-leave-the-tree, goes-under-one-number}
+use Rattle.np_layout.specs.declared.place.Place.TheVariants.{Launcher, Node as NodePlace, Request}
 use Rattle.np_layout.specs.Deletes.{without_session}
-use Rattle.np_layout.specs.Layout.{LaysOut}
-use Rattle.np_layout.specs.Sets.{HasGoodIds}
 use Rattle.np_layout.proofs.Elsewhere.{Stays, frame-stays, jobs-stay, launchers-stay, live-stays, node_locks-stay, nodes-stay, request_locks-stay, requests-stay, roles-stay, semaphores-stay, sessions-stay, swept-stay}
 use Rattle.np_enact.specs.Stands.{Stands}
+use Rattle.np_lists.proofs.Plain.{low-min}
 
 -- ## a session that begins after the parts
 
@@ -110,9 +87,6 @@ changes-after t w (part ∷ parts) = changes-after (after_part t w part) w parts
 -- a tree under another number
 abbrev pub numbered : ℕ → TreeState → TreeState
 numbered number t = record t { changes = number }
-
-low-min : (a b : ℕ) → min a b ≤ a
-low-min a b = omega arith
 
 -- a call leaves what its parts leave, under a number that is at most the next one
 pub record HasNumber (t : TreeState) (w : ℕ) (parts : List Op) : Type 0 where

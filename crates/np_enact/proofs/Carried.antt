@@ -1,33 +1,9 @@
 -- a tree can carry the state that an accepted event leaves
 use Rattle.std.proofs.Common.{◌≡◌, ◌<◌, ◌≤◌, ◌^◌, ◌⊎◌, inl, inr, ℕ, ◌+◌, List, [], length, Bool, true, false, cond, Option, Some, None, refl, ap, sym, subst, ◌∙◌, arith, length-append}
 use Rattle.std.specs.Prelude.{◌-◌}
-use Rattle.std.specs.List.{AllByRecursion}
-use Rattle.np_text.specs.Request.{HasText}
-use Rattle.np_text.specs.declared.id.JobId.{JobId}
-use Rattle.np_text.specs.declared.id.NodeId.{NodeId}
-use Rattle.np_text.specs.declared.id.RequestId.{RequestId}
-use Rattle.np_text.specs.declared.id.SessionId.{SessionId}
-use Rattle.np_lists.specs.Change.{insert_before}
+use Rattle.np_changes.specs.Prelude.{AllByRecursion, AsksForJob, AsksToKeep, Configuration, GrowthPremise, HasText, IsPriority, JobId, JobRecord, NodeEntry, NodeId, Registration, RequestEntry, RequestId, RoleRecord, SessionFacts, SessionId, State, Swept, change_janitor, change_launcher, change_requester, changed, edited, ended, grown, insert_before, is_id_before, is_pair_after, is_swept, joined, left, muted, new_record, next_id, plan, put_request_queue, registers, request_left, request_queue, requests_changed, requests_left, same_request, sessions_changed, with_pair}
 use Rattle.np_lists.proofs.ChangeLemmas.{length-change_at}
 use Rattle.np_lists.proofs.Each.{all-change_first, all-insert_before, all-mapped, all-remove_first, all-weaker}
-use Rattle.np_site.specs.Configuration.{Configuration}
-use Rattle.np_site.specs.Sound.{IsPriority}
-use Rattle.np_record.specs.declared.record.JobRecord.{JobRecord}
-use Rattle.np_record.specs.declared.record.RoleRecord.{RoleRecord}
-use Rattle.np_machine.specs.Entries.{NodeEntry, RequestEntry}
-use Rattle.np_machine.specs.Node.{is_pair_after, is_swept, with_pair}
-use Rattle.np_machine.specs.Order.{is_id_before}
-use Rattle.np_machine.specs.Request.{next_id, registers}
-use Rattle.np_machine.specs.Session.{ended, muted, request_left}
-use Rattle.np_machine.specs.State.{State}
-use Rattle.np_machine.specs.Tables.{change_janitor, change_launcher, change_requester, joined, left, put_request_queue, request_queue, same_request}
-use Rattle.np_machine.specs.declared.state.Registration.{Registration}
-use Rattle.np_machine.specs.declared.state.SessionFacts.{SessionFacts}
-use Rattle.np_machine.specs.declared.state.Swept.{Swept}
-use Rattle.np_changes.specs.Asked.{new_record}
-use Rattle.np_changes.specs.Changes.{changed, edited, grown, requests_changed, requests_left, sessions_changed}
-use Rattle.np_changes.specs.Plan.{plan}
-use Rattle.np_changes.specs.Premises.{AsksForJob, AsksToKeep, GrowthPremise}
 use Rattle.np_changes.specs.declared.asked.Asked.{Asked}
 use Rattle.np_changes.specs.declared.changes.Changes.{Changes}
 use Rattle.np_changes.specs.declared.changes.Growth.{Growth}
@@ -42,9 +18,8 @@ use Rattle.np_laws.specs.Parts.{IsNumbered}
 use Rattle.np_laws.proofs.After.{made-look}
 use Rattle.np_laws.proofs.JobsLater.{jobs-grown}
 use Rattle.np_laws.proofs.Numbered.{numbered}
-use Rattle.np_places.specs.Place.{IsGood}
-use Rattle.np_places.specs.declared.place.Place.TheVariants.{Job, Launcher, Node, Request, Swept as SweptPlace}
-use Rattle.np_layout.specs.Sets.{HasGoodIds}
+use Rattle.np_layout.specs.Prelude.{HasGoodIds, IsGood}
+use Rattle.np_layout.specs.declared.place.Place.TheVariants.{Job, Launcher, Node, Request, Swept as SweptPlace}
 use Rattle.np_layout.specs.Carried.{AreHolders, IsCarried, IsOrdered}
 use Rattle.np_enact.specs.Ready.{IsTypedGrowth, StepsAreCarried}
 use Rattle.np_enact.proofs.SoundRows.{JobRow, job-low, job-row, pool-low}

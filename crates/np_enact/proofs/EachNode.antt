@@ -1,27 +1,13 @@
 -- the records of several nodes are changed, one after another
 use Rattle.std.proofs.Common.{◌≡◌, ℕ, ◌+◌, Bool, true, false, cond, ◌||◌, List, [], ◌∷◌, length, map, Option, Some, None, refl, sym, ap, ◌∙◌, subst, inl, arith}
 use Rattle.std.specs.Prelude.{◌==◌, fold, nat_lt}
-use Rattle.std.specs.List.{AllByRecursion, list_any}
-use Rattle.std.specs.Option.{option_map}
+use Rattle.np_changes.specs.Prelude.{AllByRecursion, NodeEntry, NodeId, NodeRecord, NonePass, RequestId, Rises, SessionId, State, all_freed, change_first, freed, freed_from, is_request, list_any, node_entry, option_map, put_node}
 use Rattle.std.proofs.lemmas.Bool.Decides.{nat_tests}
-use Rattle.np_text.specs.declared.id.NodeId.{NodeId}
-use Rattle.np_text.specs.declared.id.RequestId.{RequestId}
-use Rattle.np_text.specs.declared.id.SessionId.{SessionId}
-use Rattle.np_lists.specs.Change.{change_first}
-use Rattle.np_lists.specs.Rising.{NonePass, Rises}
 use Rattle.np_lists.proofs.ChangeLemmas.{change_first-absent, change_first-same}
 use Rattle.np_lists.proofs.Each.{all-change_first, all-find, all-weaker}
 use Rattle.np_lists.proofs.RisingLemmas.{Rises-keys, map-keys}
-use Rattle.np_nodes.specs.TreeState.{TreeState}
-use Rattle.np_nodes.specs.Multi.{after_parts}
-use Rattle.np_record.specs.declared.record.NodeRecord.{NodeRecord}
-use Rattle.np_spelling.specs.Spelling.{IsNode, node_text}
-use Rattle.np_machine.specs.Entries.{NodeEntry}
-use Rattle.np_machine.specs.State.{State}
-use Rattle.np_machine.specs.Tables.{all_freed, freed, freed_from, is_request, node_entry, put_node}
-use Rattle.np_places.specs.Place.{IsGood}
-use Rattle.np_places.specs.declared.place.Place.TheVariants.{Node}
-use Rattle.np_layout.specs.Sets.{set}
+use Rattle.np_layout.specs.Prelude.{IsGood, IsNode, TreeState, after_parts, node_text, set}
+use Rattle.np_layout.specs.declared.place.Place.TheVariants.{Node}
 use Rattle.np_layout.proofs.DeleteNodeWaits.{found-node, is_node_it, node-good}
 use Rattle.np_layout.proofs.DeleteOnce.{IsOnce}
 use Rattle.np_layout.proofs.SetNodes.{nodes-lay-out}

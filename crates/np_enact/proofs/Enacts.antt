@@ -1,12 +1,7 @@
 -- every accepted event is enacted
 use Rattle.std.proofs.Common.{◌≡◌, true, subst}
 use Rattle.std.specs.Prelude.{is_ok}
-use Rattle.np_site.specs.Configuration.{Configuration}
-use Rattle.np_event.specs.declared.event.Event.{Event}
-use Rattle.np_machine.specs.State.{State}
-use Rattle.np_machine.specs.Step.{judge, next}
-use Rattle.np_changes.specs.Changes.{changed}
-use Rattle.np_changes.specs.Plan.{plan}
+use Rattle.np_changes.specs.Prelude.{Configuration, Event, State, changed, judge, next, plan}
 use Rattle.np_layout.specs.Layout.{LaysOut}
 use Rattle.np_enact.specs.Events.{EventsEnact, IsEnacted}
 use Rattle.np_enact.specs.Parts.{enacted}

@@ -1,29 +1,12 @@
 -- the changes of a whole event
 use Rattle.std.proofs.Common.{◌≡◌, ℕ, ◌+◌, ◌<◌, ◌≤◌, Bool, true, false, cond, List, [], ◌∷◌, ◌++◌, Option, Some, None, refl, sym, ap, subst, ◌∙◌, arith}
 use Rattle.std.proofs.lemmas.Bool.Decides.{nat_tests}
-use Rattle.std.specs.Prelude.{◌==◌, ◌-◌, slice_get, min}
-use Rattle.np_text.specs.declared.id.SessionId.{SessionId}
+use Rattle.std.specs.Prelude.{◌==◌, ◌-◌, slice_get}
+use Rattle.np_changes.specs.Prelude.{Configuration, NodeEntry, RequestEntry, SessionFacts, SessionId, SessionsPremise, State, allocated, is_id_before, joined, new_record, next_id, node_queue, request_queue, same_request, session_of}
 use Rattle.np_lists.proofs.Each.{all-change_first, all-insert_before, all-push}
-use Rattle.np_session.specs.Known.{is_in}
-use Rattle.np_nodes.specs.TreeState.{TreeState}
-use Rattle.np_nodes.specs.After.{next_change}
-use Rattle.np_nodes.specs.Multi.{after_multi, after_parts}
-use Rattle.np_nodes.specs.declared.op.Op.{Op}
-use Rattle.np_tree.specs.Whole.{IsWhole}
+use Rattle.np_layout.specs.Prelude.{Goes, HasGoodIds, HasRoomFor, HasSpellings, IsNode, IsRequest, IsSessionRole, IsWhole, LaysOut, Op, TreeState, after_multi, after_parts, is_in, next_change, tree_session}
 use Rattle.np_tree.proofs.WholeLemmas.{IsWhole-after_end}
-use Rattle.np_views.specs.Several.{Goes, HasRoomFor}
-use Rattle.np_site.specs.Configuration.{Configuration}
-use Rattle.np_spelling.specs.Spelling.{IsNode, IsRequest, IsSessionRole}
-use Rattle.np_machine.specs.Entries.{NodeEntry, RequestEntry}
-use Rattle.np_machine.specs.Node.{allocated}
-use Rattle.np_machine.specs.Order.{is_id_before}
-use Rattle.np_machine.specs.Request.{next_id}
-use Rattle.np_machine.specs.State.{State}
-use Rattle.np_machine.specs.Tables.{joined, node_queue, request_queue, same_request, session_of}
-use Rattle.np_machine.specs.declared.state.SessionFacts.{SessionFacts}
-use Rattle.np_changes.specs.Asked.{new_record}
 use Rattle.np_changes.specs.Changes.{by_maker, changed, grown, settled}
-use Rattle.np_changes.specs.Premises.{SessionsPremise}
 use Rattle.np_changes.specs.declared.changes.Changes.{Changes}
 use Rattle.np_changes.specs.declared.changes.Growth.{Growth}
 use Rattle.np_changes.specs.declared.changes.Growth.TheVariants as grow
@@ -31,18 +14,15 @@ use Rattle.np_changes.specs.declared.changes.Maker.{Maker}
 use Rattle.np_changes.specs.declared.changes.SessionsChange.{SessionsChange}
 use Rattle.np_changes.specs.declared.changes.SessionsChange.TheVariants as sessions
 use Rattle.np_layout.specs.Deletes.{without_session}
-use Rattle.np_layout.specs.Layout.{LaysOut}
-use Rattle.np_layout.specs.Rows.{tree_session}
-use Rattle.np_layout.specs.Sets.{HasGoodIds}
 use Rattle.np_layout.proofs.DeleteEnds.{session_ends-lay-out}
 use Rattle.np_enact.specs.Events.{EventsEnact, IsEnacted, IsReady, called, in_call}
 use Rattle.np_enact.specs.Parts.{enacted, grown_parts, parts_of, settled_parts, with_begin, with_end, writer}
 use Rattle.np_enact.specs.Stands.{Enacts, Stands}
-use Rattle.np_layout.specs.Carried.{HasSpellings}
 use Rattle.np_enact.specs.Ways.{GrowthReady, GrowthsEnact}
 use Rattle.np_enact.proofs.Calls.{goes-begun, good-ended, number-of, numbered, parts-begun, room-ended, stands-numbered}
 use Rattle.np_enact.proofs.Settled.{SettledReady, TablesEnact, grown-tree, same-requests, same-tick, settled-current, settled-enact, with_all}
 use Rattle.np_enact.proofs.StandsLemmas.{enacts-joined, stands-less}
+use Rattle.np_lists.proofs.Plain.{low-min}
 
 -- ## what grows
 
@@ -171,9 +151,6 @@ record IsLeft (later : State) (t : TreeState) (number more : ℕ) : Type 0 where
   lays : LaysOut later t
   numbers : t.changes ≤ number + 1
   room : HasRoomFor more t
-
-low-min : (a b : ℕ) → min a b ≤ a
-low-min a b = omega arith
 
 left-by : (s : State) (ch : Changes) (change : SessionsChange) → SessionsPremise s ch change → (later : State) (u : TreeState) (w more : ℕ) → u.changes + 1 < 18_446_744_073_709_551_615 → Stands later u w more → IsLeft (state_with_end change later) (with_end change u) u.changes more
 left-by s ch sessions.Same premise later u w more low stands = record { whole = stands.whole; good = stands.good; lays = stands.lays; numbers = omega arith; room = stands.room }

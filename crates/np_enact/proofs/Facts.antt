@@ -1,33 +1,17 @@
 -- what is known of the requests, the nodes and the makers of a state that a tree can carry
 use Rattle.std.proofs.Common.{◌≡◌, ◌<◌, ℕ, List, [], ◌∷◌, length, true, false, Option, Some, None, refl, ap, ◌∙◌, subst, arith}
 use Rattle.std.specs.Prelude.{◌==◌, nat_lt}
-use Rattle.std.specs.Option.{option_map}
-use Rattle.std.specs.List.{AllByRecursion}
+use Rattle.np_changes.specs.Prelude.{AllByRecursion, Configuration, Fits, HasText, IsHeard, Launcher, MakerPremise, NodeEntry, PoolId, RequestEntry, RequestId, RequestRecord, Rises, Role, SessionId, State, next_id, node_entry, option_map, request_entry, request_in, role_of, same_request}
 use Rattle.std.proofs.lemmas.Bool.Decides.{nat_tests}
-use Rattle.np_text.specs.Request.{HasText}
-use Rattle.np_text.specs.declared.id.PoolId.{PoolId}
-use Rattle.np_text.specs.declared.id.RequestId.{RequestId}
-use Rattle.np_text.specs.declared.id.Role.{Role}
-use Rattle.np_text.specs.declared.id.Role.TheVariants.{Launcher}
-use Rattle.np_text.specs.declared.id.SessionId.{SessionId}
-use Rattle.np_lists.specs.Rising.{Rises}
 use Rattle.np_lists.proofs.Each.{all-find, all-weaker}
 use Rattle.np_lists.proofs.FoundLemmas.{find-passes}
 use Rattle.np_lists.proofs.Halves.{find-none}
-use Rattle.np_site.specs.Configuration.{Configuration}
-use Rattle.np_record.specs.declared.record.RequestRecord.{RequestRecord}
-use Rattle.np_spelling.specs.Spelling.{IsRequest}
-use Rattle.np_machine.specs.Entries.{NodeEntry, RequestEntry}
-use Rattle.np_machine.specs.Request.{next_id}
-use Rattle.np_machine.specs.State.{State}
-use Rattle.np_machine.specs.Tables.{node_entry, request_entry, request_in, role_of, same_request}
-use Rattle.np_changes.specs.Premises.{IsHeard, MakerPremise}
+use Rattle.np_layout.specs.Prelude.{IsCarried, IsRequest}
 use Rattle.np_changes.specs.declared.changes.Maker.{Maker}
-use Rattle.np_fits.specs.Fits.{Fits}
 use Rattle.np_laws.specs.Parts.{IsNumbered}
 use Rattle.np_laws.proofs.Ids.{kept-is, row-of}
-use Rattle.np_laws.proofs.Lookups.{same_request-is}
-use Rattle.np_layout.specs.Carried.{IsCarried}
+use Rattle.np_lists.proofs.Plain.{equal-itself}
+use Rattle.np_machine.proofs.Ids.{request-equal}
 
 -- ## requests
 
@@ -41,7 +25,7 @@ pub request-spelled : (c : Configuration) (s : State) → IsCarried c s → (r :
 request-spelled c s carried r request stands =
     let test = λ (e : RequestEntry). same_request e.id r in
     let row = row-of (λ (e : RequestEntry). e.kept) (request_entry r s.requests) request stands in
-    let same : row.0.id ≡ r = same_request-is row.0.id r (find-passes test s.requests row.0 row.1) in
+    let same : row.0.id ≡ r = request-equal row.0.id r (find-passes test s.requests row.0 row.1) in
     let kept : row.0.kept ≡ request = kept-is (λ (e : RequestEntry). e.kept) (request_entry r s.requests) request row.0 stands row.1 in
     let text : HasText row.0.id = all-find (λ (e : RequestEntry). HasText e.id) test s.requests row.0 carried.good.requests row.1 in
     let spelled : IsRequest row.0.kept = all-find (λ (e : RequestEntry). IsRequest e.kept) test s.requests row.0 carried.spelled.requests row.1 in
@@ -59,16 +43,13 @@ next-free s numbered priority =
 
 -- ## nodes
 
-same-number : (n : ℕ) → (n == n) ≡ true
-same-number n = grind (arith, nat_tests)
-
 lower-number : (m n : ℕ) → nat_lt m n ≡ true → (m == n) ≡ false
 lower-number m n before = grind (arith, nat_tests)
 
 -- each node is the one that is found by its number
 pub each-found : (P : NodeEntry → Type 0) (rows : List NodeEntry) → Rises (λ a b. nat_lt a.id.0 b.id.0) rows → ((e : NodeEntry) → node_entry e.id rows ≡ Some e → P e) → AllByRecursion P rows
 each-found P [] rises says = tt
-each-found P (x ∷ rows) rises says = (says x (let here = same-number x.id.0 in rw here refl), each-found P rows rises.1 later) where
+each-found P (x ∷ rows) rises says = (says x (let here = equal-itself x.id.0 in rw here refl), each-found P rows rises.1 later) where
   later : (e : NodeEntry) → node_entry e.id rows ≡ Some e → P e
   later e found =
       let before : nat_lt x.id.0 e.id.0 ≡ true = all-find (λ (y : NodeEntry). nat_lt x.id.0 y.id.0 ≡ true) (λ (y : NodeEntry). y.id.0 == e.id.0) rows e rises.0 found in

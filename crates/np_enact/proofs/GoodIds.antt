@@ -1,11 +1,8 @@
 -- the ids of a state with other requests or nodes
 use Rattle.std.proofs.Common.{ℕ, List}
-use Rattle.std.specs.List.{AllByRecursion}
-use Rattle.np_machine.specs.Entries.{NodeEntry, RequestEntry}
-use Rattle.np_machine.specs.State.{State}
-use Rattle.np_places.specs.Place.{IsGood}
-use Rattle.np_places.specs.declared.place.Place.TheVariants.{Node, Request}
-use Rattle.np_layout.specs.Sets.{HasGoodIds}
+use Rattle.np_changes.specs.Prelude.{AllByRecursion, NodeEntry, RequestEntry, State}
+use Rattle.np_layout.specs.Prelude.{HasGoodIds, IsGood}
+use Rattle.np_layout.specs.declared.place.Place.TheVariants.{Node, Request}
 
 -- the ids have texts if those of the requests have
 pub good-requests : (s : State) (rows : List RequestEntry) (next : ℕ) → HasGoodIds s → AllByRecursion (λ e. IsGood (Request e.id)) rows → HasGoodIds (record s { requests = rows; next_request = next })

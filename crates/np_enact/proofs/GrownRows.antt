@@ -1,46 +1,19 @@
 -- what grows by a record of its own: a session, a request and a node
 use Rattle.std.proofs.Common.{◌≡◌, ℕ, ◌+◌, ◌<◌, ◌≤◌, ◌^◌, Bool, true, false, ◌&&◌, ◌||◌, List, [], ◌∷◌, ◌++◌, length, None, refl, ap, ◌∙◌, inl, arith, length-append}
 use Rattle.std.specs.Prelude.{◌==◌}
-use Rattle.std.specs.Fmt.{decimal}
-use Rattle.std.specs.List.{AllByRecursion, list_all}
-use Rattle.std.proofs.lemmas.List.Folds.{list_all-append, list_any-append}
-use Rattle.np_text.specs.declared.id.NodeId.{NodeId}
-use Rattle.np_text.specs.declared.id.RequestId.{RequestId}
-use Rattle.np_text.specs.declared.id.Role.{Role}
-use Rattle.np_text.specs.declared.id.SessionId.{SessionId}
+use Rattle.np_changes.specs.Prelude.{AllByRecursion, NodeEntry, NodeId, NodeRecord, RequestEntry, RequestId, RequestRecord, Role, SessionFacts, SessionId, State, insert_request, is_id_before, next_id, request_entry}
+use Rattle.std.proofs.lemmas.List.Folds.{list_any-append}
 use Rattle.np_lists.proofs.Each.{all-insert_before, all-push}
-use Rattle.np_path.specs.Grammar.{is_element}
+use Rattle.np_layout.specs.Prelude.{HasGoodIds, HasRoomFor, IsGood, IsNode, IsPart, Op, Persistent, TreeState, after_begin, after_parts, is_in, make, node_text, path_of, request_record_text, session_text, tree_session}
 use Rattle.np_path.proofs.PartsLemmas.{is_path-below}
-use Rattle.np_session.specs.Known.{is_in}
-use Rattle.np_nodes.specs.TreeState.{TreeState}
-use Rattle.np_nodes.specs.Calls.{after_begin}
-use Rattle.np_nodes.specs.Multi.{after_parts}
-use Rattle.np_nodes.specs.declared.kind.Mode.TheVariants.{Persistent}
-use Rattle.np_nodes.specs.declared.op.Op.{Op}
-use Rattle.np_tree.specs.Whole.{IsPart}
-use Rattle.np_views.specs.Several.{HasRoomFor}
-use Rattle.np_views.proofs.ElsewhereLemmas.{goes-whole}
-use Rattle.np_views.proofs.RoomLemmas.{room-falls}
-use Rattle.np_record.specs.declared.record.NodeRecord.{NodeRecord}
-use Rattle.np_record.specs.declared.record.RequestRecord.{RequestRecord}
-use Rattle.np_spelling.specs.Spelling.{IsNode, node_text, request_record_text, session_text}
-use Rattle.np_machine.specs.Entries.{NodeEntry, RequestEntry}
-use Rattle.np_machine.specs.Order.{is_id_before}
-use Rattle.np_machine.specs.Request.{insert_request, next_id}
-use Rattle.np_machine.specs.State.{State}
-use Rattle.np_machine.specs.Tables.{request_entry}
-use Rattle.np_machine.specs.declared.state.SessionFacts.{SessionFacts}
-use Rattle.np_places.specs.Place.{IsGood, path_of}
-use Rattle.np_places.specs.declared.place.Place.TheVariants.{Requests, Request, RequestLock, Nodes, Node, NodeLock, Session}
-use Rattle.np_places.proofs.AboveLemmas.{is_path-of}
-use Rattle.np_places.proofs.NameLemmas.{is_element-plain, is_plain, is_plain_name, plain_name-decimal}
+use Rattle.np_tree.proofs.ElsewhereLemmas.{goes-whole}
+use Rattle.np_tree.proofs.ViewRoomLemmas.{room-falls}
+use Rattle.np_layout.specs.declared.place.Place.TheVariants.{Requests, Request, RequestLock, Nodes, Node, NodeLock, Session}
+use Rattle.np_layout.proofs.AboveLemmas.{is_path-of}
 use Rattle.np_layout.specs.Creates.{node_parts, request_parts, request_prefix}
-use Rattle.np_layout.specs.First.{make}
-use Rattle.np_layout.specs.Rows.{tree_session}
 use Rattle.np_layout.proofs.CreateNodes.{grown_nodes-lay-out}
-use Rattle.np_layout.proofs.CreateRequests.{grown_requests-lay-out}
+use Rattle.np_layout.proofs.CreateRequests.{grown_requests-lay-out, is_element-prefix}
 use Rattle.np_layout.proofs.CreateSessions.{sessions-lay-out}
-use Rattle.np_layout.specs.Sets.{HasGoodIds}
 use Rattle.np_enact.specs.Stands.{Enacts, Stands}
 use Rattle.np_enact.proofs.GoodIds.{good-nodes, good-requests}
 use Rattle.np_enact.proofs.StandsLemmas.{enacts-parts, live-after, part-create, part-wait, room-less, stands-less}
@@ -90,13 +63,6 @@ session-grows s t role more stands small short =
     }
 
 -- ## a request
-
-prefix-plain : (name : List ℕ) → is_plain_name name ≡ true → is_plain_name (name ++ 45 ∷ []) ≡ true
-prefix-plain [] plain = absurd cc
-prefix-plain (b ∷ name) plain = list_all-append is_plain (b ∷ name) (45 ∷ []) ∙ ap (λ (c : Bool). c && list_all is_plain (45 ∷ [])) plain
-
-is_element-prefix : (r : RequestId) → IsGood (Request r) → is_element (request_prefix r) ≡ true
-is_element-prefix r good = let most = good.most in is_element-plain (request_prefix r) (prefix-plain (decimal r.priority) (plain_name-decimal r.priority (omega arith)))
 
 part-request : (r : RequestId) (bytes : List ℕ) → IsGood (Request r) → AllByRecursion IsPart (request_parts r bytes)
 part-request r bytes good = (

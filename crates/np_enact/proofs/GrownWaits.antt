@@ -1,40 +1,23 @@
 -- who joins a queue, and a node that is allocated
 use Rattle.std.proofs.Common.{◌≡◌, ℕ, ◌+◌, ◌<◌, ◌^◌, Bool, true, false, cond, List, [], ◌∷◌, ◌++◌, Option, Some, None, refl, sym, ap, ◌∙◌, subst, inl, arith, IfSome}
 use Rattle.std.specs.Prelude.{◌==◌}
-use Rattle.std.specs.List.{AllByRecursion}
-use Rattle.std.specs.Option.{option_map, option_map_or}
-use Rattle.np_text.specs.declared.id.NodeId.{NodeId}
-use Rattle.np_text.specs.declared.id.RequestId.{RequestId}
-use Rattle.np_text.specs.declared.id.SessionId.{SessionId}
-use Rattle.np_text.specs.declared.id.TenantId.{TenantId}
-use Rattle.np_lists.specs.Change.{change_first}
+use Rattle.np_changes.specs.Prelude.{AllByRecursion, NodeEntry, NodeId, NodeRecord, RequestEntry, RequestId, SessionId, State, TenantId, allocated, change_first, is_queued, joined, node_entry, node_queue, option_map, option_map_or, put_node_queue, put_request_queue, request_entry, request_queue, same_request}
 use Rattle.np_lists.proofs.Each.{all-change_first, all-find}
 use Rattle.np_lists.proofs.ChangeLemmas.{change_first-absent, change_first-same}
 use Rattle.np_lists.proofs.FoundLemmas.{find-change_first, find-passes}
-use Rattle.np_nodes.specs.TreeState.{TreeState}
-use Rattle.np_nodes.specs.Multi.{after_parts}
-use Rattle.np_nodes.specs.declared.op.Op.{Op}
-use Rattle.np_record.specs.declared.record.NodeRecord.{NodeRecord}
-use Rattle.np_spelling.specs.Spelling.{IsNode, node_text}
-use Rattle.np_machine.specs.Entries.{NodeEntry, RequestEntry}
-use Rattle.np_machine.specs.Node.{allocated}
-use Rattle.np_machine.specs.State.{State}
-use Rattle.np_machine.specs.Tables.{is_queued, joined, node_entry, node_queue, put_node_queue, put_request_queue, request_entry, request_queue, same_request}
-use Rattle.np_places.specs.Place.{IsGood}
-use Rattle.np_places.specs.declared.place.Place.TheVariants.{Request, RequestLock, Node, NodeLock}
+use Rattle.np_layout.specs.Prelude.{IsGood, IsNode, Op, TreeState, after_parts, node_text, set, tree_session}
+use Rattle.np_layout.specs.declared.place.Place.TheVariants.{Request, RequestLock, Node, NodeLock}
 use Rattle.np_layout.specs.Creates.{PartsLayOut, wait_at}
-use Rattle.np_layout.specs.Rows.{tree_session}
-use Rattle.np_layout.specs.Sets.{set}
 use Rattle.np_layout.proofs.CreateNodeWaits.{node_waits-lay-out}
 use Rattle.np_layout.proofs.CreateRequestWaits.{request_waits-lay-out}
 use Rattle.np_layout.proofs.SetNodes.{nodes-lay-out, same-is as node-is}
-use Rattle.np_layout.proofs.SetRequests.{same-is as request-is}
 use Rattle.np_enact.specs.Parts.{allocate_parts, join_parts, where_there}
 use Rattle.np_enact.specs.Stands.{Enacts, Stands}
 use Rattle.np_enact.proofs.Lengths.{node-short}
 use Rattle.np_enact.proofs.StandsLemmas.{enacts-joined, enacts-none, enacts-parts, enacts-set, part-wait, room-less, stands-less}
 use Rattle.np_enact.proofs.GoodIds.{good-nodes, good-requests}
 use Rattle.np_enact.proofs.Leaves.{queue-kept}
+use Rattle.np_machine.proofs.Ids.{request-equal}
 
 -- ## lists
 
@@ -62,7 +45,7 @@ module _ (s : State) (t : TreeState) (session : SessionId) (r : RequestId) (e : 
   request-same = queue-kept is_request e.queue s.requests e there refl
 
   request-good : IsGood (RequestLock r)
-  request-good = subst (λ (id : RequestId). IsGood (RequestLock id)) (request-is e.id r (find-passes is_request s.requests e there)) (all-find (λ (x : RequestEntry). IsGood (Request x.id)) is_request s.requests e stands.good.requests there)
+  request-good = subst (λ (id : RequestId). IsGood (RequestLock id)) (request-equal e.id r (find-passes is_request s.requests e there)) (all-find (λ (x : RequestEntry). IsGood (Request x.id)) is_request s.requests e stands.good.requests there)
 
   request-queue : request_queue r s.requests ≡ e.queue
   request-queue = ap (λ (o : Option RequestEntry). option_map_or (λ (x : RequestEntry). x.queue) o []) there

@@ -1,37 +1,15 @@
 -- what grows by an accepted event is ready for the tree
 use Rattle.std.proofs.Common.{◌≡◌, ◌<◌, ◌≤◌, ◌^◌, ℕ, [], length, true, Option, Some, sym, ap, ◌∙◌, subst, arith, inl, inr}
 use Rattle.std.specs.Prelude.{◌⊎◌, IfSome, is_some, slice_get}
-use Rattle.std.specs.Option.{option_map_or}
-use Rattle.std.specs.List.{AllByRecursion}
-use Rattle.np_text.specs.Request.{HasText}
-use Rattle.np_text.specs.declared.id.JobId.{JobId}
-use Rattle.np_text.specs.declared.id.LabelId.{LabelId}
-use Rattle.np_text.specs.declared.id.NodeId.{NodeId}
-use Rattle.np_text.specs.declared.id.PoolId.{PoolId}
-use Rattle.np_text.specs.declared.id.RequestId.{RequestId}
-use Rattle.np_text.specs.declared.id.SemId.{SemId}
-use Rattle.np_text.specs.declared.id.TenantId.{TenantId}
+use Rattle.np_changes.specs.Prelude.{AllByRecursion, Configuration, Fits, HasText, IsPriority, IsSound, Job, JobId, LabelId, NodeEntry, NodeId, NodeRecord, PoolId, RequestEntry, RequestId, SemId, State, TenantId, asked_for, asked_to_keep, new_node, new_record, next_id, node_entry, option_map_or, request_entry, semaphores_of, tenant_of_request}
 use Rattle.np_lists.proofs.Each.{all-at, all-weaker}
-use Rattle.np_site.specs.Configuration.{Configuration}
-use Rattle.np_site.specs.Sound.{IsPriority, IsSound}
-use Rattle.np_site.specs.declared.row.Job.{Job}
-use Rattle.np_record.specs.declared.record.NodeRecord.{NodeRecord}
 use Rattle.np_spelling.specs.Spelling
-use Rattle.np_machine.specs.Entries.{NodeEntry, RequestEntry}
-use Rattle.np_machine.specs.Request.{next_id}
-use Rattle.np_machine.specs.State.{State}
-use Rattle.np_machine.specs.Tables.{node_entry, request_entry}
-use Rattle.np_machine.specs.Tenants.{tenant_of_request}
-use Rattle.np_changes.specs.Asked.{new_record}
-use Rattle.np_changes.specs.Changes.{semaphores_of}
-use Rattle.np_changes.specs.Plan.{asked_for, asked_to_keep, new_node}
 use Rattle.np_changes.specs.Premises.{AsksForJob, AsksToKeep, Gains, GainsNew, GrowthPremise, HasRoom, IsMade, IsTaken, IsUnregistered, MakerPremise}
 use Rattle.np_changes.specs.declared.asked.Asked.{Asked}
 use Rattle.np_changes.specs.declared.changes.Changes.{Changes}
 use Rattle.np_changes.specs.declared.changes.Growth.{Growth}
 use Rattle.np_changes.specs.declared.changes.Growth.TheVariants as grow
 use Rattle.np_changes.specs.declared.changes.Maker.{Maker}
-use Rattle.np_fits.specs.Fits.{Fits}
 use Rattle.np_laws.specs.Parts.{IsNumbered}
 use Rattle.np_laws.proofs.After.{same-new}
 use Rattle.np_laws.proofs.Ids.{row-of}

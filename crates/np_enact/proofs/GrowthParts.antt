@@ -1,11 +1,8 @@
 -- the parts for what grows
 use Rattle.std.proofs.Common.{ℕ, ◌+◌, false, [], length, Some, None, arith}
-use Rattle.np_nodes.specs.TreeState.{TreeState}
-use Rattle.np_machine.specs.State.{State}
-use Rattle.np_changes.specs.Asked.{new_record}
-use Rattle.np_changes.specs.Changes.{semaphores_of}
+use Rattle.np_layout.specs.Prelude.{TreeState, tree_session}
+use Rattle.np_changes.specs.Prelude.{State, new_record, semaphores_of}
 use Rattle.np_changes.specs.declared.changes.Growth.TheVariants as grow
-use Rattle.np_layout.specs.Rows.{tree_session}
 use Rattle.np_enact.specs.Parts.{writer}
 use Rattle.np_enact.specs.Stands.{Enacts, Stands}
 use Rattle.np_enact.specs.Ways.{GrowthsEnact}

@@ -1,28 +1,15 @@
 -- the parts that make a job's handles and that give them back
 use Rattle.std.proofs.Common.{◌≡◌, ℕ, zero, suc, ◌+◌, ◌<◌, ◌≤◌, ◌^◌, Bool, true, false, not, ◌||◌, cond, List, [], ◌∷◌, length, Option, Some, unwrap_or, refl, sym, ap, ◌∙◌, subst, arith}
 use Rattle.std.specs.Prelude.{◌==◌, nat_lt, slice_get}
-use Rattle.std.specs.List.{AllByRecursion}
+use Rattle.np_changes.specs.Prelude.{AllByRecursion, JobId, SemId, State, all_with_handle, all_without_handle, change_at, has_handle, insert_before, is_among, semaphores_of, with_handle, without_handle}
 use Rattle.std.proofs.lemmas.Bool.Decides.{nat_tests}
-use Rattle.np_text.specs.declared.id.JobId.{JobId}
-use Rattle.np_text.specs.declared.id.SemId.{SemId}
-use Rattle.np_lists.specs.Change.{change_at, insert_before}
 use Rattle.np_lists.proofs.ChangeLemmas.{length-change_at}
 use Rattle.np_lists.proofs.Each.{all-change_at, all-filter, all-insert_before}
 use Rattle.np_lists.proofs.FilterLemmas.{filter-not_none, none-list_any}
-use Rattle.np_nodes.specs.TreeState.{TreeState}
-use Rattle.np_nodes.specs.Multi.{after_parts}
-use Rattle.np_nodes.specs.declared.kind.Mode.TheVariants.{Persistent}
-use Rattle.np_nodes.specs.declared.op.Op.{Op}
-use Rattle.np_machine.specs.Semaphore.{all_with_handle, all_without_handle, with_handle, without_handle}
-use Rattle.np_machine.specs.State.{State}
-use Rattle.np_machine.specs.Tables.{has_handle, is_among}
-use Rattle.np_changes.specs.Changes.{semaphores_of}
+use Rattle.np_layout.specs.Prelude.{HasGoodIds, IsGood, Op, Persistent, TreeState, after_parts, make}
 use Rattle.np_changes.specs.declared.changes.HandlesChange.TheVariants as handles
-use Rattle.np_places.specs.Place.{IsGood}
-use Rattle.np_places.specs.declared.place.Place.TheVariants.{Handle, Job}
+use Rattle.np_layout.specs.declared.place.Place.TheVariants.{Handle, Job}
 use Rattle.np_layout.specs.Deletes.{DeleteLaysOut, delete}
-use Rattle.np_layout.specs.First.{make}
-use Rattle.np_layout.specs.Sets.{HasGoodIds}
 use Rattle.np_layout.proofs.CreateHandles.{handles-lay-out as made-lays-out}
 use Rattle.np_layout.proofs.DeleteHandles.{handles-lay-out as gone-lays-out}
 use Rattle.np_enact.specs.Parts.{acquire_parts, release_parts}

@@ -1,41 +1,19 @@
 -- what is known of the records of a state before an event changes it
 use Rattle.std.proofs.Common.{◌≡◌, ◌<◌, ◌≤◌, ◌^◌, ◌⊎◌, inl, inr, ℕ, List, [], ◌∷◌, length, Bool, true, false, cond, Option, Some, None, refl, ap, sym, subst, ◌∙◌, arith}
 use Rattle.std.specs.Prelude.{◌==◌, ◌&&◌, find, not}
-use Rattle.std.specs.List.{AllByRecursion}
-use Rattle.std.specs.Option.{option_map}
-use Rattle.np_text.specs.Request.{HasText}
-use Rattle.np_text.specs.declared.id.LabelId.{LabelId}
-use Rattle.np_text.specs.declared.id.NodeId.{NodeId}
-use Rattle.np_text.specs.declared.id.PoolId.{PoolId}
-use Rattle.np_text.specs.declared.id.RequestId.{RequestId}
-use Rattle.np_text.specs.declared.id.SessionId.{SessionId}
-use Rattle.np_text.specs.declared.id.Role.{Role}
+use Rattle.np_changes.specs.Prelude.{AllByRecursion, Configuration, Fits, HasText, IsPriority, IsSound, LabelId, NodeEntry, NodeFits, NodeId, NodeRecord, PoolId, RequestEntry, RequestFits, RequestId, RequestRecord, Role, SessionFacts, SessionId, State, change_first, is_building, is_declined_by, next_id, node_entry, node_in, option_map, request_entry, request_in, role_of, same_request}
 use Rattle.np_text.specs.declared.id.Role.TheVariants as role
-use Rattle.np_lists.specs.Change.{change_first}
 use Rattle.np_lists.proofs.Each.{all-find}
 use Rattle.np_lists.proofs.FoundLemmas.{find-passes}
-use Rattle.np_site.specs.Configuration.{Configuration}
-use Rattle.np_site.specs.Sound.{IsPriority, IsSound}
-use Rattle.np_record.specs.declared.record.NodeRecord.{NodeRecord}
-use Rattle.np_record.specs.declared.record.RequestRecord.{RequestRecord}
-use Rattle.np_spelling.specs.Spelling.{IsNode, IsRequest}
-use Rattle.np_machine.specs.Entries.{NodeEntry, RequestEntry}
-use Rattle.np_machine.specs.Kinds.{is_building}
-use Rattle.np_machine.specs.Order.{is_declined_by}
-use Rattle.np_machine.specs.Request.{next_id}
-use Rattle.np_machine.specs.State.{State}
-use Rattle.np_machine.specs.Tables.{node_entry, node_in, request_entry, request_in, role_of, same_request}
-use Rattle.np_machine.specs.declared.state.SessionFacts.{SessionFacts}
+use Rattle.np_layout.specs.Prelude.{IsCarried, IsGood, IsNode, IsRequest}
 use Rattle.np_changes.specs.Premises.{IsHeard, IsMade, IsTaken, IsWorkedOn, MakerPremise, Premises}
 use Rattle.np_changes.specs.declared.changes.Changes.{Changes}
 use Rattle.np_changes.specs.declared.changes.Maker.{Maker}
-use Rattle.np_fits.specs.Fits.{Fits, NodeFits, RequestFits}
 use Rattle.np_laws.specs.Parts.{Invariant}
-use Rattle.np_laws.proofs.Lookups.{node_in-below, same_request-is}
-use Rattle.np_places.specs.Place.{IsGood}
-use Rattle.np_places.specs.declared.place.Place.TheVariants.{Request}
-use Rattle.np_layout.specs.Carried.{IsCarried}
+use Rattle.np_laws.proofs.Lookups.{node_in-below}
+use Rattle.np_layout.specs.declared.place.Place.TheVariants.{Request}
 use Rattle.np_enact.specs.Ready.{IsTyped}
+use Rattle.np_machine.proofs.Ids.{request-equal}
 
 -- the state is one of a run and can be carried, and the changes are of an event that is accepted in it
 pub record IsKnown (c : Configuration) (s : State) (ch : Changes) : Type 0 where
@@ -94,7 +72,7 @@ request-row c s fits carried r k there =
     let row : (e : RequestEntry) × ((request_entry r s.requests ≡ Some e) × (e.kept ≡ k)) = row-found (λ (e : RequestEntry). e.kept) (request_entry r s.requests) k there in
     let e : RequestEntry = row.0 in
     let fit : RequestFits c s e = all-find (RequestFits c s) (λ x. same_request x.id r) s.requests e fits.each_request row.1.0 in
-    let same : e.id ≡ r = same_request-is e.id r (find-passes (λ (x : RequestEntry). same_request x.id r) s.requests e row.1.0) in
+    let same : e.id ≡ r = request-equal e.id r (find-passes (λ (x : RequestEntry). same_request x.id r) s.requests e row.1.0) in
     subst (RequestRow c r) row.1.1 (record {
       is = all-find (λ (x : RequestEntry). IsRequest x.kept) (λ x. same_request x.id r) s.requests e carried.spelled.requests row.1.0;
       text = subst HasText same (all-find (λ (x : RequestEntry). IsGood (Request x.id)) (λ x. same_request x.id r) s.requests e carried.good.requests row.1.0);

@@ -1,49 +1,29 @@
 -- what a session leaves: the parts of a leave, and of a lock that is cleared
 use Rattle.std.proofs.Common.{◌≡◌, ℕ, suc, ◌+◌, ◌<◌, ◌^◌, Bool, true, false, cond, List, [], ◌∷◌, ◌++◌, Option, Some, None, refl, sym, ap, ◌∙◌, subst, arith}
 use Rattle.std.specs.Prelude.{◌==◌, find, slice_get}
-use Rattle.std.specs.List.{AllByRecursion, AllZip}
-use Rattle.std.specs.Option.{option_map_or}
+use Rattle.np_changes.specs.Prelude.{AllByRecursion, AllZip, Locked, NodeEntry, NodeId, NonePass, RequestEntry, RequestId, SessionId, State, change_first, is_session, left, node_entry, node_queue, option_map_or, put_node_queue, put_request_queue, request_entry, request_queue, same_request}
 use Rattle.std.proofs.lemmas.Bool.Decides.{nat_tests}
-use Rattle.np_text.specs.declared.id.NodeId.{NodeId}
-use Rattle.np_text.specs.declared.id.RequestId.{RequestId}
-use Rattle.np_text.specs.declared.id.SessionId.{SessionId}
-use Rattle.np_lists.specs.Change.{change_first}
-use Rattle.np_lists.specs.Rising.{NonePass}
 use Rattle.np_lists.proofs.ChangeLemmas.{change_first-same}
 use Rattle.np_lists.proofs.Each.{all-change_first, all-find, all-map, all-mapped}
 use Rattle.np_lists.proofs.FilterLemmas.{filter-not_none}
-use Rattle.np_path.specs.Grammar.{is_element}
-use Rattle.np_path.specs.Parts.{below}
+use Rattle.np_layout.specs.Prelude.{Any, HasGoodIds, IsGood, IsPart, IsQueue, IsWait, IsWhole, Row, TreeState, below, delete_parts, is_element, is_owner, path_of, place_name, under}
 use Rattle.np_path.proofs.PartsLemmas.{is_path-below}
-use Rattle.np_nodes.specs.TreeState.{TreeState}
-use Rattle.np_nodes.specs.Nodes.{is_owner}
-use Rattle.np_nodes.specs.declared.kind.Expect.TheVariants.{Any}
 use Rattle.np_nodes.specs.declared.op.Op.TheVariants as op
-use Rattle.np_tree.specs.Whole.{IsPart, IsWhole}
-use Rattle.np_views.specs.Several.{delete_parts}
-use Rattle.np_views.specs.Views.{Row}
-use Rattle.np_views.proofs.ClearLemmas.{rows-elements}
-use Rattle.np_views.proofs.RoomLemmas.{room-gives}
-use Rattle.np_machine.specs.Entries.{NodeEntry, RequestEntry}
-use Rattle.np_machine.specs.State.{State}
-use Rattle.np_machine.specs.Tables.{is_session, left, node_entry, node_queue, put_node_queue, put_request_queue, request_entry, request_queue, same_request}
-use Rattle.np_machine.specs.declared.state.Locked.{Locked}
-use Rattle.np_places.specs.Place.{IsGood, path_of, place_name}
-use Rattle.np_places.specs.declared.place.Place.{Place}
-use Rattle.np_places.specs.declared.place.Place.TheVariants.{Node, NodeLock, NodeWait, Request, RequestLock, RequestWait}
-use Rattle.np_places.proofs.AboveLemmas.{is_path-of, path_of-joined}
+use Rattle.np_tree.proofs.ClearLemmas.{rows-elements}
+use Rattle.np_tree.proofs.ViewRoomLemmas.{room-gives}
+use Rattle.np_layout.specs.declared.place.Place.{Place}
+use Rattle.np_layout.specs.declared.place.Place.TheVariants.{Node, NodeLock, NodeWait, Request, RequestLock, RequestWait}
+use Rattle.np_layout.proofs.AboveLemmas.{is_path-of, path_of-joined}
 use Rattle.np_layout.specs.Deletes.{AreDistinct, DeleteLaysOut, MayDelete, delete}
-use Rattle.np_layout.specs.Layout.{IsQueue, IsWait, under}
 use Rattle.np_layout.specs.Rows.{tree_session, wait_row}
-use Rattle.np_layout.specs.Sets.{HasGoodIds}
 use Rattle.np_layout.proofs.DeleteNodeWaits.{node-good, node-queue, node_waits-lay-out}
 use Rattle.np_layout.proofs.DeleteParts.{AreWaits}
-use Rattle.np_layout.proofs.DeleteQueues.{session-is}
 use Rattle.np_layout.proofs.DeleteRequestWaits.{request-good, request-queue, request_waits-lay-out}
 use Rattle.np_enact.specs.Parts.{leave_parts, where_there}
 use Rattle.np_enact.specs.Stands.{Enacts, Stands}
 use Rattle.np_enact.proofs.GoodIds.{good-nodes, good-requests}
 use Rattle.np_enact.proofs.StandsLemmas.{IsDelete, enacts-deletes, enacts-none, part-delete, room-less, stands-less}
+use Rattle.np_machine.proofs.Ids.{session-equal}
 
 -- where there is room for one part more a part may be deleted
 pub may-delete : (s : State) (t : TreeState) (w more : ℕ) → Stands s t w (more + 1) → MayDelete s t w
@@ -100,7 +80,7 @@ module _ (next : ℕ) (session : SessionId) where
   own-tells row other wait = ap own wait.is ∙ one_more other.0 session.0
 
   own-is : (row : Row) (other : SessionId) (wait : IsWait next row other) → own row ≡ true → row ≡ wait_row wait.number session
-  own-is row other wait owned = wait.is ∙ ap (wait_row wait.number) (session-is other session (sym (own-tells row other wait) ∙ owned))
+  own-is row other wait owned = wait.is ∙ ap (wait_row wait.number) (session-equal other session (sym (own-tells row other wait) ∙ owned))
 
   waits-by : (first row : Row) (rows : List Row) (other : SessionId) (b : Bool) → own first ≡ b → IsWait next first other → cond b (Some first) (find own rows) ≡ Some row → (find own rows ≡ Some row → Waits next session rows row) → Waits next session (first ∷ rows) row
   waits-by first row rows other true owned wait there later =

@@ -1,34 +1,16 @@
 -- how long the records' texts are: each fits the bytes of a node
 use Rattle.std.proofs.Common.{ℕ, ◌+◌, ◌*◌, ◌^◌, ◌<◌, ◌≤◌, Bool, true, false, List, [], ◌∷◌, length, Option, Some, None, IfSome, arith, length-append, lit≤}
-use Rattle.std.specs.List.{AllByRecursion}
-use Rattle.np_text.specs.Request.{HasText}
+use Rattle.np_changes.specs.Prelude.{AllByRecursion, Declined, Ending, HasText, JobId, JobRecord, LabelId, Marked, NodeId, NodeRecord, NodeState, Phase, PoolId, Reason, RequestId, RequestRecord, RequestState, Role, RoleRecord, TenantId}
 use Rattle.np_text.specs.Word.{ending_word, node_state_word, phase_word, reason_text_of, request_state_word}
-use Rattle.np_text.specs.declared.id.JobId.{JobId}
-use Rattle.np_text.specs.declared.id.LabelId.{LabelId}
-use Rattle.np_text.specs.declared.id.NodeId.{NodeId}
-use Rattle.np_text.specs.declared.id.PoolId.{PoolId}
-use Rattle.np_text.specs.declared.id.RequestId.{RequestId}
-use Rattle.np_text.specs.declared.id.Role.{Role}
 use Rattle.np_text.specs.declared.id.Role.TheVariants as role
-use Rattle.np_text.specs.declared.id.TenantId.{TenantId}
-use Rattle.np_text.specs.declared.word.Ending.{Ending}
 use Rattle.np_text.specs.declared.word.Ending.TheVariants as ending
-use Rattle.np_text.specs.declared.word.NodeState.{NodeState}
 use Rattle.np_text.specs.declared.word.NodeState.TheVariants as node
-use Rattle.np_text.specs.declared.word.Phase.{Phase}
 use Rattle.np_text.specs.declared.word.Phase.TheVariants as phase
-use Rattle.np_text.specs.declared.word.Reason.{Reason}
 use Rattle.np_text.specs.declared.word.Reason.TheVariants as reason
-use Rattle.np_text.specs.declared.word.RequestState.{RequestState}
 use Rattle.np_text.specs.declared.word.RequestState.TheVariants as state
-use Rattle.np_record.specs.declared.record.Declined.{Declined}
-use Rattle.np_record.specs.declared.record.JobRecord.{JobRecord}
-use Rattle.np_record.specs.declared.record.Marked.{Marked}
-use Rattle.np_record.specs.declared.record.NodeRecord.{NodeRecord}
-use Rattle.np_record.specs.declared.record.RequestRecord.{RequestRecord}
-use Rattle.np_record.specs.declared.record.RoleRecord.{RoleRecord}
 use Rattle.np_spelling.specs.Spelling.{IsAsked, IsDeclined, IsJob, IsLabel, IsMarked, IsNode, IsNodeId, IsReason, IsRequest, IsRole, IsServed, IsSessionRole, declined_text, flag_text, job_end, job_front, job_text, label_text, list_text, marked_text, node_front, node_id_text, node_server, node_tenant, node_text, request_job, request_pinned, request_pool, request_record_text, rest_text, role_name, role_text, session_text}
-use Rattle.np_places.proofs.LengthLemmas.{length-eight, length-four, length-request, length-two}
+use Rattle.np_layout.proofs.LengthLemmas.{length-four, length-request, length-two}
+use Rattle.np_lists.proofs.Plain.{decimal-short}
 
 -- ## lists of short items
 
@@ -118,7 +100,7 @@ node_front-short (Some id) is = let text = length-request id is in simp length-a
 
 node_server-short : (o : Option ℕ) → IfSome o (λ server. server < 2 ^ 64) → length (node_server o) ≤ 60
 node_server-short None is = lit≤ tt
-node_server-short (Some server) is = let eight = length-eight server is in simp length-append (omega arith)
+node_server-short (Some server) is = let eight = decimal-short server is in simp length-append (omega arith)
 
 node_tenant-short : (o : Option TenantId) → IfSome o (λ t. t.0 < 2 ^ 16) → length (node_tenant o) ≤ 60
 node_tenant-short None is = lit≤ tt

@@ -1,26 +1,11 @@
 -- the parts that mark a pair as swept and that register a launcher
 use Rattle.std.proofs.Common.{◌≡◌, ℕ, ◌+◌, Bool, true, false, cond, List, [], ◌∷◌, None, refl, sym, ap, subst, arith}
 use Rattle.std.specs.Prelude.{nat_lt}
-use Rattle.std.specs.List.{AllByRecursion}
-use Rattle.np_text.specs.declared.id.NodeId.{NodeId}
-use Rattle.np_text.specs.declared.id.PoolId.{PoolId}
-use Rattle.np_text.specs.declared.id.SessionId.{SessionId}
-use Rattle.np_lists.specs.Change.{insert_before}
+use Rattle.np_changes.specs.Prelude.{AllByRecursion, NodeId, PoolId, Registration, SessionId, State, Swept, insert_before, is_pair_after, is_swept, registered, registers, with_pair}
 use Rattle.np_lists.proofs.Each.{all-insert_before}
-use Rattle.np_nodes.specs.TreeState.{TreeState}
-use Rattle.np_nodes.specs.declared.kind.Mode.TheVariants.{Ephemeral, Persistent}
+use Rattle.np_layout.specs.Prelude.{Ephemeral, HasGoodIds, IsGood, Persistent, TreeState, make, path_of, tree_session}
 use Rattle.np_nodes.specs.declared.op.Op.TheVariants as op
-use Rattle.np_machine.specs.Node.{is_pair_after, is_swept, with_pair}
-use Rattle.np_machine.specs.Request.{registers}
-use Rattle.np_machine.specs.State.{State}
-use Rattle.np_machine.specs.Tables.{registered}
-use Rattle.np_machine.specs.declared.state.Registration.{Registration}
-use Rattle.np_machine.specs.declared.state.Swept.{Swept}
-use Rattle.np_places.specs.Place.{IsGood, path_of}
-use Rattle.np_places.specs.declared.place.Place.TheVariants.{Launcher, Swept as SweptPlace}
-use Rattle.np_layout.specs.First.{make}
-use Rattle.np_layout.specs.Rows.{tree_session}
-use Rattle.np_layout.specs.Sets.{HasGoodIds}
+use Rattle.np_layout.specs.declared.place.Place.TheVariants.{Launcher, Swept as SweptPlace}
 use Rattle.np_layout.proofs.CreateLaunchers.{registrations-lay-out}
 use Rattle.np_layout.proofs.CreateSwept.{swept_pairs-lay-out}
 use Rattle.np_enact.specs.Stands.{Enacts, Stands}

@@ -1,27 +1,12 @@
 -- the parts for a change of nodes
 use Rattle.std.proofs.Common.{◌≡◌, ℕ, ◌+◌, ◌<◌, ◌^◌, List, [], ◌∷◌, length, Option, Some, None, refl, sym, subst, arith}
-use Rattle.std.specs.List.{AllByRecursion}
-use Rattle.np_text.specs.declared.id.NodeId.{NodeId}
-use Rattle.np_text.specs.declared.id.SessionId.{SessionId}
+use Rattle.np_changes.specs.Prelude.{AllByRecursion, NodeEntry, NodeId, NodeRecord, SessionId, State, freed_from, in_use, left, node_entry, node_queue, put_node, put_node_queue, remove_node}
 use Rattle.np_lists.proofs.ChangeLemmas.{change_first-absent, remove_first-absent}
 use Rattle.np_lists.proofs.Each.{all-find, all-remove_first}
 use Rattle.np_lists.proofs.FoundLemmas.{find-change_first}
-use Rattle.np_nodes.specs.TreeState.{TreeState}
-use Rattle.np_nodes.specs.declared.op.Op.{Op}
-use Rattle.np_tree.specs.Whole.{IsPart}
-use Rattle.np_views.specs.Several.{delete_parts}
-use Rattle.np_record.specs.declared.record.NodeRecord.{NodeRecord}
-use Rattle.np_spelling.specs.Spelling.{IsNode, node_text}
-use Rattle.np_machine.specs.Entries.{NodeEntry}
-use Rattle.np_machine.specs.Semaphore.{in_use}
-use Rattle.np_machine.specs.State.{State}
-use Rattle.np_machine.specs.Tables.{freed_from, left, node_entry, node_queue, put_node, put_node_queue, remove_node}
+use Rattle.np_layout.specs.Prelude.{AreDistinct, IsGood, IsNode, IsPart, Op, TreeState, delete, delete_parts, node_deletes, node_text, path_of, set, under}
 use Rattle.np_changes.specs.declared.changes.NodesChange.TheVariants as nodes
-use Rattle.np_places.specs.Place.{IsGood, path_of}
-use Rattle.np_places.specs.declared.place.Place.TheVariants.{Node, NodeLock}
-use Rattle.np_layout.specs.Deletes.{AreDistinct, delete, node_deletes}
-use Rattle.np_layout.specs.Layout.{under}
-use Rattle.np_layout.specs.Sets.{set}
+use Rattle.np_layout.specs.declared.place.Place.TheVariants.{Node, NodeLock}
 use Rattle.np_layout.proofs.DeleteNodeWaits.{is_node_it, node-good}
 use Rattle.np_layout.proofs.DeleteNodes.{nodes_go-lay-out}
 use Rattle.np_enact.specs.Parts.{each_changed, leave_parts, nodes_of, where_there, writer}

@@ -1,27 +1,17 @@
 -- what happens to the nodes by an accepted event is ready for the tree
 use Rattle.std.proofs.Common.{◌≡◌, ◌≤◌, ℕ, List, [], length, true, Option, Some, None, sym, ap, ◌∙◌, subst, arith, inl, inr}
 use Rattle.std.specs.Prelude.{◌==◌, ◌⊎◌}
-use Rattle.std.specs.Option.{option_map, option_map_or}
-use Rattle.std.specs.List.{AllByRecursion, list_any}
-use Rattle.np_text.specs.declared.id.NodeId.{NodeId}
-use Rattle.np_text.specs.declared.id.RequestId.{RequestId}
-use Rattle.np_site.specs.Configuration.{Configuration}
-use Rattle.np_record.specs.declared.record.RequestRecord.{RequestRecord}
-use Rattle.np_machine.specs.Entries.{NodeEntry}
-use Rattle.np_machine.specs.State.{State}
-use Rattle.np_machine.specs.Tables.{is_request, node_entry, node_in, request_in}
-use Rattle.np_changes.specs.Premises.{EmptiesRequest, GoesFulfilled, GoesWithdrawn, NodesPremise, RequestsPremise, TakesOver}
+use Rattle.np_changes.specs.Prelude.{AllByRecursion, Configuration, EmptiesRequest, Fits, GoesFulfilled, GoesWithdrawn, NodeEntry, NodeId, NodesPremise, RequestId, RequestRecord, RequestsPremise, State, TakesOver, is_request, list_any, node_entry, node_in, option_map, option_map_or, request_in}
 use Rattle.np_changes.specs.declared.changes.Changes.{Changes}
 use Rattle.np_changes.specs.declared.changes.NodesChange.{NodesChange}
 use Rattle.np_changes.specs.declared.changes.NodesChange.TheVariants as nodes
 use Rattle.np_changes.specs.declared.changes.RequestsChange.{RequestsChange}
-use Rattle.np_fits.specs.Fits.{Fits}
 use Rattle.np_laws.specs.Parts.{AllocationsListed, Invariant}
-use Rattle.np_laws.proofs.Lookups.{same_request-is}
 use Rattle.np_layout.specs.Carried.{IsCarried}
 use Rattle.np_enact.specs.Parts.{nodes_of}
 use Rattle.np_enact.specs.Ways.{NodesReady}
 use Rattle.np_enact.proofs.Facts.{each-found, request-spelled}
+use Rattle.np_machine.proofs.Ids.{request-equal}
 
 -- ## the request whose nodes are free
 
@@ -49,7 +39,7 @@ module _ (c : Configuration) (s : State) (ch : Changes) (r : RequestId) (frees :
 -- a request that an option names
 named : (r : RequestId) (o : Option RequestId) → is_request r o ≡ true → o ≡ Some r
 named r None is = absurd cc
-named r (Some other) is = ap (λ (x : RequestId). Some x) (same_request-is other r is)
+named r (Some other) is = ap (λ (x : RequestId). Some x) (request-equal other r is)
 
 -- the nodes of a request that stands are those of its record
 nodes-are : (s : State) (r : RequestId) (request : RequestRecord) → request_in r s.requests ≡ Some request → request.nodes ≡ nodes_of r s.requests

@@ -1,33 +1,13 @@
 -- the tables that the tree keeps by names stay in their order, and each keeps its length
 use Rattle.std.proofs.Common.{◌≡◌, ◌<◌, ℕ, List, [], ◌∷◌, length, Bool, true, false, cond, Option, Some, None, refl, ◌∙◌, arith, length-set}
 use Rattle.std.specs.Prelude.{◌==◌, nat_lt, not}
-use Rattle.std.specs.List.{AllByRecursion}
+use Rattle.np_changes.specs.Prelude.{AllByRecursion, Configuration, GrowthPremise, JobId, JobRecord, NodeId, Registration, Rises, Role, RoleRecord, SemId, State, Swept, all_with_handle, all_without_handle, change_at, change_janitor, change_launcher, change_requester, changed, grown, handles_changed, insert_before, is_among, is_pair, is_pair_after, is_session, is_swept, jobs_changed, one_more_act, one_more_start, registers, registrations_left, semaphores_of, struck_unless, with_deed, with_handle, with_mark, with_pair, without_handle}
 use Rattle.std.proofs.lemmas.Bool.Decides.{nat_tests}
-use Rattle.np_text.specs.declared.id.JobId.{JobId}
-use Rattle.np_text.specs.declared.id.NodeId.{NodeId}
-use Rattle.np_text.specs.declared.id.Role.{Role}
 use Rattle.np_text.specs.declared.id.Role.TheVariants as role
-use Rattle.np_text.specs.declared.id.SemId.{SemId}
-use Rattle.np_lists.specs.Change.{change_at, insert_before}
-use Rattle.np_lists.specs.Rising.{Rises}
 use Rattle.np_lists.proofs.ChangeLemmas.{length-change_at}
 use Rattle.np_lists.proofs.Each.{all-change_at, all-filter, all-insert_before, all-weaker}
 use Rattle.np_lists.proofs.FilterLemmas.{none-list_any}
 use Rattle.np_lists.proofs.RisingLemmas.{Rises-filter}
-use Rattle.np_site.specs.Configuration.{Configuration}
-use Rattle.np_record.specs.declared.record.JobRecord.{JobRecord}
-use Rattle.np_record.specs.declared.record.RoleRecord.{RoleRecord}
-use Rattle.np_machine.specs.Node.{is_pair, is_pair_after, is_swept, one_more_start, with_mark, with_pair}
-use Rattle.np_machine.specs.Request.{registers}
-use Rattle.np_machine.specs.Semaphore.{all_with_handle, all_without_handle, with_handle, without_handle}
-use Rattle.np_machine.specs.Session.{struck_unless}
-use Rattle.np_machine.specs.State.{State}
-use Rattle.np_machine.specs.Step.{one_more_act}
-use Rattle.np_machine.specs.Tables.{change_janitor, change_launcher, change_requester, is_among, is_session}
-use Rattle.np_machine.specs.declared.state.Registration.{Registration}
-use Rattle.np_machine.specs.declared.state.Swept.{Swept}
-use Rattle.np_changes.specs.Changes.{changed, grown, handles_changed, jobs_changed, registrations_left, semaphores_of, with_deed}
-use Rattle.np_changes.specs.Premises.{GrowthPremise}
 use Rattle.np_changes.specs.declared.changes.Changes.{Changes}
 use Rattle.np_changes.specs.declared.changes.Deed.{Deed}
 use Rattle.np_changes.specs.declared.changes.Deed.TheVariants as deed
@@ -43,9 +23,10 @@ use Rattle.np_changes.specs.declared.changes.SessionsChange.TheVariants as sessi
 use Rattle.np_laws.proofs.After.{made-look}
 use Rattle.np_laws.proofs.Registered.{registered-still}
 use Rattle.np_laws.proofs.Rising.{rises-insert_before}
-use Rattle.np_layout.proofs.SetLists.{within}
 use Rattle.np_layout.specs.Carried.{AreHolders, IsOrdered, is_pair_before}
 use Rattle.np_enact.proofs.KnownRows.{IsKnown, launcher-low}
+use Rattle.np_layout.proofs.Order.{pair-trans}
+use Rattle.np_lists.proofs.Plain.{within}
 
 -- ## handles
 
@@ -87,9 +68,6 @@ handles-by c (handles.Release j) rows all = all-without (length c.jobs) j (semap
 
 -- ## pairs
 
-through_pairs : (a b k : Swept) → is_pair_before a b ≡ true → is_pair_before b k ≡ true → is_pair_before a k ≡ true
-through_pairs a b k first second = grind (arith, nat_tests)
-
 past-pair : (n : NodeId) (x : ℕ) (pair : Swept) → is_pair n x pair ≡ false → is_pair_before (record { node = n; server = x }) pair ≡ false → is_pair_before pair (record { node = n; server = x }) ≡ true
 past-pair n x pair apart out = grind (arith, nat_tests)
 
@@ -97,7 +75,7 @@ with-pair : (n : NodeId) (x : ℕ) (pairs : List Swept) → Rises is_pair_before
 with-pair n x pairs old = by (is_swept n x pairs) refl where
   by : (b : Bool) → is_swept n x pairs ≡ b → Rises is_pair_before (cond b pairs (insert_before (is_pair_after n x) (record { node = n; server = x }) pairs))
   by true there = old
-  by false out = rises-insert_before is_pair_before through_pairs (record { node = n; server = x }) pairs
+  by false out = rises-insert_before is_pair_before pair-trans (record { node = n; server = x }) pairs
       (all-weaker (λ (pair : Swept). is_pair n x pair ≡ false) (λ (pair : Swept). is_pair_before (record { node = n; server = x }) pair ≡ false → is_pair_before pair (record { node = n; server = x }) ≡ true)
       (past-pair n x) pairs (none-list_any (is_pair n x) pairs out)) old
 

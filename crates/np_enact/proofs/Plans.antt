@@ -2,18 +2,8 @@
 -- nothing grows beside it or beside handles that are given back
 use Rattle.std.proofs.Common.{◌≡◌, ℕ, Bool, true, false, cond, Option, None, refl, subst}
 use Rattle.std.specs.Prelude.{slice_get}
-use Rattle.np_text.specs.declared.id.NodeId.{NodeId}
-use Rattle.np_site.specs.Configuration.{Configuration}
-use Rattle.np_event.specs.declared.event.Event.{Event}
+use Rattle.np_changes.specs.Prelude.{Configuration, Event, NodeId, State, grown, is_wanted, janitor, launcher, maker, next_label, node_in, plan, request_in, request_of_job, requester, same, session_of}
 use Rattle.np_event.specs.declared.event.Event.TheVariants as ev
-use Rattle.np_machine.specs.Node.{is_wanted}
-use Rattle.np_machine.specs.Reasons.{next_label}
-use Rattle.np_machine.specs.Request.{request_of_job}
-use Rattle.np_machine.specs.State.{State}
-use Rattle.np_machine.specs.Tables.{node_in, request_in, session_of}
-use Rattle.np_machine.specs.Tests.{janitor, launcher, maker, requester}
-use Rattle.np_changes.specs.Changes.{grown}
-use Rattle.np_changes.specs.Plan.{plan, same}
 use Rattle.np_changes.specs.declared.changes.Changes.{Changes}
 use Rattle.np_changes.specs.declared.changes.Growth.{Growth}
 use Rattle.np_changes.specs.declared.changes.Growth.TheVariants as grow

@@ -1,11 +1,7 @@
 -- every accepted event is ready for the tree
 use Rattle.std.proofs.Common.{List, [], ◌∷◌, refl, arith}
-use Rattle.std.specs.List.{AllByRecursion}
-use Rattle.np_text.specs.declared.id.SessionId.{SessionId}
+use Rattle.np_changes.specs.Prelude.{AllByRecursion, NodeEntry, RequestEntry, SessionId, State, plan}
 use Rattle.np_lists.proofs.Each.{all-weaker}
-use Rattle.np_machine.specs.Entries.{NodeEntry, RequestEntry}
-use Rattle.np_machine.specs.State.{State}
-use Rattle.np_changes.specs.Plan.{plan}
 use Rattle.np_changes.proofs.PremisesOf.{premises}
 use Rattle.np_laws.specs.Parts.{DistinctSessions, IsQueue, IsQueued}
 use Rattle.np_layout.specs.Deletes.{AreDistinct}

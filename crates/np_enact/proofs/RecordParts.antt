@@ -2,45 +2,26 @@
 use Rattle.std.proofs.Common.{◌≡◌, ℕ, zero, suc, ◌+◌, ◌-◌, ◌^◌, ◌<◌, Bool, true, false, cond, List, [], ◌∷◌, length, Option, Some, None, refl, sym, ap, subst, ◌∙◌, arith, length-set}
 use Rattle.std.specs.Prelude.{◌==◌, slice_get, slice_set}
 use Rattle.std.specs.Fmt.{decimal}
-use Rattle.std.specs.List.{AllByRecursion}
-use Rattle.std.specs.Option.{option_map}
-use Rattle.np_text.specs.declared.id.JobId.{JobId}
-use Rattle.np_text.specs.declared.id.NodeId.{NodeId}
-use Rattle.np_text.specs.declared.id.PoolId.{PoolId}
-use Rattle.np_text.specs.declared.id.RequesterId.{RequesterId}
-use Rattle.np_text.specs.declared.id.Role.{Role}
+use Rattle.np_changes.specs.Prelude.{AllByRecursion, JobId, JobRecord, NodeId, PoolId, RequesterId, Role, RoleRecord, SessionFacts, SessionId, State, change_at, change_role, change_session, muted, one_more_act, one_more_start, option_map, put_job, session_of, struck_unless, with_mark}
 use Rattle.np_text.specs.declared.id.Role.TheVariants as role
-use Rattle.np_text.specs.declared.id.SessionId.{SessionId}
-use Rattle.np_lists.specs.Change.{change_at}
 use Rattle.np_lists.proofs.ChangeLemmas.{length-change_at, slice_get-change_at}
 use Rattle.np_lists.proofs.Each.{all-at}
-use Rattle.np_nodes.specs.TreeState.{TreeState}
-use Rattle.np_record.specs.declared.record.JobRecord.{JobRecord}
-use Rattle.np_record.specs.declared.record.RoleRecord.{RoleRecord}
-use Rattle.np_spelling.specs.Spelling.{IsJob, IsRole, IsSessionRole, job_text, role_text, session_text}
-use Rattle.np_machine.specs.Node.{one_more_start, with_mark}
-use Rattle.np_machine.specs.Session.{muted, struck_unless}
-use Rattle.np_machine.specs.State.{State}
-use Rattle.np_machine.specs.Step.{one_more_act}
-use Rattle.np_machine.specs.Tables.{change_role, change_session, put_job, session_of}
-use Rattle.np_machine.specs.declared.state.SessionFacts.{SessionFacts}
+use Rattle.np_layout.specs.Prelude.{HasGoodIds, HasSpellings, IsJob, IsRole, IsSessionRole, TreeState, job_text, role_text, session_text, set}
 use Rattle.np_changes.specs.declared.changes.Deed.TheVariants as deed
 use Rattle.np_changes.specs.declared.changes.JobsChange.TheVariants as jobs
 use Rattle.np_changes.specs.declared.changes.SessionsChange.TheVariants as sessions
-use Rattle.np_places.specs.declared.place.Place.TheVariants.{Job, LauncherRole, JanitorRole, RequesterRole, Session, Tick}
-use Rattle.np_places.proofs.LengthLemmas.{length-four}
-use Rattle.np_layout.specs.Sets.{HasGoodIds, set}
+use Rattle.np_layout.specs.declared.place.Place.TheVariants.{Job, LauncherRole, JanitorRole, RequesterRole, Session, Tick}
+use Rattle.np_layout.proofs.LengthLemmas.{length-four}
 use Rattle.np_layout.proofs.SetJobs.{job_changes-lay-out, jobs-lay-out}
-use Rattle.np_layout.proofs.SetLists.{within}
 use Rattle.np_layout.proofs.SetRoles.{roles-lay-out}
 use Rattle.np_layout.proofs.SetSessions.{mutes-lay-out}
 use Rattle.np_layout.proofs.SetTicks.{ticks-lay-out}
 use Rattle.np_enact.specs.Parts.{role_parts, where_there}
 use Rattle.np_enact.specs.Stands.{Enacts, Stands}
-use Rattle.np_layout.specs.Carried.{HasSpellings}
 use Rattle.np_enact.specs.Ways.{DeedsEnact, JobsEnact, SessionsEnact, TicksEnact}
 use Rattle.np_enact.proofs.StandsLemmas.{enacts-none, enacts-set, stands-less}
 use Rattle.np_enact.proofs.Lengths.{job-short, role-short, session-short}
+use Rattle.np_lists.proofs.Plain.{set-here, within}
 
 -- ## what is not there does not change
 
@@ -53,12 +34,6 @@ slice_set-absent : {X : Type 0} (xs : List X) (i : ℕ) (x : X) → slice_get xs
 slice_set-absent [] i x none = refl
 slice_set-absent (y ∷ xs) zero x none = absurd cc
 slice_set-absent (y ∷ xs) (suc i) x none = ap (λ (ys : List _). y ∷ ys) (slice_set-absent xs i x none)
-
--- what is there is what was put there
-pub slice_get-set : {X : Type 0} (xs : List X) (i : ℕ) (x old : X) → slice_get xs i ≡ Some old → slice_get (slice_set xs i x) i ≡ Some x
-slice_get-set [] i x old there = absurd cc
-slice_get-set (y ∷ xs) zero x old there = refl
-slice_get-set (y ∷ xs) (suc i) x old there = slice_get-set xs i x old there
 
 slice_get-changed : {X : Type 0} (i : ℕ) (f : X → X) (xs : List X) (old : X) → slice_get xs i ≡ Some old → slice_get (change_at i f xs) i ≡ Some (f old)
 slice_get-changed i f xs old there = slice_get-change_at i f xs ∙ ap (option_map f) there
@@ -106,7 +81,7 @@ put-by w j kept s t more None there stands spelled =
 put-by w j kept s t more (Some old) there stands spelled =
     enacts-set s (record s { jobs = put_job j kept s.jobs }) t w (Job j) (job_text kept) more stands (job-low s j old stands.good there)
     (good-jobs s (put_job j kept s.jobs) (length-set s.jobs j.0 kept) stands.good)
-    (job-short kept (all-at IsJob (put_job j kept s.jobs) j.0 kept spelled (slice_get-set s.jobs j.0 kept old there)))
+    (job-short kept (all-at IsJob (put_job j kept s.jobs) j.0 kept spelled (set-here s.jobs j.0 kept old there)))
     (jobs-lay-out s t j old kept stands.whole stands.good stands.lays there)
 
 end-by : (w : ℕ) (j : JobId) (n : NodeId) (s : State) (t : TreeState) (more : ℕ) (o : Option JobRecord) → slice_get s.jobs j.0 ≡ o → Stands s t w (more + 1) → AllByRecursion IsJob (change_at j.0 (with_mark n) s.jobs) →

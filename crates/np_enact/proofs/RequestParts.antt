@@ -1,30 +1,14 @@
 -- the parts for a change of requests
 use Rattle.std.proofs.Common.{◌≡◌, ℕ, ◌+◌, Bool, List, [], ◌∷◌, Option, Some, None, refl, sym, ap, subst, arith}
-use Rattle.std.specs.List.{AllByRecursion}
-use Rattle.std.specs.Option.{option_map}
-use Rattle.np_text.specs.declared.id.RequestId.{RequestId}
-use Rattle.np_lists.specs.Change.{change_first}
+use Rattle.np_changes.specs.Prelude.{AllByRecursion, RequestEntry, RequestId, RequestRecord, State, change_first, edited, left, option_map, put_request_queue, remove_request, request_entry, request_queue, same_request}
 use Rattle.np_lists.proofs.ChangeLemmas.{change_first-absent, remove_first-absent}
 use Rattle.np_lists.proofs.Each.{all-change_first, all-find, all-remove_first}
 use Rattle.np_lists.proofs.FoundLemmas.{find-change_first}
-use Rattle.np_nodes.specs.TreeState.{TreeState}
-use Rattle.np_nodes.specs.declared.op.Op.{Op}
-use Rattle.np_tree.specs.Whole.{IsPart}
-use Rattle.np_views.specs.Several.{delete_parts}
-use Rattle.np_record.specs.declared.record.RequestRecord.{RequestRecord}
-use Rattle.np_spelling.specs.Spelling.{IsRequest, request_record_text}
-use Rattle.np_machine.specs.Entries.{RequestEntry}
-use Rattle.np_machine.specs.State.{State}
-use Rattle.np_machine.specs.Tables.{left, put_request_queue, remove_request, request_entry, request_queue, same_request}
-use Rattle.np_changes.specs.Changes.{edited}
+use Rattle.np_layout.specs.Prelude.{IsGood, IsPart, IsRequest, Op, TreeState, delete, delete_parts, path_of, request_deletes, request_record_text, set, under}
 use Rattle.np_changes.specs.declared.changes.Maker.{Maker}
 use Rattle.np_changes.specs.declared.changes.RequestEdit.{RequestEdit}
 use Rattle.np_changes.specs.declared.changes.RequestsChange.TheVariants as requests
-use Rattle.np_places.specs.Place.{IsGood, path_of}
-use Rattle.np_places.specs.declared.place.Place.TheVariants.{Request, RequestLock}
-use Rattle.np_layout.specs.Deletes.{delete, request_deletes}
-use Rattle.np_layout.specs.Layout.{under}
-use Rattle.np_layout.specs.Sets.{set}
+use Rattle.np_layout.specs.declared.place.Place.TheVariants.{Request, RequestLock}
 use Rattle.np_layout.proofs.DeleteRequests.{requests_go-lay-out}
 use Rattle.np_layout.proofs.DeleteRequestWaits.{request-good}
 use Rattle.np_layout.proofs.SetRequests.{requests-lay-out}

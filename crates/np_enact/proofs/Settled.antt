@@ -2,30 +2,9 @@
 use Rattle.std.proofs.Common.{◌≡◌, ℕ, ◌+◌, ◌<◌, ◌^◌, ◌⊎◌, inl, inr, Bool, true, false, cond, List, [], ◌∷◌, ◌++◌, Option, Some, None, refl, sym, ap, subst, ◌∙◌, arith}
 use Rattle.std.proofs.Math.Path.{ap₂}
 use Rattle.std.specs.Prelude.{slice_get}
-use Rattle.std.specs.List.{AllByRecursion}
-use Rattle.np_text.specs.declared.id.LabelId.{LabelId}
-use Rattle.np_text.specs.declared.id.NodeId.{NodeId}
-use Rattle.np_text.specs.declared.id.PoolId.{PoolId}
-use Rattle.np_text.specs.declared.id.RequestId.{RequestId}
-use Rattle.np_text.specs.declared.id.Role.{Role}
+use Rattle.np_changes.specs.Prelude.{AllByRecursion, Configuration, LabelId, NodeEntry, NodeId, PoolId, RequestEntry, RequestId, RequestRecord, Role, RoleRecord, SessionFacts, State, grown, handles_changed, jobs_changed, nodes_changed, one_more_act, one_more_start, requests_changed, role_in, sessions_changed, struck_unless}
 use Rattle.np_text.specs.declared.id.Role.TheVariants as role
-use Rattle.np_nodes.specs.TreeState.{TreeState}
-use Rattle.np_nodes.specs.Multi.{after_parts}
-use Rattle.np_nodes.specs.declared.op.Op.{Op}
-use Rattle.np_site.specs.Configuration.{Configuration}
-use Rattle.np_record.specs.declared.record.RequestRecord.{RequestRecord}
-use Rattle.np_record.specs.declared.record.RoleRecord.{RoleRecord}
-use Rattle.np_spelling.specs.Spelling.{IsNode, IsRequest, role_text}
-use Rattle.np_machine.specs.Entries.{NodeEntry, RequestEntry}
-use Rattle.np_machine.specs.State.{State}
-use Rattle.np_machine.specs.declared.state.SessionFacts.{SessionFacts}
-use Rattle.np_machine.specs.Node.{one_more_start}
-use Rattle.np_machine.specs.Session.{struck_unless}
-use Rattle.np_machine.specs.Step.{one_more_act}
-use Rattle.np_machine.specs.Tables.{role_in}
-use Rattle.np_places.specs.Roles.{place_of_role}
-use Rattle.np_layout.specs.Sets.{set}
-use Rattle.np_changes.specs.Changes.{grown, handles_changed, jobs_changed, nodes_changed, requests_changed, sessions_changed}
+use Rattle.np_layout.specs.Prelude.{AreDistinct, HasSpellings, IsNode, IsRequest, Op, TreeState, after_parts, place_of_role, role_text, set}
 use Rattle.np_changes.specs.Premises.{EditPremise, EmptiesRequest, Gains, IsMade, IsTaken, NodesPremise, Premises, RequestsPremise}
 use Rattle.np_changes.specs.declared.changes.Changes.{Changes}
 use Rattle.np_changes.specs.declared.changes.Deed.{Deed}
@@ -43,13 +22,13 @@ use Rattle.np_changes.specs.declared.changes.RequestsChange.{RequestsChange}
 use Rattle.np_changes.specs.declared.changes.RequestsChange.TheVariants as requests
 use Rattle.np_changes.specs.declared.changes.SessionsChange.{SessionsChange}
 use Rattle.np_changes.specs.declared.changes.SessionsChange.TheVariants as sessions
-use Rattle.np_layout.specs.Deletes.{AreDistinct}
 use Rattle.np_enact.specs.Events.{IsApart, in_call}
 use Rattle.np_enact.specs.Parts.{deed_parts, grown_parts, handles_parts, jobs_parts, nodes_parts, requests_parts, role_parts, session_parts, settled_parts, tick_parts, where_there, with_begin, writer}
 use Rattle.np_enact.specs.Stands.{Enacts, Stands}
-use Rattle.np_layout.specs.Carried.{HasSpellings}
 use Rattle.np_enact.specs.Ways.{DeedsEnact, HandlesEnact, JobsEnact, NodesEnact, NodesReady, RequestsEnact, SessionReady, SessionsEnact, TicksEnact, WaitOnce, with_deeds}
 use Rattle.np_enact.proofs.StandsLemmas.{enacts-joined, enacts-none, stands-less}
+use Rattle.np_changes.proofs.Facts.{remove-alone}
+use Rattle.np_laws.proofs.JobsLater.{jobs-grown}
 
 -- ## what grows beside a change of requests or nodes
 
@@ -91,15 +70,9 @@ edit-leaves c s ch r edit.GiveBack premise = ap leaves_requests premise.same_siz
 edit-leaves c s ch r edit.Fail premise = ap leaves_requests premise.same_size
 edit-leaves c s ch r (edit.Revise relative) premise = ap leaves_requests premise.same_size
 
--- nothing grows when a request is removed
-pub removal-grows : (c : Configuration) (s : State) (ch : Changes) (r : RequestId) → RequestsPremise c s ch (requests.Remove r) → ch.grows ≡ grow.Nothing
-removal-grows c s ch r (inl fulfilled) = fulfilled.fulfils.same_size
-removal-grows c s ch r (inr (inl takes)) = takes.same_size
-removal-grows c s ch r (inr (inr withdrawn)) = withdrawn.withdraws.same_size
-
 -- nothing grows when a request's nodes are freed
 pub freeing-grows : (c : Configuration) (s : State) (ch : Changes) (r : RequestId) (change : RequestsChange) → RequestsPremise c s ch change → EmptiesRequest r change → ch.grows ≡ grow.Nothing
-freeing-grows c s ch r change premise (inl removes) = removal-grows c s ch r (subst (RequestsPremise c s ch) removes premise)
+freeing-grows c s ch r change premise (inl removes) = remove-alone c s ch r (subst (RequestsPremise c s ch) removes premise)
 freeing-grows c s ch r change premise (inr (inl gives)) =
     let may = subst (RequestsPremise c s ch) gives premise in
     may.same_size
@@ -152,7 +125,7 @@ nodes-read maker tick old (nodes.TakeOver numbers) rows t u same = refl
 request-reads : (c : Configuration) (s : State) (ch : Changes) (change : RequestsChange) → RequestsPremise c s ch change → reads change ≡ true → ch.grows ≡ grow.Nothing
 request-reads c s ch requests.Same premise is = absurd cc
 request-reads c s ch (requests.Edit r change) premise is = absurd cc
-request-reads c s ch (requests.Remove r) premise is = removal-grows c s ch r premise
+request-reads c s ch (requests.Remove r) premise is = remove-alone c s ch r premise
 request-reads c s ch (requests.Leave r) premise is = premise.same_size
 
 node-reads : (c : Configuration) (s : State) (ch : Changes) (change : NodesChange) → NodesPremise c s ch change → reads_node change ≡ true → (ch.grows ≡ grow.Nothing) × (ch.requests ≡ requests.Same)
@@ -214,7 +187,7 @@ requests-by law c ch s g u t more change is premise kept same waits stands spell
       Enacts u (writer ch.maker) (requests_parts ch.maker change g.requests t) (record g { requests = requests_changed ch.maker change g.requests }) more
   by requests.Same is premise spelled = enacts-none g u (writer ch.maker) more (stands-less g u (writer ch.maker) (more + 1) more (omega arith) stands)
   by (requests.Edit r change) is premise spelled = all (requests.Edit r change) premise (edit-leaves c s ch r change premise) spelled
-  by (requests.Remove r) is premise spelled = all (requests.Remove r) premise (leaves-nothing ch.grows (removal-grows c s ch r premise)) spelled
+  by (requests.Remove r) is premise spelled = all (requests.Remove r) premise (leaves-nothing ch.grows (remove-alone c s ch r premise)) spelled
   by (requests.Leave r) is premise spelled = all (requests.Leave r) premise (leaves-nothing ch.grows premise.same_size) spelled
 
 -- the nodes, where they change: then nothing has grown
@@ -364,19 +337,6 @@ module _ (laws : TablesEnact) (c : Configuration) (ch : Changes) (s g : State) (
 
 -- ## read from the state before what grows
 
-pub same-jobs : (c : Configuration) (maker : Option Maker) (growth : Growth) (s : State) → (grown c maker growth s).jobs ≡ s.jobs
-same-jobs c maker grow.Nothing s = refl
-same-jobs c maker (grow.Session role) s = refl
-same-jobs c None (grow.Registration p) s = refl
-same-jobs c (Some maker) (grow.Registration p) s = refl
-same-jobs c maker (grow.Request priority asked) s = refl
-same-jobs c maker (grow.Node kept) s = refl
-same-jobs c maker (grow.JoinRequest r) s = refl
-same-jobs c maker (grow.JoinNode n) s = refl
-same-jobs c maker (grow.Allocate n r tenant) s = refl
-same-jobs c maker (grow.Handles j) s = refl
-same-jobs c maker (grow.Swept n x) s = refl
-
 -- the tick stays
 pub same-tick : (c : Configuration) (maker : Option Maker) (growth : Growth) (s : State) → (grown c maker growth s).tick ≡ s.tick
 same-tick c maker grow.Nothing s = refl
@@ -415,7 +375,7 @@ module _ (c : Configuration) (ch : Changes) (s : State) (t : TreeState) (premise
   requests-current : (change : RequestsChange) → RequestsPremise c s ch change → requests_parts ch.maker change after_growth.requests t ≡ requests_parts ch.maker change s.requests t
   requests-current requests.Same premise = refl
   requests-current (requests.Edit r change) premise = ap (λ (rows : List RequestEntry). requests_parts ch.maker (requests.Edit r change) rows t) (same-requests c ch.maker ch.grows s (edit-leaves c s ch r change premise))
-  requests-current (requests.Remove r) premise = ap (λ (g : State). requests_parts ch.maker (requests.Remove r) g.requests t) (nothing-grown (removal-grows c s ch r premise))
+  requests-current (requests.Remove r) premise = ap (λ (g : State). requests_parts ch.maker (requests.Remove r) g.requests t) (nothing-grown (remove-alone c s ch r premise))
   requests-current (requests.Leave r) premise = ap (λ (g : State). requests_parts ch.maker (requests.Leave r) g.requests t) (nothing-grown premise.same_size)
 
   nodes-current : (change : NodesChange) (b : Bool) → is_same change ≡ b → NodesPremise c s ch change → nodes_parts ch.maker after_growth.tick after_growth.requests change after_growth.nodes t ≡ nodes_parts ch.maker s.tick s.requests change s.nodes t
@@ -441,7 +401,7 @@ module _ (c : Configuration) (ch : Changes) (s : State) (t : TreeState) (premise
   settled-current =
       let roles = same-roles c ch.maker ch.grows s in
       let two = ap₂ append (requests-current ch.requests premises.requests) (nodes-current ch.nodes (is_same ch.nodes) refl premises.nodes) in
-      let three = ap₂ append two (ap (jobs_parts ch.jobs) (same-jobs c ch.maker ch.grows s)) in
+      let three = ap₂ append two (ap (jobs_parts ch.jobs) (jobs-grown c ch.maker ch.grows s)) in
       let four = ap₂ append three (handles-current ch.handles refl) in
       let five = ap₂ append four (deed-same ch.maker ch.deed after_growth s roles.0 roles.1.0 roles.1.1) in
       let six = ap₂ append five (sessions-current ch.sessions refl) in

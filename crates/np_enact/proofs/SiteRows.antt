@@ -1,31 +1,13 @@
 -- what a sound configuration says of the row at a place
 use Rattle.std.proofs.Common.{◌≡◌, ◌<◌, ◌≤◌, ◌^◌, ℕ, zero, suc, List, [], ◌∷◌, ◌++◌, length, true, Option, Some, None, refl, subst, arith, eqb-true}
 use Rattle.std.specs.Prelude.{◌==◌, IfSome, find, option_and_then, slice_get}
-use Rattle.std.specs.List.{AllByRecursion}
-use Rattle.std.specs.Option.{option_map, option_map_or}
+use Rattle.np_changes.specs.Prelude.{AllByRecursion, Configuration, EachAfter, IsJob, IsOffer, IsPool, IsPriority, IsSound, IsTaken, IsWanted, Janitor, Job, JobId, LabelId, Launcher, Offer, Pool, PoolId, Reaper, RequestRecord, Requester, Role, SemId, StandsByOwner, is_offered, is_role, offers_of, option_map, option_map_or, tenant_of_request}
 use Rattle.std.proofs.lemmas.List.Elements.{recursion_from_All}
-use Rattle.np_text.specs.declared.id.JobId.{JobId}
-use Rattle.np_text.specs.declared.id.LabelId.{LabelId}
-use Rattle.np_text.specs.declared.id.PoolId.{PoolId}
-use Rattle.np_text.specs.declared.id.Role.{Role}
-use Rattle.np_text.specs.declared.id.Role.TheVariants.{Launcher, Janitor, Requester, Reaper}
-use Rattle.np_text.specs.declared.id.SemId.{SemId}
-use Rattle.np_lists.specs.EachAfter.{EachAfter}
 use Rattle.np_lists.proofs.Each.{all-find}
 use Rattle.np_lists.proofs.EachAfterLemmas.{All-from_each}
 use Rattle.np_lists.proofs.FoundLemmas.{find-passes}
-use Rattle.np_site.specs.Configuration.{Configuration}
-use Rattle.np_site.specs.Sound.{IsJob, IsOffer, IsPool, IsPriority, IsSound, IsTaken, IsWanted, StandsByOwner}
-use Rattle.np_site.specs.declared.row.Job.{Job}
-use Rattle.np_site.specs.declared.row.Offer.{Offer}
-use Rattle.np_site.specs.declared.row.Pool.{Pool}
-use Rattle.np_record.specs.declared.record.RequestRecord.{RequestRecord}
 use Rattle.np_spelling.specs.Spelling.{IsSessionRole}
-use Rattle.np_machine.specs.Count.{is_offered, offers_of}
-use Rattle.np_machine.specs.Session.{is_role}
-use Rattle.np_machine.specs.Tenants.{tenant_of_request}
-use Rattle.np_laws.proofs.Options.{some-is}
-use Rattle.np_layout.proofs.SetLists.{within}
+use Rattle.np_lists.proofs.Plain.{some-of, within}
 
 -- what each row implies is true of the one at a place
 row-at : {T : Type 0} (P : List T → T → Type 0) (Q : T → Type 0) → ((e : List T) (x : T) → P e x → Q x) → (earlier rows : List T) → EachAfter P earlier rows → (at : ℕ) (x : T) → slice_get rows at ≡ Some x → Q x
@@ -97,7 +79,7 @@ module _ (c : Configuration) (sound : IsSound c) where
   -- a label that a pool offers has a row
   pub offered-label : (p : PoolId) (l : LabelId) → is_offered c p l ≡ true → l.0 < length c.labels
   offered-label p l is =
-      let offer = some-is (find (λ o. o.label.0 == l.0) (offers_of c p)) is in
+      let offer = some-of (find (λ o. o.label.0 == l.0) (offers_of c p)) is in
       let low : offer.0.label.0 < length c.labels = all-find below_labels (λ o. o.label.0 == l.0) (offers_of c p) offer.0 (offers-at p (slice_get c.pools p.0) refl) offer.1 in
       let same : offer.0.label.0 ≡ l.0 = eqb-true offer.0.label.0 l.0 (find-passes (λ (o : Offer). o.label.0 == l.0) (offers_of c p) offer.0 offer.1) in
       subst (λ (n : ℕ). n < length c.labels) same low
@@ -106,7 +88,7 @@ module _ (c : Configuration) (sound : IsSound c) where
 
   -- a role of the configuration may have a session
   pub role-spelled : (role : Role) → is_role c role ≡ true → IsSessionRole role
-  role-spelled (Launcher p) is = let row = some-is (slice_get c.pools p.0) is in let low = within c.pools p.0 row.0 row.1 in let few = sound.supply.few_pools in omega arith
-  role-spelled (Janitor p) is = let row = some-is (slice_get c.pools p.0) is in let low = within c.pools p.0 row.0 row.1 in let few = sound.supply.few_pools in omega arith
-  role-spelled (Requester q) is = let row = some-is (slice_get c.requesters q.0) is in let low = within c.requesters q.0 row.0 row.1 in let few = sound.few_requesters in omega arith
+  role-spelled (Launcher p) is = let row = some-of (slice_get c.pools p.0) is in let low = within c.pools p.0 row.0 row.1 in let few = sound.supply.few_pools in omega arith
+  role-spelled (Janitor p) is = let row = some-of (slice_get c.pools p.0) is in let low = within c.pools p.0 row.0 row.1 in let few = sound.supply.few_pools in omega arith
+  role-spelled (Requester q) is = let row = some-of (slice_get c.requesters q.0) is in let low = within c.requesters q.0 row.0 row.1 in let few = sound.few_requesters in omega arith
   role-spelled Reaper is = absurd cc

@@ -1,29 +1,14 @@
 -- what the rows of a sound configuration say of the numbers in records
 use Rattle.std.proofs.Common.{◌≡◌, ◌<◌, ◌≤◌, ◌^◌, ℕ, List, [], ◌∷◌, ◌++◌, length, true, Option, Some, None, IfSome, refl, arith}
 use Rattle.std.specs.Prelude.{◌==◌, All, find, is_some, option_and_then, slice_get}
-use Rattle.std.specs.List.{AllByRecursion}
-use Rattle.std.specs.Option.{option_map, option_map_or}
+use Rattle.np_changes.specs.Prelude.{AllByRecursion, Configuration, EachAfter, IsJob, IsOffer, IsPool, IsPriority, IsSound, IsWanted, Job, JobId, LabelId, Offer, Pool, PoolId, RequestRecord, Role, StandsByOwner, is_offered, is_role, offers_of, option_map, option_map_or, tenant_of_request}
 use Rattle.std.proofs.lemmas.Bool.Decides.{nat_tests}
 use Rattle.std.proofs.lemmas.List.Elements.{All-head, All-tail}
-use Rattle.np_text.specs.declared.id.JobId.{JobId}
-use Rattle.np_text.specs.declared.id.LabelId.{LabelId}
-use Rattle.np_text.specs.declared.id.PoolId.{PoolId}
-use Rattle.np_text.specs.declared.id.Role.{Role}
 use Rattle.np_text.specs.declared.id.Role.TheVariants as role
-use Rattle.np_lists.specs.EachAfter.{EachAfter}
 use Rattle.np_lists.proofs.Each.{all-at, all-find}
 use Rattle.np_lists.proofs.FoundLemmas.{find-passes}
-use Rattle.np_site.specs.Configuration.{Configuration}
-use Rattle.np_site.specs.Sound.{IsJob, IsOffer, IsPool, IsPriority, IsSound, IsWanted, StandsByOwner}
-use Rattle.np_site.specs.declared.row.Job.{Job}
-use Rattle.np_site.specs.declared.row.Offer.{Offer}
-use Rattle.np_site.specs.declared.row.Pool.{Pool}
-use Rattle.np_record.specs.declared.record.RequestRecord.{RequestRecord}
 use Rattle.np_spelling.specs.Spelling.{IsLabel, IsSessionRole}
-use Rattle.np_machine.specs.Count.{is_offered, offers_of}
-use Rattle.np_machine.specs.Session.{is_role}
-use Rattle.np_machine.specs.Tenants.{tenant_of_request}
-use Rattle.np_layout.proofs.SetLists.{within}
+use Rattle.np_lists.proofs.Plain.{some-within}
 
 -- ## rows
 
@@ -36,10 +21,6 @@ all-rows Q P says earlier (x ∷ xs) each = (says earlier x each.0, all-rows Q P
 pub all-members : {T : Type 0} (Q R : T → Type 0) → ((x : T) → Q x → R x) → (xs : List T) → All Q xs → AllByRecursion R xs
 all-members Q R says [] all = tt
 all-members Q R says (x ∷ xs) all = (says x (All-head Q x xs all), all-members Q R says xs (All-tail Q x xs all))
-
-some-within : {T : Type 0} (xs : List T) (i : ℕ) (o : Option T) → slice_get xs i ≡ o → is_some o ≡ true → i < length xs
-some-within xs i None is some = absurd cc
-some-within xs i (Some x) is some = within xs i x is
 
 -- ## pools, requesters and roles
 

@@ -1,25 +1,10 @@
 -- each record has a spelling after an accepted event
 use Rattle.std.proofs.Common.{◌≡◌, ℕ, List, Bool, true, false, Option, Some, None, refl, sym, subst, arith}
 use Rattle.std.specs.Prelude.{◌-◌}
-use Rattle.std.specs.List.{AllByRecursion}
-use Rattle.np_text.specs.declared.id.Role.{Role}
+use Rattle.np_changes.specs.Prelude.{AllByRecursion, Configuration, Event, GrowthPremise, Role, RoleFits, RoleRecord, SessionFacts, State, change_at, change_janitor, change_launcher, change_requester, changed, ended, grown, muted, one_more_act, one_more_start, plan, registers, sessions_changed, struck_unless, with_deed}
 use Rattle.np_text.specs.declared.id.Role.TheVariants as role
-use Rattle.np_lists.specs.Change.{change_at}
 use Rattle.np_lists.proofs.Each.{all-change_at, all-change_at_to, all-push}
-use Rattle.np_site.specs.Configuration.{Configuration}
-use Rattle.np_record.specs.declared.record.RoleRecord.{RoleRecord}
-use Rattle.np_event.specs.declared.event.Event.{Event}
-use Rattle.np_spelling.specs.Spelling.{IsRole, IsSessionRole}
-use Rattle.np_machine.specs.Node.{one_more_start}
-use Rattle.np_machine.specs.Request.{registers}
-use Rattle.np_machine.specs.Session.{ended, muted, struck_unless}
-use Rattle.np_machine.specs.State.{State}
-use Rattle.np_machine.specs.Step.{one_more_act}
-use Rattle.np_machine.specs.Tables.{change_janitor, change_launcher, change_requester}
-use Rattle.np_machine.specs.declared.state.SessionFacts.{SessionFacts}
-use Rattle.np_changes.specs.Changes.{changed, grown, sessions_changed, with_deed}
-use Rattle.np_changes.specs.Plan.{plan}
-use Rattle.np_changes.specs.Premises.{GrowthPremise}
+use Rattle.np_layout.specs.Prelude.{HasSpellings, IsRole, IsSessionRole}
 use Rattle.np_changes.specs.declared.changes.Changes.{Changes}
 use Rattle.np_changes.specs.declared.changes.Deed.{Deed}
 use Rattle.np_changes.specs.declared.changes.Deed.TheVariants as deed
@@ -29,10 +14,8 @@ use Rattle.np_changes.specs.declared.changes.Maker.{Maker}
 use Rattle.np_changes.specs.declared.changes.SessionsChange.{SessionsChange}
 use Rattle.np_changes.specs.declared.changes.SessionsChange.TheVariants as sessions
 use Rattle.np_changes.proofs.PremisesOf.{premises}
-use Rattle.np_fits.specs.Fits.{RoleFits}
 use Rattle.np_laws.proofs.After.{made-look}
 use Rattle.np_enact.specs.Events.{in_call}
-use Rattle.np_layout.specs.Carried.{HasSpellings}
 use Rattle.np_enact.specs.Ready.{IsAccepted, RecordsAreSpelled}
 use Rattle.np_enact.proofs.SoundRows.{role-low}
 use Rattle.np_enact.proofs.KnownRows.{IsKnown}

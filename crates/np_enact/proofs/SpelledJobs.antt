@@ -1,30 +1,13 @@
 -- each job has a spelling after an accepted event
 use Rattle.std.proofs.Common.{◌≡◌, ◌<◌, ◌^◌, ◌⊎◌, inl, inr, ℕ, List, true, Option, Some, None, IfSome, refl, sym, subst, ◌∙◌, arith}
 use Rattle.std.specs.Prelude.{map, slice_get}
-use Rattle.std.specs.List.{AllByRecursion}
+use Rattle.np_changes.specs.Prelude.{AllByRecursion, AsksForJob, Configuration, Ending, FinishesJob, JobId, JobRecord, JobsPremise, NodeId, Phase, PoolId, PutsJob, RequestId, RequestState, State, TakesOver, Withdraws, ending_of, grown, is_asked, is_fulfilled, is_new, jobs_changed, marked, next_id, request_after_withdraw, unended, with_mark}
 use Rattle.std.proofs.lemmas.List.{length-map}
-use Rattle.np_text.specs.declared.id.JobId.{JobId}
-use Rattle.np_text.specs.declared.id.NodeId.{NodeId}
-use Rattle.np_text.specs.declared.id.PoolId.{PoolId}
-use Rattle.np_text.specs.declared.id.RequestId.{RequestId}
-use Rattle.np_text.specs.declared.word.Ending.{Ending}
 use Rattle.np_text.specs.declared.word.Ending.TheVariants as ending
-use Rattle.np_text.specs.declared.word.Phase.{Phase}
 use Rattle.np_text.specs.declared.word.Phase.TheVariants as phase
-use Rattle.np_text.specs.declared.word.RequestState.{RequestState}
 use Rattle.np_text.specs.declared.word.RequestState.TheVariants as state
 use Rattle.np_lists.proofs.Each.{all-at, all-change_at, all-mapped, all-set}
-use Rattle.np_site.specs.Configuration.{Configuration}
-use Rattle.np_record.specs.declared.record.JobRecord.{JobRecord}
 use Rattle.np_spelling.specs.Spelling.{EndsIn, HasParts, IsJob, IsMarked, IsNodeId, IsServed}
-use Rattle.np_machine.specs.Kinds.{is_asked, is_fulfilled, is_new}
-use Rattle.np_machine.specs.Node.{marked, with_mark}
-use Rattle.np_machine.specs.Request.{next_id}
-use Rattle.np_machine.specs.Semaphore.{ending_of, unended}
-use Rattle.np_machine.specs.State.{State}
-use Rattle.np_changes.specs.Changes.{grown, jobs_changed}
-use Rattle.np_changes.specs.Premises.{AsksForJob, FinishesJob, JobsPremise, PutsJob, TakesOver, Withdraws}
-use Rattle.np_changes.specs.Plan.{request_after_withdraw}
 use Rattle.np_changes.specs.declared.asked.Asked.{Asked}
 use Rattle.np_changes.specs.declared.changes.Changes.{Changes}
 use Rattle.np_changes.specs.declared.changes.Growth.TheVariants as grow

@@ -1,32 +1,11 @@
 -- each node has a spelling after an accepted event
 use Rattle.std.proofs.Common.{◌≡◌, ◌<◌, ◌^◌, ◌⊎◌, inl, inr, ℕ, List, [], ◌∷◌, length, Bool, true, false, cond, Option, Some, None, IfSome, refl, ap, sym, subst, ◌∙◌, arith}
 use Rattle.std.specs.Prelude.{◌==◌}
-use Rattle.std.specs.List.{AllByRecursion}
-use Rattle.np_text.specs.declared.id.LabelId.{LabelId}
-use Rattle.np_text.specs.declared.id.NodeId.{NodeId}
-use Rattle.np_text.specs.declared.id.PoolId.{PoolId}
-use Rattle.np_text.specs.declared.id.RequestId.{RequestId}
-use Rattle.np_text.specs.declared.id.SessionId.{SessionId}
-use Rattle.np_text.specs.declared.id.TenantId.{TenantId}
-use Rattle.np_lists.specs.Change.{change_first}
+use Rattle.np_changes.specs.Prelude.{AllByRecursion, Configuration, LabelId, NodeEntry, NodeId, NodeRecord, Outcome, PoolId, RequestId, RequestRecord, SessionId, State, TenantId, all_in_use, by_maker, change_first, freed, freed_from, grown, in_use, is_request, joined, left, new_node, next_label, node_left, node_queue, nodes_changed, nodes_left, put_node_queue, registers, tenant_of_request}
 use Rattle.np_lists.proofs.Each.{all-at, all-change_first, all-mapped, all-push, all-remove_first}
-use Rattle.np_site.specs.Configuration.{Configuration}
-use Rattle.np_record.specs.declared.record.NodeRecord.{NodeRecord}
-use Rattle.np_record.specs.declared.record.RequestRecord.{RequestRecord}
 use Rattle.np_spelling.specs.Spelling.{IsLabel, IsNode}
-use Rattle.np_event.specs.declared.event.Outcome.{Outcome}
 use Rattle.np_event.specs.declared.event.Outcome.TheVariants as outcome
-use Rattle.np_machine.specs.Entries.{NodeEntry}
 use Rattle.np_machine.specs.Node.{allocated, since_after_launch}
-use Rattle.np_machine.specs.Reasons.{next_label}
-use Rattle.np_machine.specs.Request.{registers}
-use Rattle.np_machine.specs.Semaphore.{all_in_use, in_use}
-use Rattle.np_machine.specs.Session.{node_left}
-use Rattle.np_machine.specs.State.{State}
-use Rattle.np_machine.specs.Tables.{freed, freed_from, is_request, joined, left, node_queue, put_node_queue}
-use Rattle.np_machine.specs.Tenants.{tenant_of_request}
-use Rattle.np_changes.specs.Changes.{by_maker, grown, nodes_changed, nodes_left}
-use Rattle.np_changes.specs.Plan.{new_node}
 use Rattle.np_changes.specs.Premises.{EndsNode, Frees, Gains, GivesUp, GrowthPremise, IsMade, IsTaken, NodesPremise, PutsNode, Reports, Starts}
 use Rattle.np_changes.specs.declared.changes.Changes.{Changes}
 use Rattle.np_changes.specs.declared.changes.Growth.{Growth}

@@ -1,29 +1,10 @@
 -- each request has a spelling after an accepted event
 use Rattle.std.proofs.Common.{◌≡◌, ◌<◌, ◌^◌, ◌⊎◌, inl, inr, ℕ, List, [], length, Bool, true, false, cond, Option, Some, None, ap, sym, subst, arith, length-append}
 use Rattle.std.specs.Prelude.{◌&&◌}
-use Rattle.std.specs.List.{AllByRecursion}
-use Rattle.std.specs.Option.{option_map}
-use Rattle.np_text.specs.declared.id.LabelId.{LabelId}
-use Rattle.np_text.specs.declared.id.NodeId.{NodeId}
-use Rattle.np_text.specs.declared.id.PoolId.{PoolId}
-use Rattle.np_text.specs.declared.id.RequestId.{RequestId}
-use Rattle.np_text.specs.declared.id.SessionId.{SessionId}
-use Rattle.np_text.specs.declared.word.Reason.{Reason}
-use Rattle.np_text.specs.declared.word.RequestState.{RequestState}
+use Rattle.np_changes.specs.Prelude.{AllByRecursion, Configuration, LabelId, NodeId, PoolId, Reason, RequestEntry, RequestId, RequestRecord, RequestState, SessionId, State, by_maker, edited, grown, is_id_before, is_pending, is_pool, is_requested, joined, left, new_record, next_id, option_map, put_request_queue, request_in, request_left, request_queue, requests_changed, requests_left, same_request}
 use Rattle.np_text.specs.declared.word.RequestState.TheVariants as state
 use Rattle.np_lists.proofs.Each.{all-change_first, all-insert_before, all-mapped, all-push, all-remove_first}
-use Rattle.np_site.specs.Configuration.{Configuration}
-use Rattle.np_record.specs.declared.record.RequestRecord.{RequestRecord}
 use Rattle.np_spelling.specs.Spelling.{IsDeclined, IsNodeId, IsReason, IsRequest, IsServed}
-use Rattle.np_machine.specs.Entries.{RequestEntry}
-use Rattle.np_machine.specs.Kinds.{is_pending, is_requested}
-use Rattle.np_machine.specs.Order.{is_id_before, is_pool}
-use Rattle.np_machine.specs.Request.{next_id}
-use Rattle.np_machine.specs.Session.{request_left}
-use Rattle.np_machine.specs.State.{State}
-use Rattle.np_machine.specs.Tables.{joined, left, put_request_queue, request_in, request_queue, same_request}
-use Rattle.np_changes.specs.Asked.{new_record}
-use Rattle.np_changes.specs.Changes.{by_maker, edited, grown, requests_changed, requests_left}
 use Rattle.np_changes.specs.Premises.{AsksForJob, AsksToKeep, EditPremise, Gains, GrowthPremise, IsMade, IsTaken, MayDecline, MayFulfil, RequestsPremise}
 use Rattle.np_changes.specs.declared.asked.Asked.{Asked}
 use Rattle.np_changes.specs.declared.changes.Changes.{Changes}
@@ -36,11 +17,11 @@ use Rattle.np_changes.specs.declared.changes.RequestsChange.{RequestsChange}
 use Rattle.np_changes.specs.declared.changes.RequestsChange.TheVariants as requests
 use Rattle.np_changes.specs.declared.changes.SessionsChange.{SessionsChange}
 use Rattle.np_changes.specs.declared.changes.SessionsChange.TheVariants as sessions
-use Rattle.np_layout.proofs.SetLists.{within}
 use Rattle.np_enact.proofs.Settled.{leaves_requests, same-requests}
 use Rattle.np_enact.specs.Ready.{IsTypedEdit, IsTypedRequests}
 use Rattle.np_enact.proofs.SoundRows.{JobRow, job-low, job-row, label-low, pool-low}
 use Rattle.np_enact.proofs.KnownRows.{IsKnown, RequestRow, all-change_found, gained-number, launcher-low, request-row, same-some, worker-low}
+use Rattle.np_lists.proofs.Plain.{within}
 
 -- each of the rows has a record with a spelling
 abbrev pub AreRequests : List RequestEntry → Type 0

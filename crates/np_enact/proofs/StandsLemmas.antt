@@ -1,37 +1,22 @@
 -- parts that go from a tree of one state to a tree of another, joined and made
 use Rattle.std.proofs.Common.{◌≡◌, ℕ, ◌+◌, ◌≤◌, true, not, List, [], ◌∷◌, ◌++◌, length, Option, Some, None, refl, sym, ap, subst, ◌∙◌, arith}
 use Rattle.std.specs.Prelude.{codes}
-use Rattle.std.specs.List.{AllByRecursion}
+use Rattle.np_changes.specs.Prelude.{AllByRecursion, State}
 use Rattle.std.proofs.lemmas.List.{length-map}
 use Rattle.np_lists.proofs.Each.{all-change_first, all-filter, all-weaker}
-use Rattle.np_lists.proofs.FilterLemmas.{length-filter-filter}
-use Rattle.np_path.specs.Parts.{parent_of}
+use Rattle.np_layout.specs.Prelude.{Goes, HasRoomFor, IsGood, IsPart, IsWhole, Mode, Node, Op, TreeState, after_part, after_parts, change_node, children_of, delete, is_at, is_in, next_change, parent_of, path_of, row_of, without_child, without_child_above, without_node}
 use Rattle.np_path.proofs.PartsLemmas.{is_path-below}
-use Rattle.np_session.specs.Known.{is_in}
-use Rattle.np_nodes.specs.TreeState.{TreeState}
-use Rattle.np_nodes.specs.After.{after_part, next_change, without_child, without_child_above}
-use Rattle.np_nodes.specs.Multi.{after_parts}
-use Rattle.np_nodes.specs.Nodes.{change_node, children_of, is_at, is_child, without_node}
 use Rattle.np_nodes.specs.declared.kind.Expect.{Expect}
-use Rattle.np_nodes.specs.declared.kind.Mode.{Mode}
-use Rattle.np_nodes.specs.declared.node.Node.{Node}
-use Rattle.np_nodes.specs.declared.op.Op.{Op}
 use Rattle.np_nodes.specs.declared.op.Op.TheVariants as op
 use Rattle.np_nodes.proofs.PathsLemmas.{length-children-paths, paths_of-change_node}
-use Rattle.np_tree.specs.Whole.{IsPart, IsWhole}
-use Rattle.np_views.specs.Several.{Goes, HasRoomFor}
-use Rattle.np_views.specs.Views.{row_of}
-use Rattle.np_views.proofs.ElsewhereLemmas.{goes-whole}
-use Rattle.np_views.proofs.RelationLemmas.{parts-change_nodes_alone}
-use Rattle.np_views.proofs.RoomLemmas.{room-falls}
-use Rattle.np_views.proofs.RowLemmas.{rows_in}
-use Rattle.np_views.proofs.SeveralLemmas.{goes-after, goes-joined}
-use Rattle.np_machine.specs.State.{State}
-use Rattle.np_places.specs.Place.{IsGood, path_of}
-use Rattle.np_places.specs.declared.place.Place.{Place}
-use Rattle.np_places.proofs.AboveLemmas.{is_path-of}
+use Rattle.np_tree.proofs.ElsewhereLemmas.{goes-whole}
+use Rattle.np_tree.proofs.RelationLemmas.{parts-change_nodes_alone}
+use Rattle.np_tree.proofs.ViewRoomLemmas.{room-falls, rows-without}
+use Rattle.np_tree.proofs.RowLemmas.{rows_in}
+use Rattle.np_tree.proofs.SeveralLemmas.{goes-after, goes-joined}
+use Rattle.np_layout.specs.declared.place.Place.{Place}
+use Rattle.np_layout.proofs.AboveLemmas.{is_path-of}
 use Rattle.np_layout.specs.Creates.{PartsLayOut, wait_at}
-use Rattle.np_layout.specs.Deletes.{delete}
 use Rattle.np_layout.specs.Sets.{HasGoodIds, SetLaysOut, set}
 use Rattle.np_enact.specs.Stands.{Enacts, Stands}
 
@@ -131,13 +116,6 @@ rows-change dir path z nodes =
     length-map (children_of (change_node path (without_child z) nodes) dir) row_of
     ∙ length-children-paths dir (change_node path (without_child z) nodes) nodes (paths_of-change_node path (without_child z) (λ _. refl) nodes)
     ∙ sym (length-map (children_of nodes dir) row_of)
-
-rows-without : (dir path : List ℕ) (nodes : List Node) → length (rows_in dir (without_node path nodes)) ≤ length (rows_in dir nodes)
-rows-without dir path nodes =
-    let this = length-map (children_of (without_node path nodes) dir) row_of in
-    let that = length-map (children_of nodes dir) row_of in
-    let fewer = length-filter-filter (is_child dir) (λ n. not (is_at path n)) nodes in
-    omega arith
 
 -- the nodes alone
 record NodesHave (more : ℕ) (nodes : List Node) : Type 0 where

@@ -1,18 +1,11 @@
 -- a tree can carry the state before the first event
 use Rattle.std.proofs.Common.{◌≤◌, ◌^◌, ℕ, List, [], length, map, subst, sym, arith}
-use Rattle.std.specs.List.{AllByRecursion}
+use Rattle.np_changes.specs.Prelude.{AllByRecursion, Configuration, IsSound, JobId, new_job, no_deeds, start}
 use Rattle.std.proofs.lemmas.List.{length-map}
-use Rattle.np_text.specs.declared.id.JobId.{JobId}
-use Rattle.np_site.specs.Configuration.{Configuration}
-use Rattle.np_site.specs.Sound.{IsSound}
-use Rattle.np_spelling.specs.Spelling.{IsJob, IsRole}
-use Rattle.np_machine.specs.State.{new_job, no_deeds, start}
+use Rattle.np_layout.specs.Prelude.{HasGoodIds, HasSpellings, IsGood, IsJob, IsRole}
 use Rattle.np_lists.proofs.Each.{all-map}
-use Rattle.np_places.specs.Place.{IsGood}
-use Rattle.np_places.specs.declared.place.Place.TheVariants.{Job}
-use Rattle.np_layout.specs.Sets.{HasGoodIds}
+use Rattle.np_layout.specs.declared.place.Place.TheVariants.{Job}
 use Rattle.np_layout.specs.Carried.{AreHolders, IsOrdered}
-use Rattle.np_layout.specs.Carried.{HasSpellings}
 use Rattle.np_enact.specs.Ready.{StartsAreCarried}
 
 -- no job has a handle

@@ -1,28 +1,15 @@
 -- the law of a whole event: if a tree lays a state out, the parts for the changes of an accepted event are
 -- accepted, and what they leave lays out the changed state
 use Rattle.std.specs.Prelude.{◌≡◌, ◌<◌, ◌≤◌, ◌+◌, ◌^◌, ℕ}
-use Rattle.std.specs.List.{AllByRecursion}
-use Rattle.np_text.specs.declared.id.JobId.{JobId}
-use Rattle.np_text.specs.declared.id.SessionId.{SessionId}
-use Rattle.np_nodes.specs.TreeState.{TreeState}
-use Rattle.np_nodes.specs.Multi.{after_parts}
-use Rattle.np_tree.specs.Whole.{IsWhole}
-use Rattle.np_views.specs.Several.{Goes, HasRoomFor}
-use Rattle.np_site.specs.Configuration.{Configuration}
-use Rattle.np_machine.specs.State.{State}
-use Rattle.np_changes.specs.Changes.{changed, grown}
-use Rattle.np_changes.specs.Premises.{Premises}
+use Rattle.np_changes.specs.Prelude.{AllByRecursion, Configuration, JobId, Premises, SessionId, State, changed, grown}
+use Rattle.np_layout.specs.Prelude.{AreDistinct, Goes, HasGoodIds, HasRoomFor, HasSpellings, IsWhole, LaysOut, TreeState, after_parts}
 use Rattle.np_changes.specs.declared.changes.Changes.{Changes}
 use Rattle.np_changes.specs.declared.changes.Growth.TheVariants as grow
 use Rattle.np_changes.specs.declared.changes.HandlesChange.TheVariants as handles
 use Rattle.np_changes.specs.declared.changes.SessionsChange.{SessionsChange}
 use Rattle.np_changes.specs.declared.changes.SessionsChange.TheVariants as sessions
-use Rattle.np_layout.specs.Deletes.{AreDistinct}
-use Rattle.np_layout.specs.Layout.{LaysOut}
-use Rattle.np_layout.specs.Sets.{HasGoodIds}
 use Rattle.np_enact.specs.Parts.{enacted, parts_of, writer}
 use Rattle.np_enact.specs.Stands.{Stands}
-use Rattle.np_layout.specs.Carried.{HasSpellings}
 use Rattle.np_enact.specs.Ways.{GrowthReady, NodesReady, SessionReady, WaitOnce}
 
 -- the end of a session has no part in the call

@@ -2,40 +2,10 @@
 -- changes, and the session that makes it
 use Rattle.std.specs.Prelude.{ℕ, ◌+◌, Bool, true, false, ◌==◌, if◌then◌else◌, List, [], ◌∷◌, ◌++◌, find, length, slice_get, Option, Some, None}
 use Rattle.std.specs.Fmt.{decimal}
-use Rattle.std.specs.Option.{option_map_or}
-use Rattle.np_text.specs.declared.id.JobId.{JobId}
-use Rattle.np_text.specs.declared.id.NodeId.{NodeId}
-use Rattle.np_text.specs.declared.id.RequestId.{RequestId}
-use Rattle.np_text.specs.declared.id.Role.{Role}
+use Rattle.np_changes.specs.Prelude.{Configuration, JobId, JobRecord, NodeEntry, NodeId, RequestEntry, RequestId, Role, RoleRecord, SemId, SessionId, State, TenantId, allocated, change_at, change_first, edited, freed_from, has_handle, in_use, is_queued, is_swept, new_record, next_id, node_entry, node_queue, one_more_act, one_more_start, option_map_or, request_in, request_queue, role_in, semaphores_of, session_of, struck_unless, with_handle, with_mark, without_handle}
 use Rattle.np_text.specs.declared.id.Role.TheVariants.{Launcher as LauncherOf}
-use Rattle.np_text.specs.declared.id.SemId.{SemId}
-use Rattle.np_text.specs.declared.id.SessionId.{SessionId}
-use Rattle.np_text.specs.declared.id.TenantId.{TenantId}
-use Rattle.np_lists.specs.Change.{change_at, change_first}
-use Rattle.np_path.specs.Parts.{below}
-use Rattle.np_nodes.specs.TreeState.{TreeState}
-use Rattle.np_nodes.specs.Nodes.{is_owner}
-use Rattle.np_nodes.specs.Calls.{after_begin}
-use Rattle.np_nodes.specs.After.{after_end}
-use Rattle.np_nodes.specs.Multi.{after_multi}
-use Rattle.np_nodes.specs.declared.kind.Expect.TheVariants.{Any}
-use Rattle.np_nodes.specs.declared.kind.Mode.TheVariants.{Ephemeral}
-use Rattle.np_nodes.specs.declared.op.Op.{Op}
+use Rattle.np_layout.specs.Prelude.{Any, Ephemeral, Op, TreeState, after_begin, after_end, after_multi, below, delete, is_owner, job_text, make, node_deletes, node_parts, node_text, path_of, place_of_role, request_deletes, request_parts, request_record_text, role_text, session_text, set, tree_session, under, wait_at}
 use Rattle.np_nodes.specs.declared.op.Op.TheVariants as op
-use Rattle.np_site.specs.Configuration.{Configuration}
-use Rattle.np_record.specs.declared.record.JobRecord.{JobRecord}
-use Rattle.np_record.specs.declared.record.RoleRecord.{RoleRecord}
-use Rattle.np_spelling.specs.Spelling.{job_text, node_text, request_record_text, role_text, session_text}
-use Rattle.np_machine.specs.Entries.{NodeEntry, RequestEntry}
-use Rattle.np_machine.specs.Node.{allocated, is_swept, one_more_start, with_mark}
-use Rattle.np_machine.specs.Request.{next_id}
-use Rattle.np_machine.specs.Semaphore.{in_use, with_handle, without_handle}
-use Rattle.np_machine.specs.Session.{struck_unless}
-use Rattle.np_machine.specs.State.{State}
-use Rattle.np_machine.specs.Step.{one_more_act}
-use Rattle.np_machine.specs.Tables.{freed_from, has_handle, is_queued, node_entry, node_queue, request_in, request_queue, role_in, session_of}
-use Rattle.np_changes.specs.Asked.{new_record}
-use Rattle.np_changes.specs.Changes.{edited, semaphores_of}
 use Rattle.np_changes.specs.declared.changes.Changes.{Changes}
 use Rattle.np_changes.specs.declared.changes.Deed.{Deed}
 use Rattle.np_changes.specs.declared.changes.Deed.TheVariants as deed
@@ -52,16 +22,8 @@ use Rattle.np_changes.specs.declared.changes.RequestsChange.{RequestsChange}
 use Rattle.np_changes.specs.declared.changes.RequestsChange.TheVariants as requests
 use Rattle.np_changes.specs.declared.changes.SessionsChange.{SessionsChange}
 use Rattle.np_changes.specs.declared.changes.SessionsChange.TheVariants as sessions
-use Rattle.np_places.specs.Place.{path_of}
-use Rattle.np_places.specs.Roles.{place_of_role}
-use Rattle.np_places.specs.declared.place.Place.{Place}
-use Rattle.np_places.specs.declared.place.Place.TheVariants.{Request, RequestLock, Node, NodeLock, Launcher, Handle, Job, Session, Swept, Tick}
-use Rattle.np_layout.specs.Creates.{node_parts, request_parts, wait_at}
-use Rattle.np_layout.specs.Deletes.{delete, node_deletes, request_deletes}
-use Rattle.np_layout.specs.First.{make}
-use Rattle.np_layout.specs.Layout.{under}
-use Rattle.np_layout.specs.Rows.{tree_session}
-use Rattle.np_layout.specs.Sets.{set}
+use Rattle.np_layout.specs.declared.place.Place.{Place}
+use Rattle.np_layout.specs.declared.place.Place.TheVariants.{Request, RequestLock, Node, NodeLock, Launcher, Handle, Job, Session, Swept, Tick}
 
 -- the maker's session makes the call; the tree's first session makes what no party makes (own)
 abbrev pub writer : Option Maker → ℕ

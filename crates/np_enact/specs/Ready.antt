@@ -1,13 +1,8 @@
 -- every accepted event is ready for the tree, and leaves a state that a tree can carry
 use Rattle.std.specs.Prelude.{◌≡◌, ◌<◌, ◌^◌, ◌+◌, ℕ, true, is_ok, IfSome}
-use Rattle.np_nodes.specs.TreeState.{TreeState}
-use Rattle.np_site.specs.Configuration.{Configuration}
-use Rattle.np_site.specs.Sound.{IsSound}
-use Rattle.np_event.specs.declared.event.Event.{Event}
+use Rattle.np_layout.specs.Prelude.{HasSpellings, IsCarried, IsGood, IsStored, TreeState}
+use Rattle.np_changes.specs.Prelude.{Configuration, Event, Fits, IsSound, State, judge, next, plan, start}
 use Rattle.np_spelling.specs.Spelling.{IsReason}
-use Rattle.np_machine.specs.State.{State, start}
-use Rattle.np_machine.specs.Step.{judge, next}
-use Rattle.np_changes.specs.Plan.{plan}
 use Rattle.np_changes.specs.declared.changes.Changes.{Changes}
 use Rattle.np_changes.specs.declared.changes.Growth.{Growth}
 use Rattle.np_changes.specs.declared.changes.Growth.TheVariants as grow
@@ -17,15 +12,11 @@ use Rattle.np_changes.specs.declared.changes.RequestEdit.{RequestEdit}
 use Rattle.np_changes.specs.declared.changes.RequestEdit.TheVariants as edit
 use Rattle.np_changes.specs.declared.changes.RequestsChange.{RequestsChange}
 use Rattle.np_changes.specs.declared.changes.RequestsChange.TheVariants as requests
-use Rattle.np_fits.specs.Fits.{Fits}
 use Rattle.np_laws.specs.Parts.{Invariant}
-use Rattle.np_places.specs.Place.{IsGood}
-use Rattle.np_places.specs.declared.place.Place.TheVariants.{Swept}
-use Rattle.np_layout.specs.Carried.{IsCarried, IsStored}
+use Rattle.np_layout.specs.declared.place.Place.TheVariants.{Swept}
 use Rattle.np_enact.specs.Events.{IsEnacted, IsReady, called}
 use Rattle.np_enact.specs.Parts.{enacted, writer}
 use Rattle.np_enact.specs.Stands.{Stands}
-use Rattle.np_layout.specs.Carried.{HasSpellings}
 
 -- ## numbers that come with an event are within their types
 

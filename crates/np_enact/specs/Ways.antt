@@ -1,18 +1,8 @@
 -- one law for each table that an event may change: the parts for the change are accepted, and leave a
 -- tree of the changed state
 use Rattle.std.specs.Prelude.{◌≡◌, ◌<◌, ◌≤◌, ◌+◌, ◌^◌, ◌==◌, ℕ, Bool, true, List, length, Option, Some, None, if◌then◌else◌, is_some, IfSome, nat_lt}
-use Rattle.std.specs.List.{AllByRecursion, list_any}
-use Rattle.np_lists.specs.Rising.{Rises}
-use Rattle.np_nodes.specs.TreeState.{TreeState}
-use Rattle.np_site.specs.Configuration.{Configuration}
-use Rattle.np_spelling.specs.Spelling.{IsJob, IsNode, IsRequest, IsRole, IsSessionRole}
-use Rattle.np_machine.specs.Entries.{NodeEntry, RequestEntry}
-use Rattle.np_machine.specs.Request.{next_id}
-use Rattle.np_machine.specs.State.{State}
-use Rattle.np_machine.specs.declared.state.SessionFacts.{SessionFacts}
-use Rattle.np_machine.specs.Tables.{change_janitor, change_launcher, change_requester, is_request, node_entry, registered, request_entry, session_of}
-use Rattle.np_changes.specs.Asked.{new_record}
-use Rattle.np_changes.specs.Changes.{grown, handles_changed, jobs_changed, nodes_changed, requests_changed, semaphores_of, sessions_changed, with_deed}
+use Rattle.np_changes.specs.Prelude.{AllByRecursion, Configuration, NodeEntry, RequestEntry, Rises, SessionFacts, State, change_janitor, change_launcher, change_requester, grown, handles_changed, is_request, jobs_changed, list_any, new_record, next_id, node_entry, nodes_changed, registered, request_entry, requests_changed, semaphores_of, session_of, sessions_changed, with_deed}
+use Rattle.np_layout.specs.Prelude.{AreDistinct, HasSpellings, IsGood, IsJob, IsNode, IsRequest, IsRole, IsSessionRole, TreeState}
 use Rattle.np_changes.specs.declared.changes.Deed.{Deed}
 use Rattle.np_changes.specs.declared.changes.Growth.{Growth}
 use Rattle.np_changes.specs.declared.changes.Growth.TheVariants as grow
@@ -24,10 +14,7 @@ use Rattle.np_changes.specs.declared.changes.NodesChange.TheVariants as nodes
 use Rattle.np_changes.specs.declared.changes.RequestsChange.{RequestsChange}
 use Rattle.np_changes.specs.declared.changes.SessionsChange.{SessionsChange}
 use Rattle.np_changes.specs.declared.changes.SessionsChange.TheVariants as sessions
-use Rattle.np_places.specs.Place.{IsGood}
-use Rattle.np_places.specs.declared.place.Place.TheVariants.{Request, Launcher, Swept}
-use Rattle.np_layout.specs.Carried.{HasSpellings}
-use Rattle.np_layout.specs.Deletes.{AreDistinct}
+use Rattle.np_layout.specs.declared.place.Place.TheVariants.{Request, Launcher, Swept}
 use Rattle.np_enact.specs.Parts.{deed_parts, grown_parts, handles_parts, jobs_parts, nodes_of, nodes_parts, requests_parts, session_parts, tick_parts, with_begin, writer}
 use Rattle.np_enact.specs.Stands.{Enacts, Stands}
 

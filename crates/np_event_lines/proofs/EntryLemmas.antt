@@ -4,11 +4,11 @@ use Rattle.std.specs.Prelude.{codes, IfOk}
 use Rattle.std.specs.List.{list_all}
 use Rattle.std.specs.Result.{result_ok}
 use Rattle.std.specs.Str.{bytes_eq}
-use Rattle.std.proofs.lemmas.Bool.{eqb-true}
+use Rattle.std.proofs.lemmas.Bool.{eqb-true, and_parts}
 use Rattle.std.proofs.lemmas.Bool.Decides.{nat_tests}
 use Rattle.np_text.specs.Lines.{is_line}
 use Rattle.np_text.specs.Sections.{bar, behind}
-use Rattle.np_text.proofs.SpellingLemmas.{both_true, some_injective}
+use Rattle.np_text.proofs.SpellingLemmas.{some_injective}
 use Rattle.np_event.specs.declared.entry.Entry.{Entry}
 use Rattle.np_event.specs.declared.event.Event.{Event}
 use Rattle.np_event_lines.specs.declared.fault.LineFault.{LineFault}
@@ -29,17 +29,17 @@ middle_false false q = refl
 no_reply : (x : ℕ) (xs back : List ℕ) → list_all is_inside xs ≡ true → begins_reply (x ∷ (xs ++ 32 ∷ 61 ∷ 32 ∷ back)) ≡ false
 no_reply x [] back inside = middle_false (x == 32) false
 no_reply x (y ∷ []) back inside =
-    let other : (y == 61) ≡ false = grind (arith, nat_tests, (both_true (is_inside y) true inside).0) in
+    let other : (y == 61) ≡ false = grind (arith, nat_tests, (and_parts (is_inside y) true inside).0) in
     rw other (middle_false (x == 32) true)
 no_reply x (y ∷ z ∷ zs) back inside =
-    let other : (y == 61) ≡ false = grind (arith, nat_tests, (both_true (is_inside y) (list_all is_inside (z ∷ zs)) inside).0) in
+    let other : (y == 61) ≡ false = grind (arith, nat_tests, (and_parts (is_inside y) (list_all is_inside (z ∷ zs)) inside).0) in
     rw other (middle_false (x == 32) (z == 32))
 
 sides_of-sides : (front back : List ℕ) → list_all is_inside front ≡ true → sides_of (front ++ 32 ∷ 61 ∷ 32 ∷ back) ≡ Some (front, back)
 unfolding sides_of
 sides_of-sides [] back inside = refl
 sides_of-sides (x ∷ xs) back inside =
-    let parts = both_true (is_inside x) (list_all is_inside xs) inside in
+    let parts = and_parts (is_inside x) (list_all is_inside xs) inside in
     let other = no_reply x xs back parts.1 in
     rw other (ap (behind (x ∷ [])) (sides_of-sides xs back parts.1))
 
@@ -48,8 +48,8 @@ begins_reply-told [] begins = absurd (cc)
 begins_reply-told (a ∷ []) begins = absurd (cc)
 begins_reply-told (a ∷ b ∷ []) begins = absurd (cc)
 begins_reply-told (a ∷ b ∷ c ∷ rest) begins =
-    let last = both_true ((a == 32) && (b == 61)) (c == 32) begins in
-    let front = both_true (a == 32) (b == 61) last.0 in
+    let last = and_parts ((a == 32) && (b == 61)) (c == 32) begins in
+    let front = and_parts (a == 32) (b == 61) last.0 in
     ap (λ x. x ∷ 61 ∷ 32 ∷ rest) (sym (eqb-true a 32 front.0)) ∙ ap (λ x. a ∷ x ∷ 32 ∷ rest) (sym (eqb-true b 61 front.1)) ∙ ap (λ x. a ∷ b ∷ x ∷ rest) (sym (eqb-true c 32 last.1))
 
 -- the line again, of its sides
@@ -132,7 +132,7 @@ entry_line-injective a b a_has b_has same =
 is_line-append : (xs ys : List ℕ) → is_line xs ≡ true → is_line ys ≡ true → is_line (xs ++ ys) ≡ true
 is_line-append [] ys front back = back
 is_line-append (x ∷ xs) ys front back =
-    let parts = both_true (not (x == 10)) (is_line xs) front in
+    let parts = and_parts (not (x == 10)) (is_line xs) front in
     rw parts.0 (is_line-append xs ys parts.1 back)
 
 pub is_line-event : (e : Event) → HasEventLine e → is_line (event_line e) ≡ true

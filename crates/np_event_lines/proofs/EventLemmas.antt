@@ -6,7 +6,7 @@ use Rattle.std.specs.Str.{bytes_eq}
 use Rattle.std.proofs.lemmas.List.Splits.{join_with_byte-slice_split}
 use Rattle.np_text.specs.declared.id.Role.TheVariants as role
 use Rattle.np_text.specs.declared.word.Reason.TheVariants as reason
-use Rattle.np_text.proofs.SpellingLemmas.{both_true, some_injective}
+use Rattle.np_text.proofs.SpellingLemmas.{some_injective}
 use Rattle.np_event.specs.declared.event.Event.{Event}
 use Rattle.np_event.specs.declared.event.Event.TheVariants as ev
 use Rattle.np_event.specs.declared.event.Outcome.TheVariants as outcome
@@ -25,6 +25,7 @@ use Rattle.np_event_lines.specs.Words.{words_of}
 use Rattle.np_event_lines.proofs.KindLemmas.{bytes_eq-refl, find-passes, same_bytes, told_fields}
 use Rattle.np_event_lines.proofs.ReadingLemmas.{are_apart, overlay, row_fields-texts, row_fields-told}
 use Rattle.np_event_lines.proofs.SpellingLemmas.{inside-row_line, is_inside, is_plain, words_of-spaced}
+use Rattle.std.proofs.lemmas.Bool.{and_parts}
 
 -- ## Row by row, by computation
 
@@ -82,7 +83,7 @@ form_headed first rest F answer = by_agreed (find (is_agreed first rest) event_f
         → chosen rest agreed headed ≡ Ok F → bytes_eq first (event_row F).head ≡ true
     by_agreed (Some A) headed is_a is_h answer =
         let same : A ≡ F = cc in
-        subst (λ X. is_headed first X ≡ true) same (both_true (is_headed first A) (stand (event_row A).kinds rest) (find-passes (is_agreed first rest) event_forms A is_a)).0
+        subst (λ X. is_headed first X ≡ true) same (and_parts (is_headed first A) (stand (event_row A).kinds rest) (find-passes (is_agreed first rest) event_forms A is_a)).0
     by_agreed None (Some H) is_a is_h answer =
         subst (λ X. is_headed first X ≡ true) (by_late H (event_row H).decided_at answer) (find-passes (is_headed first) event_forms H is_h)
     by_agreed None None is_a is_h answer = absurd (cc)

@@ -3,9 +3,8 @@ use Rattle.std.proofs.Common.{◌≡◌, ◌≢◌, ℕ, zero, suc, ◌+◌, ◌
 use Rattle.std.specs.Prelude.{codes, if◌then◌else◌, nat_le, ◌↔◌}
 use Rattle.std.specs.List.{find}
 use Rattle.std.specs.Str.{bytes_eq}
-use Rattle.std.proofs.lemmas.Bool.{eqb-true}
+use Rattle.std.proofs.lemmas.Bool.{eqb-true, and_parts}
 use Rattle.std.proofs.lemmas.Bool.Decides.{nat_tests}
-use Rattle.np_text.proofs.SpellingLemmas.{both_true}
 use Rattle.np_event_lines.specs.declared.event_form.EventForm.{EventForm}
 use Rattle.np_event_lines.specs.declared.event_form.EventForm.TheVariants as form
 use Rattle.np_event_lines.specs.declared.fault.LineFault.{LineFault}
@@ -99,7 +98,7 @@ with_fields-fault F (Err other) fault = (λ answer. cc, λ answer. cc)
 
 -- what holds of a fixed word holds of the word at its place
 at_fixed : (P : List ℕ → Type 0) (text fixed : List ℕ) (behind : Bool) → (bytes_eq text fixed && behind) ≡ true → P fixed → P text
-at_fixed P text fixed behind stands holds = subst P (sym (same_bytes text fixed (both_true (bytes_eq text fixed) behind stands).0)) holds
+at_fixed P text fixed behind stands holds = subst P (sym (same_bytes text fixed (and_parts (bytes_eq text fixed) behind stands).0)) holds
 
 abbrev Agrees : EventForm → List (List ℕ) → Type 0
 Agrees F rest = find (is_agreed (event_row F).head rest) event_forms ≡ Some F

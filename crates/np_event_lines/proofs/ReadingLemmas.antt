@@ -2,9 +2,8 @@
 use Rattle.std.proofs.Common.{◌≡◌, ℕ, ◌+◌, Bool, true, false, ◌&&◌, not, ◌==◌, List, [], ◌∷◌, map, length, Option, Some, None, Result, Ok, Err, refl, sym, ap, subst, ◌∙◌, arith}
 use Rattle.std.specs.Prelude.{if◌then◌else◌}
 use Rattle.std.specs.List.{list_all}
-use Rattle.std.proofs.lemmas.Bool.{eq-eqb, eqb-true}
+use Rattle.std.proofs.lemmas.Bool.{eq-eqb, eqb-true, not-true, and_parts}
 use Rattle.std.proofs.lemmas.List.{length-map}
-use Rattle.np_text.proofs.SpellingLemmas.{both_true}
 use Rattle.np_event_lines.specs.declared.fault.LineFault.{LineFault}
 use Rattle.np_event_lines.specs.declared.fault.LineFault.TheVariants.{WrongCount}
 use Rattle.np_event_lines.specs.declared.kind.Fields.{Fields}
@@ -31,10 +30,6 @@ fitting-fits : (next : Fields → Result Fields LineFault) (place : ℕ) (o : Op
 fitting-fits next place None g answer = absurd (cc)
 fitting-fits next place (Some more) g answer = (more, refl, answer)
 
-not_true : (b : Bool) → not b ≡ true → b ≡ false
-not_true true answer = absurd (cc)
-not_true false answer = refl
-
 -- what a kind says stays while others are read
 pub record Stays (k : Kind) (f g : Fields) : Type 0 where
   pub says : field_text k g ≡ field_text k f
@@ -42,7 +37,7 @@ pub record Stays (k : Kind) (f g : Fields) : Type 0 where
 
 stays_past : (k j : Kind) (f g : Fields) → g ≡ copy j g f → not (same_kind k j) ≡ true → Stays k f g
 stays_past k j f g is other =
-    let apart = not_true (same_kind k j) other in
+    let apart = not-true (same_kind k j) other in
     subst (λ h. Stays k f h) (sym is) (record { says = field_text-copy k j g f apart; word = HasWord-copy k j g f apart })
 
 pub fields_from-stays : (k : Kind) (place : ℕ) (kinds : List Kind) (words : List (List ℕ)) (f g : Fields) → is_absent k kinds ≡ true → length words ≡ length kinds
@@ -51,7 +46,7 @@ fields_from-stays k place [] words f g absent same answer =
     let is : f ≡ g = cc in subst (λ h. Stays k f h) is (record { says = refl; word = λ has. has })
 fields_from-stays k place (j ∷ js) [] f g absent same answer = absurd (omega arith)
 fields_from-stays k place (j ∷ js) (w ∷ ws) f g absent same answer =
-    let parts = both_true (not (same_kind k j)) (is_absent k js) absent in
+    let parts = and_parts (not (same_kind k j)) (is_absent k js) absent in
     let read = fitting-fits (λ more. fields_from (place + 1) js ws more) place (with_field j w f) g answer in
     let first = with_field-told j w f read.0 read.1 in
     let here = stays_past k j f read.0 first.rest parts.0 in
@@ -64,7 +59,7 @@ fields_from-told place [] [] f g apart same answer = (refl, tt)
 fields_from-told place [] (w ∷ ws) f g apart same answer = absurd (omega arith)
 fields_from-told place (k ∷ ks) [] f g apart same answer = absurd (omega arith)
 fields_from-told place (k ∷ ks) (w ∷ ws) f g apart same answer =
-    let parts = both_true (is_absent k ks) (are_apart ks) apart in
+    let parts = and_parts (is_absent k ks) (are_apart ks) apart in
     let read = fitting-fits (λ more. fields_from (place + 1) ks ws more) place (with_field k w f) g answer in
     let first = with_field-told k w f read.0 read.1 in
     let kept = fields_from-stays k (place + 1) ks ws read.0 g parts.0 (omega arith) read.2 in

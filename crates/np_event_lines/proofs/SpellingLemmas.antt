@@ -25,7 +25,7 @@ use Rattle.np_text.specs.declared.word.ReasonKind.TheVariants as reason
 use Rattle.np_text.specs.declared.word.RoleKind.TheVariants as role
 use Rattle.np_text.specs.Word.{end_as_word, ending_word}
 use Rattle.np_text.proofs.OrderLemmas.{all_ascii_digits-ten}
-use Rattle.np_text.proofs.SpellingLemmas.{both_true, model}
+use Rattle.np_text.proofs.SpellingLemmas.{model}
 use Rattle.np_event_lines.specs.declared.kind.Fields.{Fields}
 use Rattle.np_event_lines.specs.declared.kind.Fixed.{Fixed}
 use Rattle.np_event_lines.specs.declared.kind.Fixed.TheVariants as fixed
@@ -37,6 +37,7 @@ use Rattle.np_event_lines.specs.Kind.{HasWord, field_text, fixed_text, found_tex
 use Rattle.np_event_lines.specs.Reading.{HaveWords, row_line}
 use Rattle.np_event_lines.specs.Row.{Row}
 use Rattle.np_event_lines.specs.Words.{is_space, words_of}
+use Rattle.std.proofs.lemmas.Bool.{and_parts}
 
 -- digits, `-` and small letters are such bytes
 abbrev pub is_plain : ℕ → Bool
@@ -45,7 +46,7 @@ is_plain b = nat_le 45 b && not (b == 61)
 pub list_all-append : (p : ℕ → Bool) (xs ys : List ℕ) → list_all p xs ≡ true → list_all p ys ≡ true → list_all p (xs ++ ys) ≡ true
 list_all-append p [] ys front back = back
 list_all-append p (x ∷ xs) ys front back =
-    let parts = both_true (p x) (list_all p xs) front in
+    let parts = and_parts (p x) (list_all p xs) front in
     rw parts.0 (list_all-append p xs ys parts.1 back)
 
 plain-digit : (c : ℕ) → is_ascii_digit c ≡ true → is_plain c ≡ true
@@ -54,7 +55,7 @@ plain-digit c digit = grind (arith, nat_tests)
 plain-digits : (ds : List ℕ) → all_ascii_digits ds ≡ true → list_all is_plain ds ≡ true
 plain-digits [] digits = refl
 plain-digits (c ∷ cs) digits =
-    let parts = both_true (is_ascii_digit c) (all_ascii_digits cs) digits in
+    let parts = and_parts (is_ascii_digit c) (all_ascii_digits cs) digits in
     rw (plain-digit c parts.0) (plain-digits cs parts.1)
 
 plain-decimal : (n : ℕ) → n < 2 ^ 64 → list_all is_plain (decimal n) ≡ true
@@ -124,7 +125,7 @@ not_space b plain = grind (arith, nat_tests)
 pub no_spaces : (xs : List ℕ) → list_all is_plain xs ≡ true → All (λ b. is_space b ≡ false) xs
 no_spaces [] plain = All-nil (λ (b : ℕ). is_space b ≡ false)
 no_spaces (x ∷ xs) plain =
-    let parts = both_true (is_plain x) (list_all is_plain xs) plain in
+    let parts = and_parts (is_plain x) (list_all is_plain xs) plain in
     All-cons (λ b. is_space b ≡ false) x xs (not_space x parts.0) (no_spaces xs parts.1)
 
 -- the words of a row's line are its head and what follows it
@@ -144,7 +145,7 @@ is_inside b = nat_le 32 b && not (b == 61)
 inside-plain : (xs : List ℕ) → list_all is_plain xs ≡ true → list_all is_inside xs ≡ true
 inside-plain [] plain = refl
 inside-plain (x ∷ xs) plain =
-    let parts = both_true (is_plain x) (list_all is_plain xs) plain in
+    let parts = and_parts (is_plain x) (list_all is_plain xs) plain in
     let here : is_inside x ≡ true = grind (arith, nat_tests) in
     rw here (inside-plain xs parts.1)
 
@@ -163,5 +164,5 @@ line_byte b inside = grind (arith, nat_tests)
 pub is_line-inside : (xs : List ℕ) → list_all is_inside xs ≡ true → is_line xs ≡ true
 is_line-inside [] inside = refl
 is_line-inside (x ∷ xs) inside =
-    let parts = both_true (is_inside x) (list_all is_inside xs) inside in
+    let parts = and_parts (is_inside x) (list_all is_inside xs) inside in
     rw (line_byte x parts.0) (is_line-inside xs parts.1)

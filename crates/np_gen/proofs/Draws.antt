@@ -2,7 +2,7 @@
 use Rattle.std.proofs.Common.{◌≡◌, ℕ, zero, suc, ◌+◌, ◌-◌, ◌%◌, ◌<◌, ◌≤◌, Bool, true, false, cond, List, [], ◌∷◌, ◌++◌, add-one, append-nil, append_assoc, refl, sym, ap, ◌∙◌, arith}
 use Rattle.std.specs.Prelude.{◌==◌}
 use Rattle.np_text.specs.declared.id.LabelId.{LabelId}
-use Rattle.np_site.specs.declared.row.Job.{Job}
+use Rattle.np_config.specs.declared.row.Job.{Job}
 use Rattle.np_gen.specs.Draw.{next_state, draw, after_draws}
 use Rattle.np_gen.specs.Site.{label_at, drawn_labels, drill_job, after_job, jobs_from, drawn_jobs, jobs_of}
 

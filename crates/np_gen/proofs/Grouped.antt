@@ -6,8 +6,8 @@ use Rattle.std.proofs.lemmas.List.Elements.{All-append, All-weaker, All-nil}
 use Rattle.np_lists.proofs.EachAfterLemmas.{EachAfter-append}
 use Rattle.np_lists.proofs.KeptLemmas.{All-filter_number}
 use Rattle.np_lists.specs.EachAfter.{EachAfter}
-use Rattle.np_site.specs.Sound.{StandsByOwner}
-use Rattle.np_site.proofs.Owners.{after_earlier}
+use Rattle.np_config.specs.Sound.{StandsByOwner}
+use Rattle.np_config.proofs.Owners.{after_earlier}
 
 module _ {T : Type 0} (owner : T → ℕ) where
   abbrev pub group : ℕ → List T → List T

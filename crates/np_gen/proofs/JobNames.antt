@@ -1,5 +1,5 @@
 -- names of jobs: each is a name, and no two jobs have the same one
-use Rattle.std.proofs.Common.{◌≡◌, ℕ, ◌+◌, ◌<◌, ◌≤◌, Bool, true, false, List, [], ◌∷◌, length, refl, ap, ◌∙◌, arith}
+use Rattle.std.proofs.Common.{◌≡◌, ℕ, ◌+◌, ◌<◌, ◌≤◌, true, false, List, [], ◌∷◌, length, refl, ap, ◌∙◌, arith}
 use Rattle.std.specs.Prelude.{nat_le, drop}
 use Rattle.std.specs.Char.{is_ascii_digit}
 use Rattle.std.specs.Fmt.{decimal}
@@ -7,11 +7,12 @@ use Rattle.std.specs.List.{AllByRecursion, list_all, list_any}
 use Rattle.std.specs.Str.{all_ascii_digits, bytes_eq}
 use Rattle.std.proofs.lemmas.Bool.Decides.{nat_tests}
 use Rattle.std.proofs.lemmas.Fmt.{decimal_injective, digits_decimal, length-decimal-le}
-use Rattle.std.proofs.lemmas.Slice.Eq.{bytes_eq-Decides}
 use Rattle.np_text.specs.Name.{is_name_byte, is_name_text}
-use Rattle.np_text.proofs.SpellingLemmas.{both_true, model}
-use Rattle.np_site.specs.declared.row.Job.{Job}
+use Rattle.np_text.proofs.SpellingLemmas.{model}
+use Rattle.np_config.specs.declared.row.Job.{Job}
 use Rattle.np_gen.specs.Site.{job_name}
+use Rattle.np_lists.proofs.Plain.{bytes_eq-apart}
+use Rattle.std.proofs.lemmas.Bool.{and_parts}
 
 digit_named : (b : ℕ) → is_ascii_digit b ≡ true → is_name_byte b ≡ true
 digit_named b digit = grind (arith, nat_tests)
@@ -19,7 +20,7 @@ digit_named b digit = grind (arith, nat_tests)
 digits_named : (text : List ℕ) → all_ascii_digits text ≡ true → list_all is_name_byte text ≡ true
 digits_named [] digits = refl
 digits_named (b ∷ text) digits =
-    let parts = both_true (is_ascii_digit b) (all_ascii_digits text) digits in
+    let parts = and_parts (is_ascii_digit b) (all_ascii_digits text) digits in
     rw (digit_named b parts.0) (digits_named text parts.1)
 
 pub job_name_named : (i : ℕ) → i < 4000 → is_name_text (job_name i) ≡ true
@@ -31,13 +32,6 @@ job_name_named i small =
     let bytes : list_all is_name_byte (decimal i) ≡ true = digits_named (decimal i) (digits_decimal model i (omega arith)) in
     rw (least, most) bytes
 
-differs : (xs ys : List ℕ) → (xs ≡ ys → ⊥) → bytes_eq xs ys ≡ false
-differs xs ys apart = by (bytes_eq xs ys) refl
-  where
-    by : (b : Bool) → bytes_eq xs ys ≡ b → bytes_eq xs ys ≡ false
-    by true is = absurd (apart ((bytes_eq-Decides xs ys).0 is))
-    by false is = is
-
 -- a job's name is that of an earlier number
 pub record IsBefore (i : ℕ) (row : Job) : Type 0 where
   pub number : ℕ
@@ -48,7 +42,7 @@ pub IsBefore-later : (i : ℕ) (row : Job) → IsBefore i row → IsBefore (i + 
 IsBefore-later i row before = record { number = before.number; less = omega arith; named = before.named }
 
 other_name : (i : ℕ) (row : Job) → i < 4000 → IsBefore i row → bytes_eq (job_name i) row.name ≡ false
-other_name i row small before = differs (job_name i) row.name (λ same.
+other_name i row small before = bytes_eq-apart (job_name i) row.name (λ same.
     let digits : decimal i ≡ decimal before.number = ap (drop 1) (same ∙ before.named) in
     let number : i ≡ before.number = decimal_injective i before.number (omega arith) (omega arith) digits in
     omega arith)

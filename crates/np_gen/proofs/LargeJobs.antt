@@ -3,7 +3,7 @@ use Rattle.std.proofs.Common.{◌≡◌, ◌≢◌, ℕ, zero, suc, ◌+◌, ◌
 use Rattle.std.specs.Prelude.{All, filter, ◌==◌}
 use Rattle.std.proofs.lemmas.Bool.Decides.{nat_tests}
 use Rattle.std.proofs.lemmas.List.Elements.{All-nil, All-cons, All-head, All-tail, All-filter, filter-append}
-use Rattle.np_site.specs.declared.row.Job.{Job}
+use Rattle.np_config.specs.declared.row.Job.{Job}
 use Rattle.np_gen.specs.Draw.{next_state}
 use Rattle.np_gen.specs.Site.{label_at, label_count, drawn_labels, job_labels, asks_for_nine, drill_job, after_job, jobs_from, drawn_jobs, drill_jobs, drill_site}
 use Rattle.np_gen.proofs.Grouped.{group, groups}

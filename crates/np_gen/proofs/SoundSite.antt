@@ -9,17 +9,17 @@ use Rattle.np_text.specs.declared.id.SemId.{SemId}
 use Rattle.np_text.specs.Name.{is_name_text}
 use Rattle.np_lists.specs.EachAfter.{EachAfter}
 use Rattle.np_lists.proofs.Each.{all-push, all-weaker}
-use Rattle.np_site.specs.declared.row.Label.{Label}
-use Rattle.np_site.specs.declared.row.Provider.{Provider}
-use Rattle.np_site.specs.declared.row.Pool.{Pool}
-use Rattle.np_site.specs.declared.row.Offer.{Offer}
-use Rattle.np_site.specs.declared.row.Sem.{Sem}
-use Rattle.np_site.specs.declared.row.Requester.{Requester}
-use Rattle.np_site.specs.declared.row.Job.{Job}
-use Rattle.np_site.specs.declared.row.Tenant.{Tenant}
-use Rattle.np_site.specs.declared.row.Fault.{Fault}
-use Rattle.np_site.specs.Configuration.{configuration}
-use Rattle.np_site.specs.Sound.{IsSound, AreProviders, AreRequesters, StandsByOwner, IsLabel, IsProvider, IsOffer, is_unoffered, IsPool, IsSem, IsRequester, IsJob, IsWanted, IsTaken, IsPriority, IsFault}
+use Rattle.np_config.specs.declared.row.Label.{Label}
+use Rattle.np_config.specs.declared.row.Provider.{Provider}
+use Rattle.np_config.specs.declared.row.Pool.{Pool}
+use Rattle.np_config.specs.declared.row.Offer.{Offer}
+use Rattle.np_config.specs.declared.row.Sem.{Sem}
+use Rattle.np_config.specs.declared.row.Requester.{Requester}
+use Rattle.np_config.specs.declared.row.Job.{Job}
+use Rattle.np_config.specs.declared.row.Tenant.{Tenant}
+use Rattle.np_config.specs.declared.row.Fault.{Fault}
+use Rattle.np_config.specs.Configuration.{configuration}
+use Rattle.np_config.specs.Sound.{IsSound, AreProviders, AreRequesters, StandsByOwner, IsLabel, IsProvider, IsOffer, is_unoffered, IsPool, IsSem, IsRequester, IsJob, IsWanted, IsTaken, IsPriority, IsFault}
 use Rattle.np_gen.specs.Draw.{next_state, draw, after_draws}
 use Rattle.np_gen.specs.Site.{drill_label, drill_labels, label_at, drill_provider, drill_providers, drill_offer, drill_pool, drill_pools, drill_semaphores, deploy, stage, drill_requester, drill_requesters}
 use Rattle.np_gen.specs.Site.{is_large, label_count, drawn_labels, job_labels, job_priority, job_semaphores, drill_job, after_job, jobs_from, drawn_jobs, jobs_of, drill_jobs, drill_site}

@@ -5,14 +5,14 @@ use Rattle.np_text.specs.declared.id.LabelId.{LabelId}
 use Rattle.np_text.specs.declared.id.SemId.{SemId}
 use Rattle.np_text.specs.declared.word.EndAs.TheVariants.{Used}
 use Rattle.np_amount.specs.declared.amount.Limit.{Limit}
-use Rattle.np_site.specs.declared.row.Label.{Label}
-use Rattle.np_site.specs.declared.row.Provider.{Provider}
-use Rattle.np_site.specs.declared.row.Pool.{Pool}
-use Rattle.np_site.specs.declared.row.Offer.{Offer}
-use Rattle.np_site.specs.declared.row.Sem.{Sem}
-use Rattle.np_site.specs.declared.row.Requester.{Requester}
-use Rattle.np_site.specs.declared.row.Job.{Job}
-use Rattle.np_site.specs.Configuration.{Configuration}
+use Rattle.np_config.specs.declared.row.Label.{Label}
+use Rattle.np_config.specs.declared.row.Provider.{Provider}
+use Rattle.np_config.specs.declared.row.Pool.{Pool}
+use Rattle.np_config.specs.declared.row.Offer.{Offer}
+use Rattle.np_config.specs.declared.row.Sem.{Sem}
+use Rattle.np_config.specs.declared.row.Requester.{Requester}
+use Rattle.np_config.specs.declared.row.Job.{Job}
+use Rattle.np_config.specs.Configuration.{Configuration}
 use Rattle.np_gen.specs.Draw.{next_state, draw, after_draws}
 
 -- ## the supply

@@ -4,7 +4,7 @@ ghost use Rattle.std.specs.Prelude.{◌≡◌, [], ◌∷◌, ◌++◌, IfOk, On
 ghost use Rattle.np_gen.specs.Site.{is_large, label_count, drawn_labels, job_labels, drawn_priority, job_priority, drawn_semaphores, job_semaphores, job_name, drill_job, after_job, drawn_jobs, jobs_of};
 
 use crate::draw::{after_draws, draw, next_state};
-use np_site::{Job, LabelList, Name, SemList};
+use np_config::{Job, LabelList, Name, SemList};
 use np_text::{EndAs, LabelId, NoMemory, RequesterId, SemId, TenantId, put_number};
 use std::alloc::Global;
 

@@ -5,8 +5,7 @@ ghost use Rattle.np_gen.specs.Site.{drill_requester, drill_requesters, drill_job
 
 use crate::job::put_jobs_of;
 use crate::supply::{labels, name, pools, providers, semaphores};
-use np_config::Config;
-use np_site::{Job, Requester};
+use np_config::{Config, Job, Requester};
 use np_text::NoMemory;
 use std::alloc::Global;
 

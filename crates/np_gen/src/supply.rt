@@ -4,7 +4,7 @@ ghost use Rattle.std.specs.Prelude.{◌≡◌, IfOk};
 ghost use Rattle.np_gen.specs.Site.{drill_label, drill_labels, drill_provider, drill_providers, drill_offer, drill_pool, drill_pools, drill_semaphores};
 
 use np_amount::{Amount, Limit};
-use np_site::{Label, Name, NumberList, Offer, OfferList, Pool, Provider, Sem};
+use np_config::{Label, Name, NumberList, Offer, OfferList, Pool, Provider, Sem};
 use np_text::{LabelId, NoMemory};
 use std::alloc::Global;
 

@@ -1,17 +1,13 @@
 -- all that the changes of an event touch is listed before it
 use Rattle.std.proofs.Common.{◌≡◌, ◌≤◌, ◌∙◌, Bool, true, false, List, ◌++◌, suc, length, refl, ap}
 use Rattle.std.specs.Prelude.{◌||◌, map}
-use Rattle.std.specs.List.{AllByRecursion, list_any}
+use Rattle.np_changes.specs.Prelude.{AllByRecursion, Configuration, NodeId, State, list_any, node_queue}
 use Rattle.std.proofs.lemmas.List.Folds.{list_any-append}
-use Rattle.np_keys.specs.Prelude.{Changes, Configuration, NodeId, State, node_queue}
+use Rattle.np_changes.specs.declared.changes.Changes.{Changes}
 use Rattle.np_keys.specs.Keys.{same_node}
 use Rattle.np_classes.specs.Touched.{touches_node}
 use Rattle.np_given.specs.Listed.{nodes_by_job, nodes_by_state, touches_given}
 use Rattle.np_given.specs.Prepared.{IsPrepared, PreparedOf, placed_node}
-
-or_true : (a : Bool) → (a || true) ≡ true
-or_true true = refl
-or_true false = refl
 
 abbrev listed : NodeId → List NodeId → Bool
 listed n ns = list_any (λ m. same_node m n) ns

@@ -1,17 +1,21 @@
 -- the changes of an event make the queue of a node longer by one session at most
 use Rattle.std.proofs.Common.{◌≡◌, ◌≤◌, ◌∙◌, ℕ, suc, Bool, true, false, cond, List, [], ◌∷◌, ◌++◌, length, Option, None, Some, refl, sym, ap, subst, arith, length-append}
 use Rattle.std.specs.Prelude.{◌==◌, nat_lt}
-use Rattle.std.specs.Option.{option_map}
+use Rattle.np_changes.specs.Prelude.{Configuration, IsReached, NodeEntry, NodeId, NodeRecord, RequestId, Rises, SessionId, State, TenantId, allocated, by_maker, change_first, changed, grown, is_queued, joined, left, node_in, node_queue, nodes_changed, nodes_left, option_map, put_node_queue, remove_node}
 use Rattle.std.proofs.lemmas.Bool.Decides.{nat_tests}
-use Rattle.np_keys.specs.Prelude.{Changes, Configuration, Growth, IsNumbered, IsReached, Maker, NodeEntry, NodeId, NodeRecord, NodesChange, RequestId, Rises, SessionId, SessionsChange, State, TenantId, allocated, by_maker, change_first, changed, grown, nodes_changed, nodes_left}
-use Rattle.np_lists.proofs.Each.{length-filter_at_most}
-use Rattle.np_machine.specs.Tables.{is_queued, joined, left, node_in, node_queue, put_node_queue, remove_node}
+use Rattle.np_changes.specs.declared.changes.Changes.{Changes}
+use Rattle.np_changes.specs.declared.changes.Growth.{Growth}
+use Rattle.np_laws.specs.Parts.{IsNumbered}
+use Rattle.np_changes.specs.declared.changes.Maker.{Maker}
+use Rattle.np_changes.specs.declared.changes.NodesChange.{NodesChange}
+use Rattle.np_changes.specs.declared.changes.SessionsChange.{SessionsChange}
 use Rattle.np_changes.specs.declared.changes.Growth.TheVariants as grow
 use Rattle.np_changes.specs.declared.changes.NodesChange.TheVariants as nodes
 use Rattle.np_changes.specs.declared.changes.SessionsChange.TheVariants as sessions
 use Rattle.np_laws.proofs.Lookups.{node_in-later, node_in-queue, node_in-allocated, node_queue-allocated, node_queue-freed, node_queue-in_use, node_queue-left, node_queue-new, node_queue-nowhere, node_queue-other, node_queue-put, node_queue-queue, node_queue-remove, node_queue-removed, same_node-is}
 use Rattle.np_laws.proofs.Numbered.{grown-numbered}
 use Rattle.np_laws.proofs.Runs.{invariant-Runs}
+use Rattle.np_changes.proofs.Shaping.{length-left}
 
 -- ## one queue
 
@@ -24,9 +28,6 @@ joined-length session queue = by (is_queued session queue) where
   by : (b : Bool) → IsWithin (suc (length queue)) (cond b queue (queue ++ session ∷ []))
   by true = omega arith
   by false = omega (arith, length-append queue (session ∷ []))
-
-left-length : (session : SessionId) (queue : List SessionId) → length (left session queue) ≤ length queue
-left-length session queue = length-filter_at_most _ queue
 
 -- ## the queue of a node
 
@@ -52,7 +53,7 @@ join-longer session n0 n rows =
 leave-shorter : (session : SessionId) (n0 n : NodeId) (rows : List NodeEntry) → IsWithin (length (node_queue n rows)) (node_queue n (put_node_queue n0 (left session (node_queue n0 rows)) rows))
 leave-shorter session n0 n rows =
     put-within n0 n (left session (node_queue n0 rows)) rows (length (node_queue n rows))
-    (λ same. subst (λ (x : NodeId). IsWithin (length (node_queue x rows)) (left session (node_queue n0 rows))) same (left-length session (node_queue n0 rows)))
+    (λ same. subst (λ (x : NodeId). IsWithin (length (node_queue x rows)) (left session (node_queue n0 rows))) same (length-left session (node_queue n0 rows)))
     (omega arith)
 
 -- after a node was allocated
@@ -119,7 +120,7 @@ changed-shorter maker tick (nodes.TakeOver numbers) n rows rises = omega (arith,
 ended-shorter : (ended : SessionsChange) (n : NodeId) (rows : List NodeEntry) → IsWithin (length (node_queue n rows)) (node_queue n (nodes_left ended rows))
 ended-shorter sessions.Same n rows = omega arith
 ended-shorter (sessions.Mute session) n rows = omega arith
-ended-shorter (sessions.End session) n rows = omega (arith, ap (λ (queue : List SessionId). length queue) (node_queue-left session n rows), left-length session (node_queue n rows))
+ended-shorter (sessions.End session) n rows = omega (arith, ap (λ (queue : List SessionId). length queue) (node_queue-left session n rows), length-left session (node_queue n rows))
 
 -- ## all of it
 

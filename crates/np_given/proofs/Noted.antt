@@ -1,11 +1,10 @@
 -- the members of groups after a change, from those before it
-use Rattle.std.proofs.Common.{◌≡◌, ◌≤◌, ◌∙◌, Bool, true, false, List, [], ◌∷◌, Option, ℕ, suc, length, refl, sym, ap, subst, arith}
+use Rattle.std.proofs.Common.{◌≡◌, ◌≤◌, ◌∙◌, false, List, [], ◌∷◌, Option, ℕ, suc, length, refl, sym, ap, subst, arith}
 use Rattle.std.specs.Prelude.{map}
-use Rattle.std.specs.Option.{option_map_or}
-use Rattle.std.specs.List.{AllByRecursion, list_any}
+use Rattle.np_changes.specs.Prelude.{AllByRecursion, Configuration, IsReached, NodeId, SessionId, State, changed, list_any, node_in, node_queue, option_map_or}
 use Rattle.std.proofs.lemmas.List.{take_all}
 use Rattle.np_lists.proofs.Each.{all-weaker}
-use Rattle.np_keys.specs.Prelude.{Changes, Configuration, IsReached, NodeId, SessionId, State, changed, node_in, node_queue}
+use Rattle.np_changes.specs.declared.changes.Changes.{Changes}
 use Rattle.np_groups.specs.declared.groups.Group.{Group}
 use Rattle.np_groups.specs.declared.groups.Member.{Member}
 use Rattle.np_keys.specs.Keys.{is_node_before, same_node, node_transitive, node_one_way, node_some_way, node_equal}
@@ -19,11 +18,7 @@ use Rattle.np_given.specs.Prepared.{IsPrepared, PreparedOf, placed_node}
 use Rattle.np_given.specs.Within.{groups_within}
 use Rattle.np_given.proofs.Untouched.{given-untouched}
 use Rattle.np_given.proofs.Longer.{queue-longer}
-
--- what is not listed is not touched
-untouched : (a b : Bool) → (a ≡ true → b ≡ true) → b ≡ false → a ≡ false
-untouched true b all out = let is : b ≡ true = all refl in cc
-untouched false b all out = refl
+use Rattle.np_lists.proofs.Plain.{untouched}
 
 -- the whole queue is read if there are so many sessions at most
 pub whole : (c : Configuration) (s : State) (most : ℕ) (n : NodeId) → length (node_queue n s.nodes) ≤ most → groups_within c s most n ≡ groups_of_node c s n

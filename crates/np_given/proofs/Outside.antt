@@ -1,10 +1,9 @@
 -- the nodes that a session has yet to lock and those that it is to leave are ids outside a group
 use Rattle.std.proofs.Common.{◌≡◌, ◌∙◌, ℕ, Bool, true, false, cond, not, List, [], ◌∷◌, map, Option, Some, None, refl, sym, ap, subst}
 use Rattle.std.specs.Prelude.{◌==◌, ◌&&◌, ◌||◌, filter, find, slice_get}
-use Rattle.std.specs.Option.{option_map, option_map_or}
-use Rattle.std.specs.List.{AllByRecursion, list_any}
+use Rattle.np_changes.specs.Prelude.{AllByRecursion, Configuration, NodeEntry, NodeId, NodeRecord, RequesterId, Rises, SessionId, State, is_queued, list_any, node_entry, node_queue, option_map, option_map_or}
 use Rattle.std.proofs.lemmas.Option.{slice_get-map}
-use Rattle.np_keys.specs.Prelude.{Configuration, NodeEntry, NodeId, NodeRecord, RequesterId, Rises, SessionId, State, is_queued, node_entry, node_queue, queued_nodes}
+use Rattle.np_look.specs.Readers.{queued_nodes}
 use Rattle.np_lists.proofs.Each.{all-weaker}
 use Rattle.np_lists.proofs.RisingLemmas.{Rises-filter}
 use Rattle.np_groups.specs.declared.groups.Group.{Group}
@@ -14,10 +13,12 @@ use Rattle.np_groups.proofs.Ids.{ids-rise, ids-has, same-list}
 use Rattle.np_keys.specs.Keys.{same_node, is_node_before, node_equal, node_one_way}
 use Rattle.np_look.specs.Given.{given_to, is_given_to, is_to_leave, is_to_lock, node_to_leave, node_to_lock}
 use Rattle.np_groups.specs.Moves.{is_among}
-use Rattle.np_classes.proofs.Apart.{node-apart, same_node-self}
+use Rattle.np_classes.proofs.Apart.{same_node-self}
 use Rattle.np_classes.proofs.Rows.{ids-in_order, row-passes, rows-found}
 use Rattle.np_groups.specs.Ranks.{outside}
 use Rattle.np_given.specs.Given.{AreGivenGroups, given_group, given_groups, groups_by, locked_group}
+use Rattle.np_lists.proofs.Plain.{or_false}
+use Rattle.np_laws.proofs.Lookups.{node-apart}
 
 -- ## the groups of one node
 
@@ -37,10 +38,6 @@ some-locked q p x (y ∷ queue) = ap (λ (b : Bool). ((p.0 == q.0) && (y.0 == x.
   by : (b : Bool) → ((b && (y.0 == x.0)) || (b && is_queued x queue)) ≡ (b && ((y.0 == x.0) || is_queued x queue))
   by true = refl
   by false = refl
-
-or_false : (a : Bool) → (a || false) ≡ a
-or_false true = refl
-or_false false = refl
 
 module _ (c : Configuration) (s : State) (q : RequesterId) where
   -- the node is in the group of the requester if it was given to it

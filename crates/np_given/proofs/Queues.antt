@@ -1,18 +1,13 @@
 -- a queue that is read by place, up to its end or to a bound
-use Rattle.std.proofs.Common.{◌≡◌, ◌∙◌, ◌≤◌, ◌+◌, ℕ, zero, suc, List, [], ◌∷◌, ◌++◌, length, take, Option, None, Some, sym, ap, arith, append_assoc}
+use Rattle.std.proofs.Common.{◌≡◌, ◌∙◌, ◌≤◌, ◌+◌, ℕ, zero, suc, List, [], ◌∷◌, ◌++◌, take, Option, None, Some, sym, ap, arith, append_assoc}
 use Rattle.std.specs.Prelude.{slice_get}
 use Rattle.std.proofs.lemmas.List.{map-append, take_all}
 use Rattle.np_look.proofs.Walks.{take_there}
-use Rattle.np_keys.specs.Prelude.{RequesterId, SessionId}
+use Rattle.np_changes.specs.Prelude.{RequesterId, SessionId}
 use Rattle.np_groups.specs.declared.groups.Group.{Group}
 use Rattle.np_given.specs.Given.{locked_group}
 use Rattle.np_given.specs.Within.{locked_groups}
-
--- past the end there is none
-pub past-end : {X : Type 0} (xs : List X) (i : ℕ) → slice_get xs i ≡ None → length xs ≤ i
-past-end [] i is = omega arith
-past-end (x ∷ xs) zero is = absurd cc
-past-end (x ∷ xs) (suc i) is = let rest = past-end xs i is in omega (arith, rest)
+use Rattle.np_lists.proofs.Plain.{past-end}
 
 module _ (q : RequesterId) (queue : List SessionId) (at : ℕ) where
   -- one session more is listed

@@ -1,11 +1,9 @@
 -- the members of groups, made node by node
 use Rattle.std.proofs.Common.{◌≡◌, ◌∙◌, ℕ, Bool, true, false, cond, List, [], ◌∷◌, Option, None, Some, length, take, refl, sym, ap, subst}
 use Rattle.std.specs.Prelude.{◌||◌, map}
-use Rattle.std.specs.Option.{option_map, option_map_or}
-use Rattle.std.specs.List.{list_any}
+use Rattle.np_changes.specs.Prelude.{Configuration, IsReached, NodeEntry, NodeId, State, list_any, node_entry, node_queue, option_map, option_map_or}
 use Rattle.std.proofs.lemmas.Simd.{map-map}
 use Rattle.std.proofs.Math.Seq.{take-length}
-use Rattle.np_keys.specs.Prelude.{Configuration, IsReached, NodeEntry, NodeId, State, node_entry, node_queue}
 use Rattle.np_groups.specs.declared.groups.Group.{Group}
 use Rattle.np_groups.specs.declared.groups.Member.{Member}
 use Rattle.np_groups.specs.Groups.{has_member}

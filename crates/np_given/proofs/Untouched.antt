@@ -1,39 +1,34 @@
 -- a node that the changes of an event do not touch stays in the groups that it was in
-use Rattle.std.proofs.Common.{◌≡◌, ◌≢◌, ◌∙◌, ℕ, zero, suc, Bool, true, false, cond, List, [], ◌∷◌, Option, None, Some, refl, sym, ap}
-use Rattle.std.specs.Prelude.{◌||◌, option_and_then, slice_get, slice_set}
-use Rattle.std.specs.List.{list_any}
-use Rattle.std.specs.Option.{option_map, option_map_or}
+use Rattle.std.proofs.Common.{◌≡◌, ◌≢◌, ◌∙◌, ℕ, zero, suc, Bool, true, false, cond, List, [], Option, None, Some, refl, sym, ap}
+use Rattle.std.specs.Prelude.{◌||◌, option_and_then, slice_get}
+use Rattle.np_changes.specs.Prelude.{Configuration, IsReached, JobId, JobRecord, NodeId, NodeRecord, RequestEntry, RequestId, RequestRecord, RequestState, RequesterId, SessionId, State, changed, edited, grown, is_asked, is_fulfilled, is_request, jobs_changed, list_any, node_in, node_queue, option_map, option_map_or, request_in, requests_changed, same_request, with_mark}
 use Rattle.std.proofs.lemmas.Bool.{or_parts}
-use Rattle.np_keys.specs.Prelude.{Changes, Configuration, IsReached, JobId, JobRecord, JobsChange, Maker, NodeId, NodeRecord, RequestEdit, RequestEntry, RequestId, RequestRecord, RequesterId, RequestsChange, SessionId, State, changed, edited, grown, is_request, jobs_changed, node_in, node_queue, request_in, requests_changed, same_request, with_mark}
-use Rattle.np_text.specs.declared.word.RequestState.{RequestState}
+use Rattle.np_changes.specs.declared.changes.Changes.{Changes}
+use Rattle.np_changes.specs.declared.changes.JobsChange.{JobsChange}
+use Rattle.np_changes.specs.declared.changes.Maker.{Maker}
+use Rattle.np_changes.specs.declared.changes.RequestEdit.{RequestEdit}
+use Rattle.np_changes.specs.declared.changes.RequestsChange.{RequestsChange}
 use Rattle.np_lists.proofs.ChangeLemmas.{kept-change_at}
 use Rattle.np_keys.specs.Keys.{same_node}
-use Rattle.np_machine.specs.Kinds.{is_asked, is_fulfilled}
 use Rattle.np_changes.specs.declared.changes.JobsChange.TheVariants as jobs
 use Rattle.np_changes.specs.declared.changes.RequestEdit.TheVariants as edit
 use Rattle.np_changes.specs.declared.changes.RequestsChange.TheVariants as requests
 use Rattle.np_laws.specs.Parts.{Invariant, IsListed}
 use Rattle.np_laws.proofs.After.{calm-request, found-grown, left-request}
 use Rattle.np_laws.proofs.JobsLater.{jobs-grown}
-use Rattle.np_laws.proofs.Lookups.{request_in-edit, request_in-remove, same_request-is, same_request-self}
+use Rattle.np_laws.proofs.Lookups.{request_in-edit, request_in-remove}
 use Rattle.np_laws.proofs.Runs.{invariant-Runs}
 use Rattle.np_look.specs.Given.{asker, given_to, handed_to}
 use Rattle.np_classes.specs.Touched.{changes_node, ends_at_node, grows_node, touches_node, unclaims_node}
 use Rattle.np_classes.proofs.Untouched.{node-untouched}
 use Rattle.np_given.specs.Given.{given_groups, groups_by, groups_of_node}
 use Rattle.np_given.specs.Listed.{changes_state, nodes_by_job, nodes_by_state, nodes_of_job, nodes_of_request, touches_given}
+use Rattle.np_lists.proofs.Plain.{set-other}
+use Rattle.np_machine.proofs.Ids.{request-equal, request-itself}
 
 -- the node is in the list
 abbrev lists : NodeId → List NodeId → Bool
 lists n nodes = list_any (λ m. same_node m n) nodes
-
--- a put at another place
-set-other : {X : Type 0} (xs : List X) (i j : ℕ) (x : X) → i ≢ j → slice_get (slice_set xs i x) j ≡ slice_get xs j
-set-other [] i j x other = refl
-set-other (z ∷ xs) zero zero x other = absurd (other refl)
-set-other (z ∷ xs) zero (suc j) x other = refl
-set-other (z ∷ xs) (suc i) zero x other = refl
-set-other (z ∷ xs) (suc i) (suc j) x other = set-other xs i j x (λ same. other (ap suc same))
 
 -- ## the request that the node is allocated to
 
@@ -58,7 +53,7 @@ module _ (s : State) (n : NodeId) (r : RequestId) (place : IsListed s n r) where
   edit-calm r0 change q is same out = by (changes_state change) out where
     by : (b : Bool) → lists n (cond b (nodes_of_request s r0) []) ≡ false → b ≡ false
     by true none =
-        let among : lists n (nodes_of_request s r0) ≡ true = ap (λ (x : RequestId). lists n (nodes_of_request s x)) (same_request-is r0 r same) ∙ among-nodes q is in
+        let among : lists n (nodes_of_request s r0) ≡ true = ap (λ (x : RequestId). lists n (nodes_of_request s x)) (request-equal r0 r same) ∙ among-nodes q is in
         absurd cc
     by false none = refl
 
@@ -145,8 +140,8 @@ module _ (c : Configuration) (ch : Changes) (s : State) (n : NodeId) (reached : 
 
       by : (b : Bool) → same_request r0 r ≡ b → b ≡ false
       by true same =
-          let itself : same_request r r ≡ false = ap (λ (x : RequestId). same_request r x) (sym (same_request-is r0 r same)) ∙ claims in
-          let self = same_request-self r in
+          let itself : same_request r r ≡ false = ap (λ (x : RequestId). same_request r x) (sym (request-equal r0 r same)) ∙ claims in
+          let self = request-itself r in
           absurd cc
       by false other = refl
 

@@ -1,7 +1,6 @@
 -- the groups of the nodes that were given to requesters, and what a state says of them
 use Rattle.std.specs.Prelude.{◌≡◌, ℕ, List, [], ◌∷◌, map, nat_lt, Option, Some}
-use Rattle.std.specs.Option.{option_map_or}
-use Rattle.np_keys.specs.Prelude.{Configuration, NodeId, NodeRecord, RequesterId, Rises, SessionId, State, node_in, node_queue}
+use Rattle.np_changes.specs.Prelude.{Configuration, NodeId, NodeRecord, RequesterId, Rises, SessionId, State, node_in, node_queue, option_map_or}
 use Rattle.np_groups.specs.declared.groups.Group.{Group}
 use Rattle.np_groups.specs.declared.groups.Member.{Member}
 use Rattle.np_groups.specs.Groups.{has_member, is_member_before}

@@ -1,8 +1,10 @@
 -- which nodes the changes of an event may give to a requester, take from one, or lock
 use Rattle.std.specs.Prelude.{Bool, true, false, ◌||◌, if◌then◌else◌, List, [], slice_get}
-use Rattle.std.specs.List.{list_any}
-use Rattle.std.specs.Option.{option_map_or}
-use Rattle.np_keys.specs.Prelude.{Changes, JobRecord, JobsChange, NodeId, RequestEdit, RequestId, RequestsChange, State, request_in}
+use Rattle.np_changes.specs.Prelude.{JobRecord, NodeId, RequestId, State, list_any, option_map_or, request_in}
+use Rattle.np_changes.specs.declared.changes.Changes.{Changes}
+use Rattle.np_changes.specs.declared.changes.JobsChange.{JobsChange}
+use Rattle.np_changes.specs.declared.changes.RequestEdit.{RequestEdit}
+use Rattle.np_changes.specs.declared.changes.RequestsChange.{RequestsChange}
 use Rattle.np_keys.specs.Keys.{same_node}
 use Rattle.np_changes.specs.declared.changes.JobsChange.TheVariants as jobs
 use Rattle.np_changes.specs.declared.changes.RequestEdit.TheVariants as edit

@@ -1,7 +1,7 @@
 -- what is prepared for the changes of an event
 use Rattle.std.specs.Prelude.{◌≡◌, ◌≤◌, ◌*◌, ℕ, suc, List, true, length, map}
-use Rattle.std.specs.List.{AllByRecursion, list_any}
-use Rattle.np_keys.specs.Prelude.{Changes, Configuration, NodeId, State, node_queue}
+use Rattle.np_changes.specs.Prelude.{AllByRecursion, Configuration, NodeId, State, list_any, node_queue}
+use Rattle.np_changes.specs.declared.changes.Changes.{Changes}
 use Rattle.np_keys.specs.Keys.{same_node}
 use Rattle.np_groups.specs.Moves.{Placed}
 use Rattle.np_given.specs.Given.{GivenOf, groups_of_node}

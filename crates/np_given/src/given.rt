@@ -1,8 +1,8 @@
 //! The nodes that were given to requesters, kept as events change the state.
 
 ghost use Rattle.std.specs.Prelude.{◌≡◌, true, IfOk};
-ghost use Rattle.std.specs.List.{list_any};
-ghost use Rattle.np_keys.specs.Prelude.{Changes, Configuration, Fits, IsPlanned, IsReached, State, changed};
+ghost use Rattle.np_changes.specs.Prelude.{Configuration, Fits, IsPlanned, IsReached, State, changed, list_any};
+ghost use Rattle.np_changes.specs.declared.changes.Changes.{Changes};
 ghost use Rattle.np_keys.specs.Keys.{same_node};
 ghost use Rattle.np_classes.specs.Touched.{touches_node};
 ghost use Rattle.np_given.specs.Given.{AreGiven};

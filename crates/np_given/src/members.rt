@@ -2,7 +2,7 @@
 
 ghost use Rattle.std.specs.Prelude.{◌≡◌, ◌≤◌, ◌+◌, ◌*◌, [], suc, IfOk, OnOk, length, vec_capacity};
 ghost use Rattle.np_keys.specs.Keys.{is_node_before, same_node};
-ghost use Rattle.np_keys.specs.Prelude.{Fits, IsReached};
+ghost use Rattle.np_changes.specs.Prelude.{Fits, IsReached};
 ghost use Rattle.np_groups.specs.Moves.{with_all_moved, with_groups, with_moved};
 ghost use Rattle.np_given.specs.Given.{AreGivenGroups, groups_of_node};
 ghost use Rattle.np_given.specs.Within.{groups_within};

@@ -1,7 +1,7 @@
 //! The groups that a node is in.
 
 ghost use Rattle.std.specs.Prelude.{◌≡◌, ◌≤◌, ◌<◌, ◌+◌, ◌++◌, suc, IfOk, OnErr, OnOk, length, take, vec_capacity, vec_len};
-ghost use Rattle.np_keys.specs.Prelude.{Fits, most, node_queue};
+ghost use Rattle.np_changes.specs.Prelude.{Fits, most, node_queue};
 ghost use Rattle.np_given.specs.Prepared.{placed_node};
 ghost use Rattle.np_given.specs.Within.{groups_within, locked_groups};
 
@@ -20,7 +20,7 @@ pub(crate) struct PastNode {
 }
 
 impl Model for PastNode {
-    ghost use Rattle.np_keys.specs.Prelude.{NodeId};
+    ghost use Rattle.np_changes.specs.Prelude.{NodeId};
     ghost use Rattle.np_groups.specs.Moves.{Placed};
 
     ghost Value = { Placed NodeId };

@@ -1,7 +1,8 @@
 //! What the groups answer.
 
 ghost use Rattle.std.specs.Prelude.{◌≡◌};
-ghost use Rattle.np_keys.specs.Prelude.{Configuration, State, queued_nodes};
+ghost use Rattle.np_changes.specs.Prelude.{Configuration, State};
+ghost use Rattle.np_look.specs.Readers.{queued_nodes};
 ghost use Rattle.np_look.specs.Given.{node_to_leave, node_to_lock};
 ghost use Rattle.np_given.specs.Given.{AreGiven};
 

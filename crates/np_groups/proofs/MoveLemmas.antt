@@ -9,12 +9,9 @@ use Rattle.np_groups.specs.Groups.{same_group, is_member_before, has_member, wit
 use Rattle.np_groups.specs.Moves.{Placed, is_among, is_place, shift, with_all_moved, with_group, with_groups, with_moved, without_group, without_groups}
 use Rattle.np_groups.proofs.Kept.{has-with, has-without, rises-with, rises-without}
 use Rattle.np_groups.proofs.Order.{group-equal}
+use Rattle.np_lists.proofs.Plain.{and_false}
 
 -- ## truth values
-
-and_false : (a : Bool) → (a && false) ≡ false
-and_false true = refl
-and_false false = refl
 
 -- one group more that is put
 put_more : (s r h : Bool) → ((s && (r && true)) || (s || h)) ≡ ((s && true) || h)

@@ -20,12 +20,6 @@ use Rattle.np_groups.proofs.Ids.{step}
 
 -- ## one member
 
--- where no member is, all are before
-pub none-past : {X : Type 0} (xs : List X) (i : ℕ) → slice_get xs i ≡ None → length xs ≤ i
-none-past [] i none = omega arith
-none-past (x ∷ xs) zero none = absurd cc
-none-past (x ∷ xs) (suc i) none = omega (arith, none-past xs i none)
-
 module _ {K : Type 0} (before same : K → K → Bool)
     (transitive : (a b k : K) → before a b ≡ true → before b k ≡ true → before a k ≡ true)
     (one_way : (a b : K) → before a b ≡ true → before b a ≡ false)

@@ -1,11 +1,9 @@
 -- the least candidate of all lines, and the candidates one after another
 use Rattle.std.proofs.Common.{◌≡◌, ◌∙◌, ◌⊎◌, inl, inr, ℕ, zero, suc, ◌-◌, ◌^◌, ◌<◌, ◌≤◌, Bool, true, false, List, [], ◌∷◌, Option, Some, None, refl, sym, ap, subst, arith}
 use Rattle.std.specs.Prelude.{◌==◌, ◌&&◌, find, nat_lt, slice_get}
-use Rattle.std.specs.Option.{option_map_or}
+use Rattle.np_changes.specs.Prelude.{Configuration, PoolId, Rises, State, option_map_or}
 use Rattle.std.proofs.lemmas.Bool.Decides.{nat_tests}
-use Rattle.np_keys.specs.Prelude.{Configuration, PoolId, Rises, State}
 use Rattle.np_lists.proofs.FoundLemmas.{find-passes}
-use Rattle.np_look.proofs.Placed.{there}
 use Rattle.np_groups.specs.declared.groups.Member.{Member}
 use Rattle.np_open.specs.declared.ranks.Rank.{Rank}
 use Rattle.np_open.specs.Open.{AreOpen, IsLineFrom, OpenOf, first_line, line_after, ranks_of}
@@ -16,6 +14,7 @@ use Rattle.np_index.specs.Candidates.{candidate_ranks, earlier_rank, is_past, ne
 use Rattle.np_index.proofs.CandidateLemmas.{candidate-line, candidates-rise, line-candidate}
 use Rattle.np_index.proofs.WalkLemmas.{passes, takes}
 use Rattle.np_index.proofs.Firsts.{beats, earlier-is, find-always, find-least, find-next, find-none, found-least, found-there, has, is-beaten, none-found, stays-beaten}
+use Rattle.np_lists.proofs.Plain.{drop-there}
 
 -- ## the least of all lines
 
@@ -34,7 +33,7 @@ left-out : (members : List (Member Rank)) (start : ℕ) (next : Option ℕ) → 
 left-out members start None from line low done = from line low
 left-out members start (Some next) from line low done = from.none_before line low done
 
--- so none is there
+-- so none is drop-there
 none-there : (members : List (Member Rank)) (line : ℕ) (x : Rank) → ranks_of line members ≡ [] → has x (ranks_of line members) ≡ true → ⊥
 none-there members line x none is = let out : has x [] ≡ true = subst (λ (xs : List Rank). has x xs ≡ true) none is in absurd cc
 
@@ -56,8 +55,8 @@ module _ (test : Rank → Bool) (members : List (Member Rank)) where
     one-of : (b : Rank) → (best ≡ Some b) ⊎ (found ≡ Some b) → (n : ℕ) × (has b (ranks_of n members) ≡ true) × (test b ≡ true)
     one-of b (inl old) = was.one b old
     one-of b (inr new) =
-        let there : find test (ranks_of line members) ≡ Some b = sym is ∙ new in
-        (line, found-there test (ranks_of line members) b there, find-passes test (ranks_of line members) b there)
+        let drop-there : find test (ranks_of line members) ≡ Some b = sym is ∙ new in
+        (line, found-there test (ranks_of line members) b drop-there, find-passes test (ranks_of line members) b drop-there)
 
     cases : (other : ℕ) → (other < line) ⊎ ((other ≡ line) ⊎ (suc line ≤ other))
     cases other = by (nat_lt other line) refl (other == line) refl where
@@ -78,14 +77,14 @@ module _ (test : Rank → Bool) (members : List (Member Rank)) where
     by other done x that ok (inr (inl same)) = here found is x (subst (λ (n : ℕ). has x (ranks_of n members) ≡ true) same that) ok
     by other done x that ok (inr (inr more)) = absurd (none-there members other x (left-out members (suc line) next from other more done) that)
 
--- how far the next line is from the greatest number of a line, none if there is no next
+-- how far the next line is from the greatest number of a line, none if drop-there is no next
 abbrev pub lines_left : Option ℕ → ℕ
 lines_left next = option_map_or (λ line. 2 ^ 64 - line) next 0
 
 -- ## the candidates
 
 module _ (c : Configuration) (s : State) (p : PoolId) (kept : OpenOf) (are : AreOpen c s kept) where
-  -- before the first line there is no best
+  -- before the first line drop-there is no best
   pub best-begins : (given : Option Rank) (next : Option ℕ) → next ≡ first_line kept.members → IsBest (passes c s p given) kept.members next None
   best-begins given next is = begins-so (passes c s p given) kept.members next (subst (IsLineFrom kept.members 0) (sym is) (first-line c s kept are))
 
@@ -93,7 +92,7 @@ module _ (c : Configuration) (s : State) (p : PoolId) (kept : OpenOf) (are : Are
     from : IsLineFrom kept.members (suc line) next
     from = subst (IsLineFrom kept.members (suc line)) (sym is) (next-line c s kept are line)
 
-    -- a line more, and the best is the earlier of the best so far and of what was found there
+    -- a line more, and the best is the earlier of the best so far and of what was found drop-there
     pub best-next : (given best found : Option Rank) → found ≡ earlier_rank best (next_among c s p given (ranks_of line kept.members)) → IsBest (passes c s p given) kept.members now best
         → IsBest (passes c s p given) kept.members next found
     best-next given best found earlier was =
@@ -112,10 +111,10 @@ module _ (c : Configuration) (s : State) (p : PoolId) (kept : OpenOf) (are : Are
   best-first : (given best : Option Rank) → IsBest (passes c s p given) kept.members None best → best ≡ find (is_past given) (candidate_ranks c s p)
   best-first given None is = sym (find-none (is_past given) (candidate_ranks c s p) none) where
     none : (y : Rank) → has y (candidate_ranks c s p) ≡ true → is_past given y ≡ false
-    none y there = by (is_past given y) refl where
+    none y drop-there = by (is_past given y) refl where
       by : (b : Bool) → is_past given y ≡ b → b ≡ false
       by true past =
-          let at = candidate-line c s p kept are y there in
+          let at = candidate-line c s p kept are y drop-there in
           let ok : (is_past given y && takes c s p y) ≡ true = rw (past, at.2) refl in
           let no : true ≡ false = is.least at.0 tt y at.1 ok in
           absurd cc
@@ -125,7 +124,7 @@ module _ (c : Configuration) (s : State) (p : PoolId) (kept : OpenOf) (are : Are
       sym (find-least (is_past given) (candidate_ranks c s p) b (candidates-rise c s p are.once)
       (line-candidate c s p kept are b at.0 at.1 (second (is_past given b) (takes c s p b) at.2))
       (first (is_past given b) (takes c s p b) at.2)
-      (λ y there past. let other = candidate-line c s p kept are y there in let ok : (is_past given y && takes c s p y) ≡ true = rw (past, other.2) refl in is.least other.0 tt y other.1 ok))
+      (λ y drop-there past. let other = candidate-line c s p kept are y drop-there in let ok : (is_past given y && takes c s p y) ≡ true = rw (past, other.2) refl in is.least other.0 tt y other.1 ok))
     where
       first : (a b : Bool) → (a && b) ≡ true → a ≡ true
       first true b all = refl
@@ -155,7 +154,7 @@ module _ (c : Configuration) (s : State) (p : PoolId) where
   best-at kept are place given best next end before is =
       best-first c s p kept are given best (subst (λ (o : Option ℕ). IsBest (passes c s p given) kept.members o best) end is) ∙ first-at kept are place given before
 
--- where there is none, there is none later
+-- where drop-there is none, drop-there is none later
 pub none-on : {X : Type 0} (xs : List X) (i j : ℕ) → slice_get xs i ≡ None → i ≤ j → slice_get xs j ≡ None
 none-on [] i j none low = refl
 none-on (x ∷ xs) zero j none low = absurd cc

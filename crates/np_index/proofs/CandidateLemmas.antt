@@ -2,17 +2,12 @@
 -- lines' ranks that the launcher may take up
 use Rattle.std.proofs.Common.{◌≡◌, ◌∙◌, ℕ, Bool, true, false, cond, List, [], ◌∷◌, Option, Some, None, not, refl, sym, ap, arith}
 use Rattle.std.specs.Prelude.{◌==◌, ◌&&◌, ◌||◌, IfSome, filter, fold, is_none, map, slice_get}
-use Rattle.std.specs.List.{AllByRecursion, list_any}
-use Rattle.std.specs.Option.{option_map, option_map_or}
+use Rattle.np_changes.specs.Prelude.{AllByRecursion, Configuration, PoolId, RequestEntry, Rises, State, blocking, comes_before, earlier, first_of, holder, insert_before, is_candidate, is_declined_by, is_id_before, is_pinned_away, is_requested, least, list_any, option_map, option_map_or, request_entry, same_request}
 use Rattle.std.proofs.lemmas.Bool.Decides.{nat_tests}
 use Rattle.std.proofs.lemmas.Option.{slice_get-map}
-use Rattle.np_keys.specs.Prelude.{Configuration, PoolId, RequestEntry, Rises, State, holder, insert_before, is_requested, request_entry, same_request}
 use Rattle.np_lists.proofs.Each.{all-weaker, all-insert_before}
 use Rattle.np_lists.proofs.FilterLemmas.{list_any-insert_before}
 use Rattle.np_lists.proofs.RisingLemmas.{Rises-filter}
-use Rattle.np_machine.specs.First.{blocking, is_candidate, earlier, least, first_of}
-use Rattle.np_machine.specs.Order.{comes_before, is_declined_by, is_id_before, is_pinned_away}
-use Rattle.np_laws.proofs.Lookups.{same_request-is}
 use Rattle.np_laws.proofs.Rising.{rises-insert_before}
 use Rattle.np_open.specs.declared.ranks.Rank.{Rank}
 use Rattle.np_open.specs.Lines.{line_of}
@@ -20,10 +15,11 @@ use Rattle.np_open.specs.Moves.{rank_of}
 use Rattle.np_open.specs.Open.{AreOpen, OpenOf, is_requested_at, ranks_of}
 use Rattle.np_open.proofs.OpenLemmas.{ranks-are, waits-there}
 use Rattle.np_open.specs.Ranks.{is_rank_before, same_rank, rank_transitive, rank_one_way, rank_equal}
-use Rattle.np_classes.proofs.Apart.{request-apart}
 use Rattle.np_classes.proofs.Rows.{ids-in_order, row-passes}
 use Rattle.np_index.proofs.Firsts.{has}
 use Rattle.np_index.specs.Candidates.{in_order, candidate_of, candidate_ranks, may_take_up}
+use Rattle.np_machine.proofs.Ids.{request-equal}
+use Rattle.np_laws.proofs.Lookups.{request-apart}
 
 -- ## entries in order
 
@@ -156,7 +152,7 @@ module _ (test : RequestEntry → Bool) where
         has-ranks x (in_order (filter test es))
         ∙ any-in_order (λ e. same_rank (rank e) x) (filter test es)
         ∙ by-ids x es
-        ∙ row-passes is_id_before same_request (λ (e : RequestEntry). e.id) same_request-is request-apart (fits x) x.request es once
+        ∙ row-passes is_id_before same_request (λ (e : RequestEntry). e.id) request-equal request-apart (fits x) x.request es once
 
 -- ## the candidates
 

@@ -1,12 +1,10 @@
 -- the first rank that passes, of ranks in order, and the earlier of two
-use Rattle.std.proofs.Common.{◌≡◌, ◌∙◌, ◌⊎◌, inl, inr, ℕ, zero, suc, ◌<◌, Bool, true, false, cond, List, [], ◌∷◌, length, drop, Option, Some, None, not, refl, sym, ap, subst, arith}
+use Rattle.std.proofs.Common.{◌≡◌, ◌∙◌, ◌⊎◌, inl, inr, ℕ, zero, suc, Bool, true, false, cond, List, [], ◌∷◌, length, drop, Option, Some, None, not, refl, sym, ap, subst, arith}
 use Rattle.std.specs.Prelude.{◌&&◌, ◌||◌, filter, find, slice_get}
-use Rattle.std.specs.List.{AllByRecursion, count_by, list_any}
-use Rattle.std.specs.Option.{option_map_or}
+use Rattle.np_changes.specs.Prelude.{AllByRecursion, Rises, count_by, list_any, option_map_or}
 use Rattle.std.proofs.lemmas.Bool.{false_from_ne_true}
 use Rattle.std.proofs.lemmas.Bool.Decides.{nat_tests}
 use Rattle.std.proofs.lemmas.List.Sums.{length-filter}
-use Rattle.np_lists.specs.Rising.{Rises}
 use Rattle.np_lists.proofs.Each.{all-weaker}
 use Rattle.np_open.specs.declared.ranks.Rank.{Rank}
 use Rattle.np_open.specs.Ranks.{is_rank_before, rank_equal, rank_one_way, rank_transitive, same_rank}
@@ -27,19 +25,6 @@ find-filtered {X} q (x ∷ xs) = by (q x) (find-filtered q xs) where
 pub find-always : {X : Type 0} (q : X → Bool) (xs : List X) → ((x : X) → q x ≡ true) → find q xs ≡ slice_get xs 0
 find-always q [] all = refl
 find-always q (x ∷ xs) all = rw (all x) refl
-
--- past the end there is nothing
-pub drop-none : {X : Type 0} (xs : List X) (at : ℕ) → slice_get xs at ≡ None → drop at xs ≡ []
-drop-none [] zero none = refl
-drop-none [] (suc at) none = refl
-drop-none (x ∷ xs) zero none = absurd cc
-drop-none (x ∷ xs) (suc at) none = drop-none xs at none
-
--- before the end there is something
-pub some-within : {X : Type 0} (xs : List X) (at : ℕ) → at < length xs → slice_get xs at ≡ None → ⊥
-some-within [] at within none = omega arith
-some-within (x ∷ xs) zero within none = absurd cc
-some-within (x ∷ xs) (suc at) within none = some-within xs at (omega arith) none
 
 -- from a place on a list in order is in order
 pub rises-drop : {X : Type 0} (before : X → X → Bool) (xs : List X) (at : ℕ) → Rises before xs → Rises before (drop at xs)

@@ -1,14 +1,13 @@
 -- parts of an index that stay are those of the same state
 use Rattle.std.proofs.Common.{◌≡◌, subst, sym}
-use Rattle.np_keys.specs.Prelude.{Changes, Configuration, SessionId, State, changed}
+use Rattle.np_changes.specs.declared.changes.Changes.{Changes}
+use Rattle.np_changes.specs.Prelude.{Configuration, State, changed}
 use Rattle.np_changes.specs.declared.changes.SessionsChange.TheVariants as sessions
-use Rattle.np_awaited.specs.Awaited.{OthersStay}
+use Rattle.np_counts.specs.Awaited.{OthersStay}
 use Rattle.np_classes.specs.Prepared.{TouchedOf, IsPrepared as AreTouchedOf}
 use Rattle.np_classes.proofs.Noted.{record-stays}
 use Rattle.np_open.specs.Open.{AreOpen, OpenOf}
 use Rattle.np_active.specs.Active.{ActiveOf, AreActive, AreJobGroups, AreSessionGroups}
-use Rattle.np_index.specs.Index.{IndexParts, IsIndexOf}
-use Rattle.np_index.specs.Prepared.{IsPreparedFor, PreparedOf}
 
 -- where the members and the lines stay, they are those of the same state
 pub open-same : (c : Configuration) (s : State) (old new : OpenOf) → new.members ≡ old.members → new.lines ≡ old.lines → AreOpen c s old → AreOpen c s new
@@ -28,15 +27,4 @@ pub others-stay : (c : Configuration) (s : State) (ch : Changes) (touched : Touc
 others-stay c s ch touched is = record {
   once = is.once;
   same = record-stays c s ch touched is;
-}
-
--- where a session ends, an index that is prepared is still that of the state
-pub prepared-ends : (c : Configuration) (s : State) (ch : Changes) (prepared : PreparedOf) (index : IndexParts) (session : SessionId) → ch.sessions ≡ sessions.End session → IsPreparedFor c s ch prepared index → IsIndexOf c s index
-prepared-ends c s ch prepared index session ending is = record {
-  lookups = is.ends session ending;
-  classes = is.classes;
-  awaited = is.awaited;
-  requested = is.requested;
-  active = is.active;
-  given = is.given;
 }

@@ -1,22 +1,19 @@
 -- the walk over the ranks of a line
 use Rattle.std.proofs.Common.{◌≡◌, ◌∙◌, ℕ, suc, ◌+◌, Bool, true, false, cond, List, ◌∷◌, drop, Option, Some, None, not, refl, sym, ap, subst, arith}
 use Rattle.std.specs.Prelude.{◌&&◌, filter, is_none, is_some, option_and_then, slice_get}
-use Rattle.std.specs.List.{AllByRecursion, count_by}
-use Rattle.std.specs.Option.{option_map, option_map_or}
-use Rattle.np_keys.specs.Prelude.{Asked, Configuration, PoolId, RequestEntry, RequestId, RequestRecord, Rises, State, TenantId, request_entry, request_in}
+use Rattle.np_changes.specs.Prelude.{AllByRecursion, Configuration, PoolId, RequestEntry, RequestId, RequestRecord, Rises, State, TenantId, asked_of, blocking, count_by, is_candidate, is_open_to, new_record, option_map, option_map_or, request_entry, request_in}
+use Rattle.np_changes.specs.declared.asked.Asked.{Asked}
 use Rattle.np_lists.proofs.Each.{all-at, all-filter, all-from_at, all-weaker}
 use Rattle.np_lists.proofs.FilterLemmas.{filter-nothing}
-use Rattle.np_look.proofs.Placed.{there}
 use Rattle.np_groups.specs.declared.groups.Member.{Member}
-use Rattle.np_machine.specs.First.{blocking, is_candidate, is_open_to}
-use Rattle.np_changes.specs.Asked.{asked_of, new_record}
 use Rattle.np_open.specs.declared.ranks.Rank.{Rank}
 use Rattle.np_open.specs.Open.{AreOpen, IsOpenFrom, IsWaiting, OpenOf, is_closed_rank, ranks_of}
 use Rattle.np_open.specs.Ranks.{is_rank_before}
 use Rattle.np_open.proofs.LineLemmas.{line-blocks}
 use Rattle.np_open.proofs.OpenLemmas.{closed-shut, filter-open_from, rank-waits, ranks-are}
 use Rattle.np_index.specs.Candidates.{earlier_rank, is_past, may_take_up, next_among, open_record}
-use Rattle.np_index.proofs.Firsts.{after-from, beats, beats-later, drop-none, earlier-first, earlier-none, earlier-stays, filter-after, find-filtered, rises-drop}
+use Rattle.np_index.proofs.Firsts.{after-from, beats, beats-later, earlier-first, earlier-none, earlier-stays, filter-after, find-filtered, rises-drop}
+use Rattle.np_lists.proofs.Plain.{drop-there as there, drop-past}
 
 -- ## a request
 
@@ -133,7 +130,7 @@ module _ (c : Configuration) (s : State) (p : PoolId) (kept : OpenOf) (are : Are
       pub walk-ends : (place : ℕ) → slice_get (ranks_of line kept.members) place ≡ None → IsWalked c s p kept.members line given place → best ≡ earlier_rank best (next_among c s p given (ranks_of line kept.members))
       walk-ends place out walked =
           let none : None ≡ next_among c s p given (ranks_of line kept.members) =
-          ap (λ (xs : List Rank). slice_get (filter (takes c s p) xs) 0) (sym (drop-none (ranks_of line kept.members) place out))
+          ap (λ (xs : List Rank). slice_get (filter (takes c s p) xs) 0) (sym (drop-past (ranks_of line kept.members) place out))
           ∙ ap (λ (xs : List Rank). slice_get xs 0) walked
           ∙ sym (find-filtered (passes c s p given) (ranks_of line kept.members)) in
           earlier-none best ∙ ap (earlier_rank best) none

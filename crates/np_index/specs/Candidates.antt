@@ -1,9 +1,6 @@
 -- the requests that a pool's launcher may take up, in the order in which launchers take them up
 use Rattle.std.specs.Prelude.{ℕ, Bool, true, false, ◌&&◌, if◌then◌else◌, List, [], ◌∷◌, Option, Some, None, filter, find, map, option_and_then, slice_get}
-use Rattle.std.specs.Option.{option_map, option_map_or}
-use Rattle.np_keys.specs.Prelude.{Configuration, PoolId, RequestEntry, RequestId, RequestRecord, State, insert_before, request_entry}
-use Rattle.np_machine.specs.First.{is_candidate, is_open_to}
-use Rattle.np_machine.specs.Order.{comes_before}
+use Rattle.np_changes.specs.Prelude.{Configuration, PoolId, RequestEntry, RequestId, RequestRecord, State, comes_before, insert_before, is_candidate, is_open_to, option_map, option_map_or, request_entry}
 use Rattle.np_open.specs.declared.ranks.Rank.{Rank}
 use Rattle.np_open.specs.Moves.{rank_of}
 use Rattle.np_open.specs.Ranks.{is_rank_before}

@@ -1,9 +1,9 @@
 -- what an index has, and when it is the index of a state
 use Rattle.std.specs.Prelude.{List}
-use Rattle.np_keys.specs.Prelude.{Amount, Configuration, State}
+use Rattle.np_changes.specs.Prelude.{Amount, Configuration, State}
 use Rattle.np_lookups.specs.Lookups.{AreLookupsOf, LookupsOf}
 use Rattle.np_classes.specs.Classes.{AreClasses, ClassesOf}
-use Rattle.np_awaited.specs.Awaited.{AreAwaited}
+use Rattle.np_counts.specs.Awaited.{AreAwaited}
 use Rattle.np_open.specs.Open.{AreOpen, OpenOf}
 use Rattle.np_active.specs.Active.{ActiveOf, AreActive}
 use Rattle.np_given.specs.Given.{AreGiven, GivenOf}

@@ -1,13 +1,14 @@
 -- what is prepared of an index before a state changes
 use Rattle.std.specs.Prelude.{◌≡◌, List, Option}
-use Rattle.np_keys.specs.Prelude.{Changes, Configuration, JobId, SessionId, State}
+use Rattle.np_changes.specs.declared.changes.Changes.{Changes}
+use Rattle.np_changes.specs.Prelude.{Configuration, JobId, SessionId, State}
 use Rattle.np_changes.specs.declared.changes.SessionsChange.TheVariants as sessions
 use Rattle.np_lookups.specs.Lookups.{AreLookupsOf}
 use Rattle.np_lookups.specs.Prepared.{PreparedOf as LookupsPrepared, IsPrepared as AreLookupsPrepared}
 use Rattle.np_classes.specs.Classes.{AreClasses}
 use Rattle.np_classes.specs.Prepared.{TouchedOf, IsPrepared as AreTouchedOf, HasRoom as HasRoomForTouched}
-use Rattle.np_awaited.specs.Awaited.{AreAwaited, first_rest}
-use Rattle.np_awaited.specs.declared.awaited.Rest.{Rest}
+use Rattle.np_counts.specs.Awaited.{AreAwaited, first_rest}
+use Rattle.np_counts.specs.declared.awaited.Rest.{Rest}
 use Rattle.np_open.specs.Open.{AreOpen}
 use Rattle.np_open.specs.Prepared.{IsPrepared as AreMovedOf, HasRoom as HasRoomForMoved}
 use Rattle.np_open.specs.declared.moves.Past.{Past}

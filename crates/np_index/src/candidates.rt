@@ -1,18 +1,16 @@
 //! The requests that a pool's launcher may take up, by their order.
 
 ghost use Rattle.std.specs.Prelude.{◌≡◌};
-ghost use Rattle.np_fits.specs.Fits.{Fits};
-ghost use Rattle.np_machine.specs.First.{first_of};
-ghost use Rattle.np_awaited.specs.Awaited.{AreAwaited};
+ghost use Rattle.np_changes.specs.Prelude.{Fits, first_of};
+ghost use Rattle.np_counts.specs.Awaited.{AreAwaited};
 ghost use Rattle.np_classes.specs.Classes.{AreClasses};
 ghost use Rattle.np_open.specs.Open.{AreOpen, ranks_of};
 ghost use Rattle.np_index.specs.Candidates.{candidate_of, earlier_rank, next_among, open_record};
 ghost use Rattle.np_index.specs.Index.{IsIndexOf};
 
 use crate::index::Index;
-use np_awaited::Awaited;
 use np_classes::Classes;
-use np_counts::blocking;
+use np_counts::{Awaited, blocking};
 use np_look::{Rows, asked_of, is_open_to, request_holder};
 use np_open::{ByRank, Open, Rank};
 use np_record::RequestRecord;

@@ -1,15 +1,15 @@
 //! What the changes of an event make of an index.
 
 ghost use Rattle.std.specs.Prelude.{◌≡◌, IfOk, OnErr};
-ghost use Rattle.np_keys.specs.Prelude.{Configuration, Fits, IsPlanned, IsReached, SessionId, State, changed};
+ghost use Rattle.np_changes.specs.Prelude.{Configuration, Fits, IsPlanned, IsReached, SessionId, State, changed};
 ghost use Rattle.np_changes.specs.declared.changes.SessionsChange.TheVariants as sessions;
 ghost use Rattle.np_index.specs.Index.{IsIndexOf};
 ghost use Rattle.np_index.specs.Prepared.{HasRoomFor, IsPreparedFor};
 
 use crate::index::Index;
-use np_awaited::{Rest, first_rest};
 use np_changes::{Changes, SessionsChange};
 use np_classes::Touched;
+use np_counts::{Rest, first_rest};
 use np_look::Rows;
 use np_open::Moved;
 use np_text::{JobId, SessionId};

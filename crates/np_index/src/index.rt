@@ -1,12 +1,7 @@
 //! The index of a state.
 
 ghost use Rattle.std.specs.Prelude.{◌≡◌, ◌<◌, ◌^◌, IfOk, length};
-ghost use Rattle.std.specs.List.{list_any};
-ghost use Rattle.np_keys.specs.Prelude.{Configuration, Fits, IsReached, State, blocking, count_of, new_record, owner_of};
-ghost use Rattle.np_machine.specs.Reasons.{is_paused, is_spare};
-ghost use Rattle.np_machine.specs.Request.{is_spent_min_ready, ready_count};
-ghost use Rattle.np_machine.specs.Semaphore.{has_live_session};
-ghost use Rattle.np_machine.specs.Tenants.{count_of_tenant};
+ghost use Rattle.np_changes.specs.Prelude.{Configuration, Fits, IsReached, State, blocking, count_of, count_of_tenant, has_live_session, is_paused, is_spare, is_spent_min_ready, list_any, new_record, owner_of, ready_count};
 ghost use Rattle.np_look.specs.Jobs.{job_to_acquire, job_to_begin, job_to_finish, job_to_release, job_to_take};
 ghost use Rattle.np_look.specs.Given.{node_to_leave, node_to_lock};
 ghost use Rattle.np_look.specs.Readers.{current_of, first_declined_by_all, first_due, first_mute, first_unheld_pending, free_ready_of, has_request_under_way, pending_requests, queued_nodes, queued_requests, unfinished_of};
@@ -14,9 +9,9 @@ ghost use Rattle.np_index.specs.Index.{IsIndexOf};
 
 use np_active::Active;
 use np_amount::Amount;
-use np_awaited::Awaited;
 use np_changes::Asked;
 use np_classes::Classes;
+use np_counts::Awaited;
 use np_given::Given;
 use np_look::{Rows, UnheldKind};
 use np_lookups::Lookups;

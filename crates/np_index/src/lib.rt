@@ -1,7 +1,7 @@
 //! An index of a state, so that its readers need not search it.
 //!
 //! `Index` has lookups of jobs, queues and owners (np_lookups), groups of nodes and requests
-//! (np_classes), what the pending requests of each tenant still wait for (np_awaited), the requested
+//! (np_classes), what the pending requests of each tenant still wait for (np_counts), the requested
 //! requests in lines of those that are alike, each in the order in which launchers take them up
 //! (np_open), groups of jobs by what is next for them and of sessions (np_active), and the nodes that
 //! were given to each requester (np_given); `specs/Index` says when it is the index of a state. It

@@ -1,25 +1,12 @@
 -- if a node can be cleaned up, so can the one of its kind that is due first
 use Rattle.std.proofs.Common.{◌≡◌, ◌∙◌, ◌≤◌, ℕ, zero, suc, Bool, true, false, Option, Some, None, refl, sym, ap, arith}
 use Rattle.std.specs.Prelude.{◌==◌, ◌&&◌, ◌||◌, filter, if◌then◌else◌, is_none, is_some}
-use Rattle.std.specs.Option.{option_map, option_map_or}
-use Rattle.std.specs.List.{AllByRecursion}
+use Rattle.np_changes.specs.Prelude.{AllByRecursion, Configuration, IsReached, NodeEntry, NodeId, NodeRecord, NodeState, PoolId, RequestId, State, holder, most, node_entry, option_map, option_map_or, standing}
 use Rattle.std.proofs.lemmas.Bool.{and_from, and_parts, or_left, or_right}
 use Rattle.std.proofs.lemmas.Bool.Decides.{nat_tests}
-use Rattle.np_text.specs.declared.id.NodeId.{NodeId}
-use Rattle.np_text.specs.declared.id.PoolId.{PoolId}
-use Rattle.np_text.specs.declared.id.RequestId.{RequestId}
-use Rattle.np_text.specs.declared.word.NodeState.{NodeState}
 use Rattle.np_text.specs.declared.word.NodeState.TheVariants as node_state
 use Rattle.np_lists.proofs.Each.{all-filter_to}
-use Rattle.np_site.specs.Configuration.{Configuration}
-use Rattle.np_record.specs.declared.record.NodeRecord.{NodeRecord}
-use Rattle.np_machine.specs.Entries.{NodeEntry}
-use Rattle.np_machine.specs.Node.{standing}
 use Rattle.np_machine.specs.Reasons.{ready_age, is_past, is_old_ready, is_old_hold, is_paused}
-use Rattle.np_machine.specs.State.{State}
-use Rattle.np_machine.specs.Tables.{holder, node_entry}
-use Rattle.np_changes.specs.Planned.{IsReached}
-use Rattle.np_fits.specs.Fits.{most}
 use Rattle.np_laws.proofs.Ids.{same_pool}
 use Rattle.np_look.specs.Readers.{due_after, due_of, first_due, is_unclaimed, is_unheld, is_unheld_as, same_kind, unheld_kind, unheld_kind_as}
 use Rattle.np_look.specs.declared.asked.UnheldKind.{UnheldKind}

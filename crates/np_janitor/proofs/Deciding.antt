@@ -1,12 +1,6 @@
 -- one request decides whether an event of a kind is useful
 use Rattle.std.proofs.Common.{◌≡◌, ◌∙◌, true, false, Option, Some, None, ap, subst}
-use Rattle.np_text.specs.declared.id.RequestId.{RequestId}
-use Rattle.np_text.specs.declared.id.Role.{Role}
-use Rattle.np_text.specs.declared.id.SessionId.{SessionId}
-use Rattle.np_site.specs.Configuration.{Configuration}
-use Rattle.np_event.specs.declared.event.Event.{Event}
-use Rattle.np_machine.specs.State.{State}
-use Rattle.np_machine.specs.Step.{maker_of}
+use Rattle.np_changes.specs.Prelude.{Configuration, Event, RequestId, Role, SessionId, State, maker_of}
 use Rattle.np_useful.specs.Sessions.{is_current}
 use Rattle.np_useful.specs.Useful.{IsUseful, is_maker_of}
 use Rattle.np_roles.specs.Passing.{passes}

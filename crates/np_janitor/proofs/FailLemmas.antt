@@ -1,24 +1,9 @@
 -- the first request that every registered pool declined decides whether a janitor fails one
 use Rattle.std.proofs.Common.{◌≡◌, Bool, true, false, length, Some, None, Ok, refl, sym, ap, subst}
 use Rattle.std.specs.Prelude.{◌==◌, is_ok}
-use Rattle.std.specs.Option.{option_map}
+use Rattle.np_changes.specs.Prelude.{Configuration, Done, IsReached, Janitor, PoolId, RequestEntry, RequestId, RequestRecord, SessionId, State, is_requested, janitor, judge, option_map, request_entry, request_in, undeclined}
 use Rattle.std.proofs.lemmas.Bool.{and_from, and_parts}
-use Rattle.np_text.specs.declared.id.PoolId.{PoolId}
-use Rattle.np_text.specs.declared.id.RequestId.{RequestId}
-use Rattle.np_text.specs.declared.id.Role.TheVariants.{Janitor}
-use Rattle.np_text.specs.declared.id.SessionId.{SessionId}
-use Rattle.np_site.specs.Configuration.{Configuration}
 use Rattle.np_event.specs.declared.event.Event.TheVariants as ev
-use Rattle.np_event.specs.declared.reply.Done.{Done}
-use Rattle.np_record.specs.declared.record.RequestRecord.{RequestRecord}
-use Rattle.np_machine.specs.Entries.{RequestEntry}
-use Rattle.np_machine.specs.Kinds.{is_requested}
-use Rattle.np_machine.specs.Request.{undeclined}
-use Rattle.np_machine.specs.State.{State}
-use Rattle.np_machine.specs.Step.{judge}
-use Rattle.np_machine.specs.Tables.{request_entry, request_in}
-use Rattle.np_machine.specs.Tests.{janitor}
-use Rattle.np_changes.specs.Planned.{IsReached}
 use Rattle.np_changes.proofs.Tested.{ok-is, on-given, on-found, on-need, on-not}
 use Rattle.np_laws.proofs.Ids.{row-of, kept-is}
 use Rattle.np_look.specs.Readers.{first_declined_by_all, is_declined_by_all}

@@ -1,29 +1,10 @@
 -- if the jobs that are to be finished were tried, no finish is useful
 use Rattle.std.proofs.Common.{◌≡◌, ◌<◌, ℕ, refl, subst, arith, Bool, true, false, Option, Some, None, Ok}
 use Rattle.std.specs.Prelude.{◌==◌, ◌&&◌, ◌||◌, is_some, option_and_then, slice_get}
-use Rattle.std.specs.Option.{option_map, option_map_or}
+use Rattle.np_changes.specs.Prelude.{Configuration, Done, Event, IsSound, Janitor, JobId, JobRecord, Phase, PoolId, REQUESTERS, RequestRecord, Requester, RequesterId, SessionId, State, is_asked, is_failed, is_finishable, is_using, judge, maker, may_finish, option_map, option_map_or, request_in, requester_or_janitor}
 use Rattle.std.proofs.lemmas.Bool.{and_from}
-use Rattle.np_text.specs.declared.limit.TheConstants.{REQUESTERS}
-use Rattle.np_text.specs.declared.id.PoolId.{PoolId}
-use Rattle.np_text.specs.declared.id.JobId.{JobId}
-use Rattle.np_text.specs.declared.id.RequesterId.{RequesterId}
-use Rattle.np_text.specs.declared.id.SessionId.{SessionId}
-use Rattle.np_text.specs.declared.id.Role.TheVariants.{Janitor, Requester}
-use Rattle.np_text.specs.declared.word.Phase.{Phase}
 use Rattle.np_text.specs.declared.word.Phase.TheVariants as phase
-use Rattle.np_site.specs.Configuration.{Configuration}
-use Rattle.np_site.specs.Sound.{IsSound}
-use Rattle.np_record.specs.declared.record.JobRecord.{JobRecord}
-use Rattle.np_record.specs.declared.record.RequestRecord.{RequestRecord}
-use Rattle.np_event.specs.declared.event.Event.{Event}
 use Rattle.np_event.specs.declared.event.Event.TheVariants as ev
-use Rattle.np_event.specs.declared.reply.Done.{Done}
-use Rattle.np_machine.specs.Kinds.{is_asked, is_failed, is_using}
-use Rattle.np_machine.specs.Semaphore.{is_finishable, may_finish, requester_or_janitor}
-use Rattle.np_machine.specs.State.{State}
-use Rattle.np_machine.specs.Step.{judge}
-use Rattle.np_machine.specs.Tables.{request_in}
-use Rattle.np_machine.specs.Tests.{maker}
 use Rattle.np_changes.proofs.Tested.{ok-is, on-given, on-check, on-found, on-need}
 use Rattle.np_look.specs.Readers.{request_state_of}
 use Rattle.np_look.specs.Jobs.{is_job_to_finish, job_to_finish}

@@ -1,23 +1,14 @@
 -- rows by their ids, of which no two are the same
-use Rattle.std.proofs.Common.{◌≡◌, ◌∙◌, ℕ, zero, suc, Bool, true, false, cond, List, [], ◌∷◌, Some, refl, sym, ap, arith}
+use Rattle.std.proofs.Common.{◌≡◌, ◌∙◌, ℕ, zero, suc, Bool, true, false, cond, List, [], ◌∷◌, Some, refl, sym, ap}
 use Rattle.std.specs.Prelude.{find, nat_lt, slice_get, ◌==◌}
-use Rattle.std.specs.List.{AllByRecursion}
+use Rattle.np_changes.specs.Prelude.{AllByRecursion, Configuration, IsReached, NodeEntry, RequestEntry, RequestId, Rises, State, is_id_before, node_entry, request_entry, same_request}
 use Rattle.std.proofs.lemmas.Bool.{eq-eqb}
-use Rattle.std.proofs.lemmas.Bool.Decides.{nat_tests}
-use Rattle.np_text.specs.declared.id.NodeId.{NodeId}
-use Rattle.np_text.specs.declared.id.RequestId.{RequestId}
-use Rattle.np_site.specs.Configuration.{Configuration}
-use Rattle.np_lists.specs.Rising.{Rises}
 use Rattle.np_lists.proofs.Each.{all-at, all-find, all-from_at}
 use Rattle.np_lists.proofs.FoundLemmas.{find-passes}
-use Rattle.np_machine.specs.Entries.{RequestEntry, NodeEntry}
-use Rattle.np_machine.specs.Order.{is_id_before}
-use Rattle.np_machine.specs.State.{State}
-use Rattle.np_machine.specs.Tables.{same_request, request_entry, node_entry}
-use Rattle.np_changes.specs.Planned.{IsReached}
 use Rattle.np_laws.specs.Parts.{IsNumbered}
-use Rattle.np_laws.proofs.Lookups.{same_request-self}
 use Rattle.np_laws.proofs.Runs.{invariant-Runs}
+use Rattle.np_changes.proofs.Facts.{node-apart, request-apart}
+use Rattle.np_machine.proofs.Ids.{request-itself}
 
 -- if one that was found passes another test, there is a first that passes it
 some-by : {X : Type 0} (p q : X → Bool) (x y : X) (xs : List X) (b d : Bool) → p y ≡ d → cond b (Some y) (find q xs) ≡ Some x → p x ≡ true → (find q xs ≡ Some x → (z : X) × (find p xs ≡ Some z)) → (z : X) × (cond d (Some y) (find p xs) ≡ Some z)
@@ -38,12 +29,6 @@ module _ {X : Type 0} (before : X → X → Bool) (p : X → Bool) (x : X) (pass
       let fails : p y ≡ false = earlier y (all-at (λ (z : X). before y z ≡ true) xs i x rises.0 there) in
       rw fails (found-at xs i there rises.1)
 
-node-apart : (a b : NodeId) → nat_lt a.0 b.0 ≡ true → (a.0 == b.0) ≡ false
-node-apart a b order = grind (arith, nat_tests)
-
-request-apart : (a b : RequestId) → is_id_before a b ≡ true → same_request a b ≡ false
-request-apart a b order = grind (arith, nat_tests)
-
 nodes-found : (rows : List NodeEntry) → Rises (λ a b. nat_lt a.id.0 b.id.0) rows → AllByRecursion (λ e. node_entry e.id rows ≡ Some e) rows
 nodes-found rows rise =
     all-from_at (λ (e : NodeEntry). node_entry e.id rows ≡ Some e) rows
@@ -52,7 +37,7 @@ nodes-found rows rise =
 requests-found : (rows : List RequestEntry) → Rises (λ a b. is_id_before a.id b.id) rows → AllByRecursion (λ e. request_entry e.id rows ≡ Some e) rows
 requests-found rows rise =
     all-from_at (λ (e : RequestEntry). request_entry e.id rows ≡ Some e) rows
-    (λ i e there. found-at (λ (a b : RequestEntry). is_id_before a.id b.id) (λ x. same_request x.id e.id) e (same_request-self e.id) (λ y order. request-apart y.id e.id order) rows i there rise)
+    (λ i e there. found-at (λ (a b : RequestEntry). is_id_before a.id b.id) (λ x. same_request x.id e.id) e (request-itself e.id) (λ y order. request-apart y.id e.id order) rows i there rise)
 
 module _ (c : Configuration) (s : State) (reached : IsReached c s) where
   numbered : IsNumbered s

@@ -1,15 +1,9 @@
 -- a janitor's useful events are of the kinds in the order
 use Rattle.std.proofs.Common.{◌≡◌, ◌++◌, true, false, List, [], ◌∷◌, Option, Some, None}
 use Rattle.std.specs.Prelude.{is_some}
-use Rattle.std.specs.List.{AllByRecursion}
-use Rattle.np_text.specs.declared.id.PoolId.{PoolId}
-use Rattle.np_text.specs.declared.id.Role.TheVariants.{Janitor}
-use Rattle.np_site.specs.Configuration.{Configuration}
-use Rattle.np_event.specs.declared.event.Event.{Event}
+use Rattle.np_changes.specs.Prelude.{AllByRecursion, Configuration, Event, Janitor, PoolId, SessionId, State}
 use Rattle.np_event.specs.declared.event.Event.TheVariants as ev
-use Rattle.np_machine.specs.State.{State}
 use Rattle.np_useful.specs.Useful.{IsUseful}
-use Rattle.np_text.specs.declared.id.SessionId.{SessionId}
 use Rattle.np_useful.specs.Sessions.{is_current}
 use Rattle.np_roles.specs.declared.kind.EventKind.{EventKind}
 use Rattle.np_roles.specs.declared.kind.EventKind.TheVariants as kind_of
@@ -19,20 +13,18 @@ use Rattle.np_roles.specs.declared.kind.RequestKind.TheVariants as of_request
 use Rattle.np_roles.specs.Choices.{Chooses, NoneOpens, NoneOf, ChoosesOf, ChoosesOfAny}
 use Rattle.np_roles.proofs.Wholes.{kinds-choose}
 use Rattle.np_janitor.specs.Order.{janitor_order, before_fail, after_release}
-
-none : false ≡ true → ⊥
-none is = cc
+use Rattle.np_lists.proofs.Plain.{false-apart}
 
 module _ (c : Configuration) (s : State) (p : PoolId) (opens : NoneOpens c s (Janitor p)) (all : AllByRecursion (NoneOf c s (Janitor p)) janitor_order) where
   useless : (e : Event) → IsUseful c s (Janitor p) e → ⊥
-  useless ev.Tick useful = none useful.row
+  useless ev.Tick useful = false-apart useful.row
   useless (ev.OpenSession role) useful = opens role useful
-  useless (ev.Crash session) useful = none useful.row
-  useless (ev.Expire session) useful = none useful.row
-  useless (ev.Register session) useful = none useful.row
-  useless (ev.Submit session j) useful = none useful.row
-  useless (ev.Revise session j relative) useful = none useful.row
-  useless (ev.MinReady session l) useful = none useful.row
+  useless (ev.Crash session) useful = false-apart useful.row
+  useless (ev.Expire session) useful = false-apart useful.row
+  useless (ev.Register session) useful = false-apart useful.row
+  useless (ev.Submit session j) useful = false-apart useful.row
+  useless (ev.Revise session j relative) useful = false-apart useful.row
+  useless (ev.MinReady session l) useful = false-apart useful.row
   useless (ev.Gone session n) useful = all.0 session n useful
   useless (ev.FreeNode session n) useful = all.1.0 session n useful
   useless (ev.MarkDeleting session n) useful = all.1.1.0 session n useful
@@ -44,18 +36,18 @@ module _ (c : Configuration) (s : State) (p : PoolId) (opens : NoneOpens c s (Ja
   useless (ev.Release session j) useful = all.1.1.1.1.1.1.1.1.0 session j useful
   useless (ev.LockRequest session r) useful = all.1.1.1.1.1.1.1.1.1.0 session r useful
   useless (ev.LockNode session n) useful = all.1.1.1.1.1.1.1.1.1.1.0 session n useful
-  useless (ev.Accept session r) useful = none useful.row
-  useless (ev.Decline session r why) useful = none useful.row
-  useless (ev.TakeReady session r n) useful = none useful.row
-  useless (ev.Create session r) useful = none useful.row
-  useless (ev.Start session n) useful = none useful.row
-  useless (ev.Done session n attempt o) useful = none useful.row
-  useless (ev.Fulfil session r) useful = none useful.row
-  useless (ev.Acquire session j) useful = none useful.row
-  useless (ev.Take session j) useful = none useful.row
-  useless (ev.EndNode session n as_what) useful = none useful.row
-  useless (ev.Withdraw session j) useful = none useful.row
-  useless (ev.Sweep session n x) useful = none useful.row
+  useless (ev.Accept session r) useful = false-apart useful.row
+  useless (ev.Decline session r why) useful = false-apart useful.row
+  useless (ev.TakeReady session r n) useful = false-apart useful.row
+  useless (ev.Create session r) useful = false-apart useful.row
+  useless (ev.Start session n) useful = false-apart useful.row
+  useless (ev.Done session n attempt o) useful = false-apart useful.row
+  useless (ev.Fulfil session r) useful = false-apart useful.row
+  useless (ev.Acquire session j) useful = false-apart useful.row
+  useless (ev.Take session j) useful = false-apart useful.row
+  useless (ev.EndNode session n as_what) useful = false-apart useful.row
+  useless (ev.Withdraw session j) useful = false-apart useful.row
+  useless (ev.Sweep session n x) useful = false-apart useful.row
 
 pub janitor-law : (c : Configuration) (s : State) (p : PoolId) → NoneOpens c s (Janitor p) → AllByRecursion (NoneOf c s (Janitor p)) janitor_order → (e : Event) → IsUseful c s (Janitor p) e → ⊥
 janitor-law c s p opens all e useful = useless c s p opens all e useful
@@ -63,7 +55,7 @@ janitor-law c s p opens all e useful = useless c s p opens all e useful
 -- ## one search after another
 
 module _ (c : Configuration) (s : State) (p : PoolId) where
-  -- nothing was found among the first kinds, and then none of the others is useful
+  -- nothing was found among the first kinds, and then false-apart of the others is useful
   any-then : (first : List EventKind) (o : Option Event) → is_some o ≡ false → ChoosesOfAny c s (Janitor p) first o → (other : List EventKind) → AllByRecursion (NoneOf c s (Janitor p)) other → AllByRecursion (NoneOf c s (Janitor p)) (first ++ other)
   any-then [] o fails found other rest = rest
   any-then (kind ∷ first) None fails found other rest = (found.0, any-then first None fails found.1 other rest)

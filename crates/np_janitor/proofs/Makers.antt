@@ -1,21 +1,12 @@
 -- a role's current session, and that the machine takes its events for the role's
-use Rattle.std.proofs.Common.{◌≡◌, ◌<◌, ℕ, true, false, Some, Ok, refl, arith}
-use Rattle.std.specs.Prelude.{◌==◌, ◌&&◌, not}
+use Rattle.std.proofs.Common.{◌≡◌, ℕ, true, Some, Ok, refl}
+use Rattle.std.specs.Prelude.{◌&&◌, not}
 use Rattle.std.proofs.lemmas.Bool.{and_parts}
-use Rattle.std.proofs.lemmas.Bool.Decides.{nat_tests}
-use Rattle.np_text.specs.declared.id.Role.{Role}
-use Rattle.np_text.specs.declared.id.SessionId.{SessionId}
-use Rattle.np_machine.specs.declared.state.SessionFacts.{SessionFacts}
-use Rattle.np_machine.specs.Laws.{same_role}
-use Rattle.np_machine.specs.State.{State}
-use Rattle.np_machine.specs.Tables.{session_of}
-use Rattle.np_machine.specs.Tests.{maker}
+use Rattle.np_changes.specs.Prelude.{Role, SessionFacts, SessionId, State, maker, same_role, session_of}
 use Rattle.np_useful.specs.Sessions.{is_current}
 use Rattle.np_roles.proofs.Currents.{current-speaks}
 use Rattle.np_roles.proofs.Openings.{same-role}
-
-later : (n : ℕ) → 0 < n → (n == 0) ≡ false
-later n is = grind (arith, nat_tests)
+use Rattle.np_lists.proofs.Plain.{not-zero}
 
 module _ (s : State) (role : Role) (session : SessionId) where
   -- a session that is live and not mute, and of the role
@@ -33,7 +24,7 @@ module _ (s : State) (role : Role) (session : SessionId) where
       let first = and_parts (same_role who.facts.role role) who.facts.live parts.0 in
       record {
         facts = who.facts;
-        known = rw (later session.0 who.begun) who.there;
+        known = rw (not-zero session.0 who.begun) who.there;
         same = same-role who.facts.role role first.0;
         live = first.1;
         speaks = parts.1;

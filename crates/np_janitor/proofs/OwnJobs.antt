@@ -1,19 +1,10 @@
 -- every job is a job of a requester, so that what is useful for none of them is useful for no job
 use Rattle.std.proofs.Common.{◌≡◌, ◌<◌, ◌≤◌, ℕ, length, refl, subst, arith, Option, Some, None, Bool, true, false}
 use Rattle.std.specs.Prelude.{◌==◌, get_or, slice_get}
-use Rattle.std.specs.Option.{option_map_or}
+use Rattle.np_changes.specs.Prelude.{Configuration, IsSound, Janitor, Job, JobId, PoolId, REQUESTERS, SessionId, State, option_map_or}
 use Rattle.std.proofs.lemmas.Bool.{eq-eqb}
 use Rattle.std.proofs.lemmas.List.Elements.{All-get_or}
 use Rattle.std.proofs.lemmas.Option.{slice_get_within, get_or_from_slice_get}
-use Rattle.np_text.specs.declared.limit.TheConstants.{REQUESTERS}
-use Rattle.np_text.specs.declared.id.JobId.{JobId}
-use Rattle.np_text.specs.declared.id.PoolId.{PoolId}
-use Rattle.np_text.specs.declared.id.SessionId.{SessionId}
-use Rattle.np_text.specs.declared.id.Role.TheVariants.{Janitor}
-use Rattle.np_site.specs.Configuration.{Configuration}
-use Rattle.np_site.specs.Sound.{IsSound}
-use Rattle.np_site.specs.declared.row.Job.{Job}
-use Rattle.np_machine.specs.State.{State}
 use Rattle.np_useful.specs.Rows.{job_is}
 use Rattle.np_useful.specs.Useful.{IsUseful}
 use Rattle.np_roles.specs.declared.kind.EventKind.TheVariants as kind_of

@@ -1,14 +1,11 @@
 -- if as many registrations stand as there are pools, each pool has one
 use Rattle.std.proofs.Common.{◌≡◌, ◌<◌, ◌≤◌, ◌+◌, ℕ, suc, Bool, true, false, List, [], ◌∷◌, length, refl, ap, subst, arith, cond}
 use Rattle.std.specs.Prelude.{◌==◌, ◌&&◌, count_by, nat_lt, not}
-use Rattle.std.specs.List.{AllByRecursion, list_all}
+use Rattle.np_changes.specs.Prelude.{AllByRecursion, PoolId, Registration, Rises, list_all}
 use Rattle.std.proofs.lemmas.Bool.Decides.{nat_tests}
 use Rattle.std.proofs.lemmas.Bool.{cond-true}
 use Rattle.std.proofs.lemmas.List.Sums.{sum_by-cons}
-use Rattle.np_text.specs.declared.id.PoolId.{PoolId}
-use Rattle.np_lists.specs.Rising.{Rises}
 use Rattle.np_lists.proofs.Each.{all-weaker}
-use Rattle.np_machine.specs.declared.state.Registration.{Registration}
 use Rattle.np_laws.proofs.Ids.{same_pool}
 
 -- ## members of a list

@@ -1,14 +1,7 @@
 -- if no release of a job of any requester is useful, none is
 use Rattle.std.proofs.Common.{◌≡◌, ◌<◌, ℕ, false, Option, Some, None}
 use Rattle.std.specs.Prelude.{is_some}
-use Rattle.np_text.specs.declared.limit.TheConstants.{REQUESTERS}
-use Rattle.np_text.specs.declared.id.PoolId.{PoolId}
-use Rattle.np_text.specs.declared.id.RequesterId.{RequesterId}
-use Rattle.np_text.specs.declared.id.Role.TheVariants.{Janitor}
-use Rattle.np_site.specs.Configuration.{Configuration}
-use Rattle.np_site.specs.Sound.{IsSound}
-use Rattle.np_event.specs.declared.event.Event.{Event}
-use Rattle.np_machine.specs.State.{State}
+use Rattle.np_changes.specs.Prelude.{Configuration, Event, IsSound, Janitor, PoolId, REQUESTERS, RequesterId, State}
 use Rattle.np_useful.specs.Rows.{has_some_handle}
 use Rattle.np_roles.specs.declared.kind.EventKind.TheVariants as kind_of
 use Rattle.np_roles.specs.declared.kind.JobKind.TheVariants as of_job

@@ -2,24 +2,10 @@
 -- one
 use Rattle.std.proofs.Common.{◌≡◌, ◌∙◌, true, false, [], Option, Some, None, Ok, refl, sym, ap}
 use Rattle.std.specs.Prelude.{is_none, is_ok}
-use Rattle.std.specs.Option.{option_map, option_map_or}
+use Rattle.np_changes.specs.Prelude.{Configuration, Done, IsReached, Janitor, PoolId, RequestEntry, RequestId, SessionId, State, holder, is_pending, is_pending_by, is_pool, judge, maker, option_map, option_map_or, request_entry, request_holder, request_in}
 use Rattle.std.proofs.lemmas.Bool.{and_from, and_parts}
-use Rattle.np_text.specs.declared.id.PoolId.{PoolId}
-use Rattle.np_text.specs.declared.id.RequestId.{RequestId}
-use Rattle.np_text.specs.declared.id.Role.TheVariants.{Janitor}
-use Rattle.np_text.specs.declared.id.SessionId.{SessionId}
-use Rattle.np_site.specs.Configuration.{Configuration}
 use Rattle.np_event.specs.declared.event.Event.TheVariants as ev
-use Rattle.np_event.specs.declared.reply.Done.{Done}
-use Rattle.np_machine.specs.Entries.{RequestEntry}
-use Rattle.np_machine.specs.Kinds.{is_pending}
-use Rattle.np_machine.specs.Order.{is_pending_by, is_pool}
 use Rattle.np_machine.specs.Request.{lock_pending}
-use Rattle.np_machine.specs.State.{State}
-use Rattle.np_machine.specs.Step.{judge}
-use Rattle.np_machine.specs.Tables.{holder, request_entry, request_holder, request_in}
-use Rattle.np_machine.specs.Tests.{maker}
-use Rattle.np_changes.specs.Planned.{IsReached}
 use Rattle.np_changes.proofs.Tested.{ok-is, on-found, on-need, on-vacant}
 use Rattle.np_look.specs.Readers.{first_unheld_pending, is_unheld_pending}
 use Rattle.np_useful.specs.Sessions.{is_current}

@@ -1,11 +1,9 @@
 -- the node that is due first: a row, and no row is due before it
 use Rattle.std.proofs.Common.{◌≡◌, ◌≤◌, Bool, true, false, cond, List, [], ◌∷◌, Some, refl, sym, ap, subst, ◌∙◌, arith}
 use Rattle.std.specs.Prelude.{filter, find, fold, nat_lt}
-use Rattle.std.specs.List.{AllByRecursion}
+use Rattle.np_changes.specs.Prelude.{AllByRecursion, Configuration, NodeEntry}
 use Rattle.std.proofs.lemmas.Bool.Decides.{nat_tests}
-use Rattle.np_site.specs.Configuration.{Configuration}
 use Rattle.np_lists.proofs.Each.{all-find}
-use Rattle.np_machine.specs.Entries.{NodeEntry}
 use Rattle.np_look.specs.Readers.{due_of, sooner, soonest}
 use Rattle.np_look.specs.declared.asked.UnheldKind.{UnheldKind}
 

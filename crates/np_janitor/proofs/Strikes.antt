@@ -1,48 +1,33 @@
 -- what the planned faults do now, and that the reaper has nothing else to do
 use Rattle.std.proofs.Common.{◌≡◌, ◌∙◌, ◌+◌, ◌-◌, ℕ, zero, suc, Bool, true, false, List, [], ◌∷◌, Option, Some, None, Ok, refl, sym, ap, subst, arith}
 use Rattle.std.specs.Prelude.{◌==◌, ◌&&◌, ◌||◌, if◌then◌else◌, filter, is_some, not, option_and_then, slice_get}
-use Rattle.std.specs.Option.{option_map, option_map_or}
+use Rattle.np_changes.specs.Prelude.{Configuration, Done, Event, Fault, FaultKind, Reaper, Role, SessionFacts, SessionId, State, judge, option_map, option_map_or, same_role, session_of}
 use Rattle.std.proofs.lemmas.Bool.{and_parts, and_right, or_left, or_right}
 use Rattle.std.proofs.lemmas.Bool.Decides.{nat_tests}
-use Rattle.np_text.specs.declared.id.SessionId.{SessionId}
-use Rattle.np_text.specs.declared.id.Role.{Role}
-use Rattle.np_text.specs.declared.id.Role.TheVariants.{Reaper}
-use Rattle.np_site.specs.Configuration.{Configuration}
-use Rattle.np_site.specs.declared.row.Fault.{Fault}
-use Rattle.np_site.specs.declared.row.FaultKind.{FaultKind}
-use Rattle.np_site.specs.declared.row.FaultKind.TheVariants as kind_of
-use Rattle.np_event.specs.declared.event.Event.{Event}
+use Rattle.np_config.specs.declared.row.FaultKind.TheVariants as kind_of
 use Rattle.np_event.specs.declared.event.Event.TheVariants as ev
-use Rattle.np_event.specs.declared.reply.Done.{Done}
-use Rattle.np_machine.specs.declared.state.SessionFacts.{SessionFacts}
-use Rattle.np_machine.specs.Laws.{same_role}
-use Rattle.np_machine.specs.State.{State}
-use Rattle.np_machine.specs.Step.{judge}
-use Rattle.np_machine.specs.Tables.{session_of}
 use Rattle.np_changes.proofs.Tested.{ok-is, on-found, on-need}
 use Rattle.np_look.specs.Readers.{current_of, first_mute, mute_from}
 use Rattle.np_useful.specs.Reaper.{is_mute}
 use Rattle.np_useful.specs.Sessions.{is_current, has_current, strikes_of, next_fault, is_due, has_due, is_expire, is_struck_by}
 use Rattle.np_useful.specs.Useful.{IsUseful}
 use Rattle.np_roles.specs.Choices.{Chooses, NamesCurrent}
-use Rattle.np_roles.proofs.Currents.{current-has, current-names, session-at}
+use Rattle.np_roles.proofs.Currents.{current-has, current-names}
 use Rattle.np_roles.proofs.Openings.{same-role}
 use Rattle.np_roles.proofs.Places.{StandsIn}
 use Rattle.np_janitor.specs.Struck.{due_kind, strike_on, strike_of, strike_by, ChoosesStrike}
 use Rattle.np_janitor.proofs.Makers.{IsOf, is-of}
+use Rattle.np_lists.proofs.Plain.{and_true}
+use Rattle.np_look.proofs.Seen.{session-at}
 
 -- ## whether a fault of such a kind is due
-
-and-true : (b : Bool) → (b && true) ≡ b
-and-true true = refl
-and-true false = refl
 
 module _ (such : FaultKind → Bool) (c : Configuration) (s : State) where
   due-by : (o : Option Fault) (due : Fault → Bool) → option_map_or (λ f. such f.kind && due f) o false ≡ option_map_or such (option_and_then (λ f. if due f then Some f.kind else None) o) false
   due-by None due = refl
   due-by (Some f) due = by (due f) where
     by : (u : Bool) → (such f.kind && u) ≡ option_map_or such (if u then Some f.kind else None) false
-    by true = and-true (such f.kind)
+    by true = and_true (such f.kind)
     by false = and_right (such f.kind) false refl
 
   due-such : (role : Role) → has_due such c role s ≡ option_map_or such (due_kind c role s) false

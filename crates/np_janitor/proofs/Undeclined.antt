@@ -1,47 +1,15 @@
 -- in a state that a run reaches, each request that has not failed has a pool of the configuration
 -- left that has not declined it
-use Rattle.std.proofs.Common.{◌≡◌, ◌∙◌, ◌<◌, ◌≤◌, ◌⊎◌, inl, inr, sym, ap, ℕ, List, [], ◌∷◌, length, refl, arith, subst, Option, Some, None, Ok, Bool, true, false, cond, eqb-true, true≢false}
-use Rattle.std.specs.Prelude.{◌==◌, ◌-◌, ◌||◌, if◌then◌else◌, find, is_ok, is_some, nat_lt, slice_get}
-use Rattle.std.specs.Option.{option_map}
-use Rattle.std.specs.List.{AllByRecursion}
+use Rattle.std.proofs.Common.{◌≡◌, ◌∙◌, ◌<◌, ◌⊎◌, inl, inr, sym, ap, ℕ, List, [], ◌∷◌, length, refl, arith, subst, Option, Some, None, Ok, Bool, true, false, cond, eqb-true, true≢false}
+use Rattle.std.specs.Prelude.{◌==◌, ◌-◌, ◌||◌, if◌then◌else◌, find, is_ok, is_some, slice_get}
+use Rattle.np_changes.specs.Prelude.{AllByRecursion, Configuration, Declined, Done, Entry, Event, IsReached, Janitor, Launcher, PoolId, Reason, Registration, RequestEntry, RequestId, RequestRecord, Role, SessionFacts, SessionId, State, change_first, changed, declined_with, edited, ended, grown, is_declined_by, is_failed, is_last_pool, is_pending, is_pool, is_requested, is_role, janitor, joined, judge, left, muted, next, option_map, plan, request_entry, request_in, request_left, request_queue, requests_changed, requests_left, same_request, session_of, sessions_changed, start, state_after, undeclined}
 use Rattle.std.proofs.lemmas.Bool.{and_parts, or_parts}
-use Rattle.std.proofs.lemmas.Bool.Decides.{nat_tests}
 use Rattle.std.proofs.lemmas.List.Folds.{list_any-append}
 use Rattle.std.proofs.lemmas.Option.{same_Some, slice_get_within}
-use Rattle.np_text.specs.declared.id.PoolId.{PoolId}
-use Rattle.np_text.specs.declared.id.RequestId.{RequestId}
-use Rattle.np_text.specs.declared.id.SessionId.{SessionId}
-use Rattle.np_text.specs.declared.id.Role.{Role}
-use Rattle.np_text.specs.declared.id.Role.TheVariants.{Janitor, Launcher}
-use Rattle.np_text.specs.declared.word.Reason.{Reason}
-use Rattle.np_text.specs.declared.word.RequestState.{RequestState}
 use Rattle.np_text.specs.declared.word.RequestState.TheVariants as request_state
-use Rattle.np_site.specs.Configuration.{Configuration}
-use Rattle.np_event.specs.declared.entry.Entry.{Entry}
-use Rattle.np_event.specs.declared.event.Event.{Event}
 use Rattle.np_event.specs.declared.event.Event.TheVariants as ev
-use Rattle.np_event.specs.declared.reply.Done.{Done}
-use Rattle.np_record.specs.declared.record.Declined.{Declined}
-use Rattle.np_record.specs.declared.record.RequestRecord.{RequestRecord}
-use Rattle.np_lists.specs.Change.{change_first}
 use Rattle.np_lists.proofs.Each.{all-push, all-at, all-find, all-weaker, all-change_at, all-change_first, all-remove_first, all-insert_before, all-mapped}
-use Rattle.np_machine.specs.declared.state.Registration.{Registration}
-use Rattle.np_machine.specs.declared.state.SessionFacts.{SessionFacts}
-use Rattle.np_machine.specs.Entries.{RequestEntry}
-use Rattle.np_machine.specs.History.{state_after}
-use Rattle.np_machine.specs.Kinds.{is_requested, is_pending, is_failed}
-use Rattle.np_machine.specs.Order.{is_declined_by, is_pool}
-use Rattle.np_machine.specs.Request.{declined_with, undeclined}
-use Rattle.np_machine.specs.Session.{is_role, muted, ended, request_left}
-use Rattle.np_machine.specs.State.{State, start}
-use Rattle.np_machine.specs.Step.{judge, next}
-use Rattle.np_machine.specs.Tables.{session_of, joined, left, same_request, request_entry, request_in, request_queue}
-use Rattle.np_machine.specs.Tests.{janitor}
-use Rattle.np_changes.specs.Changes.{grown, edited, requests_changed, requests_left, sessions_changed, changed}
-use Rattle.np_changes.specs.Plan.{plan}
-use Rattle.np_changes.specs.Planned.{IsReached}
 use Rattle.np_changes.specs.Premises.{EditPremise, GrowthPremise, IsTaken, IsMade, MayDecline, RequestsPremise, Premises}
-use Rattle.np_changes.specs.Readers.{is_last_pool}
 use Rattle.np_changes.specs.declared.changes.Maker.{Maker}
 use Rattle.np_changes.specs.declared.changes.Changes.{Changes}
 use Rattle.np_changes.specs.declared.changes.Growth.{Growth}
@@ -57,13 +25,14 @@ use Rattle.np_changes.proofs.PremisesOf.{premises}
 use Rattle.np_changes.proofs.Tested.{on-given, on-found, on-need, on-not, ok-is}
 use Rattle.np_laws.specs.Parts.{IsLauncher, IsRegistered}
 use Rattle.np_laws.proofs.Ids.{row-of, kept-is}
-use Rattle.np_laws.proofs.Options.{some-is}
 use Rattle.np_laws.proofs.Registered.{registered-still}
 use Rattle.np_roles.specs.declared.kind.EventKind.TheVariants as kind_of
 use Rattle.np_roles.specs.declared.kind.RequestKind.TheVariants as of_request
 use Rattle.np_roles.specs.Choices.{NoneOf}
 use Rattle.np_janitor.specs.Candidates.{lacks_registration}
 use Rattle.np_janitor.proofs.Pools.{some-fails, all-pass, all-pools}
+use Rattle.np_lists.proofs.Plain.{not-below, some-of}
+use Rattle.np_laws.proofs.Pinned.{requested-open, pending-open}
 
 -- ## what a run keeps
 
@@ -100,7 +69,7 @@ session-role c s session facts all is = by (session.0 == 0) is where
 launcher-pool : (c : Configuration) (s : State) (p : PoolId) (session : SessionId) → AreOfSite c s.sessions → IsLauncher s p session → p.0 < length c.pools
 launcher-pool c s p session all is =
     let role : is_role c (Launcher p) ≡ true = ap (λ (x : Role). is_role c x) (sym is.role) ∙ session-role c s session is.facts all is.begun in
-    let pool = some-is (slice_get c.pools p.0) role in
+    let pool = some-of (slice_get c.pools p.0) role in
     slice_get_within c.pools p.0 pool.0 pool.1
 
 pools-of_site : (c : Configuration) (s : State) → IsKept c s → AllByRecursion (λ g. g.pool.0 < length c.pools) s.registrations
@@ -128,18 +97,6 @@ sessions-settled c (sessions.Mute quiet) rows old = all-change_at (λ (f : Sessi
 sessions-settled c (sessions.End over) rows old = all-change_at (λ (f : SessionFacts). is_role c f.role ≡ true) (over.0 - 1) ended rows (λ f is. is) old
 
 -- ## one edit
-
-requested-open : (state : RequestState) → is_requested state ≡ true → is_failed state ≡ false
-requested-open request_state.Requested is = refl
-requested-open request_state.Pending is = refl
-requested-open request_state.Fulfilled is = refl
-requested-open request_state.Failed is = absurd cc
-
-pending-open : (state : RequestState) → is_pending state ≡ true → is_failed state ≡ false
-pending-open request_state.Requested is = refl
-pending-open request_state.Pending is = refl
-pending-open request_state.Fulfilled is = refl
-pending-open request_state.Failed is = absurd cc
 
 goes-on : (b : Bool) → is_failed (if b then request_state.Failed else request_state.Requested) ≡ false → b ≡ false
 goes-on true alive = absurd cc
@@ -272,9 +229,6 @@ has-pool : (c : Configuration) (rows : List Registration) → (length rows == 0)
 has-pool c [] some all = absurd cc
 has-pool c (g ∷ rows) some all = omega (arith, all.0)
 
-not-missing : (few many : ℕ) → nat_lt few many ≡ false → many ≤ few
-not-missing few many is = grind (arith, nat_tests)
-
 -- in a state that a run reaches each session belongs to a role of the configuration
 pub sessions-of_site : (c : Configuration) (s : State) → IsReached c s → AreOfSite c s.sessions
 sessions-of_site c s reached = (kept-reached c s reached).of_site
@@ -289,7 +243,7 @@ module _ (c : Configuration) (s : State) (reached : IsReached c s) (none_missing
       let stands : IsUndeclined c request = subst (λ (x : RequestRecord). IsUndeclined c x) own (all-find (λ (e : RequestEntry). IsUndeclined c e.kept) (λ e. same_request e.id r) s.requests row.0 kept.with_pool_left row.1) in
       let left : HasPoolLeft c request = stands (has-pool c s.registrations some (pools-of_site c s kept)) (requested-open request.state requested) in
       let declined : is_declined_by left.pool request.declined ≡ true =
-      all-pools (length c.pools) (λ p. is_declined_by p request.declined ≡ true) s.registrations kept.registered.one_a_pool (pools-of_site c s kept) (not-missing (length s.registrations) (length c.pools) none_missing)
+      all-pools (length c.pools) (λ p. is_declined_by p request.declined ≡ true) s.registrations kept.registered.one_a_pool (pools-of_site c s kept) (not-below (length s.registrations) (length c.pools) none_missing)
       (all-pass (λ (g : Registration). is_declined_by g.pool request.declined) s.registrations none) left.pool left.of_site in
       true≢false (sym declined ∙ left.undeclined)
 

@@ -1,13 +1,7 @@
 -- which nodes a janitor tries, by place
 use Rattle.std.specs.Prelude.{ℕ, Bool, List, [], ◌∷◌, Option, length, nat_lt, option_and_then, slice_get}
-use Rattle.std.specs.Option.{option_map}
-use Rattle.np_text.specs.declared.id.NodeId.{NodeId}
-use Rattle.np_text.specs.declared.id.PoolId.{PoolId}
-use Rattle.np_text.specs.declared.id.SessionId.{SessionId}
-use Rattle.np_site.specs.Configuration.{Configuration}
-use Rattle.np_event.specs.declared.event.Event.{Event}
+use Rattle.np_changes.specs.Prelude.{Configuration, Event, NodeId, PoolId, SessionId, State, option_map}
 use Rattle.np_event.specs.declared.event.Event.TheVariants as ev
-use Rattle.np_machine.specs.State.{State}
 use Rattle.np_look.specs.Readers.{first_due}
 use Rattle.np_look.specs.declared.asked.UnheldKind.{UnheldKind}
 use Rattle.np_look.specs.declared.asked.UnheldKind.TheVariants as kind

@@ -1,14 +1,7 @@
 -- what a search among the jobs of a requester returns
 use Rattle.std.specs.Prelude.{◌≡◌, ◌==◌, true, Option, Some, None}
-use Rattle.np_text.specs.declared.id.PoolId.{PoolId}
-use Rattle.np_text.specs.declared.id.JobId.{JobId}
-use Rattle.np_text.specs.declared.id.RequesterId.{RequesterId}
-use Rattle.np_text.specs.declared.id.SessionId.{SessionId}
-use Rattle.np_text.specs.declared.id.Role.TheVariants.{Janitor}
-use Rattle.np_site.specs.Configuration.{Configuration}
-use Rattle.np_event.specs.declared.event.Event.{Event}
+use Rattle.np_changes.specs.Prelude.{Configuration, Event, Janitor, JobId, PoolId, RequesterId, SessionId, State}
 use Rattle.np_event.specs.declared.event.Event.TheVariants as ev
-use Rattle.np_machine.specs.State.{State}
 use Rattle.np_useful.specs.Rows.{job_is}
 use Rattle.np_useful.specs.Useful.{IsUseful}
 

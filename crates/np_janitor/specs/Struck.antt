@@ -1,16 +1,8 @@
 -- what the planned faults do now
 use Rattle.std.specs.Prelude.{◌≡◌, if◌then◌else◌, Option, Some, None, option_and_then}
-use Rattle.std.specs.Option.{option_map}
-use Rattle.np_text.specs.declared.id.SessionId.{SessionId}
-use Rattle.np_text.specs.declared.id.Role.{Role}
-use Rattle.np_text.specs.declared.id.Role.TheVariants.{Reaper}
-use Rattle.np_site.specs.Configuration.{Configuration}
-use Rattle.np_site.specs.declared.row.Fault.{Fault}
-use Rattle.np_site.specs.declared.row.FaultKind.{FaultKind}
-use Rattle.np_site.specs.declared.row.FaultKind.TheVariants as kind
-use Rattle.np_event.specs.declared.event.Event.{Event}
+use Rattle.np_changes.specs.Prelude.{Configuration, Event, Fault, FaultKind, Reaper, Role, SessionId, State, option_map}
+use Rattle.np_config.specs.declared.row.FaultKind.TheVariants as kind
 use Rattle.np_event.specs.declared.event.Event.TheVariants as ev
-use Rattle.np_machine.specs.State.{State}
 use Rattle.np_look.specs.Readers.{current_of}
 use Rattle.np_useful.specs.Sessions.{is_due, next_fault}
 use Rattle.np_useful.specs.Useful.{IsUseful}

@@ -2,7 +2,7 @@
 
 ghost use Rattle.std.specs.Prelude.{◌≡◌};
 ghost use Rattle.np_machine.specs.Reasons.{is_past, is_old_ready, is_old_hold, is_paused};
-ghost use Rattle.np_fits.specs.Fits.{Fits};
+ghost use Rattle.np_changes.specs.Fits.{Fits};
 ghost use Rattle.np_useful.specs.Cleanable.{is_left_over, is_to_go, is_cleanable};
 
 use np_look::{Look, Rows, is_unclaimed, ready_age};

@@ -1,14 +1,7 @@
 //! The janitor of a pool.
 
 ghost use Rattle.std.specs.Prelude.{◌≡◌, ◌&&◌, true, not, is_none};
-ghost use Rattle.np_text.specs.declared.id.Role.TheVariants.{Janitor, Requester};
-ghost use Rattle.np_machine.specs.Kinds.{is_pending};
-ghost use Rattle.np_machine.specs.Order.{is_pending_by};
-ghost use Rattle.np_machine.specs.Reasons.{is_paused};
-ghost use Rattle.np_machine.specs.Session.{is_role};
-ghost use Rattle.np_machine.specs.Tables.{node_holder};
-ghost use Rattle.np_changes.specs.Planned.{IsReached};
-ghost use Rattle.np_fits.specs.Fits.{Fits};
+ghost use Rattle.np_changes.specs.Prelude.{Fits, IsReached, Janitor, Requester, is_paused, is_pending, is_pending_by, is_role, node_holder};
 ghost use Rattle.np_useful.specs.Cleanable.{is_cleanable};
 ghost use Rattle.np_useful.specs.Rows.{request_is, node_is, job_is, is_node_of, has_some_handle};
 ghost use Rattle.np_useful.specs.Sessions.{is_current, is_stopped};

@@ -6,10 +6,10 @@ ghost use Rattle.np_useful.specs.Sessions.{is_due};
 ghost use Rattle.np_roles.specs.Choices.{Chooses};
 ghost use Rattle.np_janitor.specs.Struck.{due_kind, strike_on, strike_of, strike_by, ChoosesStrike};
 
+use np_config::{Fault, FaultKind};
 use np_event::Event;
 use np_look::{Look, Rows};
 use np_roles::{fault_of, strikes_of};
-use np_site::{Fault, FaultKind};
 use np_text::{Role, SessionId};
 
 /// Whether the role has as many accepted events as the fault waits for.

@@ -1,40 +1,23 @@
 -- an accepted event of a requester's session on a job: which jobs it can be of
 use Rattle.std.proofs.Common.{◌≡◌, ◌∙◌, refl, sym, Option, Some, None, Result, Ok, Err, Bool, true, false}
 use Rattle.std.specs.Prelude.{◌==◌, ◌&&◌, ◌||◌, not, slice_get, option_and_then}
-use Rattle.std.specs.Option.{option_map, option_map_or}
+use Rattle.np_changes.specs.Prelude.{Configuration, Done, Job, JobId, JobRecord, Phase, Refusal, RequestRecord, Requester, RequesterId, SessionId, State, is_asked, is_failed, is_fulfilled, is_new, is_over, is_using, judge, maker, missing_handles, none_missing, option_map, option_map_or, own_job, request_in, ◌>>=◌}
 use Rattle.std.proofs.lemmas.Bool.{eqb-true}
-use Rattle.np_text.specs.declared.id.SessionId.{SessionId}
-use Rattle.np_text.specs.declared.id.JobId.{JobId}
-use Rattle.np_text.specs.declared.id.RequesterId.{RequesterId}
-use Rattle.np_text.specs.declared.id.Role.TheVariants.{Requester}
-use Rattle.np_site.specs.Configuration.{Configuration}
-use Rattle.np_site.specs.declared.row.Job.{Job}
-use Rattle.np_text.specs.declared.word.Phase.{Phase}
 use Rattle.np_text.specs.declared.word.Phase.TheVariants as phase
-use Rattle.np_record.specs.declared.record.JobRecord.{JobRecord}
-use Rattle.np_record.specs.declared.record.RequestRecord.{RequestRecord}
 use Rattle.np_event.specs.declared.event.Event.TheVariants as ev
-use Rattle.np_event.specs.declared.reply.Done.{Done}
-use Rattle.np_event.specs.declared.reply.Refusal.{Refusal}
 use Rattle.np_event.specs.declared.reply.Refusal.TheVariants as no
-use Rattle.np_lists.specs.Refusals.{◌>>=◌}
 use Rattle.np_lists.proofs.RefusalLemmas.{then-ok}
 use Rattle.np_changes.proofs.Tested.{on-given, on-check, on-need, on-found, on-vacant, needed}
-use Rattle.np_machine.specs.Kinds.{is_new, is_asked, is_using, is_over, is_fulfilled, is_failed}
 use Rattle.np_machine.specs.Semaphore.{first_full, is_finishable, may_take, may_finish, may_release, requester_or_janitor, unheld}
-use Rattle.np_machine.specs.State.{State}
-use Rattle.np_machine.specs.Step.{judge}
-use Rattle.np_machine.specs.Tables.{request_in}
-use Rattle.np_machine.specs.Tests.{maker, own_job, missing_handles, none_missing}
 use Rattle.np_look.specs.Jobs.{is_job_to_finish}
 use Rattle.np_useful.specs.Requester.{has_fulfilled_request, waits_for_handles}
 use Rattle.np_useful.specs.Rows.{job_is}
 use Rattle.np_useful.specs.Useful.{row_holds}
 use Rattle.np_useful.specs.Window.{is_in_window}
 use Rattle.np_jobs.specs.Steps.{phase_is}
-use Rattle.np_jobs.proofs.Tests.{and-first, and-second}
 use Rattle.np_jobs.proofs.Given.{WasGiven}
 use Rattle.np_jobs.proofs.ToBegin.{IsToBegin, ready-may, room-may}
+use Rattle.np_lists.proofs.Plain.{and-first, and-second}
 
 -- a job waits for its semaphores if it is new and in the window, or has asked and its request is
 -- fulfilled

@@ -1,18 +1,8 @@
 -- if the first job that is to begin has no acquire and submit, no new job in the window has one
 use Rattle.std.proofs.Common.{◌≡◌, ◌∙◌, ◌<◌, ◌≤◌, ◌+◌, refl, sym, ap, arith, Option, Some, None, Bool, true, false}
 use Rattle.std.specs.Prelude.{◌==◌, ◌||◌, not, slice_get}
-use Rattle.np_text.specs.declared.id.SessionId.{SessionId}
-use Rattle.np_text.specs.declared.id.JobId.{JobId}
-use Rattle.np_text.specs.declared.id.RequesterId.{RequesterId}
-use Rattle.np_text.specs.declared.id.Role.TheVariants.{Requester}
-use Rattle.np_site.specs.Configuration.{Configuration}
-use Rattle.np_event.specs.declared.event.Event.{Event}
+use Rattle.np_changes.specs.Prelude.{Configuration, Event, JobId, Requester, RequesterId, SessionId, State, first_full, is_new, is_over, judge, missing_handles}
 use Rattle.np_event.specs.declared.event.Event.TheVariants as ev
-use Rattle.np_machine.specs.Kinds.{is_new, is_over}
-use Rattle.np_machine.specs.Semaphore.{first_full}
-use Rattle.np_machine.specs.State.{State}
-use Rattle.np_machine.specs.Step.{judge}
-use Rattle.np_machine.specs.Tests.{missing_handles}
 use Rattle.np_changes.proofs.Tested.{ok-is}
 use Rattle.np_look.specs.Jobs.{is_job_to_begin, job_to_begin}
 use Rattle.np_look.specs.Readers.{jobs_from}
@@ -26,9 +16,10 @@ use Rattle.np_jobs.specs.Steps.{phase_is, NoNewStep, ChoosesOfNew, ChoosesInWind
 use Rattle.np_jobs.proofs.Accepted.{acquire-begins, submit-begins}
 use Rattle.np_jobs.proofs.Rising.{IsListed, listed, apart}
 use Rattle.np_jobs.proofs.Makers.{current-maker}
-use Rattle.np_jobs.proofs.Tests.{false-if, none-is}
 use Rattle.np_jobs.proofs.ToBegin.{IsToBegin, begins-listed, listed-begins}
 use Rattle.np_jobs.proofs.WindowLemmas.{IsOpen, new-open, earlier-within}
+use Rattle.std.proofs.lemmas.Bool.{false_from_ne_true}
+use Rattle.np_lists.proofs.Plain.{none-is}
 
 module _ (c : Configuration) (s : State) (q : RequesterId) (session : SessionId) (current : is_current (Requester q) session s ≡ true) where
   -- ## a job that is to begin and is in the window
@@ -78,8 +69,8 @@ module _ (c : Configuration) (s : State) (q : RequesterId) (session : SessionId)
   -- neither passes of one that is not to begin
   neither : (j : JobId) → phase_is j s is_new ≡ true → (IsToBegin c s q j → ⊥) → NoNewStep c s q session j
   neither j new none = record {
-    acquire = false-if (passes c s (Requester q) (ev.Acquire session j)) (λ passed. none (acquired-begins j new passed));
-    submit = false-if (passes c s (Requester q) (ev.Submit session j)) (λ passed. none (submitted-begins j passed));
+    acquire = false_from_ne_true (passes c s (Requester q) (ev.Acquire session j)) (λ passed. none (acquired-begins j new passed));
+    submit = false_from_ne_true (passes c s (Requester q) (ev.Submit session j)) (λ passed. none (submitted-begins j passed));
   }
 
   -- ## the first that is to begin

@@ -1,33 +1,19 @@
 -- the nodes that are for a requester are those that were given to it, as their allocations say
 use Rattle.std.proofs.Common.{◌≡◌, ◌∙◌, ◌<◌, ℕ, suc, List, [], ◌∷◌, length, refl, sym, ap, arith, Option, Some, None, Bool, true, false}
 use Rattle.std.specs.Prelude.{slice_get, ◌&&◌, ◌==◌, if◌then◌else◌, option_and_then}
-use Rattle.std.specs.Option.{option_map, option_map_or}
+use Rattle.np_changes.specs.Prelude.{Configuration, IsReached, Job, JobId, JobRecord, NodeId, NodeRecord, RequestEntry, RequestId, RequestState, RequesterId, State, is_asked, is_fulfilled, is_ready, is_request, node_in, option_map, option_map_or, request_entry, request_in, same_request}
 use Rattle.std.proofs.lemmas.Option.{slice_get_within}
-use Rattle.np_text.specs.declared.id.JobId.{JobId}
-use Rattle.np_text.specs.declared.id.NodeId.{NodeId}
-use Rattle.np_text.specs.declared.id.RequestId.{RequestId}
-use Rattle.np_text.specs.declared.id.RequesterId.{RequesterId}
-use Rattle.np_text.specs.declared.word.RequestState.{RequestState}
-use Rattle.np_site.specs.Configuration.{Configuration}
-use Rattle.np_site.specs.declared.row.Job.{Job}
-use Rattle.np_record.specs.declared.record.JobRecord.{JobRecord}
-use Rattle.np_record.specs.declared.record.NodeRecord.{NodeRecord}
 use Rattle.np_lists.proofs.EditLemmas.{list_any-there}
-use Rattle.np_machine.specs.Entries.{RequestEntry}
-use Rattle.np_machine.specs.Kinds.{is_asked, is_fulfilled, is_ready}
 use Rattle.np_machine.specs.Safe.{OwnsItsLabels, IsGiven}
-use Rattle.np_machine.specs.State.{State}
-use Rattle.np_machine.specs.Tables.{is_request, same_request, request_entry, request_in, node_in}
-use Rattle.np_changes.specs.Planned.{IsReached}
 use Rattle.np_laws.specs.Parts.{Invariant}
 use Rattle.np_laws.proofs.Runs.{invariant-Runs, fulfilled-Runs}
-use Rattle.np_laws.proofs.Places.{PassesAt, any-place, node-place, place-there}
-use Rattle.np_laws.proofs.Lookups.{same_request-is}
+use Rattle.np_laws.proofs.Places.{PassesAt, any-place, node-place}
 use Rattle.np_look.specs.Given.{asker, handed_to, is_given_to}
 use Rattle.np_useful.specs.Rows.{is_listed}
 use Rattle.np_useful.specs.Requester.{is_asked_by, is_handed_over, is_for}
 use Rattle.np_jobs.proofs.Found.{request-found}
-use Rattle.np_jobs.proofs.Tests.{and-first, and-second, both}
+use Rattle.np_lists.proofs.Plain.{member-there, and-first, and-second, both-ways}
+use Rattle.np_machine.proofs.Ids.{request-equal}
 
 -- ## a request that is found
 
@@ -93,7 +79,7 @@ pub record IsHanded (s : State) (n : NodeId) (e : RequestEntry) : Type 0 where
 
 named : (r : RequestId) (o : Option RequestId) → is_request r o ≡ true → o ≡ Some r
 named r None is = absurd cc
-named r (Some other) is = ap (λ (x : RequestId). Some x) (same_request-is other r is)
+named r (Some other) is = ap (λ (x : RequestId). Some x) (request-equal other r is)
 
 module _ (c : Configuration) (s : State) (reached : IsReached c s) (q : RequesterId) (n : NodeId) where
   invariant : Invariant c s
@@ -105,7 +91,7 @@ module _ (c : Configuration) (s : State) (reached : IsReached c s) (q : Requeste
       let owns : OwnsItsLabels s e.id e.kept = fulfilled-Runs c reached.journal s reached.runs e.id e.kept found fulfilled in
       let place = node-place n e.kept.nodes listed in
       let within : place.0 < length e.kept.labels = omega (arith, owns.as_many, slice_get_within e.kept.nodes place.0 n place.1) in
-      let label = place-there e.kept.labels place.0 within in
+      let label = member-there e.kept.labels place.0 within in
       let is : IsGiven s e.id owns.pool n label.0 = owns.each place.0 n label.0 place.1 label.1 in
       record { found = found; node = is.node; stands = is.stands; ready = is.ready; allocated = named e.id is.node.allocated_to is.allocated }
 
@@ -162,4 +148,4 @@ module _ (c : Configuration) (s : State) (reached : IsReached c s) (q : Requeste
 
     -- a node that exists is for the requester if and only if it was given to it
     pub for-is : is_for c s q n ≡ is_given_to c s q k
-    for-is = both (is_for c s q n) (is_given_to c s q k) there (back_of k.allocated_to refl)
+    for-is = both-ways (is_for c s q n) (is_given_to c s q k) there (back_of k.allocated_to refl)

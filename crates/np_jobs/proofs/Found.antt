@@ -2,14 +2,11 @@
 use Rattle.std.proofs.Common.{◌≡◌, ◌∙◌, ℕ, zero, suc, List, [], ◌∷◌, refl, sym, ap, arith, Some, None, Bool, true, false}
 use Rattle.std.specs.Prelude.{find, slice_get, nat_lt}
 use Rattle.std.proofs.lemmas.Bool.Decides.{nat_tests}
-use Rattle.np_text.specs.declared.id.NodeId.{NodeId}
-use Rattle.np_text.specs.declared.id.RequestId.{RequestId}
-use Rattle.np_lists.specs.Rising.{Rises}
+use Rattle.np_changes.specs.Prelude.{NodeEntry, NodeId, RequestEntry, Rises, is_id_before, node_entry, request_entry, same_request}
 use Rattle.np_lists.proofs.Each.{all-at}
-use Rattle.np_machine.specs.Entries.{RequestEntry, NodeEntry}
-use Rattle.np_machine.specs.Order.{is_id_before}
-use Rattle.np_machine.specs.Tables.{same_request, request_entry, node_entry}
-use Rattle.np_laws.proofs.Lookups.{same_request-self, same_node}
+use Rattle.np_laws.proofs.Lookups.{same_node}
+use Rattle.np_changes.proofs.Facts.{request-apart}
+use Rattle.np_machine.proofs.Ids.{request-itself}
 
 -- ## a search that finds nothing
 
@@ -37,9 +34,6 @@ module _ {X : Type 0} (before : X → X → Bool) (p : X → Bool) (x : X) (pass
       let fails : p y ≡ false = earlier y (all-at (λ (z : X). before y z ≡ true) xs i x rises.0 there) in
       rw fails (found-at xs i there rises.1)
 
-request-apart : (a b : RequestId) → is_id_before a b ≡ true → same_request a b ≡ false
-request-apart a b order = grind (arith, nat_tests)
-
 node-apart : (a b : NodeId) → nat_lt a.0 b.0 ≡ true → same_node a b ≡ false
 node-apart a b order = grind (arith, nat_tests)
 
@@ -49,7 +43,7 @@ node-self n = grind (arith, nat_tests)
 -- the request at a place is the request with its id
 pub request-found : (rows : List RequestEntry) (i : ℕ) (e : RequestEntry) → Rises (λ a b. is_id_before a.id b.id) rows → slice_get rows i ≡ Some e → request_entry e.id rows ≡ Some e
 request-found rows i e rise there =
-    found-at (λ (a b : RequestEntry). is_id_before a.id b.id) (λ (x : RequestEntry). same_request x.id e.id) e (same_request-self e.id) (λ y order. request-apart y.id e.id order) rows i there rise
+    found-at (λ (a b : RequestEntry). is_id_before a.id b.id) (λ (x : RequestEntry). same_request x.id e.id) e (request-itself e.id) (λ y order. request-apart y.id e.id order) rows i there rise
 
 -- and the node at a place is the node with its number
 pub node-found : (rows : List NodeEntry) (i : ℕ) (e : NodeEntry) → Rises (λ a b. nat_lt a.id.0 b.id.0) rows → slice_get rows i ≡ Some e → node_entry e.id rows ≡ Some e

@@ -2,32 +2,19 @@
 -- handles if its semaphores have room
 use Rattle.std.proofs.Common.{◌≡◌, ◌∙◌, List, [], ◌∷◌, length, refl, sym, arith, Option, Some, None, Bool, true, false}
 use Rattle.std.specs.Prelude.{◌==◌, ◌&&◌, ◌||◌, not, slice_get, count_by, option_and_then}
-use Rattle.std.specs.Option.{option_map, option_map_or}
-use Rattle.std.specs.List.{list_any}
-use Rattle.std.proofs.lemmas.Bool.{eqb-true}
-use Rattle.np_text.specs.declared.id.JobId.{JobId}
-use Rattle.np_text.specs.declared.id.SemId.{SemId}
-use Rattle.np_text.specs.declared.id.RequesterId.{RequesterId}
-use Rattle.np_site.specs.Configuration.{Configuration}
-use Rattle.np_site.specs.declared.row.Job.{Job}
-use Rattle.np_record.specs.declared.record.JobRecord.{JobRecord}
-use Rattle.np_record.specs.declared.record.RequestRecord.{RequestRecord}
-use Rattle.np_machine.specs.Kinds.{is_asked, is_fulfilled}
-use Rattle.np_machine.specs.Semaphore.{first_full}
-use Rattle.np_machine.specs.State.{State}
-use Rattle.np_machine.specs.Tables.{has_handle, request_in}
-use Rattle.np_machine.specs.Tests.{missing_handles}
+use Rattle.np_changes.specs.Prelude.{Configuration, Job, JobId, JobRecord, RequestRecord, RequesterId, SemId, State, first_full, has_handle, is_asked, is_fulfilled, list_any, missing_handles, option_map, option_map_or, request_in}
+use Rattle.std.proofs.lemmas.Bool.{eqb-true, or_right, not-true}
 use Rattle.np_look.specs.Jobs.{is_own, is_supplied, is_job_to_take, may_acquire, is_job_to_acquire, was_given}
 use Rattle.np_look.specs.Readers.{request_state_of}
 use Rattle.np_useful.specs.Requester.{has_fulfilled_request}
-use Rattle.np_jobs.proofs.Tests.{and-first, and-second, or-second, not-is, none-is}
 use Rattle.np_jobs.proofs.WindowLemmas.{counted}
+use Rattle.np_lists.proofs.Plain.{and-first, and-second, none-is}
 
 -- ## handles
 
 -- if a list counts none that lacks something, it is empty or one of its members has it
 supplied-by : {X : Type 0} (has : X → Bool) (x : X) (xs : List X) (b : Bool) → has x ≡ b → count_by (λ y. not (has y)) (x ∷ xs) ≡ 0 → ((length (x ∷ xs) == 0) || list_any has (x ∷ xs)) ≡ true
-supplied-by has x xs true is none = or-second (length (x ∷ xs) == 0) (list_any has (x ∷ xs)) (rw is refl)
+supplied-by has x xs true is none = or_right (length (x ∷ xs) == 0) (list_any has (x ∷ xs)) (rw is refl)
 supplied-by has x xs false is none =
     let lacks : not (has x) ≡ true = rw is refl in
     absurd (omega (arith, counted (λ (y : _). not (has y)) x xs true lacks, none))
@@ -98,6 +85,6 @@ module _ (c : Configuration) (s : State) (q : RequesterId) (j : JobId) where
         let may : may_acquire c s j row ≡ true = and-second (row.requester.0 == q.0) _ both in
         record {
           job = record { row = row; stands = stands; own = and-first (row.requester.0 == q.0) _ both; kept = kept; there = there; asked = and-first (is_asked kept.phase) _ was; given = listed-given s kept was };
-          waits = not-is (is_supplied s j row) (and-first (not (is_supplied s j row)) _ may);
+          waits = not-true (is_supplied s j row) (and-first (not (is_supplied s j row)) _ may);
           room = none-is (first_full c s j row) (and-second (not (is_supplied s j row)) _ may);
         }

@@ -1,32 +1,15 @@
 -- if the nodes to leave were tried, no end and no unlock of a node is useful
 use Rattle.std.proofs.Common.{◌≡◌, ◌∙◌, ◌<◌, ℕ, List, [], length, refl, ap, subst, arith, Option, Some, None, Ok, true, false}
 use Rattle.std.specs.Prelude.{not, is_some, filter, map}
-use Rattle.std.specs.Option.{option_map, option_map_or}
-use Rattle.std.specs.List.{AllByRecursion}
+use Rattle.np_changes.specs.Prelude.{AllByRecursion, Configuration, Done, EndAs, Event, IsReached, NodeEntry, NodeId, NodeState, Requester, RequesterId, SessionId, State, by_node_holder, is_in_use, is_queued, is_ready, judge, node_entry, node_in, node_queue, option_map, option_map_or, requester}
 use Rattle.std.proofs.lemmas.List.{length-map}
 use Rattle.std.proofs.lemmas.Option.{slice_get_within}
-use Rattle.np_text.specs.declared.id.SessionId.{SessionId}
-use Rattle.np_text.specs.declared.id.NodeId.{NodeId}
-use Rattle.np_text.specs.declared.id.RequesterId.{RequesterId}
-use Rattle.np_text.specs.declared.id.Role.TheVariants.{Requester}
-use Rattle.np_text.specs.declared.word.EndAs.{EndAs}
 use Rattle.np_text.specs.declared.word.EndAs.TheVariants as end
-use Rattle.np_text.specs.declared.word.NodeState.{NodeState}
 use Rattle.np_text.specs.declared.word.NodeState.TheVariants as node_state
-use Rattle.np_site.specs.Configuration.{Configuration}
 use Rattle.np_lists.proofs.Each.{length-filter_at_most}
 use Rattle.np_lists.proofs.FoundLemmas.{find-passes}
-use Rattle.np_event.specs.declared.event.Event.{Event}
 use Rattle.np_event.specs.declared.event.Event.TheVariants as ev
-use Rattle.np_event.specs.declared.reply.Done.{Done}
-use Rattle.np_changes.specs.Planned.{IsReached}
 use Rattle.np_changes.proofs.Tested.{ok-is, on-given, on-found, on-check, on-need}
-use Rattle.np_machine.specs.Entries.{NodeEntry}
-use Rattle.np_machine.specs.Kinds.{is_in_use, is_ready}
-use Rattle.np_machine.specs.State.{State}
-use Rattle.np_machine.specs.Step.{judge}
-use Rattle.np_machine.specs.Tables.{is_queued, node_entry, node_in, node_queue}
-use Rattle.np_machine.specs.Tests.{requester, by_node_holder}
 use Rattle.np_laws.proofs.Lookups.{same_node, same_node-is}
 use Rattle.np_look.specs.Given.{is_given_to, is_to_leave, node_to_leave}
 use Rattle.np_useful.specs.Requester.{is_for}
@@ -45,7 +28,8 @@ use Rattle.np_roles.proofs.Places.{StandsIn, named-place}
 use Rattle.np_roles.proofs.Searches.{made-by, useful-passes}
 use Rattle.np_jobs.specs.Steps.{leaving, NoLeave, ChoosesToLeave}
 use Rattle.np_jobs.proofs.ForLemmas.{for-is, for-ready}
-use Rattle.np_jobs.proofs.Tests.{and-second, false-if}
+use Rattle.np_lists.proofs.Plain.{and-second}
+use Rattle.std.proofs.lemmas.Bool.{false_from_ne_true}
 
 -- what is in use is not ready
 not-ready : (state : NodeState) → is_in_use state ≡ true → is_ready state ≡ true → ⊥
@@ -86,7 +70,7 @@ module _ (c : Configuration) (s : State) (reached : IsReached c s) (q : Requeste
   leave_by n (Some e) found waits apart =
       let number : e.id ≡ n = same_node-is e.id n (find-passes (λ (x : NodeEntry). same_node x.id n) s.nodes e found) in
       let stands : node_in n s.nodes ≡ Some e.kept = ap (option_map (λ (x : NodeEntry). x.kept)) found in
-      let other : is_given_to c s q e.kept ≡ false = false-if (is_given_to c s q e.kept) (λ given. apart (for-is c s reached q n e.kept stands ∙ given)) in
+      let other : is_given_to c s q e.kept ≡ false = false_from_ne_true (is_given_to c s q e.kept) (λ given. apart (for-is c s reached q n e.kept stands ∙ given)) in
       let queued : is_queued session (node_queue n s.nodes) ≡ true = rw found waits in
       let is : is_to_leave c s q session e ≡ true = rw (number, queued, other) refl in
       subst (λ (x : NodeId). StandsIn x (to_leave c s q session)) number (named-place (λ (x : NodeEntry). x.id) (λ (x : NodeEntry). same_node x.id n) (is_to_leave c s q session) s.nodes e found is)

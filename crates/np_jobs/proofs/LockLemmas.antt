@@ -2,18 +2,9 @@
 -- and no other
 use Rattle.std.proofs.Common.{◌≡◌, ◌∙◌, refl, sym, ap, subst, Option, Some, None, true, false}
 use Rattle.std.specs.Prelude.{not, find}
-use Rattle.std.specs.Option.{option_map}
-use Rattle.np_text.specs.declared.id.SessionId.{SessionId}
-use Rattle.np_text.specs.declared.id.NodeId.{NodeId}
-use Rattle.np_text.specs.declared.id.RequesterId.{RequesterId}
-use Rattle.np_text.specs.declared.id.Role.TheVariants.{Requester}
-use Rattle.np_site.specs.Configuration.{Configuration}
+use Rattle.np_changes.specs.Prelude.{Configuration, IsReached, NodeEntry, NodeId, Requester, RequesterId, SessionId, State, is_queued, node_entry, node_in, node_queue, option_map}
 use Rattle.np_lists.proofs.FoundLemmas.{find-passes}
 use Rattle.np_event.specs.declared.event.Event.TheVariants as ev
-use Rattle.np_changes.specs.Planned.{IsReached}
-use Rattle.np_machine.specs.Entries.{NodeEntry}
-use Rattle.np_machine.specs.State.{State}
-use Rattle.np_machine.specs.Tables.{is_queued, node_entry, node_in, node_queue}
 use Rattle.np_laws.proofs.Lookups.{same_node, same_node-is}
 use Rattle.np_laws.proofs.Runs.{invariant-Runs}
 use Rattle.np_look.specs.Given.{is_given_to, is_to_lock, node_to_lock}
@@ -29,7 +20,7 @@ use Rattle.np_roles.proofs.Searches.{made-by, passes-useful}
 use Rattle.np_jobs.proofs.Found.{none-passes, node-found}
 use Rattle.np_jobs.proofs.ForLemmas.{found-for, for-is}
 use Rattle.np_jobs.proofs.Makers.{current-maker}
-use Rattle.np_jobs.proofs.Tests.{and-first, and-second}
+use Rattle.np_lists.proofs.Plain.{and-first, and-second}
 
 -- the entry of a node that has a record
 entry_of : {X Y : Type 0} (f : X → Y) (o : Option X) (y : Y) → option_map f o ≡ Some y → (x : X) × ((o ≡ Some x) × (f x ≡ y))

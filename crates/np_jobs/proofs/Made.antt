@@ -1,15 +1,9 @@
 -- a requester's useful events are of the kinds that are tried
 use Rattle.std.proofs.Common.{◌≡◌, true, false, Option, Some, None}
 use Rattle.std.specs.Prelude.{is_some}
-use Rattle.std.specs.List.{AllByRecursion}
-use Rattle.np_text.specs.declared.id.RequesterId.{RequesterId}
-use Rattle.np_text.specs.declared.id.SessionId.{SessionId}
-use Rattle.np_text.specs.declared.id.Role.TheVariants.{Requester}
+use Rattle.np_changes.specs.Prelude.{AllByRecursion, Configuration, Event, Requester, RequesterId, SessionId, State}
 use Rattle.np_text.specs.declared.word.EndAs.TheVariants as end
-use Rattle.np_site.specs.Configuration.{Configuration}
-use Rattle.np_event.specs.declared.event.Event.{Event}
 use Rattle.np_event.specs.declared.event.Event.TheVariants as ev
-use Rattle.np_machine.specs.State.{State}
 use Rattle.np_useful.specs.Useful.{IsUseful}
 use Rattle.np_useful.specs.Sessions.{is_current}
 use Rattle.np_roles.specs.declared.kind.EventKind.TheVariants as kind_of
@@ -19,17 +13,15 @@ use Rattle.np_roles.specs.Choices.{Chooses, ChoosesOf, ChoosesOfAny, ChoosesRele
 use Rattle.np_roles.proofs.Wholes.{kinds-choose}
 use Rattle.np_jobs.specs.Steps.{leaving, requester_kinds, NoneUnderWay, ChoosesToTake, ChoosesToAcquire, ChoosesUnderWay, ChoosesInWindow}
 use Rattle.np_jobs.proofs.StepLemmas.{takes-none, acquires-fail, acquires-none, releases-none, submits-none}
-
-none : false ≡ true → ⊥
-none is = cc
+use Rattle.np_lists.proofs.Plain.{false-apart}
 
 module _ (c : Configuration) (s : State) (q : RequesterId) (opens : NoneOpens c s (Requester q)) (all : AllByRecursion (NoneOf c s (Requester q)) requester_kinds) where
   useless : (e : Event) → IsUseful c s (Requester q) e → ⊥
-  useless ev.Tick useful = none useful.row
+  useless ev.Tick useful = false-apart useful.row
   useless (ev.OpenSession role) useful = opens role useful
-  useless (ev.Crash session) useful = none useful.row
-  useless (ev.Expire session) useful = none useful.row
-  useless (ev.Register session) useful = none useful.row
+  useless (ev.Crash session) useful = false-apart useful.row
+  useless (ev.Expire session) useful = false-apart useful.row
+  useless (ev.Register session) useful = false-apart useful.row
   useless (ev.Finish session j) useful = all.0 session j useful
   useless (ev.LockNode session n) useful = all.1.0 session n useful
   useless (ev.Take session j) useful = all.1.1.0 session j useful
@@ -39,24 +31,24 @@ module _ (c : Configuration) (s : State) (q : RequesterId) (opens : NoneOpens c 
   useless (ev.EndNode session n end.Used) useful = all.1.1.1.1.1.1.0 session n useful
   useless (ev.EndNode session n end.Hold) useful = all.1.1.1.1.1.1.1.0 session n useful
   useless (ev.UnlockNode session n) useful = all.1.1.1.1.1.1.1.1.0 session n useful
-  useless (ev.Revise session j relative) useful = none useful.row
-  useless (ev.MinReady session l) useful = none useful.row
-  useless (ev.LockRequest session r) useful = none useful.row
-  useless (ev.UnlockRequest session r) useful = none useful.row
-  useless (ev.Accept session r) useful = none useful.row
-  useless (ev.Decline session r why) useful = none useful.row
-  useless (ev.TakeReady session r n) useful = none useful.row
-  useless (ev.Create session r) useful = none useful.row
-  useless (ev.Start session n) useful = none useful.row
-  useless (ev.Done session n attempt o) useful = none useful.row
-  useless (ev.Fulfil session r) useful = none useful.row
-  useless (ev.Withdraw session j) useful = none useful.row
-  useless (ev.MarkDeleting session n) useful = none useful.row
-  useless (ev.Gone session n) useful = none useful.row
-  useless (ev.Reset session r) useful = none useful.row
-  useless (ev.FreeNode session n) useful = none useful.row
-  useless (ev.FailDeclined session r) useful = none useful.row
-  useless (ev.Sweep session n x) useful = none useful.row
+  useless (ev.Revise session j relative) useful = false-apart useful.row
+  useless (ev.MinReady session l) useful = false-apart useful.row
+  useless (ev.LockRequest session r) useful = false-apart useful.row
+  useless (ev.UnlockRequest session r) useful = false-apart useful.row
+  useless (ev.Accept session r) useful = false-apart useful.row
+  useless (ev.Decline session r why) useful = false-apart useful.row
+  useless (ev.TakeReady session r n) useful = false-apart useful.row
+  useless (ev.Create session r) useful = false-apart useful.row
+  useless (ev.Start session n) useful = false-apart useful.row
+  useless (ev.Done session n attempt o) useful = false-apart useful.row
+  useless (ev.Fulfil session r) useful = false-apart useful.row
+  useless (ev.Withdraw session j) useful = false-apart useful.row
+  useless (ev.MarkDeleting session n) useful = false-apart useful.row
+  useless (ev.Gone session n) useful = false-apart useful.row
+  useless (ev.Reset session r) useful = false-apart useful.row
+  useless (ev.FreeNode session n) useful = false-apart useful.row
+  useless (ev.FailDeclined session r) useful = false-apart useful.row
+  useless (ev.Sweep session n x) useful = false-apart useful.row
 
 pub requester-law : (c : Configuration) (s : State) (q : RequesterId) → NoneOpens c s (Requester q) → AllByRecursion (NoneOf c s (Requester q)) requester_kinds → (e : Event) → IsUseful c s (Requester q) e → ⊥
 requester-law c s q opens all e useful = useless c s q opens all e useful
@@ -64,7 +56,7 @@ requester-law c s q opens all e useful = useless c s q opens all e useful
 -- ## all passes
 
 module _ (c : Configuration) (s : State) (q : RequesterId) (session : SessionId) (current : is_current (Requester q) session s ≡ true) where
-  -- if no event of each kind is useful, none is
+  -- if no event of each kind is useful, false-apart is
   none-useful : NoneUnderWay c s q session → NoneReleased c s (Requester q) q → ChoosesInWindow c s q session None → AllByRecursion (NoneOf c s (Requester q)) leaving → AllByRecursion (NoneOf c s (Requester q)) requester_kinds
   none-useful under releases begins leaves = (
     under.finish,

@@ -2,8 +2,7 @@
 use Rattle.std.proofs.Common.{◌≡◌, ◌<◌, ◌≤◌, ℕ, zero, suc, ◌+◌, List, [], ◌∷◌, refl, ap, subst, arith, Some, Bool, true, false}
 use Rattle.std.specs.Prelude.{slice_get, nat_le}
 use Rattle.std.proofs.lemmas.Bool.Decides.{nat_tests}
-use Rattle.np_text.specs.declared.id.JobId.{JobId}
-use Rattle.np_record.specs.declared.record.JobRecord.{JobRecord}
+use Rattle.np_changes.specs.Prelude.{JobId, JobRecord}
 use Rattle.np_look.specs.Readers.{jobs_from}
 
 module _ (passes : JobId → JobRecord → Bool) where

@@ -1,24 +1,10 @@
 -- if the events of a session on the jobs under way were tried, none is useful
 use Rattle.std.proofs.Common.{◌≡◌, ◌∙◌, ◌<◌, ℕ, refl, ap, subst, arith, Option, Some, None, Ok, Bool, true, false}
 use Rattle.std.specs.Prelude.{◌==◌, ◌&&◌, not, is_some, slice_get}
-use Rattle.std.specs.Option.{option_map_or}
-use Rattle.np_text.specs.declared.id.SessionId.{SessionId}
-use Rattle.np_text.specs.declared.id.JobId.{JobId}
-use Rattle.np_text.specs.declared.id.RequesterId.{RequesterId}
-use Rattle.np_text.specs.declared.id.Role.TheVariants.{Requester}
-use Rattle.np_text.specs.declared.word.Phase.{Phase}
+use Rattle.np_changes.specs.Prelude.{Configuration, Done, Event, JobId, JobRecord, Phase, Requester, RequesterId, SessionId, State, first_full, is_asked, is_new, is_over, judge, maker, missing_handles, option_map_or}
 use Rattle.np_text.specs.declared.word.Phase.TheVariants as phase
-use Rattle.np_site.specs.Configuration.{Configuration}
-use Rattle.np_record.specs.declared.record.JobRecord.{JobRecord}
-use Rattle.np_event.specs.declared.event.Event.{Event}
 use Rattle.np_event.specs.declared.event.Event.TheVariants as ev
-use Rattle.np_event.specs.declared.reply.Done.{Done}
 use Rattle.np_changes.proofs.Tested.{ok-is}
-use Rattle.np_machine.specs.Kinds.{is_asked, is_new, is_over}
-use Rattle.np_machine.specs.Semaphore.{first_full}
-use Rattle.np_machine.specs.State.{State}
-use Rattle.np_machine.specs.Step.{judge}
-use Rattle.np_machine.specs.Tests.{maker, missing_handles}
 use Rattle.np_look.specs.Jobs.{is_supplied, is_job_to_take, is_job_to_acquire, is_job_to_finish, job_to_take, job_to_acquire, job_to_finish}
 use Rattle.np_look.specs.Readers.{jobs_from}
 use Rattle.np_useful.specs.Requester.{has_fulfilled_request, waits_for_handles}
@@ -39,7 +25,7 @@ use Rattle.np_jobs.proofs.Accepted.{IsNewInWindow, acquire-either, take-given, f
 use Rattle.np_jobs.proofs.Given.{WasGiven, IsToAcquire, all-supplied, unsupplied-missing, take-listed, acquire-listed, listed-acquire}
 use Rattle.np_jobs.proofs.Makers.{current-maker}
 use Rattle.np_jobs.proofs.Rising.{IsListed, listed}
-use Rattle.np_jobs.proofs.Tests.{false-if, or-second}
+use Rattle.std.proofs.lemmas.Bool.{false_from_ne_true, or_right}
 
 -- a job that has asked for its nodes is not over, and not new
 asked-open : (p : Phase) → is_asked p ≡ true → not (is_over p) ≡ true
@@ -109,7 +95,7 @@ module _ (c : Configuration) (s : State) (q : RequesterId) (session : SessionId)
       -- the acquire of a job that has asked for its nodes fails: if the job was given them, it is one of those
       -- that were tried, or it waits for handles and its semaphores have no room
       pub acquires-fail : (j : JobId) → phase_is j s is_asked ≡ true → passes c s (Requester q) (ev.Acquire session j) ≡ false
-      acquires-fail j asked = false-if (passes c s (Requester q) (ev.Acquire session j)) (λ passed.
+      acquires-fail j asked = false_from_ne_true (passes c s (Requester q) (ev.Acquire session j)) (λ passed.
           let parts = and-parts c s (Requester q) _ (row_holds c s (Requester q) (ev.Acquire session j)) passed in
           let answer = ok-is (judge c s (ev.Acquire session j)) parts.0 in
           acquire-either c s session q made j answer.0 answer.1 parts.1
@@ -121,7 +107,7 @@ module _ (c : Configuration) (s : State) (q : RequesterId) (session : SessionId)
   acquire-passes j is =
       let missing : (missing_handles s j is.job.row == 0) ≡ false = unsupplied-missing s j is.job.row is.waits in
       let stays : not (is_over is.job.kept.phase) ≡ true = asked-open is.job.kept.phase is.job.asked in
-      let waits : waits_for_handles c s q j is.job.row is.job.kept ≡ true = or-second (is_new is.job.kept.phase && not is.job.row.resources_first && is_in_window c s q j) (is_asked is.job.kept.phase && has_fulfilled_request s is.job.kept) (rw (is.job.asked, is.job.given) refl) in
+      let waits : waits_for_handles c s q j is.job.row is.job.kept ≡ true = or_right (is_new is.job.kept.phase && not is.job.row.resources_first && is_in_window c s q j) (is_asked is.job.kept.phase && has_fulfilled_request s is.job.kept) (rw (is.job.asked, is.job.given) refl) in
       rw (made, is.job.stands, is.job.there, is.job.own, stays, is.room, missing, waits) refl
 
   pub acquire-useful : (j : JobId) → job_to_acquire c q s ≡ Some j → IsUseful c s (Requester q) (ev.Acquire session j)

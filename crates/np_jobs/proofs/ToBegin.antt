@@ -1,22 +1,11 @@
 -- a job of a requester is to begin if it is new and need not wait for semaphores
 use Rattle.std.proofs.Common.{◌≡◌, ◌∙◌, List, [], ◌∷◌, refl, sym, arith, Option, Some, None, Bool, true, false}
 use Rattle.std.specs.Prelude.{◌==◌, ◌&&◌, ◌||◌, not, find, slice_get, count_by}
-use Rattle.std.specs.Option.{option_map_or}
+use Rattle.np_changes.specs.Prelude.{Configuration, Job, JobId, JobRecord, RequesterId, SemId, State, first_full, has_handle, is_full, is_new, missing_handles, option_map_or}
 use Rattle.std.proofs.lemmas.Bool.{eqb-true}
-use Rattle.np_text.specs.declared.id.JobId.{JobId}
-use Rattle.np_text.specs.declared.id.SemId.{SemId}
-use Rattle.np_text.specs.declared.id.RequesterId.{RequesterId}
-use Rattle.np_site.specs.Configuration.{Configuration}
-use Rattle.np_site.specs.declared.row.Job.{Job}
-use Rattle.np_record.specs.declared.record.JobRecord.{JobRecord}
-use Rattle.np_machine.specs.Kinds.{is_new}
-use Rattle.np_machine.specs.Semaphore.{is_full, first_full}
-use Rattle.np_machine.specs.State.{State}
-use Rattle.np_machine.specs.Tables.{has_handle}
-use Rattle.np_machine.specs.Tests.{missing_handles}
 use Rattle.np_look.specs.Jobs.{is_own, may_begin, is_job_to_begin}
-use Rattle.np_jobs.proofs.Tests.{and-first, and-second}
 use Rattle.np_jobs.proofs.WindowLemmas.{counted}
+use Rattle.np_lists.proofs.Plain.{and-first, and-second}
 
 -- ## semaphores that are not missing
 

@@ -2,23 +2,15 @@
 use Rattle.std.proofs.Common.{◌≡◌, ◌<◌, ◌≤◌, ℕ, zero, suc, ◌+◌, List, [], ◌∷◌, take, drop, refl, sym, ap, ◌∙◌, arith, Option, Some, None, Bool, true, false, cond}
 use Rattle.std.specs.Prelude.{slice_get, count_by, nat_lt, nat_le, if◌then◌else◌, not}
 use Rattle.std.specs.List.{zip}
-use Rattle.std.specs.Option.{option_map_or}
+use Rattle.np_changes.specs.Prelude.{Configuration, Job, JobId, JobRecord, Phase, RequesterId, State, is_new, is_over, option_map_or}
 use Rattle.std.proofs.lemmas.List.Sums.{sum_by-cons}
 use Rattle.std.proofs.lemmas.Bool.Decides.{nat_tests}
-use Rattle.np_text.specs.declared.id.JobId.{JobId}
-use Rattle.np_text.specs.declared.id.RequesterId.{RequesterId}
-use Rattle.np_text.specs.declared.word.Phase.{Phase}
 use Rattle.np_text.specs.declared.word.Phase.TheVariants as phase
-use Rattle.np_site.specs.Configuration.{Configuration}
-use Rattle.np_site.specs.declared.row.Job.{Job}
-use Rattle.np_record.specs.declared.record.JobRecord.{JobRecord}
-use Rattle.np_machine.specs.Kinds.{is_new, is_over}
-use Rattle.np_machine.specs.State.{State}
 use Rattle.np_look.specs.Readers.{is_unfinished_job, unfinished_from}
 use Rattle.np_roles.proofs.Among.{IsAmong, among, before-end}
 use Rattle.np_useful.specs.Window.{is_unfinished, jobs_of, window_of, is_in_window}
-use Rattle.np_jobs.proofs.Tests.{and-first}
 use Rattle.np_jobs.proofs.Rising.{apart, in-order}
+use Rattle.np_lists.proofs.Plain.{and-first}
 
 -- ## the configuration's rows from a number on
 

@@ -1,18 +1,8 @@
 -- what a requester may do next with its jobs and nodes
 use Rattle.std.specs.Prelude.{◌≡◌, ℕ, List, [], ◌∷◌, Bool, true, false, Option, Some, None, slice_get}
-use Rattle.std.specs.Option.{option_map_or}
-use Rattle.np_text.specs.declared.id.SessionId.{SessionId}
-use Rattle.np_text.specs.declared.id.RequesterId.{RequesterId}
-use Rattle.np_text.specs.declared.id.NodeId.{NodeId}
-use Rattle.np_text.specs.declared.id.JobId.{JobId}
-use Rattle.np_text.specs.declared.id.Role.TheVariants.{Requester}
+use Rattle.np_changes.specs.Prelude.{Configuration, Event, JobId, NodeId, Phase, Requester, RequesterId, SessionId, State, is_asked, is_new, option_map_or}
 use Rattle.np_text.specs.declared.word.EndAs.TheVariants as end
-use Rattle.np_text.specs.declared.word.Phase.{Phase}
-use Rattle.np_site.specs.Configuration.{Configuration}
-use Rattle.np_event.specs.declared.event.Event.{Event}
 use Rattle.np_event.specs.declared.event.Event.TheVariants as ev
-use Rattle.np_machine.specs.Kinds.{is_new, is_asked}
-use Rattle.np_machine.specs.State.{State}
 use Rattle.np_look.specs.Jobs.{job_to_take, job_to_acquire}
 use Rattle.np_useful.specs.Useful.{IsUseful}
 use Rattle.np_useful.specs.Window.{is_in_window}

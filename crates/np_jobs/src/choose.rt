@@ -1,10 +1,7 @@
 //! A requester's choice.
 
 ghost use Rattle.std.specs.Prelude.{◌≡◌, true};
-ghost use Rattle.np_text.specs.declared.id.Role.TheVariants.{Requester};
-ghost use Rattle.np_changes.specs.Planned.{IsReached};
-ghost use Rattle.np_fits.specs.Fits.{Fits};
-ghost use Rattle.np_machine.specs.Session.{is_role};
+ghost use Rattle.np_changes.specs.Prelude.{Fits, IsReached, Requester, is_role};
 ghost use Rattle.np_roles.specs.Choices.{Chooses};
 
 use crate::leave::first_step_to_leave;

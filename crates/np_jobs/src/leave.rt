@@ -1,9 +1,7 @@
 //! How a requester leaves nodes.
 
 ghost use Rattle.std.specs.Prelude.{◌≡◌, IfSome, true};
-ghost use Rattle.np_text.specs.declared.id.Role.TheVariants.{Requester};
-ghost use Rattle.np_changes.specs.Planned.{IsReached};
-ghost use Rattle.np_fits.specs.Fits.{Fits};
+ghost use Rattle.np_changes.specs.Prelude.{Fits, IsReached, Requester};
 ghost use Rattle.np_useful.specs.Sessions.{is_current};
 ghost use Rattle.np_useful.specs.Useful.{IsUseful};
 ghost use Rattle.np_roles.specs.Choices.{ChoosesOfAny};

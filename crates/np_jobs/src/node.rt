@@ -1,8 +1,7 @@
 //! Which nodes are for a requester, and how it leaves them.
 
 ghost use Rattle.std.specs.Prelude.{◌≡◌, not};
-ghost use Rattle.np_changes.specs.Planned.{IsReached};
-ghost use Rattle.np_machine.specs.Kinds.{is_in_use};
+ghost use Rattle.np_changes.specs.Prelude.{IsReached, is_in_use};
 ghost use Rattle.np_useful.specs.Requester.{is_for, same_end, is_left_as};
 ghost use Rattle.np_useful.specs.Rows.{node_is};
 
@@ -49,7 +48,7 @@ fn is_same_end(one: EndAs, other: EndAs) -> bool
 
 /// Whether the job that has the node leaves its nodes this way. It asks the reader `owner` for that
 /// job, which an index answers by one lookup.
-#[tactic(auto, using(np_look::proofs::OwnerLemmas::owner_at))]
+#[tactic(auto, using(np_decision::proofs::OwnerLemmas::owner_at))]
 pub(crate) fn is_left_as<L: Look>(look: &L, node: NodeId, end: EndAs) -> bool
     ensures { result ≡ is_left_as (L.site look.now) (L.state look.now) node end }
 {

@@ -1,8 +1,7 @@
 //! The rows of a requester.
 
 ghost use Rattle.std.specs.Prelude.{◌≡◌};
-ghost use Rattle.np_text.specs.declared.id.Role.TheVariants.{Requester};
-ghost use Rattle.np_changes.specs.Planned.{IsReached};
+ghost use Rattle.np_changes.specs.Prelude.{IsReached, Requester};
 ghost use Rattle.np_useful.specs.Rows.{job_is, has_some_handle};
 ghost use Rattle.np_useful.specs.Useful.{row_holds};
 

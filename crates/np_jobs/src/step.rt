@@ -1,9 +1,7 @@
 //! What a requester does next with its jobs.
 
 ghost use Rattle.std.specs.Prelude.{◌≡◌, true};
-ghost use Rattle.np_text.specs.declared.id.Role.TheVariants.{Requester};
-ghost use Rattle.np_changes.specs.Planned.{IsReached};
-ghost use Rattle.np_fits.specs.Fits.{Fits};
+ghost use Rattle.np_changes.specs.Prelude.{Fits, IsReached, Requester};
 ghost use Rattle.np_useful.specs.Sessions.{is_current};
 ghost use Rattle.np_roles.specs.declared.kind.EventKind.TheVariants.{Node, Job};
 ghost use Rattle.np_roles.specs.declared.kind.NodeKind.TheVariants as of_node;

@@ -1,18 +1,16 @@
 //! Which jobs of a requester are in its window, and which wait for their semaphores.
 
 ghost use Rattle.std.specs.Prelude.{◌≡◌, false, slice_get};
-ghost use Rattle.std.specs.Option.{option_map_or};
-ghost use Rattle.np_fits.specs.Fits.{Fits};
+ghost use Rattle.np_changes.specs.Prelude.{Fits, option_map_or};
 ghost use Rattle.np_look.specs.Readers.{is_unfinished_job};
 ghost use Rattle.np_useful.specs.Rows.{job_is};
 ghost use Rattle.np_useful.specs.Window.{window_of, is_in_window};
 ghost use Rattle.np_useful.specs.Requester.{has_fulfilled_request, waits_for_handles, is_to_acquire};
 
-use np_config::Config;
+use np_config::{Config, Job};
 use np_decision::missing_handles;
 use np_look::{Look, Rows};
 use np_record::JobRecord;
-use np_site::Job;
 use np_text::{JobId, Phase, RequestState, RequesterId};
 
 /// How many jobs the requester works on at the same time.

@@ -22,7 +22,3 @@ pub position-map : {A B : Type 0} (p : B → Bool) (f : A → B) (xs : List A) �
 position-map p f xs =
     ap (λ n. cond (ltb n (length (map f xs))) (Some n) None) (prefix_len-map (λ y. not (p y)) f xs)
     ∙ ap (λ n. cond (ltb (position_or_len (λ x. p (f x)) xs) n) (Some (position_or_len (λ x. p (f x)) xs)) None) (length-map xs f)
-
--- a new key goes last
-pub insert_last : {K : Type 0} (eq : K → K → Bool) (ks : List K) (k : K) → list_any (eq k) ks ≡ false → cond (list_any (eq k) ks) ks (ks ++ k ∷ []) ≡ ks ++ k ∷ []
-insert_last eq ks k new = rw new refl

@@ -1,5 +1,5 @@
 -- what holds of what was read without a fault
-use Rattle.std.proofs.Common.{◌≡◌, ℕ, ◌+◌, ◌≤◌, List, codes, Bool, true, false, ◌&&◌, not, nat_le, Option, Some, None, Result, Ok, IfSome, decimal, refl, sym, ap, subst, arith, suc}
+use Rattle.std.proofs.Common.{◌≡◌, ℕ, ◌+◌, ◌≤◌, List, codes, Bool, true, false, ◌&&◌, not, nat_le, Option, Some, None, Result, Ok, IfSome, decimal, sym, ap, subst, arith, suc}
 use Rattle.std.proofs.lemmas.Bool.Decides.{nat_tests}
 use Rattle.std.specs.List.{list_any}
 use Rattle.std.specs.Option.{option_map_or, option_and_then}
@@ -16,6 +16,7 @@ use Rattle.np_lists.proofs.RefusalLemmas.{bind-ok, rest-ok, need-ok}
 use Rattle.np_json.specs.Reading.{fault, below}
 use Rattle.np_json.specs.Leaf.{object_at, required, text_value, in_range, whole_value, of_length, list_value, new_name, name_at, named_at, whole_required, whole_or, whole_maybe}
 use Rattle.np_json.specs.Rows.{ReadsItem, items_from, list_at, list_required, list_maybe}
+use Rattle.std.proofs.lemmas.Bool.{not-true}
 
 abbrev pub ok : {A : Type 0} → A → Result A ConfigFault
 ok x = Ok x
@@ -64,10 +65,6 @@ whole_maybe-takes at key least most d o e = by (get key d) e
 
 -- ## Names
 
-pub not_true : (b : Bool) → not b ≡ true → b ≡ false
-not_true true e = absurd (cc)
-not_true false e = refl
-
 name_at-takes : {T : Type 0} (name : T → List ℕ) (at : List ℕ) (earlier : List T) (d : Data) (n : List ℕ) → name_at name at earlier d ≡ Ok n
     → (is_name_text n ≡ true) × (list_any (λ row. bytes_eq n (name row)) earlier ≡ false)
 unfolding name_at new_name
@@ -79,7 +76,7 @@ name_at-takes {T} name at earlier d n e =
     let good = need-ok (is_name_text t.0) (fault BadName here) (need (unused t.0) (fault Repeated here) >> ok t.0) n t.2 in
     let new = need-ok (unused t.0) (fault Repeated here) (ok t.0) n good.1 in
     let same : t.0 ≡ n = same_ok t.0 n new.1 in
-    (subst (λ (m : List ℕ). is_name_text m ≡ true) same good.0, not_true _ (subst (λ (m : List ℕ). unused m ≡ true) same new.0))
+    (subst (λ (m : List ℕ). is_name_text m ≡ true) same good.0, not-true _ (subst (λ (m : List ℕ). unused m ≡ true) same new.0))
 
 pub named_at-takes : {T : Type 0} (name : T → List ℕ) (keys : List (List ℕ)) (at : List ℕ) (earlier : List T) (d : Data) (n : List ℕ) → named_at name keys at earlier d ≡ Ok n
     → (is_name_text n ≡ true) × (list_any (λ row. bytes_eq n (name row)) earlier ≡ false)

@@ -4,7 +4,7 @@ ghost use Rattle.std.specs.Prelude.{◌≡◌, ◌==◌, List, ℕ, ◌++◌, �
 ghost use Rattle.std.specs.List.{list_any};
 
 use indexmap::IndexSet;
-use np_site::Numbered;
+use np_config::Numbered;
 use std::alloc::{AllocError, Global};
 use std::marker::Model;
 

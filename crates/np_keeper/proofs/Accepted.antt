@@ -1,13 +1,8 @@
 -- the changes that a keeper is given may be made
 use Rattle.std.proofs.Common.{sym, subst, ap, arith, ◌∙◌}
-use Rattle.np_site.specs.Configuration.{Configuration}
-use Rattle.np_site.specs.Sound.{IsSound}
-use Rattle.np_machine.specs.State.{State}
-use Rattle.np_changes.specs.Changes.{changed}
-use Rattle.np_changes.specs.Planned.{IsPlanned, IsReached}
+use Rattle.np_changes.specs.Prelude.{Configuration, Fits, IsPlanned, IsReached, IsSound, State, changed}
 use Rattle.np_changes.specs.declared.changes.Changes.{Changes}
 use Rattle.np_changes.proofs.PlanLaws.{plan-next}
-use Rattle.np_fits.specs.Fits.{Fits}
 use Rattle.np_laws.proofs.Runs.{invariant-Runs}
 use Rattle.np_layout.specs.Carried.{IsCarried}
 use Rattle.np_enact.specs.Events.{IsReady}

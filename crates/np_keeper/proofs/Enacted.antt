@@ -1,29 +1,15 @@
 -- the tree after the changes of an event holds the changed state
 use Rattle.std.proofs.Common.{◌≡◌, ℕ, ◌+◌, ◌-◌, ◌*◌, ◌<◌, ◌≤◌, ◌^◌, List, [], ◌∷◌, Bool, true, false, cond, not, length, ◌⊎◌, inl, inr, refl, sym, ap, subst, ◌∙◌, arith}
 use Rattle.std.specs.Prelude.{min}
-use Rattle.std.specs.List.{AllByRecursion, list_any}
-use Rattle.np_session.specs.Known.{is_in}
-use Rattle.np_nodes.specs.TreeState.{TreeState}
-use Rattle.np_nodes.specs.After.{after_part, next_change, with_next_number}
-use Rattle.np_nodes.specs.Calls.{with_spare}
-use Rattle.np_nodes.specs.Multi.{after_multi, after_parts, is_check}
-use Rattle.np_nodes.specs.declared.node.Node.{Node}
-use Rattle.np_nodes.specs.declared.op.Op.{Op}
-use Rattle.np_views.specs.Several.{Goes, HasRoomFor}
-use Rattle.np_views.specs.Views.{rows_at}
-use Rattle.np_views.proofs.RelationLemmas.{parts-change_nodes_alone}
-use Rattle.np_views.proofs.SeveralLemmas.{checks-leave-the-tree, goes-under-one-number}
-use Rattle.np_machine.specs.State.{State}
-use Rattle.np_site.specs.Configuration.{Configuration}
-use Rattle.np_changes.specs.Changes.{changed}
-use Rattle.np_changes.specs.Premises.{SessionsPremise}
+use Rattle.np_changes.specs.Prelude.{AllByRecursion, Configuration, SessionsPremise, State, changed, list_any}
+use Rattle.np_layout.specs.Prelude.{Goes, HasRoomFor, IsStored, Node, Op, TreeState, after_multi, after_part, after_parts, is_check, is_in, next_change, rows_at, tree_session, with_next_number, with_spare}
+use Rattle.np_tree.proofs.RelationLemmas.{parts-change_nodes_alone}
+use Rattle.np_tree.proofs.SeveralLemmas.{checks-leave-the-tree, goes-under-one-number}
 use Rattle.np_changes.specs.declared.changes.Changes.{Changes}
 use Rattle.np_changes.specs.declared.changes.Growth.{Growth}
 use Rattle.np_changes.specs.declared.changes.Growth.TheVariants as grow
 use Rattle.np_changes.specs.declared.changes.SessionsChange.{SessionsChange}
 use Rattle.np_changes.specs.declared.changes.SessionsChange.TheVariants as sessions
-use Rattle.np_layout.specs.Rows.{tree_session}
-use Rattle.np_layout.specs.Carried.{IsStored}
 use Rattle.np_enact.specs.Events.{EventsEnact, IsEnacted}
 use Rattle.np_enact.specs.Parts.{enacted, parts_of, with_begin, with_end, writer}
 use Rattle.np_enact.specs.Stands.{Stands}
@@ -31,8 +17,9 @@ use Rattle.np_enact.proofs.Calls.{changes-after, number-of}
 use Rattle.np_enact.proofs.StandsLemmas.{room-less}
 use Rattle.np_layout.specs.Decoded.{TreesHaveOneState, decoded}
 use Rattle.np_keeper.specs.Keeper.{CanBegin, CanEnd, CanMake, HasSpare, Holds, IsHeld, MayChange, made, most_changes, room_left}
-use Rattle.np_keeper.proofs.Lives.{live-session, session-low, writer-lives, writer-low}
+use Rattle.np_keeper.proofs.Lives.{live-session, writer-lives, writer-low}
 use Rattle.np_keeper.proofs.Spared.{held-spared}
+use Rattle.np_changes.proofs.Facts.{session-low}
 
 -- ## the change number
 

@@ -2,33 +2,21 @@
 use Rattle.std.proofs.Common.{◌≡◌, ℕ, ◌+◌, ◌≤◌, ◌&&◌, Bool, true, false, not, List, [], ◌∷◌, ◌++◌, length, map, Result, Ok, Err, refl, sym, ap, subst, ◌∙◌, arith, zero, suc}
 use Rattle.std.specs.Prelude.{IsOk}
 use Rattle.std.specs.Fmt.{decimal}
-use Rattle.std.specs.List.{list_all, list_any, range_with_len}
+use Rattle.np_changes.specs.Prelude.{Configuration, IsSound, State, list_all, list_any, new_job, no_deeds, range_with_len, start}
 use Rattle.std.proofs.lemmas.List.{length-append}
 use Rattle.std.proofs.lemmas.List.Folds.{list_all-append}
 use Rattle.std.proofs.lemmas.List.FromFn.{length-map-range_with_len}
-use Rattle.np_site.specs.Configuration.{Configuration}
-use Rattle.np_site.specs.Sound.{IsSound}
-use Rattle.np_nodes.specs.TreeState.{TreeState, new_tree}
-use Rattle.np_nodes.specs.After.{with_next_number}
-use Rattle.np_nodes.specs.Calls.{after_begin, with_spare}
-use Rattle.np_nodes.specs.Multi.{AtPart, after_multi, after_parts, answers_from, is_check, is_numbered}
-use Rattle.np_nodes.specs.declared.op.Op.{Op}
+use Rattle.np_layout.specs.Prelude.{AtPart, Goes, HasRoomFor, IsStored, IsWhole, Op, TreeState, after_begin, after_multi, after_parts, answers_from, decoded, is_check, is_numbered, job_text, new_tree, role_text, with_next_number, with_spare}
 use Rattle.np_nodes.specs.declared.op.OpDone.{OpDone}
-use Rattle.np_tree.specs.Whole.{IsWhole}
-use Rattle.np_views.specs.Several.{Goes, HasRoomFor}
-use Rattle.np_views.proofs.SeveralLemmas.{answered-goes, goes-under-one-number}
-use Rattle.np_places.specs.declared.place.Place.{Place}
-use Rattle.np_places.specs.declared.place.Place.TheVariants.{Semaphore, Job, LauncherRole, JanitorRole, RequesterRole, Tick}
-use Rattle.np_machine.specs.State.{State, new_job, no_deeds, start}
-use Rattle.np_spelling.specs.Spelling.{job_text, role_text}
+use Rattle.np_tree.proofs.SeveralLemmas.{answered-goes, goes-under-one-number}
+use Rattle.np_layout.specs.declared.place.Place.{Place}
+use Rattle.np_layout.specs.declared.place.Place.TheVariants.{Semaphore, Job, LauncherRole, JanitorRole, RequesterRole, Tick}
 use Rattle.np_layout.specs.First.{first_directories, first_parts, first_tree, make, make_each}
 use Rattle.np_layout.proofs.FirstTrees.{first-goes, first-lays}
 use Rattle.np_enact.proofs.StandsLemmas.{room-after}
-use Rattle.np_layout.specs.Carried.{IsStored}
 use Rattle.np_enact.proofs.Calls.{changes-after}
 use Rattle.np_enact.proofs.StandsLemmas.{room-less}
 use Rattle.np_enact.proofs.Starts.{starts-are-carried}
-use Rattle.np_layout.specs.Decoded.{decoded}
 use Rattle.np_layout.proofs.OneState.{trees-have-one_state}
 use Rattle.np_keeper.specs.Keeper.{IsHeld, room_left}
 use Rattle.np_keeper.proofs.Made.{zero-text}

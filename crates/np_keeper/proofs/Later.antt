@@ -1,19 +1,11 @@
 -- each step of making the changes of an event leaves a later tree
 use Rattle.std.proofs.Common.{◌≡◌, ℕ, ◌<◌, List, refl, sym, ap, subst, arith, ◌∙◌}
-use Rattle.std.specs.List.{AllByRecursion}
-use Rattle.np_nodes.specs.TreeState.{TreeState}
-use Rattle.np_nodes.specs.Calls.{with_spare}
-use Rattle.np_nodes.specs.Multi.{after_multi, after_parts}
-use Rattle.np_nodes.specs.declared.op.Op.{Op}
-use Rattle.np_tree.specs.Whole.{IsPart, IsWhole}
-use Rattle.np_views.specs.Dates.{IsLater}
-use Rattle.np_views.specs.Several.{Goes}
-use Rattle.np_views.proofs.LaterLemmas.{begins-later, calls-later, ends-later, later-joined, later-than-itself, reserves-later}
+use Rattle.np_layout.specs.Prelude.{AllByRecursion, Goes, IsLater, IsPart, IsWhole, Op, TreeState, after_multi, after_parts, tree_session, with_spare}
+use Rattle.np_tree.proofs.LaterLemmas.{begins-later, calls-later, ends-later, later-joined, later-than-itself, reserves-later}
 use Rattle.np_changes.specs.declared.changes.Growth.{Growth}
 use Rattle.np_changes.specs.declared.changes.Growth.TheVariants as grow
 use Rattle.np_changes.specs.declared.changes.SessionsChange.{SessionsChange}
 use Rattle.np_changes.specs.declared.changes.SessionsChange.TheVariants as sessions
-use Rattle.np_layout.specs.Rows.{tree_session}
 use Rattle.np_enact.specs.Parts.{with_begin, with_end}
 
 -- another spare

@@ -6,3 +6,4 @@ pub mod Accepted
 pub mod Made
 pub mod FirstParts
 pub mod Later
+pub mod Laid

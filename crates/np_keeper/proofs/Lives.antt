@@ -2,23 +2,14 @@
 use Rattle.std.proofs.Common.{◌≡◌, ℕ, ◌+◌, ◌-◌, ◌^◌, ◌<◌, ◌≤◌, List, [], ◌∷◌, Bool, true, false, cond, Option, Some, None, length, refl, ap, ◌∙◌, arith, zero, suc}
 use Rattle.std.specs.Prelude.{◌==◌, slice_get}
 use Rattle.std.proofs.lemmas.Bool.Decides.{nat_tests}
-use Rattle.std.proofs.lemmas.Option.{slice_get_within}
-use Rattle.np_session.specs.Known.{is_in}
-use Rattle.np_text.specs.declared.id.SessionId.{SessionId}
-use Rattle.np_nodes.specs.TreeState.{TreeState}
-use Rattle.np_views.specs.Views.{Row}
-use Rattle.np_site.specs.Configuration.{Configuration}
-use Rattle.np_machine.specs.State.{State}
-use Rattle.np_machine.specs.Tables.{session_of}
-use Rattle.np_machine.specs.declared.state.SessionFacts.{SessionFacts}
-use Rattle.np_changes.specs.Premises.{MakerPremise}
+use Rattle.np_layout.specs.Prelude.{Row, TreeState, is_in, tree_session, under}
+use Rattle.np_changes.specs.Prelude.{Configuration, MakerPremise, SessionFacts, SessionId, State, session_of}
 use Rattle.np_changes.specs.declared.changes.Maker.{Maker}
-use Rattle.np_layout.specs.Layout.{under}
-use Rattle.np_layout.specs.Rows.{tree_session}
-use Rattle.np_places.specs.declared.place.Place.TheVariants.{Sessions}
+use Rattle.np_layout.specs.declared.place.Place.TheVariants.{Sessions}
 use Rattle.np_enact.specs.Parts.{writer}
 use Rattle.np_layout.specs.Decoded.{decoded, session_at, sessions_from}
 use Rattle.np_keeper.specs.Keeper.{IsHeld}
+use Rattle.np_changes.proofs.Facts.{session-low}
 
 -- the session at a place of the list
 live-at : (t : TreeState) (rows : List Row) (at k : ℕ) (facts : SessionFacts) → slice_get (sessions_from t at rows) k ≡ Some facts → is_in t.live (at + k + 1) ≡ facts.live
@@ -40,13 +31,6 @@ live-session c t session facts there = by (session.0 == 0) refl there where
       let low : 1 ≤ session.0 = grind (arith, nat_tests) in
       let same : session.0 + 1 ≡ 1 + (session.0 - 1) + 1 = omega arith in
       ap (λ (n : ℕ). is_in t.live n) same ∙ live-at t (under Sessions t) 1 (session.0 - 1) facts there
-
--- a session of the state has a number that is at most how many there are
-pub session-low : (session : SessionId) (s : State) (facts : SessionFacts) → session_of session s ≡ Some facts → session.0 ≤ length s.sessions
-session-low session s facts there = by (session.0 == 0) refl there where
-  by : (b : Bool) → (session.0 == 0) ≡ b → cond b None (slice_get s.sessions (session.0 - 1)) ≡ Some facts → session.0 ≤ length s.sessions
-  by true is there = absurd cc
-  by false is there = let low = slice_get_within s.sessions (session.0 - 1) facts there in omega arith
 
 -- who writes the changes is live
 pub writer-lives : (c : Configuration) (t : TreeState) (maker : Option Maker) → IsHeld c t → MakerPremise (decoded c t) maker → is_in t.live (writer maker) ≡ true

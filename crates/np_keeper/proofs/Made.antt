@@ -2,13 +2,13 @@
 use Rattle.std.proofs.Common.{◌≡◌, ℕ, ◌+◌, ◌≤◌, List, [], ◌∷◌, ◌++◌, length, map, Some, None, refl, sym, ap, ◌∙◌, arith, zero, suc}
 use Rattle.std.specs.Prelude.{slice_get}
 use Rattle.std.specs.Fmt.{decimal, digits}
-use Rattle.std.specs.List.{range_with_len}
+use Rattle.np_layout.specs.Prelude.{Op, range_with_len}
 use Rattle.std.proofs.lemmas.List.{append-nil, append_assoc}
 use Rattle.std.proofs.lemmas.List.FromFn.{map-range_with_len_more}
 use Rattle.std.proofs.lemmas.Option.{slice_get_within}
-use Rattle.np_nodes.specs.declared.op.Op.{Op}
-use Rattle.np_places.specs.declared.place.Place.{Place}
+use Rattle.np_layout.specs.declared.place.Place.{Place}
 use Rattle.np_layout.specs.First.{make, make_each}
+use Rattle.np_lists.proofs.Plain.{past-end}
 
 -- twelve parts, each behind the one before
 pub twelve : (old : List Op) (a b c d e f g h i j k l : Op) → (((((((((((old ++ (a ∷ [])) ++ (b ∷ [])) ++ (c ∷ [])) ++ (d ∷ [])) ++ (e ∷ [])) ++ (f ∷ [])) ++ (g ∷ [])) ++ (h ∷ [])) ++ (i ∷ [])) ++ (j ∷ [])) ++ (k ∷ [])) ++ (l ∷ []) ≡ old ++ (a ∷ b ∷ c ∷ d ∷ e ∷ f ∷ g ∷ h ∷ i ∷ j ∷ k ∷ l ∷ [])
@@ -19,11 +19,6 @@ twelve (x ∷ old) a b c d e f g h i j k l = ap (λ (parts : List Op). x ∷ par
 pub record IsMade {A : Type 0} (bytes : List ℕ) (place : ℕ → Place) (list : List A) (old ops : List Op) (at : ℕ) : Type 0 where
   pub low : at ≤ length list
   pub is : ops ≡ old ++ map (λ n. make bytes (place n)) (range_with_len 0 at)
-
-get-high : {A : Type 0} (list : List A) (at : ℕ) → slice_get list at ≡ None → length list ≤ at
-get-high [] at past = omega arith
-get-high (x ∷ list) zero past = absurd cc
-get-high (x ∷ list) (suc at) past = let high = get-high list at past in omega arith
 
 module _ {A : Type 0} (bytes : List ℕ) (place : ℕ → Place) (list : List A) (old : List Op) where
   -- none yet
@@ -44,7 +39,7 @@ module _ {A : Type 0} (bytes : List ℕ) (place : ℕ → Place) (list : List A)
   -- all of them
   pub made-all : (ops : List Op) (at : ℕ) → slice_get list at ≡ None → IsMade bytes place list old ops at → ops ≡ old ++ make_each bytes place list
   made-all ops at past made =
-      let high = get-high list at past in
+      let high = past-end list at past in
       let low = made.low in
       let same : at ≡ length list = omega arith in
       made.is ∙ ap (λ (n : ℕ). old ++ map (λ k. make bytes (place k)) (range_with_len 0 n)) same

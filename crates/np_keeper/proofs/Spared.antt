@@ -1,27 +1,10 @@
 -- a tree with another spare: nothing of the layout sees it
 use Rattle.std.proofs.Common.{◌≡◌, ℕ, ◌+◌, List, [], ◌∷◌, Bool, true, false, cond, not, Option, Some, None, Result, Ok, Err, OnErr, OnOk, refl, sym, ap, subst, ◌∙◌}
-use Rattle.std.specs.List.{list_any}
-use Rattle.np_nodes.specs.TreeState.{TreeState}
-use Rattle.np_nodes.specs.After.{after_create_under, after_part, next_change, where_found, with_new_child, with_next_number}
-use Rattle.np_nodes.specs.Answer.{part_answer}
-use Rattle.np_nodes.specs.Calls.{with_spare}
-use Rattle.np_nodes.specs.Multi.{AtPart, after_multi, after_parts, and_then, answers_from, is_check}
-use Rattle.np_nodes.specs.Nodes.{at_path}
-use Rattle.np_nodes.specs.declared.kind.Mode.{Mode}
-use Rattle.np_nodes.specs.declared.node.Node.{Node}
-use Rattle.np_nodes.specs.declared.op.Op.{Op}
+use Rattle.np_changes.specs.Prelude.{Configuration, State, list_any}
+use Rattle.np_layout.specs.Prelude.{AtPart, HasGoodIds, HasRoomFor, IsStored, LaysOut, Mode, Node, Op, TreeRefusal, TreeState, after_create_under, after_multi, after_part, after_parts, and_then, answers_from, at_path, decoded, is_check, name_of, next_change, parent_of, part_answer, where_found, with_new_child, with_next_number, with_spare}
 use Rattle.np_nodes.specs.declared.op.Op.TheVariants as op
 use Rattle.np_nodes.specs.declared.op.OpDone.{OpDone}
-use Rattle.np_nodes.specs.declared.refusal.TreeRefusal.{TreeRefusal}
-use Rattle.np_path.specs.Parts.{name_of, parent_of}
-use Rattle.np_views.specs.Several.{HasRoomFor}
-use Rattle.np_machine.specs.State.{State}
-use Rattle.np_site.specs.Configuration.{Configuration}
-use Rattle.np_layout.specs.Layout.{LaysOut}
-use Rattle.np_layout.specs.Sets.{HasGoodIds}
 use Rattle.np_layout.proofs.Elsewhere.{Stays, frame-stays, jobs-stay, launchers-stay, live-stays, node_locks-stay, nodes-stay, request_locks-stay, requests-stay, roles-stay, semaphores-stay, sessions-stay, swept-stay}
-use Rattle.np_layout.specs.Carried.{IsStored}
-use Rattle.np_layout.specs.Decoded.{decoded}
 use Rattle.np_keeper.specs.Keeper.{Holds, IsHeld}
 
 -- ## what the layout does not see

@@ -1,24 +1,14 @@
 -- what holds of a tree in which a machine writes
 use Rattle.std.specs.Prelude.{◌<◌, ◌+◌, ◌-◌, ◌*◌, ◌^◌, ◌≡◌, ℕ, true, List, length}
-use Rattle.np_session.specs.Known.{is_in}
-use Rattle.np_nodes.specs.TreeState.{TreeState}
-use Rattle.np_nodes.specs.Calls.{with_spare}
-use Rattle.np_nodes.specs.Multi.{after_multi, after_parts}
-use Rattle.np_nodes.specs.declared.op.Op.{Op}
-use Rattle.np_views.specs.Several.{Goes, HasRoomFor}
-use Rattle.np_site.specs.Configuration.{Configuration}
-use Rattle.np_machine.specs.State.{State}
-use Rattle.np_changes.specs.Changes.{changed}
+use Rattle.np_layout.specs.Prelude.{Goes, HasRoomFor, IsCarried, IsStored, Op, TreeState, after_multi, after_parts, decoded, is_in, tree_session, with_spare}
+use Rattle.np_changes.specs.Prelude.{Configuration, State, changed}
 use Rattle.np_changes.specs.declared.changes.Changes.{Changes}
 use Rattle.np_changes.specs.declared.changes.Growth.{Growth}
 use Rattle.np_changes.specs.declared.changes.Growth.TheVariants as grow
 use Rattle.np_changes.specs.declared.changes.SessionsChange.{SessionsChange}
 use Rattle.np_changes.specs.declared.changes.SessionsChange.TheVariants as sessions
-use Rattle.np_layout.specs.Rows.{tree_session}
-use Rattle.np_layout.specs.Carried.{IsCarried, IsStored}
 use Rattle.np_enact.specs.Events.{IsReady}
 use Rattle.np_enact.specs.Parts.{with_begin, with_end, writer}
-use Rattle.np_layout.specs.Decoded.{decoded}
 
 -- the change numbers that a tree may take (own)
 abbrev pub most_changes : ℕ

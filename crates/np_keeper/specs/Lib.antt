@@ -1,1 +1,2 @@
 pub mod Keeper
+pub use Rattle.np_layout.specs.Carried

@@ -1,14 +1,9 @@
 //! The changes of an event, made in the tree.
 
 ghost use Rattle.std.specs.Prelude.{◌≡◌, ◌<◌, ◌≤◌, true, length, OnOk, OnErr};
-ghost use Rattle.std.specs.List.{list_all};
-ghost use Rattle.np_nodes.specs.Calls.{with_spare};
-ghost use Rattle.np_nodes.specs.Multi.{after_multi, after_parts, is_numbered};
-ghost use Rattle.np_views.specs.Several.{Goes};
-ghost use Rattle.np_views.specs.Dates.{IsLater};
-ghost use Rattle.np_changes.specs.Changes.{changed};
+ghost use Rattle.np_changes.specs.Prelude.{changed, list_all};
+ghost use Rattle.np_layout.specs.Prelude.{Goes, IsLater, after_multi, after_parts, decoded, is_numbered, with_spare};
 ghost use Rattle.np_enact.specs.Parts.{with_begin, with_end, writer};
-ghost use Rattle.np_layout.specs.Decoded.{decoded};
 ghost use Rattle.np_keeper.specs.Keeper.{CanBegin, CanEnd, CanMake, HasSpare, Holds, IsHeld, MayChange, made};
 
 use crate::range::parts_are_proper;
@@ -134,7 +129,7 @@ pub(crate) fn write<R: Rows>(
 /// session begins or ends. Fewer than 16,777,214 changes were made before. An error says that memory
 /// ran out, and then only the memory for a session may be there that was not. The cost is that of
 /// reading what the parts need from the tree (np_readers), and of the call.
-pub fn enact(
+pub(crate) fn enact_changes(
     alloc: Global,
     tree: &mut Tree,
     config: &Config,

@@ -2,9 +2,7 @@
 //! functions do nothing: a caller's proof takes the facts from them.
 
 ghost use Rattle.std.specs.Prelude.{◌≡◌, true};
-ghost use Rattle.std.specs.List.{AllByRecursion, list_all};
-ghost use Rattle.np_nodes.specs.Multi.{is_numbered};
-ghost use Rattle.np_tree.specs.Whole.{IsPart};
+ghost use Rattle.np_layout.specs.Prelude.{AllByRecursion, IsPart, is_numbered, list_all};
 ghost use Rattle.np_enact.specs.Ready.{IsTyped, IsTypedEdit, IsTypedGrowth, IsTypedNodes, IsTypedRequests};
 
 use np_changes::{Changes, Growth, NodesChange, RequestEdit, RequestsChange};

@@ -1,20 +1,15 @@
 //! The tree before the first event.
 
 ghost use Rattle.std.specs.Prelude.{◌≡◌, ◌++◌, ◌∷◌, ◌≤◌, [], length, map, IfOk, OnOk};
-ghost use Rattle.np_site.specs.Sound.{IsSound};
-ghost use Rattle.np_nodes.specs.Calls.{after_begin, with_spare};
-ghost use Rattle.np_nodes.specs.TreeState.{new_tree};
-ghost use Rattle.np_places.specs.Place.{IsGood};
-ghost use Rattle.np_machine.specs.State.{new_job, no_deeds, start};
-ghost use Rattle.np_spelling.specs.Spelling.{job_text, role_text};
+ghost use Rattle.np_changes.specs.Prelude.{IsSound, new_job, no_deeds, start};
+ghost use Rattle.np_layout.specs.Prelude.{IsGood, after_begin, decoded, job_text, new_tree, role_text, with_spare};
 ghost use Rattle.np_layout.specs.First.{first_directories, first_parts, make, make_each};
-ghost use Rattle.np_layout.specs.Decoded.{decoded};
 ghost use Rattle.np_keeper.specs.Keeper.{IsHeld};
 
 use crate::change::call;
 use np_config::Config;
+use np_layout::{Place, to_path};
 use np_nodes::{Bytes, Mode, Op};
-use np_places::{Place, to_path};
 use np_record::{JobRecord, MarkRow, RoleRecord};
 use np_spelling::Record;
 use np_text::{JobId, NoMemory, Phase, PoolId, RequesterId, SemId};

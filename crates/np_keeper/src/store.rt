@@ -2,8 +2,8 @@
 
 ghost use Rattle.std.specs.Prelude.{◌≡◌, IfOk};
 ghost use Rattle.np_machine.specs.State.{start};
-ghost use Rattle.np_views.specs.Dates.{IsLater};
-ghost use Rattle.np_views.proofs.LaterLemmas.{later-than-itself};
+ghost use Rattle.np_tree.specs.Dates.{IsLater};
+ghost use Rattle.np_tree.proofs.LaterLemmas.{later-than-itself};
 ghost use Rattle.np_keeper.specs.Keeper.{Holds};
 
 use crate::change::write;

@@ -3,14 +3,8 @@
 use Rattle.std.proofs.Common.{◌≡◌, arith, true, false, ap, refl}
 use Rattle.std.specs.Prelude.{ℕ, Bool, nat_lt, ◌==◌}
 use Rattle.std.proofs.lemmas.Bool.Decides.{nat_tests}
-use Rattle.np_text.specs.declared.id.NodeId.{NodeId}
-use Rattle.np_text.specs.declared.id.RequestId.{RequestId}
-use Rattle.np_text.specs.declared.id.JobId.{JobId}
-use Rattle.np_text.specs.declared.id.SessionId.{SessionId}
+use Rattle.np_machine.specs.Prelude.{JobId, NodeId, RequestId, SessionId, is_id_before, is_pair, is_pair_after, same_request}
 use Rattle.np_machine.specs.declared.state.Swept.{Swept}
-use Rattle.np_machine.specs.Tables.{same_request}
-use Rattle.np_machine.specs.Order.{is_id_before}
-use Rattle.np_machine.specs.Node.{is_pair, is_pair_after}
 
 -- ## nodes
 

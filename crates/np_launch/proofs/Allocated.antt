@@ -2,43 +2,27 @@
 -- of a request by its number is true of its row
 use Rattle.std.proofs.Common.{◌≡◌, ◌∙◌, ◌<◌, ℕ, List, length, Option, Some, None, true, false, refl, ap, arith}
 use Rattle.std.specs.Prelude.{◌&&◌, not, slice_get, is_none, is_some, Bool, option_and_then, if◌then◌else◌}
-use Rattle.std.specs.Option.{option_map, option_map_or}
-use Rattle.std.specs.List.{list_any}
+use Rattle.np_changes.specs.Prelude.{Configuration, IsReached, NodeId, NodeRecord, PoolId, RequestEntry, RequestId, RequestRecord, RequestState, Rises, State, is_id_before, is_pending, is_pending_by, is_pool, is_request, list_any, node_in, option_map, option_map_or, request_entry, request_in, same_request}
 use Rattle.std.specs.Cmp.{both_ways}
 use Rattle.std.specs.Cmp.Derive.{both_true}
 use Rattle.std.proofs.lemmas.Bool.{and_parts}
 use Rattle.std.proofs.lemmas.Bool.Decides.{nat_tests}
 use Rattle.std.proofs.lemmas.Option.{slice_get_within}
-use Rattle.np_text.specs.declared.id.PoolId.{PoolId}
-use Rattle.np_text.specs.declared.id.NodeId.{NodeId}
-use Rattle.np_text.specs.declared.id.RequestId.{RequestId}
-use Rattle.np_text.specs.declared.word.RequestState.{RequestState}
 use Rattle.np_text.specs.declared.word.RequestState.TheVariants as request_state
-use Rattle.np_site.specs.Configuration.{Configuration}
-use Rattle.np_record.specs.declared.record.RequestRecord.{RequestRecord}
-use Rattle.np_record.specs.declared.record.NodeRecord.{NodeRecord}
-use Rattle.np_lists.specs.Rising.{Rises}
 use Rattle.np_lists.proofs.EditLemmas.{list_any-there}
-use Rattle.np_machine.specs.Entries.{RequestEntry}
-use Rattle.np_machine.specs.Kinds.{is_pending}
-use Rattle.np_machine.specs.Order.{is_id_before, is_pool, is_pending_by}
-use Rattle.np_machine.specs.State.{State}
-use Rattle.np_machine.specs.Tables.{is_request, same_request, request_entry, request_in, node_in}
-use Rattle.np_changes.specs.Planned.{IsReached}
 use Rattle.np_laws.specs.Parts.{IsServed, StandsIn, Invariant}
-use Rattle.np_laws.proofs.Lookups.{same_request-is, same_request-self}
-use Rattle.np_laws.proofs.Places.{any-place, node-place, place-there}
+use Rattle.np_laws.proofs.Places.{any-place, node-place}
 use Rattle.np_laws.proofs.Runs.{invariant-Runs}
 use Rattle.np_useful.specs.Launcher.{is_wanted_by, is_to_launch}
 use Rattle.np_useful.specs.Rows.{node_is, is_listed, has_failed_node}
 use Rattle.np_roles.proofs.Places.{find-place}
 use Rattle.np_launch.specs.Allocated.{served_request}
 use Rattle.np_launch.proofs.Finds.{find-there}
+use Rattle.np_changes.proofs.Facts.{request-apart}
+use Rattle.np_machine.proofs.Ids.{request-equal, request-itself}
+use Rattle.np_lists.proofs.Plain.{member-there}
 
 -- ## requests, each number once
-
-earlier-apart : (a b : RequestId) → is_id_before a b ≡ true → same_request a b ≡ false
-earlier-apart a b order = grind (arith, nat_tests)
 
 later-apart : (a b : RequestId) → is_id_before b a ≡ true → same_request a b ≡ false
 later-apart a b order = grind (arith, nat_tests)
@@ -46,11 +30,11 @@ later-apart a b order = grind (arith, nat_tests)
 -- the request at a place is the request with its id
 pub entry-there : (rows : List RequestEntry) (i : ℕ) (e : RequestEntry) → Rises (λ a b. is_id_before a.id b.id) rows → slice_get rows i ≡ Some e → request_entry e.id rows ≡ Some e
 entry-there rows i e rise there =
-    find-there (λ (a b : RequestEntry). is_id_before a.id b.id) (λ (x : RequestEntry). same_request x.id e.id) rows i e rise there (λ y order. earlier-apart y.id e.id order) (λ y order. later-apart y.id e.id order) (same_request-self e.id)
+    find-there (λ (a b : RequestEntry). is_id_before a.id b.id) (λ (x : RequestEntry). same_request x.id e.id) rows i e rise there (λ y order. request-apart y.id e.id order) (λ y order. later-apart y.id e.id order) (request-itself e.id)
 
 named : (r : RequestId) (o : Option RequestId) → is_request r o ≡ true → o ≡ Some r
 named r None is = absurd cc
-named r (Some other) is = ap (λ (x : RequestId). Some x) (same_request-is other r is)
+named r (Some other) is = ap (λ (x : RequestId). Some x) (request-equal other r is)
 
 -- ## the node's request
 
@@ -62,7 +46,7 @@ module _ (c : Configuration) (s : State) (holds : Invariant c s) (p : PoolId) (n
     of_served served =
         let place = node-place n q.nodes listed in
         let within : place.0 < length q.labels = omega (arith, served.few, slice_get_within q.nodes place.0 n place.1) in
-        let label = place-there q.labels place.0 within in
+        let label = member-there q.labels place.0 within in
         named r k.allocated_to ((served.each place.0 n label.0 k place.1 label.1 stands).allocated)
 
     by : (state : RequestState) → is_pending state ≡ true → StandsIn s r q state → k.allocated_to ≡ Some r

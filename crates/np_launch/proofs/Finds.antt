@@ -1,9 +1,8 @@
 -- the first member that passes a test
 use Rattle.std.proofs.Common.{◌≡◌, ◌∙◌, ◌≤◌, ◌+◌, length, drop, ℕ, zero, suc, add-one, Bool, true, false, List, [], ◌∷◌, Option, Some, None, refl, sym, ap}
 use Rattle.std.specs.Prelude.{◌&&◌, ◌||◌, find, filter, map, slice_get, is_some, option_and_then, if◌then◌else◌}
-use Rattle.std.specs.Option.{option_map}
+use Rattle.np_changes.specs.Prelude.{Rises, option_map}
 use Rattle.std.specs.List.{AllByRecursion, list_any, remove}
-use Rattle.np_lists.specs.Rising.{Rises}
 use Rattle.np_lists.proofs.EditLemmas.{insert-remove}
 use Rattle.np_lists.proofs.FoundLemmas.{find-insert}
 use Rattle.np_lists.proofs.RisingLemmas.{none-remove}
@@ -17,10 +16,6 @@ any-by q x xs false is later = rw is later
 pub any-find : {X : Type 0} (q : X → Bool) (xs : List X) → list_any q xs ≡ is_some (find q xs)
 any-find q [] = refl
 any-find q (x ∷ xs) = any-by q x xs (q x) refl (any-find q xs)
-
-pub map-some : {X Y : Type 0} (f : X → Y) (o : Option X) → is_some (option_map f o) ≡ is_some o
-map-some f None = refl
-map-some f (Some x) = refl
 
 some-by : {X : Type 0} (q : X → Bool) (x : X) (xs : List X) (b : Bool) → q x ≡ b → ((y : X) × (find q xs ≡ Some y)) → (y : X) × (find q (x ∷ xs) ≡ Some y)
 some-by q x xs true is later = (x, rw is refl)

@@ -1,32 +1,16 @@
 -- a launcher joins the queue of a request only while it is registered for its pool
-use Rattle.std.proofs.Common.{◌≡◌, ◌∙◌, ap, refl, ℕ, Bool, true, false, Option, Some, None, Result, Ok, is_ok, slice_get, if◌then◌else◌}
-use Rattle.np_text.specs.declared.id.SessionId.{SessionId}
-use Rattle.np_text.specs.declared.id.PoolId.{PoolId}
-use Rattle.np_text.specs.declared.id.RequestId.{RequestId}
-use Rattle.np_text.specs.declared.id.NodeId.{NodeId}
-use Rattle.np_text.specs.declared.id.Role.{Role}
-use Rattle.np_text.specs.declared.id.Role.TheVariants.{Launcher}
-use Rattle.np_site.specs.Configuration.{Configuration}
-use Rattle.np_event.specs.declared.event.Event.{Event}
+use Rattle.std.proofs.Common.{◌≡◌, ◌∙◌, ap, refl, ℕ, Bool, true, false, Option, Some, Result, Ok, is_ok, slice_get, if◌then◌else◌}
+use Rattle.np_changes.specs.Prelude.{Configuration, Done, Event, Launcher, NodeId, PoolId, Refusal, RequestId, Role, SessionId, State, is_session_of, is_wanted, janitor, judge, judge_lock_request, launcher, lock_request_as, maker, next_label, node_in, registered, request_in, request_of_job, requester, session_of}
 use Rattle.np_event.specs.declared.event.Event.TheVariants as ev
-use Rattle.np_event.specs.declared.reply.Done.{Done}
-use Rattle.np_event.specs.declared.reply.Refusal.{Refusal}
 use Rattle.np_event.specs.declared.reply.Refusal.TheVariants as no
-use Rattle.np_machine.specs.State.{State}
-use Rattle.np_machine.specs.Tables.{session_of, is_session_of, registered, request_in, node_in}
-use Rattle.np_machine.specs.Tests.{maker, launcher, janitor, requester}
-use Rattle.np_machine.specs.Reasons.{next_label}
-use Rattle.np_machine.specs.Request.{request_of_job, lock_request_as, judge_lock_request}
-use Rattle.np_machine.specs.Node.{is_wanted}
-use Rattle.np_machine.specs.Step.{judge}
 use Rattle.np_changes.specs.Plan.{same, with_found, with_given, made_by, plan_lock_request, plan}
 use Rattle.np_changes.specs.declared.changes.Maker.{Maker}
 use Rattle.np_changes.specs.declared.changes.Changes.{Changes}
 use Rattle.np_changes.specs.declared.changes.Growth.{Growth}
 use Rattle.np_changes.specs.declared.changes.Growth.TheVariants as grow
 use Rattle.np_changes.proofs.Tested.{ok-is, on-given, on-found, on-need}
-use Rattle.np_laws.proofs.Firsts.{session-is}
 use Rattle.np_laws.proofs.Through.{plan-found, plan-given, plan-made}
+use Rattle.np_laws.proofs.Pinned.{holder-waits}
 
 -- a launcher that joins the queue of a request is registered for its pool
 pub record JoinsRegistered (s : State) (ch : Changes) : Type 0 where
@@ -65,16 +49,12 @@ not-swept false n x = refl
 
 -- ## the lock of a request
 
-session-named : (session : SessionId) (o : Option SessionId) → is_session_of session o ≡ true → o ≡ Some session
-session-named session None is = absurd cc
-session-named session (Some other) is = ap (λ (x : SessionId). Some x) (session-is other session is)
-
 module _ (c : Configuration) (s : State) (session : SessionId) (r : RequestId) (what : Done) where
   lock-registered : (role : Role) (p : PoolId) → role ≡ Launcher p → lock_request_as c s session r role ≡ Ok what → registered p s.registrations ≡ Some session
   lock-registered role p is locks =
       on-found (request_in r s.requests) no.NoRequest _ what (rw is at locks) (λ request has rest.
       on-need (is_session_of session (registered p s.registrations)) no.NotRegistered _ what rest (λ registers _.
-      session-named session (registered p s.registrations) registers))
+      holder-waits session (registered p s.registrations) registers))
 
   lock-joins : judge_lock_request c s session r ≡ Ok what → JoinsRegistered s (plan_lock_request s session r)
   lock-joins ok =

@@ -1,31 +1,10 @@
 -- a launcher locks only the first request that its pool may take up
 use Rattle.std.proofs.Common.{◌≡◌, ◌∙◌, Bool, true, false, cond, List, [], ◌∷◌, Option, Some, None, Result, Ok, refl, sym, ap, subst}
 use Rattle.std.specs.Prelude.{find, filter, fold, is_ok, is_some}
-use Rattle.std.specs.Option.{option_map, option_map_or}
-use Rattle.np_text.specs.declared.id.SessionId.{SessionId}
-use Rattle.np_text.specs.declared.id.PoolId.{PoolId}
-use Rattle.np_text.specs.declared.id.RequestId.{RequestId}
-use Rattle.np_text.specs.declared.id.Role.{Role}
-use Rattle.np_text.specs.declared.id.Role.TheVariants.{Launcher}
-use Rattle.np_site.specs.Configuration.{Configuration}
-use Rattle.np_record.specs.declared.record.RequestRecord.{RequestRecord}
-use Rattle.np_event.specs.declared.event.Event.{Event}
+use Rattle.np_changes.specs.Prelude.{Configuration, Done, Event, Launcher, PoolId, Refusal, RequestEntry, RequestId, RequestRecord, Role, SessionId, State, blocking, comes_before, earlier, first_of, found, holder, is_candidate, is_declined_by, is_pinned_away, is_requested, is_session_of, judge, least, lock_request_as, option_map, option_map_or, other_than, registered, request_at, request_entry, request_holder, request_in, same_request, wrong_request, ◌>>=◌}
 use Rattle.np_event.specs.declared.event.Event.TheVariants as ev
-use Rattle.np_event.specs.declared.reply.Done.{Done}
-use Rattle.np_event.specs.declared.reply.Refusal.{Refusal}
 use Rattle.np_event.specs.declared.reply.Refusal.TheVariants as no
-use Rattle.np_lists.specs.Refusals.{◌>>=◌, found}
-use Rattle.np_machine.specs.Entries.{RequestEntry}
-use Rattle.np_machine.specs.First.{blocking, earlier, first_of, is_candidate, least}
-use Rattle.np_machine.specs.Kinds.{is_requested}
-use Rattle.np_machine.specs.Order.{comes_before, is_declined_by, is_pinned_away}
-use Rattle.np_machine.specs.Request.{lock_request_as, other_than}
-use Rattle.np_machine.specs.State.{State}
-use Rattle.np_machine.specs.Step.{judge}
-use Rattle.np_machine.specs.Tables.{holder, registered, request_entry, request_holder, request_in, same_request, is_session_of}
-use Rattle.np_machine.specs.Tests.{request_at, wrong_request}
 use Rattle.np_changes.proofs.Tested.{ok-is, on-given, on-need, on-not, on-vacant}
-use Rattle.np_laws.proofs.Lookups.{same_request-is}
 use Rattle.np_useful.specs.Sessions.{is_current}
 use Rattle.np_useful.specs.Useful.{IsUseful}
 use Rattle.np_roles.specs.declared.kind.EventKind.TheVariants.{Request}
@@ -37,6 +16,7 @@ use Rattle.np_launch.specs.declared.launcher.LaunchKind.{LaunchKind}
 use Rattle.np_launch.specs.declared.launcher.LaunchKind.TheVariants.{Plain}
 use Rattle.np_launch.specs.Choices.{ChoosesLaunched}
 use Rattle.np_launch.proofs.Sums.{maker-is}
+use Rattle.np_machine.proofs.Ids.{request-equal}
 
 -- ## of some candidates, one is the first
 
@@ -74,7 +54,7 @@ module _ (c : Configuration) (s : State) (p : PoolId) (r : RequestId) where
   first-is None some none = absurd cc
   first-is (Some first) some none = by (same_request first r) refl none where
     by : (b : Bool) → same_request first r ≡ b → cond b None (Some first) ≡ None → Some first ≡ Some r
-    by true same is = ap Some (same_request-is first r same)
+    by true same is = ap Some (request-equal first r same)
     by false same is = absurd cc
 
   first-some : (o : Option RequestEntry) → is_some o ≡ true → is_some (option_map (λ (e : RequestEntry). e.id) o) ≡ true

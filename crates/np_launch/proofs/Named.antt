@@ -1,18 +1,9 @@
 -- a request in hand is one of those in whose queues the session is
 use Rattle.std.proofs.Common.{◌≡◌, ℕ, true, Some, refl}
 use Rattle.std.specs.Prelude.{◌&&◌, not, slice_get}
-use Rattle.std.specs.List.{list_any}
+use Rattle.np_changes.specs.Prelude.{Configuration, IsReached, PoolId, RequestEntry, SessionId, State, holder, is_declined_by, is_queued, is_requested, is_session_of, list_any, request_entry}
 use Rattle.std.proofs.lemmas.Bool.{and_parts}
-use Rattle.np_text.specs.declared.id.SessionId.{SessionId}
-use Rattle.np_text.specs.declared.id.PoolId.{PoolId}
-use Rattle.np_site.specs.Configuration.{Configuration}
 use Rattle.np_lists.proofs.Each.{all-from_at}
-use Rattle.np_machine.specs.Entries.{RequestEntry}
-use Rattle.np_machine.specs.Kinds.{is_requested}
-use Rattle.np_machine.specs.Order.{is_declined_by}
-use Rattle.np_machine.specs.State.{State}
-use Rattle.np_machine.specs.Tables.{request_entry, is_queued, is_session_of, holder}
-use Rattle.np_changes.specs.Planned.{IsReached}
 use Rattle.np_laws.proofs.Runs.{invariant-Runs}
 use Rattle.np_look.specs.Readers.{queued_requests}
 use Rattle.np_useful.specs.Launcher.{is_in_hand}

@@ -1,22 +1,8 @@
 -- a launcher's useful events that can be planned are of the kinds that are searched
-use Rattle.std.proofs.Common.{◌≡◌, ◌∙◌, ℕ, Bool, true, false, Option, Some, None, refl, sym, ap, subst}
+use Rattle.std.proofs.Common.{◌≡◌, ◌∙◌, ℕ, Bool, true, false, Option, Some, None, refl, subst}
 use Rattle.std.specs.Prelude.{slice_get, if◌then◌else◌, option_and_then}
-use Rattle.std.specs.Option.{option_map}
-use Rattle.std.specs.List.{AllByRecursion}
-use Rattle.np_text.specs.declared.id.SessionId.{SessionId}
-use Rattle.np_text.specs.declared.id.PoolId.{PoolId}
-use Rattle.np_text.specs.declared.id.NodeId.{NodeId}
-use Rattle.np_text.specs.declared.id.RequestId.{RequestId}
-use Rattle.np_text.specs.declared.id.Role.TheVariants.{Launcher}
-use Rattle.np_text.specs.declared.word.Reason.{Reason}
-use Rattle.np_site.specs.Configuration.{Configuration}
-use Rattle.np_record.specs.declared.record.RequestRecord.{RequestRecord}
-use Rattle.np_event.specs.declared.event.Event.{Event}
+use Rattle.np_changes.specs.Prelude.{Configuration, Event, IsReached, Launcher, NodeId, PoolId, Reason, RequestId, RequestRecord, SessionId, State, is_pending_by, option_map, request_in}
 use Rattle.np_event.specs.declared.event.Event.TheVariants as ev
-use Rattle.np_changes.specs.Planned.{IsReached}
-use Rattle.np_machine.specs.Order.{is_pending_by}
-use Rattle.np_machine.specs.State.{State}
-use Rattle.np_machine.specs.Tables.{request_in}
 use Rattle.np_look.specs.Readers.{queued_requests, queued_nodes}
 use Rattle.np_useful.specs.Planned.{is_planned}
 use Rattle.np_useful.specs.Sessions.{has_current, is_current}

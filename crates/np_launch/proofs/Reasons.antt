@@ -1,23 +1,12 @@
 -- the first reason is the one that is computed
-use Rattle.std.proofs.Common.{◌≡◌, ◌∙◌, ℕ, Bool, true, false, Option, Some, None, refl, sym, ap, arith}
+use Rattle.std.proofs.Common.{◌≡◌, ◌∙◌, ℕ, Bool, true, false, Option, Some, None, refl, sym, ap}
 use Rattle.std.specs.Prelude.{◌==◌, ◌&&◌, not, is_none, find}
-use Rattle.std.specs.Option.{option_map, option_map_or}
-use Rattle.std.proofs.lemmas.Bool.Decides.{nat_tests}
-use Rattle.np_text.specs.declared.id.PoolId.{PoolId}
-use Rattle.np_text.specs.declared.id.LabelId.{LabelId}
-use Rattle.np_text.specs.declared.id.NodeId.{NodeId}
-use Rattle.np_text.specs.declared.word.Reason.{Reason}
+use Rattle.np_changes.specs.Prelude.{Configuration, LabelId, NodeId, PoolId, Reason, RequestRecord, State, asked_of, first_unoffered, is_node, is_spent, never_fits, new_record, option_map, option_map_or, tenant_never_fits}
 use Rattle.np_text.specs.declared.word.Reason.TheVariants as reason
-use Rattle.np_site.specs.Configuration.{Configuration}
-use Rattle.np_record.specs.declared.record.RequestRecord.{RequestRecord}
-use Rattle.np_machine.specs.LiveHolder.{is_node}
-use Rattle.np_machine.specs.Reasons.{first_unoffered, never_fits, is_spent}
-use Rattle.np_machine.specs.Tenants.{tenant_never_fits}
-use Rattle.np_machine.specs.State.{State}
-use Rattle.np_changes.specs.Asked.{asked_of, new_record}
 use Rattle.np_changes.specs.declared.asked.Asked.{Asked}
 use Rattle.np_useful.specs.Launcher.{is_first_reason}
 use Rattle.np_launch.specs.Computed.{same_reason, is_reason, reason_of, first_reason}
+use Rattle.np_lists.proofs.Plain.{equal-numbers}
 
 -- by what is found for each reason
 abbrev first-by : Option LabelId → Bool → Bool → Option NodeId → Reason → Bool
@@ -58,13 +47,10 @@ module _ (c : Configuration) (s : State) (p : PoolId) (k : RequestRecord) where
   pub reason-is : (why : Reason) → is_first_reason c s p k why ≡ is_reason why (first_reason c s p k)
   reason-is why = as-it-is why ∙ by-reason (first_unoffered c p k) (never_fits c p k) (tenant_never_fits c p k) (find (λ m. is_spent m s) k.nodes) why
 
--- ## reasons that are the same are equal
-
-equal : (m n : ℕ) → (m == n) ≡ true → m ≡ n
-equal m n is = grind (arith, nat_tests)
+-- ## reasons that are the same are equal-numbers
 
 pub same-reason : (one other : Reason) → same_reason one other ≡ true → other ≡ one
-same-reason (reason.NoLabel l) (reason.NoLabel of) is = ap (λ (n : ℕ). reason.NoLabel (record { 0 = n })) (equal of.0 l.0 is)
+same-reason (reason.NoLabel l) (reason.NoLabel of) is = ap (λ (n : ℕ). reason.NoLabel (record { 0 = n })) (equal-numbers of.0 l.0 is)
 same-reason (reason.NoLabel l) reason.NeverFits is = absurd cc
 same-reason (reason.NoLabel l) reason.TenantNeverFits is = absurd cc
 same-reason (reason.NoLabel l) (reason.Spent n) is = absurd cc
@@ -79,7 +65,7 @@ same-reason reason.TenantNeverFits (reason.Spent n) is = absurd cc
 same-reason (reason.Spent m) (reason.NoLabel of) is = absurd cc
 same-reason (reason.Spent m) reason.NeverFits is = absurd cc
 same-reason (reason.Spent m) reason.TenantNeverFits is = absurd cc
-same-reason (reason.Spent m) (reason.Spent of) is = ap (λ (n : ℕ). reason.Spent (record { 0 = n })) (equal of.0 m.0 is)
+same-reason (reason.Spent m) (reason.Spent of) is = ap (λ (n : ℕ). reason.Spent (record { 0 = n })) (equal-numbers of.0 m.0 is)
 
 pub reason-found : (why : Reason) (o : Option Reason) → is_reason why o ≡ true → o ≡ Some why
 reason-found why None is = absurd cc

@@ -1,30 +1,10 @@
 -- in a state that a run reaches, a launcher in the queue of a request is registered for its pool
 use Rattle.std.proofs.Common.{◌≡◌, ◌∙◌, sym, ap, List, [], ◌∷◌, refl, arith, subst, Option, Some, None, Bool, true, false, is_ok}
 use Rattle.std.specs.Prelude.{◌==◌, not, find, nat_lt}
-use Rattle.std.specs.Option.{option_map, option_map_or}
-use Rattle.std.specs.List.{AllByRecursion}
+use Rattle.np_changes.specs.Prelude.{AllByRecursion, Configuration, Entry, Event, GrowthPremise, IsHeard, IsReached, Launcher, MakerPremise, PoolId, Premises, Registration, RequestEntry, RequestId, SessionFacts, SessionId, State, changed, edited, grown, is_session, joined, judge, left, next, option_map, option_map_or, plan, registered, registrations_left, request_entry, request_left, request_queue, requests_changed, requests_left, same_request, session_of, start, state_after}
 use Rattle.std.proofs.lemmas.Bool.Decides.{nat_tests}
-use Rattle.np_text.specs.declared.id.SessionId.{SessionId}
-use Rattle.np_text.specs.declared.id.PoolId.{PoolId}
-use Rattle.np_text.specs.declared.id.RequestId.{RequestId}
-use Rattle.np_text.specs.declared.id.Role.TheVariants.{Launcher}
-use Rattle.np_site.specs.Configuration.{Configuration}
-use Rattle.np_event.specs.declared.event.Event.{Event}
-use Rattle.np_event.specs.declared.entry.Entry.{Entry}
 use Rattle.np_lists.proofs.Each.{all-find, all-weaker, all-filter_to, all-remove_first, all-insert_before, all-change_first, all-mapped}
 use Rattle.np_lists.proofs.FoundLemmas.{find-insert_before, find-filter}
-use Rattle.np_machine.specs.declared.state.SessionFacts.{SessionFacts}
-use Rattle.np_machine.specs.declared.state.Registration.{Registration}
-use Rattle.np_machine.specs.Entries.{RequestEntry}
-use Rattle.np_machine.specs.State.{State, start}
-use Rattle.np_machine.specs.Tables.{session_of, is_session, registered, joined, left, same_request, request_entry, request_queue}
-use Rattle.np_machine.specs.Session.{request_left}
-use Rattle.np_machine.specs.Step.{judge, next}
-use Rattle.np_machine.specs.History.{state_after}
-use Rattle.np_changes.specs.Changes.{grown, edited, requests_changed, registrations_left, requests_left, changed}
-use Rattle.np_changes.specs.Plan.{plan}
-use Rattle.np_changes.specs.Planned.{IsReached}
-use Rattle.np_changes.specs.Premises.{IsHeard, MakerPremise, GrowthPremise, Premises}
 use Rattle.np_changes.specs.declared.changes.Maker.{Maker}
 use Rattle.np_changes.specs.declared.changes.Changes.{Changes}
 use Rattle.np_changes.specs.declared.changes.Growth.{Growth}

@@ -1,8 +1,7 @@
 -- each request that the launchers of a provider work on counts at one pool of the provider
 use Rattle.std.proofs.Common.{◌≡◌, ◌∙◌, ◌+◌, ◌≤◌, ℕ, suc, Bool, true, false, cond, List, [], ◌∷◌, length, Option, Some, None, refl, sym, ap, arith}
 use Rattle.std.specs.Prelude.{◌==◌, ◌&&◌, ◌||◌, not, count_by, filter, find, slice_get, nat_lt, option_and_then}
-use Rattle.std.specs.Option.{option_map, option_map_or}
-use Rattle.std.specs.List.{AllByRecursion}
+use Rattle.np_changes.specs.Prelude.{AllByRecursion, Configuration, IsReached, Janitor, Launcher, Pool, PoolId, Reaper, Registration, RequestEntry, RequestId, Requester, Role, SessionFacts, SessionId, State, holder, is_pending, is_pending_by, is_pool, is_queued, is_session, option_map, option_map_or, registered, role_of}
 use Rattle.std.specs.Cmp.{both_ways}
 use Rattle.std.specs.Cmp.Derive.{both_true}
 use Rattle.std.proofs.lemmas.Bool.{and_parts}
@@ -10,25 +9,9 @@ use Rattle.std.proofs.lemmas.Bool.Decides.{nat_tests}
 use Rattle.std.proofs.lemmas.List.{length-map}
 use Rattle.std.proofs.lemmas.List.Sums.{length-filter, count_by-le-length}
 use Rattle.std.proofs.lemmas.Option.{slice_get_within}
-use Rattle.np_text.specs.declared.id.SessionId.{SessionId}
-use Rattle.np_text.specs.declared.id.PoolId.{PoolId}
-use Rattle.np_text.specs.declared.id.RequestId.{RequestId}
-use Rattle.np_text.specs.declared.id.Role.{Role}
-use Rattle.np_text.specs.declared.id.Role.TheVariants.{Launcher, Janitor, Requester, Reaper}
-use Rattle.np_site.specs.Configuration.{Configuration}
-use Rattle.np_site.specs.declared.row.Pool.{Pool}
 use Rattle.np_lists.proofs.Each.{all-find, all-at, all-from_at, length-filter_at_most}
 use Rattle.np_lists.proofs.FoundLemmas.{find-passes}
-use Rattle.np_machine.specs.declared.state.Registration.{Registration}
-use Rattle.np_machine.specs.declared.state.SessionFacts.{SessionFacts}
-use Rattle.np_machine.specs.Entries.{RequestEntry}
-use Rattle.np_machine.specs.Kinds.{is_pending}
-use Rattle.np_machine.specs.Order.{is_pool, is_pending_by}
-use Rattle.np_machine.specs.State.{State}
-use Rattle.np_machine.specs.Tables.{is_session, is_queued, holder, registered, role_of}
-use Rattle.np_changes.specs.Planned.{IsReached}
 use Rattle.np_laws.specs.Parts.{IsLauncher, Invariant}
-use Rattle.np_laws.proofs.Firsts.{session-is}
 use Rattle.np_laws.proofs.Ids.{same_pool, row-of, kept-is}
 use Rattle.np_laws.proofs.Runs.{invariant-Runs}
 use Rattle.np_look.specs.Readers.{queued_requests, pending_requests}
@@ -40,6 +23,9 @@ use Rattle.np_launch.specs.Sisters.{is_served_by_sister, unserved_requests, laun
 use Rattle.np_launch.proofs.Counts.{one, count-same, count-none, count-either, count-named}
 use Rattle.np_launch.proofs.Named.{row-there}
 use Rattle.np_launch.proofs.Registrants.{IsRegistrant, queues-registered}
+use Rattle.np_lists.proofs.Plain.{or_true}
+use Rattle.np_laws.proofs.Waits.{served-by}
+use Rattle.np_machine.proofs.Ids.{session-equal}
 
 -- ## the session in a queue of one
 
@@ -47,7 +33,7 @@ queued-holds : (session : SessionId) (queue : List SessionId) → length queue �
 queued-holds session [] few queued = absurd cc
 queued-holds session (other ∷ []) few queued =
     let same : is_session other session ≡ true = grind (arith, nat_tests) in
-    ap (λ (x : SessionId). Some x) (session-is other session same)
+    ap (λ (x : SessionId). Some x) (session-equal other session same)
 queued-holds session (other ∷ next ∷ queue) few queued = absurd (omega (arith, few))
 
 launcher-of : (role : Role) (q : PoolId) → pool_of_role role ≡ Some q → role ≡ Launcher q
@@ -56,17 +42,8 @@ launcher-of (Janitor p) q is = absurd cc
 launcher-of (Requester p) q is = absurd cc
 launcher-of Reaper q is = absurd cc
 
--- a pool that serves is the one in the option
-serves-is : (q : PoolId) (o : Option PoolId) → is_pool q o ≡ true → o ≡ Some q
-serves-is q None is = absurd cc
-serves-is q (Some other) is = ap (λ (x : PoolId). Some x) (same_pool other q is)
-
 pool-self : (q : PoolId) → (q.0 == q.0) ≡ true
 pool-self q = grind (arith, nat_tests)
-
-or-right : (a : Bool) → (a || true) ≡ true
-or-right true = refl
-or-right false = refl
 
 module _ (c : Configuration) (s : State) (p : PoolId) where
   -- the session that is registered for the pool is in the request's queue
@@ -80,7 +57,7 @@ module _ (c : Configuration) (s : State) (p : PoolId) where
   served-sister : (q : PoolId) (e : RequestEntry) → is_sister c p q ≡ true → is_pending_by q e.kept ≡ true → is_served_near c p e ≡ true
   served-sister q e sister pending =
       let both = and_parts (is_pending e.kept.state) (is_pool q e.kept.pool) pending in
-      rw (both.0, serves-is q e.kept.pool both.1) sister
+      rw (both.0, served-by q e.kept.pool both.1) sister
 
   -- who is registered for a pool is its launcher
   registrant-role : AllByRecursion (λ g. IsLauncher s g.pool g.session) s.registrations → (q : PoolId) (session : SessionId) → registered q s.registrations ≡ Some session → role_of session s ≡ Some (Launcher q)
@@ -126,7 +103,7 @@ module _ (c : Configuration) (s : State) (p : PoolId) where
     near-counts : (q : PoolId) → is_sister c p q ≡ true → counts_at q e ≡ true → near_pool c s p e ≡ Some q
     near-counts q sister counts = by (is_pending_by q e.kept) refl (is_served_near c p e) refl where
       by : (b : Bool) → is_pending_by q e.kept ≡ b → (d : Bool) → is_served_near c p e ≡ d → near_pool c s p e ≡ Some q
-      by true pending true served = rw served (serves-is q e.kept.pool ((and_parts (is_pending e.kept.state) (is_pool q e.kept.pool) pending).1))
+      by true pending true served = rw served (served-by q e.kept.pool ((and_parts (is_pending e.kept.state) (is_pool q e.kept.pool) pending).1))
       by true pending false unserved = absurd (let served : is_served_near c p e ≡ true = served-sister q e sister pending in cc)
       by false other true served = absurd (let none = rw (other, served) at counts in grind (arith, nat_tests))
       by false other false unserved =
@@ -156,12 +133,12 @@ module _ (c : Configuration) (s : State) (p : PoolId) where
               let of_facts : such.facts.role ≡ Launcher q = (let both : Some such.facts.role ≡ Some r = sym (ap (option_map (λ (f : SessionFacts). f.role)) such.begun) ∙ role in cc) in
               let is : registered q s.registrations ≡ Some session = such.registers q of_facts in
               let queued : is_queued session e.queue ≡ true = holder-queued session e.queue (rw holds (grind (arith, nat_tests))) in
-              (sister, (let right : (is_registrants q e && not (is_served_near c p e)) ≡ true = rw (is, queued, unserved) refl in rw right (or-right (is_pending_by q e.kept))))
+              (sister, (let right : (is_registrants q e && not (is_served_near c p e)) ≡ true = rw (is, queued, unserved) refl in rw right (or_true (is_pending_by q e.kept))))
 
     near-at : (q : PoolId) → is_pool q (near_pool c s p e) ≡ (is_sister c p q && counts_at q e)
     near-at q = both_ways (is_pool q (near_pool c s p e)) (is_sister c p q && counts_at q e) there back where
       there : is_pool q (near_pool c s p e) ≡ true → (is_sister c p q && counts_at q e) ≡ true
-      there is = let counts = counts-near q (serves-is q (near_pool c s p e) is) in both_true counts.0 counts.1
+      there is = let counts = counts-near q (served-by q (near_pool c s p e) is) in both_true counts.0 counts.1
 
       back : (is_sister c p q && counts_at q e) ≡ true → is_pool q (near_pool c s p e) ≡ true
       back is = let both = and_parts (is_sister c p q) (counts_at q e) is in ap (is_pool q) (near-counts q both.0 both.1) ∙ pool-self q

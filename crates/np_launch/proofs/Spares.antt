@@ -2,62 +2,32 @@
 -- one may be
 use Rattle.std.proofs.Common.{◌≡◌, ◌∙◌, ℕ, Bool, true, false, List, Option, Some, None, Result, Ok, Err, refl, sym, ap, arith}
 use Rattle.std.specs.Prelude.{◌==◌, ◌&&◌, find, slice_get, is_ok, is_none, is_some, nat_lt, option_and_then, if◌then◌else◌}
-use Rattle.std.specs.Option.{option_map}
+use Rattle.np_changes.specs.Prelude.{Configuration, Done, IsReached, Janitor, LabelId, Launcher, NodeEntry, NodeId, PoolId, Reaper, Refusal, RequestId, RequestRecord, Requester, Rises, Role, SessionFacts, SessionId, State, as_launcher, holder, is_kind, is_pending_by, is_ready, is_session_of, is_spare, judge, launcher, maker, need, next_label, node_entry, option_map, registered, request_holder, request_in, session_of, vacant, wrong_node, wrong_request, ◌>>=◌, ◌>>◌}
 use Rattle.std.proofs.lemmas.Bool.Decides.{nat_tests}
-use Rattle.np_text.specs.declared.id.SessionId.{SessionId}
-use Rattle.np_text.specs.declared.id.PoolId.{PoolId}
-use Rattle.np_text.specs.declared.id.LabelId.{LabelId}
-use Rattle.np_text.specs.declared.id.NodeId.{NodeId}
-use Rattle.np_text.specs.declared.id.RequestId.{RequestId}
-use Rattle.np_text.specs.declared.id.Role.{Role}
-use Rattle.np_text.specs.declared.id.Role.TheVariants.{Launcher, Janitor, Requester, Reaper}
-use Rattle.np_site.specs.Configuration.{Configuration}
-use Rattle.np_record.specs.declared.record.RequestRecord.{RequestRecord}
 use Rattle.np_event.specs.declared.event.Event.TheVariants as ev
-use Rattle.np_event.specs.declared.reply.Done.{Done}
 use Rattle.np_event.specs.declared.reply.Done.TheVariants as done
-use Rattle.np_event.specs.declared.reply.Refusal.{Refusal}
 use Rattle.np_event.specs.declared.reply.Refusal.TheVariants as no
-use Rattle.np_lists.specs.Refusals.{◌>>=◌, ◌>>◌, need, vacant}
-use Rattle.np_lists.specs.Rising.{Rises}
 use Rattle.np_lists.proofs.Each.{all-from_at}
-use Rattle.np_machine.specs.declared.state.SessionFacts.{SessionFacts}
-use Rattle.np_machine.specs.Count.{is_kind}
-use Rattle.np_machine.specs.Entries.{NodeEntry}
-use Rattle.np_machine.specs.Kinds.{is_ready}
-use Rattle.np_machine.specs.Order.{is_pending_by}
-use Rattle.np_machine.specs.Reasons.{next_label, is_spare}
-use Rattle.np_machine.specs.State.{State}
-use Rattle.np_machine.specs.Step.{judge}
-use Rattle.np_machine.specs.Tables.{session_of, is_session_of, registered, request_in, request_holder, node_entry, holder}
-use Rattle.np_machine.specs.Tests.{launcher, as_launcher, maker, wrong_request, wrong_node}
-use Rattle.np_changes.specs.Planned.{IsReached}
 use Rattle.np_changes.proofs.Tested.{ok-is, on-found, on-need, on-not}
 use Rattle.np_look.specs.Readers.{free_ready_of}
 use Rattle.np_laws.proofs.Runs.{invariant-Runs}
 use Rattle.np_useful.specs.Launcher.{may_take_ready}
 use Rattle.np_launch.specs.Computed.{pool_of_role, pool_of, first_free, is_takable, first_takable}
-use Rattle.np_launch.proofs.Finds.{any-find, map-some, find-none, find-there, first-tested}
-
-is-false : (b : Bool) → (b ≡ true → ⊥) → b ≡ false
-is-false false other = refl
-is-false true other = absurd (other refl)
+use Rattle.np_launch.proofs.Finds.{any-find, find-none, find-there, first-tested}
+use Rattle.np_changes.proofs.Facts.{node-apart}
+use Rattle.np_machine.proofs.Ids.{node-itself}
+use Rattle.std.proofs.lemmas.Bool.{false_from_ne_true}
+use Rattle.np_lists.proofs.Plain.{map-some}
 
 -- ## nodes, each number once
-
-earlier-apart : (a b : NodeId) → nat_lt a.0 b.0 ≡ true → (a.0 == b.0) ≡ false
-earlier-apart a b order = grind (arith, nat_tests)
 
 later-apart : (a b : NodeId) → nat_lt b.0 a.0 ≡ true → (a.0 == b.0) ≡ false
 later-apart a b order = grind (arith, nat_tests)
 
-same-self : (n : NodeId) → (n.0 == n.0) ≡ true
-same-self n = grind (arith, nat_tests)
-
 -- the node at a place is the node with its number
 node-there : (rows : List NodeEntry) (i : ℕ) (e : NodeEntry) → Rises (λ a b. nat_lt a.id.0 b.id.0) rows → slice_get rows i ≡ Some e → node_entry e.id rows ≡ Some e
 node-there rows i e rise there =
-    find-there (λ (a b : NodeEntry). nat_lt a.id.0 b.id.0) (λ (x : NodeEntry). x.id.0 == e.id.0) rows i e rise there (λ y order. earlier-apart y.id e.id order) (λ y order. later-apart y.id e.id order) (same-self e.id)
+    find-there (λ (a b : NodeEntry). nat_lt a.id.0 b.id.0) (λ (x : NodeEntry). x.id.0 == e.id.0) rows i e rise there (λ y order. node-apart y.id e.id order) (λ y order. later-apart y.id e.id order) (node-itself e.id)
 
 -- ## the tests of an allocation
 
@@ -137,7 +107,7 @@ module _ (c : Configuration) (s : State) (session : SessionId) (r : RequestId) w
           rw (by, request, node, label) (tests (is_session_of session (registered p s.registrations)) (is_session_of session (request_holder r s.requests)) (is_pending_by p k) (is_none k.pinned) (is_ready e.kept.state) (is_kind p l e) e.kept.allocated_to (holder e.queue) (wrong_request k) (wrong_node e.kept) (no.NoLabel l))
 
       by-label : (k : RequestRecord) (o : Option LabelId) → request_in r s.requests ≡ Some k → next_label k ≡ o → first ≡ first_takable c s session r
-      by-label k None request none = refused (λ n. is-false (is_takable c s session r n) (complete n k request none)) (option_and_then (first_free s r) (pool_of s session))
+      by-label k None request none = refused (λ n. false_from_ne_true (is_takable c s session r n) (complete n k request none)) (option_and_then (first_free s r) (pool_of s session))
       by-label k (Some l) request label =
           let free : option_and_then (first_free s r) (pool_of s session) ≡ free_ready_of p l 0 s = rw (pool-is s session p by, request, label) refl in
           first-tested (λ (e : NodeEntry). e.id) (is_takable c s session r) (is_spare p l) (asked k) s.nodes (all-from_at (λ (e : NodeEntry). is_takable c s session r e.id ≡ (asked k && is_spare p l e)) s.nodes (split k l request label))

@@ -2,37 +2,11 @@
 -- them
 use Rattle.std.proofs.Common.{◌≡◌, ◌∙◌, ◌<◌, ◌-◌, ℕ, Bool, true, false, Option, Some, None, Result, Ok, refl, sym, ap, subst, arith}
 use Rattle.std.specs.Prelude.{◌&&◌, ◌==◌, not, find, slice_get, if◌then◌else◌, option_and_then}
-use Rattle.std.specs.Option.{option_map, option_map_or}
+use Rattle.np_changes.specs.Prelude.{Configuration, Done, Event, IsReached, Label, LabelId, Launcher, NodeEntry, NodeId, NodeRecord, Outcome, PoolId, Reason, Refusal, RequestId, RequestRecord, Role, SessionFacts, SessionId, State, as_launcher, is_pending_by, is_session_of, judge, launcher, maker, maker_of, node_entry, node_holder, node_in, node_queue, option_map, option_map_or, outcome_of, request_holder, request_in, request_queue, same_role, session_of, speaks_for, ◌>>=◌}
 use Rattle.std.proofs.lemmas.Bool.Decides.{nat_tests}
-use Rattle.np_text.specs.declared.id.SessionId.{SessionId}
-use Rattle.np_text.specs.declared.id.PoolId.{PoolId}
-use Rattle.np_text.specs.declared.id.LabelId.{LabelId}
-use Rattle.np_text.specs.declared.id.NodeId.{NodeId}
-use Rattle.np_text.specs.declared.id.RequestId.{RequestId}
-use Rattle.np_text.specs.declared.id.Role.{Role}
-use Rattle.np_text.specs.declared.id.Role.TheVariants.{Launcher}
-use Rattle.np_text.specs.declared.word.Reason.{Reason}
-use Rattle.np_site.specs.Configuration.{Configuration}
-use Rattle.np_site.specs.declared.row.Label.{Label}
-use Rattle.np_record.specs.declared.record.RequestRecord.{RequestRecord}
-use Rattle.np_record.specs.declared.record.NodeRecord.{NodeRecord}
-use Rattle.np_event.specs.declared.event.Event.{Event}
 use Rattle.np_event.specs.declared.event.Event.TheVariants as ev
-use Rattle.np_event.specs.declared.event.Outcome.{Outcome}
 use Rattle.np_event.specs.declared.event.Outcome.TheVariants as outcome
-use Rattle.np_event.specs.declared.reply.Done.{Done}
-use Rattle.np_event.specs.declared.reply.Refusal.{Refusal}
-use Rattle.np_lists.specs.Refusals.{◌>>=◌}
 use Rattle.np_lists.proofs.FoundLemmas.{find-passes}
-use Rattle.np_machine.specs.declared.state.SessionFacts.{SessionFacts}
-use Rattle.np_machine.specs.Entries.{NodeEntry}
-use Rattle.np_machine.specs.Laws.{same_role, speaks_for}
-use Rattle.np_machine.specs.Order.{is_pending_by}
-use Rattle.np_machine.specs.Plan.{outcome_of}
-use Rattle.np_machine.specs.State.{State}
-use Rattle.np_machine.specs.Step.{judge, maker_of}
-use Rattle.np_machine.specs.Tables.{session_of, is_session_of, request_in, request_queue, request_holder, node_entry, node_in, node_queue, node_holder}
-use Rattle.np_machine.specs.Tests.{maker, launcher, as_launcher}
 use Rattle.np_laws.proofs.Lookups.{same_node-is}
 use Rattle.np_look.specs.Readers.{queued_requests, queued_nodes}
 use Rattle.np_useful.specs.Launcher.{is_by_registrant, same_outcome, is_as_planned, is_first_reason}
@@ -42,9 +16,8 @@ use Rattle.np_useful.specs.Useful.{IsUseful, is_maker_of}
 use Rattle.np_roles.specs.Passing.{passing, IsFirst, IsFirstThatPasses}
 use Rattle.np_roles.proofs.Currents.{current-speaks}
 use Rattle.np_roles.proofs.Openings.{same-role}
-use Rattle.np_roles.proofs.Places.{StandsIn, find-place, within}
+use Rattle.np_roles.proofs.Places.{StandsIn, find-place}
 use Rattle.np_roles.proofs.Queues.{holder-queued, queued-request, queued-node}
-use Rattle.np_changes.specs.Planned.{IsReached}
 use Rattle.np_changes.proofs.Tested.{ok-is}
 use Rattle.np_roles.proofs.Searches.{passes-useful, useful-passes, passing-is, passing-none, made-by}
 use Rattle.np_launch.specs.declared.computed.ComputedKind.{ComputedKind}
@@ -54,31 +27,17 @@ use Rattle.np_launch.specs.Choices.{NoneComputed, ChoosesComputed}
 use Rattle.np_launch.proofs.Finds.{find-some}
 use Rattle.np_launch.proofs.Spares.{first-is}
 use Rattle.np_launch.proofs.Reasons.{reason-is, reason-found}
+use Rattle.np_lists.proofs.Plain.{equal-numbers, some-unless, within}
+use Rattle.std.proofs.lemmas.Bool.{and_parts, true_from_ne_false}
 
 -- ## parts
-
-and-parts : (t u : Bool) → (t && u) ≡ true → (t ≡ true) × (u ≡ true)
-and-parts true true is = (refl, refl)
-and-parts true false is = absurd cc
-and-parts false u is = absurd cc
-
-is-true : (b : Bool) → (b ≡ false → ⊥) → b ≡ true
-is-true true other = refl
-is-true false other = absurd (other refl)
-
-equal : (m n : ℕ) → (m == n) ≡ true → m ≡ n
-equal m n is = grind (arith, nat_tests)
 
 such-one : {X : Type 0} (such : X → Bool) (o : Option X) → option_map_or such o false ≡ true → (x : X) × ((o ≡ Some x) × (such x ≡ true))
 such-one such None is = absurd cc
 such-one such (Some x) is = (x, (refl, is))
 
-some-one : {X : Type 0} (o : Option X) → (o ≡ None → ⊥) → (x : X) × (o ≡ Some x)
-some-one None there = absurd (there refl)
-some-one (Some x) there = (x, refl)
-
 same-result : (one other : Outcome) → same_outcome one other ≡ true → one ≡ other
-same-result (outcome.Launched x) (outcome.Launched y) is = ap (λ (n : ℕ). outcome.Launched n) (equal x y is)
+same-result (outcome.Launched x) (outcome.Launched y) is = ap (λ (n : ℕ). outcome.Launched n) (equal-numbers x y is)
 same-result (outcome.Launched x) outcome.Failed is = absurd cc
 same-result outcome.Failed (outcome.Launched y) is = absurd cc
 same-result outcome.Failed outcome.Failed is = refl
@@ -113,8 +72,8 @@ module _ (c : Configuration) (s : State) (session : SessionId) (what : Done) whe
 module _ (s : State) (p : PoolId) (session : SessionId) where
   live-parts : (facts : SessionFacts) → speaks_for (Launcher p) facts ≡ true → (facts.role ≡ Launcher p) × ((facts.live ≡ true) × (not facts.mute ≡ true))
   live-parts facts is =
-      let parts = and-parts (same_role facts.role (Launcher p) && facts.live) (not facts.mute) is in
-      let firsts = and-parts (same_role facts.role (Launcher p)) facts.live parts.0 in
+      let parts = and_parts (same_role facts.role (Launcher p) && facts.live) (not facts.mute) is in
+      let firsts = and_parts (same_role facts.role (Launcher p)) facts.live parts.0 in
       (same-role facts.role (Launcher p) firsts.0, (firsts.1, parts.1))
 
   session-there : (facts : SessionFacts) → 0 < session.0 → slice_get s.sessions (session.0 - 1) ≡ Some facts → session_of session s ≡ Some facts
@@ -195,22 +154,22 @@ module _ (c : Configuration) (s : State) (p : PoolId) (session : SessionId) wher
 
   -- a row of a registered launcher is true
   row-of : (e : Event) (u : Bool) → (is_by_registrant s p e && u) ≡ true → u ≡ true
-  row-of e u is = (and-parts (is_by_registrant s p e) u is).1
+  row-of e u is = (and_parts (is_by_registrant s p e) u is).1
 
   register-stands : IsUseful c s (Launcher p) (ev.Register session) → Stands computed.Register
   register-stands useful = record { at = 0; low = omega arith; event = ev.Register session; there = refl; useful = useful }
 
   -- what the session holds is at a place of what it queues for
   request-place : (r : RequestId) → (is_session_of session (request_holder r s.requests) ≡ false → ⊥) → StandsIn r (queued_requests session s)
-  request-place r held = queued-request s session r (holder-queued session (request_queue r s.requests) (is-true (is_session_of session (request_holder r s.requests)) held))
+  request-place r held = queued-request s session r (holder-queued session (request_queue r s.requests) (true_from_ne_false (is_session_of session (request_holder r s.requests)) held))
 
   node-place : (n : NodeId) → (is_session_of session (node_holder n s.nodes) ≡ false → ⊥) → StandsIn n (queued_nodes session s)
-  node-place n held = queued-node s session n (holder-queued session (node_queue n s.nodes) (is-true (is_session_of session (node_holder n s.nodes)) held))
+  node-place n held = queued-node s session n (holder-queued session (node_queue n s.nodes) (true_from_ne_false (is_session_of session (node_holder n s.nodes)) held))
 
   done-there : (n : NodeId) (k : NodeRecord) (attempt : ℕ) (o : Outcome) (at : ℕ) → slice_get (queued_nodes session s) at ≡ Some n → node_in n s.nodes ≡ Some k → is_as_planned c p attempt o k ≡ true → done_at c s p session at ≡ Some (ev.Done session n attempt o)
   done-there n k attempt o at there kept planned =
-      let parts = and-parts (k.attempts == attempt) (same_outcome (outcome_of c p k.start) o) planned in
-      let first : k.attempts ≡ attempt = equal k.attempts attempt parts.0 in
+      let parts = and_parts (k.attempts == attempt) (same_outcome (outcome_of c p k.start) o) planned in
+      let first : k.attempts ≡ attempt = equal-numbers k.attempts attempt parts.0 in
       let second : outcome_of c p k.start ≡ o = same-result (outcome_of c p k.start) o parts.1 in
       ap (λ (x : Option NodeId). option_and_then (λ m. option_map (λ v. ev.Done session m v.attempts (outcome_of c p v.start)) (node_in m s.nodes)) x) there
       ∙ ap (λ (x : Option NodeRecord). option_map (λ v. ev.Done session n v.attempts (outcome_of c p v.start)) x) kept
@@ -244,9 +203,9 @@ module _ (c : Configuration) (s : State) (p : PoolId) (session : SessionId) wher
   take-stands : IsReached c s → launcher s session ≡ Ok p → (r : RequestId) (n : NodeId) → IsUseful c s (Launcher p) (ev.TakeReady session r n) → Stands computed.TakeReady
   take-stands reached by r n useful =
       let answer = ok-is (judge c s (ev.TakeReady session r n)) useful.accepted in
-      let request = some-one (request_in r s.requests) (no-request c s session answer.0 p by r n answer.1) in
-      let node = some-one (node_entry n s.nodes) (no-node c s session answer.0 p by r n answer.1) in
-      let pending = is-true (is_pending_by p request.0) (not-pending c s session answer.0 p by r n request.0 answer.1 request.1) in
+      let request = some-unless (request_in r s.requests) (no-request c s session answer.0 p by r n answer.1) in
+      let node = some-unless (node_entry n s.nodes) (no-node c s session answer.0 p by r n answer.1) in
+      let pending = true_from_ne_false (is_pending_by p request.0) (not-pending c s session answer.0 p by r n request.0 answer.1 request.1) in
       let among = find-place (λ (e : NodeEntry). e.id.0 == n.0) s.nodes node.0 node.1 in
       let same : node.0.id ≡ n = same_node-is node.0.id n (find-passes (λ (e : NodeEntry). e.id.0 == n.0) s.nodes node.0 node.1) in
       let takable : is_takable c s session r node.0.id ≡ true = ap (is_takable c s session r) same ∙ useful.accepted in
@@ -288,7 +247,7 @@ module _ (c : Configuration) (s : State) (p : PoolId) (session : SessionId) wher
   min-ready-stands : (l : LabelId) → IsUseful c s (Launcher p) (ev.MinReady session l) → Stands computed.MinReady
   min-ready-stands l useful =
       let answer = ok-is (judge c s (ev.MinReady session l)) useful.accepted in
-      let label = some-one (slice_get c.labels l.0) (no-label c s session answer.0 l answer.1) in
+      let label = some-unless (slice_get c.labels l.0) (no-label c s session answer.0 l answer.1) in
       record {
         at = l.0;
         low = within c.labels l.0 label.0 label.1;

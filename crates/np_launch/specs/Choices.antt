@@ -1,18 +1,7 @@
 -- the order of a launcher's kinds of events, and what a search among them returns
 use Rattle.std.specs.Prelude.{List, [], ◌∷◌, ℕ, Option, Some, None}
-use Rattle.std.specs.List.{AllByRecursion}
-use Rattle.np_text.specs.declared.id.SessionId.{SessionId}
-use Rattle.np_text.specs.declared.id.PoolId.{PoolId}
-use Rattle.np_text.specs.declared.id.LabelId.{LabelId}
-use Rattle.np_text.specs.declared.id.NodeId.{NodeId}
-use Rattle.np_text.specs.declared.id.RequestId.{RequestId}
-use Rattle.np_text.specs.declared.id.Role.TheVariants.{Launcher}
-use Rattle.np_text.specs.declared.word.Reason.{Reason}
-use Rattle.np_site.specs.Configuration.{Configuration}
-use Rattle.np_event.specs.declared.event.Event.{Event}
+use Rattle.np_changes.specs.Prelude.{AllByRecursion, Configuration, Event, LabelId, Launcher, NodeId, Outcome, PoolId, Reason, RequestId, SessionId, State}
 use Rattle.np_event.specs.declared.event.Event.TheVariants as ev
-use Rattle.np_event.specs.declared.event.Outcome.{Outcome}
-use Rattle.np_machine.specs.State.{State}
 use Rattle.np_useful.specs.Useful.{IsUseful}
 use Rattle.np_roles.specs.declared.kind.EventKind.TheVariants.{Request, Node}
 use Rattle.np_roles.specs.declared.kind.RequestKind.TheVariants as of_request

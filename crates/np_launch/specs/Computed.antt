@@ -1,26 +1,8 @@
 -- the events of a launcher that name more than a request, a node or a job, by place
 use Rattle.std.specs.Prelude.{ℕ, Bool, true, false, ◌==◌, if◌then◌else◌, Option, Some, None, length, find, slice_get, is_ok, option_and_then}
-use Rattle.std.specs.Option.{option_map}
-use Rattle.np_text.specs.declared.id.SessionId.{SessionId}
-use Rattle.np_text.specs.declared.id.PoolId.{PoolId}
-use Rattle.np_text.specs.declared.id.LabelId.{LabelId}
-use Rattle.np_text.specs.declared.id.NodeId.{NodeId}
-use Rattle.np_text.specs.declared.id.RequestId.{RequestId}
-use Rattle.np_text.specs.declared.id.Role.{Role}
-use Rattle.np_text.specs.declared.id.Role.TheVariants.{Launcher, Janitor, Requester, Reaper}
-use Rattle.np_text.specs.declared.word.Reason.{Reason}
+use Rattle.np_changes.specs.Prelude.{Configuration, Event, Janitor, LabelId, Launcher, NodeId, PoolId, Reaper, Reason, RequestId, RequestRecord, Requester, Role, SessionId, State, first_unoffered, is_pending_by, is_spent, judge, never_fits, next_label, node_in, option_map, outcome_of, request_in, session_of, tenant_never_fits}
 use Rattle.np_text.specs.declared.word.Reason.TheVariants as reason
-use Rattle.np_site.specs.Configuration.{Configuration}
-use Rattle.np_record.specs.declared.record.RequestRecord.{RequestRecord}
-use Rattle.np_event.specs.declared.event.Event.{Event}
 use Rattle.np_event.specs.declared.event.Event.TheVariants as ev
-use Rattle.np_machine.specs.Order.{is_pending_by}
-use Rattle.np_machine.specs.Plan.{outcome_of}
-use Rattle.np_machine.specs.Reasons.{next_label, first_unoffered, never_fits, is_spent}
-use Rattle.np_machine.specs.Tables.{session_of, request_in, node_in}
-use Rattle.np_machine.specs.Tenants.{tenant_never_fits}
-use Rattle.np_machine.specs.State.{State}
-use Rattle.np_machine.specs.Step.{judge}
 use Rattle.np_look.specs.Readers.{free_ready_of, queued_requests, queued_nodes}
 use Rattle.np_launch.specs.declared.computed.ComputedKind.{ComputedKind}
 use Rattle.np_launch.specs.declared.computed.ComputedKind.TheVariants as computed

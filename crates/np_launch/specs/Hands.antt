@@ -1,11 +1,6 @@
 -- who has a request in hand, by its number
 use Rattle.std.specs.Prelude.{◌&&◌, Bool, not}
-use Rattle.np_text.specs.declared.id.SessionId.{SessionId}
-use Rattle.np_text.specs.declared.id.PoolId.{PoolId}
-use Rattle.np_text.specs.declared.id.RequestId.{RequestId}
-use Rattle.np_machine.specs.State.{State}
-use Rattle.np_machine.specs.Kinds.{is_requested}
-use Rattle.np_machine.specs.Tables.{is_session_of, request_holder}
+use Rattle.np_changes.specs.Prelude.{PoolId, RequestId, SessionId, State, is_requested, is_session_of, request_holder}
 use Rattle.np_look.specs.Readers.{is_declined}
 use Rattle.np_useful.specs.Rows.{request_is}
 

@@ -1,16 +1,7 @@
 -- the choice of an event that can be planned
 use Rattle.std.specs.Prelude.{◌≡◌, true, List, [], ◌∷◌, ℕ, Option, Some, None}
-use Rattle.std.specs.List.{AllByRecursion}
-use Rattle.np_text.specs.declared.id.SessionId.{SessionId}
-use Rattle.np_text.specs.declared.id.PoolId.{PoolId}
-use Rattle.np_text.specs.declared.id.NodeId.{NodeId}
-use Rattle.np_text.specs.declared.id.RequestId.{RequestId}
-use Rattle.np_text.specs.declared.id.Role.TheVariants.{Launcher}
-use Rattle.np_text.specs.declared.word.Reason.{Reason}
-use Rattle.np_site.specs.Configuration.{Configuration}
-use Rattle.np_event.specs.declared.event.Event.{Event}
+use Rattle.np_changes.specs.Prelude.{AllByRecursion, Configuration, Event, Launcher, NodeId, PoolId, Reason, RequestId, SessionId, State}
 use Rattle.np_event.specs.declared.event.Event.TheVariants as ev
-use Rattle.np_machine.specs.State.{State}
 use Rattle.np_useful.specs.Planned.{is_planned}
 use Rattle.np_useful.specs.Useful.{IsUseful}
 use Rattle.np_roles.specs.declared.kind.EventKind.TheVariants.{Request, Node}

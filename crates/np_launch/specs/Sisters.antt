@@ -1,14 +1,6 @@
 -- how many requests the launchers of a provider work on, pool by pool
 use Rattle.std.specs.Prelude.{ℕ, ◌+◌, Bool, false, ◌&&◌, not, if◌then◌else◌, Option, None, length, count_by, nat_lt, option_and_then}
-use Rattle.std.specs.Option.{option_map_or}
-use Rattle.np_text.specs.declared.id.SessionId.{SessionId}
-use Rattle.np_text.specs.declared.id.PoolId.{PoolId}
-use Rattle.np_site.specs.Configuration.{Configuration}
-use Rattle.np_record.specs.declared.record.RequestRecord.{RequestRecord}
-use Rattle.np_machine.specs.Entries.{RequestEntry}
-use Rattle.np_machine.specs.Kinds.{is_pending}
-use Rattle.np_machine.specs.State.{State}
-use Rattle.np_machine.specs.Tables.{role_of, registered, holder}
+use Rattle.np_changes.specs.Prelude.{Configuration, PoolId, RequestEntry, RequestRecord, SessionId, State, holder, is_pending, option_map_or, registered, role_of}
 use Rattle.np_look.specs.Readers.{queued_requests, pending_requests}
 use Rattle.np_useful.specs.Launcher.{is_sister, is_served_near, is_held_near}
 use Rattle.np_useful.specs.Rows.{request_is}

@@ -1,10 +1,7 @@
 //! The events of a launcher that name something computed, as candidates.
 
 ghost use Rattle.std.specs.Prelude.{◌≡◌, length, find};
-ghost use Rattle.np_machine.specs.Reasons.{is_spent};
-ghost use Rattle.np_changes.specs.Asked.{new_record};
-ghost use Rattle.np_changes.specs.Planned.{IsReached};
-ghost use Rattle.np_fits.specs.Fits.{Fits};
+ghost use Rattle.np_changes.specs.Prelude.{Fits, IsReached, is_spent, new_record};
 ghost use Rattle.np_useful.specs.Launcher.{may_take_ready, is_first_reason};
 ghost use Rattle.np_useful.specs.Rows.{request_is};
 ghost use Rattle.np_launch.specs.Computed.{same_reason, is_reason, first_reason, pool_of, first_free, is_takable, first_takable, done_at, take_ready_at, decline_at, min_ready_at, computed_places, computed_at};

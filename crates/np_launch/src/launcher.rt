@@ -1,10 +1,7 @@
 //! The launcher of a pool.
 
 ghost use Rattle.std.specs.Prelude.{◌≡◌, ◌&&◌, true, not};
-ghost use Rattle.np_text.specs.declared.id.Role.TheVariants.{Launcher};
-ghost use Rattle.np_machine.specs.Session.{is_role};
-ghost use Rattle.np_changes.specs.Planned.{IsReached};
-ghost use Rattle.np_fits.specs.Fits.{Fits};
+ghost use Rattle.np_changes.specs.Prelude.{Fits, IsReached, Launcher, is_role};
 ghost use Rattle.np_useful.specs.Sessions.{is_current};
 ghost use Rattle.np_useful.specs.Launcher.{may_take_ready, is_by_registrant, registered_row};
 ghost use Rattle.np_useful.specs.Rows.{request_is, has_failed_node};

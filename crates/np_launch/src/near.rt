@@ -1,7 +1,7 @@
 //! The launchers of one provider, and the requests that they work on.
 
 ghost use Rattle.std.specs.Prelude.{◌≡◌, ◌≤◌, cond};
-ghost use Rattle.np_fits.specs.Fits.{Fits};
+ghost use Rattle.np_changes.specs.Fits.{Fits};
 ghost use Rattle.np_useful.specs.Launcher.{provider_of, is_sister, concurrency_of};
 ghost use Rattle.np_useful.specs.Rows.{request_is};
 ghost use Rattle.np_launch.specs.Sisters.{is_served_by_sister, unserved_requests, launcher_requests, sister_requests};

@@ -1,10 +1,7 @@
 //! The events of a launcher that can be planned.
 
 ghost use Rattle.std.specs.Prelude.{◌≡◌, true};
-ghost use Rattle.np_text.specs.declared.id.Role.TheVariants.{Launcher};
-ghost use Rattle.np_machine.specs.Session.{is_role};
-ghost use Rattle.np_changes.specs.Planned.{IsReached};
-ghost use Rattle.np_fits.specs.Fits.{Fits};
+ghost use Rattle.np_changes.specs.Prelude.{Fits, IsReached, Launcher, is_role};
 ghost use Rattle.np_useful.specs.Sessions.{is_current};
 ghost use Rattle.np_launch.specs.Planned.{ChoosesPlanned, ChoosesPlannedOf, ChoosesPlannedOfAny, planned_at, planned_order, planned_places};
 

@@ -1,15 +1,10 @@
 //! What a launcher tests of one request or node.
 
 ghost use Rattle.std.specs.Prelude.{◌≡◌, ◌==◌, ◌&&◌, not};
-ghost use Rattle.std.specs.List.{list_any};
-ghost use Rattle.np_machine.specs.Kinds.{is_pending};
-ghost use Rattle.np_machine.specs.Order.{is_pool, is_pending_by};
+ghost use Rattle.np_changes.specs.Prelude.{Fits, is_pending, is_pending_by, is_pool, is_spent, list_any, new_record};
 ghost use Rattle.np_machine.specs.Plan.{fail_starts_of, outcome_of};
-ghost use Rattle.np_machine.specs.Reasons.{is_spent};
-ghost use Rattle.np_changes.specs.Asked.{new_record};
 ghost use Rattle.np_useful.specs.Launcher.{same_outcome, is_as_planned, is_done_with};
 ghost use Rattle.np_useful.specs.Rows.{request_is, is_listed, has_failed_node};
-ghost use Rattle.np_fits.specs.Fits.{Fits};
 ghost use Rattle.np_launch.specs.Allocated.{served_request};
 ghost use Rattle.np_launch.specs.Hands.{is_in_hand_at};
 

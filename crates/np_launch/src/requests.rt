@@ -1,9 +1,7 @@
 //! Whether some request passes a test, and how many the launchers of a provider work on.
 
 ghost use Rattle.std.specs.Prelude.{◌≡◌};
-ghost use Rattle.std.specs.List.{list_any};
-ghost use Rattle.np_changes.specs.Planned.{IsReached};
-ghost use Rattle.np_fits.specs.Fits.{Fits};
+ghost use Rattle.np_changes.specs.Prelude.{Fits, IsReached, list_any};
 ghost use Rattle.np_useful.specs.Launcher.{is_to_launch, is_in_hand, requests_near, has_turn_left};
 
 use crate::near::{concurrency_of, sister_requests};

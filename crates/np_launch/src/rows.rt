@@ -1,10 +1,7 @@
 //! The conditions of a launcher's rows.
 
 ghost use Rattle.std.specs.Prelude.{◌≡◌, ◌&&◌, not};
-ghost use Rattle.std.specs.List.{list_any};
-ghost use Rattle.np_machine.specs.Tables.{is_session_of, registered};
-ghost use Rattle.np_changes.specs.Planned.{IsReached};
-ghost use Rattle.np_fits.specs.Fits.{Fits};
+ghost use Rattle.np_changes.specs.Prelude.{Fits, IsReached, is_session_of, list_any, registered};
 ghost use Rattle.np_useful.specs.Launcher.{is_wanted_by, is_as_planned, is_under_way, is_in_hand, has_turn_left};
 ghost use Rattle.np_useful.specs.Rows.{request_is, node_is, has_failed_node};
 

@@ -2,29 +2,10 @@
 use Rattle.std.proofs.Common.{◌≡◌, ℕ, Bool, true, false, not, arith, Some, None, Ok, Err}
 use Rattle.std.specs.Prelude.{slice_get}
 use Rattle.std.proofs.lemmas.Bool.Decides.{nat_tests}
-use Rattle.np_text.specs.declared.id.SessionId.{SessionId}
-use Rattle.np_text.specs.declared.id.PoolId.{PoolId}
-use Rattle.np_text.specs.declared.id.LabelId.{LabelId}
-use Rattle.np_text.specs.declared.id.NodeId.{NodeId}
-use Rattle.np_text.specs.declared.id.JobId.{JobId}
-use Rattle.np_text.specs.declared.id.RequestId.{RequestId}
-use Rattle.np_record.specs.declared.record.RequestRecord.{RequestRecord}
-use Rattle.np_record.specs.declared.record.JobRecord.{JobRecord}
-use Rattle.np_site.specs.Configuration.{Configuration}
-use Rattle.np_event.specs.declared.reply.Done.{Done}
+use Rattle.np_changes.specs.Prelude.{Configuration, Done, JobId, JobRecord, LabelId, NodeId, PoolId, Refusal, RequestId, RequestRecord, SessionId, State, ahead_of, count_of, is_pending_by, is_session_of, is_short, judge_create, judge_done, judge_end_node, judge_free_node, judge_lock_node, judge_lock_request, judge_mark_deleting, judge_start, judge_take, judge_take_ready, need, next_label, node_holder, node_in, node_queue, place_reply, registered, request_holder, request_in, unheld, ◌>>◌}
 use Rattle.np_event.specs.declared.reply.Done.TheVariants as done
-use Rattle.np_event.specs.declared.reply.Refusal.{Refusal}
 use Rattle.np_event.specs.declared.reply.Refusal.TheVariants as no
-use Rattle.np_lists.specs.Refusals.{◌>>◌, need}
-use Rattle.np_machine.specs.State.{State}
-use Rattle.np_machine.specs.Tables.{is_session_of, registered, ahead_of, request_in, request_holder, node_in, node_queue, node_holder}
-use Rattle.np_machine.specs.Order.{is_pending_by}
-use Rattle.np_machine.specs.Count.{count_of, is_short}
 use Rattle.np_machine.specs.Tests.{launcher, wrong_request, quota_short}
-use Rattle.np_machine.specs.Reasons.{next_label}
-use Rattle.np_machine.specs.Request.{judge_lock_request}
-use Rattle.np_machine.specs.Node.{judge_take_ready, judge_create, judge_start, judge_done, place_reply, judge_lock_node, judge_end_node, judge_mark_deleting, judge_free_node}
-use Rattle.np_machine.specs.Semaphore.{unheld, judge_take}
 
 -- what follows four tests that passed
 four-passed : {A E : Type 0} (a b c d : Bool) (first second third fourth : E) (answer what : A) → (need a first >> (need b second >> (need c third >> (need d fourth >> Ok answer)))) ≡ Ok what → what ≡ answer

@@ -1,14 +1,7 @@
 -- what a look-up finds after all the changes of an event: by the maker, by what grows, and by what happens to requests and nodes
 use Rattle.std.proofs.Common.{◌≡◌, ◌∙◌, ◌≤◌, refl, ap, arith, List, Option, Some, None, ℕ, ◌<◌, false, subst}
 use Rattle.std.proofs.lemmas.Bool.Decides.{nat_tests}
-use Rattle.np_text.specs.declared.id.SessionId.{SessionId}
-use Rattle.np_text.specs.declared.id.NodeId.{NodeId}
-use Rattle.np_text.specs.declared.id.RequestId.{RequestId}
-use Rattle.np_site.specs.Configuration.{Configuration}
-use Rattle.np_machine.specs.Entries.{RequestEntry, NodeEntry}
-use Rattle.np_machine.specs.State.{State}
-use Rattle.np_machine.specs.Tables.{joined, left, request_in, request_queue, put_request_queue, node_in, node_queue, put_node_queue, same_request}
-use Rattle.np_machine.specs.Request.{registers, next_id}
+use Rattle.np_changes.specs.Prelude.{Configuration, NodeEntry, NodeId, NodeRecord, RequestEntry, RequestId, SessionId, State, by_maker, changed, grown, joined, left, next_id, node_in, node_queue, nodes_changed, nodes_left, put_node_queue, put_request_queue, registers, request_in, request_queue, requests_changed, requests_left, same_request}
 use Rattle.np_changes.specs.declared.changes.Maker.{Maker}
 use Rattle.np_changes.specs.declared.changes.Changes.{Changes}
 use Rattle.np_changes.specs.declared.changes.Growth.{Growth}
@@ -18,10 +11,8 @@ use Rattle.np_changes.specs.declared.changes.RequestsChange.TheVariants as reque
 use Rattle.np_changes.specs.declared.changes.NodesChange.{NodesChange}
 use Rattle.np_changes.specs.declared.changes.SessionsChange.{SessionsChange}
 use Rattle.np_changes.specs.declared.changes.SessionsChange.TheVariants as sessions
-use Rattle.np_changes.specs.Changes.{by_maker, grown, requests_changed, nodes_changed, requests_left, nodes_left, changed}
 use Rattle.np_changes.specs.declared.asked.Asked.{Asked}
 use Rattle.np_laws.proofs.Lookups.{request_in-queue, request_in-left, node_in-queue, node_in-left, request_in-insert}
-use Rattle.np_record.specs.declared.record.NodeRecord.{NodeRecord}
 
 -- a look that no session's change affects
 pub made-look : {A B : Type 0} (look : A → B) (maker : Option Maker) (change : SessionId → A → A) (a : A) → ((session : SessionId) (x : A) → look (change session x) ≡ look x) → look (by_maker maker change a) ≡ look a

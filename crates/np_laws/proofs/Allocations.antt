@@ -1,24 +1,9 @@
 -- a node that is allocated to a request is in its list
 use Rattle.std.proofs.Common.{◌≡◌, ◌∙◌, sym, ℕ, ◌<◌, List, [], ◌∷◌, ◌++◌, refl, ap, arith, subst, Option, Some, None, Bool, true, false, cond, inl, inr}
 use Rattle.std.specs.Prelude.{◌==◌, ◌||◌, ◌⊎◌, nat_lt}
-use Rattle.std.specs.Option.{option_map}
-use Rattle.std.specs.List.{list_any}
+use Rattle.np_changes.specs.Prelude.{Configuration, NodeEntry, NodeId, NodeRecord, Outcome, RequestEntry, RequestId, RequestRecord, Rises, State, all_freed, changed, edited, freed, grown, is_id_before, is_request, joined, launched, left, list_any, new_node, node_in, node_queue, nodes_changed, nodes_left, option_map, request_in, request_queue, requests_changed, same_request}
 use Rattle.std.proofs.lemmas.Bool.Decides.{nat_tests}
-use Rattle.np_text.specs.declared.id.NodeId.{NodeId}
-use Rattle.np_text.specs.declared.id.RequestId.{RequestId}
-use Rattle.np_site.specs.Configuration.{Configuration}
-use Rattle.np_record.specs.declared.record.RequestRecord.{RequestRecord}
-use Rattle.np_record.specs.declared.record.NodeRecord.{NodeRecord}
-use Rattle.np_event.specs.declared.event.Outcome.{Outcome}
 use Rattle.np_event.specs.declared.event.Outcome.TheVariants as outcome
-use Rattle.np_lists.specs.Rising.{Rises}
-use Rattle.np_machine.specs.Entries.{RequestEntry, NodeEntry}
-use Rattle.np_machine.specs.State.{State}
-use Rattle.np_machine.specs.Order.{is_id_before}
-use Rattle.np_machine.specs.Tables.{is_request, same_request, joined, left, request_in, request_queue, node_in, node_queue, freed, all_freed}
-use Rattle.np_machine.specs.Node.{launched}
-use Rattle.np_changes.specs.Changes.{grown, edited, requests_changed, nodes_changed, nodes_left, changed}
-use Rattle.np_changes.specs.Plan.{new_node}
 use Rattle.np_changes.specs.Premises.{Gains, IsTaken, IsMade, Starts, Reports, EndsNode, GivesUp, Frees, PutsNode, GrowthPremise, EditPremise, RequestsPremise, NodesPremise, Premises}
 use Rattle.np_changes.specs.declared.changes.Maker.{Maker}
 use Rattle.np_changes.specs.declared.changes.Changes.{Changes}
@@ -33,9 +18,10 @@ use Rattle.np_changes.specs.declared.changes.NodesChange.TheVariants as nodes
 use Rattle.np_changes.specs.declared.changes.SessionsChange.{SessionsChange}
 use Rattle.np_changes.specs.declared.changes.SessionsChange.TheVariants as sessions
 use Rattle.np_laws.specs.Parts.{IsNumbered, AllocationsListed}
-use Rattle.np_laws.proofs.Lookups.{same_request-is, same_request-self, request_in-edit, request_in-queue, request_in-remove, request_in-removed, request_in-below, same_node-is, node_in-put, node_in-allocated, node_in-queue, node_in-left, node_in-freed, used_from, node_in-in_use, node_in-other, node_in-new, node_in-later, node_in-remove, node_in-removed}
+use Rattle.np_laws.proofs.Lookups.{request_in-edit, request_in-queue, request_in-remove, request_in-removed, request_in-below, same_node-is, node_in-put, node_in-allocated, node_in-queue, node_in-left, node_in-freed, used_from, node_in-in_use, node_in-other, node_in-new, node_in-later, node_in-remove, node_in-removed}
 use Rattle.np_laws.proofs.Numbered.{grown-numbered}
 use Rattle.np_laws.proofs.After.{found-grown, next-grown, left-request}
+use Rattle.np_machine.proofs.Ids.{request-equal, request-itself}
 
 -- the node exists and is allocated to the request
 record IsGivenTo (rows : List NodeEntry) (n : NodeId) (r : RequestId) : Type 0 where
@@ -235,14 +221,14 @@ module _ (c : Configuration) (s : State) (ch : Changes) (numbered : IsNumbered s
     by (Some k) here true which =
         let now : Some q ≡ Some (edited e k) = found (Some k) here ∙ rw which refl in
         let is_it : q ≡ edited e k = cc in
-        let same_id : x ≡ r = same_request-is x r which in
+        let same_id : x ≡ r = request-equal x r which in
         let at_r : ch.requests ≡ requests.Edit r e = at ∙ ap (λ (y : RequestId). requests.Edit y e) same_id in
         let premise_r : EditPremise c s ch r e = subst (λ (y : RequestId). EditPremise c s ch y e) same_id premise in
         subst (λ (y : RequestRecord). has n y.nodes ≡ true) (sym is_it) (listed-edit n r k e at_r premise_r held given here)
     by (Some k) here false which =
         let now : Some q ≡ Some k = found (Some k) here ∙ rw which refl in
         let is_it : q ≡ k = cc in
-        subst (λ (y : RequestRecord). has n y.nodes ≡ true) (sym is_it) (kept-listed n r k given (gains-by n r _ at (λ both. let ids : x ≡ r = cc in absurd (let self : same_request x r ≡ true = subst (λ (y : RequestId). same_request x y ≡ true) ids (same_request-self x) in cc))) here)
+        subst (λ (y : RequestRecord). has n y.nodes ≡ true) (sym is_it) (kept-listed n r k given (gains-by n r _ at (λ both. let ids : x ≡ r = cc in absurd (let self : same_request x r ≡ true = subst (λ (y : RequestId). same_request x y ≡ true) ids (request-itself x) in cc))) here)
   listed-after n r q maker rows rises same (requests.Remove x) at premise held given is = by (same_request x r) refl where
     by : (b : Bool) → same_request x r ≡ b → has n q.nodes ≡ true
     by true which = absurd (let none : Some q ≡ None = sym is ∙ request_in-removed x r rows rises which in cc)
@@ -260,7 +246,7 @@ module _ (c : Configuration) (s : State) (ch : Changes) (numbered : IsNumbered s
       let t : State = grown c ch.maker ch.grows s in
       let t_numbered : IsNumbered t = grown-numbered c s ch.maker ch.grows numbered in
       let mid : IsGivenTo (nodes_changed ch.maker t.tick ch.nodes t.nodes) n r = nodes-given_after_end ch.sessions _ n r (record { node = node; stands = stands; given = given }) in
-      let held : ch.nodes ≡ nodes.FreeAll r → ⊥ = (λ frees. let out : same_request r r ≡ false = none-of r t.nodes n r (subst (λ (change : NodesChange). IsGivenTo (nodes_changed ch.maker t.tick change t.nodes) n r) frees mid) in let self : same_request r r ≡ true = same_request-self r in absurd cc) in
+      let held : ch.nodes ≡ nodes.FreeAll r → ⊥ = (λ frees. let out : same_request r r ≡ false = none-of r t.nodes n r (subst (λ (change : NodesChange). IsGivenTo (nodes_changed ch.maker t.tick change t.nodes) n r) frees mid) in let self : same_request r r ≡ true = request-itself r in absurd cc) in
       let idle : ch.grows ≡ grow.Nothing → t.nodes ≡ s.nodes = (λ e. ap (λ (g : Growth). (grown c ch.maker g s).nodes) e) in
       let by : GivenBy c s ch n r = given-grown c s ch numbered ch.maker ch.grows refl premises.grows n r (nodes-given c s ch ch.maker t.tick ch.nodes t.nodes t_numbered.nodes_rise premises.nodes idle n r mid) in
       let low : r.seq < s.next_request = below-now n r by in

@@ -1,30 +1,12 @@
 -- a node has no more attempts than its pool's provider allows
 use Rattle.std.proofs.Common.{◌≡◌, ◌∙◌, sym, ℕ, ◌+◌, ◌<◌, ◌≤◌, List, [], ◌∷◌, refl, arith, subst, Option, Some, None, Bool, true, false, cond, inl, inr}
 use Rattle.std.specs.Prelude.{◌==◌, ◌&&◌, not, ◌⊎◌}
-use Rattle.std.specs.Option.{option_map}
-use Rattle.std.specs.List.{AllByRecursion}
+use Rattle.np_changes.specs.Prelude.{AllByRecursion, Configuration, EndAs, NodeEntry, NodeId, NodeRecord, Outcome, RequestId, State, all_in_use, allocated, change_first, changed, ended_as, freed, freed_from, grown, in_use, is_building, is_failed_node, is_request, joined, launched, left, new_node, node_entry, node_in, node_left, node_queue, nodes_changed, nodes_left, option_map, retries_of}
 use Rattle.std.proofs.lemmas.Bool.Decides.{nat_tests}
-use Rattle.np_text.specs.declared.id.NodeId.{NodeId}
-use Rattle.np_text.specs.declared.id.RequestId.{RequestId}
-use Rattle.np_text.specs.declared.word.EndAs.{EndAs}
 use Rattle.np_text.specs.declared.word.EndAs.TheVariants as end
 use Rattle.np_text.specs.declared.word.NodeState.TheVariants as node_state
-use Rattle.np_site.specs.Configuration.{Configuration}
-use Rattle.np_record.specs.declared.record.NodeRecord.{NodeRecord}
-use Rattle.np_event.specs.declared.event.Outcome.{Outcome}
 use Rattle.np_event.specs.declared.event.Outcome.TheVariants as outcome
-use Rattle.np_lists.specs.Change.{change_first}
 use Rattle.np_lists.proofs.Each.{all-push, all-find, all-remove_first, all-change_first, all-mapped}
-use Rattle.np_machine.specs.Entries.{NodeEntry}
-use Rattle.np_machine.specs.State.{State}
-use Rattle.np_machine.specs.Kinds.{is_building, is_failed_node}
-use Rattle.np_machine.specs.Count.{retries_of}
-use Rattle.np_machine.specs.Tables.{node_in, node_entry, node_queue, joined, left, is_request, freed, freed_from}
-use Rattle.np_machine.specs.Node.{allocated, launched, ended_as}
-use Rattle.np_machine.specs.Semaphore.{in_use, all_in_use}
-use Rattle.np_machine.specs.Session.{node_left}
-use Rattle.np_changes.specs.Changes.{grown, nodes_changed, nodes_left, changed}
-use Rattle.np_changes.specs.Plan.{new_node}
 use Rattle.np_changes.specs.Premises.{Gains, IsTaken, IsMade, Starts, Reports, EndsNode, GivesUp, Frees, PutsNode, GrowthPremise, NodesPremise, Premises}
 use Rattle.np_changes.specs.declared.changes.Maker.{Maker}
 use Rattle.np_changes.specs.declared.changes.Changes.{Changes}

@@ -1,19 +1,7 @@
 -- how a request that is found after an event was before it
 use Rattle.std.proofs.Common.{◌≡◌, ◌∙◌, sym, ℕ, ◌<◌, List, [], refl, ap, subst, Option, Some, None, Bool, true, false, ◌⊎◌, inl, inr}
-use Rattle.std.specs.List.{AllByRecursion}
+use Rattle.np_changes.specs.Prelude.{AllByRecursion, Configuration, EditPremise, Premises, RequestEntry, RequestId, RequestRecord, RequestsPremise, Rises, State, changed, edited, grown, is_id_before, joined, left, new_record, next_id, request_in, request_queue, requests_changed, same_request}
 use Rattle.std.proofs.lemmas.Option.{none-some, same_Some}
-use Rattle.np_text.specs.declared.id.RequestId.{RequestId}
-use Rattle.np_site.specs.Configuration.{Configuration}
-use Rattle.np_record.specs.declared.record.RequestRecord.{RequestRecord}
-use Rattle.np_lists.specs.Rising.{Rises}
-use Rattle.np_machine.specs.Entries.{RequestEntry}
-use Rattle.np_machine.specs.State.{State}
-use Rattle.np_machine.specs.Order.{is_id_before}
-use Rattle.np_machine.specs.Tables.{same_request, joined, left, request_in, request_queue}
-use Rattle.np_machine.specs.Request.{next_id}
-use Rattle.np_changes.specs.Asked.{new_record}
-use Rattle.np_changes.specs.Changes.{grown, edited, requests_changed, changed}
-use Rattle.np_changes.specs.Premises.{EditPremise, RequestsPremise, Premises}
 use Rattle.np_changes.specs.declared.asked.Asked.{Asked}
 use Rattle.np_changes.specs.declared.changes.Maker.{Maker}
 use Rattle.np_changes.specs.declared.changes.Changes.{Changes}
@@ -24,11 +12,12 @@ use Rattle.np_changes.specs.declared.changes.RequestEdit.TheVariants as edit
 use Rattle.np_changes.specs.declared.changes.RequestsChange.{RequestsChange}
 use Rattle.np_changes.specs.declared.changes.RequestsChange.TheVariants as requests
 use Rattle.np_laws.specs.Parts.{IsNumbered}
-use Rattle.np_laws.proofs.Lookups.{same_request-is, request_in-edit, request_in-queue, request_in-insert, request_in-new, request_in-remove, request_in-removed, request_in-later, request_in-below}
+use Rattle.np_laws.proofs.Lookups.{request_in-edit, request_in-queue, request_in-insert, request_in-new, request_in-remove, request_in-removed, request_in-later, request_in-below}
 use Rattle.np_laws.proofs.Numbered.{grown-numbered}
 use Rattle.np_laws.proofs.After.{found-grown, left-request}
 use Rattle.np_laws.proofs.NextNumbers.{same-seq}
 use Rattle.np_laws.proofs.Places.{IsEdited, edited-by}
+use Rattle.np_machine.proofs.Ids.{request-equal}
 
 -- ## what is found
 
@@ -83,7 +72,7 @@ request-settled : (maker : Option Maker) (change : RequestsChange) (rows : List 
 request-settled maker requests.Same rows rises r q is = inl is
 request-settled maker (requests.Edit x how) rows rises r q is = by (edited-by (same_request x r) (edited how) (request_in r rows) q (sym (request_in-edit x r (edited how) rows) ∙ is)) where
   by : IsEdited (same_request x r) (edited how) (request_in r rows) q ⊎ ((same_request x r ≡ false) × (request_in r rows ≡ Some q)) → (request_in r rows ≡ Some q) ⊎ IsChanged rows (requests.Edit x how) r q
-  by (inl one) = inr (record { old = one.old; how = how; stood = one.was; edits = ap (λ (y : RequestId). requests.Edit y how) (same_request-is x r one.passed); is = one.now })
+  by (inl one) = inr (record { old = one.old; how = how; stood = one.was; edits = ap (λ (y : RequestId). requests.Edit y how) (request-equal x r one.passed); is = one.now })
   by (inr other) = inl other.1
 request-settled maker (requests.Remove x) rows rises r q is = by (same_request x r) refl where
   by : (b : Bool) → same_request x r ≡ b → (request_in r rows ≡ Some q) ⊎ IsChanged rows (requests.Remove x) r q

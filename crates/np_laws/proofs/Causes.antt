@@ -1,36 +1,13 @@
 -- a turn that makes a request fail has its cause
 use Rattle.std.proofs.Common.{◌≡◌, ◌∙◌, sym, ℕ, ◌<◌, List, [], ◌∷◌, ◌++◌, refl, ap, arith, subst, length, Option, Some, None, Bool, true, false, ◌⊎◌, inl, inr}
 use Rattle.std.specs.Prelude.{◌==◌, ◌||◌, not, if◌then◌else◌, is_some, is_none, Contains}
-use Rattle.std.specs.Option.{option_map_or}
-use Rattle.std.specs.List.{list_any}
+use Rattle.np_changes.specs.Prelude.{Configuration, Declined, Event, LabelId, NodeId, NodeRecord, PoolId, Reason, Registration, RequestId, RequestRecord, SomeTurn, State, Turn, changed, edited, grown, is_declined_by, is_done, is_failed, is_failed_node, is_last_pool, is_offered, is_pending, is_pending_by, is_pool, is_requested, is_spent, is_true, list_any, never_fits, new_record, node_in, option_map_or, registrations_left, request_in, retries_of, tenant_never_fits}
 use Rattle.std.proofs.lemmas.Bool.{false≢true, true≢false, both_ways, and_parts, and_left, or_cases, not-true}
 use Rattle.std.proofs.lemmas.Option.{same_Some, slice_get_within}
-use Rattle.np_text.specs.declared.id.PoolId.{PoolId}
-use Rattle.np_text.specs.declared.id.LabelId.{LabelId}
-use Rattle.np_text.specs.declared.id.NodeId.{NodeId}
-use Rattle.np_text.specs.declared.id.RequestId.{RequestId}
-use Rattle.np_text.specs.declared.word.Reason.{Reason}
 use Rattle.np_text.specs.declared.word.Reason.TheVariants as reason
 use Rattle.np_text.specs.declared.word.RequestState.TheVariants as request_state
-use Rattle.np_site.specs.Configuration.{Configuration}
-use Rattle.np_record.specs.declared.record.RequestRecord.{RequestRecord}
-use Rattle.np_record.specs.declared.record.NodeRecord.{NodeRecord}
-use Rattle.np_record.specs.declared.record.Declined.{Declined}
-use Rattle.np_event.specs.declared.event.Event.{Event}
-use Rattle.np_machine.specs.declared.state.Registration.{Registration}
-use Rattle.np_machine.specs.State.{State}
-use Rattle.np_machine.specs.Kinds.{is_requested, is_pending, is_failed, is_failed_node}
-use Rattle.np_machine.specs.Tables.{request_in, node_in}
-use Rattle.np_machine.specs.Order.{is_declined_by, is_pool, is_pending_by}
-use Rattle.np_machine.specs.Count.{is_offered, retries_of}
-use Rattle.np_machine.specs.Reasons.{is_true, is_spent, never_fits}
-use Rattle.np_machine.specs.Tenants.{tenant_never_fits}
 use Rattle.np_machine.specs.Request.{all_declined}
-use Rattle.np_machine.specs.Turns.{Turn, SomeTurn, is_done}
 use Rattle.np_machine.specs.Caused.{has_failed, FailsNow, IsTrueDecline, HasDeclined, DeclinedByAll, is_report_on, ReportsFailure, LaunchesSpent, HasCause}
-use Rattle.np_changes.specs.Asked.{new_record}
-use Rattle.np_changes.specs.Readers.{is_last_pool}
-use Rattle.np_changes.specs.Changes.{grown, edited, registrations_left, changed}
 use Rattle.np_changes.specs.Premises.{AsksForJob, AsksToKeep, GrowthPremise, MayDecline, MayFail, EditPremise, SessionsPremise, Premises}
 use Rattle.np_changes.specs.declared.asked.Asked.{Asked}
 use Rattle.np_changes.specs.declared.changes.Changes.{Changes}
@@ -44,7 +21,7 @@ use Rattle.np_changes.specs.declared.changes.SessionsChange.TheVariants as sessi
 use Rattle.np_changes.proofs.Edits.{last-declines}
 use Rattle.np_laws.specs.Parts.{IsAtRest, IsServed, Invariant}
 use Rattle.np_laws.proofs.Ids.{same_pool, same_label}
-use Rattle.np_laws.proofs.Places.{place-there, node-place}
+use Rattle.np_laws.proofs.Places.{node-place}
 use Rattle.np_laws.proofs.StandsOn.{rest-if, served-if}
 use Rattle.np_laws.proofs.Members.{any-member, all-member, some-registered, some-rows, all-undeclined, none-declined}
 use Rattle.np_laws.proofs.TurnLists.{each-push, reports-other}
@@ -52,6 +29,7 @@ use Rattle.np_laws.proofs.Tells.{IsDecline, Tells}
 use Rattle.np_laws.proofs.Came.{CameBy, edit-premise, came}
 use Rattle.np_laws.proofs.Pinned.{requested-open, own-pool}
 use Rattle.np_laws.proofs.Due.{DeclinesMade, IsPinned, IsDue}
+use Rattle.np_lists.proofs.Plain.{member-there}
 
 -- ## declined by all
 
@@ -85,7 +63,7 @@ served-pool : (s : State) (r : RequestId) (q : RequestRecord) (n : NodeId) (k : 
 served-pool s r q n k served any stands =
     let place = node-place n q.nodes any in
     let within : place.0 < length q.labels = omega (arith, slice_get_within q.nodes place.0 n place.1, served.few) in
-    let label = place-there q.labels place.0 within in
+    let label = member-there q.labels place.0 within in
     (served.each place.0 n label.0 k place.1 label.1 stands).of_pool
 
 -- a node that is there and failed

@@ -3,18 +3,8 @@ use Rattle.std.proofs.Common.{◌≡◌, ◌∙◌, sym, List, [], ◌∷◌, �
 use Rattle.std.specs.Prelude.{Contains}
 use Rattle.std.proofs.lemmas.List.Elements.{Contains-push_cases}
 use Rattle.std.proofs.lemmas.Option.{same_Some}
-use Rattle.np_text.specs.declared.id.PoolId.{PoolId}
-use Rattle.np_text.specs.declared.id.RequestId.{RequestId}
-use Rattle.np_text.specs.declared.word.Reason.{Reason}
-use Rattle.np_site.specs.Configuration.{Configuration}
-use Rattle.np_record.specs.declared.record.RequestRecord.{RequestRecord}
-use Rattle.np_record.specs.declared.record.Declined.{Declined}
-use Rattle.np_machine.specs.Tables.{request_in}
-use Rattle.np_machine.specs.Reasons.{is_true}
+use Rattle.np_changes.specs.Prelude.{Configuration, Declined, EditPremise, IsTrueDecline, MayDecline, PoolId, Premises, Reason, RequestId, RequestRecord, changed, edited, is_true, request_in}
 use Rattle.np_machine.specs.Turns.{Turn, SomeTurn, IsAccepted}
-use Rattle.np_machine.specs.Caused.{IsTrueDecline}
-use Rattle.np_changes.specs.Changes.{edited, changed}
-use Rattle.np_changes.specs.Premises.{MayDecline, EditPremise, Premises}
 use Rattle.np_changes.specs.declared.changes.Changes.{Changes}
 use Rattle.np_changes.specs.declared.changes.RequestEdit.{RequestEdit}
 use Rattle.np_changes.specs.declared.changes.RequestEdit.TheVariants as edit

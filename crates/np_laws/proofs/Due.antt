@@ -1,25 +1,8 @@
 -- what holds of the past turns and the state after them
 use Rattle.std.proofs.Common.{◌≡◌, ℕ, ◌+◌, ◌≤◌, List, [], ◌∷◌, refl, Some, Bool, true, false}
 use Rattle.std.specs.Prelude.{Contains}
-use Rattle.std.specs.List.{AllByRecursion}
+use Rattle.np_changes.specs.Prelude.{AllByRecursion, Configuration, Declined, EachTurn, LabelId, Launcher, NodeId, NodeRecord, PoolId, RequestId, RequestRecord, SessionFacts, SessionId, SomeTurn, State, Turn, is_building, is_failed, is_failed_node, is_offered, never_fits, node_in, request_in, request_queue, retries_of, session_of, start}
 use Rattle.std.proofs.lemmas.Option.{none-some}
-use Rattle.np_text.specs.declared.id.SessionId.{SessionId}
-use Rattle.np_text.specs.declared.id.PoolId.{PoolId}
-use Rattle.np_text.specs.declared.id.LabelId.{LabelId}
-use Rattle.np_text.specs.declared.id.NodeId.{NodeId}
-use Rattle.np_text.specs.declared.id.RequestId.{RequestId}
-use Rattle.np_text.specs.declared.id.Role.TheVariants.{Launcher}
-use Rattle.np_site.specs.Configuration.{Configuration}
-use Rattle.np_record.specs.declared.record.RequestRecord.{RequestRecord}
-use Rattle.np_record.specs.declared.record.NodeRecord.{NodeRecord}
-use Rattle.np_record.specs.declared.record.Declined.{Declined}
-use Rattle.np_machine.specs.declared.state.SessionFacts.{SessionFacts}
-use Rattle.np_machine.specs.State.{State, start}
-use Rattle.np_machine.specs.Kinds.{is_failed, is_building, is_failed_node}
-use Rattle.np_machine.specs.Tables.{session_of, request_in, request_queue, node_in}
-use Rattle.np_machine.specs.Count.{retries_of, is_offered}
-use Rattle.np_machine.specs.Reasons.{never_fits}
-use Rattle.np_machine.specs.Turns.{Turn, SomeTurn, EachTurn}
 use Rattle.np_machine.specs.Caused.{IsTrueDecline, ReportsFailure, reports_on}
 
 -- ## declines

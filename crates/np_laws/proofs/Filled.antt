@@ -1,23 +1,11 @@
 -- a request with every place filled owns its labels
 use Rattle.std.proofs.Common.{◌≡◌, ◌∙◌, sym, ℕ, zero, suc, ◌+◌, ◌≤◌, le_antisymm, Bool, true, false, cond, List, [], ◌∷◌, length, refl, ap, arith, subst₂, eqb-true, Option, Some, None}
 use Rattle.std.specs.Prelude.{◌==◌, ◌&&◌, slice_get}
-use Rattle.std.specs.Option.{option_map}
+use Rattle.np_changes.specs.Prelude.{LabelId, NodeEntry, NodeId, PoolId, RequestId, RequestRecord, SessionId, State, holder, is_filled, is_pool, is_ready, is_request, is_session_of, node_entry, option_map, unfilled}
 use Rattle.std.proofs.lemmas.Bool.{and_parts, false≢true}
 use Rattle.std.proofs.lemmas.Option.{none-some, same_Some}
-use Rattle.np_text.specs.declared.id.SessionId.{SessionId}
-use Rattle.np_text.specs.declared.id.NodeId.{NodeId}
-use Rattle.np_text.specs.declared.id.PoolId.{PoolId}
-use Rattle.np_text.specs.declared.id.LabelId.{LabelId}
-use Rattle.np_text.specs.declared.id.RequestId.{RequestId}
 use Rattle.np_text.specs.declared.word.RequestState.TheVariants as request_state
-use Rattle.np_record.specs.declared.record.RequestRecord.{RequestRecord}
-use Rattle.np_machine.specs.Entries.{NodeEntry}
-use Rattle.np_machine.specs.Kinds.{is_ready}
-use Rattle.np_machine.specs.Tables.{is_request, is_session_of, holder, node_entry}
-use Rattle.np_machine.specs.Order.{is_pool}
-use Rattle.np_machine.specs.Request.{is_filled, unfilled}
 use Rattle.np_machine.specs.Safe.{IsGiven, OwnsItsLabels}
-use Rattle.np_machine.specs.State.{State}
 use Rattle.np_laws.specs.Parts.{IsServed}
 
 -- if nothing is lacking, this place is filled and the others lack nothing

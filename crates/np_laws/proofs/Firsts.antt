@@ -1,21 +1,11 @@
 -- who is first in a queue
-use Rattle.std.proofs.Common.{◌≡◌, ◌∙◌, sym, ap, refl, ℕ, suc, List, [], ◌∷◌, ◌++◌, arith, Option, Some, None, Bool, true, false, ◌&&◌, ◌==◌, cond, eqb-true, eq-eqb}
+use Rattle.std.proofs.Common.{◌≡◌, ◌∙◌, sym, ap, refl, ℕ, suc, List, [], ◌∷◌, ◌++◌, arith, Option, Some, None, Bool, true, false, ◌==◌, cond, eqb-true, eq-eqb}
 use Rattle.std.proofs.lemmas.Bool.Decides.{nat_tests}
-use Rattle.np_text.specs.declared.id.SessionId.{SessionId}
+use Rattle.np_changes.specs.Prelude.{SessionId, ahead_of, holder, is_queued, is_session, is_session_of, joined, left, place_reply}
 use Rattle.np_event.specs.declared.reply.Done.TheVariants as done
-use Rattle.np_machine.specs.Tables.{is_session, is_session_of, holder, is_queued, ahead_of, joined, left}
-use Rattle.np_machine.specs.Node.{place_reply}
 use Rattle.np_machine.specs.LiveHolder.{is_held}
 
--- the first of two tests fails
-pub and-apart : (x y : Bool) → (x && y) ≡ false → y ≡ true → x ≡ false
-and-apart false y both is = refl
-and-apart true y both is = absurd cc
-
 -- ## sessions with one number
-
-pub session-is : (a b : SessionId) → is_session a b ≡ true → a ≡ b
-session-is a b is = ap (λ (k : ℕ). let x : SessionId = record { 0 = k } in x) (eqb-true a.0 b.0 is)
 
 -- at most one session is named
 pub one-named : (a b : SessionId) (o : Option SessionId) → is_session_of a o ≡ true → is_session_of b o ≡ true → a.0 ≡ b.0

@@ -1,34 +1,13 @@
 -- what an event removes: which request, which node, and whose nodes are given back
 use Rattle.std.proofs.Common.{◌≡◌, ◌∙◌, sym, refl, ap, arith, subst, Option, Some, None, Bool, true, false, inl, inr}
 use Rattle.std.specs.Prelude.{◌==◌, ◌||◌, not, if◌then◌else◌, ◌⊎◌, is_ok, is_some, slice_get}
-use Rattle.std.specs.Option.{option_map_or}
+use Rattle.np_changes.specs.Prelude.{Configuration, Event, Janitor, JobId, JobRecord, Launcher, NodeId, Phase, RequestId, RequestRecord, Requester, Role, SessionId, State, is_asked, is_new, is_wanted, janitor, judge, judge_take, judge_withdraw, launcher, made_by, maker, maker_of, next_label, node_in, option_map_or, plan, request_in, request_of_job, requester, same, same_request, session_of}
 use Rattle.std.proofs.lemmas.Bool.Decides.{nat_tests}
-use Rattle.np_text.specs.declared.id.SessionId.{SessionId}
-use Rattle.np_text.specs.declared.id.JobId.{JobId}
-use Rattle.np_text.specs.declared.id.NodeId.{NodeId}
-use Rattle.np_text.specs.declared.id.RequestId.{RequestId}
-use Rattle.np_text.specs.declared.id.Role.{Role}
-use Rattle.np_text.specs.declared.id.Role.TheVariants.{Launcher, Janitor, Requester}
-use Rattle.np_text.specs.declared.word.Phase.{Phase}
 use Rattle.np_text.specs.declared.word.Phase.TheVariants as phase
-use Rattle.np_site.specs.Configuration.{Configuration}
-use Rattle.np_record.specs.declared.record.RequestRecord.{RequestRecord}
-use Rattle.np_record.specs.declared.record.JobRecord.{JobRecord}
-use Rattle.np_event.specs.declared.event.Event.{Event}
 use Rattle.np_event.specs.declared.event.Event.TheVariants as ev
-use Rattle.np_machine.specs.State.{State}
-use Rattle.np_machine.specs.Kinds.{is_new, is_asked}
-use Rattle.np_machine.specs.Step.{judge, maker_of}
-use Rattle.np_machine.specs.Tables.{same_request, request_in, node_in, session_of}
-use Rattle.np_machine.specs.Tests.{maker, launcher, janitor, requester}
-use Rattle.np_machine.specs.Reasons.{next_label}
-use Rattle.np_machine.specs.Request.{request_of_job}
-use Rattle.np_machine.specs.Node.{is_wanted}
-use Rattle.np_machine.specs.Semaphore.{judge_take, judge_withdraw}
 use Rattle.np_machine.specs.Kept.{is_request_of, is_pinned, is_request_end, is_gone}
 use Rattle.np_machine.specs.Fenced.{given_back_by}
 use Rattle.np_changes.specs.Plan
-use Rattle.np_changes.specs.Plan.{same, made_by, plan}
 use Rattle.np_changes.specs.declared.changes.Maker.{Maker}
 use Rattle.np_changes.specs.declared.changes.Changes.{Changes}
 use Rattle.np_changes.specs.declared.changes.Growth.TheVariants as grow

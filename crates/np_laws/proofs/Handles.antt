@@ -1,22 +1,11 @@
 -- no semaphore exceeds its max, and no job has two handles of one
-use Rattle.std.proofs.Common.{◌≡◌, ◌⊎◌, ℕ, zero, suc, ◌<◌, ◌≤◌, ◌==◌, ◌&&◌, not, Bool, true, false, cond, List, [], ◌∷◌, map, filter, fold, length, slice_get, unwrap_or, nat_lt, Option, Some, None, refl, sym, ap, ◌∙◌, subst, inl, inr, arith, leb-false, eq-eqb}
-use Rattle.std.specs.Option.{option_map_or}
-use Rattle.std.specs.List.{AllByRecursion}
-use Rattle.std.proofs.lemmas.Bool.{not-false, and_cases, or_parts, or_from, or_left}
+use Rattle.std.proofs.Common.{◌≡◌, ◌⊎◌, ℕ, zero, suc, ◌<◌, ◌≤◌, ◌==◌, ◌&&◌, not, Bool, true, false, cond, List, [], ◌∷◌, map, filter, fold, length, slice_get, unwrap_or, nat_lt, Option, Some, None, refl, sym, ap, ◌∙◌, subst, inl, inr, arith, leb-false}
+use Rattle.np_changes.specs.Prelude.{AllByRecursion, Configuration, Job, JobId, PoolId, Sem, SemId, State, by_maker, change_at, changed, grown, handles_changed, handles_of, has_handle, insert_before, is_among, option_map_or, registers, semaphores_of, start}
+use Rattle.std.proofs.lemmas.Bool.{not-false, and_cases, or_parts, or_from}
 use Rattle.std.proofs.lemmas.Bool.Decides.{nat_tests}
-use Rattle.np_text.specs.declared.id.PoolId.{PoolId}
-use Rattle.np_text.specs.declared.id.JobId.{JobId}
-use Rattle.np_text.specs.declared.id.SemId.{SemId}
-use Rattle.np_site.specs.Configuration.{Configuration}
-use Rattle.np_site.specs.declared.row.Job.{Job}
-use Rattle.np_site.specs.declared.row.Sem.{Sem}
-use Rattle.np_lists.specs.Change.{insert_before, change_at}
 use Rattle.np_lists.proofs.Each.{all-filter, all-weaker, all-from_at, length-filter_at_most, length-insert_before}
 use Rattle.np_lists.proofs.FilterLemmas.{list_any-none, none-list_any, list_any-insert_before}
 use Rattle.np_lists.proofs.Halves.{none-find}
-use Rattle.np_machine.specs.State.{State, start}
-use Rattle.np_machine.specs.Tables.{handles_of, is_among, has_handle}
-use Rattle.np_machine.specs.Request.{registers}
 use Rattle.np_machine.specs.Semaphore.{max_of, is_full, first_full, with_handle, without_handle}
 use Rattle.np_machine.specs.Safe.{NoRepeat, WithinMax}
 use Rattle.np_changes.specs.declared.changes.Maker.{Maker}
@@ -25,19 +14,15 @@ use Rattle.np_changes.specs.declared.changes.Growth.{Growth}
 use Rattle.np_changes.specs.declared.changes.Growth.TheVariants as grow
 use Rattle.np_changes.specs.declared.changes.HandlesChange.{HandlesChange}
 use Rattle.np_changes.specs.declared.changes.HandlesChange.TheVariants as handles
-use Rattle.np_changes.specs.Changes.{by_maker, semaphores_of, grown, handles_changed, changed}
 use Rattle.np_changes.specs.Premises.{HasRoom, GrowthPremise, Premises}
 use Rattle.np_laws.specs.Parts.{Invariant}
 use Rattle.np_laws.proofs.Ids.{same_semaphore}
+use Rattle.np_changes.proofs.Shaping.{among-insert}
 
 -- ## a job more, a job less
 
 other_way : (a b : ℕ) → (a == b) ≡ false → (b == a) ≡ false
 other_way a b other = grind (arith, nat_tests)
-
--- the job that joined is among them
-is_among-new : (p : JobId → Bool) (j : JobId) (jobs : List JobId) → is_among j (insert_before p j jobs) ≡ true
-is_among-new p j jobs = list_any-insert_before (λ (other : JobId). other.0 == j.0) p j jobs ∙ or_left (j.0 == j.0) (is_among j jobs) (eq-eqb j.0 j.0 refl)
 
 repeat-by : (j k : JobId) (jobs rest : List JobId) (b : Bool) → is_among j (k ∷ jobs) ≡ false → NoRepeat (k ∷ jobs) → is_among k rest ≡ false → NoRepeat rest → NoRepeat (cond b (j ∷ k ∷ jobs) (k ∷ rest))
 repeat-by j k jobs rest true out apart first later = (out, apart)
@@ -117,7 +102,7 @@ module _ (j : JobId) (most : ℕ) (Ready : Type 0) where
       apart = NoRepeat-insert_before (λ (other : JobId). nat_lt j.0 other.0) j jobs out within.apart;
       few = let longer = length-insert_before (λ (other : JobId). nat_lt j.0 other.0) j jobs in omega (arith, longer, room);
     };
-    place = λ _. inl (is_among-new (λ (other : JobId). nat_lt j.0 other.0) j jobs);
+    place = λ _. inl (among-insert (λ (other : JobId). nat_lt j.0 other.0) j jobs);
   }
 
   with-by : (jobs : List JobId) (b : Bool) → is_among j jobs ≡ b → Ready → MayTake jobs → MayTake (cond b jobs (insert_before (λ other. nat_lt j.0 other.0) j jobs))

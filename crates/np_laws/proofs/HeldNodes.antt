@@ -1,16 +1,6 @@
 -- who is first at a node stays first, if the changes do not take that away
 use Rattle.std.proofs.Common.{◌≡◌, sym, refl, subst, ℕ, List, [], ◌∷◌, ◌++◌, Option, Some, None, Bool, true, false, ◌==◌, cond}
-use Rattle.np_text.specs.declared.id.SessionId.{SessionId}
-use Rattle.np_text.specs.declared.id.NodeId.{NodeId}
-use Rattle.np_text.specs.declared.id.RequestId.{RequestId}
-use Rattle.np_text.specs.declared.id.TenantId.{TenantId}
-use Rattle.np_record.specs.declared.record.NodeRecord.{NodeRecord}
-use Rattle.np_site.specs.Configuration.{Configuration}
-use Rattle.np_lists.specs.Change.{change_first}
-use Rattle.np_machine.specs.Entries.{NodeEntry}
-use Rattle.np_machine.specs.State.{State}
-use Rattle.np_machine.specs.Tables.{is_session, is_session_of, joined, left, node_in, node_queue, node_holder, put_node_queue}
-use Rattle.np_machine.specs.Node.{allocated}
+use Rattle.np_changes.specs.Prelude.{Configuration, NodeEntry, NodeId, NodeRecord, RequestId, SessionId, State, TenantId, allocated, change_first, changed, grown, is_session, is_session_of, joined, left, node_holder, node_in, node_queue, nodes_changed, nodes_left, put_node_queue}
 use Rattle.np_changes.specs.declared.changes.Maker.{Maker}
 use Rattle.np_changes.specs.declared.changes.Changes.{Changes}
 use Rattle.np_changes.specs.declared.changes.Growth.{Growth}
@@ -19,10 +9,10 @@ use Rattle.np_changes.specs.declared.changes.NodesChange.{NodesChange}
 use Rattle.np_changes.specs.declared.changes.NodesChange.TheVariants as nodes
 use Rattle.np_changes.specs.declared.changes.SessionsChange.{SessionsChange}
 use Rattle.np_changes.specs.declared.changes.SessionsChange.TheVariants as sessions
-use Rattle.np_changes.specs.Changes.{grown, nodes_changed, nodes_left, changed}
 use Rattle.np_laws.proofs.Lookups.{same_node-is, node_queue-put, node_queue-freed, node_queue-in_use, node_queue-allocated, node_queue-queue, node_queue-nowhere, node_queue-left, node_queue-push, node_queue-remove}
-use Rattle.np_laws.proofs.Firsts.{and-apart, is_first, first-in, first-joined, first-left}
+use Rattle.np_laws.proofs.Firsts.{is_first, first-in, first-joined, first-left}
 use Rattle.np_laws.proofs.HoldsLost.{NodeStays, SessionStays, KeepsNode}
+use Rattle.np_lists.proofs.Plain.{and-apart}
 
 module _ (session : SessionId) (n : NodeId) where
   pub record IsFirstAt (rows : List NodeEntry) : Type 0 where

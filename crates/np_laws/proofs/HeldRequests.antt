@@ -1,16 +1,7 @@
 -- who locked a request stays first at it while it exists, if the changes do not take that away
 use Rattle.std.proofs.Common.{◌≡◌, ◌∙◌, sym, ap, refl, subst, ℕ, ◌<◌, List, arith, Option, Some, None, Bool, true, false, cond, is_some}
 use Rattle.std.proofs.lemmas.Bool.Decides.{nat_tests}
-use Rattle.np_text.specs.declared.id.SessionId.{SessionId}
-use Rattle.np_text.specs.declared.id.RequestId.{RequestId}
-use Rattle.np_record.specs.declared.record.RequestRecord.{RequestRecord}
-use Rattle.np_site.specs.Configuration.{Configuration}
-use Rattle.np_lists.specs.Rising.{Rises}
-use Rattle.np_machine.specs.Entries.{RequestEntry}
-use Rattle.np_machine.specs.State.{State}
-use Rattle.np_machine.specs.Order.{is_id_before}
-use Rattle.np_machine.specs.Tables.{is_session, is_session_of, same_request, joined, left, request_in, request_queue, request_holder, put_request_queue, remove_request}
-use Rattle.np_machine.specs.Request.{next_id}
+use Rattle.np_changes.specs.Prelude.{Configuration, RequestEntry, RequestId, RequestRecord, Rises, SessionId, State, changed, edited, grown, is_id_before, is_session, is_session_of, joined, left, next_id, put_request_queue, remove_request, request_holder, request_in, request_queue, requests_changed, requests_left, same_request}
 use Rattle.np_changes.specs.declared.changes.Maker.{Maker}
 use Rattle.np_changes.specs.declared.changes.Changes.{Changes}
 use Rattle.np_changes.specs.declared.changes.Growth.{Growth}
@@ -20,11 +11,11 @@ use Rattle.np_changes.specs.declared.changes.RequestsChange.{RequestsChange}
 use Rattle.np_changes.specs.declared.changes.RequestsChange.TheVariants as requests
 use Rattle.np_changes.specs.declared.changes.SessionsChange.{SessionsChange}
 use Rattle.np_changes.specs.declared.changes.SessionsChange.TheVariants as sessions
-use Rattle.np_changes.specs.Changes.{edited, grown, requests_changed, requests_left, changed}
-use Rattle.np_laws.proofs.Lookups.{same_request-is, request_in-edit, request_in-queue, request_in-left, request_in-insert, request_in-remove, request_in-removed, request_queue-edit, request_queue-queue, request_queue-left, request_queue-insert, request_queue-remove}
-use Rattle.np_laws.proofs.Firsts.{and-apart, is_first, first-in, first-joined, first-left}
+use Rattle.np_laws.proofs.Lookups.{request_in-edit, request_in-queue, request_in-left, request_in-insert, request_in-remove, request_in-removed, request_queue-edit, request_queue-queue, request_queue-left, request_queue-insert, request_queue-remove}
+use Rattle.np_laws.proofs.Firsts.{is_first, first-in, first-joined, first-left}
 use Rattle.np_laws.proofs.HoldsLost.{RequestStays, SessionStays, KeepsRequest}
-use Rattle.np_laws.proofs.Options.{some-is, some-map}
+use Rattle.np_machine.proofs.Ids.{request-equal}
+use Rattle.np_lists.proofs.Plain.{and-apart, some-of, map-some}
 
 earlier : (priority : ℕ) (s : State) (r : RequestId) → r.seq < s.next_request → same_request (next_id priority s) r ≡ false
 earlier priority s r before = grind (arith, nat_tests)
@@ -43,7 +34,7 @@ module _ (session : SessionId) (r : RequestId) where
     by : is_some (request_in r (put_request_queue q queue rows)) ≡ true → is_session_of session (request_holder r (put_request_queue q queue rows)) ≡ true
     by is =
         let there : is_some (request_in r rows) ≡ true = sym (ap (λ (o : Option RequestRecord). is_some o) (request_in-queue q r queue rows)) ∙ is in
-        let found : (k : RequestRecord) × (request_in r rows ≡ Some k) = some-is (request_in r rows) there in
+        let found : (k : RequestRecord) × (request_in r rows ≡ Some k) = some-of (request_in r rows) there in
         first-in session (request_queue-queue q r queue found.0 rows found.1) (place (same_request q r) refl (held.first there)) where
           place : (b : Bool) → same_request q r ≡ b → is_first session (request_queue r rows) ≡ true → is_first session (cond b queue (request_queue r rows)) ≡ true
           place true same first = new same first
@@ -51,11 +42,11 @@ module _ (session : SessionId) (r : RequestId) where
 
   -- the same for the queue that is found
   at-request : (q : RequestId) (rows : List RequestEntry) → same_request q r ≡ true → is_first session (request_queue r rows) ≡ true → is_first session (request_queue q rows) ≡ true
-  at-request q rows is first = subst (λ (x : RequestId). is_first session (request_queue x rows) ≡ true) (sym (same_request-is q r is)) first
+  at-request q rows is first = subst (λ (x : RequestId). is_first session (request_queue x rows) ≡ true) (sym (request-equal q r is)) first
 
   edited-first : (q : RequestId) (change : RequestEdit) (maker : Option Maker) (rows : List RequestEntry) → IsFirstThere rows → IsFirstThere (requests_changed maker (requests.Edit q change) rows)
   edited-first q change maker rows held =
-      same-row rows _ (ap (λ (o : Option RequestRecord). is_some o) (request_in-edit q r (edited change) rows) ∙ some-map _ (request_in r rows)) (request_queue-edit q r (edited change) rows) held
+      same-row rows _ (ap (λ (o : Option RequestRecord). is_some o) (request_in-edit q r (edited change) rows) ∙ map-some _ (request_in r rows)) (request_queue-edit q r (edited change) rows) held
 
   removed-first : (q : RequestId) (rows : List RequestEntry) → Rises (λ a b. is_id_before a.id b.id) rows → IsFirstThere rows → IsFirstThere (remove_request q rows)
   removed-first q rows rises held = by (same_request q r) refl where

@@ -1,51 +1,27 @@
 -- a session that holds a node or a request by an accepted entry is first at it afterwards
 use Rattle.std.proofs.Common.{◌≡◌, ◌∙◌, sym, ap, refl, subst, ◌+◌, ◌<◌, List, [], ◌∷◌, ◌++◌, arith, Option, Some, None, Result, Ok, Err, Bool, true, false, ◌&&◌, ◌||◌, ◌==◌, not, cond, is_ok, map, slice_get, le_of_eq}
-use Rattle.std.specs.Option.{option_map_or}
-use Rattle.std.specs.List.{AllByRecursion, list_any}
+use Rattle.np_changes.specs.Prelude.{AllByRecursion, Answer, Configuration, Done, Event, JobId, JobRecord, LabelId, NodeEntry, NodeId, NodeRecord, PoolId, Refusal, RequestEntry, RequestId, RequestRecord, Rises, SessionId, State, acting, ahead_of, change_first, effect, is_id_before, is_marked, is_session, is_session_of, joined, judge, launcher, list_any, next, next_label, node_holder, node_in, node_queue, option_map_or, plan, put_job, request_holder, request_in, request_queue, same_request, tenant_of_request, with_act}
 use Rattle.std.proofs.lemmas.Bool.{and_parts, eqb-true, eq-eqb, cond-true}
 use Rattle.std.proofs.lemmas.List.Sums.{sum_by-cons}
-use Rattle.np_text.specs.declared.id.SessionId.{SessionId}
-use Rattle.np_text.specs.declared.id.PoolId.{PoolId}
-use Rattle.np_text.specs.declared.id.LabelId.{LabelId}
-use Rattle.np_text.specs.declared.id.NodeId.{NodeId}
-use Rattle.np_text.specs.declared.id.JobId.{JobId}
-use Rattle.np_text.specs.declared.id.RequestId.{RequestId}
 use Rattle.np_text.specs.declared.word.Phase.TheVariants as phase
-use Rattle.np_record.specs.declared.record.RequestRecord.{RequestRecord}
-use Rattle.np_record.specs.declared.record.NodeRecord.{NodeRecord}
-use Rattle.np_record.specs.declared.record.JobRecord.{JobRecord}
-use Rattle.np_site.specs.Configuration.{Configuration}
-use Rattle.np_event.specs.declared.event.Event.{Event}
 use Rattle.np_event.specs.declared.event.Event.TheVariants as ev
-use Rattle.np_event.specs.declared.reply.Done.{Done}
-use Rattle.np_event.specs.declared.reply.Refusal.{Refusal}
-use Rattle.np_lists.specs.Rising.{Rises}
-use Rattle.np_lists.specs.Change.{change_first}
-use Rattle.np_machine.specs.Entries.{RequestEntry, NodeEntry}
-use Rattle.np_machine.specs.State.{State}
-use Rattle.np_machine.specs.Order.{is_id_before}
-use Rattle.np_machine.specs.Tables.{is_session, is_session_of, same_request, joined, ahead_of, request_in, request_queue, request_holder, node_in, node_queue, node_holder, put_job, is_marked}
-use Rattle.np_machine.specs.Tests.{Answer, launcher}
-use Rattle.np_machine.specs.Tenants.{tenant_of_request}
-use Rattle.np_machine.specs.Reasons.{next_label}
 use Rattle.np_machine.specs.Request.{judge_lock_request, effect_lock_request}
 use Rattle.np_machine.specs.Node.{place_reply, judge_take_ready, allocated, effect_take_ready, judge_create, made, effect_create, judge_lock_node, effect_lock_node}
 use Rattle.np_machine.specs.Semaphore.{judge_take, effect_take, unheld, unended}
-use Rattle.np_machine.specs.Step.{judge, effect, acting, with_act, next}
 use Rattle.np_machine.specs.LiveHolder.{is_held, is_new_node, is_node, has_node, is_holding, is_ending, is_locking, is_unlocking}
-use Rattle.np_changes.specs.Plan.{plan}
 use Rattle.np_changes.proofs.PlanLaws.{plan-next}
-use Rattle.np_laws.proofs.Lookups.{same_node-is, same_request-is, same_request-self, node_in-later, node_queue-allocated, node_queue-queue, node_queue-new, request_queue-queue}
-use Rattle.np_laws.proofs.Firsts.{session-is, first-in, first-alone, first-held}
+use Rattle.np_laws.proofs.Lookups.{same_node-is, node_in-later, node_queue-allocated, node_queue-queue, node_queue-new, request_queue-queue}
+use Rattle.np_laws.proofs.Firsts.{first-in, first-alone, first-held}
 use Rattle.np_laws.proofs.HoldsLost.{takes-as_said}
 use Rattle.np_laws.proofs.HeldNodes
 use Rattle.np_laws.proofs.HeldNodes.{IsFirstAt}
 use Rattle.np_laws.proofs.HeldRequests
 use Rattle.np_laws.proofs.HeldRequests.{IsFirstThere}
 use Rattle.np_laws.proofs.Accepted
-use Rattle.np_laws.proofs.Options.{some-unless, none-unless}
+use Rattle.np_laws.proofs.Options.{none-unless}
 use Rattle.np_laws.proofs.Replies.{accepted-state}
-use Rattle.np_laws.proofs.JobsLater.{set-here}
+use Rattle.np_machine.proofs.Ids.{request-equal, request-itself, session-equal}
+use Rattle.np_lists.proofs.Plain.{some-unless, set-here}
 
 -- ## an accepted event
 
@@ -80,7 +56,7 @@ module _ (c : Configuration) (s : State) (e : Event) (what : Done) (is : judge c
   same-names : (by session : SessionId) (m n : NodeId) (rows : List NodeEntry) → is_session by session ≡ true → is_node n m ≡ true → IsFirstAt by m rows → IsFirstAt session n rows
   same-names by session m n rows one other held = record {
     first =
-        subst (λ (x : SessionId). is_session_of x (node_holder n rows) ≡ true) (session-is by session one)
+        subst (λ (x : SessionId). is_session_of x (node_holder n rows) ≡ true) (session-equal by session one)
         (subst (λ (x : NodeId). is_session_of by (node_holder x rows) ≡ true) (same_node-is m n other) held.first);
   }
 
@@ -144,7 +120,7 @@ lock_node-first c s by n what is held =
 lock_request-joined : (s : State) (by : SessionId) (r : RequestId) (request : RequestRecord) → request_in r s.requests ≡ Some request → request_queue r (effect_lock_request s by r).requests ≡ joined by (request_queue r s.requests)
 lock_request-joined s by r request stands =
     request_queue-queue r r (joined by (request_queue r s.requests)) request s.requests stands
-    ∙ cond-true (same_request r r) (joined by (request_queue r s.requests)) (request_queue r s.requests) (same_request-self r)
+    ∙ cond-true (same_request r r) (joined by (request_queue r s.requests)) (request_queue r s.requests) (request-itself r)
 
 lock_request-first : (c : Configuration) (s : State) (by : SessionId) (r : RequestId) (what : Done) → judge_lock_request c s by r ≡ Ok what → IsFirstThere by r (effect_lock_request s by r).requests
 lock_request-first c s by r what is =
@@ -221,8 +197,8 @@ locking-first c s session r (ev.LockRequest by q) what is locks =
     let names = and_parts (is_session by session) (same_request q r) parts.0 in
     let held : IsFirstThere by q (next c s e).requests = subst (λ (rows : List RequestEntry). IsFirstThere by q rows) (sym (requests-next c s e what is)) (lock_request-first c s by q what is) in
     let there : (request : RequestRecord) × (request_in q s.requests ≡ Some request) = some-unless (request_in q s.requests) (Accepted.lock_request-stands c s by what q is) in
-    let id : q ≡ r = same_request-is q r names.1 in (
-      subst (λ (x : RequestId). IsFirstThere session x (next c s e).requests) id (subst (λ (x : SessionId). IsFirstThere x q (next c s e).requests) (session-is by session names.0) held),
+    let id : q ≡ r = request-equal q r names.1 in (
+      subst (λ (x : RequestId). IsFirstThere session x (next c s e).requests) id (subst (λ (x : SessionId). IsFirstThere x q (next c s e).requests) (session-equal by session names.0) held),
       subst (λ (x : RequestId). (request : RequestRecord) × (request_in x s.requests ≡ Some request)) id there,
     )
 locking-first c s session r _ what is locks = absurd cc

@@ -2,21 +2,8 @@
 -- the event says
 use Rattle.std.proofs.Common.{◌≡◌, refl, Bool, true, false, ◌&&◌, ◌==◌, Option, Some, None, Result, is_some, slice_get}
 use Rattle.std.proofs.lemmas.Bool.{and_parts}
-use Rattle.np_text.specs.declared.id.SessionId.{SessionId}
-use Rattle.np_text.specs.declared.id.NodeId.{NodeId}
-use Rattle.np_text.specs.declared.id.JobId.{JobId}
-use Rattle.np_text.specs.declared.id.RequestId.{RequestId}
-use Rattle.np_text.specs.declared.id.Role.{Role}
-use Rattle.np_record.specs.declared.record.JobRecord.{JobRecord}
-use Rattle.np_site.specs.Configuration.{Configuration}
-use Rattle.np_event.specs.declared.event.Event.{Event}
+use Rattle.np_changes.specs.Prelude.{Configuration, Event, JobId, JobRecord, NodeId, Refusal, RequestId, Role, SessionId, State, is_session, janitor, launcher, maker, next_label, node_in, request_in, request_of_job, requester, same_request, session_of}
 use Rattle.np_event.specs.declared.event.Event.TheVariants as ev
-use Rattle.np_event.specs.declared.reply.Refusal.{Refusal}
-use Rattle.np_machine.specs.State.{State}
-use Rattle.np_machine.specs.Tables.{session_of, is_session, same_request, request_in, node_in}
-use Rattle.np_machine.specs.Tests.{maker, launcher, janitor, requester}
-use Rattle.np_machine.specs.Reasons.{next_label}
-use Rattle.np_machine.specs.Request.{request_of_job}
 use Rattle.np_machine.specs.LiveHolder.{is_ending, is_unlocking}
 use Rattle.np_changes.specs.declared.changes.Maker.{Maker}
 use Rattle.np_changes.specs.declared.changes.Changes.{Changes}

@@ -1,10 +1,6 @@
 -- ids with one number are one id, and the row of a record that was found
 use Rattle.std.proofs.Common.{◌≡◌, ℕ, ◌==◌, true, Option, Some, None, refl, sym, ap, ◌∙◌, eqb-true}
-use Rattle.std.specs.Option.{option_map}
-use Rattle.np_text.specs.declared.id.PoolId.{PoolId}
-use Rattle.np_text.specs.declared.id.LabelId.{LabelId}
-use Rattle.np_text.specs.declared.id.SemId.{SemId}
-use Rattle.np_text.specs.declared.id.TenantId.{TenantId}
+use Rattle.np_changes.specs.Prelude.{LabelId, PoolId, SemId, TenantId, option_map}
 
 -- ## ids
 

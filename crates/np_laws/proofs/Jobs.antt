@@ -1,28 +1,10 @@
 -- each job is as its phase says, and a request that names a job is its only one
 use Rattle.std.proofs.Common.{◌≡◌, ◌∙◌, sym, ℕ, ◌<◌, List, [], refl, ap, arith, subst, Option, Some, None, Bool, true, false, cond, inl, inr}
 use Rattle.std.specs.Prelude.{◌||◌, ◌⊎◌, is_some, is_none, map, slice_get}
-use Rattle.std.specs.Option.{option_map}
-use Rattle.np_text.specs.declared.id.JobId.{JobId}
-use Rattle.np_text.specs.declared.id.RequestId.{RequestId}
+use Rattle.np_changes.specs.Prelude.{Configuration, JobId, JobRecord, Phase, RequestEntry, RequestId, RequestRecord, RequestState, Rises, State, asked_for, changed, edited, ending_of, grown, is_asked, is_finishable, is_fulfilled, is_id_before, is_new, is_using, jobs_changed, joined, left, new_record, next_id, option_map, request_after_withdraw, request_in, request_queue, requests_changed, same_request, unended}
 use Rattle.np_text.specs.declared.word.Ending.TheVariants as ending
-use Rattle.np_text.specs.declared.word.Phase.{Phase}
 use Rattle.np_text.specs.declared.word.Phase.TheVariants as phase
-use Rattle.np_text.specs.declared.word.RequestState.{RequestState}
 use Rattle.np_text.specs.declared.word.RequestState.TheVariants as request_state
-use Rattle.np_site.specs.Configuration.{Configuration}
-use Rattle.np_record.specs.declared.record.RequestRecord.{RequestRecord}
-use Rattle.np_record.specs.declared.record.JobRecord.{JobRecord}
-use Rattle.np_lists.specs.Rising.{Rises}
-use Rattle.np_machine.specs.Entries.{RequestEntry}
-use Rattle.np_machine.specs.State.{State}
-use Rattle.np_machine.specs.Kinds.{is_new, is_asked, is_using, is_fulfilled}
-use Rattle.np_machine.specs.Order.{is_id_before}
-use Rattle.np_machine.specs.Tables.{same_request, left, joined, request_in, request_queue}
-use Rattle.np_machine.specs.Request.{next_id}
-use Rattle.np_machine.specs.Semaphore.{unended, is_finishable, ending_of}
-use Rattle.np_changes.specs.Asked.{new_record}
-use Rattle.np_changes.specs.Changes.{grown, edited, requests_changed, jobs_changed, changed}
-use Rattle.np_changes.specs.Plan.{asked_for, request_after_withdraw}
 use Rattle.np_changes.specs.Premises.{AsksForJob, AsksToKeep, IsTaken, IsMade, TakesOver, Withdraws, FinishesJob, GrowthPremise, RequestsPremise, Premises}
 use Rattle.np_changes.specs.declared.asked.Asked.{Asked}
 use Rattle.np_changes.specs.declared.changes.Maker.{Maker}
@@ -36,10 +18,12 @@ use Rattle.np_changes.specs.declared.changes.RequestsChange.TheVariants as reque
 use Rattle.np_changes.specs.declared.changes.JobsChange.{JobsChange}
 use Rattle.np_changes.specs.declared.changes.JobsChange.TheVariants as jobs
 use Rattle.np_laws.specs.Parts.{IsNumbered, StandsIn, RequestsStand, JobsOrPinned, IsAsking, JobIn, JobsStand}
-use Rattle.np_laws.proofs.Lookups.{same_request-is, same_request-self, request_in-edit, request_in-queue, request_in-insert, request_in-new, request_in-remove, request_in-removed, request_in-later, request_in-below}
+use Rattle.np_laws.proofs.Lookups.{request_in-edit, request_in-queue, request_in-insert, request_in-new, request_in-remove, request_in-removed, request_in-later, request_in-below}
 use Rattle.np_laws.proofs.Numbered.{grown-numbered}
 use Rattle.np_laws.proofs.After.{left-request, found-grown}
-use Rattle.np_laws.proofs.JobsLater.{bare, set-here, JobLater, job-back, job-on, jobs-grown}
+use Rattle.np_laws.proofs.JobsLater.{bare, JobLater, job-back, job-on, jobs-grown}
+use Rattle.np_machine.proofs.Ids.{request-equal, request-itself}
+use Rattle.np_lists.proofs.Plain.{set-here}
 
 -- ## which job names a request
 
@@ -104,7 +88,7 @@ module _ (c : Configuration) (s : State) (ch : Changes) (numbered : IsNumbered s
     by false which = (q, (request_in-edit x r (edited e) rows ∙ ap (λ (o : Option RequestRecord). option_map (λ k. cond (same_request x r) (edited e k) k) o) (same ∙ there) ∙ ap (λ (b : Bool). Some (cond b (edited e q) q)) which, names))
   request-on maker rows r q j stays same there names (requests.Remove x) premise = by (same_request x r) refl where
     by : (b : Bool) → same_request x r ≡ b → (later : RequestRecord) × ((request_in r (requests_changed maker (requests.Remove x) rows) ≡ Some later) × (later.job ≡ Some j))
-    by true which = absurd (goes-not r q j stays there names (subst (λ (y : RequestId). RequestsPremise c s ch (requests.Remove y)) (same_request-is x r which) premise))
+    by true which = absurd (goes-not r q j stays there names (subst (λ (y : RequestId). RequestsPremise c s ch (requests.Remove y)) (request-equal x r which) premise))
     by false which = (q, (request_in-remove x r rows which ∙ same ∙ there, names))
   request-on None rows r q j stays same there names (requests.Leave x) premise = (q, (same ∙ there, names))
   request-on (Some maker) rows r q j stays same there names (requests.Leave x) premise = (q, (request_in-queue x r (left maker.session (request_queue x rows)) rows ∙ same ∙ there, names))
@@ -175,7 +159,7 @@ module _ (c : Configuration) (s : State) (ch : Changes) (numbered : IsNumbered s
       let g : State = grown c ch.maker ch.grows s in
       let id : RequestId = next_id priority s in
       let none : request_in id s.requests ≡ None = request_in-later id s.next_request s.requests numbered.requests_below (omega arith) in
-      let now : request_in id g.requests ≡ Some (new_record asked) = ap (λ (x : Growth). request_in id (grown c ch.maker x s).requests) grows ∙ request_in-new (record { id = id; kept = new_record asked; queue = [] }) id s.requests (same_request-self id) none in
+      let now : request_in id g.requests ≡ Some (new_record asked) = ap (λ (x : Growth). request_in id (grown c ch.maker x s).requests) grows ∙ request_in-new (record { id = id; kept = new_record asked; queue = [] }) id s.requests (request-itself id) none in
       let same : requests_changed ch.maker ch.requests g.requests ≡ g.requests = ap (λ (x : RequestsChange). requests_changed ch.maker x g.requests) (alone priority asked grows ch.requests premises.requests) in
       left-request ch.sessions id (requests_changed ch.maker ch.requests g.requests) ∙ ap (λ (rows : List RequestEntry). request_in id rows) same ∙ now
 
@@ -287,7 +271,7 @@ module _ (c : Configuration) (s : State) (ch : Changes) (numbered : IsNumbered s
   was-grown (grow.Request priority asked) at r q is = by (same_request (next_id priority s) r) refl where
     by : (b : Bool) → same_request (next_id priority s) r ≡ b → RequestWas r q
     by true which =
-        let id : next_id priority s ≡ r = same_request-is (next_id priority s) r which in
+        let id : next_id priority s ≡ r = request-equal (next_id priority s) r which in
         let none : request_in r s.requests ≡ None = request_in-later r s.next_request s.requests numbered.requests_below (let seq : s.next_request ≡ r.seq = ap (λ (x : RequestId). x.seq) id in omega arith) in
         let now : Some q ≡ Some (new_record asked) = sym is ∙ request_in-new (record { id = next_id priority s; kept = new_record asked; queue = [] }) r s.requests which none in
         let same : q ≡ new_record asked = cc in

@@ -1,18 +1,8 @@
 -- what a job was before the changes of an event, and what it becomes by them
 use Rattle.std.proofs.Common.{◌≡◌, ◌≢◌, ◌∙◌, sym, ℕ, zero, suc, List, [], ◌∷◌, refl, ap, arith, subst, Option, Some, None, Bool, true, false, inl, inr}
 use Rattle.std.specs.Prelude.{◌==◌, ◌⊎◌, slice_get, slice_set}
-use Rattle.std.specs.Option.{option_map}
+use Rattle.np_changes.specs.Prelude.{Configuration, JobId, JobRecord, JobsPremise, NodeId, PutsJob, State, change_at, grown, jobs_changed, option_map, registers, with_mark}
 use Rattle.std.proofs.lemmas.Bool.Decides.{nat_tests}
-use Rattle.np_text.specs.declared.id.JobId.{JobId}
-use Rattle.np_text.specs.declared.id.NodeId.{NodeId}
-use Rattle.np_site.specs.Configuration.{Configuration}
-use Rattle.np_record.specs.declared.record.JobRecord.{JobRecord}
-use Rattle.np_lists.specs.Change.{change_at}
-use Rattle.np_machine.specs.State.{State}
-use Rattle.np_machine.specs.Node.{with_mark}
-use Rattle.np_machine.specs.Request.{registers}
-use Rattle.np_changes.specs.Changes.{grown, jobs_changed}
-use Rattle.np_changes.specs.Premises.{PutsJob, JobsPremise}
 use Rattle.np_changes.specs.declared.changes.Maker.{Maker}
 use Rattle.np_changes.specs.declared.changes.Changes.{Changes}
 use Rattle.np_changes.specs.declared.changes.Growth.{Growth}
@@ -20,6 +10,7 @@ use Rattle.np_changes.specs.declared.changes.Growth.TheVariants as grow
 use Rattle.np_changes.specs.declared.changes.JobsChange.{JobsChange}
 use Rattle.np_changes.specs.declared.changes.JobsChange.TheVariants as jobs
 use Rattle.np_laws.proofs.After.{made-look}
+use Rattle.np_lists.proofs.Plain.{set-other, set-here}
 
 -- ## one job more or less changed
 
@@ -32,18 +23,6 @@ get-set (z ∷ xs) (suc i) (suc j) x y is = by (get-set xs i j x y is) where
   by : ((i ≡ j) × (x ≡ y)) ⊎ ((i ≢ j) × (slice_get xs j ≡ Some y)) → ((suc i ≡ suc j) × (x ≡ y)) ⊎ ((suc i ≢ suc j) × (slice_get xs j ≡ Some y))
   by (inl (at, same)) = inl (ap suc at, same)
   by (inr (other, there)) = inr (λ same. other (let e : i ≡ j = cc in e), there)
-
-pub set-here : {X : Type 0} (xs : List X) (i : ℕ) (x y : X) → slice_get xs i ≡ Some y → slice_get (slice_set xs i x) i ≡ Some x
-set-here [] i x y is = absurd cc
-set-here (z ∷ xs) zero x y is = refl
-set-here (z ∷ xs) (suc i) x y is = set-here xs i x y is
-
-set-other : {X : Type 0} (xs : List X) (i j : ℕ) (x : X) → i ≢ j → slice_get (slice_set xs i x) j ≡ slice_get xs j
-set-other [] i j x other = refl
-set-other (z ∷ xs) zero zero x other = absurd (other refl)
-set-other (z ∷ xs) zero (suc j) x other = refl
-set-other (z ∷ xs) (suc i) zero x other = refl
-set-other (z ∷ xs) (suc i) (suc j) x other = set-other xs i j x (λ same. other (ap suc same))
 
 -- a job without its nodes
 abbrev pub bare : JobRecord → JobRecord

@@ -3,23 +3,9 @@
 use Rattle.std.proofs.Common.{◌≡◌, ◌∙◌, sym, List, [], ◌∷◌, ◌++◌, refl, subst, Bool, true, false, Some, Ok, Err}
 use Rattle.std.specs.Prelude.{is_ok}
 use Rattle.std.proofs.lemmas.Bool.{false≢true, both_ways, and_right}
-use Rattle.np_text.specs.declared.id.NodeId.{NodeId}
-use Rattle.np_text.specs.declared.id.RequestId.{RequestId}
-use Rattle.np_site.specs.Configuration.{Configuration}
-use Rattle.np_record.specs.declared.record.RequestRecord.{RequestRecord}
-use Rattle.np_event.specs.declared.entry.Entry.{Entry}
-use Rattle.np_event.specs.declared.reply.Done.{Done}
-use Rattle.np_machine.specs.State.{State, start}
-use Rattle.np_machine.specs.Tests.{Answer}
-use Rattle.np_machine.specs.Tables.{request_in}
-use Rattle.np_machine.specs.Step.{judge, next, reply_of}
-use Rattle.np_machine.specs.History.{replayed, after, Runs}
-use Rattle.np_machine.specs.Turns.{Turn, turns_from, is_done}
+use Rattle.np_changes.specs.Prelude.{Answer, Configuration, Done, Entry, NodeId, Premises, RequestId, RequestRecord, Runs, State, Turn, after, changed, is_done, judge, next, plan, replayed, reply_of, request_in, start, turns_from}
 use Rattle.np_machine.specs.Caused.{has_failed, FailsNow, is_report_on, IsTrueDecline, HasCause, CausedFrom, Caused}
 use Rattle.np_machine.proofs.Runs.{Runs-prefix}
-use Rattle.np_changes.specs.Changes.{changed}
-use Rattle.np_changes.specs.Plan.{plan}
-use Rattle.np_changes.specs.Premises.{Premises}
 use Rattle.np_changes.proofs.PlanLaws.{plan-next}
 use Rattle.np_changes.proofs.PremisesOf.{premises}
 use Rattle.np_laws.specs.Parts.{Invariant}
@@ -46,7 +32,7 @@ record IsPaid (c : Configuration) (past : List Turn) (t : Turn) : Type 0 where
   due : IsDue c (past ++ t ∷ []) t.later
   causes : (r : RequestId) (q : RequestRecord) → FailsNow t r q → HasCause c (past ++ t ∷ []) t r q
 
-ok-what : (a : Answer) → is_ok a ≡ true → (what : Done) × (a ≡ Ok what)
+pub ok-what : (a : Answer) → is_ok a ≡ true → (what : Done) × (a ≡ Ok what)
 ok-what (Ok what) is = (what, refl)
 ok-what (Err why) is = absurd (false≢true is)
 

@@ -1,31 +1,15 @@
 -- a launch runs only while its node builds, after what an accepted event changes
 use Rattle.std.proofs.Common.{◌≡◌, ◌∙◌, sym, subst, ℕ, ◌<◌, ◌≤◌, le_refl, ◌⊎◌, inl, inr, Bool, true, false, cond, List, [], ◌∷◌, ◌++◌, refl, eqb-true, Option, Some, None}
 use Rattle.std.specs.Prelude.{◌==◌, nat_lt}
-use Rattle.std.specs.List.{AllByRecursion, list_any}
-use Rattle.std.specs.Option.{option_map}
+use Rattle.np_changes.specs.Prelude.{AllByRecursion, Configuration, NodeEntry, NodeId, NodeRecord, RequestId, Rises, State, TenantId, all_freed, all_in_use, allocated, by_maker, change_first, changed, freed, grown, is_building, is_ready, is_request, list_any, new_node, node_in, nodes_changed, option_map, put_node, remove_node}
 use Rattle.std.proofs.lemmas.Option.{none-some, same_Some}
-use Rattle.np_text.specs.declared.id.NodeId.{NodeId}
-use Rattle.np_text.specs.declared.id.RequestId.{RequestId}
-use Rattle.np_text.specs.declared.id.TenantId.{TenantId}
 use Rattle.np_text.specs.declared.word.NodeState.TheVariants as node_state
-use Rattle.np_site.specs.Configuration.{Configuration}
-use Rattle.np_record.specs.declared.record.NodeRecord.{NodeRecord}
-use Rattle.np_lists.specs.Change.{change_first}
-use Rattle.np_lists.specs.Rising.{Rises}
-use Rattle.np_machine.specs.Entries.{NodeEntry}
-use Rattle.np_machine.specs.State.{State}
-use Rattle.np_machine.specs.Kinds.{is_building, is_ready}
-use Rattle.np_machine.specs.Tables.{is_request, node_in, put_node, remove_node, freed, all_freed}
-use Rattle.np_machine.specs.Node.{allocated}
-use Rattle.np_machine.specs.Semaphore.{all_in_use}
 use Rattle.np_changes.specs.declared.changes.Maker.{Maker}
 use Rattle.np_changes.specs.declared.changes.Changes.{Changes}
 use Rattle.np_changes.specs.declared.changes.Growth.{Growth}
 use Rattle.np_changes.specs.declared.changes.Growth.TheVariants as grow
 use Rattle.np_changes.specs.declared.changes.NodesChange.{NodesChange}
 use Rattle.np_changes.specs.declared.changes.NodesChange.TheVariants as nodes
-use Rattle.np_changes.specs.Changes.{by_maker, grown, nodes_changed, changed}
-use Rattle.np_changes.specs.Plan.{new_node}
 use Rattle.np_changes.specs.Premises.{IsTaken, IsMade, GainsNew, GrowthPremise, TakesOver, NodesPremise, Premises}
 use Rattle.np_laws.specs.Parts.{RunsWhileBuilding, Invariant}
 use Rattle.np_laws.proofs.Lookups.{node_in-put, node_in-remove, node_in-removed, node_in-freed, node_in-in_use, node_in-allocated, node_in-other, node_in-new, node_in-later}

@@ -1,18 +1,6 @@
 -- who holds a node or a request by the journal is the first of its queue, in every run
 use Rattle.std.proofs.Common.{◌≡◌, ◌∙◌, sym, ap, refl, subst, ◌<◌, List, [], ◌∷◌, ◌++◌, append_assoc, append-nil, arith, Some, Ok, Err, Bool, true, false, cond, is_some}
-use Rattle.np_text.specs.declared.id.SessionId.{SessionId}
-use Rattle.np_text.specs.declared.id.NodeId.{NodeId}
-use Rattle.np_text.specs.declared.id.RequestId.{RequestId}
-use Rattle.np_record.specs.declared.record.RequestRecord.{RequestRecord}
-use Rattle.np_site.specs.Configuration.{Configuration}
-use Rattle.np_event.specs.declared.event.Event.{Event}
-use Rattle.np_event.specs.declared.entry.Entry.{Entry}
-use Rattle.np_event.specs.declared.reply.Reply.{Reply}
-use Rattle.np_machine.specs.State.{State, start}
-use Rattle.np_machine.specs.Tables.{is_session_of, request_in, request_holder, node_holder}
-use Rattle.np_machine.specs.Tests.{Answer}
-use Rattle.np_machine.specs.Step.{judge, next, reply_of}
-use Rattle.np_machine.specs.History.{state_after, replayed, after, Runs}
+use Rattle.np_changes.specs.Prelude.{Answer, Configuration, Entry, Event, NodeId, Reply, RequestId, RequestRecord, Runs, SessionId, State, after, is_session_of, judge, next, node_holder, replayed, reply_of, request_holder, request_in, start, state_after}
 use Rattle.np_machine.specs.LiveHolder.{is_holding, is_ending, holds_after, holds_from, IsLiveHolder, is_locking, is_unlocking, locks_after, locks_from}
 use Rattle.np_machine.specs.Safe.{OneHolder}
 use Rattle.np_machine.proofs.Runs.{state_after-push, Runs-prefix}
@@ -90,7 +78,7 @@ holders-next c journal s entry invariant at replied old = record { of_node = nod
 -- ## every run
 
 -- the reply of an entry of a run is the machine's
-replied-at : (c : Configuration) (s : State) (before : List Entry) (entry : Entry) (rest : List Entry) → replayed c s (before ++ entry ∷ rest) ≡ before ++ entry ∷ rest → entry.reply ≡ reply_of (judge c (state_after c s before) entry.event)
+pub replied-at : (c : Configuration) (s : State) (before : List Entry) (entry : Entry) (rest : List Entry) → replayed c s (before ++ entry ∷ rest) ≡ before ++ entry ∷ rest → entry.reply ≡ reply_of (judge c (state_after c s before) entry.event)
 replied-at c s [] entry rest is =
     let head : record { event = entry.event; reply = reply_of (judge c s entry.event) } ≡ entry = cc in
     sym (ap (λ (x : Entry). x.reply) head)

@@ -1,24 +1,9 @@
 -- live sessions wait in the queues, none twice in one, and at most one at a request
 use Rattle.std.proofs.Common.{◌≡◌, sym, ℕ, ◌≤◌, List, [], ◌∷◌, ◌++◌, length, refl, arith, subst, Option, Some, None, Bool, true, false, cond}
 use Rattle.std.specs.Prelude.{◌==◌, not}
-use Rattle.std.specs.Option.{option_map_or}
-use Rattle.std.specs.List.{AllByRecursion}
+use Rattle.np_changes.specs.Prelude.{AllByRecursion, Configuration, GrowthPremise, Locked, MakerPremise, NodeEntry, NodeId, Premises, RequestEntry, RequestId, SessionId, SessionsPremise, State, all_in_use, allocated, change_first, changed, edited, freed_from, grown, holder, in_use, is_queued, is_session, joined, left, node_entry, node_left, node_queue, nodes_changed, nodes_left, option_map_or, request_entry, request_left, request_queue, requests_changed, requests_left, same_request}
 use Rattle.std.proofs.lemmas.Bool.Decides.{nat_tests}
-use Rattle.np_text.specs.declared.id.SessionId.{SessionId}
-use Rattle.np_text.specs.declared.id.RequestId.{RequestId}
-use Rattle.np_text.specs.declared.id.NodeId.{NodeId}
-use Rattle.np_site.specs.Configuration.{Configuration}
-use Rattle.np_lists.specs.Change.{change_first}
 use Rattle.np_lists.proofs.Each.{all-push, all-find, all-weaker, all-filter, all-filter_to, all-remove_first, all-insert_before, all-change_first, all-mapped, length-filter_at_most}
-use Rattle.np_machine.specs.declared.state.Locked.{Locked}
-use Rattle.np_machine.specs.Entries.{RequestEntry, NodeEntry}
-use Rattle.np_machine.specs.State.{State}
-use Rattle.np_machine.specs.Tables.{is_session, is_queued, holder, joined, left, same_request, request_entry, request_queue, node_entry, node_queue, freed_from}
-use Rattle.np_machine.specs.Node.{allocated}
-use Rattle.np_machine.specs.Semaphore.{in_use, all_in_use}
-use Rattle.np_machine.specs.Session.{request_left, node_left}
-use Rattle.np_changes.specs.Changes.{grown, edited, requests_changed, nodes_changed, requests_left, nodes_left, changed}
-use Rattle.np_changes.specs.Premises.{MakerPremise, GrowthPremise, SessionsPremise, Premises}
 use Rattle.np_changes.specs.declared.changes.Maker.{Maker}
 use Rattle.np_changes.specs.declared.changes.Changes.{Changes}
 use Rattle.np_changes.specs.declared.changes.Growth.{Growth}
@@ -34,9 +19,6 @@ use Rattle.np_laws.proofs.Lookups.{freed-queue}
 use Rattle.np_laws.proofs.Sessions.{IsNotOver, live-stays}
 
 -- ## one queue
-
-other_session : (a b : SessionId) → is_session a b ≡ false → is_session b a ≡ false
-other_session a b out = grind (arith, nat_tests)
 
 not_queued-push : (session new : SessionId) (queue : List SessionId) → is_queued session queue ≡ false → is_session new session ≡ false → is_queued session (queue ++ new ∷ []) ≡ false
 not_queued-push session new [] out other = grind (arith, nat_tests)

@@ -1,15 +1,10 @@
 -- what a look-up finds of rows under a lock, after one of them or all have changed
 use Rattle.std.proofs.Common.{◌≡◌, ◌∙◌, sym, ℕ, ◌<◌, ◌≤◌, List, [], ◌∷◌, ◌++◌, refl, ap, arith, subst, Option, Some, None, Bool, true, false, cond}
 use Rattle.std.specs.Prelude.{find, map}
-use Rattle.std.specs.Option.{option_map, option_map_or}
-use Rattle.std.specs.List.{AllByRecursion}
-use Rattle.np_text.specs.declared.id.SessionId.{SessionId}
-use Rattle.np_lists.specs.Change.{change_first, remove_first, insert_before}
-use Rattle.np_lists.specs.Rising.{Rises}
+use Rattle.np_changes.specs.Prelude.{AllByRecursion, Locked, Rises, SessionId, change_first, insert_before, option_map, option_map_or, remove_first}
 use Rattle.np_lists.proofs.Each.{all-find, all-weaker}
 use Rattle.np_lists.proofs.FoundLemmas.{find-passes, find-insert_before, find-map}
 use Rattle.np_lists.proofs.Halves.{find-none}
-use Rattle.np_machine.specs.declared.state.Locked.{Locked}
 
 -- ## the first that passes
 

@@ -1,40 +1,15 @@
 -- what a look-up finds after a change of requests or nodes
 use Rattle.std.proofs.Common.{◌≡◌, ◌∙◌, ℕ, ◌<◌, ◌≤◌, List, [], ◌∷◌, ◌++◌, refl, ap, arith, Option, Some, None, Bool, true, false, cond}
 use Rattle.std.specs.Prelude.{◌==◌, ◌||◌, map, nat_lt}
-use Rattle.std.specs.Option.{option_map, option_map_or}
-use Rattle.std.specs.List.{AllByRecursion, list_any}
+use Rattle.np_changes.specs.Prelude.{AllByRecursion, NodeEntry, NodeId, NodeRecord, RequestEntry, RequestId, RequestRecord, Rises, SessionId, TenantId, all_freed, all_in_use, allocated, change_first, freed, freed_from, in_use, insert_request, is_id_before, is_request, joined, left, list_any, node_in, node_left, node_queue, option_map, option_map_or, put_node, put_node_queue, put_request_queue, remove_node, remove_request, request_in, request_left, request_queue, same_request}
 use Rattle.std.proofs.lemmas.Bool.Decides.{nat_tests}
-use Rattle.np_text.specs.declared.id.SessionId.{SessionId}
-use Rattle.np_text.specs.declared.id.NodeId.{NodeId}
-use Rattle.np_text.specs.declared.id.RequestId.{RequestId}
-use Rattle.np_text.specs.declared.id.TenantId.{TenantId}
 use Rattle.np_text.specs.declared.word.NodeState.TheVariants as node_state
-use Rattle.np_record.specs.declared.record.RequestRecord.{RequestRecord}
-use Rattle.np_record.specs.declared.record.NodeRecord.{NodeRecord}
-use Rattle.np_lists.specs.Change.{change_first}
-use Rattle.np_lists.specs.Rising.{Rises}
-use Rattle.np_machine.specs.Entries.{RequestEntry, NodeEntry}
-use Rattle.np_machine.specs.Order.{is_id_before}
-use Rattle.np_machine.specs.Tables.{is_request, same_request, joined, left, request_in, request_queue, put_request_queue, remove_request, node_in, node_queue, put_node, put_node_queue, remove_node, freed, freed_from, all_freed}
-use Rattle.np_machine.specs.Request.{insert_request}
-use Rattle.np_machine.specs.Node.{allocated}
-use Rattle.np_machine.specs.Semaphore.{in_use, all_in_use}
-use Rattle.np_machine.specs.Session.{request_left, node_left}
 use Rattle.np_laws.proofs.Locked.{kept-changed, kept-same, queue-changed, queue-same, queue-nowhere, kept-mapped, kept-mapped_same, queue-mapped, row-inserted, row-new, row-pushed, row-pushed_other, row-pushed_new, row-removed_other, row-removed, kept-later, kept-below}
+use Rattle.np_machine.proofs.Ids.{request-equal}
 
 -- ## ids
 
-pub same_request-is : (a b : RequestId) → same_request a b ≡ true → a ≡ b
-same_request-is a b same =
-    let priority : a.priority ≡ b.priority = grind (arith, nat_tests) in
-    let seq : a.seq ≡ b.seq = grind (arith, nat_tests) in
-    let id : record { priority = a.priority; seq = a.seq } ≡ record { priority = b.priority; seq = b.seq } = rw (priority, seq) refl in
-    id
-
-pub same_request-self : (a : RequestId) → same_request a a ≡ true
-same_request-self a = grind (arith, nat_tests)
-
-request-apart : (a b : RequestId) → is_id_before a b ≡ true → same_request b a ≡ false
+pub request-apart : (a b : RequestId) → is_id_before a b ≡ true → same_request b a ≡ false
 request-apart a b order = grind (arith, nat_tests)
 
 abbrev pub same_node : NodeId → NodeId → Bool
@@ -46,63 +21,63 @@ same_node-is a b same = let number : a.0 ≡ b.0 = grind (arith, nat_tests) in a
 abbrev is_node_before : NodeId → NodeId → Bool
 is_node_before a b = nat_lt a.0 b.0
 
-node-apart : (a b : NodeId) → is_node_before a b ≡ true → same_node b a ≡ false
+pub node-apart : (a b : NodeId) → is_node_before a b ≡ true → same_node b a ≡ false
 node-apart a b order = grind (arith, nat_tests)
 
 -- ## requests
 
 pub request_in-edit : (r0 r : RequestId) (f : RequestRecord → RequestRecord) (rows : List RequestEntry) → request_in r (change_first (λ e. same_request e.id r0) (λ e. record e { kept = f e.kept }) rows) ≡ option_map (λ q. cond (same_request r0 r) (f q) q) (request_in r rows)
-request_in-edit r0 r f rows = kept-changed same_request same_request-is r0 r (λ e. record e { kept = f e.kept }) f (λ e. refl) (λ e. refl) rows
+request_in-edit r0 r f rows = kept-changed same_request request-equal r0 r (λ e. record e { kept = f e.kept }) f (λ e. refl) (λ e. refl) rows
 
 pub request_in-queue : (r0 r : RequestId) (queue : List SessionId) (rows : List RequestEntry) → request_in r (put_request_queue r0 queue rows) ≡ request_in r rows
-request_in-queue r0 r queue rows = kept-same same_request same_request-is r0 r (λ e. record e { queue = queue }) (λ e. refl) (λ e. refl) rows
+request_in-queue r0 r queue rows = kept-same same_request request-equal r0 r (λ e. record e { queue = queue }) (λ e. refl) (λ e. refl) rows
 
 pub request_in-left : (session : SessionId) (r : RequestId) (rows : List RequestEntry) → request_in r (map (request_left session) rows) ≡ request_in r rows
-request_in-left session r rows = kept-mapped_same same_request same_request-is r (request_left session) (λ e. refl) (λ e. refl) rows
+request_in-left session r rows = kept-mapped_same same_request request-equal r (request_left session) (λ e. refl) (λ e. refl) rows
 
 pub request_in-insert : (new : RequestEntry) (r : RequestId) (rows : List RequestEntry) → same_request new.id r ≡ false → request_in r (insert_request new rows) ≡ request_in r rows
-request_in-insert new r rows other = ap (λ (o : Option RequestEntry). option_map (λ e. e.kept) o) (row-inserted same_request same_request-is (λ e. is_id_before new.id e.id) new r rows other)
+request_in-insert new r rows other = ap (λ (o : Option RequestEntry). option_map (λ e. e.kept) o) (row-inserted same_request request-equal (λ e. is_id_before new.id e.id) new r rows other)
 
 pub request_in-new : (new : RequestEntry) (r : RequestId) (rows : List RequestEntry) → same_request new.id r ≡ true → request_in r rows ≡ None → request_in r (insert_request new rows) ≡ Some new.kept
-request_in-new new r rows same none = ap (λ (o : Option RequestEntry). option_map (λ e. e.kept) o) (row-new same_request same_request-is (λ e. is_id_before new.id e.id) new r rows same none)
+request_in-new new r rows same none = ap (λ (o : Option RequestEntry). option_map (λ e. e.kept) o) (row-new same_request request-equal (λ e. is_id_before new.id e.id) new r rows same none)
 
 pub request_in-remove : (r0 r : RequestId) (rows : List RequestEntry) → same_request r0 r ≡ false → request_in r (remove_request r0 rows) ≡ request_in r rows
-request_in-remove r0 r rows other = ap (λ (o : Option RequestEntry). option_map (λ e. e.kept) o) (row-removed_other same_request same_request-is r0 r rows other)
+request_in-remove r0 r rows other = ap (λ (o : Option RequestEntry). option_map (λ e. e.kept) o) (row-removed_other same_request request-equal r0 r rows other)
 
 pub request_in-removed : (r0 r : RequestId) (rows : List RequestEntry) → Rises (λ a b. is_id_before a.id b.id) rows → same_request r0 r ≡ true → request_in r (remove_request r0 rows) ≡ None
-request_in-removed r0 r rows rises same = ap (λ (o : Option RequestEntry). option_map (λ e. e.kept) o) (row-removed same_request same_request-is is_id_before request-apart r0 r rows rises same)
+request_in-removed r0 r rows rises same = ap (λ (o : Option RequestEntry). option_map (λ e. e.kept) o) (row-removed same_request request-equal is_id_before request-apart r0 r rows rises same)
 
 pub request_in-later : (r : RequestId) (next : ℕ) (rows : List RequestEntry) → AllByRecursion (λ e. e.id.seq < next) rows → next ≤ r.seq → request_in r rows ≡ None
-request_in-later r next rows all late = kept-later same_request same_request-is (λ (x : RequestId). x.seq) next rows all r late
+request_in-later r next rows all late = kept-later same_request request-equal (λ (x : RequestId). x.seq) next rows all r late
 
 pub request_in-below : (r : RequestId) (next : ℕ) (q : RequestRecord) (rows : List RequestEntry) → AllByRecursion (λ e. e.id.seq < next) rows → request_in r rows ≡ Some q → r.seq < next
-request_in-below r next q rows all is = kept-below same_request same_request-is (λ (x : RequestId). x.seq) next rows all r q is
+request_in-below r next q rows all is = kept-below same_request request-equal (λ (x : RequestId). x.seq) next rows all r q is
 
 -- ## queues of requests
 
 pub request_queue-edit : (r0 r : RequestId) (f : RequestRecord → RequestRecord) (rows : List RequestEntry) → request_queue r (change_first (λ e. same_request e.id r0) (λ e. record e { kept = f e.kept }) rows) ≡ request_queue r rows
-request_queue-edit r0 r f rows = queue-same same_request same_request-is r0 r (λ e. record e { kept = f e.kept }) (λ e. refl) (λ e. refl) rows
+request_queue-edit r0 r f rows = queue-same same_request request-equal r0 r (λ e. record e { kept = f e.kept }) (λ e. refl) (λ e. refl) rows
 
 pub request_queue-queue : (r0 r : RequestId) (queue : List SessionId) (q : RequestRecord) (rows : List RequestEntry) → request_in r rows ≡ Some q → request_queue r (put_request_queue r0 queue rows) ≡ cond (same_request r0 r) queue (request_queue r rows)
-request_queue-queue r0 r queue q rows is = queue-changed same_request same_request-is r0 r (λ e. record e { queue = queue }) (λ _. queue) q (λ e. refl) (λ e. refl) rows is
+request_queue-queue r0 r queue q rows is = queue-changed same_request request-equal r0 r (λ e. record e { queue = queue }) (λ _. queue) q (λ e. refl) (λ e. refl) rows is
 
 pub request_queue-nowhere : (r : RequestId) (rows : List RequestEntry) → request_in r rows ≡ None → request_queue r rows ≡ []
-request_queue-nowhere r rows none = queue-nowhere same_request same_request-is r rows none
+request_queue-nowhere r rows none = queue-nowhere same_request request-equal r rows none
 
 pub request_queue-left : (session : SessionId) (r : RequestId) (rows : List RequestEntry) → request_queue r (map (request_left session) rows) ≡ left session (request_queue r rows)
-request_queue-left session r rows = queue-mapped same_request same_request-is r (request_left session) (left session) (λ e. refl) (λ e. refl) refl rows
+request_queue-left session r rows = queue-mapped same_request request-equal r (request_left session) (left session) (λ e. refl) (λ e. refl) refl rows
 
 pub request_queue-insert : (new : RequestEntry) (r : RequestId) (rows : List RequestEntry) → same_request new.id r ≡ false → request_queue r (insert_request new rows) ≡ request_queue r rows
-request_queue-insert new r rows other = ap (λ (o : Option RequestEntry). option_map_or (λ e. e.queue) o []) (row-inserted same_request same_request-is (λ e. is_id_before new.id e.id) new r rows other)
+request_queue-insert new r rows other = ap (λ (o : Option RequestEntry). option_map_or (λ e. e.queue) o []) (row-inserted same_request request-equal (λ e. is_id_before new.id e.id) new r rows other)
 
 pub request_queue-new : (new : RequestEntry) (r : RequestId) (rows : List RequestEntry) → same_request new.id r ≡ true → request_in r rows ≡ None → request_queue r (insert_request new rows) ≡ new.queue
-request_queue-new new r rows same none = ap (λ (o : Option RequestEntry). option_map_or (λ e. e.queue) o []) (row-new same_request same_request-is (λ e. is_id_before new.id e.id) new r rows same none)
+request_queue-new new r rows same none = ap (λ (o : Option RequestEntry). option_map_or (λ e. e.queue) o []) (row-new same_request request-equal (λ e. is_id_before new.id e.id) new r rows same none)
 
 pub request_queue-remove : (r0 r : RequestId) (rows : List RequestEntry) → same_request r0 r ≡ false → request_queue r (remove_request r0 rows) ≡ request_queue r rows
-request_queue-remove r0 r rows other = ap (λ (o : Option RequestEntry). option_map_or (λ e. e.queue) o []) (row-removed_other same_request same_request-is r0 r rows other)
+request_queue-remove r0 r rows other = ap (λ (o : Option RequestEntry). option_map_or (λ e. e.queue) o []) (row-removed_other same_request request-equal r0 r rows other)
 
 pub request_queue-removed : (r0 r : RequestId) (rows : List RequestEntry) → Rises (λ a b. is_id_before a.id b.id) rows → same_request r0 r ≡ true → request_queue r (remove_request r0 rows) ≡ []
-request_queue-removed r0 r rows rises same = ap (λ (o : Option RequestEntry). option_map_or (λ e. e.queue) o []) (row-removed same_request same_request-is is_id_before request-apart r0 r rows rises same)
+request_queue-removed r0 r rows rises same = ap (λ (o : Option RequestEntry). option_map_or (λ e. e.queue) o []) (row-removed same_request request-equal is_id_before request-apart r0 r rows rises same)
 
 -- ## nodes
 

@@ -2,46 +2,24 @@
 use Rattle.std.proofs.Common.{Bool, ◌≡◌, sym, List, [], ◌∷◌, ◌++◌, refl, ap, arith, subst, Option, Some, None, true, Result, Ok, Err, inl, inr}
 use Rattle.std.specs.Prelude.{◌==◌, ◌⊎◌, is_ok, is_some, slice_get}
 use Rattle.std.proofs.lemmas.Bool.Decides.{nat_tests}
-use Rattle.np_text.specs.declared.id.SessionId.{SessionId}
-use Rattle.np_text.specs.declared.id.PoolId.{PoolId}
-use Rattle.np_text.specs.declared.id.LabelId.{LabelId}
-use Rattle.np_text.specs.declared.id.JobId.{JobId}
-use Rattle.np_text.specs.declared.id.NodeId.{NodeId}
-use Rattle.np_text.specs.declared.id.RequestId.{RequestId}
-use Rattle.np_site.specs.Configuration.{Configuration}
-use Rattle.np_site.specs.declared.row.Job.{Job}
-use Rattle.np_record.specs.declared.record.RequestRecord.{RequestRecord}
-use Rattle.np_record.specs.declared.record.NodeRecord.{NodeRecord}
-use Rattle.np_record.specs.declared.record.JobRecord.{JobRecord}
-use Rattle.np_event.specs.declared.event.Event.{Event}
+use Rattle.np_changes.specs.Prelude.{Answer, Configuration, Done, Entry, Event, Job, JobId, JobRecord, LabelId, NodeId, NodeRecord, PoolId, Refusal, Reply, RequestEntry, RequestId, RequestRecord, Runs, SessionId, SomeTurn, State, Turn, after, judge, launcher, next, next_label, node_in, replayed, reply_of, request_in, same_request, start, state_after, turns_from}
 use Rattle.np_event.specs.declared.event.Event.TheVariants as ev
-use Rattle.np_event.specs.declared.entry.Entry.{Entry}
-use Rattle.np_event.specs.declared.reply.Done.{Done}
 use Rattle.np_event.specs.declared.reply.Done.TheVariants as done
-use Rattle.np_event.specs.declared.reply.Refusal.{Refusal}
-use Rattle.np_event.specs.declared.reply.Reply.{Reply}
 use Rattle.np_event.specs.declared.reply.Reply.TheVariants as reply
-use Rattle.np_machine.specs.Entries.{RequestEntry}
-use Rattle.np_machine.specs.State.{State, start}
-use Rattle.np_machine.specs.Tables.{same_request, request_in, node_in}
-use Rattle.np_machine.specs.Tests.{Answer, launcher}
-use Rattle.np_machine.specs.Reasons.{next_label}
 use Rattle.np_machine.specs.Request.{judge_submit, effect_submit, asked_by, insert_request, judge_min_ready, effect_min_ready, kept_ready_by, next_id}
 use Rattle.np_machine.specs.Node.{judge_create, effect_create, made}
-use Rattle.np_machine.specs.Step.{judge, next, reply_of}
-use Rattle.np_machine.specs.History.{state_after, replayed, after, Runs}
-use Rattle.np_machine.specs.Turns.{Turn, turns_from, SomeTurn}
 use Rattle.np_machine.specs.Kept.{is_request_made, EndsRequest, RequestsKept, is_node_made, RemovesNode, NodesKept, Kept}
 use Rattle.np_machine.proofs.Runs.{Runs-prefix}
 use Rattle.np_laws.specs.Parts.{Invariant}
 use Rattle.np_laws.specs.Steps.{AfterEveryStep}
-use Rattle.np_laws.proofs.Lookups.{same_request-is, same_request-self, request_in-new, request_in-later, node_in-new, node_in-later}
+use Rattle.np_laws.proofs.Lookups.{request_in-new, request_in-later, node_in-new, node_in-later}
 use Rattle.np_laws.proofs.Accepted.{create-maker, create-asked, create-next, create-number}
 use Rattle.np_laws.proofs.Runs.{invariant-next}
 use Rattle.np_laws.proofs.Start.{invariant-start}
-use Rattle.np_laws.proofs.Options.{some-is}
 use Rattle.np_laws.proofs.Replies.{accepted-state, head-reply, tail-replies, accepted-reply}
 use Rattle.np_laws.proofs.Records.{all-losses, RequestGoesOn, NodeGoesOn, request-goes, node-goes}
+use Rattle.np_machine.proofs.Ids.{request-equal, request-itself}
+use Rattle.np_lists.proofs.Plain.{some-of}
 
 -- ## a new request
 
@@ -49,7 +27,7 @@ use Rattle.np_laws.proofs.Records.{all-losses, RequestGoesOn, NodeGoesOn, reques
 new-request : (c : Configuration) (s : State) → Invariant c s → (new : RequestEntry) → new.id.seq ≡ s.next_request → is_some (request_in new.id (insert_request new s.requests)) ≡ true
 new-request c s old new number =
     let none : request_in new.id s.requests ≡ None = request_in-later new.id s.next_request s.requests old.numbered.requests_below (omega arith) in
-    ap (λ (o : Option RequestRecord). is_some o) (request_in-new new new.id s.requests (same_request-self new.id) none)
+    ap (λ (o : Option RequestRecord). is_some o) (request_in-new new new.id s.requests (request-itself new.id) none)
 
 -- ## submit
 
@@ -70,7 +48,7 @@ submit-made c s session j old r what is named = by (slice_get c.jobs j.0) refl (
   by (Some job) row (Some kept) has =
       let says : what ≡ done.Request (next_id job.priority s) = submit-says c s session j what job is row in
       let same : same_request (next_id job.priority s) r ≡ true = subst (λ (d : Done). is_request_made r (ev.Submit session j) (reply.Done d) ≡ true) says named in
-      let id : next_id job.priority s ≡ r = same_request-is (next_id job.priority s) r same in
+      let id : next_id job.priority s ≡ r = request-equal (next_id job.priority s) r same in
       let here : is_some (request_in (next_id job.priority s) (insert_request (asked_by (next_id job.priority s) j job) s.requests)) ≡ true = new-request c s old (asked_by (next_id job.priority s) j job) refl in
       let found : (effect_submit c s j).requests ≡ insert_request (asked_by (next_id job.priority s) j job) s.requests = rw (row, has) refl in
       rw found (subst (λ (x : RequestId). is_some (request_in x (insert_request (asked_by (next_id job.priority s) j job) s.requests)) ≡ true) id here)
@@ -90,7 +68,7 @@ min_ready-made c s session l old r what is named = by (launcher s session) refl 
   by (Ok p) who =
       let says : what ≡ done.Request (next_id 400 s) = min_ready-says c s session l what is in
       let same : same_request (next_id 400 s) r ≡ true = subst (λ (d : Done). is_request_made r (ev.MinReady session l) (reply.Done d) ≡ true) says named in
-      let id : next_id 400 s ≡ r = same_request-is (next_id 400 s) r same in
+      let id : next_id 400 s ≡ r = request-equal (next_id 400 s) r same in
       let here : is_some (request_in (next_id 400 s) (insert_request (kept_ready_by (next_id 400 s) p l) s.requests)) ≡ true = new-request c s old (kept_ready_by (next_id 400 s) p l) refl in
       let found : (effect_min_ready s session l).requests ≡ insert_request (kept_ready_by (next_id 400 s) p l) s.requests = rw who refl in
       rw found (subst (λ (x : RequestId). is_some (request_in x (insert_request (kept_ready_by (next_id 400 s) p l) s.requests)) ≡ true) id here)
@@ -155,14 +133,14 @@ module _ (c : Configuration) (stands : State → Bool) (Ends : Turn → Type 0)
 
 request-turn : (c : Configuration) (r : RequestId) (s : State) (e : Entry) → Invariant c s → reply_of (judge c s e.event) ≡ e.reply → is_some (request_in r s.requests) ≡ true
     → (is_some (request_in r (next c s e.event).requests) ≡ true) ⊎ EndsRequest r (record { before = s; entry = e; later = next c s e.event })
-request-turn c r s e old says is = let found = some-is (request_in r s.requests) is in by (request-goes c s e.event old r found.0 found.1) where
+request-turn c r s e old says is = let found = some-of (request_in r s.requests) is in by (request-goes c s e.event old r found.0 found.1) where
   by : RequestGoesOn c s e.event r → (is_some (request_in r (next c s e.event).requests) ≡ true) ⊎ EndsRequest r (record { before = s; entry = e; later = next c s e.event })
   by (inl stays) = inl stays
   by (inr (ends, (ok, gone))) = inr (record { ends = ends; accepted = accepted-reply c s e says ok; gone = gone })
 
 node-turn : (c : Configuration) (n : NodeId) (s : State) (e : Entry) → Invariant c s → reply_of (judge c s e.event) ≡ e.reply → is_some (node_in n s.nodes) ≡ true
     → (is_some (node_in n (next c s e.event).nodes) ≡ true) ⊎ RemovesNode n (record { before = s; entry = e; later = next c s e.event })
-node-turn c n s e old says is = let found = some-is (node_in n s.nodes) is in by (node-goes c s e.event old n found.0 found.1) where
+node-turn c n s e old says is = let found = some-of (node_in n s.nodes) is in by (node-goes c s e.event old n found.0 found.1) where
   by : NodeGoesOn c s e.event n → (is_some (node_in n (next c s e.event).nodes) ≡ true) ⊎ RemovesNode n (record { before = s; entry = e; later = next c s e.event })
   by (inl stays) = inl stays
   by (inr (gone_by, (ok, gone))) = inr (record { removes = gone_by; accepted = accepted-reply c s e says ok; gone = gone })

@@ -1,26 +1,14 @@
 -- members of lists, and what an option had before it was mapped
-use Rattle.std.proofs.Common.{◌≡◌, ℕ, ◌+◌, ◌<◌, List, [], ◌∷◌, refl, arith, length, Option, Some, None, Bool, true, false, cond}
+use Rattle.std.proofs.Common.{◌≡◌, ℕ, ◌+◌, ◌<◌, List, [], ◌∷◌, refl, arith, length, Bool, true, false, cond}
 use Rattle.std.specs.Prelude.{◌==◌, ◌&&◌, not, Contains, count_by}
-use Rattle.std.specs.Option.{option_map}
-use Rattle.std.specs.List.{list_any, list_all}
+use Rattle.np_changes.specs.Prelude.{PoolId, Registration, RequestRecord, SessionId, is_declined_by, is_session_of, list_all, list_any, registered}
 use Rattle.std.proofs.lemmas.Bool.{false≢true, and_from, cond-true, not_from_false}
-use Rattle.std.proofs.lemmas.Option.{none-some, same_Some}
 use Rattle.std.proofs.lemmas.List.Elements.{All-contains}
 use Rattle.std.proofs.lemmas.List.Folds.{Any-from_list_any}
 use Rattle.std.proofs.lemmas.List.Sums.{sum_by-cons, AllPass-from_list_all}
-use Rattle.np_text.specs.declared.id.SessionId.{SessionId}
-use Rattle.np_text.specs.declared.id.PoolId.{PoolId}
-use Rattle.np_record.specs.declared.record.RequestRecord.{RequestRecord}
-use Rattle.np_machine.specs.declared.state.Registration.{Registration}
-use Rattle.np_machine.specs.Tables.{is_session_of, registered}
-use Rattle.np_machine.specs.Order.{is_declined_by}
 use Rattle.np_machine.specs.Request.{all_declined, undeclined}
 
 -- ## options
-
-pub mapped-some : {A B : Type 0} (f : A → B) (o : Option A) (b : B) → option_map f o ≡ Some b → (a : A) × (o ≡ Some a) × (f a ≡ b)
-mapped-some f None b is = absurd (none-some b is)
-mapped-some f (Some a) b is = (a, refl, same_Some (f a) b is)
 
 -- ## members
 

@@ -1,28 +1,13 @@
 -- what the nodes take together, by the pool, the label and the tenant of each
 use Rattle.std.proofs.Common.{◌≡◌, ◌⊎◌, ℕ, ◌==◌, Bool, true, false, if◌then◌else◌, List, Option, Some, None, inl, inr}
-use Rattle.np_text.specs.declared.id.SessionId.{SessionId}
-use Rattle.np_text.specs.declared.id.PoolId.{PoolId}
-use Rattle.np_text.specs.declared.id.LabelId.{LabelId}
-use Rattle.np_text.specs.declared.id.NodeId.{NodeId}
-use Rattle.np_text.specs.declared.id.TenantId.{TenantId}
-use Rattle.np_amount.specs.declared.amount.Amount.{Amount}
-use Rattle.np_amount.specs.Amounts.{IsAtMost}
+use Rattle.np_changes.specs.Prelude.{Amount, Configuration, EndsNode, Frees, GivesUp, IsAtMost, LabelId, NodeEntry, NodeId, NodeRecord, NodesPremise, PoolId, Premises, Reports, SessionId, Starts, State, TenantId, by_maker, changed, freed, freed_from, grown, in_use, is_request, left, node_entry, node_in, node_left, node_queue, nodes_changed, nodes_left, put_node, put_node_queue}
 use Rattle.np_amount.proofs.Sums.{IsAtMost-refl, IsAtMost-trans}
-use Rattle.np_site.specs.Configuration.{Configuration}
-use Rattle.np_record.specs.declared.record.NodeRecord.{NodeRecord}
-use Rattle.np_machine.specs.Entries.{NodeEntry}
-use Rattle.np_machine.specs.State.{State}
-use Rattle.np_machine.specs.Tables.{is_request, left, node_entry, node_in, node_queue, put_node, put_node_queue, freed, freed_from}
-use Rattle.np_machine.specs.Semaphore.{in_use}
-use Rattle.np_machine.specs.Session.{node_left}
 use Rattle.np_changes.specs.declared.changes.Maker.{Maker}
 use Rattle.np_changes.specs.declared.changes.Changes.{Changes}
 use Rattle.np_changes.specs.declared.changes.NodesChange.{NodesChange}
 use Rattle.np_changes.specs.declared.changes.NodesChange.TheVariants as nodes
 use Rattle.np_changes.specs.declared.changes.SessionsChange.{SessionsChange}
 use Rattle.np_changes.specs.declared.changes.SessionsChange.TheVariants as sessions
-use Rattle.np_changes.specs.Changes.{by_maker, grown, nodes_changed, nodes_left, changed}
-use Rattle.np_changes.specs.Premises.{Starts, Reports, EndsNode, GivesUp, Frees, NodesPremise, Premises}
 use Rattle.np_laws.proofs.Ids.{kept-is}
 use Rattle.np_laws.proofs.Sums.{sum_of, sum_of-remove_first, sum_of-map, sum_of-keep, sum_of-fold}
 

@@ -1,27 +1,12 @@
 -- what a change of the nodes keeps for a request that continues to exist
 use Rattle.std.proofs.Common.{◌≡◌, ◌∙◌, sym, subst, ℕ, Bool, true, false, cond, List, [], ◌∷◌, ◌++◌, refl, ap, Option, Some, None}
 use Rattle.std.specs.Prelude.{◌==◌, nat_lt}
-use Rattle.std.specs.List.{list_any}
-use Rattle.std.specs.Option.{option_map}
+use Rattle.np_changes.specs.Prelude.{NodeEntry, NodeId, NodeRecord, NodeState, RequestId, RequestRecord, Rises, SessionId, State, TenantId, all_freed, all_in_use, allocated, change_first, freed, is_building, is_deleting, is_in_use, is_ready, is_request, list_any, node_in, option_map, put_node, remove_node, request_in, same_request, standing}
 use Rattle.std.proofs.lemmas.Bool.{both_ways, false≢true}
 use Rattle.std.proofs.lemmas.Option.{none-some, same_Some}
-use Rattle.np_text.specs.declared.id.SessionId.{SessionId}
-use Rattle.np_text.specs.declared.id.NodeId.{NodeId}
-use Rattle.np_text.specs.declared.id.RequestId.{RequestId}
-use Rattle.np_text.specs.declared.id.TenantId.{TenantId}
-use Rattle.np_text.specs.declared.word.NodeState.{NodeState}
 use Rattle.np_text.specs.declared.word.NodeState.TheVariants as node_state
-use Rattle.np_record.specs.declared.record.RequestRecord.{RequestRecord}
-use Rattle.np_record.specs.declared.record.NodeRecord.{NodeRecord}
-use Rattle.np_lists.specs.Change.{change_first}
-use Rattle.np_lists.specs.Rising.{Rises}
-use Rattle.np_machine.specs.Entries.{NodeEntry}
-use Rattle.np_machine.specs.Kinds.{is_building, is_ready, is_in_use, is_deleting}
-use Rattle.np_machine.specs.Tables.{same_request, is_request, request_in, node_in, put_node, remove_node, freed, all_freed}
-use Rattle.np_machine.specs.Node.{allocated, standing}
-use Rattle.np_machine.specs.Semaphore.{all_in_use}
-use Rattle.np_machine.specs.State.{State}
-use Rattle.np_laws.proofs.Lookups.{same_request-is, same_node-is, node_in-put, node_in-remove, node_in-removed, node_in-freed, node_in-in_use, node_in-allocated, node_in-other}
+use Rattle.np_laws.proofs.Lookups.{same_node-is, node_in-put, node_in-remove, node_in-removed, node_in-freed, node_in-in_use, node_in-allocated, node_in-other}
+use Rattle.np_machine.proofs.Ids.{request-equal}
 
 -- ## states of nodes
 
@@ -46,12 +31,12 @@ allocated-to_none r o none mine = both_ways (is_request r o) (ap (λ (x : Option
 pub allocated-to_one : (r0 r : RequestId) (o : Option RequestId) → same_request r0 r ≡ false → is_request r0 o ≡ true → is_request r o ≡ true → ⊥
 allocated-to_one r0 r None other first second = false≢true first
 allocated-to_one r0 r (Some x) other first second =
-    both_ways (same_request r0 r) other (sym (ap (λ (y : RequestId). same_request y r) (same_request-is x r0 first)) ∙ second)
+    both_ways (same_request r0 r) other (sym (ap (λ (y : RequestId). same_request y r) (request-equal x r0 first)) ∙ second)
 
 pub allocated-to_gone : (s : State) (r : RequestId) (request : RequestRecord) (o : Option RequestId) → request_in r s.requests ≡ Some request → standing s o ≡ None → is_request r o ≡ true → ⊥
 allocated-to_gone s r request None stands gone mine = false≢true mine
 allocated-to_gone s r request (Some x) stands gone mine =
-    let there : request_in x s.requests ≡ Some request = ap (λ (y : RequestId). request_in y s.requests) (same_request-is x r mine) ∙ stands in
+    let there : request_in x s.requests ≡ Some request = ap (λ (y : RequestId). request_in y s.requests) (request-equal x r mine) ∙ stands in
     none-some x (sym gone ∙ ap (λ (found : Option RequestRecord). option_map (λ _. x) found) there)
 
 -- ## kept

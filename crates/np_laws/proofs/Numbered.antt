@@ -1,24 +1,10 @@
 -- the requests and the nodes stay in the order of their numbers, below the next ones
 use Rattle.std.proofs.Common.{◌≡◌, sym, ℕ, ◌+◌, ◌<◌, ◌≤◌, List, [], ◌∷◌, ◌++◌, refl, ap, arith, Option, Some, None, Bool, true, false, cond}
 use Rattle.std.specs.Prelude.{map, nat_lt, ◌==◌}
-use Rattle.std.specs.List.{AllByRecursion}
+use Rattle.np_changes.specs.Prelude.{AllByRecursion, Configuration, Locked, NodeEntry, NodeId, RequestEntry, RequestId, Rises, State, all_freed, all_in_use, allocated, change_first, changed, edited, freed_from, grown, in_use, insert_before, is_id_before, joined, left, node_left, node_queue, nodes_changed, nodes_left, remove_first, request_left, request_queue, requests_changed, requests_left, same_request}
 use Rattle.std.proofs.lemmas.Bool.Decides.{nat_tests}
-use Rattle.np_text.specs.declared.id.NodeId.{NodeId}
-use Rattle.np_text.specs.declared.id.RequestId.{RequestId}
-use Rattle.np_site.specs.Configuration.{Configuration}
-use Rattle.np_lists.specs.Change.{change_first, remove_first, insert_before}
-use Rattle.np_lists.specs.Rising.{Rises}
 use Rattle.np_lists.proofs.Each.{all-weaker, all-push, all-remove_first, all-insert_before}
 use Rattle.np_lists.proofs.RisingLemmas.{all-keys, Rises-keys, map-keys}
-use Rattle.np_machine.specs.declared.state.Locked.{Locked}
-use Rattle.np_machine.specs.Entries.{RequestEntry, NodeEntry}
-use Rattle.np_machine.specs.State.{State}
-use Rattle.np_machine.specs.Order.{is_id_before}
-use Rattle.np_machine.specs.Tables.{same_request, joined, left, request_queue, node_queue, freed_from, all_freed}
-use Rattle.np_machine.specs.Node.{allocated}
-use Rattle.np_machine.specs.Semaphore.{in_use, all_in_use}
-use Rattle.np_machine.specs.Session.{request_left, node_left}
-use Rattle.np_changes.specs.Changes.{grown, edited, requests_changed, nodes_changed, requests_left, nodes_left, changed}
 use Rattle.np_changes.specs.declared.changes.Maker.{Maker}
 use Rattle.np_changes.specs.declared.changes.Changes.{Changes}
 use Rattle.np_changes.specs.declared.changes.Growth.{Growth}

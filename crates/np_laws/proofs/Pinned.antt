@@ -1,36 +1,14 @@
 -- after an event a pinned request asks for what its pool offers, nobody has declined it, and no other pool works on it
 use Rattle.std.proofs.Common.{◌≡◌, ◌∙◌, sym, ℕ, List, refl, ap, arith, subst, Option, Some, None, Bool, true, false, cond, ◌⊎◌, inl, inr}
 use Rattle.std.specs.Prelude.{◌==◌, ◌-◌, not, if◌then◌else◌, is_some, slice_get}
-use Rattle.std.specs.Option.{option_map}
-use Rattle.std.specs.List.{AllByRecursion}
+use Rattle.np_changes.specs.Prelude.{AllByRecursion, Configuration, Event, LabelId, Launcher, PoolId, RequestId, RequestRecord, RequestState, Role, SessionFacts, SessionId, State, amount_of, asked_to_keep, change_session, changed, count_of, edited, ended, fits, grown, is_failed, is_offered, is_pending, is_requested, is_session_of, is_short, limit_of, muted, never_fits, new_record, nothing, option_map, plus, request_holder, request_in, request_queue, sessions_changed}
 use Rattle.std.proofs.lemmas.Bool.{true≢false, and_parts, or_left, not-false, cond-false}
 use Rattle.std.proofs.lemmas.Option.{none-some, same_Some}
-use Rattle.np_text.specs.declared.id.SessionId.{SessionId}
-use Rattle.np_text.specs.declared.id.PoolId.{PoolId}
-use Rattle.np_text.specs.declared.id.LabelId.{LabelId}
-use Rattle.np_text.specs.declared.id.RequestId.{RequestId}
-use Rattle.np_text.specs.declared.id.Role.{Role}
-use Rattle.np_text.specs.declared.id.Role.TheVariants.{Launcher}
-use Rattle.np_text.specs.declared.word.RequestState.{RequestState}
 use Rattle.np_text.specs.declared.word.RequestState.TheVariants as request_state
-use Rattle.np_amount.specs.Amounts.{nothing, plus, fits}
 use Rattle.np_amount.proofs.Sums.{fits-less}
-use Rattle.np_site.specs.Configuration.{Configuration}
-use Rattle.np_record.specs.declared.record.RequestRecord.{RequestRecord}
-use Rattle.np_event.specs.declared.event.Event.{Event}
 use Rattle.np_lists.proofs.Each.{all-at, all-weaker}
 use Rattle.np_lists.proofs.ChangeLemmas.{kept-change_at}
-use Rattle.np_machine.specs.declared.state.SessionFacts.{SessionFacts}
-use Rattle.np_machine.specs.State.{State}
-use Rattle.np_machine.specs.Kinds.{is_requested, is_pending, is_failed}
-use Rattle.np_machine.specs.Tables.{is_session_of, change_session, request_in, request_queue, request_holder}
 use Rattle.np_machine.specs.Order.{is_elsewhere, is_pool}
-use Rattle.np_machine.specs.Count.{is_offered, amount_of, count_of, limit_of, is_short}
-use Rattle.np_machine.specs.Reasons.{never_fits}
-use Rattle.np_machine.specs.Session.{muted, ended}
-use Rattle.np_changes.specs.Asked.{new_record}
-use Rattle.np_changes.specs.Changes.{grown, edited, sessions_changed, changed}
-use Rattle.np_changes.specs.Plan.{asked_to_keep}
 use Rattle.np_changes.specs.Premises.{IsHeard, MakerPremise, IsWorkedOn, AsksForJob, AsksToKeep, GrowthPremise, EditPremise, Premises}
 use Rattle.np_changes.specs.declared.asked.Asked.{Asked}
 use Rattle.np_changes.specs.declared.changes.Maker.{Maker}
@@ -45,12 +23,12 @@ use Rattle.np_laws.specs.Parts.{IsNumbered}
 use Rattle.np_laws.proofs.Lookups.{request_queue-nowhere}
 use Rattle.np_laws.proofs.Sessions.{facts_in, facts-grown}
 use Rattle.np_laws.proofs.Ids.{same_pool}
-use Rattle.np_laws.proofs.Firsts.{session-is}
-use Rattle.np_laws.proofs.Members.{mapped-some}
 use Rattle.np_laws.proofs.Tells.{IsLock, Tells}
 use Rattle.np_laws.proofs.Came.{CameBy, edit-premise, came}
 use Rattle.np_laws.proofs.Waiters.{queue-after}
 use Rattle.np_laws.proofs.Due.{IsOwn, IsPinned, PinnedStand}
+use Rattle.np_machine.proofs.Ids.{session-equal}
+use Rattle.np_lists.proofs.Plain.{mapped}
 
 -- ## sessions keep their roles
 
@@ -68,7 +46,7 @@ role-changed x f keeps session facts rows is = by (session.0 == 0) refl is where
       let kept : option_map (λ (y : SessionFacts). y.role) (slice_get (change_session x f rows) (session.0 - 1)) ≡ Some facts.role =
       kept-change_at (λ (o : Option SessionFacts). option_map (λ y. y.role) o) (x.0 - 1) (session.0 - 1) f rows (λ y. ap (λ (role : Role). Some role) (keeps y))
       ∙ ap (λ (o : Option SessionFacts). option_map (λ y. y.role) o) there in
-      let found = mapped-some (λ (y : SessionFacts). y.role) (slice_get (change_session x f rows) (session.0 - 1)) facts.role kept in
+      let found = mapped (λ (y : SessionFacts). y.role) (slice_get (change_session x f rows) (session.0 - 1)) facts.role kept in
       record { facts = found.0; begun = cond-false (session.0 == 0) None (slice_get (change_session x f rows) (session.0 - 1)) positive ∙ found.1; is = found.2 }
 
 roles-settled : (change : SessionsChange) (session : SessionId) (facts : SessionFacts) (rows : List SessionFacts) → facts_in session rows ≡ Some facts → HasRole session facts.role (sessions_changed change rows)
@@ -89,7 +67,7 @@ requested-open request_state.Pending is = refl
 requested-open request_state.Fulfilled is = refl
 requested-open request_state.Failed is = absurd cc
 
-pending-open : (state : RequestState) → is_pending state ≡ true → is_failed state ≡ false
+pub pending-open : (state : RequestState) → is_pending state ≡ true → is_failed state ≡ false
 pending-open request_state.Requested is = refl
 pending-open request_state.Pending is = refl
 pending-open request_state.Fulfilled is = refl
@@ -102,9 +80,9 @@ failed-too false is out = absurd cc
 -- ## one edit
 
 -- the holder is the first that waits
-holder-waits : (session : SessionId) (o : Option SessionId) → is_session_of session o ≡ true → o ≡ Some session
+pub holder-waits : (session : SessionId) (o : Option SessionId) → is_session_of session o ≡ true → o ≡ Some session
 holder-waits session None is = absurd cc
-holder-waits session (Some other) is = ap (λ (x : SessionId). Some x) (session-is other session is)
+holder-waits session (Some other) is = ap (λ (x : SessionId). Some x) (session-equal other session is)
 
 module _ (c : Configuration) (s : State) (ch : Changes) (premises : Premises c s ch) where
   maker-heard : (m : Maker) → ch.maker ≡ Some m → IsHeard s m

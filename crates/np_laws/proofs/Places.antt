@@ -1,11 +1,9 @@
 -- members at places of a list
 use Rattle.std.proofs.Common.{◌≡◌, ◌∙◌, sym, ℕ, zero, suc, ◌<◌, ◌≤◌, ◌⊎◌, inl, inr, Bool, true, false, cond, ◌||◌, List, [], ◌∷◌, ◌++◌, length, length-append, refl, ap, arith, Option, Some, None}
 use Rattle.std.specs.Prelude.{◌==◌, slice_get}
-use Rattle.std.specs.List.{AllByRecursion, list_any}
-use Rattle.std.specs.Option.{option_map}
+use Rattle.np_changes.specs.Prelude.{AllByRecursion, NodeId, list_any, option_map}
 use Rattle.std.proofs.lemmas.Bool.{ne_eqb}
 use Rattle.std.proofs.lemmas.Option.{none-some, same_Some, slice_get_within}
-use Rattle.np_text.specs.declared.id.NodeId.{NodeId}
 use Rattle.np_lists.proofs.Differ.{Differ, differ-push}
 use Rattle.np_lists.proofs.Each.{all-weaker}
 use Rattle.np_lists.proofs.FilterLemmas.{list_any-none}
@@ -28,12 +26,6 @@ any-by p x xs false is any later = let rest = later any in record { place = suc 
 pub any-place : {X : Type 0} (p : X → Bool) (xs : List X) → list_any p xs ≡ true → PassesAt p xs
 any-place p [] any = absurd cc
 any-place p (x ∷ xs) any = any-by p x xs (p x) refl any (any-place p xs)
-
--- a place before the end
-pub place-there : {X : Type 0} (xs : List X) (i : ℕ) → i < length xs → (x : X) × (slice_get xs i ≡ Some x)
-place-there [] i within = absurd (omega arith)
-place-there (x ∷ xs) zero within = (x, refl)
-place-there (x ∷ xs) (suc i) within = place-there xs i (omega arith)
 
 -- ## one more member
 

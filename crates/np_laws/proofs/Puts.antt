@@ -1,20 +1,9 @@
 -- what the five ways of changing a node's record keep
 use Rattle.std.proofs.Common.{◌≡◌, ◌∙◌, sym, subst, ◌+◌, ◌⊎◌, inl, inr, true, false, not, refl, ap, Some}
 use Rattle.std.proofs.lemmas.Bool.{and_parts, false≢true}
-use Rattle.np_text.specs.declared.id.NodeId.{NodeId}
-use Rattle.np_text.specs.declared.id.RequestId.{RequestId}
-use Rattle.np_text.specs.declared.word.NodeState.{NodeState}
+use Rattle.np_changes.specs.Prelude.{Configuration, EndsNode, Frees, GivesUp, NodeId, NodeRecord, NodeState, Reports, RequestId, RequestRecord, Starts, State, ended_as, freed, is_building, is_in_use, launched, request_in, retries_of}
 use Rattle.np_text.specs.declared.word.NodeState.TheVariants as node_state
-use Rattle.np_site.specs.Configuration.{Configuration}
-use Rattle.np_record.specs.declared.record.RequestRecord.{RequestRecord}
-use Rattle.np_record.specs.declared.record.NodeRecord.{NodeRecord}
-use Rattle.np_machine.specs.State.{State}
-use Rattle.np_machine.specs.Kinds.{is_building, is_in_use}
-use Rattle.np_machine.specs.Tables.{request_in, freed}
-use Rattle.np_machine.specs.Count.{retries_of}
-use Rattle.np_machine.specs.Node.{launched, ended_as}
 use Rattle.np_changes.specs.declared.changes.Changes.{Changes}
-use Rattle.np_changes.specs.Premises.{Starts, Reports, EndsNode, GivesUp, Frees}
 use Rattle.np_laws.proofs.NodeKept.{Keeps, ready-not_building, ready-not_in_use, allocated-to_none, allocated-to_gone}
 
 building-not_in_use : (state : NodeState) → is_in_use state ≡ true → is_building state ≡ true → ⊥

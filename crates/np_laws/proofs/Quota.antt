@@ -1,33 +1,13 @@
 -- no pool exceeds a limit
 use Rattle.std.proofs.Common.{◌≡◌, ◌⊎◌, ◌==◌, Bool, true, false, cond, List, [], ◌∷◌, ◌++◌, slice_get, Option, Some, None, refl, sym, ap, subst, subst₂, inl, inr}
-use Rattle.std.specs.Option.{option_map_or}
+use Rattle.np_changes.specs.Prelude.{Amount, Configuration, IsAtMost, LabelId, Limit, NodeEntry, NodeId, NodeRecord, Pool, PoolId, RequestId, State, TenantId, allocated, amount_of, by_maker, change_first, changed, count_of, fits, grown, is_short, joined, limit_of, new_node, no_limit, nothing, option_map_or, plus, registers, start}
 use Rattle.std.proofs.lemmas.Bool.{not-false}
-use Rattle.np_text.specs.declared.id.PoolId.{PoolId}
-use Rattle.np_text.specs.declared.id.LabelId.{LabelId}
-use Rattle.np_text.specs.declared.id.NodeId.{NodeId}
-use Rattle.np_text.specs.declared.id.RequestId.{RequestId}
-use Rattle.np_text.specs.declared.id.TenantId.{TenantId}
-use Rattle.np_amount.specs.declared.amount.Amount.{Amount}
-use Rattle.np_amount.specs.declared.amount.Limit.{Limit}
-use Rattle.np_amount.specs.Amounts.{no_limit, nothing, plus, fits, IsAtMost}
 use Rattle.np_amount.proofs.Sums.{IsAtMost-refl, fits-less}
-use Rattle.np_site.specs.Configuration.{Configuration}
-use Rattle.np_site.specs.declared.row.Pool.{Pool}
-use Rattle.np_record.specs.declared.record.NodeRecord.{NodeRecord}
-use Rattle.np_lists.specs.Change.{change_first}
-use Rattle.np_machine.specs.Entries.{NodeEntry}
-use Rattle.np_machine.specs.State.{State, start}
-use Rattle.np_machine.specs.Tables.{joined}
-use Rattle.np_machine.specs.Count.{limit_of, amount_of, count_of, is_short}
-use Rattle.np_machine.specs.Node.{allocated}
-use Rattle.np_machine.specs.Request.{registers}
 use Rattle.np_machine.specs.Safe.{WithinQuota}
 use Rattle.np_changes.specs.declared.changes.Maker.{Maker}
 use Rattle.np_changes.specs.declared.changes.Changes.{Changes}
 use Rattle.np_changes.specs.declared.changes.Growth.{Growth}
 use Rattle.np_changes.specs.declared.changes.Growth.TheVariants as grow
-use Rattle.np_changes.specs.Changes.{by_maker, grown, changed}
-use Rattle.np_changes.specs.Plan.{new_node}
 use Rattle.np_changes.specs.Premises.{IsTaken, IsMade, GainsNew, GrowthPremise, Premises}
 use Rattle.np_laws.specs.Parts.{Invariant}
 use Rattle.np_laws.proofs.Ids.{same_pool}

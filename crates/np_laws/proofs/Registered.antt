@@ -1,21 +1,10 @@
 -- each registration is of a live launcher of its pool, at most one per pool
 use Rattle.std.proofs.Common.{◌≡◌, ◌∙◌, sym, List, [], ◌∷◌, refl, ap, arith, Option, Some, None, Bool, true, false, cond}
 use Rattle.std.specs.Prelude.{◌==◌, not, find, nat_lt}
-use Rattle.std.specs.Option.{option_map}
-use Rattle.std.specs.List.{AllByRecursion}
+use Rattle.np_changes.specs.Prelude.{AllByRecursion, Configuration, GrowthPremise, IsHeard, Launcher, MakerPremise, PoolId, Premises, Registration, Rises, SessionId, SessionsPremise, State, changed, grown, is_session, option_map, registered, registrations_left}
 use Rattle.std.proofs.lemmas.Bool.Decides.{nat_tests}
-use Rattle.np_text.specs.declared.id.SessionId.{SessionId}
-use Rattle.np_text.specs.declared.id.PoolId.{PoolId}
-use Rattle.np_text.specs.declared.id.Role.TheVariants.{Launcher}
-use Rattle.np_site.specs.Configuration.{Configuration}
-use Rattle.np_lists.specs.Rising.{Rises}
 use Rattle.np_lists.proofs.Each.{all-weaker, all-filter_to, all-insert_before}
 use Rattle.np_lists.proofs.RisingLemmas.{Rises-filter}
-use Rattle.np_machine.specs.declared.state.Registration.{Registration}
-use Rattle.np_machine.specs.State.{State}
-use Rattle.np_machine.specs.Tables.{is_session, registered}
-use Rattle.np_changes.specs.Changes.{grown, registrations_left, changed}
-use Rattle.np_changes.specs.Premises.{MakerPremise, IsHeard, GrowthPremise, SessionsPremise, Premises}
 use Rattle.np_changes.specs.declared.changes.Maker.{Maker}
 use Rattle.np_changes.specs.declared.changes.Changes.{Changes}
 use Rattle.np_changes.specs.declared.changes.Growth.{Growth}

@@ -1,15 +1,7 @@
 -- the replies in a journal are those of the machine, and what an accepted event leads to
 use Rattle.std.proofs.Common.{◌≡◌, ◌∙◌, sym, List, ◌∷◌, refl, ap, true, Ok, Err}
 use Rattle.std.specs.Prelude.{is_ok}
-use Rattle.np_site.specs.Configuration.{Configuration}
-use Rattle.np_event.specs.declared.event.Event.{Event}
-use Rattle.np_event.specs.declared.entry.Entry.{Entry}
-use Rattle.np_event.specs.declared.reply.Reply.{Reply}
-use Rattle.np_machine.specs.State.{State}
-use Rattle.np_machine.specs.Tests.{Answer}
-use Rattle.np_machine.specs.Step.{judge, effect, acting, with_act, next, reply_of}
-use Rattle.np_machine.specs.History.{replayed}
-use Rattle.np_machine.specs.Turns.{is_done}
+use Rattle.np_changes.specs.Prelude.{Answer, Configuration, Entry, Event, Reply, State, acting, effect, is_done, judge, next, replayed, reply_of, with_act}
 
 -- an accepted event leads to its effect
 pub accepted-state : (c : Configuration) (s : State) (e : Event) → is_ok (judge c s e) ≡ true → next c s e ≡ with_act (acting s e) (effect c s e)

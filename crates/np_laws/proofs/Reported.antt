@@ -1,35 +1,15 @@
 -- after one more turn, the reports on each node are as many as its record says, and all of failures
 use Rattle.std.proofs.Common.{◌≡◌, ◌∙◌, sym, ℕ, ◌+◌, ◌<◌, ◌≤◌, List, [], ◌∷◌, ◌++◌, refl, ap, arith, subst, Option, Some, None, Bool, true, false, cond, ◌⊎◌, inl, inr}
 use Rattle.std.specs.Prelude.{◌==◌, not, nat_lt}
-use Rattle.std.specs.List.{list_any}
-use Rattle.std.specs.Option.{option_map}
+use Rattle.np_changes.specs.Prelude.{Configuration, Event, NodeEntry, NodeId, NodeRecord, NodeState, Outcome, RequestId, Rises, SessionId, State, TenantId, changed, freed, grown, is_building, is_failed_node, is_request, joined, launched, left, list_any, new_node, node_in, node_queue, nodes_changed, nodes_left, option_map, retries_of, tenant_of_request}
 use Rattle.std.proofs.lemmas.Bool.{false≢true, both_ways, and_from, and_left, and_parts, not-true}
 use Rattle.std.proofs.lemmas.Bool.Decides.{nat_tests}
 use Rattle.std.proofs.lemmas.Option.{none-some, same_Some}
-use Rattle.np_text.specs.declared.id.SessionId.{SessionId}
-use Rattle.np_text.specs.declared.id.NodeId.{NodeId}
-use Rattle.np_text.specs.declared.id.RequestId.{RequestId}
-use Rattle.np_text.specs.declared.id.TenantId.{TenantId}
-use Rattle.np_text.specs.declared.word.NodeState.{NodeState}
 use Rattle.np_text.specs.declared.word.NodeState.TheVariants as node_state
-use Rattle.np_site.specs.Configuration.{Configuration}
-use Rattle.np_record.specs.declared.record.NodeRecord.{NodeRecord}
-use Rattle.np_event.specs.declared.event.Event.{Event}
 use Rattle.np_event.specs.declared.event.Event.TheVariants as ev
-use Rattle.np_event.specs.declared.event.Outcome.{Outcome}
 use Rattle.np_event.specs.declared.event.Outcome.TheVariants as outcome
-use Rattle.np_lists.specs.Rising.{Rises}
-use Rattle.np_machine.specs.Entries.{NodeEntry}
-use Rattle.np_machine.specs.State.{State}
-use Rattle.np_machine.specs.Kinds.{is_building, is_failed_node}
-use Rattle.np_machine.specs.Tables.{is_request, joined, left, node_in, node_queue, freed}
-use Rattle.np_machine.specs.Count.{retries_of}
-use Rattle.np_machine.specs.Tenants.{tenant_of_request}
-use Rattle.np_machine.specs.Node.{launched}
 use Rattle.np_machine.specs.Turns.{Turn, EachTurn, is_done, IsAccepted}
 use Rattle.np_machine.specs.Caused.{is_report_on, ReportsFailure, reports_on}
-use Rattle.np_changes.specs.Changes.{grown, nodes_changed, nodes_left, changed}
-use Rattle.np_changes.specs.Plan.{new_node}
 use Rattle.np_changes.specs.Premises.{IsTaken, IsMade, GainsNew, GrowthPremise, Premises}
 use Rattle.np_changes.specs.declared.changes.Maker.{Maker}
 use Rattle.np_changes.specs.declared.changes.Changes.{Changes}

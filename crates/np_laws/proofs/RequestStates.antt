@@ -1,31 +1,9 @@
 -- each request is as its state says, after the changes of an accepted event
 use Rattle.std.proofs.Common.{◌≡◌, ◌∙◌, sym, subst, ℕ, ◌<◌, ◌≤◌, lt_of_lt_of_le, ◌⊎◌, inl, inr, Bool, false, cond, List, [], ◌∷◌, ◌++◌, refl, ap, eqb-true, eq-eqb, Option, Some}
 use Rattle.std.specs.Prelude.{◌==◌}
-use Rattle.std.specs.List.{AllByRecursion, list_any}
-use Rattle.std.specs.Option.{option_map}
+use Rattle.np_changes.specs.Prelude.{AllByRecursion, Configuration, LabelId, Launcher, NodeEntry, NodeId, NodeRecord, PoolId, Reason, RequestEntry, RequestId, RequestRecord, SessionId, State, TenantId, allocated, asked_for, asked_to_keep, by_maker, change_first, changed, edited, grown, is_pending, is_pool, list_any, new_node, new_record, next_id, node_in, nodes_changed, option_map, request_in, same_request, tenant_of_request, with_node}
 use Rattle.std.proofs.lemmas.Bool.{and_parts}
 use Rattle.std.proofs.lemmas.Option.{same_Some}
-use Rattle.np_text.specs.declared.id.SessionId.{SessionId}
-use Rattle.np_text.specs.declared.id.PoolId.{PoolId}
-use Rattle.np_text.specs.declared.id.LabelId.{LabelId}
-use Rattle.np_text.specs.declared.id.NodeId.{NodeId}
-use Rattle.np_text.specs.declared.id.RequestId.{RequestId}
-use Rattle.np_text.specs.declared.id.TenantId.{TenantId}
-use Rattle.np_text.specs.declared.id.Role.TheVariants.{Launcher}
-use Rattle.np_text.specs.declared.word.Reason.{Reason}
-use Rattle.np_site.specs.Configuration.{Configuration}
-use Rattle.np_record.specs.declared.record.RequestRecord.{RequestRecord}
-use Rattle.np_record.specs.declared.record.NodeRecord.{NodeRecord}
-use Rattle.np_lists.specs.Change.{change_first}
-use Rattle.np_machine.specs.Entries.{RequestEntry, NodeEntry}
-use Rattle.np_machine.specs.State.{State}
-use Rattle.np_machine.specs.Kinds.{is_pending}
-use Rattle.np_machine.specs.Tables.{same_request, request_in, node_in}
-use Rattle.np_machine.specs.Order.{is_pool}
-use Rattle.np_machine.specs.Tenants.{tenant_of_request}
-use Rattle.np_machine.specs.Request.{next_id}
-use Rattle.np_machine.specs.Node.{with_node, allocated}
-use Rattle.np_changes.specs.Asked.{new_record}
 use Rattle.np_changes.specs.declared.asked.Asked.{Asked}
 use Rattle.np_changes.specs.declared.changes.Maker.{Maker}
 use Rattle.np_changes.specs.declared.changes.Changes.{Changes}
@@ -37,18 +15,18 @@ use Rattle.np_changes.specs.declared.changes.RequestsChange.{RequestsChange}
 use Rattle.np_changes.specs.declared.changes.RequestsChange.TheVariants as requests
 use Rattle.np_changes.specs.declared.changes.NodesChange.{NodesChange}
 use Rattle.np_changes.specs.declared.changes.NodesChange.TheVariants as nodes
-use Rattle.np_changes.specs.Changes.{by_maker, grown, edited, nodes_changed, changed}
-use Rattle.np_changes.specs.Plan.{asked_for, asked_to_keep, new_node}
 use Rattle.np_changes.specs.Premises.{IsTaken, IsMade, Gains, AsksForJob, AsksToKeep, GrowthPremise, MayServe, MayDecline, MayFulfil, MayGiveBack, MayFail, MayRevise, EditPremise, GoesFulfilled, TakesOver, GoesWithdrawn, RequestsPremise, EmptiesRequest, NodesPremise, Premises}
 use Rattle.np_laws.specs.Parts.{IsAtRest, IsFor, IsServed, StandsIn, RequestsStand, Invariant}
-use Rattle.np_laws.proofs.Lookups.{same_request-self, request_in-edit, request_in-insert, request_in-new, request_in-remove, request_in-removed, request_in-later, node_in-allocated, node_in-new, node_in-later, node_in-below}
-use Rattle.np_laws.proofs.NextNumbers.{above, below-later, at-least, same-seq}
+use Rattle.np_laws.proofs.Lookups.{request_in-edit, request_in-insert, request_in-new, request_in-remove, request_in-removed, request_in-later, node_in-allocated, node_in-new, node_in-later, node_in-below}
+use Rattle.np_laws.proofs.NextNumbers.{below-later, at-least, same-seq}
 use Rattle.np_laws.proofs.After.{NoRequest, NoNode, IsCalm, grown-request, grown-node, next-more, calm-request, leave-node, requests-after, nodes-after, next-after}
 use Rattle.np_laws.proofs.NodeKept.{KeptAt, kept-same, kept-looks, kept-put, kept-remove, kept-freed, kept-taken, kept-allocated, kept-push}
 use Rattle.np_laws.proofs.Places.{next-unlisted}
 use Rattle.np_laws.proofs.Puts.{way-keeps}
 use Rattle.np_laws.proofs.Filled.{pool-same, filled-owns}
 use Rattle.np_laws.proofs.StandsOn.{rest-if, served-if, owns-if, requested-stands, pending-stands, either-stands, empty-served, served-unlisted, owned-node, KeptFor, owns-kept, same-stand, edit-stand, remove-stand, insert-stand, served-more}
+use Rattle.np_machine.proofs.Ids.{request-itself}
+use Rattle.np_lists.proofs.Plain.{above-apart}
 
 -- ## premises
 
@@ -87,7 +65,7 @@ allocated-found rows later n r tenant session k looks stands node is =
     same_Some (record k { allocated_to = Some r; tenant = tenant }) node (sym found ∙ is)
 
 allocated-for : (r : RequestId) (p : PoolId) (l : LabelId) (k : NodeRecord) (tenant : Option TenantId) → k.pool.0 ≡ p.0 → k.label.0 ≡ l.0 → IsFor r p l (record k { allocated_to = Some r; tenant = tenant })
-allocated-for r p l k tenant of_pool of_label = record { allocated = same_request-self r; of_pool = of_pool; of_label = of_label }
+allocated-for r p l k tenant of_pool of_label = record { allocated = request-itself r; of_pool = of_pool; of_label = of_label }
 
 module _ (c : Configuration) (s : State) (ch : Changes) (inv : Invariant c s) where
   stood : RequestsStand s
@@ -211,7 +189,7 @@ module _ (c : Configuration) (s : State) (ch : Changes) (inv : Invariant c s) wh
       let new = new_entry ch.maker s (new_node c s r gains.pool gains.request gains.label) in
       let found : node_in n (changed c ch s).nodes ≡ Some (new_node c s r gains.pool gains.request gains.label) =
       made-looks r n gains made same n ∙ node_in-new new n s.nodes (eq-eqb s.next_node n.0 (sym late)) (node_in-later n s.next_node s.nodes below (at-least n.0 s.next_node late)) in
-      let is_for : IsFor r (gaining-served r n gains).pool gains.label (new_node c s r gains.pool gains.request gains.label) = record { allocated = same_request-self r; of_pool = gaining-pool r n gains; of_label = refl } in
+      let is_for : IsFor r (gaining-served r n gains).pool gains.label (new_node c s r gains.pool gains.request gains.label) = record { allocated = request-itself r; of_pool = gaining-pool r n gains; of_label = refl } in
       subst (λ (x : NodeRecord). IsFor r (gaining-served r n gains).pool gains.label x) (same_Some (new_node c s r gains.pool gains.request gains.label) node (sym found ∙ is)) is_for
 
   made-stand : (r : RequestId) (n : NodeId) (gains : Gains c s ch r n) → IsMade c s ch gains.pool r gains.request gains.label n → ch.nodes ≡ nodes.Same → RequestsStand (changed c ch s)
@@ -220,7 +198,7 @@ module _ (c : Configuration) (s : State) (ch : Changes) (inv : Invariant c s) wh
       let new = new_entry ch.maker s (new_node c s r gains.pool gains.request gains.label) in
       let served = gaining-served r n gains in
       gain-stand r n gains (grow.Node (new_node c s r gains.pool gains.request gains.label)) tt made.grows
-      (λ x m low. subst (λ (o : Option NodeRecord). KeptAt x (node_in m s.nodes) o) (sym (made-looks r n gains made same m)) (kept-push x s.nodes m new (above s.next_node m.0 low)))
+      (λ x m low. subst (λ (o : Option NodeRecord). KeptAt x (node_in m s.nodes) o) (sym (made-looks r n gains made same m)) (kept-push x s.nodes m new (above-apart s.next_node m.0 low)))
       (next-unlisted s.next_node n gains.request.nodes late served.below)
       (below-later n.0 s.next_node (changed c ch s).next_node late (next-after c s ch ch.maker (grow.Node (new_node c s r gains.pool gains.request gains.label)) refl made.grows))
       (made-for r n gains made same)

@@ -1,39 +1,14 @@
 -- each change of a node is its holder's
 use Rattle.std.proofs.Common.{◌≡◌, ◌∙◌, sym, ℕ, ◌<◌, List, [], ◌∷◌, length, refl, ap, arith, subst, Option, Some, None, Bool, true, false, cond, inl, inr}
 use Rattle.std.specs.Prelude.{◌==◌, ◌&&◌, ◌||◌, ◌⊎◌, is_ok, is_some, map}
-use Rattle.std.specs.Option.{option_map, option_map_or}
-use Rattle.std.specs.List.{list_any}
+use Rattle.np_changes.specs.Prelude.{Configuration, EachTurn, Entry, Event, LabelId, Launcher, NodeEntry, NodeId, NodeRecord, PoolId, RequestId, RequestRecord, Runs, SessionId, State, TenantId, Turn, after, freed, grown, holder, is_filled, is_pending, is_pending_by, is_pool, is_ready, is_request, is_session_of, joined, judge, left, list_any, next, node_entry, node_holder, node_in, node_queue, nodes_changed, nodes_left, option_map, option_map_or, plan, request_in, start, turns_from, unended, unfilled, unheld}
 use Rattle.std.proofs.lemmas.Bool.Decides.{nat_tests}
 use Rattle.std.proofs.lemmas.Option.{slice_get_within}
 use Rattle.std.proofs.lemmas.Bool.{and_parts}
-use Rattle.np_text.specs.declared.id.SessionId.{SessionId}
-use Rattle.np_text.specs.declared.id.PoolId.{PoolId}
-use Rattle.np_text.specs.declared.id.LabelId.{LabelId}
-use Rattle.np_text.specs.declared.id.NodeId.{NodeId}
-use Rattle.np_text.specs.declared.id.RequestId.{RequestId}
-use Rattle.np_text.specs.declared.id.TenantId.{TenantId}
-use Rattle.np_text.specs.declared.id.Role.TheVariants.{Launcher}
-use Rattle.np_site.specs.Configuration.{Configuration}
-use Rattle.np_record.specs.declared.record.RequestRecord.{RequestRecord}
-use Rattle.np_record.specs.declared.record.NodeRecord.{NodeRecord}
-use Rattle.np_event.specs.declared.event.Event.{Event}
 use Rattle.np_event.specs.declared.event.Event.TheVariants as ev
-use Rattle.np_event.specs.declared.entry.Entry.{Entry}
-use Rattle.np_machine.specs.Entries.{NodeEntry}
-use Rattle.np_machine.specs.State.{State, start}
-use Rattle.np_machine.specs.Kinds.{is_ready, is_pending}
-use Rattle.np_machine.specs.Tables.{is_session_of, holder, joined, left, is_request, request_in, node_in, node_entry, node_queue, node_holder, freed}
-use Rattle.np_machine.specs.Order.{is_pool, is_pending_by}
-use Rattle.np_machine.specs.Request.{is_filled, unfilled}
-use Rattle.np_machine.specs.Semaphore.{unheld, unended}
 use Rattle.np_machine.specs.Kept.{is_request_end}
-use Rattle.np_machine.specs.Step.{judge, next}
-use Rattle.np_machine.specs.History.{after, Runs}
-use Rattle.np_machine.specs.Turns.{Turn, turns_from, EachTurn}
 use Rattle.np_machine.specs.Fenced.{ByHolder, given_back_by, TakenBack, IsRightful, IsFenced, Fenced}
 use Rattle.np_machine.proofs.Runs.{Runs-prefix}
-use Rattle.np_changes.specs.Changes.{grown, nodes_changed, nodes_left}
-use Rattle.np_changes.specs.Plan.{plan}
 use Rattle.np_changes.specs.Premises.{IsHeldNode, IsTaken, IsMade, Gains, GoesFulfilled, TakesOver, GoesWithdrawn, EmptiesRequest, GrowthPremise, RequestsPremise, NodesPremise, SessionsPremise, Premises}
 use Rattle.np_changes.specs.declared.changes.Maker.{Maker}
 use Rattle.np_changes.specs.declared.changes.Changes.{Changes}
@@ -49,8 +24,8 @@ use Rattle.np_changes.proofs.PlanLaws.{plan-next}
 use Rattle.np_changes.proofs.PremisesOf.{premises}
 use Rattle.np_laws.specs.Parts.{StandsIn, IsServed, Invariant}
 use Rattle.np_laws.specs.Steps.{AfterEveryStep}
-use Rattle.np_laws.proofs.Lookups.{same_request-is, same_node-is, node_in-put, node_in-allocated, node_in-queue, node_in-freed, used_from, node_in-in_use, node_in-push, node_in-remove, node_queue-allocated}
-use Rattle.np_laws.proofs.Places.{node-place, place-there}
+use Rattle.np_laws.proofs.Lookups.{same_node-is, node_in-put, node_in-allocated, node_in-queue, node_in-freed, used_from, node_in-in_use, node_in-push, node_in-remove, node_queue-allocated}
+use Rattle.np_laws.proofs.Places.{node-place}
 use Rattle.np_laws.proofs.Filled.{filled-at}
 use Rattle.np_laws.proofs.StandsOn.{served-if}
 use Rattle.np_laws.proofs.Holding.{one-held}
@@ -58,6 +33,8 @@ use Rattle.np_laws.proofs.Runs.{invariant-next}
 use Rattle.np_laws.proofs.Start.{invariant-start}
 use Rattle.np_laws.proofs.After.{left-node}
 use Rattle.np_laws.proofs.Goes.{Goes, plan-maker, plan-goes}
+use Rattle.np_machine.proofs.Ids.{request-equal}
+use Rattle.np_lists.proofs.Plain.{member-there}
 
 -- ## who holds a node of a complete request
 
@@ -73,7 +50,7 @@ complete-held s p session r request n stands pending none listed =
     let served : IsServed s r request = served-if s r request request.state (and_parts (is_pending request.state) (is_pool p request.pool) pending).0 stands in
     let place = node-place n request.nodes listed in
     let within : place.0 < length request.labels = omega (arith, slice_get_within request.nodes place.0 n place.1, served.few) in
-    let label = place-there request.labels place.0 within in
+    let label = member-there request.labels place.0 within in
     filled-held p session r label.0 n s.nodes (filled-at p session r s.nodes request.labels request.nodes none place.0 n label.0 place.1 label.1)
 
 -- a session that holds each of the nodes holds a given one of them
@@ -207,7 +184,7 @@ module _ (c : Configuration) (s : State) (entry : Entry) (old : Invariant c s) (
     listed : (o : Option RequestId) → node.allocated_to ≡ o → is_request x o ≡ true → (request : RequestRecord) → request_in x s.requests ≡ Some request → list_any (λ m. m.0 == n.0) request.nodes ≡ true
     listed None to mine request there = absurd cc
     listed (Some y) to mine request there =
-        let id : y ≡ x = same_request-is y x mine in
+        let id : y ≡ x = request-equal y x mine in
         (old.owned.allocations n node y stands to).listed request (ap (λ (z : RequestId). request_in z s.requests) id ∙ there)
 
     by : GoesFulfilled s ch x ⊎ (TakesOver c s ch x ⊎ GoesWithdrawn s ch x) → ByHolder t n

@@ -1,8 +1,6 @@
 -- a list in order, with one member less or more
 use Rattle.std.proofs.Common.{◌≡◌, List, [], ◌∷◌, ◌++◌, refl, Bool, true, false, cond}
-use Rattle.std.specs.List.{AllByRecursion}
-use Rattle.np_lists.specs.Change.{remove_first, insert_before}
-use Rattle.np_lists.specs.Rising.{Rises}
+use Rattle.np_changes.specs.Prelude.{AllByRecursion, Rises, insert_before, remove_first}
 use Rattle.np_lists.proofs.Each.{all-weaker, all-push, all-remove_first, all-insert_before}
 
 module _ {X : Type 0} (before : X → X → Bool) where

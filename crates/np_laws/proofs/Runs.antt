@@ -1,25 +1,11 @@
 -- the parts hold of every state that a run leads to, and every run is safe
 use Rattle.std.proofs.Common.{◌≡◌, ◌∙◌, sym, ap, List, [], ◌∷◌, refl, subst, Bool, true, false}
 use Rattle.std.specs.Prelude.{is_ok, is_some}
-use Rattle.np_text.specs.declared.id.SessionId.{SessionId}
-use Rattle.np_text.specs.declared.id.NodeId.{NodeId}
-use Rattle.np_text.specs.declared.id.RequestId.{RequestId}
-use Rattle.np_text.specs.declared.word.RequestState.{RequestState}
+use Rattle.np_changes.specs.Prelude.{Configuration, Entry, Event, NodeId, Premises, RequestId, RequestState, Runs, SessionId, State, after, changed, is_fulfilled, is_session_of, judge, next, node_holder, plan, request_holder, request_in, start, state_after}
 use Rattle.np_text.specs.declared.word.RequestState.TheVariants as request_state
-use Rattle.np_site.specs.Configuration.{Configuration}
-use Rattle.np_event.specs.declared.event.Event.{Event}
-use Rattle.np_event.specs.declared.entry.Entry.{Entry}
-use Rattle.np_machine.specs.State.{State, start}
-use Rattle.np_machine.specs.Kinds.{is_fulfilled}
-use Rattle.np_machine.specs.Tables.{is_session_of, request_in, request_holder, node_holder}
 use Rattle.np_machine.specs.LiveHolder.{IsLiveHolder, IsLiveRequestHolder}
-use Rattle.np_machine.specs.Step.{judge, next}
-use Rattle.np_machine.specs.History.{state_after, after, Runs}
 use Rattle.np_machine.specs.Safe.{OwnsItsLabels, FulfilledOwn, Safe}
 use Rattle.np_machine.proofs.Runs.{Runs-prefix}
-use Rattle.np_changes.specs.Changes.{changed}
-use Rattle.np_changes.specs.Plan.{plan}
-use Rattle.np_changes.specs.Premises.{Premises}
 use Rattle.np_changes.specs.declared.changes.Changes.{Changes}
 use Rattle.np_changes.proofs.PlanLaws.{plan-next}
 use Rattle.np_changes.proofs.PremisesOf.{premises}

@@ -1,17 +1,9 @@
 -- which sessions stay live
 use Rattle.std.proofs.Common.{◌≡◌, ◌≢◌, ◌∙◌, sym, ℕ, zero, suc, List, [], ◌∷◌, ◌++◌, refl, ap, arith, subst, Option, Some, None, Bool, true, false, cond}
 use Rattle.std.specs.Prelude.{◌==◌, ◌-◌, slice_get}
-use Rattle.std.specs.Option.{option_map}
+use Rattle.np_changes.specs.Prelude.{Configuration, SessionFacts, SessionId, SessionsPremise, State, change_session, changed, ended, grown, is_session, muted, option_map, session_of, sessions_changed}
 use Rattle.std.proofs.lemmas.Bool.Decides.{nat_tests}
-use Rattle.np_text.specs.declared.id.SessionId.{SessionId}
-use Rattle.np_site.specs.Configuration.{Configuration}
 use Rattle.np_lists.proofs.ChangeLemmas.{slice_get-change_at, slice_get-change_at_other}
-use Rattle.np_machine.specs.declared.state.SessionFacts.{SessionFacts}
-use Rattle.np_machine.specs.State.{State}
-use Rattle.np_machine.specs.Tables.{session_of, is_session, change_session}
-use Rattle.np_machine.specs.Session.{muted, ended}
-use Rattle.np_changes.specs.Changes.{grown, sessions_changed, changed}
-use Rattle.np_changes.specs.Premises.{SessionsPremise}
 use Rattle.np_changes.specs.declared.changes.Maker.{Maker}
 use Rattle.np_changes.specs.declared.changes.Changes.{Changes}
 use Rattle.np_changes.specs.declared.changes.Growth.{Growth}

@@ -1,30 +1,18 @@
 -- a request that was as its state says is so after a change, if the nodes are kept for it
 use Rattle.std.proofs.Common.{◌≡◌, ◌∙◌, sym, subst, ℕ, ◌<◌, ◌≤◌, ◌⊎◌, inl, inr, Bool, true, false, cond, List, [], refl, ap, lt_of_lt_of_le, arith, length, Some, None}
 use Rattle.std.specs.Prelude.{◌==◌, slice_get}
-use Rattle.std.specs.List.{AllByRecursion, list_any}
-use Rattle.std.specs.Option.{option_map}
+use Rattle.np_changes.specs.Prelude.{AllByRecursion, LabelId, NodeEntry, NodeId, NodeRecord, PoolId, RequestId, RequestRecord, RequestState, State, is_fulfilled, is_pending, is_ready, is_request, is_requested, list_any, next_label, node_in, option_map, request_in, same_request, with_node}
 use Rattle.std.proofs.lemmas.Bool.{false≢true, false_from_ne_true}
 use Rattle.std.proofs.lemmas.Option.{none-some, same_Some, slice_get_within}
-use Rattle.np_text.specs.declared.id.NodeId.{NodeId}
-use Rattle.np_text.specs.declared.id.PoolId.{PoolId}
-use Rattle.np_text.specs.declared.id.LabelId.{LabelId}
-use Rattle.np_text.specs.declared.id.RequestId.{RequestId}
-use Rattle.np_text.specs.declared.word.RequestState.{RequestState}
 use Rattle.np_text.specs.declared.word.RequestState.TheVariants as request_state
-use Rattle.np_record.specs.declared.record.RequestRecord.{RequestRecord}
-use Rattle.np_record.specs.declared.record.NodeRecord.{NodeRecord}
 use Rattle.np_lists.proofs.Each.{all-at, all-push}
-use Rattle.np_machine.specs.Entries.{NodeEntry}
-use Rattle.np_machine.specs.Kinds.{is_requested, is_pending, is_fulfilled, is_ready}
-use Rattle.np_machine.specs.Tables.{same_request, is_request, request_in, node_in}
-use Rattle.np_machine.specs.Reasons.{next_label}
-use Rattle.np_machine.specs.Node.{with_node}
 use Rattle.np_machine.specs.Safe.{DistinctNodes, IsGiven, OwnsItsLabels}
-use Rattle.np_machine.specs.State.{State}
 use Rattle.np_laws.specs.Parts.{IsAtRest, IsFor, IsServed, StandsIn, RequestsStand}
-use Rattle.np_laws.proofs.Lookups.{same_request-is, node_in-below}
+use Rattle.np_laws.proofs.Lookups.{node_in-below}
 use Rattle.np_laws.proofs.NodeKept.{allocated-to_none, Keeps, KeptAt, kept-back, kept-on}
-use Rattle.np_laws.proofs.Places.{IsEdited, edited-by, node-place, place-there, push-places, push-within, distinct-push, all-below}
+use Rattle.np_laws.proofs.Places.{IsEdited, edited-by, node-place, push-places, push-within, distinct-push, all-below}
+use Rattle.np_machine.proofs.Ids.{request-equal}
+use Rattle.np_lists.proofs.Plain.{member-there}
 
 -- ## by the request's state
 
@@ -71,7 +59,7 @@ pub served-node : (s : State) (r : RequestId) (q : RequestRecord) → IsServed s
 served-node s r q served n k any stands =
     let place = node-place n q.nodes any in
     let within : place.0 < length q.labels = lt_of_lt_of_le (slice_get_within q.nodes place.0 n place.1) served.few in
-    let label = place-there q.labels place.0 within in
+    let label = member-there q.labels place.0 within in
     (served.each place.0 n label.0 k place.1 label.1 stands).allocated
 
 -- so a node that is allocated to none is not listed
@@ -84,7 +72,7 @@ pub owned-node : (s : State) (r : RequestId) (q : RequestRecord) → OwnsItsLabe
 owned-node s r q owns n k any stands =
     let place = node-place n q.nodes any in
     let within : place.0 < length q.labels = subst (λ (size : ℕ). place.0 < size) owns.as_many (slice_get_within q.nodes place.0 n place.1) in
-    let label = place-there q.labels place.0 within in
+    let label = member-there q.labels place.0 within in
     let given = owns.each place.0 n label.0 place.1 label.1 in
     let same : k ≡ given.node = same_Some k given.node (sym stands ∙ given.stands) in
     (ap (λ (x : NodeRecord). is_ready x.state) same ∙ given.ready, ap (λ (x : NodeRecord). is_request r x.allocated_to) same ∙ given.allocated)
@@ -167,7 +155,7 @@ module _ (s t : State) (below : AllByRecursion (λ (e : NodeEntry). e.id.0 < s.n
   edit-stand r0 f q0 stand stands looks anew others = stand-step stand (λ r q is. by r q (edited-by (same_request r0 r) f (request_in r s.requests) q (sym (looks r) ∙ is))) where
     by : (r : RequestId) (q : RequestRecord) → IsEdited (same_request r0 r) f (request_in r s.requests) q ⊎ ((same_request r0 r ≡ false) × (request_in r s.requests ≡ Some q)) → Follows s t r q
     by r q (inl one) =
-        let same : r0 ≡ r = same_request-is r0 r one.passed in
+        let same : r0 ≡ r = request-equal r0 r one.passed in
         let old : one.old ≡ q0 = same_Some one.old q0 (sym one.was ∙ ap (λ (x : RequestId). request_in x s.requests) (sym same) ∙ stands) in
         let now : f q0 ≡ q = sym (one.now ∙ ap (λ (x : RequestRecord). f x) old) in
         inl (subst (λ (x : RequestRecord). StandsIn t r x x.state) now (subst (λ (x : RequestId). StandsIn t x (f q0) (f q0).state) same anew))

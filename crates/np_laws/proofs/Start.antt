@@ -1,10 +1,7 @@
 -- the parts hold of the first state
 use Rattle.std.proofs.Common.{◌≡◌, sym, ℕ, zero, suc, List, [], ◌∷◌, refl, subst, Some}
 use Rattle.std.specs.Prelude.{map, slice_get}
-use Rattle.np_site.specs.Configuration.{Configuration}
-use Rattle.np_site.specs.declared.row.Job.{Job}
-use Rattle.np_record.specs.declared.record.JobRecord.{JobRecord}
-use Rattle.np_machine.specs.State.{start, new_job}
+use Rattle.np_changes.specs.Prelude.{Configuration, Job, JobRecord, new_job, start}
 use Rattle.np_laws.specs.Parts.{JobIn, Invariant}
 use Rattle.np_laws.proofs.Quota.{within-quota_first}
 use Rattle.np_laws.proofs.Handles.{within-max_first}

@@ -3,11 +3,9 @@ use Rattle.std.proofs.Common.{◌≡◌, ℕ, zero, suc, Bool, true, false, ◌&
 use Rattle.std.specs.Prelude.{find, slice_get}
 use Rattle.std.proofs.lemmas.Bool.Decides.{nat_tests}
 use Rattle.std.proofs.lemmas.List.{map-append}
-use Rattle.np_amount.specs.declared.amount.Amount.{Amount}
-use Rattle.np_amount.specs.declared.amount.Limit.{Limit}
+use Rattle.np_changes.specs.Prelude.{Amount, Limit, change_first, insert_before, remove_first}
 use Rattle.np_amount.specs.Amounts.{nothing, plus, is_within, fits, total, IsAtMost}
 use Rattle.np_amount.proofs.Sums.{same_amount, plus-comm, nothing-plus, IsAtMost-refl, IsAtMost-trans, IsAtMost-part, IsAtMost-plus, total_push}
-use Rattle.np_lists.specs.Change.{change_first, remove_first, insert_before}
 use Rattle.np_lists.proofs.ChangeLemmas.{change_first-absent}
 
 -- ## amounts
@@ -24,7 +22,7 @@ part-at_most a b = record { instances = omega arith; cores = omega arith; ram = 
 pub plus-nothing : (a : Amount) → plus a nothing ≡ a
 plus-nothing a = plus-comm a nothing ∙ nothing-plus a
 
-swapped : (a b s : Amount) → plus a (plus b s) ≡ plus b (plus a s)
+pub swapped : (a b s : Amount) → plus a (plus b s) ≡ plus b (plus a s)
 swapped a b s = same_amount _ _ (omega arith) (omega arith) (omega arith)
 
 moved : (a s b : Amount) → IsAtMost (plus (plus a s) b) (plus (plus b s) a)

@@ -4,41 +4,11 @@ use Rattle.std.proofs.Common.{◌≡◌, ◌∙◌, sym, ◌⊎◌, inl, inr, �
 use Rattle.std.specs.Prelude.{◌&&◌, ◌||◌, not, if◌then◌else◌, is_some, slice_get}
 use Rattle.std.proofs.lemmas.Bool.{false≢true}
 use Rattle.std.proofs.lemmas.Bool.Decides.{nat_tests}
-use Rattle.np_text.specs.declared.id.SessionId.{SessionId}
-use Rattle.np_text.specs.declared.id.PoolId.{PoolId}
-use Rattle.np_text.specs.declared.id.JobId.{JobId}
-use Rattle.np_text.specs.declared.id.NodeId.{NodeId}
-use Rattle.np_text.specs.declared.id.RequestId.{RequestId}
-use Rattle.np_text.specs.declared.id.Role.{Role}
-use Rattle.np_text.specs.declared.id.Role.TheVariants.{Launcher, Janitor, Requester}
-use Rattle.np_text.specs.declared.word.Reason.{Reason}
-use Rattle.np_text.specs.declared.word.EndAs.{EndAs}
+use Rattle.np_changes.specs.Prelude.{Configuration, Done, EndAs, Event, Janitor, JobId, JobRecord, Launcher, NodeId, NodeRecord, NodeState, Outcome, PoolId, Reason, Refusal, RequestId, RequestRecord, Requester, Role, SessionId, State, ended_as, freed, is_building, is_failed_node, is_last_pool, is_pinned_away, is_ready, is_report_on, is_wanted, janitor, judge, judge_done, judge_free_node, judge_lock_request, judge_start, launched, launcher, made_by, maker, next_label, node_in, plan, request_in, request_of_job, requester, retries_of, role_of, same, session_of, starts_of, with_found, with_given}
 use Rattle.np_text.specs.declared.word.EndAs.TheVariants as end
-use Rattle.np_text.specs.declared.word.NodeState.{NodeState}
 use Rattle.np_text.specs.declared.word.NodeState.TheVariants as node_state
-use Rattle.np_site.specs.Configuration.{Configuration}
-use Rattle.np_record.specs.declared.record.RequestRecord.{RequestRecord}
-use Rattle.np_record.specs.declared.record.NodeRecord.{NodeRecord}
-use Rattle.np_record.specs.declared.record.JobRecord.{JobRecord}
-use Rattle.np_event.specs.declared.reply.Done.{Done}
-use Rattle.np_event.specs.declared.reply.Refusal.{Refusal}
-use Rattle.np_event.specs.declared.event.Event.{Event}
 use Rattle.np_event.specs.declared.event.Event.TheVariants as ev
-use Rattle.np_event.specs.declared.event.Outcome.{Outcome}
-use Rattle.np_machine.specs.State.{State}
-use Rattle.np_machine.specs.Kinds.{is_building, is_ready, is_failed_node}
-use Rattle.np_machine.specs.Step.{judge}
-use Rattle.np_machine.specs.Tables.{role_of, session_of, request_in, node_in, freed}
-use Rattle.np_machine.specs.Order.{is_pinned_away}
-use Rattle.np_machine.specs.Count.{retries_of}
-use Rattle.np_machine.specs.Tests.{maker, launcher, janitor, requester}
-use Rattle.np_machine.specs.Reasons.{next_label}
-use Rattle.np_machine.specs.Request.{request_of_job, judge_lock_request}
-use Rattle.np_machine.specs.Node.{judge_start, judge_done, judge_free_node, starts_of, launched, ended_as, is_wanted}
-use Rattle.np_machine.specs.Caused.{is_report_on}
-use Rattle.np_changes.specs.Readers.{is_last_pool}
 use Rattle.np_changes.specs.Plan
-use Rattle.np_changes.specs.Plan.{same, with_found, with_given, made_by, plan}
 use Rattle.np_changes.specs.declared.changes.Changes.{Changes}
 use Rattle.np_changes.specs.declared.changes.Growth.{Growth}
 use Rattle.np_changes.specs.declared.changes.Growth.TheVariants as grow
@@ -50,6 +20,7 @@ use Rattle.np_changes.specs.declared.changes.NodesChange.TheVariants as nodes
 use Rattle.np_changes.proofs.Makers.{launcher-role}
 use Rattle.np_laws.proofs.Through.{plan-found, plan-given, plan-made}
 use Rattle.np_laws.proofs.Lookups.{same_node-is}
+use Rattle.np_changes.proofs.Passed.{start-idle, done-flying}
 
 -- ## what is told
 
@@ -188,12 +159,6 @@ module _ (c : Configuration) (s : State) (e : Event) where
 lock-own : (c : Configuration) (s : State) (session : SessionId) (r : RequestId) (what : Done) (p : PoolId) (q : RequestRecord) → judge_lock_request c s session r ≡ Ok what → maker s session ≡ Ok (Launcher p) → request_in r s.requests ≡ Some q → is_pinned_away p q ≡ false
 lock-own c s session r what p q ok who has = grind (arith, nat_tests)
 
-start-idle : (s : State) (session : SessionId) (n : NodeId) (what : Done) (k : NodeRecord) → judge_start s session n ≡ Ok what → node_in n s.nodes ≡ Some k → (is_building k.state && not k.in_flight) ≡ true
-start-idle s session n what k ok has = grind (arith, nat_tests)
-
-done-flies : (s : State) (session : SessionId) (n : NodeId) (attempt : ℕ) (what : Done) (k : NodeRecord) → judge_done s session n attempt ≡ Ok what → node_in n s.nodes ≡ Some k → k.in_flight ≡ true
-done-flies s session n attempt what k ok has = grind (arith, nat_tests)
-
 done-launcher : (s : State) (session : SessionId) (n : NodeId) (attempt : ℕ) (what : Done) (why : Refusal) → judge_done s session n attempt ≡ Ok what → launcher s session ≡ Err why → ⊥
 done-launcher s session n attempt what why ok none = grind (arith, nat_tests)
 
@@ -264,7 +229,7 @@ module _ (c : Configuration) (s : State) where
         event = refl;
         node = k;
         stands = has;
-        flies = done-flies s session n attempt what k ok has;
+        flies = done-flying s session n attempt what k ok has;
         record_after = refl;
       })))))
 

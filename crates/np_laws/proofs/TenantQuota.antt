@@ -1,36 +1,13 @@
 -- no tenant exceeds a limit
 use Rattle.std.proofs.Common.{◌≡◌, ◌⊎◌, ℕ, ◌==◌, ◌&&◌, not, Bool, true, false, cond, List, [], ◌∷◌, ◌++◌, slice_get, is_some, is_none, option_and_then, Option, Some, None, refl, sym, ap, ◌∙◌, subst, subst₂, inl, inr}
-use Rattle.std.specs.Option.{option_map, option_map_or}
+use Rattle.np_changes.specs.Prelude.{Amount, IsAtMost, Job, JobId, LabelId, Limit, NodeEntry, NodeId, NodeRecord, PoolId, RequestEntry, RequestId, RequestRecord, State, Tenant, TenantId, allocated, amount_of, amount_of_all, by_maker, change_first, changed, first_unoffered, fits, grown, is_pending, joined, left, never_fits, new_node, new_record, next_id, no_limit, node_entry, node_in, nothing, option_map, option_map_or, plus, requests_changed, start}
 use Rattle.std.proofs.Math.Path.{ap₂}
 use Rattle.std.proofs.lemmas.Bool.{not-false, not_from_false, and_from}
-use Rattle.np_text.specs.declared.id.PoolId.{PoolId}
-use Rattle.np_text.specs.declared.id.LabelId.{LabelId}
-use Rattle.np_text.specs.declared.id.JobId.{JobId}
-use Rattle.np_text.specs.declared.id.NodeId.{NodeId}
-use Rattle.np_text.specs.declared.id.RequestId.{RequestId}
-use Rattle.np_text.specs.declared.id.TenantId.{TenantId}
-use Rattle.np_amount.specs.declared.amount.Amount.{Amount}
-use Rattle.np_amount.specs.declared.amount.Limit.{Limit}
-use Rattle.np_amount.specs.Amounts.{no_limit, nothing, plus, fits, IsAtMost}
 use Rattle.np_amount.proofs.Sums.{IsAtMost-refl, IsAtMost-trans, IsAtMost-part, IsAtMost-plus, fits-less}
-use Rattle.np_site.specs.Configuration.{Configuration, tenant_of}
-use Rattle.np_site.specs.declared.row.Job.{Job}
-use Rattle.np_site.specs.declared.row.Tenant.{Tenant}
-use Rattle.np_record.specs.declared.record.RequestRecord.{RequestRecord}
-use Rattle.np_record.specs.declared.record.NodeRecord.{NodeRecord}
-use Rattle.np_lists.specs.Change.{change_first}
-use Rattle.np_machine.specs.Entries.{RequestEntry, NodeEntry}
-use Rattle.np_machine.specs.Kinds.{is_pending}
-use Rattle.np_machine.specs.State.{State, start}
-use Rattle.np_machine.specs.Tables.{joined, left, node_entry, node_in}
-use Rattle.np_machine.specs.Count.{amount_of, amount_of_all}
+use Rattle.np_config.specs.Configuration.{Configuration, tenant_of}
 use Rattle.np_machine.specs.Tenants.{is_tenant, tenant_of_request, amount_of_node, rest_of_request, is_pending_of, limit_of_tenant, count_of_tenant, tenant_never_fits, is_short_of}
-use Rattle.np_machine.specs.Reasons.{first_unoffered, never_fits}
 use Rattle.np_machine.specs.First.{may_fit, short_tenant, blocking}
-use Rattle.np_machine.specs.Node.{allocated}
-use Rattle.np_machine.specs.Request.{next_id}
 use Rattle.np_machine.specs.Safe.{WithinTenantQuota}
-use Rattle.np_changes.specs.Asked.{new_record}
 use Rattle.np_changes.specs.declared.asked.Asked.{Asked}
 use Rattle.np_changes.specs.declared.changes.Maker.{Maker}
 use Rattle.np_changes.specs.declared.changes.Changes.{Changes}
@@ -39,8 +16,6 @@ use Rattle.np_changes.specs.declared.changes.Growth.TheVariants as grow
 use Rattle.np_changes.specs.declared.changes.RequestEdit.TheVariants as edit
 use Rattle.np_changes.specs.declared.changes.RequestsChange.{RequestsChange}
 use Rattle.np_changes.specs.declared.changes.RequestsChange.TheVariants as requests
-use Rattle.np_changes.specs.Changes.{by_maker, grown, requests_changed, changed}
-use Rattle.np_changes.specs.Plan.{new_node}
 use Rattle.np_changes.specs.Premises.{AsksForJob, AsksToKeep, IsTaken, IsMade, Gains, GrowthPremise, MayServe, RequestsPremise, Premises}
 use Rattle.np_laws.specs.Parts.{Invariant}
 use Rattle.np_laws.proofs.Ids.{same_pool, same_label, same_tenant, kept-is}

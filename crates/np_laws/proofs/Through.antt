@@ -1,10 +1,7 @@
 -- the way through a plan: what holds if nothing changes, and for each thing that is found, holds
 -- for the plan
 use Rattle.std.proofs.Common.{◌≡◌, refl, Option, Some, None, Result, Ok, Err}
-use Rattle.np_text.specs.declared.id.SessionId.{SessionId}
-use Rattle.np_text.specs.declared.id.Role.{Role}
-use Rattle.np_event.specs.declared.reply.Refusal.{Refusal}
-use Rattle.np_changes.specs.Plan.{same, with_found, with_given, made_by}
+use Rattle.np_changes.specs.Prelude.{Refusal, Role, SessionId, made_by, same, with_found, with_given}
 use Rattle.np_changes.specs.declared.changes.Changes.{Changes}
 
 module _ (P : Changes → Type 0) (nothing : P same) where

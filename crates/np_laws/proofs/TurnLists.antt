@@ -2,8 +2,7 @@
 use Rattle.std.proofs.Common.{◌≡◌, ℕ, ◌+◌, List, [], ◌∷◌, ◌++◌, arith, Bool, true, false, cond, ◌&&◌, inl, inr}
 use Rattle.std.proofs.lemmas.Bool.{false≢true, cond-true, cond-false}
 use Rattle.std.proofs.lemmas.List.Sums.{sum_by-cons, sum_by_push}
-use Rattle.np_text.specs.declared.id.NodeId.{NodeId}
-use Rattle.np_machine.specs.Turns.{Turn, SomeTurn, EachTurn, is_done}
+use Rattle.np_changes.specs.Prelude.{EachTurn, NodeId, SomeTurn, Turn, is_done}
 use Rattle.np_machine.specs.Caused.{is_report_on, ReportsFailure, reports_on}
 
 pub some-before : (P : Turn → Type 0) (ts : List Turn) (t : Turn) → SomeTurn P ts → SomeTurn P (ts ++ t ∷ [])

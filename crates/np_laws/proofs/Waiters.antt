@@ -1,18 +1,6 @@
 -- who waits at a request after an event: those who did before, and the maker if it joins
 use Rattle.std.proofs.Common.{◌≡◌, ◌∙◌, sym, ℕ, ◌<◌, List, [], refl, ap, subst, Option, Some, None, Bool, true, false, cond}
-use Rattle.std.specs.List.{AllByRecursion}
-use Rattle.np_text.specs.declared.id.SessionId.{SessionId}
-use Rattle.np_text.specs.declared.id.RequestId.{RequestId}
-use Rattle.np_site.specs.Configuration.{Configuration}
-use Rattle.np_record.specs.declared.record.RequestRecord.{RequestRecord}
-use Rattle.np_lists.specs.Rising.{Rises}
-use Rattle.np_machine.specs.Entries.{RequestEntry}
-use Rattle.np_machine.specs.State.{State}
-use Rattle.np_machine.specs.Order.{is_id_before}
-use Rattle.np_machine.specs.Tables.{same_request, joined, left, request_in, request_queue, put_request_queue}
-use Rattle.np_machine.specs.Request.{next_id}
-use Rattle.np_changes.specs.Asked.{new_record}
-use Rattle.np_changes.specs.Changes.{grown, edited, requests_changed, requests_left, changed}
+use Rattle.np_changes.specs.Prelude.{AllByRecursion, Configuration, RequestEntry, RequestId, RequestRecord, Rises, SessionId, State, changed, edited, grown, is_id_before, joined, left, new_record, next_id, put_request_queue, request_in, request_queue, requests_changed, requests_left, same_request}
 use Rattle.np_changes.specs.declared.asked.Asked.{Asked}
 use Rattle.np_changes.specs.declared.changes.Maker.{Maker}
 use Rattle.np_changes.specs.declared.changes.Changes.{Changes}
@@ -23,10 +11,11 @@ use Rattle.np_changes.specs.declared.changes.RequestsChange.TheVariants as reque
 use Rattle.np_changes.specs.declared.changes.SessionsChange.{SessionsChange}
 use Rattle.np_changes.specs.declared.changes.SessionsChange.TheVariants as sessions
 use Rattle.np_laws.specs.Parts.{IsNumbered}
-use Rattle.np_laws.proofs.Lookups.{same_request-is, request_in-queue, request_in-later, request_queue-edit, request_queue-queue, request_queue-nowhere, request_queue-left, request_queue-insert, request_queue-new, request_queue-remove, request_queue-removed}
+use Rattle.np_laws.proofs.Lookups.{request_in-queue, request_in-later, request_queue-edit, request_queue-queue, request_queue-nowhere, request_queue-left, request_queue-insert, request_queue-new, request_queue-remove, request_queue-removed}
 use Rattle.np_laws.proofs.Numbered.{grown-numbered}
 use Rattle.np_laws.proofs.NextNumbers.{same-seq}
 use Rattle.np_laws.proofs.LiveQueues.{all-joined, all-left}
+use Rattle.np_machine.proofs.Ids.{request-equal}
 
 module _ (P : SessionId → Type 0) where
   -- the members of the queue that is found, if they meet the condition
@@ -36,7 +25,7 @@ module _ (P : SessionId → Type 0) where
   queue-put : (x r : RequestId) (queue : List SessionId) (rows : List RequestEntry) → AllByRecursion P (request_queue r rows) → (x ≡ r → AllByRecursion P queue) → AllByRecursion P (request_queue r (put_request_queue x queue rows))
   queue-put x r queue rows all new = by (request_in r rows) refl where
     choose : (b : Bool) → same_request x r ≡ b → AllByRecursion P (cond b queue (request_queue r rows))
-    choose true same = new (same_request-is x r same)
+    choose true same = new (request-equal x r same)
     choose false other = all
 
     by : (o : Option RequestRecord) → request_in r rows ≡ o → AllByRecursion P (request_queue r (put_request_queue x queue rows))

@@ -1,37 +1,13 @@
 -- what the pending requests of a tenant wait for, after a change
 use Rattle.std.proofs.Common.{◌≡◌, ℕ, suc, ◌&&◌, Bool, true, false, cond, List, [], ◌∷◌, ◌++◌, length, length-append, drop, slice_get, Option, Some, None, refl, sym, ap, ◌∙◌, subst, arith}
-use Rattle.std.specs.Option.{option_map_or}
+use Rattle.np_changes.specs.Prelude.{Amount, Configuration, IsAtMost, LabelId, NodeId, PoolId, Reason, RequestEntry, RequestId, RequestRecord, SessionId, TenantId, amount_of, amount_of_all, by_maker, change_first, edited, insert_request, is_id_before, is_pending, is_pending_by, is_pool, is_tenant, next_label, nothing, option_map_or, plus, put_request_queue, remove_request, request_entry, request_in, request_left, request_queue, requests_left, same_request, tenant_of_request, with_node}
 use Rattle.std.proofs.lemmas.Bool.{and_parts}
-use Rattle.np_text.specs.declared.id.SessionId.{SessionId}
-use Rattle.np_text.specs.declared.id.PoolId.{PoolId}
-use Rattle.np_text.specs.declared.id.LabelId.{LabelId}
-use Rattle.np_text.specs.declared.id.NodeId.{NodeId}
-use Rattle.np_text.specs.declared.id.RequestId.{RequestId}
-use Rattle.np_text.specs.declared.id.TenantId.{TenantId}
-use Rattle.np_text.specs.declared.word.Reason.{Reason}
-use Rattle.np_amount.specs.declared.amount.Amount.{Amount}
-use Rattle.np_amount.specs.Amounts.{nothing, plus, IsAtMost}
 use Rattle.np_amount.proofs.Sums.{plus-comm, nothing-plus, IsAtMost-refl, IsAtMost-trans}
-use Rattle.np_site.specs.Configuration.{Configuration}
-use Rattle.np_record.specs.declared.record.RequestRecord.{RequestRecord}
-use Rattle.np_machine.specs.Entries.{RequestEntry}
-use Rattle.np_machine.specs.Kinds.{is_pending}
-use Rattle.np_machine.specs.Tables.{same_request, request_entry, request_in, request_queue, put_request_queue, remove_request}
-use Rattle.np_machine.specs.Count.{amount_of, amount_of_all}
-use Rattle.np_machine.specs.Tenants.{is_tenant, tenant_of_request}
-use Rattle.np_machine.specs.Order.{is_pool, is_pending_by}
-use Rattle.np_machine.specs.Reasons.{next_label}
-use Rattle.np_machine.specs.Request.{insert_request}
-use Rattle.np_machine.specs.Node.{with_node}
-use Rattle.np_machine.specs.Session.{request_left}
-use Rattle.np_machine.specs.Order.{is_id_before}
-use Rattle.np_lists.specs.Change.{change_first}
 use Rattle.np_changes.specs.declared.changes.Maker.{Maker}
 use Rattle.np_changes.specs.declared.changes.RequestEdit.TheVariants as edit
 use Rattle.np_changes.specs.declared.changes.SessionsChange.{SessionsChange}
 use Rattle.np_changes.specs.declared.changes.SessionsChange.TheVariants as sessions
 use Rattle.np_changes.specs.declared.changes.RequestEdit.{RequestEdit}
-use Rattle.np_changes.specs.Changes.{by_maker, edited, requests_left}
 use Rattle.np_laws.proofs.Ids.{same_pool, row-of, kept-is}
 use Rattle.np_laws.proofs.Sums.{at_most-same, nothing-at_most, part-at_most, plus-nothing, sum_of, sum_of-insert_before, sum_of-remove_first, sum_of-drop, sum_of-next, sum_of-map, sum_of-rise, sum_of-keep, sum_of-fall}
 
@@ -66,7 +42,7 @@ edited_in change r rows = change_first (λ e. same_request e.id r) (λ e. record
 -- ## one record
 
 -- a pool that serves is the one in the option
-served-by : (p : PoolId) (o : Option PoolId) → is_pool p o ≡ true → o ≡ Some p
+pub served-by : (p : PoolId) (o : Option PoolId) → is_pool p o ≡ true → o ≡ Some p
 served-by p None is = absurd cc
 served-by p (Some other) is = ap Some (same_pool other p is)
 

@@ -1,18 +1,7 @@
 -- each request has a job or is pinned, after the changes of an accepted event
 use Rattle.std.proofs.Common.{◌≡◌, ◌∙◌, sym, subst, ℕ, ◌<◌, ◌≤◌, ◌⊎◌, inl, inr, Bool, true, false, is_some, is_none, List, [], refl, Some, None}
-use Rattle.std.specs.List.{AllByRecursion}
+use Rattle.np_changes.specs.Prelude.{AllByRecursion, AsksForJob, AsksToKeep, Configuration, GoesFulfilled, GoesWithdrawn, GrowthPremise, Premises, RequestEntry, RequestId, RequestRecord, RequestsPremise, Rises, State, TakesOver, change_first, changed, edited, grown, insert_request, is_id_before, new_record, next_id, remove_request, request_in, requests_changed, same_request}
 use Rattle.std.proofs.lemmas.Option.{none-some, same_Some}
-use Rattle.np_text.specs.declared.id.RequestId.{RequestId}
-use Rattle.np_site.specs.Configuration.{Configuration}
-use Rattle.np_record.specs.declared.record.RequestRecord.{RequestRecord}
-use Rattle.np_lists.specs.Change.{change_first}
-use Rattle.np_lists.specs.Rising.{Rises}
-use Rattle.np_machine.specs.Entries.{RequestEntry}
-use Rattle.np_machine.specs.State.{State}
-use Rattle.np_machine.specs.Tables.{same_request, request_in, remove_request}
-use Rattle.np_machine.specs.Order.{is_id_before}
-use Rattle.np_machine.specs.Request.{insert_request, next_id}
-use Rattle.np_changes.specs.Asked.{new_record}
 use Rattle.np_changes.specs.declared.asked.Asked.{Asked}
 use Rattle.np_changes.specs.declared.changes.Changes.{Changes}
 use Rattle.np_changes.specs.declared.changes.Growth.{Growth}
@@ -21,8 +10,6 @@ use Rattle.np_changes.specs.declared.changes.RequestEdit.{RequestEdit}
 use Rattle.np_changes.specs.declared.changes.RequestEdit.TheVariants as edit
 use Rattle.np_changes.specs.declared.changes.RequestsChange.{RequestsChange}
 use Rattle.np_changes.specs.declared.changes.RequestsChange.TheVariants as requests
-use Rattle.np_changes.specs.Changes.{grown, edited, requests_changed, changed}
-use Rattle.np_changes.specs.Premises.{AsksForJob, AsksToKeep, GrowthPremise, GoesFulfilled, TakesOver, GoesWithdrawn, RequestsPremise, Premises}
 use Rattle.np_laws.specs.Parts.{JobsOrPinned, Invariant}
 use Rattle.np_laws.proofs.Lookups.{request_in-edit, request_in-insert, request_in-new, request_in-remove, request_in-removed, request_in-later}
 use Rattle.np_laws.proofs.NextNumbers.{same-seq}

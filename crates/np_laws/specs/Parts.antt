@@ -1,30 +1,10 @@
 -- what holds of every state that a run leads to, part by part
 use Rattle.std.specs.Prelude.{◌≡◌, ◌<◌, ◌≤◌, ℕ, ◌==◌, true, false, List, [], ◌∷◌, Some, None, is_some, is_none, length, slice_get, nat_lt}
-use Rattle.std.specs.List.{AllByRecursion, list_any}
-use Rattle.np_text.specs.declared.id.SessionId.{SessionId}
-use Rattle.np_text.specs.declared.id.PoolId.{PoolId}
-use Rattle.np_text.specs.declared.id.LabelId.{LabelId}
-use Rattle.np_text.specs.declared.id.JobId.{JobId}
-use Rattle.np_text.specs.declared.id.NodeId.{NodeId}
-use Rattle.np_text.specs.declared.id.RequestId.{RequestId}
-use Rattle.np_text.specs.declared.id.Role.TheVariants.{Launcher}
+use Rattle.np_changes.specs.Prelude.{AllByRecursion, Configuration, JobId, JobRecord, LabelId, Launcher, NodeId, NodeRecord, Phase, PoolId, RequestId, RequestRecord, RequestState, Rises, SessionFacts, SessionId, State, is_building, is_failed_node, is_id_before, is_queued, is_request, list_any, node_in, request_in, retries_of, session_of}
 use Rattle.np_text.specs.declared.word.Ending.TheVariants as ending
-use Rattle.np_text.specs.declared.word.Phase.{Phase}
 use Rattle.np_text.specs.declared.word.Phase.TheVariants as phase
-use Rattle.np_text.specs.declared.word.RequestState.{RequestState}
 use Rattle.np_text.specs.declared.word.RequestState.TheVariants as request_state
-use Rattle.np_site.specs.Configuration.{Configuration}
-use Rattle.np_record.specs.declared.record.RequestRecord.{RequestRecord}
-use Rattle.np_record.specs.declared.record.NodeRecord.{NodeRecord}
-use Rattle.np_record.specs.declared.record.JobRecord.{JobRecord}
-use Rattle.np_lists.specs.Rising.{Rises}
-use Rattle.np_machine.specs.declared.state.SessionFacts.{SessionFacts}
-use Rattle.np_machine.specs.Count.{retries_of}
-use Rattle.np_machine.specs.Kinds.{is_building, is_failed_node}
-use Rattle.np_machine.specs.Tables.{session_of, is_queued, request_in, is_request, node_in}
-use Rattle.np_machine.specs.Order.{is_id_before}
 use Rattle.np_machine.specs.Safe.{WithinQuota, WithinMax, WithinTenantQuota, DistinctNodes, OwnsItsLabels}
-use Rattle.np_machine.specs.State.{State}
 
 -- ## numbers
 

@@ -1,11 +1,7 @@
 //! What holds of every run.
 
 ghost use Rattle.std.specs.Prelude.{List};
-ghost use Rattle.np_site.specs.Configuration.{Configuration};
-ghost use Rattle.np_event.specs.declared.entry.Entry.{Entry};
-ghost use Rattle.np_machine.specs.State.{State};
-ghost use Rattle.np_machine.specs.History.{Runs};
-ghost use Rattle.np_machine.specs.Caused.{Caused};
+ghost use Rattle.np_changes.specs.Prelude.{Caused, Configuration, Entry, Runs, State};
 ghost use Rattle.np_laws.specs.Steps.{AfterEveryStep};
 
 /// Each turn of a run that makes a request fail has its cause, at it or before it: every pool that

@@ -1,12 +1,7 @@
 //! What holds of every run.
 
 ghost use Rattle.std.specs.Prelude.{List};
-ghost use Rattle.np_site.specs.Configuration.{Configuration};
-ghost use Rattle.np_event.specs.declared.entry.Entry.{Entry};
-ghost use Rattle.np_machine.specs.State.{State};
-ghost use Rattle.np_machine.specs.History.{Runs};
-ghost use Rattle.np_machine.specs.Kept.{Kept};
-ghost use Rattle.np_machine.specs.Fenced.{Fenced};
+ghost use Rattle.np_changes.specs.Prelude.{Configuration, Entry, Fenced, Kept, Runs, State};
 ghost use Rattle.np_laws.specs.Steps.{AfterEveryStep};
 
 /// A crash or an expiry changes no record; each request and each node that a run made still exists,

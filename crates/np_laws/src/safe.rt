@@ -1,27 +1,10 @@
 //! What holds of every run.
 
 ghost use Rattle.std.specs.Prelude.{◌≡◌, ◌≤◌, List, Some, IsTrue, true, length, slice_get};
-ghost use Rattle.np_amount.specs.Amounts.{fits};
-ghost use Rattle.np_text.specs.declared.id.SessionId.{SessionId};
-ghost use Rattle.np_text.specs.declared.id.PoolId.{PoolId};
-ghost use Rattle.np_text.specs.declared.id.SemId.{SemId};
-ghost use Rattle.np_text.specs.declared.id.TenantId.{TenantId};
-ghost use Rattle.np_text.specs.declared.id.NodeId.{NodeId};
-ghost use Rattle.np_text.specs.declared.id.RequestId.{RequestId};
-ghost use Rattle.np_site.specs.Configuration.{Configuration, tenant_of};
-ghost use Rattle.np_site.specs.declared.row.Pool.{Pool};
-ghost use Rattle.np_site.specs.declared.row.Sem.{Sem};
-ghost use Rattle.np_site.specs.declared.row.Tenant.{Tenant};
-ghost use Rattle.np_record.specs.declared.record.RequestRecord.{RequestRecord};
-ghost use Rattle.np_event.specs.declared.entry.Entry.{Entry};
-ghost use Rattle.np_machine.specs.State.{State};
-ghost use Rattle.np_machine.specs.Kinds.{is_fulfilled};
-ghost use Rattle.np_machine.specs.Tables.{is_session_of, request_in, request_holder, node_holder, handles_of};
-ghost use Rattle.np_machine.specs.Count.{count_of};
-ghost use Rattle.np_machine.specs.Tenants.{count_of_tenant};
+ghost use Rattle.np_changes.specs.Prelude.{Entry, NodeId, Pool, PoolId, RequestId, RequestRecord, Runs, Sem, SemId, SessionId, State, Tenant, TenantId, count_of, count_of_tenant, fits, handles_of, is_fulfilled, is_session_of, node_holder, request_holder, request_in};
+ghost use Rattle.np_config.specs.Configuration.{Configuration, tenant_of};
 ghost use Rattle.np_machine.specs.LiveHolder.{IsLiveHolder, IsLiveRequestHolder};
 ghost use Rattle.np_machine.specs.Safe.{NoRepeat, OwnsItsLabels, Safe};
-ghost use Rattle.np_machine.specs.History.{Runs};
 ghost use Rattle.np_laws.specs.Parts.{Invariant};
 ghost use Rattle.np_laws.specs.Steps.{AfterEveryStep};
 

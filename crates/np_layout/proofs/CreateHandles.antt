@@ -1,32 +1,17 @@
 -- a create of a semaphore's handle
 use Rattle.std.proofs.Common.{◌≡◌, ℕ, zero, suc, ◌+◌, ◌<◌, ◌≤◌, ◌^◌, eqb, Bool, true, false, cond, ◌||◌, List, [], ◌∷◌, length, map, unwrap_or, Option, Some, None, refl, sym, ap, ◌∙◌, subst, arith}
 use Rattle.std.specs.Prelude.{◌==◌, slice_get, nat_lt}
-use Rattle.std.specs.List.{AllByRecursion, list_any, range_with_len}
-use Rattle.std.specs.Option.{option_map}
-use Rattle.std.proofs.lemmas.Bool.{eqb-false, eqb-true}
+use Rattle.np_machine.specs.Prelude.{AllByRecursion, JobId, NonePass, SemId, State, change_at, handles_of, has_handle, insert_before, list_any, option_map, range_with_len, with_handle}
+use Rattle.std.proofs.lemmas.Bool.{eqb-false, eqb-true, or_right, or_left}
 use Rattle.std.proofs.lemmas.Bool.Decides.{nat_tests}
-use Rattle.np_text.specs.declared.id.JobId.{JobId}
-use Rattle.np_text.specs.declared.id.SemId.{SemId}
-use Rattle.np_lists.specs.Change.{change_at, insert_before}
-use Rattle.np_lists.specs.Rising.{NonePass}
 use Rattle.np_lists.proofs.ChangeLemmas.{length-change_at, slice_get-change_at, slice_get-change_at_other}
 use Rattle.np_lists.proofs.Each.{all-at, all-map, all-weaker}
 use Rattle.np_lists.proofs.FilterLemmas.{none-list_any}
-use Rattle.np_session.specs.Known.{is_in}
-use Rattle.np_nodes.specs.TreeState.{TreeState}
-use Rattle.np_nodes.specs.After.{after_part}
-use Rattle.np_nodes.specs.declared.kind.Mode.TheVariants.{Persistent}
-use Rattle.np_tree.specs.Whole.{IsWhole}
-use Rattle.np_views.specs.Goes.{owner_at}
-use Rattle.np_views.specs.Several.{HasRoomFor}
-use Rattle.np_views.specs.Views.{Row, is_named, with_row}
-use Rattle.np_views.proofs.RoomLemmas.{room-gives}
-use Rattle.np_machine.specs.Semaphore.{with_handle}
-use Rattle.np_machine.specs.State.{State}
-use Rattle.np_machine.specs.Tables.{handles_of, has_handle}
-use Rattle.np_places.specs.Place.{IsGood, path_of, place_name}
-use Rattle.np_places.specs.declared.place.Place.{Place}
-use Rattle.np_places.specs.declared.place.Place.TheVariants.{Semaphores, Semaphore, Handle, Job}
+use Rattle.np_tree.specs.Prelude.{HasRoomFor, IsWhole, Persistent, Row, TreeState, after_part, is_in, is_named, owner_at, with_row}
+use Rattle.np_tree.proofs.ViewRoomLemmas.{room-gives}
+use Rattle.np_layout.specs.Place.{IsGood, path_of, place_name}
+use Rattle.np_layout.specs.declared.place.Place.{Place}
+use Rattle.np_layout.specs.declared.place.Place.TheVariants.{Semaphores, Semaphore, Handle, Job}
 use Rattle.np_layout.specs.Creates.{HandlesLayOut}
 use Rattle.np_layout.specs.First.{make}
 use Rattle.np_layout.specs.Layout.{HasHandles, LaysOut}
@@ -38,18 +23,11 @@ use Rattle.np_layout.proofs.Elsewhere.{frame-stays, handles-stay, jobs-stay, lau
 use Rattle.np_layout.proofs.FirstLists.{all-put}
 use Rattle.np_layout.proofs.SetLists.{any-by_name, at-range}
 use Rattle.np_layout.proofs.SetSteps.{named-here, named-other}
-
-or-first : (b c : Bool) → b ≡ true → (b || c) ≡ true
-or-first true c is = refl
-or-first false c is = absurd cc
-
-or-last : (b c : Bool) → c ≡ true → (b || c) ≡ true
-or-last true c is = refl
-or-last false c is = is
+use Rattle.np_lists.proofs.Plain.{member-there}
 
 range-by : (test : Row → Bool) (row : ℕ → Row) (k at : ℕ) (rest b : Bool) → eqb k at ≡ b → test (row k) ≡ true → ((k ≡ at → ⊥) → rest ≡ true) → (test (row at) || rest) ≡ true
-range-by test row k at rest true is passes later = or-first (test (row at)) rest (subst (λ (n : ℕ). test (row n) ≡ true) (eqb-true k at is) passes)
-range-by test row k at rest false is passes later = or-last (test (row at)) rest (later (eqb-false k at is))
+range-by test row k at rest true is passes later = or_left (test (row at)) rest (subst (λ (n : ℕ). test (row n) ≡ true) (eqb-true k at is) passes)
+range-by test row k at rest false is passes later = or_right (test (row at)) rest (later (eqb-false k at is))
 
 -- the row of each number is among those of a range
 range-any : (test : Row → Bool) (row : ℕ → Row) (k count at : ℕ) → at ≤ k → k < at + count → test (row k) ≡ true → list_any test (map row (range_with_len at count)) ≡ true
@@ -57,16 +35,10 @@ range-any test row k zero at from low passes = absurd (omega arith)
 range-any test row k (suc count) at from low passes =
     range-by test row k at (list_any test (map row (range_with_len (at + 1) count))) (eqb k at) refl passes (λ other. range-any test row k count (at + 1) (omega arith) (omega arith) passes)
 
--- a list has a member at each place in it
-member : {A : Type 0} (list : List A) (at : ℕ) → at < length list → (a : A) × (slice_get list at ≡ Some a)
-member [] at low = absurd (omega arith)
-member (a ∷ list) zero low = (a, refl)
-member (a ∷ list) (suc at) low = member list at (omega arith)
-
 -- the handles of a semaphore have places
 pub handles-good : (s : State) (x : SemId) → HasGoodIds s → x.0 < length s.handles → AllByRecursion (λ k. IsGood (Handle x k)) (handles_of x s.handles)
 handles-good s x good low =
-    let there : (list : List JobId) × (slice_get s.handles x.0 ≡ Some list) = member s.handles x.0 low in
+    let there : (list : List JobId) × (slice_get s.handles x.0 ≡ Some list) = member-there s.handles x.0 low in
     let jobs-is : handles_of x s.handles ≡ there.0 = ap (λ (o : Option (List JobId)). unwrap_or o []) there.1 in
     let x-good : x.0 < 2 ^ 16 = (let few = good.semaphores in omega arith) in
     subst (λ (list : List JobId). AllByRecursion (λ k. IsGood (Handle x k)) list) (sym jobs-is)
@@ -95,7 +67,7 @@ module _ (s : State) (t : TreeState) (w : ℕ) (x : SemId) (j : JobId) (whole : 
   j-good = (x-good, small)
 
   there : (list : List JobId) × (slice_get s.handles x.0 ≡ Some list)
-  there = member s.handles x.0 low
+  there = member-there s.handles x.0 low
 
   jobs-is : jobs ≡ there.0
   jobs-is = ap (λ (o : Option (List JobId)). unwrap_or o []) there.1

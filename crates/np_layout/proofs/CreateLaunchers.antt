@@ -1,31 +1,16 @@
 -- a create of a launcher's registration
 use Rattle.std.proofs.Common.{◌≡◌, ℕ, true, false, List, [], ◌∷◌, map, Option, Some, None, refl, sym, ap, ◌∙◌, subst, arith}
 use Rattle.std.specs.Prelude.{◌==◌, find, nat_lt}
-use Rattle.std.specs.List.{AllByRecursion, list_any}
-use Rattle.std.specs.Option.{option_map}
+use Rattle.np_machine.specs.Prelude.{AllByRecursion, NonePass, PoolId, SessionId, State, list_any, option_map, registered, registers}
 use Rattle.std.proofs.lemmas.Bool.Decides.{nat_tests}
-use Rattle.np_text.specs.declared.id.PoolId.{PoolId}
-use Rattle.np_text.specs.declared.id.SessionId.{SessionId}
-use Rattle.np_lists.specs.Rising.{NonePass}
 use Rattle.np_lists.proofs.Halves.{none-find}
-use Rattle.np_session.specs.Known.{is_in}
-use Rattle.np_nodes.specs.TreeState.{TreeState}
-use Rattle.np_nodes.specs.After.{after_part}
-use Rattle.np_nodes.specs.declared.kind.Mode.TheVariants.{Ephemeral}
-use Rattle.np_nodes.specs.declared.op.Op.{Op}
+use Rattle.np_tree.specs.Prelude.{Ephemeral, HasRoomFor, IsWhole, Op, Row, TreeState, after_part, is_in, is_named, owner_at, with_row}
 use Rattle.np_nodes.specs.declared.op.Op.TheVariants as op
-use Rattle.np_tree.specs.Whole.{IsWhole}
-use Rattle.np_views.specs.Goes.{owner_at}
-use Rattle.np_views.specs.Several.{HasRoomFor}
-use Rattle.np_views.specs.Views.{Row, is_named, with_row}
-use Rattle.np_views.proofs.RoomLemmas.{room-gives}
-use Rattle.np_machine.specs.Request.{registers}
-use Rattle.np_machine.specs.State.{State}
-use Rattle.np_machine.specs.Tables.{registered}
+use Rattle.np_tree.proofs.ViewRoomLemmas.{room-gives}
 use Rattle.np_machine.specs.declared.state.Registration.{Registration}
-use Rattle.np_places.specs.Place.{IsGood, path_of, place_name}
-use Rattle.np_places.specs.declared.place.Place.{Place}
-use Rattle.np_places.specs.declared.place.Place.TheVariants.{Nodepool, Launchers, Launcher}
+use Rattle.np_layout.specs.Place.{IsGood, path_of, place_name}
+use Rattle.np_layout.specs.declared.place.Place.{Place}
+use Rattle.np_layout.specs.declared.place.Place.TheVariants.{Nodepool, Launchers, Launcher}
 use Rattle.np_layout.specs.Creates.{RegistrationsLayOut}
 use Rattle.np_layout.specs.Layout.{LaysOut}
 use Rattle.np_layout.specs.Rows.{launcher_row, tree_session}

@@ -1,31 +1,17 @@
 -- a wait at a node's lock
 use Rattle.std.proofs.Common.{◌≡◌, Bool, true, false, cond, List, [], ◌∷◌, ◌++◌, Option, Some, None, refl, sym, ap, ◌∙◌, subst}
 use Rattle.std.specs.Prelude.{◌==◌}
-use Rattle.std.specs.List.{AllByRecursion, AllZip, list_any}
-use Rattle.std.specs.Option.{option_map_or}
-use Rattle.np_text.specs.declared.id.NodeId.{NodeId}
-use Rattle.np_text.specs.declared.id.SessionId.{SessionId}
-use Rattle.np_lists.specs.Change.{change_first}
-use Rattle.np_lists.specs.Rising.{Rises}
+use Rattle.np_machine.specs.Prelude.{AllByRecursion, AllZip, NodeEntry, NodeId, Rises, SessionId, State, change_first, is_queued, joined, list_any, node_entry, node_queue, option_map_or, put_node_queue}
 use Rattle.np_lists.proofs.Each.{all-find}
 use Rattle.np_lists.proofs.FoundLemmas.{find-passes}
-use Rattle.np_session.specs.Known.{is_in}
-use Rattle.np_nodes.specs.TreeState.{TreeState}
-use Rattle.np_nodes.specs.After.{after_part}
+use Rattle.np_tree.specs.Prelude.{HasRoomFor, IsWhole, Row, TreeState, after_part, is_in, is_named, owner_at, row_before}
 use Rattle.np_nodes.proofs.PlaceLemmas.{bytes_eq-from}
-use Rattle.np_tree.specs.Whole.{IsWhole}
-use Rattle.np_views.specs.Goes.{owner_at}
-use Rattle.np_views.specs.Several.{HasRoomFor}
-use Rattle.np_views.specs.Views.{Row, is_named, row_before}
-use Rattle.np_views.proofs.RelationLemmas.{rows-rise}
-use Rattle.np_views.proofs.RoomLemmas.{room-gives}
-use Rattle.np_views.proofs.SiblingLemmas.{other-name_back}
-use Rattle.np_machine.specs.Entries.{NodeEntry}
-use Rattle.np_machine.specs.State.{State}
-use Rattle.np_machine.specs.Tables.{is_queued, joined, node_entry, node_queue, put_node_queue}
-use Rattle.np_places.specs.Place.{IsGood, path_of, place_name}
-use Rattle.np_places.specs.declared.place.Place.{Place}
-use Rattle.np_places.specs.declared.place.Place.TheVariants.{Nodes, Node, NodeLock, NodeWait}
+use Rattle.np_tree.proofs.RelationLemmas.{rows-rise}
+use Rattle.np_tree.proofs.ViewRoomLemmas.{room-gives}
+use Rattle.np_tree.proofs.SiblingLemmas.{other-name_back}
+use Rattle.np_layout.specs.Place.{IsGood, path_of, place_name}
+use Rattle.np_layout.specs.declared.place.Place.{Place}
+use Rattle.np_layout.specs.declared.place.Place.TheVariants.{Nodes, Node, NodeLock, NodeWait}
 use Rattle.np_layout.specs.Creates.{NodeWaitsLayOut, wait_at}
 use Rattle.np_layout.specs.Layout.{HasNodeLock, IsNodeRow, IsQueue, LaysOut, under}
 use Rattle.np_layout.specs.Rows.{persistent, tree_session}
@@ -33,7 +19,8 @@ use Rattle.np_layout.specs.Sets.{HasGoodIds}
 use Rattle.np_layout.proofs.CreateSteps.{owner-there}
 use Rattle.np_layout.proofs.CreateWaits.{IsLock, Waits, entries-change, waits}
 use Rattle.np_layout.proofs.Elsewhere.{frame-stays, jobs-stay, launchers-stay, live-stays, nodes-stay, queue-stays, request_locks-stay, requests-stay, roles-stay, rows-stay, semaphores-stay, sessions-stay, swept-stay}
-use Rattle.np_layout.proofs.SetNodes.{same-is, same-self}
+use Rattle.np_layout.proofs.SetNodes.{same-is}
+use Rattle.np_machine.proofs.Ids.{node-itself}
 
 abbrev id_of : Place → NodeId
 id_of (NodeLock n) = n
@@ -131,7 +118,7 @@ module _ (s : State) (t : TreeState) (session : SessionId) (n : NodeId) (e : Nod
   apart x other before = record { rows = rows-still x before; queue = queue-stays (NodeLock n ∷ []) t u one.step.creates.stays (NodeLock x.id) x.queue before.0 refl (other, tt) before.1.queue }
 
   earlier : (x : NodeEntry) → is_it x ≡ false → Before x → HasNodeLock u x
-  earlier x other = apart x (λ same. let itself = same-self x.id in let equal = ap (λ (p : Place). x.id.0 == (id_of p).0) same in absurd cc)
+  earlier x other = apart x (λ same. let itself = node-itself x.id in let equal = ap (λ (p : Place). x.id.0 == (id_of p).0) same in absurd cc)
 
   later : (x : NodeEntry) → node_before e x ≡ true → Before x → HasNodeLock u x
   later x before = apart x (λ same.

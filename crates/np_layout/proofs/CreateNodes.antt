@@ -1,34 +1,18 @@
 -- a create of a node's record, then of its lock, and then of its maker's wait
 use Rattle.std.proofs.Common.{◌≡◌, ℕ, ◌+◌, ◌<◌, ◌≤◌, ◌^◌, true, false, List, [], ◌∷◌, ◌++◌, length, Some, None, refl, sym, ap, ◌∙◌, subst, arith}
 use Rattle.std.specs.Ordering.{is_lt}
-use Rattle.std.specs.List.{AllByRecursion, AllZip, list_any}
-use Rattle.std.specs.Option.{option_map}
-use Rattle.np_text.specs.declared.id.NodeId.{NodeId}
-use Rattle.np_text.specs.declared.id.SessionId.{SessionId}
+use Rattle.np_machine.specs.Prelude.{AllByRecursion, AllZip, NodeEntry, NodeId, NodeRecord, NonePass, SessionId, State, list_any, option_map}
 use Rattle.np_text.proofs.OrderLemmas.{nat_cmp-less, nat_cmp-more, slice_cmp-ten}
-use Rattle.np_lists.specs.Rising.{NonePass}
 use Rattle.np_lists.proofs.ChangeLemmas.{insert_before-end}
 use Rattle.np_lists.proofs.Each.{all-push}
-use Rattle.np_session.specs.Known.{is_in}
-use Rattle.np_nodes.specs.TreeState.{TreeState}
-use Rattle.np_nodes.specs.After.{after_part}
-use Rattle.np_nodes.specs.declared.kind.Mode.TheVariants.{Persistent, PersistentSequential}
-use Rattle.np_nodes.specs.declared.op.Op.{Op}
+use Rattle.np_tree.specs.Prelude.{HasRoomFor, IsWhole, Op, Persistent, PersistentSequential, Row, Seen, TreeState, after_part, counter_after, is_in, is_named, owner_at, row_before, with_row}
 use Rattle.np_nodes.specs.declared.op.Op.TheVariants as op
-use Rattle.np_tree.specs.Whole.{IsWhole}
-use Rattle.np_views.specs.Goes.{owner_at}
-use Rattle.np_views.specs.Relations.{counter_after}
-use Rattle.np_views.specs.Several.{HasRoomFor}
-use Rattle.np_views.specs.Views.{Row, Seen, is_named, row_before, with_row}
-use Rattle.np_views.proofs.RoomLemmas.{room-falls, room-gives}
-use Rattle.np_views.proofs.SiblingLemmas.{other-name}
-use Rattle.np_record.specs.declared.record.NodeRecord.{NodeRecord}
+use Rattle.np_tree.proofs.ViewRoomLemmas.{room-falls, room-gives}
+use Rattle.np_tree.proofs.SiblingLemmas.{other-name}
 use Rattle.np_spelling.specs.Spelling.{SpellsNode}
-use Rattle.np_machine.specs.Entries.{NodeEntry}
-use Rattle.np_machine.specs.State.{State}
-use Rattle.np_places.specs.Place.{IsGood, path_of, place_name}
-use Rattle.np_places.specs.declared.place.Place.{Place}
-use Rattle.np_places.specs.declared.place.Place.TheVariants.{Nodepool, Nodes, Node, NodeLock, NodeWait}
+use Rattle.np_layout.specs.Place.{IsGood, path_of, place_name}
+use Rattle.np_layout.specs.declared.place.Place.{Place}
+use Rattle.np_layout.specs.declared.place.Place.TheVariants.{Nodepool, Nodes, Node, NodeLock, NodeWait}
 use Rattle.np_layout.specs.Creates.{GrownNodesLayOut, wait_at}
 use Rattle.np_layout.specs.First.{make}
 use Rattle.np_layout.specs.Layout.{HasNodeLock, IsNodeRow, IsQueue, IsWait, LaysOut, under}

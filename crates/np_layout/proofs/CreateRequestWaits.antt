@@ -1,29 +1,16 @@
 -- a wait at a request's lock
 use Rattle.std.proofs.Common.{◌≡◌, Bool, true, false, cond, List, [], ◌∷◌, ◌++◌, Option, Some, None, refl, sym, ap, ◌∙◌, subst}
-use Rattle.std.specs.List.{AllByRecursion, list_any}
-use Rattle.std.specs.Option.{option_map_or}
-use Rattle.np_text.specs.declared.id.RequestId.{RequestId}
-use Rattle.np_text.specs.declared.id.SessionId.{SessionId}
+use Rattle.np_machine.specs.Prelude.{AllByRecursion, RequestEntry, RequestId, Rises, SessionId, State, is_queued, joined, list_any, option_map_or, put_request_queue, request_entry, request_queue, same_request}
 use Rattle.np_lists.proofs.Each.{all-find, all-map}
 use Rattle.np_lists.proofs.FoundLemmas.{find-passes}
-use Rattle.np_session.specs.Known.{is_in}
-use Rattle.np_nodes.specs.TreeState.{TreeState}
-use Rattle.np_nodes.specs.After.{after_part}
+use Rattle.np_tree.specs.Prelude.{HasRoomFor, IsWhole, Row, TreeState, after_part, is_in, is_named, owner_at, row_before}
 use Rattle.np_nodes.proofs.PlaceLemmas.{bytes_eq-from}
-use Rattle.np_tree.specs.Whole.{IsWhole}
-use Rattle.np_views.specs.Goes.{owner_at}
-use Rattle.np_views.specs.Several.{HasRoomFor}
-use Rattle.np_views.specs.Views.{Row, is_named, row_before}
-use Rattle.np_views.proofs.RelationLemmas.{rows-rise}
-use Rattle.np_views.proofs.RoomLemmas.{room-gives}
-use Rattle.np_views.proofs.SiblingLemmas.{other-name_back}
-use Rattle.np_machine.specs.Entries.{RequestEntry}
-use Rattle.np_machine.specs.State.{State}
-use Rattle.np_machine.specs.Tables.{is_queued, joined, put_request_queue, request_entry, request_queue, same_request}
-use Rattle.np_places.specs.Place.{IsGood, path_of, place_name}
-use Rattle.np_places.specs.declared.place.Place.{Place}
-use Rattle.np_places.specs.declared.place.Place.TheVariants.{Request, RequestLocks, RequestLock, RequestWait}
-use Rattle.np_lists.specs.Rising.{Rises}
+use Rattle.np_tree.proofs.RelationLemmas.{rows-rise}
+use Rattle.np_tree.proofs.ViewRoomLemmas.{room-gives}
+use Rattle.np_tree.proofs.SiblingLemmas.{other-name_back}
+use Rattle.np_layout.specs.Place.{IsGood, path_of, place_name}
+use Rattle.np_layout.specs.declared.place.Place.{Place}
+use Rattle.np_layout.specs.declared.place.Place.TheVariants.{Request, RequestLocks, RequestLock, RequestWait}
 use Rattle.np_layout.specs.Creates.{RequestWaitsLayOut, wait_at}
 use Rattle.np_layout.specs.Layout.{IsQueue, LaysOut}
 use Rattle.np_layout.specs.Rows.{request_lock_row, request_row, tree_session}
@@ -31,8 +18,8 @@ use Rattle.np_layout.specs.Sets.{HasGoodIds}
 use Rattle.np_layout.proofs.CreateSteps.{owner-there}
 use Rattle.np_layout.proofs.CreateWaits.{IsLock, Waits, entries-change, found-any, map-kept, rises-unmapped, waits}
 use Rattle.np_layout.proofs.Elsewhere.{frame-stays, jobs-stay, launchers-stay, live-stays, node_locks-stay, nodes-stay, queue-stays, requests-stay, roles-stay, rows-stay, semaphores-stay, sessions-stay, swept-stay}
-use Rattle.np_layout.proofs.SetRequests.{same-is, same-self}
 use Rattle.np_layout.proofs.SetSteps.{named-here}
+use Rattle.np_machine.proofs.Ids.{request-equal, request-itself}
 
 abbrev id_of : Place → RequestId
 id_of (RequestLock id) = id
@@ -53,7 +40,7 @@ module _ (s : State) (t : TreeState) (session : SessionId) (r : RequestId) (e : 
   with_queue x = record x { queue = queue }
 
   e-is : e.id ≡ r
-  e-is = same-is e.id r (find-passes is_it s.requests e there)
+  e-is = request-equal e.id r (find-passes is_it s.requests e there)
 
   r-good : IsGood (RequestLock r)
   r-good = subst (λ (id : RequestId). IsGood (RequestLock id)) e-is (all-find (λ (x : RequestEntry). IsGood (Request x.id)) is_it s.requests e good.requests there)
@@ -93,7 +80,7 @@ module _ (s : State) (t : TreeState) (session : SessionId) (r : RequestId) (e : 
   apart x other before = queue-stays (RequestLock r ∷ []) t u one.step.creates.stays (RequestLock x.id) x.queue before.0 refl (other, tt) before.1
 
   earlier : (x : RequestEntry) → is_it x ≡ false → Before x → After x
-  earlier x other = apart x (λ same. let itself = same-self x.id in let equal = ap (λ (p : Place). same_request x.id (id_of p)) same in absurd cc)
+  earlier x other = apart x (λ same. let itself = request-itself x.id in let equal = ap (λ (p : Place). same_request x.id (id_of p)) same in absurd cc)
 
   later : (x : RequestEntry) → row_before (request_lock_row e) (request_lock_row x) ≡ true → Before x → After x
   later x before = apart x (λ same.

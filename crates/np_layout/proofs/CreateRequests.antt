@@ -4,46 +4,24 @@ use Rattle.std.specs.Prelude.{◌==◌, nat_lt}
 use Rattle.std.specs.Fmt.{decimal}
 use Rattle.std.specs.Ordering.{nat_cmp, is_lt, ordering_then}
 use Rattle.std.specs.Cmp.Lexicographic.{slice_cmp}
-use Rattle.std.specs.List.{AllByRecursion, AllZip, list_all, list_any}
-use Rattle.std.specs.Option.{option_map}
+use Rattle.np_machine.specs.Prelude.{AllByRecursion, AllZip, NonePass, RequestEntry, RequestId, RequestRecord, State, insert_request, is_id_before, list_all, list_any, next_id, option_map, request_entry, same_request, ten_digits_of}
 use Rattle.std.specs.Str.{bytes_eq}
 use Rattle.std.proofs.lemmas.List.Folds.{list_all-append}
 use Rattle.std.proofs.lemmas.Bool.Decides.{nat_tests}
-use Rattle.np_text.specs.Number.{ten_digits_of}
-use Rattle.np_text.specs.Request.{request_text_of}
-use Rattle.np_text.specs.declared.id.RequestId.{RequestId}
-use Rattle.np_lists.specs.Rising.{NonePass}
 use Rattle.np_lists.proofs.Each.{all-insert_before}
 use Rattle.np_lists.proofs.Halves.{none-find}
-use Rattle.np_path.specs.Grammar.{is_element}
-use Rattle.np_path.specs.Parts.{below}
+use Rattle.np_tree.specs.Prelude.{HasRoomFor, IsWhole, Op, Persistent, PersistentSequential, Row, Seen, TreeState, after_part, below, counter_after, is_element, is_in, is_named, owner_at, row_before, with_row}
 use Rattle.np_path.proofs.PartsLemmas.{is_path-below}
 use Rattle.np_path.proofs.PathLaws.{HasParts-below}
-use Rattle.np_session.specs.Known.{is_in}
-use Rattle.np_nodes.specs.TreeState.{TreeState}
-use Rattle.np_nodes.specs.After.{after_part}
-use Rattle.np_nodes.specs.declared.kind.Mode.TheVariants.{Persistent, PersistentSequential}
-use Rattle.np_nodes.specs.declared.op.Op.{Op}
 use Rattle.np_nodes.specs.declared.op.Op.TheVariants as op
-use Rattle.np_tree.specs.Whole.{IsWhole}
-use Rattle.np_views.specs.Goes.{owner_at}
-use Rattle.np_views.specs.Relations.{counter_after}
-use Rattle.np_views.specs.Several.{HasRoomFor}
-use Rattle.np_views.specs.Views.{Row, Seen, is_named, row_before, with_row}
-use Rattle.np_views.proofs.RoomLemmas.{room-falls, room-gives}
-use Rattle.np_record.specs.declared.record.RequestRecord.{RequestRecord}
+use Rattle.np_tree.proofs.ViewRoomLemmas.{room-falls, room-gives}
 use Rattle.np_spelling.specs.Spelling.{request_record_text}
-use Rattle.np_machine.specs.Entries.{RequestEntry}
-use Rattle.np_machine.specs.Order.{is_id_before}
-use Rattle.np_machine.specs.Request.{insert_request, next_id}
-use Rattle.np_machine.specs.State.{State}
-use Rattle.np_machine.specs.Tables.{request_entry, same_request}
-use Rattle.np_places.specs.Place.{IsGood, path_of, place_name}
-use Rattle.np_places.specs.declared.place.Place.{Place}
-use Rattle.np_places.specs.declared.place.Place.TheVariants.{Nodepool, Requests, Request, RequestLocks, RequestLock}
-use Rattle.np_places.proofs.AboveLemmas.{is_path-of}
-use Rattle.np_places.proofs.NameLemmas.{is_element-plain, is_plain, is_plain_name, plain_name-decimal}
-use Rattle.np_places.proofs.OrderLemmas.{requests-rise}
+use Rattle.np_layout.specs.Place.{IsGood, path_of, place_name}
+use Rattle.np_layout.specs.declared.place.Place.{Place}
+use Rattle.np_layout.specs.declared.place.Place.TheVariants.{Nodepool, Requests, Request, RequestLocks, RequestLock}
+use Rattle.np_layout.proofs.AboveLemmas.{is_path-of}
+use Rattle.np_layout.proofs.NameLemmas.{is_element-plain, is_plain, is_plain_name, plain_name-decimal}
+use Rattle.np_layout.proofs.OrderLemmas.{requests-rise}
 use Rattle.np_layout.specs.Creates.{GrownRequestsLayOut, request_prefix}
 use Rattle.np_layout.specs.First.{make}
 use Rattle.np_layout.specs.Layout.{IsQueue, IsWait, LaysOut}
@@ -52,6 +30,7 @@ use Rattle.np_layout.specs.Sets.{HasGoodIds}
 use Rattle.np_layout.proofs.CreateSteps.{Step, counter-there, create-step, free-named, make-step, owner-there}
 use Rattle.np_layout.proofs.Elsewhere.{Stays, all-true, beside-apart, frame-stays, jobs-stay, launchers-stay, live-stays, node_locks-stay, nodes-stay, request_queues-stay, roles-stay, semaphores-stay, sessions-stay, stays-more, swept-stay, IsApart}
 use Rattle.np_layout.proofs.SetRequests.{named-by}
+use Rattle.np_text.specs.Request.{request_text_of}
 
 -- ## rows in the order of requests
 
@@ -88,7 +67,7 @@ prefix-plain : (name : List ℕ) → is_plain_name name ≡ true → is_plain_na
 prefix-plain [] plain = absurd cc
 prefix-plain (b ∷ name) plain = list_all-append is_plain (b ∷ name) (45 ∷ []) ∙ ap (λ (c : Bool). c && list_all is_plain (45 ∷ [])) plain
 
-is_element-prefix : (r : RequestId) → IsGood (Request r) → is_element (request_prefix r) ≡ true
+pub is_element-prefix : (r : RequestId) → IsGood (Request r) → is_element (request_prefix r) ≡ true
 is_element-prefix r good = let most = good.most in is_element-plain (request_prefix r) (prefix-plain (decimal r.priority) (plain_name-decimal r.priority (omega arith)))
 
 prefix-name : (r : RequestId) → request_prefix r ++ ten_digits_of r.seq ≡ place_name (Request r)

@@ -2,29 +2,18 @@
 use Rattle.std.proofs.Common.{◌≡◌, ℕ, zero, suc, ◌+◌, ◌<◌, ◌≤◌, ◌^◌, Bool, true, false, ◌||◌, List, [], ◌∷◌, ◌++◌, length, map, Some, None, refl, sym, ap, ◌∙◌, subst, arith}
 use Rattle.std.specs.Prelude.{◌==◌}
 use Rattle.std.specs.Ordering.{is_lt}
-use Rattle.std.specs.List.{AllByRecursion, list_any, range_with_len}
+use Rattle.np_machine.specs.Prelude.{AllByRecursion, NonePass, Role, State, list_any, range_with_len}
 use Rattle.std.proofs.lemmas.Bool.Decides.{nat_tests}
-use Rattle.np_text.specs.declared.id.Role.{Role}
 use Rattle.np_text.proofs.OrderLemmas.{nat_cmp-less, nat_cmp-more, slice_cmp-ten}
-use Rattle.np_lists.specs.Rising.{NonePass}
 use Rattle.np_lists.proofs.ChangeLemmas.{insert_before-end}
-use Rattle.np_session.specs.Known.{is_in}
-use Rattle.np_nodes.specs.TreeState.{TreeState}
-use Rattle.np_nodes.specs.After.{after_part}
-use Rattle.np_nodes.specs.Calls.{after_begin}
-use Rattle.np_nodes.specs.declared.kind.Mode.TheVariants.{Persistent}
-use Rattle.np_tree.specs.Whole.{IsWhole}
-use Rattle.np_views.specs.Goes.{owner_at}
-use Rattle.np_views.specs.Several.{HasRoomFor}
-use Rattle.np_views.specs.Views.{Row, is_named, row_before, with_row}
-use Rattle.np_views.proofs.RoomLemmas.{room-gives}
-use Rattle.np_views.proofs.SiblingLemmas.{other-name}
+use Rattle.np_tree.specs.Prelude.{HasRoomFor, IsWhole, Persistent, Row, TreeState, after_begin, after_part, is_in, is_named, owner_at, row_before, with_row}
+use Rattle.np_tree.proofs.ViewRoomLemmas.{room-gives}
+use Rattle.np_tree.proofs.SiblingLemmas.{other-name}
 use Rattle.np_spelling.specs.Spelling.{session_text}
-use Rattle.np_machine.specs.State.{State}
 use Rattle.np_machine.specs.declared.state.SessionFacts.{SessionFacts}
-use Rattle.np_places.specs.Place.{path_of, place_name}
-use Rattle.np_places.specs.declared.place.Place.{Place}
-use Rattle.np_places.specs.declared.place.Place.TheVariants.{Poolsim, Sessions, Session}
+use Rattle.np_layout.specs.Place.{path_of, place_name}
+use Rattle.np_layout.specs.declared.place.Place.{Place}
+use Rattle.np_layout.specs.declared.place.Place.TheVariants.{Poolsim, Sessions, Session}
 use Rattle.np_layout.specs.Creates.{SessionsLayOut}
 use Rattle.np_layout.specs.First.{make}
 use Rattle.np_layout.specs.Layout.{AreLive, LaysOut}
@@ -32,28 +21,17 @@ use Rattle.np_layout.specs.Rows.{rows_from, session_row}
 use Rattle.np_layout.specs.Sets.{HasGoodIds}
 use Rattle.np_layout.proofs.CreateSteps.{Step, counter-there, free-named, make-step, owner-there}
 use Rattle.np_layout.proofs.Elsewhere.{Stays, frame-stays, jobs-stay, launchers-stay, node_locks-stay, nodes-stay, request_locks-stay, requests-stay, roles-stay, semaphores-stay, swept-stay}
+use Rattle.np_lists.proofs.Plain.{or_false, map-push, or_true}
 
 -- ## one member more at the end
-
-or-none : (b : Bool) → (b || false) ≡ b
-or-none true = refl
-or-none false = refl
-
-or-true : (b : Bool) → (b || true) ≡ true
-or-true true = refl
-or-true false = refl
 
 or-join : (a b c : Bool) → (a || (b || c)) ≡ ((a || b) || c)
 or-join true b c = refl
 or-join false b c = refl
 
 any-push : {A : Type 0} (p : A → Bool) (list : List A) (a : A) → list_any p (list ++ a ∷ []) ≡ (list_any p list || p a)
-any-push p [] a = or-none (p a)
+any-push p [] a = or_false (p a)
 any-push p (b ∷ list) a = ap (λ (c : Bool). p b || c) (any-push p list a) ∙ or-join (p b) (list_any p list) (p a)
-
-map-push : {A B : Type 0} (f : A → B) (list : List A) (a : A) → map f (list ++ a ∷ []) ≡ map f list ++ f a ∷ []
-map-push f [] a = refl
-map-push f (b ∷ list) a = ap (λ (rest : List _). f b ∷ rest) (map-push f list a)
 
 length-push : {A : Type 0} (list : List A) (a : A) → length (list ++ a ∷ []) ≡ suc (length list)
 length-push [] a = refl
@@ -94,11 +72,11 @@ live-each : (live : List ℕ) (count at new : ℕ) → at + count ≤ new → ma
 live-each live zero at new within = refl
 live-each live (suc count) at new within =
     let other : (new == at) ≡ false = grind (arith, nat_tests) in
-    let here : is_in (live ++ new ∷ []) at ≡ is_in live at = any-push (λ (s : ℕ). s == at) live new ∙ ap (λ (b : Bool). is_in live at || b) other ∙ or-none (is_in live at) in
+    let here : is_in (live ++ new ∷ []) at ≡ is_in live at = any-push (λ (s : ℕ). s == at) live new ∙ ap (λ (b : Bool). is_in live at || b) other ∙ or_false (is_in live at) in
     ap (λ (b : Bool). b ∷ map (is_in (live ++ new ∷ [])) (range_with_len (at + 1) count)) here ∙ ap (λ (rest : List Bool). is_in live at ∷ rest) (live-each live count (at + 1) new (omega arith))
 
 new-live : (live : List ℕ) (new : ℕ) → is_in (live ++ new ∷ []) new ≡ true
-new-live live new = let itself : (new == new) ≡ true = grind (arith, nat_tests) in any-push (λ (s : ℕ). s == new) live new ∙ ap (λ (b : Bool). is_in live new || b) itself ∙ or-true (is_in live new)
+new-live live new = let itself : (new == new) ≡ true = grind (arith, nat_tests) in any-push (λ (s : ℕ). s == new) live new ∙ ap (λ (b : Bool). is_in live new || b) itself ∙ or_true (is_in live new)
 
 old-live : (live : List ℕ) (new k : ℕ) → is_in live k ≡ true → is_in (live ++ new ∷ []) k ≡ true
 old-live live new k is = any-push (λ (s : ℕ). s == k) live new ∙ ap (λ (b : Bool). b || (new == k)) is

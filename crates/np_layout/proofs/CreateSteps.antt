@@ -1,40 +1,25 @@
 -- one create of a good place
-use Rattle.std.proofs.Common.{◌≡◌, ℕ, ◌≤◌, Bool, true, false, not, ◌||◌, List, [], ◌∷◌, length, Option, Some, None, Ok, refl, sym, ap, ◌∙◌, subst}
+use Rattle.std.proofs.Common.{◌≡◌, ℕ, ◌≤◌, Bool, true, false, not, List, [], ◌∷◌, length, Option, Some, None, Ok, refl, sym, ap, ◌∙◌, subst}
 use Rattle.std.specs.Prelude.{IsOk, filter, nat_le}
-use Rattle.std.specs.List.{AllByRecursion, list_any}
-use Rattle.std.specs.Option.{option_map}
-use Rattle.std.proofs.lemmas.Bool.{le-leb}
-use Rattle.np_lists.specs.Rising.{NonePass}
+use Rattle.np_tree.specs.Prelude.{AllByRecursion, IsPart, IsWhole, Mode, Node, NonePass, Op, TreeState, after_part, at_path, below, counter_at, create_answer, create_under_answer, is_child, is_in, is_path, is_sequential, list_any, name_of, option_map, parent_of, part_answer}
+use Rattle.std.proofs.lemmas.Bool.{le-leb, or_right}
 use Rattle.np_lists.proofs.Each.{all-filter_to, all-insert_before, all-mapped}
 use Rattle.np_lists.proofs.Halves.{find-none}
-use Rattle.np_path.specs.Grammar.{is_path}
-use Rattle.np_path.specs.Parts.{below, name_of, parent_of}
 use Rattle.np_path.proofs.PathLaws.{IsChild-of}
-use Rattle.np_session.specs.Known.{is_in}
-use Rattle.np_nodes.specs.TreeState.{TreeState}
-use Rattle.np_nodes.specs.After.{after_part}
-use Rattle.np_nodes.specs.Answer.{create_answer, create_under_answer, part_answer}
-use Rattle.np_nodes.specs.Nodes.{at_path, is_child}
-use Rattle.np_nodes.specs.Tests.{is_sequential}
-use Rattle.np_nodes.specs.declared.kind.Mode.{Mode}
-use Rattle.np_nodes.specs.declared.node.Node.{Node}
-use Rattle.np_nodes.specs.declared.op.Op.{Op}
 use Rattle.np_nodes.specs.declared.op.Op.TheVariants as op
 use Rattle.np_nodes.specs.declared.op.OpDone.TheVariants as done
-use Rattle.np_tree.specs.Read.{counter_at}
-use Rattle.np_tree.specs.Whole.{IsPart, IsWhole}
 use Rattle.np_tree.proofs.WholeLemmas.{IsWhole-after_part}
-use Rattle.np_views.specs.Goes.{CanCreate, owner_at}
-use Rattle.np_views.specs.Relations.{Creates, counter_after}
-use Rattle.np_views.specs.Several.{HasRoom}
-use Rattle.np_views.specs.Views.{Row, Seen, find_named, is_named, name_given, row_before, row_given, row_of, rows_at, seen_at, seen_in, seen_of, with_row}
-use Rattle.np_views.proofs.GoesLemmas.{creates-go, creates-under-go}
-use Rattle.np_views.proofs.RelationLemmas.{apart-below, creates-show, creates-under-show, parts-change_nodes_alone, seen-is-row, seen-none}
-use Rattle.np_views.proofs.SiblingLemmas.{child-above}
-use Rattle.np_places.specs.Place.{IsGood, above, path_of, place_name}
-use Rattle.np_places.specs.declared.place.Place.{Place}
-use Rattle.np_places.proofs.AboveLemmas.{Above, IsGood-above, above-is_good, is_path-of, parts-of, path_of-joined}
-use Rattle.np_places.proofs.ChildLemmas.{same_paths}
+use Rattle.np_tree.specs.Goes.{CanCreate, owner_at}
+use Rattle.np_tree.specs.Relations.{Creates, counter_after}
+use Rattle.np_tree.specs.Several.{HasRoom}
+use Rattle.np_tree.specs.Views.{Row, Seen, find_named, is_named, name_given, row_before, row_given, row_of, rows_at, seen_at, seen_in, seen_of, with_row}
+use Rattle.np_tree.proofs.GoesLemmas.{creates-go, creates-under-go}
+use Rattle.np_tree.proofs.RelationLemmas.{apart-below, creates-show, creates-under-show, parts-change_nodes_alone, seen-is-row, seen-none}
+use Rattle.np_tree.proofs.SiblingLemmas.{child-above}
+use Rattle.np_layout.specs.Place.{IsGood, above, path_of, place_name}
+use Rattle.np_layout.specs.declared.place.Place.{Place}
+use Rattle.np_layout.proofs.AboveLemmas.{Above, IsGood-above, above-is_good, is_path-of, parts-of, path_of-joined}
+use Rattle.np_layout.proofs.ChildLemmas.{same_paths}
 use Rattle.np_layout.specs.Layout.{HasLeaves, next_under, under}
 use Rattle.np_layout.proofs.CreateLists.{owner-none}
 use Rattle.np_layout.proofs.Elsewhere.{IsApart, Stays, has_leaves}
@@ -139,16 +124,12 @@ pub record CanMake (t : TreeState) (w : ℕ) (dir p : Place) (counter : ℕ) : T
   pub free : seen_at t (path_of p) ≡ None
   pub room : HasRoom t
 
-or-true : (a b : Bool) → b ≡ true → (a || b) ≡ true
-or-true true b is = refl
-or-true false b is = is
-
 can-create : (t : TreeState) (w : ℕ) (dir p : Place) (name bytes : List ℕ) (mode : Mode) (counter : ℕ) → above p ≡ Some dir → name_given mode counter name ≡ place_name p → length bytes ≤ 65536 → CanMake t w dir p counter → CanCreate t w (path_of dir) name bytes mode counter
 can-create t w dir p name bytes mode counter over named short can = record {
   live = can.live;
   parent = can.owner;
   gives = can.gives;
-  unspent = or-true (not (is_sequential mode)) (nat_le counter 2_147_483_647) (le-leb counter 2_147_483_647 (can.room.counter (path_of dir) counter can.gives));
+  unspent = or_right (not (is_sequential mode)) (nat_le counter 2_147_483_647) (le-leb counter 2_147_483_647 (can.room.counter (path_of dir) counter can.gives));
   short = short;
   free = ap (seen_at t) (ap (below (path_of dir)) named ∙ sym (path_of-joined p dir over)) ∙ can.free;
   change = can.room.change;

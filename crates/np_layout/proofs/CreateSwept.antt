@@ -1,26 +1,14 @@
 -- a create of a swept pair
 use Rattle.std.proofs.Common.{◌≡◌, ℕ, Bool, true, false, cond, List, [], ◌∷◌, map, Some, None, refl, sym, ap, ◌∙◌, subst, arith}
-use Rattle.std.specs.List.{AllByRecursion, list_any}
+use Rattle.np_machine.specs.Prelude.{AllByRecursion, NodeId, NonePass, State, insert_before, is_pair, is_pair_after, is_swept, list_any, with_pair}
 use Rattle.std.proofs.lemmas.Bool.Decides.{nat_tests}
-use Rattle.np_text.specs.declared.id.NodeId.{NodeId}
-use Rattle.np_lists.specs.Change.{insert_before}
-use Rattle.np_lists.specs.Rising.{NonePass}
 use Rattle.np_lists.proofs.FilterLemmas.{none-list_any}
-use Rattle.np_session.specs.Known.{is_in}
-use Rattle.np_nodes.specs.TreeState.{TreeState}
-use Rattle.np_nodes.specs.After.{after_part}
-use Rattle.np_nodes.specs.declared.kind.Mode.TheVariants.{Persistent}
-use Rattle.np_tree.specs.Whole.{IsWhole}
-use Rattle.np_views.specs.Goes.{owner_at}
-use Rattle.np_views.specs.Several.{HasRoomFor}
-use Rattle.np_views.specs.Views.{Row, is_named, with_row}
-use Rattle.np_views.proofs.RoomLemmas.{room-gives}
-use Rattle.np_machine.specs.Node.{is_pair, is_pair_after, is_swept, with_pair}
-use Rattle.np_machine.specs.State.{State}
+use Rattle.np_tree.specs.Prelude.{HasRoomFor, IsWhole, Persistent, Row, TreeState, after_part, is_in, is_named, owner_at, with_row}
+use Rattle.np_tree.proofs.ViewRoomLemmas.{room-gives}
 use Rattle.np_machine.specs.declared.state.Swept.{Swept}
-use Rattle.np_places.specs.Place.{IsGood, path_of, place_name}
-use Rattle.np_places.specs.declared.place.Place.{Place}
-use Rattle.np_places.specs.declared.place.Place.TheVariants.{Poolsim, SweptPairs, Swept as SweptPlace}
+use Rattle.np_layout.specs.Place.{IsGood, path_of, place_name}
+use Rattle.np_layout.specs.declared.place.Place.{Place}
+use Rattle.np_layout.specs.declared.place.Place.TheVariants.{Poolsim, SweptPairs, Swept as SweptPlace}
 use Rattle.np_layout.specs.Creates.{SweptPairsLayOut}
 use Rattle.np_layout.specs.First.{make}
 use Rattle.np_layout.specs.Layout.{LaysOut}

@@ -2,30 +2,16 @@
 use Rattle.std.proofs.Common.{◌≡◌, ℕ, ◌+◌, ◌<◌, ◌^◌, Bool, true, false, cond, ◌||◌, List, [], ◌∷◌, ◌++◌, map, Option, Some, None, refl, sym, ap, ◌∙◌, subst, arith}
 use Rattle.std.specs.Prelude.{codes, find}
 use Rattle.std.specs.Ordering.{is_lt}
-use Rattle.std.specs.List.{AllByRecursion, AllZip, list_any}
-use Rattle.std.specs.Option.{option_map}
-use Rattle.np_text.specs.Number.{ten_digits_of}
-use Rattle.np_text.specs.declared.id.SessionId.{SessionId}
+use Rattle.np_tree.specs.Prelude.{AllByRecursion, AllZip, EphemeralSequential, IsWhole, NonePass, Rises, Row, SessionId, TreeState, after_part, below, change_first, counter_after, is_in, is_named, list_any, option_map, owner_at, row_before, ten_digits_of}
 use Rattle.np_text.proofs.OrderLemmas.{nat_cmp-less, nat_cmp-more, slice_cmp-ten}
-use Rattle.np_lists.specs.Change.{change_first}
-use Rattle.np_lists.specs.Rising.{NonePass, Rises}
 use Rattle.np_lists.proofs.ChangeLemmas.{insert_before-end}
-use Rattle.np_path.specs.Parts.{below}
 use Rattle.np_path.proofs.PartsLemmas.{is_path-below}
 use Rattle.np_path.proofs.PathLaws.{HasParts-below}
-use Rattle.np_session.specs.Known.{is_in}
-use Rattle.np_nodes.specs.TreeState.{TreeState}
-use Rattle.np_nodes.specs.After.{after_part}
-use Rattle.np_nodes.specs.declared.kind.Mode.TheVariants.{EphemeralSequential}
-use Rattle.np_tree.specs.Whole.{IsWhole}
-use Rattle.np_views.specs.Goes.{owner_at}
-use Rattle.np_views.specs.Relations.{counter_after}
-use Rattle.np_views.specs.Several.{HasRoom}
-use Rattle.np_views.specs.Views.{Row, is_named, row_before}
-use Rattle.np_views.proofs.SiblingLemmas.{other-name}
-use Rattle.np_places.specs.Place.{IsGood, above, path_of, place_name}
-use Rattle.np_places.specs.declared.place.Place.{Place}
-use Rattle.np_places.proofs.AboveLemmas.{IsGood-above, is_path-of}
+use Rattle.np_tree.specs.Several.{HasRoom}
+use Rattle.np_tree.proofs.SiblingLemmas.{other-name}
+use Rattle.np_layout.specs.Place.{IsGood, above, path_of, place_name}
+use Rattle.np_layout.specs.declared.place.Place.{Place}
+use Rattle.np_layout.proofs.AboveLemmas.{IsGood-above, is_path-of}
 use Rattle.np_layout.specs.Creates.{wait_at}
 use Rattle.np_layout.specs.Layout.{IsQueue, IsWait, under}
 use Rattle.np_layout.specs.Rows.{tree_session, wait_row}

@@ -1,34 +1,19 @@
 -- a session ends
 use Rattle.std.proofs.Common.{◌≡◌, ℕ, zero, suc, ◌+◌, ◌-◌, ◌<◌, ◌≤◌, Bool, true, false, not, ◌||◌, cond, List, [], ◌∷◌, ◌++◌, length, map, Option, Some, None, refl, sym, ap, ◌∙◌, subst, arith}
 use Rattle.std.specs.Prelude.{◌==◌, filter}
-use Rattle.std.specs.List.{AllByRecursion, AllZip, range_with_len}
-use Rattle.std.specs.Option.{option_map}
+use Rattle.np_machine.specs.Prelude.{AllByRecursion, AllZip, NodeEntry, RequestEntry, Rises, SessionId, State, change_at, ended, handles_of, is_session, left, node_left, option_map, range_with_len, request_left}
 use Rattle.std.proofs.lemmas.Bool.Decides.{nat_tests}
-use Rattle.np_text.specs.declared.id.SessionId.{SessionId}
-use Rattle.np_lists.specs.Change.{change_at}
-use Rattle.np_lists.specs.Rising.{Rises}
 use Rattle.np_lists.proofs.ChangeLemmas.{length-change_at}
 use Rattle.np_lists.proofs.Each.{all-find, all-weaker}
-use Rattle.np_path.specs.Parts.{below, name_of, parent_of}
-use Rattle.np_session.specs.Known.{is_in, without}
-use Rattle.np_nodes.specs.TreeState.{TreeState}
-use Rattle.np_nodes.specs.After.{after_end}
-use Rattle.np_nodes.specs.Nodes.{at_path, is_owner}
-use Rattle.np_nodes.specs.declared.node.Node.{Node}
-use Rattle.np_tree.specs.Whole.{IsWhole}
-use Rattle.np_views.specs.Relations.{Ends, is_kept}
-use Rattle.np_views.specs.Views.{Row, Seen, find_named, is_named, row_before, rows_at, seen_at, seen_in, seen_of}
-use Rattle.np_views.proofs.RelationLemmas.{ends-show, rows-rise, seen-is-row}
-use Rattle.np_machine.specs.Entries.{NodeEntry, RequestEntry}
-use Rattle.np_machine.specs.Session.{ended, node_left, request_left}
-use Rattle.np_machine.specs.State.{State}
-use Rattle.np_machine.specs.Tables.{handles_of, is_session, left}
+use Rattle.np_tree.specs.Prelude.{IsWhole, Node, Row, Seen, TreeState, after_end, at_path, below, find_named, is_in, is_named, is_owner, name_of, parent_of, row_before, rows_at, seen_at, seen_in, seen_of, without}
+use Rattle.np_tree.specs.Relations.{Ends, is_kept}
+use Rattle.np_tree.proofs.RelationLemmas.{ends-show, rows-rise, seen-is-row}
 use Rattle.np_machine.specs.declared.state.Registration.{Registration}
 use Rattle.np_machine.specs.declared.state.SessionFacts.{SessionFacts}
-use Rattle.np_places.specs.Place.{IsGood, above, path_of}
-use Rattle.np_places.specs.declared.place.Place.{Place}
-use Rattle.np_places.specs.declared.place.Place.TheVariants.{Root, Nodepool, Requests, RequestLocks, Request, RequestLock, Nodes, Node as NodePlace, NodeLock, Launchers, Zuul, Semaphores, Semaphore, Poolsim, Jobs, Roles, Sessions, SweptPairs, Tick}
-use Rattle.np_places.proofs.AboveLemmas.{is_path-of, parts-of}
+use Rattle.np_layout.specs.Place.{IsGood, above, path_of}
+use Rattle.np_layout.specs.declared.place.Place.{Place}
+use Rattle.np_layout.specs.declared.place.Place.TheVariants.{Root, Nodepool, Requests, RequestLocks, Request, RequestLock, Nodes, Node as NodePlace, NodeLock, Launchers, Zuul, Semaphores, Semaphore, Poolsim, Jobs, Roles, Sessions, SweptPairs, Tick}
+use Rattle.np_layout.proofs.AboveLemmas.{is_path-of, parts-of}
 use Rattle.np_layout.specs.Deletes.{SessionEndsLayOut, without_session}
 use Rattle.np_layout.specs.Layout.{AreLive, HasHandles, HasLeaves, HasNodeLock, IsNodeRow, IsQueue, IsWait, LaysOut, next_under, under}
 use Rattle.np_layout.specs.Rows.{by_name, handle_row, janitor_role_row, job_row, launcher_role_row, launcher_row, places, request_lock_row, request_row, requester_role_row, rows_from, semaphore_row, session_row, swept_row, tree_session}

@@ -1,28 +1,18 @@
 -- a job gives its handle of a semaphore back
 use Rattle.std.proofs.Common.{◌≡◌, ℕ, zero, suc, ◌+◌, ◌<◌, ◌≤◌, ◌^◌, Bool, true, false, not, ◌||◌, List, [], ◌∷◌, length, map, Option, Some, None, unwrap_or, refl, sym, ap, ◌∙◌, subst, arith}
 use Rattle.std.specs.Prelude.{◌==◌, filter, find, slice_get}
-use Rattle.std.specs.List.{AllByRecursion, list_any, range_with_len}
-use Rattle.std.specs.Option.{option_map}
+use Rattle.np_machine.specs.Prelude.{AllByRecursion, JobId, Rises, SemId, State, change_at, handles_of, has_handle, is_among, list_any, option_map, range_with_len, without_handle}
 use Rattle.std.specs.Str.{bytes_eq}
 use Rattle.std.proofs.lemmas.Bool.{eqb-false}
 use Rattle.std.proofs.lemmas.Bool.Decides.{nat_tests}
-use Rattle.np_text.specs.declared.id.JobId.{JobId}
-use Rattle.np_text.specs.declared.id.SemId.{SemId}
-use Rattle.np_lists.specs.Change.{change_at}
-use Rattle.np_lists.specs.Rising.{Rises}
 use Rattle.np_lists.proofs.ChangeLemmas.{length-change_at, slice_get-change_at, slice_get-change_at_other}
 use Rattle.np_lists.proofs.Each.{all-weaker}
-use Rattle.np_nodes.specs.TreeState.{TreeState}
-use Rattle.np_nodes.specs.After.{after_part}
+use Rattle.np_tree.specs.Prelude.{Row, TreeState, after_part, is_named, row_before}
 use Rattle.np_nodes.proofs.PlaceLemmas.{bytes_eq-from}
-use Rattle.np_views.specs.Views.{Row, is_named, row_before}
-use Rattle.np_views.proofs.RelationLemmas.{rows-rise}
-use Rattle.np_machine.specs.Semaphore.{without_handle}
-use Rattle.np_machine.specs.State.{State}
-use Rattle.np_machine.specs.Tables.{handles_of, has_handle, is_among}
-use Rattle.np_places.specs.Place.{IsGood, path_of, place_name}
-use Rattle.np_places.specs.declared.place.Place.{Place}
-use Rattle.np_places.specs.declared.place.Place.TheVariants.{Semaphores, Semaphore, Handle}
+use Rattle.np_tree.proofs.RelationLemmas.{rows-rise}
+use Rattle.np_layout.specs.Place.{IsGood, path_of, place_name}
+use Rattle.np_layout.specs.declared.place.Place.{Place}
+use Rattle.np_layout.specs.declared.place.Place.TheVariants.{Semaphores, Semaphore, Handle}
 use Rattle.np_layout.specs.Deletes.{HandlesGoLayOut, MayDelete, delete}
 use Rattle.np_layout.specs.Layout.{AreSemaphores, HasHandles, LaysOut, under}
 use Rattle.np_layout.specs.Rows.{by_name, handle_row, semaphore_row}
@@ -35,17 +25,17 @@ use Rattle.np_layout.proofs.SetSteps.{named-other}
 
 -- ## a handle's name is its own
 
-same-is : (a b : JobId) → (a.0 == b.0) ≡ true → a ≡ b
+pub same-is : (a b : JobId) → (a.0 == b.0) ≡ true → a ≡ b
 same-is a b same = let number : a.0 ≡ b.0 = grind (arith, nat_tests) in ap (λ (n : ℕ). record { 0 = n }) number
 
-same-self : (a : JobId) → (a.0 == a.0) ≡ true
+pub same-self : (a : JobId) → (a.0 == a.0) ≡ true
 same-self a = grind (arith, nat_tests)
 
 abbrev job_of : Place → JobId
 job_of (Handle x j) = j
 job_of other = record { 0 = 0 }
 
-named-by : (x : SemId) (j other : JobId) (b : Bool) → (other.0 == j.0) ≡ b → IsGood (Handle x j) → IsGood (Handle x other) → bytes_eq (place_name (Handle x other)) (place_name (Handle x j)) ≡ b
+pub named-by : (x : SemId) (j other : JobId) (b : Bool) → (other.0 == j.0) ≡ b → IsGood (Handle x j) → IsGood (Handle x other) → bytes_eq (place_name (Handle x other)) (place_name (Handle x j)) ≡ b
 named-by x j other true same j_good other_good = bytes_eq-from (place_name (Handle x other)) (place_name (Handle x j)) (ap (λ (k : JobId). place_name (Handle x k)) (same-is other j same))
 named-by x j other false same j_good other_good =
     named-other (Handle x j) (Handle x other) j_good other_good refl (λ equal.

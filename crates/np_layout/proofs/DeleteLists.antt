@@ -1,10 +1,8 @@
 -- the rows of a directory of which some are left out
 use Rattle.std.proofs.Common.{◌≡◌, Bool, true, false, cond, List, [], ◌∷◌, map, refl, sym, ap, ◌∙◌}
 use Rattle.std.specs.Prelude.{filter}
-use Rattle.std.specs.List.{AllByRecursion, list_any}
-use Rattle.np_lists.specs.Rising.{Rises}
+use Rattle.np_tree.specs.Prelude.{AllByRecursion, Rises, Row, list_any, row_before, with_row}
 use Rattle.np_lists.proofs.Each.{all-filter}
-use Rattle.np_views.specs.Views.{Row, row_before, with_row}
 use Rattle.np_layout.specs.Rows.{by_name}
 use Rattle.np_layout.proofs.FirstKinds.{rows_put}
 

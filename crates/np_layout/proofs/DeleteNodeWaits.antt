@@ -1,30 +1,23 @@
 -- a session leaves a node's queue
 use Rattle.std.proofs.Common.{◌≡◌, ℕ, Bool, true, false, List, [], ◌∷◌, Option, Some, refl, sym, ap, ◌∙◌, subst}
 use Rattle.std.specs.Prelude.{◌==◌}
-use Rattle.std.specs.List.{AllByRecursion, AllZip}
-use Rattle.std.specs.Option.{option_map_or}
+use Rattle.np_machine.specs.Prelude.{AllByRecursion, AllZip, NodeEntry, NodeId, SessionId, State, left, node_entry, node_queue, option_map_or, put_node_queue}
 use Rattle.std.specs.Str.{bytes_eq}
-use Rattle.np_text.specs.declared.id.NodeId.{NodeId}
-use Rattle.np_text.specs.declared.id.SessionId.{SessionId}
 use Rattle.np_lists.proofs.Each.{all-find}
 use Rattle.np_lists.proofs.FoundLemmas.{find-passes}
-use Rattle.np_nodes.specs.TreeState.{TreeState}
-use Rattle.np_nodes.specs.After.{after_part}
-use Rattle.np_views.specs.Views.{Row}
-use Rattle.np_views.proofs.RelationLemmas.{rows-rise}
-use Rattle.np_machine.specs.Entries.{NodeEntry}
-use Rattle.np_machine.specs.State.{State}
-use Rattle.np_machine.specs.Tables.{left, node_entry, node_queue, put_node_queue}
-use Rattle.np_places.specs.Place.{IsGood, path_of, place_name}
-use Rattle.np_places.specs.declared.place.Place.{Place}
-use Rattle.np_places.specs.declared.place.Place.TheVariants.{Node, NodeLock, NodeWait, Nodes}
+use Rattle.np_tree.specs.Prelude.{Row, TreeState, after_part}
+use Rattle.np_tree.proofs.RelationLemmas.{rows-rise}
+use Rattle.np_layout.specs.Place.{IsGood, path_of, place_name}
+use Rattle.np_layout.specs.declared.place.Place.{Place}
+use Rattle.np_layout.specs.declared.place.Place.TheVariants.{Node, NodeLock, NodeWait, Nodes}
 use Rattle.np_layout.specs.Deletes.{MayDelete, NodeWaitsGoLayOut, delete}
 use Rattle.np_layout.specs.Layout.{AreNodes, HasNodeLock, IsNodeRow, IsQueue, LaysOut, under}
 use Rattle.np_layout.proofs.DeleteOnce.{IsOnce, Tells, change-one, once-told, zip-change_first}
 use Rattle.np_layout.proofs.DeleteQueues.{queue-left, wait-goes}
 use Rattle.np_layout.proofs.DeleteSteps.{DeleteGoes}
 use Rattle.np_layout.proofs.Elsewhere.{frame-stays, jobs-stay, launchers-stay, live-stays, node_lock-stays, nodes-stay, request_locks-stay, requests-stay, roles-stay, rows-stay, semaphores-stay, sessions-stay, swept-stay}
-use Rattle.np_layout.proofs.SetNodes.{named-by, same-is, same-self}
+use Rattle.np_layout.proofs.SetNodes.{named-by, same-is}
+use Rattle.np_machine.proofs.Ids.{node-itself}
 
 -- ## the node among others
 
@@ -57,7 +50,7 @@ module _ (n : NodeId) where
   pub node_lock-apart : (id : NodeId) → (id.0 == n.0) ≡ false → NodeLock id ≡ NodeLock n → ⊥
   node_lock-apart id other same =
       let is : id ≡ n = cc in
-      let itself = subst (λ (x : NodeId). (id.0 == x.0) ≡ true) is (same-self id) in
+      let itself = subst (λ (x : NodeId). (id.0 == x.0) ≡ true) is (node-itself id) in
       absurd cc
 
 -- ## it has another queue

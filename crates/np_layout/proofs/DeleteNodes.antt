@@ -1,32 +1,24 @@
 -- a node goes
 use Rattle.std.proofs.Common.{◌≡◌, ℕ, ◌<◌, ◌≤◌, ◌^◌, Bool, true, false, not, List, [], ◌∷◌, Some, refl, sym, ap, ◌∙◌, subst, arith}
 use Rattle.std.specs.Prelude.{◌==◌, filter, find}
-use Rattle.std.specs.List.{AllByRecursion, AllZip}
-use Rattle.np_text.specs.declared.id.NodeId.{NodeId}
-use Rattle.np_lists.specs.Change.{remove_first}
+use Rattle.np_machine.specs.Prelude.{AllByRecursion, AllZip, NodeEntry, NodeId, State, node_entry, node_queue, remove_first, remove_node}
 use Rattle.np_lists.proofs.Each.{all-filter_to, all-find}
-use Rattle.np_session.specs.Known.{is_in}
-use Rattle.np_nodes.specs.TreeState.{TreeState}
-use Rattle.np_nodes.specs.After.{after_part}
-use Rattle.np_views.specs.Several.{delete_parts}
-use Rattle.np_views.specs.Views.{Row, find_named, is_named}
-use Rattle.np_views.proofs.RoomLemmas.{room-gives}
-use Rattle.np_views.proofs.SeveralLemmas.{goes-joined}
-use Rattle.np_machine.specs.Entries.{NodeEntry}
-use Rattle.np_machine.specs.State.{State}
-use Rattle.np_machine.specs.Tables.{node_entry, node_queue, remove_node}
-use Rattle.np_places.specs.Place.{IsGood, path_of, place_name}
-use Rattle.np_places.specs.declared.place.Place.TheVariants.{Node, NodeLock, NodeWait, Nodes}
+use Rattle.np_tree.specs.Prelude.{Row, TreeState, after_part, delete_parts, find_named, is_in, is_named}
+use Rattle.np_tree.proofs.ViewRoomLemmas.{room-gives}
+use Rattle.np_tree.proofs.SeveralLemmas.{goes-joined}
+use Rattle.np_layout.specs.Place.{IsGood, path_of, place_name}
+use Rattle.np_layout.specs.declared.place.Place.TheVariants.{Node, NodeLock, NodeWait, Nodes}
 use Rattle.np_layout.specs.Deletes.{MayDelete, NodesGoLayOut, delete, node_deletes}
 use Rattle.np_layout.specs.Layout.{AreNodes, AreRequestLocks, AreRequests, HasNodeLock, IsNodeRow, IsQueue, LaysOut, directories, under}
 use Rattle.np_layout.specs.Rows.{persistent}
 use Rattle.np_layout.proofs.DeleteNodeWaits.{found-node, is_node_it, node-good, node-once, node-queue, node-tells, node_lock-apart}
 use Rattle.np_layout.proofs.DeleteOnce.{IsOnce, Tells, filter-removed, zip-filter}
-use Rattle.np_layout.proofs.DeleteParts.{AreWaits, Cleared, RestLays, all-pair, parts-after, any-told, clear, found-any, not-true, rest-of, rest-stays}
+use Rattle.np_layout.proofs.DeleteParts.{AreWaits, Cleared, RestLays, all-pair, parts-after, any-told, clear, found-any, rest-of, rest-stays}
 use Rattle.np_layout.proofs.DeleteSteps.{DeleteGoes, delete-goes, is_other}
 use Rattle.np_layout.proofs.Elsewhere.{node_lock-stays, nodes-stay, request_locks-stay, requests-stay, rows-stay}
 use Rattle.np_layout.proofs.SetLists.{any-found}
-use Rattle.np_layout.proofs.SetNodes.{same-self}
+use Rattle.std.proofs.lemmas.Bool.{not-true}
+use Rattle.np_machine.proofs.Ids.{node-itself}
 
 -- the waits of a node's lock
 node-waits : (n : NodeId) → IsGood (Node n) → AreWaits (NodeLock n) (NodeWait n)
@@ -36,7 +28,7 @@ node-waits n good = record { good = λ number low. (good, low); over = λ number
 node-apart : (n id : NodeId) → (id.0 == n.0) ≡ false → Node id ≡ Node n → ⊥
 node-apart n id other same =
     let is : id ≡ n = cc in
-    let itself = subst (λ (x : NodeId). (id.0 == x.0) ≡ true) is (same-self id) in
+    let itself = subst (λ (x : NodeId). (id.0 == x.0) ≡ true) is (node-itself id) in
     absurd cc
 
 module _ (s : State) (t : TreeState) (w : ℕ) (n : NodeId) (e : NodeEntry) (may : MayDelete s t w) (there : node_entry n s.nodes ≡ Some e) where

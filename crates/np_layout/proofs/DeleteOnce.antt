@@ -1,13 +1,10 @@
 -- lists in which at most one member passes a test: it is changed or left out, and the others stay
 use Rattle.std.proofs.Common.{◌≡◌, ℕ, Bool, true, false, not, cond, List, [], ◌∷◌, map, refl, sym, ap, ◌∙◌, subst}
 use Rattle.std.specs.Prelude.{filter}
-use Rattle.std.specs.List.{AllByRecursion, AllZip}
-use Rattle.np_lists.specs.Change.{change_first, remove_first}
-use Rattle.np_lists.specs.Rising.{NonePass, Rises}
+use Rattle.np_tree.specs.Prelude.{AllByRecursion, AllZip, NonePass, Rises, Row, change_first, is_named, remove_first, row_before}
 use Rattle.np_lists.proofs.FilterLemmas.{filter-not_none}
 use Rattle.np_nodes.proofs.PlaceLemmas.{bytes_eq-is}
-use Rattle.np_views.specs.Views.{Row, is_named, row_before}
-use Rattle.np_views.proofs.SiblingLemmas.{other-name_back}
+use Rattle.np_tree.proofs.SiblingLemmas.{other-name_back}
 
 -- no member after one that passes does
 abbrev pub IsOnce : {A : Type 0} → (A → Bool) → List A → Type 0

@@ -1,32 +1,19 @@
 -- several deletes: a queue is cleared, and what stays of a layout when a request or a node goes
 use Rattle.std.proofs.Common.{◌≡◌, ℕ, ◌+◌, ◌<◌, ◌≤◌, ◌^◌, eqb, Bool, true, false, not, ◌||◌, cond, List, [], ◌∷◌, ◌++◌, codes, Some, refl, sym, ap, ◌∙◌, subst, arith}
 use Rattle.std.specs.Prelude.{IsOk, filter, find}
-use Rattle.std.specs.List.{AllByRecursion, AllZip, list_any}
+use Rattle.np_machine.specs.Prelude.{AllByRecursion, AllZip, Rises, SessionId, State, list_any, ten_digits_of}
 use Rattle.std.proofs.lemmas.Bool.Decides.{nat_tests}
-use Rattle.np_text.specs.Number.{ten_digits_of}
-use Rattle.np_text.specs.declared.id.SessionId.{SessionId}
-use Rattle.np_lists.specs.Rising.{Rises}
 use Rattle.np_lists.proofs.Each.{all-weaker}
 use Rattle.np_lists.proofs.FilterLemmas.{filter-not_none}
-use Rattle.np_path.specs.Parts.{below}
-use Rattle.np_session.specs.Known.{is_in}
-use Rattle.np_nodes.specs.TreeState.{TreeState}
-use Rattle.np_nodes.specs.After.{after_part}
-use Rattle.np_nodes.specs.Answer.{part_answer}
-use Rattle.np_nodes.specs.declared.kind.Expect.TheVariants.{Any}
-use Rattle.np_nodes.specs.declared.op.Op.{Op}
+use Rattle.np_tree.specs.Prelude.{Any, Goes, IsWhole, Op, Row, TreeState, after_part, below, delete_parts, find_named, is_in, is_named, part_answer, row_before}
 use Rattle.np_nodes.specs.declared.op.Op.TheVariants as op
 use Rattle.np_nodes.proofs.PlaceLemmas.{bytes_eq-from}
-use Rattle.np_tree.specs.Whole.{IsWhole}
-use Rattle.np_views.specs.Several.{Goes, delete_parts}
-use Rattle.np_views.specs.Views.{Row, find_named, is_named, row_before}
-use Rattle.np_views.proofs.RelationLemmas.{rows-rise}
-use Rattle.np_views.proofs.SeveralLemmas.{goes-after}
-use Rattle.np_views.proofs.SiblingLemmas.{other-name_back}
-use Rattle.np_machine.specs.State.{State}
-use Rattle.np_places.specs.Place.{IsGood, above, path_of, place_name}
-use Rattle.np_places.specs.declared.place.Place.{Place}
-use Rattle.np_places.proofs.AboveLemmas.{path_of-joined}
+use Rattle.np_tree.proofs.RelationLemmas.{rows-rise}
+use Rattle.np_tree.proofs.SeveralLemmas.{goes-after}
+use Rattle.np_tree.proofs.SiblingLemmas.{other-name_back}
+use Rattle.np_layout.specs.Place.{IsGood, above, path_of, place_name}
+use Rattle.np_layout.specs.declared.place.Place.{Place}
+use Rattle.np_layout.proofs.AboveLemmas.{path_of-joined}
 use Rattle.np_layout.specs.Creates.{PartsLayOut}
 use Rattle.np_layout.specs.Deletes.{delete}
 use Rattle.np_layout.specs.Layout.{AreLaunchers, AreLive, AreJobs, AreRoles, AreSemaphores, AreSessions, AreSwept, IsFrame, IsWait, LaysOut, under}
@@ -57,10 +44,6 @@ any-told name p (row ∷ rows) (a ∷ list) tells = rw (tells.0, any-told name p
 pub all-pair : {A : Type 0} (P Q : A → Type 0) (list : List A) → AllByRecursion P list → AllByRecursion Q list → AllByRecursion (λ a. P a × Q a) list
 all-pair P Q [] first last = tt
 all-pair P Q (a ∷ list) first last = ((first.0, last.0), all-pair P Q list first.1 last.1)
-
-pub not-true : (b : Bool) → not b ≡ true → b ≡ false
-not-true true is = absurd cc
-not-true false is = refl
 
 -- ## a queue is cleared
 

@@ -1,38 +1,26 @@
 -- one wait of a queue is deleted
 use Rattle.std.proofs.Common.{◌≡◌, ℕ, zero, suc, ◌+◌, Bool, true, false, ◌||◌, cond, List, [], ◌∷◌, map, Some, refl, sym, ap, ◌∙◌, subst, arith}
 use Rattle.std.specs.Prelude.{filter, find, slice_get}
-use Rattle.std.specs.List.{AllByRecursion, AllZip}
-use Rattle.std.specs.Option.{option_map}
+use Rattle.np_machine.specs.Prelude.{AllByRecursion, AllZip, Rises, SessionId, State, is_queued, is_session, left, option_map}
 use Rattle.std.proofs.lemmas.Bool.Decides.{nat_tests}
-use Rattle.np_text.specs.declared.id.SessionId.{SessionId}
-use Rattle.np_lists.specs.Rising.{Rises}
 use Rattle.np_lists.proofs.Each.{all-at}
-use Rattle.np_nodes.specs.TreeState.{TreeState}
-use Rattle.np_nodes.specs.Nodes.{at_path}
-use Rattle.np_nodes.specs.declared.node.Node.{Node}
+use Rattle.np_tree.specs.Prelude.{IsWhole, Node, Row, Seen, TreeState, at_path, find_named, is_named, name_of, parent_of, row_before, row_of, rows_at, seen_at, seen_in, seen_of}
 use Rattle.np_nodes.proofs.PlaceLemmas.{bytes_eq-from}
-use Rattle.np_path.specs.Parts.{name_of, parent_of}
-use Rattle.np_tree.specs.Whole.{IsWhole}
 use Rattle.np_tree.proofs.StandingLemmas.{children_of-ephemeral}
-use Rattle.np_views.specs.Views.{Row, Seen, find_named, is_named, row_before, row_of, rows_at, seen_at, seen_in, seen_of}
-use Rattle.np_views.proofs.GoesLemmas.{seen-node}
-use Rattle.np_views.proofs.RelationLemmas.{rows-rise, seen-is-row}
-use Rattle.np_views.proofs.SiblingLemmas.{other-name, other-name_back}
-use Rattle.np_machine.specs.Tables.{is_queued, is_session, left}
-use Rattle.np_places.specs.Place.{IsGood, above, path_of, place_name}
-use Rattle.np_places.specs.declared.place.Place.{Place}
-use Rattle.np_places.proofs.AboveLemmas.{is_path-of, parts-of}
+use Rattle.np_tree.proofs.GoesLemmas.{seen-node}
+use Rattle.np_tree.proofs.RelationLemmas.{rows-rise, seen-is-row}
+use Rattle.np_tree.proofs.SiblingLemmas.{other-name, other-name_back}
+use Rattle.np_layout.specs.Place.{IsGood, above, path_of, place_name}
+use Rattle.np_layout.specs.declared.place.Place.{Place}
+use Rattle.np_layout.proofs.AboveLemmas.{is_path-of, parts-of}
 use Rattle.np_layout.specs.Deletes.{AreDistinct, MayDelete}
-use Rattle.np_machine.specs.State.{State}
 use Rattle.np_layout.specs.Layout.{IsQueue, IsWait, under}
 use Rattle.np_layout.specs.Rows.{wait_row}
 use Rattle.np_layout.proofs.DeleteOnce.{zip-filter}
 use Rattle.np_layout.proofs.DeleteSteps.{DeleteGoes, DeletesRow, delete-goes, is_other}
+use Rattle.np_machine.proofs.Ids.{session-equal}
 
 -- ## sessions
-
-pub session-is : (a b : SessionId) → is_session a b ≡ true → a ≡ b
-session-is a b same = let number : a.0 ≡ b.0 = grind (arith, nat_tests) in ap (λ (n : ℕ). record { 0 = n }) number
 
 session-self : (a : SessionId) → is_session a a ≡ true
 session-self a = grind (arith, nat_tests)
@@ -74,7 +62,7 @@ module _ (next number : ℕ) (session : SessionId) where
 
   later-other : (other : SessionId) (queue : List SessionId) (b : Bool) → is_session other session ≡ b → is_queued other queue ≡ false → is_queued session queue ≡ true → is_session other session ≡ false
   later-other other queue true is none some =
-      let both : is_queued session queue ≡ false = subst (λ (x : SessionId). is_queued x queue ≡ false) (session-is other session is) none in
+      let both : is_queued session queue ≡ false = subst (λ (x : SessionId). is_queued x queue ≡ false) (session-equal other session is) none in
       absurd cc
   later-other other queue false is none some = is
 

@@ -1,22 +1,13 @@
 -- a session leaves a request's queue
 use Rattle.std.proofs.Common.{◌≡◌, ℕ, Bool, true, false, List, [], ◌∷◌, map, Option, Some, refl, sym, ap, ◌∙◌, subst}
-use Rattle.std.specs.List.{AllByRecursion}
-use Rattle.std.specs.Option.{option_map_or}
-use Rattle.np_text.specs.declared.id.RequestId.{RequestId}
-use Rattle.np_text.specs.declared.id.SessionId.{SessionId}
-use Rattle.np_lists.specs.Rising.{Rises}
+use Rattle.np_machine.specs.Prelude.{AllByRecursion, RequestEntry, RequestId, Rises, SessionId, State, left, option_map_or, put_request_queue, request_entry, request_queue, same_request}
 use Rattle.np_lists.proofs.Each.{all-find, all-weaker}
 use Rattle.np_lists.proofs.FoundLemmas.{find-passes}
-use Rattle.np_nodes.specs.TreeState.{TreeState}
-use Rattle.np_nodes.specs.After.{after_part}
-use Rattle.np_views.specs.Views.{is_named, row_before}
-use Rattle.np_views.proofs.RelationLemmas.{rows-rise}
-use Rattle.np_machine.specs.Entries.{RequestEntry}
-use Rattle.np_machine.specs.State.{State}
-use Rattle.np_machine.specs.Tables.{left, put_request_queue, request_entry, request_queue, same_request}
-use Rattle.np_places.specs.Place.{IsGood, path_of, place_name}
-use Rattle.np_places.specs.declared.place.Place.{Place}
-use Rattle.np_places.specs.declared.place.Place.TheVariants.{Request, RequestLock, RequestLocks, RequestWait}
+use Rattle.np_tree.specs.Prelude.{TreeState, after_part, is_named, row_before}
+use Rattle.np_tree.proofs.RelationLemmas.{rows-rise}
+use Rattle.np_layout.specs.Place.{IsGood, path_of, place_name}
+use Rattle.np_layout.specs.declared.place.Place.{Place}
+use Rattle.np_layout.specs.declared.place.Place.TheVariants.{Request, RequestLock, RequestLocks, RequestWait}
 use Rattle.np_layout.specs.Deletes.{MayDelete, RequestWaitsGoLayOut, delete}
 use Rattle.np_layout.specs.Layout.{AreRequests, IsQueue, LaysOut}
 use Rattle.np_layout.specs.Rows.{request_lock_row, request_row}
@@ -24,7 +15,8 @@ use Rattle.np_layout.proofs.DeleteOnce.{IsOnce, change-one, map-change_first, on
 use Rattle.np_layout.proofs.DeleteQueues.{queue-left, wait-goes}
 use Rattle.np_layout.proofs.DeleteSteps.{DeleteGoes}
 use Rattle.np_layout.proofs.Elsewhere.{frame-stays, jobs-stay, launchers-stay, live-stays, node_locks-stay, nodes-stay, queue-stays, requests-stay, roles-stay, rows-stay, semaphores-stay, sessions-stay, swept-stay}
-use Rattle.np_layout.proofs.SetRequests.{named-by, same-is, same-self}
+use Rattle.np_layout.proofs.SetRequests.{named-by}
+use Rattle.np_machine.proofs.Ids.{request-equal, request-itself}
 
 -- ## the request among others
 
@@ -34,7 +26,7 @@ module _ (r : RequestId) where
 
   -- it has the id that it is found by
   pub found-request : (entries : List RequestEntry) (e : RequestEntry) → request_entry r entries ≡ Some e → e.id ≡ r
-  found-request entries e there = same-is e.id r (find-passes is_request_it entries e there)
+  found-request entries e there = request-equal e.id r (find-passes is_request_it entries e there)
 
   -- its id is good
   pub request-good : (entries : List RequestEntry) (e : RequestEntry) → AllByRecursion (λ x. IsGood (Request x.id)) entries → request_entry r entries ≡ Some e → IsGood (Request r)
@@ -55,7 +47,7 @@ module _ (r : RequestId) where
   pub lock-apart : (id : RequestId) → same_request id r ≡ false → RequestLock id ≡ RequestLock r → ⊥
   lock-apart id other same =
       let is : id ≡ r = cc in
-      let itself = subst (λ (x : RequestId). same_request id x ≡ true) is (same-self id) in
+      let itself = subst (λ (x : RequestId). same_request id x ≡ true) is (request-itself id) in
       absurd cc
 
 -- ## it has another queue
@@ -75,7 +67,7 @@ module _ (s : State) (t : TreeState) (w : ℕ) (r : RequestId) (e : RequestEntry
 
   queues : AllByRecursion (λ x. IsQueue (RequestLock x.id) x.queue u) requests
   queues = change-one (is_request_it r) put (λ (x : RequestEntry). IsGood (Request x.id)) (λ (x : RequestEntry). IsQueue (RequestLock x.id) x.queue t) (λ (x : RequestEntry). IsQueue (RequestLock x.id) x.queue u)
-      (λ x is good old. subst (λ (id : RequestId). IsQueue (RequestLock id) queue u) (sym (same-is x.id r is)) has)
+      (λ x is good old. subst (λ (id : RequestId). IsQueue (RequestLock id) queue u) (sym (request-equal x.id r is)) has)
       (λ x other good old. queue-stays (RequestLock r ∷ []) t u goes.row.stays (RequestLock x.id) x.queue good refl (lock-apart r x.id other, tt) old)
       s.requests (request-once r s t w may r-good) may.good.requests may.lays.request_locks.queues
 

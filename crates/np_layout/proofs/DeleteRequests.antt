@@ -1,32 +1,24 @@
 -- a request goes
 use Rattle.std.proofs.Common.{◌≡◌, ℕ, ◌<◌, ◌≤◌, ◌^◌, Bool, true, not, List, [], ◌∷◌, map, Some, refl, ap, ◌∙◌, subst, arith}
 use Rattle.std.specs.Prelude.{filter, find}
-use Rattle.std.specs.List.{AllByRecursion, list_any}
-use Rattle.np_text.specs.declared.id.RequestId.{RequestId}
-use Rattle.np_lists.specs.Change.{remove_first}
+use Rattle.np_machine.specs.Prelude.{AllByRecursion, RequestEntry, RequestId, State, list_any, remove_first, remove_request, request_entry, request_queue}
 use Rattle.np_lists.proofs.Each.{all-filter_to, all-weaker}
-use Rattle.np_session.specs.Known.{is_in}
-use Rattle.np_nodes.specs.TreeState.{TreeState}
-use Rattle.np_nodes.specs.After.{after_part}
-use Rattle.np_views.specs.Several.{delete_parts}
-use Rattle.np_views.specs.Views.{Row, is_named}
-use Rattle.np_views.proofs.RoomLemmas.{room-gives}
-use Rattle.np_views.proofs.SeveralLemmas.{goes-joined}
-use Rattle.np_machine.specs.Entries.{RequestEntry}
-use Rattle.np_machine.specs.State.{State}
-use Rattle.np_machine.specs.Tables.{remove_request, request_entry, request_queue}
-use Rattle.np_places.specs.Place.{IsGood, path_of, place_name}
-use Rattle.np_places.specs.declared.place.Place.TheVariants.{Request, RequestLock, RequestLocks, RequestWait, Requests}
+use Rattle.np_tree.specs.Prelude.{Row, TreeState, after_part, delete_parts, is_in, is_named}
+use Rattle.np_tree.proofs.ViewRoomLemmas.{room-gives}
+use Rattle.np_tree.proofs.SeveralLemmas.{goes-joined}
+use Rattle.np_layout.specs.Place.{IsGood, path_of, place_name}
+use Rattle.np_layout.specs.declared.place.Place.TheVariants.{Request, RequestLock, RequestLocks, RequestWait, Requests}
 use Rattle.np_layout.specs.Deletes.{MayDelete, RequestsGoLayOut, delete, request_deletes}
 use Rattle.np_layout.specs.Layout.{AreNodeLocks, AreNodes, AreRequests, IsQueue, LaysOut, under}
 use Rattle.np_layout.specs.Rows.{request_lock_row, request_row}
 use Rattle.np_layout.proofs.DeleteLists.{any-mapped, filter-mapped}
 use Rattle.np_layout.proofs.DeleteOnce.{IsOnce, filter-removed}
-use Rattle.np_layout.proofs.DeleteParts.{AreWaits, Cleared, RestLays, all-pair, parts-after, clear, found-any, not-true, rest-of, rest-stays}
+use Rattle.np_layout.proofs.DeleteParts.{AreWaits, Cleared, RestLays, all-pair, parts-after, clear, found-any, rest-of, rest-stays}
 use Rattle.np_layout.proofs.DeleteRequestWaits.{is_request_it, lock-apart, lock-names, request-good, request-once, request-queue}
 use Rattle.np_layout.proofs.DeleteSteps.{DeleteGoes, bare-leaf, delete-goes, is_other}
 use Rattle.np_layout.proofs.Elsewhere.{node_locks-stay, nodes-stay, queue-stays, requests-stay, rows-stay}
 use Rattle.np_layout.proofs.SetLists.{any-found}
+use Rattle.std.proofs.lemmas.Bool.{not-true}
 
 -- the waits of a request's lock
 request-waits : (r : RequestId) → IsGood (Request r) → AreWaits (RequestLock r) (RequestWait r)

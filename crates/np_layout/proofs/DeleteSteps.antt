@@ -1,35 +1,25 @@
 -- one delete of the node of a good place
-use Rattle.std.proofs.Common.{◌≡◌, ℕ, ◌<◌, Bool, true, false, not, cond, List, [], ◌∷◌, Some, Result, Ok, Err, refl, sym, ap, ◌∙◌, subst}
+use Rattle.std.proofs.Common.{◌≡◌, ℕ, ◌<◌, Bool, true, false, not, cond, List, [], ◌∷◌, Some, Result, Ok, refl, sym, ap, ◌∙◌, subst}
 use Rattle.std.specs.Prelude.{IsOk, filter}
-use Rattle.std.specs.List.{AllByRecursion}
-use Rattle.std.specs.Option.{option_map}
+use Rattle.np_tree.specs.Prelude.{AllByRecursion, Any, IsWhole, Row, TreeRefusal, TreeState, after_part, below, delete_answer, find_named, is_in, is_named, name_of, option_map, parent_of, part_answer, rows_at, seen_at, seen_in, ◌>>◌}
 use Rattle.std.specs.Str.{bytes_eq}
-use Rattle.np_lists.specs.Refusals.{◌>>◌}
 use Rattle.np_lists.proofs.Each.{all-filter_to, all-find, all-weaker}
 use Rattle.np_lists.proofs.FoundLemmas.{find-passes}
-use Rattle.np_path.specs.Parts.{below, name_of, parent_of}
-use Rattle.np_session.specs.Known.{is_in}
-use Rattle.np_nodes.specs.TreeState.{TreeState}
-use Rattle.np_nodes.specs.After.{after_part}
-use Rattle.np_nodes.specs.Answer.{delete_answer, part_answer}
-use Rattle.np_nodes.specs.declared.kind.Expect.TheVariants.{Any}
 use Rattle.np_nodes.specs.declared.op.OpDone.TheVariants as done
-use Rattle.np_nodes.specs.declared.refusal.TreeRefusal.{TreeRefusal}
 use Rattle.np_nodes.proofs.PlaceLemmas.{bytes_eq-is}
-use Rattle.np_tree.specs.Whole.{IsWhole}
 use Rattle.np_tree.proofs.WholeLemmas.{IsWhole-after_part}
-use Rattle.np_views.specs.Relations.{Deletes}
-use Rattle.np_views.specs.Views.{Row, find_named, is_named, rows_at, seen_at, seen_in}
-use Rattle.np_views.proofs.GoesLemmas.{deletes-go}
-use Rattle.np_views.proofs.RelationLemmas.{apart-below, deletes-show, seen-is-row}
-use Rattle.np_places.specs.Place.{IsGood, above, path_of, place_name}
-use Rattle.np_places.specs.declared.place.Place.{Place}
-use Rattle.np_places.proofs.AboveLemmas.{IsGood-above, is_path-of, parts-of, path_of-joined}
-use Rattle.np_places.proofs.ChildLemmas.{same_paths}
+use Rattle.np_tree.specs.Relations.{Deletes}
+use Rattle.np_tree.proofs.GoesLemmas.{deletes-go}
+use Rattle.np_tree.proofs.RelationLemmas.{apart-below, deletes-show, seen-is-row}
+use Rattle.np_layout.specs.Place.{IsGood, above, path_of, place_name}
+use Rattle.np_layout.specs.declared.place.Place.{Place}
+use Rattle.np_layout.proofs.AboveLemmas.{IsGood-above, is_path-of, parts-of, path_of-joined}
+use Rattle.np_layout.proofs.ChildLemmas.{same_paths}
 use Rattle.np_layout.specs.Deletes.{delete}
 use Rattle.np_layout.specs.Layout.{HasLeaves, next_under, under}
 use Rattle.np_layout.proofs.Elsewhere.{IsApart, Stays, has_counter}
 use Rattle.np_layout.proofs.SetSteps.{empty-by}
+use Rattle.np_tree.proofs.ClearLemmas.{ok-then}
 
 -- the other rows than those of a name
 abbrev pub is_other : List ℕ → Row → Bool
@@ -53,10 +43,6 @@ pub record DeletesRow (dir p : Place) (t u : TreeState) : Type 0 where
 pub record DeleteGoes (t : TreeState) (w : ℕ) (dir p : Place) : Type 0 where
   pub goes : IsOk (part_answer t w (delete p))
   pub row : DeletesRow dir p t (after_part t w (delete p))
-
-ok-delete : (r : Result (Unit {0}) TreeRefusal) → r ≡ Ok tt → IsOk (r >> Ok done.Deleted)
-ok-delete (Ok u) is = refl
-ok-delete (Err refusal) is = absurd cc
 
 -- there is nothing below a row of a directory of leaves
 pub bare-leaf : (t : TreeState) (dir p : Place) (row : Row) → above p ≡ Some dir → HasLeaves dir t → find_named (place_name p) (under dir t) ≡ Some row → rows_at t (path_of p) ≡ []
@@ -87,7 +73,7 @@ delete-goes t w dir p row good over whole live change there bare =
     let empty : (path : List ℕ) → rows_at t path ≡ [] → rows_at u path ≡ [] =
     λ path. empty-by (path_of dir) path t u (filter (is_other (place_name p))) (bytes_eq path (path_of dir)) refl refl shows.rows (shows.other_rows path) in
     record {
-      goes = ok-delete (delete_answer t w (path_of p) Any) go;
+      goes = ok-then (delete_answer t w (path_of p) Any) go;
       row = record {
         whole = IsWhole-after_part t w (delete p) done.Deleted (record { path = is_path-of p good; numbered = refl }) (ap (λ (r : Result (Unit {0}) TreeRefusal). r >> Ok done.Deleted) go) whole;
         live = refl;

@@ -1,22 +1,14 @@
 -- what stays of a layout if only rows of some directories change
 use Rattle.std.proofs.Common.{◌≡◌, ℕ, zero, suc, ◌+◌, ◌≤◌, ◌^◌, eqb, eq-eqb, Bool, true, false, ◌||◌, map, List, [], ◌∷◌, ◌++◌, length, Some, refl, ap, ◌∙◌, sym, subst, arith}
 use Rattle.std.specs.Fmt.{decimal}
-use Rattle.std.specs.List.{AllByRecursion, AllZip, list_any, range_with_len}
-use Rattle.np_text.specs.declared.id.JobId.{JobId}
-use Rattle.np_text.specs.declared.id.SemId.{SemId}
-use Rattle.np_text.specs.declared.id.SessionId.{SessionId}
-use Rattle.np_session.specs.Known.{is_in}
-use Rattle.np_nodes.specs.TreeState.{TreeState}
-use Rattle.np_views.specs.Views.{Row}
-use Rattle.np_record.specs.declared.record.JobRecord.{JobRecord}
-use Rattle.np_record.specs.declared.record.RoleRecord.{RoleRecord}
-use Rattle.np_machine.specs.Entries.{NodeEntry, RequestEntry}
+use Rattle.np_machine.specs.Prelude.{AllByRecursion, AllZip, JobId, JobRecord, NodeEntry, RequestEntry, RoleRecord, SemId, SessionId, list_any, range_with_len}
+use Rattle.np_tree.specs.Prelude.{Row, TreeState, is_in}
 use Rattle.np_machine.specs.declared.state.Registration.{Registration}
 use Rattle.np_machine.specs.declared.state.SessionFacts.{SessionFacts}
 use Rattle.np_machine.specs.declared.state.Swept.{Swept}
-use Rattle.np_places.specs.Place.{IsGood}
-use Rattle.np_places.specs.declared.place.Place.{Place}
-use Rattle.np_places.specs.declared.place.Place.TheVariants.{Root, Nodepool, Requests, Request, RequestLocks, RequestLock, Nodes, Node, NodeLock, Launchers, Zuul, Semaphores, Semaphore, Poolsim, Jobs, Roles, Sessions, SweptPairs, Tick}
+use Rattle.np_layout.specs.Place.{IsGood}
+use Rattle.np_layout.specs.declared.place.Place.{Place}
+use Rattle.np_layout.specs.declared.place.Place.TheVariants.{Root, Nodepool, Requests, Request, RequestLocks, RequestLock, Nodes, Node, NodeLock, Launchers, Zuul, Semaphores, Semaphore, Poolsim, Jobs, Roles, Sessions, SweptPairs, Tick}
 use Rattle.np_layout.specs.Layout.{AreJobs, AreLaunchers, AreLive, AreNodeLocks, AreNodes, AreRequestLocks, AreRequests, AreRoles, AreSemaphores, AreSessions, AreSwept, HasHandles, HasLeaves, HasNodeLock, IsFrame, IsNodeRow, IsQueue, IsWait, directories, next_under, under}
 use Rattle.np_layout.specs.Rows.{persistent}
 

@@ -1,21 +1,14 @@
 -- requests, nodes and sessions are read back
 use Rattle.std.proofs.Common.{◌≡◌, ℕ, ◌+◌, ◌-◌, Bool, List, [], ◌∷◌, length, map, unwrap_or, refl, ap, ◌∙◌, arith}
-use Rattle.std.specs.List.{AllByRecursion, AllZip, range_with_len}
-use Rattle.np_text.specs.declared.id.NodeId.{NodeId}
-use Rattle.np_text.specs.declared.id.RequestId.{RequestId}
-use Rattle.np_text.specs.declared.id.SessionId.{SessionId}
-use Rattle.np_session.specs.Known.{is_in}
-use Rattle.np_nodes.specs.TreeState.{TreeState}
-use Rattle.np_views.specs.Views.{Row}
-use Rattle.np_record.specs.declared.record.SessionRecord.{SessionRecord}
+use Rattle.np_machine.specs.Prelude.{AllByRecursion, AllZip, NodeEntry, NodeId, RequestEntry, RequestId, SessionId, SessionRecord, range_with_len}
+use Rattle.np_tree.specs.Prelude.{Row, TreeState, is_in}
 use Rattle.np_spelling.specs.Reading.{node_in, request_record_in, session_in}
 use Rattle.np_spelling.specs.Spelling.{IsRequest, IsSessionRole, request_record_text, session_text}
-use Rattle.np_machine.specs.Entries.{NodeEntry, RequestEntry}
 use Rattle.np_machine.specs.declared.state.Locked.{Locked}
 use Rattle.np_machine.specs.declared.state.SessionFacts.{SessionFacts}
-use Rattle.np_places.specs.Place.{IsGood, place_name}
-use Rattle.np_places.specs.declared.place.Place.{Place}
-use Rattle.np_places.specs.declared.place.Place.TheVariants.{Request, RequestLock, Nodes, Node, NodeLock}
+use Rattle.np_layout.specs.Place.{IsGood, place_name}
+use Rattle.np_layout.specs.declared.place.Place.{Place}
+use Rattle.np_layout.specs.declared.place.Place.TheVariants.{Request, RequestLock, Nodes, Node, NodeLock}
 use Rattle.np_layout.specs.Layout.{AreLive, AreNodeLocks, AreNodes, AreRequestLocks, AreRequests, AreSessions, HasNodeLock, IsNodeRow, IsQueue, IsWait, under}
 use Rattle.np_layout.specs.Rows.{request_row, rows_from, session_row}
 use Rattle.np_layout.specs.Decoded.{no_node, no_request, no_session, node_at, node_named, nodes_at, owner_of, queue_at, request_at, request_named, requests_at, session_at, sessions_at, sessions_from}

@@ -1,19 +1,11 @@
 -- several parts of the first call make the nodes of one kind
 use Rattle.std.proofs.Common.{◌≡◌, ℕ, zero, suc, ◌+◌, ◌<◌, ◌≤◌, eqb, false, List, [], ◌∷◌, map, Some, None, refl, ap, ◌∙◌, subst, arith}
-use Rattle.std.specs.List.{range_with_len}
-use Rattle.std.specs.Option.{option_map}
-use Rattle.np_session.specs.Known.{is_in}
-use Rattle.np_nodes.specs.TreeState.{TreeState}
-use Rattle.np_nodes.specs.After.{after_part}
-use Rattle.np_tree.specs.Whole.{IsWhole}
-use Rattle.np_views.specs.Several.{HasRoomFor}
-use Rattle.np_views.specs.Views.{Row, Seen, find_named, seen_at, seen_in}
-use Rattle.np_views.proofs.RelationLemmas.{seen-is-row}
-use Rattle.np_views.proofs.RoomLemmas.{room-falls, room-gives}
-use Rattle.np_path.specs.Parts.{name_of}
-use Rattle.np_places.specs.Place.{IsGood, above, path_of}
-use Rattle.np_places.specs.declared.place.Place.{Place}
-use Rattle.np_places.proofs.AboveLemmas.{IsGood-above, is_path-of, parts-of}
+use Rattle.np_tree.specs.Prelude.{HasRoomFor, IsWhole, Row, Seen, TreeState, after_part, find_named, is_in, name_of, option_map, range_with_len, seen_at, seen_in}
+use Rattle.np_tree.proofs.RelationLemmas.{seen-is-row}
+use Rattle.np_tree.proofs.ViewRoomLemmas.{room-falls, room-gives}
+use Rattle.np_layout.specs.Place.{IsGood, above, path_of}
+use Rattle.np_layout.specs.declared.place.Place.{Place}
+use Rattle.np_layout.proofs.AboveLemmas.{IsGood-above, is_path-of, parts-of}
 use Rattle.np_layout.specs.First.{make}
 use Rattle.np_layout.specs.Layout.{under}
 use Rattle.np_layout.specs.Rows.{persistent}

@@ -1,22 +1,13 @@
 -- the tree of the fixed directories alone
 use Rattle.std.proofs.Common.{◌≡◌, ℕ, ◌+◌, ◌≤◌, List, [], ◌∷◌, length, map, Some, None, refl, ap, subst, arith}
-use Rattle.np_session.specs.Known.{is_in}
-use Rattle.np_nodes.specs.TreeState.{TreeState, new_tree}
-use Rattle.np_nodes.specs.After.{after_part}
-use Rattle.np_nodes.specs.Calls.{after_begin}
-use Rattle.np_nodes.specs.Multi.{after_parts}
-use Rattle.np_nodes.specs.declared.op.Op.{Op}
-use Rattle.np_tree.specs.Whole.{IsPart, IsWhole}
+use Rattle.np_tree.specs.Prelude.{Goes, HasRoomFor, IsPart, IsWhole, Op, TreeState, after_begin, after_part, after_parts, is_in, new_tree, owner_at, seen_at}
 use Rattle.np_tree.proofs.WholeLemmas.{IsWhole-new_tree}
-use Rattle.np_views.specs.Goes.{owner_at}
-use Rattle.np_views.specs.Several.{Goes, HasRoomFor}
-use Rattle.np_views.specs.Views.{seen_at}
-use Rattle.np_views.proofs.ElsewhereLemmas.{goes-whole}
-use Rattle.np_views.proofs.RoomLemmas.{room-falls}
-use Rattle.np_places.specs.Place.{IsGood, path_of}
-use Rattle.np_places.specs.declared.place.Place.{Place}
-use Rattle.np_places.specs.declared.place.Place.TheVariants.{Root, Nodepool, Requests, RequestLocks, Nodes, Launchers, Zuul, Semaphores, Poolsim, Jobs, Roles, Sessions, SweptPairs, Tick}
-use Rattle.np_places.proofs.AboveLemmas.{is_path-of}
+use Rattle.np_tree.proofs.ElsewhereLemmas.{goes-whole}
+use Rattle.np_tree.proofs.ViewRoomLemmas.{room-falls}
+use Rattle.np_layout.specs.Place.{IsGood, path_of}
+use Rattle.np_layout.specs.declared.place.Place.{Place}
+use Rattle.np_layout.specs.declared.place.Place.TheVariants.{Root, Nodepool, Requests, RequestLocks, Nodes, Launchers, Zuul, Semaphores, Poolsim, Jobs, Roles, Sessions, SweptPairs, Tick}
+use Rattle.np_layout.proofs.AboveLemmas.{is_path-of}
 use Rattle.np_layout.specs.First.{first_directories, make}
 use Rattle.np_layout.specs.Layout.{directories, next_under, under}
 use Rattle.np_layout.proofs.FirstKinds.{Ready}

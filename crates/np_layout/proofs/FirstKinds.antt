@@ -1,17 +1,11 @@
 -- the kinds of places that the first call makes, and what it is to make nodes of one kind in a directory
 use Rattle.std.proofs.Common.{◌≡◌, ℕ, ◌<◌, ◌≤◌, eqb, eq-eqb, true, false, List, length, map, Some, None, ap}
 use Rattle.std.specs.Prelude.{fold}
-use Rattle.std.specs.List.{range_with_len}
-use Rattle.np_nodes.specs.TreeState.{TreeState}
-use Rattle.np_session.specs.Known.{is_in}
-use Rattle.np_tree.specs.Whole.{IsWhole}
-use Rattle.np_views.specs.Goes.{owner_at}
-use Rattle.np_views.specs.Several.{Goes, HasRoomFor}
-use Rattle.np_views.specs.Views.{Row, seen_at, with_row}
-use Rattle.np_places.specs.Place.{IsGood, above, path_of}
-use Rattle.np_places.specs.declared.place.Place.{Place}
-use Rattle.np_places.specs.declared.place.Place.TheVariants.{Semaphores, Semaphore, Poolsim, Jobs, Job, Roles, LauncherRole, JanitorRole, RequesterRole, Tick}
-use Rattle.np_places.proofs.ChildLemmas.{same_paths}
+use Rattle.np_tree.specs.Prelude.{Goes, HasRoomFor, IsWhole, Row, TreeState, is_in, owner_at, range_with_len, seen_at, with_row}
+use Rattle.np_layout.specs.Place.{IsGood, above, path_of}
+use Rattle.np_layout.specs.declared.place.Place.{Place}
+use Rattle.np_layout.specs.declared.place.Place.TheVariants.{Semaphores, Semaphore, Poolsim, Jobs, Job, Roles, LauncherRole, JanitorRole, RequesterRole, Tick}
+use Rattle.np_layout.proofs.ChildLemmas.{same_paths}
 use Rattle.np_layout.specs.First.{make}
 use Rattle.np_layout.specs.Layout.{next_under, under}
 use Rattle.np_layout.specs.Rows.{persistent}

@@ -1,10 +1,8 @@
 -- lists of rows that are put in order, and of equal records
 use Rattle.std.proofs.Common.{◌≡◌, ℕ, zero, suc, ◌+◌, ◌<◌, List, [], ◌∷◌, length, map, unwrap_or, refl, ap, arith}
 use Rattle.std.specs.Prelude.{slice_get}
-use Rattle.std.specs.List.{AllByRecursion, range_with_len}
+use Rattle.np_tree.specs.Prelude.{AllByRecursion, JobId, Row, range_with_len, row_before, with_row}
 use Rattle.np_lists.proofs.Each.{all-insert_before}
-use Rattle.np_text.specs.declared.id.JobId.{JobId}
-use Rattle.np_views.specs.Views.{Row, row_before, with_row}
 use Rattle.np_layout.specs.Rows.{rows_from}
 use Rattle.np_layout.proofs.FirstKinds.{rows_put}
 

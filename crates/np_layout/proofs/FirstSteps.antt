@@ -1,31 +1,20 @@
 -- one part of the first call makes the node at a place
 use Rattle.std.proofs.Common.{◌≡◌, ℕ, ◌≤◌, eqb, Bool, true, false, List, [], ◌∷◌, length, Option, Some, None, Result, Ok, Err, refl, sym, ap, ◌∙◌, subst}
 use Rattle.std.specs.Prelude.{IsOk}
-use Rattle.std.specs.Option.{option_map}
+use Rattle.np_tree.specs.Prelude.{IsWhole, Persistent, TreeRefusal, TreeState, after_part, below, counter_at, create_answer, is_in, name_of, option_map, parent_of, part_answer, seen_at, ◌>>=◌}
 use Rattle.std.specs.Str.{bytes_eq}
-use Rattle.np_lists.specs.Refusals.{◌>>=◌}
-use Rattle.np_path.specs.Parts.{below, name_of, parent_of}
-use Rattle.np_session.specs.Known.{is_in}
-use Rattle.np_nodes.specs.TreeState.{TreeState}
-use Rattle.np_nodes.specs.After.{after_part}
-use Rattle.np_nodes.specs.Answer.{create_answer, part_answer}
-use Rattle.np_nodes.specs.declared.kind.Mode.TheVariants.{Persistent}
 use Rattle.np_nodes.specs.declared.op.OpDone.TheVariants as done
-use Rattle.np_nodes.specs.declared.refusal.TreeRefusal.{TreeRefusal}
 use Rattle.np_nodes.proofs.PlaceLemmas.{bytes_eq-from, bytes_eq-is}
-use Rattle.np_tree.specs.Read.{counter_at}
-use Rattle.np_tree.specs.Whole.{IsWhole}
 use Rattle.np_tree.proofs.WholeLemmas.{IsWhole-after_part}
-use Rattle.np_views.specs.Goes.{CanCreate, owner_at}
-use Rattle.np_views.specs.Relations.{Creates, counter_after}
-use Rattle.np_views.specs.Several.{HasRoom}
-use Rattle.np_views.specs.Views.{seen_at}
-use Rattle.np_views.proofs.GoesLemmas.{creates-go}
-use Rattle.np_views.proofs.RelationLemmas.{creates-show, parts-change_nodes_alone}
-use Rattle.np_places.specs.Place.{IsGood, above, path_of, place_name}
-use Rattle.np_places.specs.declared.place.Place.{Place}
-use Rattle.np_places.proofs.AboveLemmas.{IsGood-above, is_path-of, parts-of, path_of-joined}
-use Rattle.np_places.proofs.ChildLemmas.{same_paths}
+use Rattle.np_tree.specs.Goes.{CanCreate, owner_at}
+use Rattle.np_tree.specs.Relations.{Creates, counter_after}
+use Rattle.np_tree.specs.Several.{HasRoom}
+use Rattle.np_tree.proofs.GoesLemmas.{creates-go}
+use Rattle.np_tree.proofs.RelationLemmas.{creates-show, parts-change_nodes_alone}
+use Rattle.np_layout.specs.Place.{IsGood, above, path_of, place_name}
+use Rattle.np_layout.specs.declared.place.Place.{Place}
+use Rattle.np_layout.proofs.AboveLemmas.{IsGood-above, is_path-of, parts-of, path_of-joined}
+use Rattle.np_layout.proofs.ChildLemmas.{same_paths}
 use Rattle.np_layout.specs.First.{make}
 use Rattle.np_layout.specs.Layout.{next_under}
 use Rattle.np_layout.specs.Rows.{persistent}

@@ -2,30 +2,19 @@
 use Rattle.std.proofs.Common.{◌≡◌, ℕ, ◌+◌, ◌<◌, ◌≤◌, eqb, false, List, [], ◌∷◌, ◌++◌, length, map, Some, None, refl, sym, ap, ◌∙◌, subst, arith}
 use Rattle.std.specs.Prelude.{IsOk}
 use Rattle.std.specs.Fmt.{decimal, digits}
-use Rattle.std.specs.List.{AllByRecursion, AllZip, range_with_len}
+use Rattle.np_machine.specs.Prelude.{AllByRecursion, AllZip, Configuration, IsSound, JobId, new_job, no_deeds, range_with_len, start}
 use Rattle.std.proofs.lemmas.List.{length-map}
 use Rattle.std.proofs.lemmas.List.Sums.{fold-append}
-use Rattle.np_path.specs.Parts.{below}
-use Rattle.np_session.specs.Known.{is_in}
-use Rattle.np_text.specs.declared.id.JobId.{JobId}
-use Rattle.np_site.specs.Configuration.{Configuration}
-use Rattle.np_site.specs.Sound.{IsSound}
-use Rattle.np_nodes.specs.TreeState.{TreeState, new_tree}
-use Rattle.np_nodes.specs.After.{after_part, with_next_number}
-use Rattle.np_nodes.specs.Calls.{after_begin}
-use Rattle.np_nodes.specs.Multi.{answers_from}
-use Rattle.np_machine.specs.State.{new_job, no_deeds, start}
+use Rattle.np_tree.specs.Prelude.{Goes, HasRoomFor, Row, TreeState, after_begin, after_part, answers_from, below, is_in, new_tree, rows_at, seen_at, with_next_number, with_row}
 use Rattle.np_spelling.specs.Spelling.{job_text, role_text}
-use Rattle.np_views.specs.Several.{Goes, HasRoomFor}
-use Rattle.np_views.specs.Views.{Row, rows_at, seen_at, with_row}
-use Rattle.np_views.proofs.RelationLemmas.{nothing-below_nothing}
-use Rattle.np_views.proofs.RoomLemmas.{room-gives}
-use Rattle.np_views.proofs.SeveralLemmas.{goes-answered, goes-joined, goes-under-one-number}
-use Rattle.np_places.specs.Place.{IsGood, above, path_of, place_name}
-use Rattle.np_places.specs.declared.place.Place.{Place}
-use Rattle.np_places.specs.declared.place.Place.TheVariants.{Root, Nodepool, Requests, RequestLocks, Nodes, Launchers, Zuul, Semaphores, Semaphore, Poolsim, Jobs, Job, Roles, LauncherRole, JanitorRole, RequesterRole, Sessions, SweptPairs, Tick}
-use Rattle.np_places.proofs.AboveLemmas.{path_of-joined}
-use Rattle.np_places.proofs.LengthLemmas.{length-two}
+use Rattle.np_tree.proofs.RelationLemmas.{nothing-below_nothing}
+use Rattle.np_tree.proofs.ViewRoomLemmas.{room-gives}
+use Rattle.np_tree.proofs.SeveralLemmas.{goes-answered, goes-joined, goes-under-one-number}
+use Rattle.np_layout.specs.Place.{IsGood, above, path_of, place_name}
+use Rattle.np_layout.specs.declared.place.Place.{Place}
+use Rattle.np_layout.specs.declared.place.Place.TheVariants.{Root, Nodepool, Requests, RequestLocks, Nodes, Launchers, Zuul, Semaphores, Semaphore, Poolsim, Jobs, Job, Roles, LauncherRole, JanitorRole, RequesterRole, Sessions, SweptPairs, Tick}
+use Rattle.np_layout.proofs.AboveLemmas.{path_of-joined}
+use Rattle.np_layout.proofs.LengthLemmas.{length-two}
 use Rattle.np_layout.specs.First.{first_directories, first_parts, first_tree, make, make_each}
 use Rattle.np_layout.specs.Layout.{AreJobs, AreRoles, AreSemaphores, HasHandles, HasLeaves, IsNodeRow, LaysOut, next_under, under}
 use Rattle.np_layout.specs.Rows.{by_name, handle_row, janitor_role_row, job_row, launcher_role_row, persistent, places, requester_role_row, rows_from, semaphore_row}

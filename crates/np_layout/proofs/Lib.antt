@@ -46,3 +46,10 @@ pub mod Marks
 pub mod Order
 pub mod Swept
 pub mod OneState
+pub mod NameLemmas
+pub mod AboveLemmas
+pub mod FaultLemmas
+pub mod ChildLemmas
+pub mod LengthLemmas
+pub mod OrderLemmas
+pub mod BufferLemmas

@@ -1,31 +1,26 @@
 -- registrations and handles are read back
 use Rattle.std.proofs.Common.{◌≡◌, ℕ, ◌+◌, ◌-◌, ◌<◌, ◌≤◌, ◌^◌, Bool, true, false, List, [], ◌∷◌, length, map, Option, Some, None, unwrap_or, refl, sym, ap, ◌∙◌, arith}
 use Rattle.std.specs.Prelude.{◌==◌, filter_map, find, nat_lt, slice_get}
-use Rattle.std.specs.List.{AllByRecursion, range_with_len}
-use Rattle.std.specs.Option.{option_map}
+use Rattle.np_machine.specs.Prelude.{AllByRecursion, JobId, Rises, SemId, handles_of, option_map, range_with_len}
 use Rattle.std.proofs.lemmas.Bool.{eqb-false}
 use Rattle.std.proofs.lemmas.Bool.Decides.{nat_tests}
-use Rattle.np_text.specs.declared.id.JobId.{JobId}
-use Rattle.np_text.specs.declared.id.SemId.{SemId}
-use Rattle.np_lists.specs.Rising.{Rises}
 use Rattle.np_lists.proofs.Each.{all-at, all-weaker}
 use Rattle.np_lists.proofs.FoundLemmas.{find-passes}
-use Rattle.np_nodes.specs.TreeState.{TreeState}
+use Rattle.np_tree.specs.Prelude.{Row, TreeState, find_named, is_named}
 use Rattle.np_nodes.proofs.PlaceLemmas.{bytes_eq-from}
-use Rattle.np_views.specs.Views.{Row, find_named, is_named}
-use Rattle.np_machine.specs.Tables.{handles_of}
 use Rattle.np_machine.specs.declared.state.Registration.{Registration}
-use Rattle.np_places.specs.Place.{IsGood, place_name}
-use Rattle.np_places.specs.declared.place.Place.{Place}
-use Rattle.np_places.specs.declared.place.Place.TheVariants.{Launcher, Semaphore, Handle}
+use Rattle.np_layout.specs.Place.{IsGood, place_name}
+use Rattle.np_layout.specs.declared.place.Place.{Place}
+use Rattle.np_layout.specs.declared.place.Place.TheVariants.{Launcher, Semaphore, Handle}
 use Rattle.np_layout.specs.Layout.{AreLaunchers, AreSemaphores, HasHandles, under}
 use Rattle.np_layout.specs.Rows.{by_name, handle_row, launcher_row}
-use Rattle.np_layout.proofs.SetLists.{at-range, within}
+use Rattle.np_layout.proofs.SetLists.{at-range}
 use Rattle.np_layout.proofs.SetSteps.{named-other}
 use Rattle.np_layout.specs.Carried.{AreHolders}
 use Rattle.np_layout.specs.Decoded.{handle_at, owner_of, registration_at}
 use Rattle.np_layout.proofs.Lists.{filter_map-range, map-places}
 use Rattle.np_layout.proofs.Named.{find-keyed}
+use Rattle.np_lists.proofs.Plain.{within}
 
 -- the member that is found has the number
 found-number : {X : Type 0} (key : X → ℕ) (n : ℕ) (xs : List X) (x : X) → find (λ y. key y == n) xs ≡ Some x → key x ≡ n

@@ -1,24 +1,17 @@
 -- the row of a name among rows in the order of their names, and the bytes at its path
 use Rattle.std.proofs.Common.{◌≡◌, ℕ, zero, suc, ◌+◌, Bool, true, false, List, [], ◌∷◌, ◌++◌, map, Option, Some, None, unwrap_or, refl, sym, ap, ◌∙◌, arith}
 use Rattle.std.specs.Prelude.{◌==◌, find, slice_get}
-use Rattle.std.specs.List.{AllByRecursion, list_any}
-use Rattle.std.specs.Option.{option_map}
-use Rattle.np_lists.specs.Rising.{Rises}
+use Rattle.np_tree.specs.Prelude.{AllByRecursion, IsWhole, Node, Rises, Row, Seen, TreeState, at_path, find_named, is_named, list_any, option_map, seen_in, seen_of}
 use Rattle.np_lists.proofs.Each.{all-find, all-mapped}
 use Rattle.np_lists.proofs.FilterLemmas.{list_any-none, none-list_any}
 use Rattle.np_lists.proofs.FoundLemmas.{find-passes}
 use Rattle.np_lists.proofs.Halves.{find-none, none-find}
-use Rattle.np_nodes.specs.TreeState.{TreeState}
-use Rattle.np_nodes.specs.Nodes.{at_path}
-use Rattle.np_nodes.specs.declared.node.Node.{Node}
 use Rattle.np_nodes.proofs.PlaceLemmas.{bytes_eq-is}
-use Rattle.np_tree.specs.Whole.{IsWhole}
-use Rattle.np_views.specs.Views.{Row, Seen, find_named, is_named, seen_in, seen_of}
-use Rattle.np_views.proofs.RelationLemmas.{seen-is-row}
-use Rattle.np_places.specs.Place.{IsGood, above, path_of, place_name}
-use Rattle.np_places.specs.declared.place.Place.{Place}
-use Rattle.np_places.proofs.AboveLemmas.{is_path-of, parts-of}
-use Rattle.np_places.proofs.ChildLemmas.{same_names}
+use Rattle.np_tree.proofs.RelationLemmas.{seen-is-row}
+use Rattle.np_layout.specs.Place.{IsGood, above, path_of, place_name}
+use Rattle.np_layout.specs.declared.place.Place.{Place}
+use Rattle.np_layout.proofs.AboveLemmas.{is_path-of, parts-of}
+use Rattle.np_layout.proofs.ChildLemmas.{same_names}
 use Rattle.np_layout.specs.Layout.{under}
 use Rattle.np_layout.specs.Rows.{by_name, rows_from}
 use Rattle.np_layout.proofs.DeleteLists.{any-mapped}

@@ -1,11 +1,9 @@
 -- the state that is read from a tree is the one that it lays out
 use Rattle.std.proofs.Common.{◌≡◌, ℕ, ◌≤◌, ◌^◌, length, map, Option, unwrap_or, sym, ap, ◌∙◌, arith}
 use Rattle.std.specs.Prelude.{filter_map}
-use Rattle.std.specs.List.{range_with_len}
+use Rattle.np_machine.specs.Prelude.{Configuration, State, range_with_len}
 use Rattle.np_nodes.specs.TreeState.{TreeState}
-use Rattle.np_site.specs.Configuration.{Configuration}
-use Rattle.np_machine.specs.State.{State}
-use Rattle.np_places.specs.declared.place.Place.TheVariants.{LauncherRole, JanitorRole, RequesterRole}
+use Rattle.np_layout.specs.declared.place.Place.TheVariants.{LauncherRole, JanitorRole, RequesterRole}
 use Rattle.np_layout.specs.Carried.{IsStored}
 use Rattle.np_layout.specs.Decoded.{TreesHaveOneState, decoded, handle_at, handles_at, janitors_at, job_at, jobs_at, launchers_at, registrations_at, requesters_at, role_at}
 use Rattle.np_layout.proofs.Entries.{nodes-same, requests-same, sessions-same}

@@ -1,12 +1,9 @@
 -- the order of swept pairs, and lists whose members are put one after another at their places
 use Rattle.std.proofs.Common.{◌≡◌, ℕ, Bool, true, false, cond, List, [], ◌∷◌, map, refl, sym, ap, ◌∙◌, subst, arith}
 use Rattle.std.specs.Prelude.{◌==◌, fold, nat_lt}
-use Rattle.std.specs.List.{AllByRecursion}
+use Rattle.np_tree.specs.Prelude.{AllByRecursion, Rises, Row, insert_before, row_before, with_row}
 use Rattle.std.proofs.lemmas.Bool.Decides.{nat_tests}
-use Rattle.np_lists.specs.Change.{insert_before}
-use Rattle.np_lists.specs.Rising.{Rises}
 use Rattle.np_machine.specs.declared.state.Swept.{Swept}
-use Rattle.np_views.specs.Views.{Row, row_before, with_row}
 use Rattle.np_layout.specs.Rows.{by_name}
 use Rattle.np_layout.proofs.FirstKinds.{rows_put}
 use Rattle.np_layout.specs.Carried.{is_pair_before}
@@ -48,7 +45,7 @@ trans-by a b c false false true is_ab is_bc is_ac before after = absurd (grind (
 trans-by a b c false false false is_ab is_bc is_ac before after = grind (arith, nat_tests)
 
 -- what is before a pair is before those after it
-pair-trans : (a b c : Swept) → is_pair_before a b ≡ true → is_pair_before b c ≡ true → is_pair_before a c ≡ true
+pub pair-trans : (a b c : Swept) → is_pair_before a b ≡ true → is_pair_before b c ≡ true → is_pair_before a c ≡ true
 pair-trans a b c before after = trans-by a b c (a.node.0 == b.node.0) (b.node.0 == c.node.0) (a.node.0 == c.node.0) refl refl refl before after
 
 -- ## pairs put at their places

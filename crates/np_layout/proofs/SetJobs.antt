@@ -1,27 +1,21 @@
 -- a set of a job's record
 use Rattle.std.proofs.Common.{◌≡◌, ℕ, ◌+◌, List, [], ◌∷◌, map, Some, refl, ap, ◌∙◌, subst, arith}
 use Rattle.std.specs.Prelude.{slice_get}
-use Rattle.std.specs.List.{list_any}
-use Rattle.np_text.specs.declared.id.JobId.{JobId}
-use Rattle.np_lists.specs.Change.{change_at}
+use Rattle.np_machine.specs.Prelude.{JobId, JobRecord, State, change_at, list_any}
 use Rattle.np_lists.proofs.ChangeLemmas.{change_at-set}
-use Rattle.np_nodes.specs.TreeState.{TreeState}
-use Rattle.np_nodes.specs.After.{after_part}
-use Rattle.np_tree.specs.Whole.{IsWhole}
-use Rattle.np_views.specs.Views.{Row, is_named}
-use Rattle.np_record.specs.declared.record.JobRecord.{JobRecord}
+use Rattle.np_tree.specs.Prelude.{IsWhole, Row, TreeState, after_part, is_named}
 use Rattle.np_spelling.specs.Spelling.{job_text}
-use Rattle.np_machine.specs.State.{State}
-use Rattle.np_places.specs.Place.{IsGood, place_name}
-use Rattle.np_places.specs.declared.place.Place.{Place}
-use Rattle.np_places.specs.declared.place.Place.TheVariants.{Jobs, Job}
+use Rattle.np_layout.specs.Place.{IsGood, place_name}
+use Rattle.np_layout.specs.declared.place.Place.{Place}
+use Rattle.np_layout.specs.declared.place.Place.TheVariants.{Jobs, Job}
 use Rattle.np_layout.specs.Layout.{LaysOut}
 use Rattle.np_layout.specs.Rows.{by_name, job_row, rows_from}
 use Rattle.np_layout.specs.Sets.{HasGoodIds, JobChangesLayOut, JobsLayOut, SetLaysOut, set}
 use Rattle.np_layout.proofs.Elsewhere.{frame-stays, launchers-stay, live-stays, node_locks-stay, nodes-stay, request_locks-stay, requests-stay, roles-stay, semaphores-stay, sessions-stay, swept-stay}
-use Rattle.np_layout.proofs.SetLists.{any-by_name, by_name-each, put-name, put_bytes, within}
+use Rattle.np_layout.proofs.SetLists.{any-by_name, by_name-each, put-name, put_bytes}
 use Rattle.np_layout.proofs.SetSteps.{set-goes, sets-row}
 use Rattle.np_layout.proofs.SetTables.{IsTable, table-any, table-change, table-good}
+use Rattle.np_lists.proofs.Plain.{within}
 
 -- the place of each job, and its number
 abbrev job_at : ℕ → Place

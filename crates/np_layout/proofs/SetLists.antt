@@ -1,18 +1,17 @@
 -- the rows of a directory when one of them gets other bytes
 use Rattle.std.proofs.Common.{◌≡◌, ◌⊎◌, inl, inr, ℕ, zero, suc, ◌+◌, ◌<◌, ◌≤◌, Bool, true, false, cond, ◌||◌, List, [], ◌∷◌, length, map, Some, refl, sym, ap, ◌∙◌, subst, arith}
 use Rattle.std.specs.Prelude.{◌==◌, find, slice_get, if◌then◌else◌}
-use Rattle.std.specs.List.{AllByRecursion, list_any, range_with_len}
+use Rattle.np_machine.specs.Prelude.{AllByRecursion, NonePass, Rises, change_at, change_first, list_any, range_with_len}
 use Rattle.std.proofs.lemmas.Bool.{eqb-false}
 use Rattle.std.proofs.lemmas.Bool.Decides.{nat_tests}
-use Rattle.np_lists.specs.Change.{change_at, change_first}
-use Rattle.np_lists.specs.Rising.{NonePass, Rises}
 use Rattle.np_lists.proofs.Each.{all-weaker}
 use Rattle.np_lists.proofs.FilterLemmas.{list_any-insert_before}
 use Rattle.np_nodes.proofs.PlaceLemmas.{bytes_eq-is}
-use Rattle.np_views.specs.Views.{Row, is_named, name_before, row_before, row_with, with_row}
-use Rattle.np_views.proofs.SiblingLemmas.{other-name_back}
+use Rattle.np_tree.specs.Views.{Row, is_named, name_before, row_before, row_with, with_row}
+use Rattle.np_tree.proofs.SiblingLemmas.{other-name_back}
 use Rattle.np_layout.specs.Rows.{by_name, rows_from}
 use Rattle.np_layout.proofs.FirstKinds.{rows_put}
+use Rattle.np_lists.proofs.Plain.{within}
 
 -- ## each row of a name gets other bytes
 
@@ -104,12 +103,6 @@ module _ (test : Row → Bool) where
   any-found (row ∷ rows) any = found-by row rows (test row) any (any-found rows)
 
 -- ## the rows of a list
-
--- a member's place is in its list
-pub within : {A : Type 0} (list : List A) (at : ℕ) (a : A) → slice_get list at ≡ Some a → at < length list
-within [] at a there = absurd cc
-within (b ∷ list) zero a there = omega arith
-within (b ∷ list) (suc at) a there = let later = within list at a there in omega arith
 
 module _ {A : Type 0} (row : ℕ → A → Row) (name bytes : List ℕ) (limit k : ℕ) (others : (n : ℕ) (a : A) → n < limit → (n ≡ k → ⊥) → is_named name (row n a) ≡ false) where
   -- none is the row of the name

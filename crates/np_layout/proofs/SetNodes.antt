@@ -1,38 +1,26 @@
 -- a set of a node's record
 use Rattle.std.proofs.Common.{◌≡◌, ℕ, Bool, true, false, cond, ◌||◌, List, [], ◌∷◌, Option, Some, refl, sym, ap, ◌∙◌, subst, arith}
 use Rattle.std.specs.Prelude.{◌==◌, find}
-use Rattle.std.specs.List.{AllByRecursion, AllZip, list_any}
-use Rattle.std.specs.Option.{option_map}
+use Rattle.np_machine.specs.Prelude.{AllByRecursion, AllZip, NodeEntry, NodeId, NodeRecord, State, change_first, list_any, node_in, option_map}
 use Rattle.std.specs.Str.{bytes_eq}
 use Rattle.std.proofs.lemmas.Bool.Decides.{nat_tests}
-use Rattle.np_text.specs.declared.id.NodeId.{NodeId}
-use Rattle.np_lists.specs.Change.{change_first}
 use Rattle.np_lists.proofs.Each.{all-change_first}
-use Rattle.np_nodes.specs.TreeState.{TreeState}
-use Rattle.np_nodes.specs.After.{after_part}
+use Rattle.np_tree.specs.Prelude.{IsWhole, Row, TreeState, after_part, is_named, row_with}
 use Rattle.np_nodes.proofs.PlaceLemmas.{bytes_eq-from}
-use Rattle.np_tree.specs.Whole.{IsWhole}
-use Rattle.np_views.specs.Views.{Row, is_named, row_with}
-use Rattle.np_record.specs.declared.record.NodeRecord.{NodeRecord}
 use Rattle.np_spelling.specs.Spelling.{SpellsNode}
-use Rattle.np_machine.specs.Entries.{NodeEntry}
-use Rattle.np_machine.specs.State.{State}
-use Rattle.np_machine.specs.Tables.{node_in}
-use Rattle.np_places.specs.Place.{IsGood, place_name}
-use Rattle.np_places.specs.declared.place.Place.{Place}
-use Rattle.np_places.specs.declared.place.Place.TheVariants.{Nodes, Node}
+use Rattle.np_layout.specs.Place.{IsGood, place_name}
+use Rattle.np_layout.specs.declared.place.Place.{Place}
+use Rattle.np_layout.specs.declared.place.Place.TheVariants.{Nodes, Node}
 use Rattle.np_layout.specs.Layout.{HasNodeLock, IsNodeRow, LaysOut, under}
 use Rattle.np_layout.specs.Sets.{HasGoodIds, NodesLayOut, set}
 use Rattle.np_layout.proofs.Elsewhere.{frame-stays, jobs-stay, launchers-stay, live-stays, node_locks-stay, request_locks-stay, requests-stay, roles-stay, semaphores-stay, sessions-stay, swept-stay}
 use Rattle.np_layout.proofs.SetSteps.{named-other, set-goes, sets-row}
+use Rattle.np_machine.proofs.Ids.{node-itself}
 
 -- ## a node's name is its own
 
 pub same-is : (a b : NodeId) → (a.0 == b.0) ≡ true → a ≡ b
 same-is a b same = let number : a.0 ≡ b.0 = grind (arith, nat_tests) in ap (λ (n : ℕ). record { 0 = n }) number
-
-pub same-self : (a : NodeId) → (a.0 == a.0) ≡ true
-same-self a = grind (arith, nat_tests)
 
 abbrev id_of : Place → NodeId
 id_of (Node id) = id
@@ -42,7 +30,7 @@ pub named-by : (n id : NodeId) (b : Bool) → (id.0 == n.0) ≡ b → IsGood (No
 named-by n id true same n_good id_good = bytes_eq-from (place_name (Node id)) (place_name (Node n)) (ap (λ (x : NodeId). place_name (Node x)) (same-is id n same))
 named-by n id false same n_good id_good =
     named-other (Node n) (Node id) n_good id_good refl (λ equal.
-    let itself = subst (λ (x : NodeId). (id.0 == x.0) ≡ true) (ap id_of equal) (same-self id) in
+    let itself = subst (λ (x : NodeId). (id.0 == x.0) ≡ true) (ap id_of equal) (node-itself id) in
     absurd cc)
 
 -- ## one entry changes

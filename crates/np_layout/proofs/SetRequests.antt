@@ -1,53 +1,33 @@
 -- a set of a request's record
-use Rattle.std.proofs.Common.{◌≡◌, ℕ, Bool, true, false, cond, ◌||◌, List, [], ◌∷◌, map, Option, Some, refl, sym, ap, ◌∙◌, subst, arith}
+use Rattle.std.proofs.Common.{◌≡◌, ℕ, Bool, true, false, cond, ◌||◌, List, [], ◌∷◌, map, Option, Some, refl, sym, ap, ◌∙◌, subst}
 use Rattle.std.specs.Prelude.{find}
-use Rattle.std.specs.List.{AllByRecursion, list_any}
-use Rattle.std.specs.Option.{option_map}
+use Rattle.np_machine.specs.Prelude.{AllByRecursion, RequestEntry, RequestId, RequestRecord, State, change_first, list_any, option_map, request_in, same_request}
 use Rattle.std.specs.Str.{bytes_eq}
-use Rattle.std.proofs.lemmas.Bool.Decides.{nat_tests}
-use Rattle.np_text.specs.declared.id.RequestId.{RequestId}
-use Rattle.np_lists.specs.Change.{change_first}
 use Rattle.np_lists.proofs.Each.{all-change_first}
-use Rattle.np_nodes.specs.TreeState.{TreeState}
-use Rattle.np_nodes.specs.After.{after_part}
+use Rattle.np_tree.specs.Prelude.{IsWhole, Row, TreeState, after_part, is_named, row_with}
 use Rattle.np_nodes.proofs.PlaceLemmas.{bytes_eq-from}
-use Rattle.np_tree.specs.Whole.{IsWhole}
-use Rattle.np_views.specs.Views.{Row, is_named, row_with}
-use Rattle.np_record.specs.declared.record.RequestRecord.{RequestRecord}
 use Rattle.np_spelling.specs.Spelling.{request_record_text}
-use Rattle.np_machine.specs.Entries.{RequestEntry}
-use Rattle.np_machine.specs.State.{State}
-use Rattle.np_machine.specs.Tables.{request_in, same_request}
-use Rattle.np_places.specs.Place.{IsGood, place_name}
-use Rattle.np_places.specs.declared.place.Place.{Place}
-use Rattle.np_places.specs.declared.place.Place.TheVariants.{Requests, Request, RequestLock}
+use Rattle.np_layout.specs.Place.{IsGood, place_name}
+use Rattle.np_layout.specs.declared.place.Place.{Place}
+use Rattle.np_layout.specs.declared.place.Place.TheVariants.{Requests, Request, RequestLock}
 use Rattle.np_layout.specs.Layout.{AreRequestLocks, IsQueue, LaysOut}
 use Rattle.np_layout.specs.Rows.{request_lock_row, request_row}
 use Rattle.np_layout.specs.Sets.{HasGoodIds, RequestsLayOut, set}
 use Rattle.np_layout.proofs.Elsewhere.{frame-stays, jobs-stay, launchers-stay, live-stays, node_locks-stay, nodes-stay, request_locks-stay, roles-stay, semaphores-stay, sessions-stay, swept-stay}
 use Rattle.np_layout.proofs.SetSteps.{named-other, set-goes, sets-row}
+use Rattle.np_machine.proofs.Ids.{request-itself, request-equal}
 
 -- ## a request's name is its own
-
-pub same-is : (a b : RequestId) → same_request a b ≡ true → a ≡ b
-same-is a b same =
-    let priority : a.priority ≡ b.priority = grind (arith, nat_tests) in
-    let seq : a.seq ≡ b.seq = grind (arith, nat_tests) in
-    let id : record { priority = a.priority; seq = a.seq } ≡ record { priority = b.priority; seq = b.seq } = rw (priority, seq) refl in
-    id
-
-pub same-self : (a : RequestId) → same_request a a ≡ true
-same-self a = grind (arith, nat_tests)
 
 abbrev id_of : Place → RequestId
 id_of (Request id) = id
 id_of other = record { priority = 0; seq = 0 }
 
 pub named-by : (r id : RequestId) (b : Bool) → same_request id r ≡ b → IsGood (Request r) → IsGood (Request id) → bytes_eq (place_name (Request id)) (place_name (Request r)) ≡ b
-named-by r id true same r_good id_good = bytes_eq-from (place_name (Request id)) (place_name (Request r)) (ap (λ (x : RequestId). place_name (Request x)) (same-is id r same))
+named-by r id true same r_good id_good = bytes_eq-from (place_name (Request id)) (place_name (Request r)) (ap (λ (x : RequestId). place_name (Request x)) (request-equal id r same))
 named-by r id false same r_good id_good =
     named-other (Request r) (Request id) r_good id_good refl (λ equal.
-    let itself = subst (λ (x : RequestId). same_request id x ≡ true) (ap id_of equal) (same-self id) in
+    let itself = subst (λ (x : RequestId). same_request id x ≡ true) (ap id_of equal) (request-itself id) in
     absurd cc)
 
 -- ## one entry changes
@@ -63,7 +43,7 @@ module _ (r : RequestId) (change : RequestRecord → RequestRecord) (old : Reque
   bytes = request_record_text (change old)
 
   good-by : (e : RequestEntry) (later : Option RequestEntry) (b : Bool) → is_it e ≡ b → IsGood (Request e.id) → option_map (λ (x : RequestEntry). x.kept) (cond b (Some e) later) ≡ Some old → (option_map (λ (x : RequestEntry). x.kept) later ≡ Some old → IsGood (Request r)) → IsGood (Request r)
-  good-by e later true same good there rest = subst (λ (id : RequestId). IsGood (Request id)) (same-is e.id r same) good
+  good-by e later true same good there rest = subst (λ (id : RequestId). IsGood (Request id)) (request-equal e.id r same) good
   good-by e later false same good there rest = rest there
 
   -- the request is good

@@ -1,24 +1,15 @@
 -- a set of the record of a role
 use Rattle.std.proofs.Common.{◌≡◌, ℕ, Bool, true, false, ◌||◌, List, [], ◌∷◌, ◌++◌, map, Some, refl, ap, ◌∙◌, subst, arith}
 use Rattle.std.specs.Prelude.{slice_get}
-use Rattle.std.specs.List.{list_any}
+use Rattle.np_machine.specs.Prelude.{PoolId, RequesterId, RoleRecord, State, change_at, change_role, list_any}
 use Rattle.std.proofs.lemmas.List.{map-append}
 use Rattle.std.proofs.lemmas.List.Folds.{list_any-append}
-use Rattle.np_text.specs.declared.id.PoolId.{PoolId}
-use Rattle.np_text.specs.declared.id.RequesterId.{RequesterId}
 use Rattle.np_text.specs.declared.id.Role.TheVariants as role
-use Rattle.np_lists.specs.Change.{change_at}
-use Rattle.np_nodes.specs.TreeState.{TreeState}
-use Rattle.np_nodes.specs.After.{after_part}
-use Rattle.np_tree.specs.Whole.{IsWhole}
-use Rattle.np_views.specs.Views.{Row, is_named}
-use Rattle.np_record.specs.declared.record.RoleRecord.{RoleRecord}
+use Rattle.np_tree.specs.Prelude.{IsWhole, Row, TreeState, after_part, is_named}
 use Rattle.np_spelling.specs.Spelling.{role_text}
-use Rattle.np_machine.specs.State.{State}
-use Rattle.np_machine.specs.Tables.{change_role}
-use Rattle.np_places.specs.Place.{IsGood, above, place_name}
-use Rattle.np_places.specs.declared.place.Place.{Place}
-use Rattle.np_places.specs.declared.place.Place.TheVariants.{Roles, LauncherRole, JanitorRole, RequesterRole}
+use Rattle.np_layout.specs.Place.{IsGood, above, place_name}
+use Rattle.np_layout.specs.declared.place.Place.{Place}
+use Rattle.np_layout.specs.declared.place.Place.TheVariants.{Roles, LauncherRole, JanitorRole, RequesterRole}
 use Rattle.np_layout.specs.Layout.{LaysOut}
 use Rattle.np_layout.specs.Rows.{by_name, janitor_role_row, launcher_role_row, requester_role_row, rows_from}
 use Rattle.np_layout.specs.Sets.{HasGoodIds, RolesLayOut, SetLaysOut, set}

@@ -1,24 +1,15 @@
 -- a set of a session's record
 use Rattle.std.proofs.Common.{◌≡◌, ℕ, zero, suc, ◌+◌, ◌-◌, Bool, true, false, cond, List, [], ◌∷◌, map, Option, Some, None, refl, sym, ap, ◌∙◌, arith}
 use Rattle.std.specs.Prelude.{◌==◌, slice_get}
-use Rattle.std.specs.List.{list_any, range_with_len}
+use Rattle.np_machine.specs.Prelude.{SessionId, State, change_at, change_session, list_any, muted, range_with_len, session_of}
 use Rattle.std.proofs.lemmas.Bool.{eqb-false}
-use Rattle.np_text.specs.declared.id.SessionId.{SessionId}
-use Rattle.np_lists.specs.Change.{change_at}
 use Rattle.np_lists.proofs.ChangeLemmas.{length-change_at}
-use Rattle.np_session.specs.Known.{is_in}
-use Rattle.np_nodes.specs.TreeState.{TreeState}
-use Rattle.np_nodes.specs.After.{after_part}
-use Rattle.np_tree.specs.Whole.{IsWhole}
-use Rattle.np_views.specs.Views.{Row, is_named}
+use Rattle.np_tree.specs.Prelude.{IsWhole, Row, TreeState, after_part, is_in, is_named}
 use Rattle.np_spelling.specs.Spelling.{session_text}
-use Rattle.np_machine.specs.Session.{muted}
-use Rattle.np_machine.specs.State.{State}
-use Rattle.np_machine.specs.Tables.{change_session, session_of}
 use Rattle.np_machine.specs.declared.state.SessionFacts.{SessionFacts}
-use Rattle.np_places.specs.Place.{IsGood, place_name}
-use Rattle.np_places.specs.declared.place.Place.{Place}
-use Rattle.np_places.specs.declared.place.Place.TheVariants.{Sessions, Session}
+use Rattle.np_layout.specs.Place.{IsGood, place_name}
+use Rattle.np_layout.specs.declared.place.Place.{Place}
+use Rattle.np_layout.specs.declared.place.Place.TheVariants.{Sessions, Session}
 use Rattle.np_layout.specs.Layout.{AreLive, LaysOut}
 use Rattle.np_layout.specs.Sets.{HasGoodIds, MutesLayOut, set}
 use Rattle.np_layout.proofs.Elsewhere.{frame-stays, jobs-stay, launchers-stay, live-stays, node_locks-stay, nodes-stay, request_locks-stay, requests-stay, roles-stay, semaphores-stay, swept-stay}

@@ -1,46 +1,31 @@
 -- one set of the bytes of a good place
 use Rattle.std.proofs.Common.{◌≡◌, ℕ, ◌+◌, ◌≤◌, Bool, true, false, List, [], ◌∷◌, length, map, Some, Result, Ok, Err, refl, sym, ap, ◌∙◌, subst}
 use Rattle.std.specs.Prelude.{IsOk}
-use Rattle.std.specs.List.{AllByRecursion, list_any}
-use Rattle.std.specs.Option.{option_map}
+use Rattle.np_tree.specs.Prelude.{AllByRecursion, Any, HasRoomFor, IsWhole, Node, Row, TreeRefusal, TreeState, after_part, at_path, below, change_first, counter_at, find_named, is_at, is_in, is_named, list_any, name_of, next_change, option_map, parent_of, part_answer, row_with, rows_at, seen_at, seen_in, set_answer, with_bytes, ◌>>=◌}
 use Rattle.std.specs.Str.{bytes_eq}
-use Rattle.np_lists.specs.Change.{change_first}
-use Rattle.np_lists.specs.Refusals.{◌>>=◌}
 use Rattle.np_lists.proofs.Each.{all-mapped, all-weaker}
 use Rattle.np_lists.proofs.FoundLemmas.{found-change_first}
-use Rattle.np_path.specs.Parts.{below, name_of, parent_of}
-use Rattle.np_session.specs.Known.{is_in}
-use Rattle.np_nodes.specs.TreeState.{TreeState}
-use Rattle.np_nodes.specs.After.{after_part, next_change, with_bytes}
-use Rattle.np_nodes.specs.Answer.{part_answer, set_answer}
-use Rattle.np_nodes.specs.Nodes.{at_path, is_at}
-use Rattle.np_nodes.specs.declared.kind.Expect.TheVariants.{Any}
-use Rattle.np_nodes.specs.declared.node.Node.{Node}
 use Rattle.np_nodes.specs.declared.op.OpDone.TheVariants as done
-use Rattle.np_nodes.specs.declared.refusal.TreeRefusal.{TreeRefusal}
-use Rattle.np_nodes.proofs.PlaceLemmas.{bytes_eq-from, bytes_eq-is, bytes_eq-not}
-use Rattle.np_tree.specs.Read.{counter_at}
-use Rattle.np_tree.specs.Whole.{IsWhole}
-use Rattle.np_views.specs.Several.{HasRoomFor}
-use Rattle.np_views.specs.Views.{Row, find_named, is_named, row_with, rows_at, seen_at, seen_in}
-use Rattle.np_views.proofs.GoesLemmas.{seen-node, sets-go}
-use Rattle.np_views.proofs.RelationLemmas.{rows-rise, seen-is-row}
-use Rattle.np_views.proofs.RoomLemmas.{room-gives}
-use Rattle.np_views.proofs.RowLemmas.{rows-changed, rows-changed_other}
-use Rattle.np_places.specs.Place.{IsGood, above, path_of, place_name}
-use Rattle.np_places.specs.declared.place.Place.{Place}
-use Rattle.np_places.proofs.AboveLemmas.{IsGood-above, is_path-of, parts-of}
-use Rattle.np_places.proofs.ChildLemmas.{same_names, same_paths}
+use Rattle.np_nodes.proofs.PlaceLemmas.{bytes_eq-from, bytes_eq-is}
+use Rattle.np_tree.proofs.GoesLemmas.{seen-node, sets-go}
+use Rattle.np_tree.proofs.RelationLemmas.{rows-rise, seen-is-row}
+use Rattle.np_tree.proofs.ViewRoomLemmas.{room-gives}
+use Rattle.np_tree.proofs.RowLemmas.{rows-changed, rows-changed_other}
+use Rattle.np_layout.specs.Place.{IsGood, above, path_of, place_name}
+use Rattle.np_layout.specs.declared.place.Place.{Place}
+use Rattle.np_layout.proofs.AboveLemmas.{IsGood-above, is_path-of, parts-of}
+use Rattle.np_layout.proofs.ChildLemmas.{same_names, same_paths}
 use Rattle.np_layout.specs.Layout.{HasLeaves, next_under, under}
 use Rattle.np_layout.specs.Sets.{set}
 use Rattle.np_layout.proofs.Elsewhere.{IsApart, Stays}
 use Rattle.np_layout.proofs.SetLists.{any-found, put-first, put-name, put_bytes}
+use Rattle.np_lists.proofs.Plain.{bytes_eq-apart}
 
 -- ## names
 
 -- siblings have different names
 pub named-other : (p q : Place) → IsGood p → IsGood q → above q ≡ above p → (q ≡ p → ⊥) → bytes_eq (place_name q) (place_name p) ≡ false
-named-other p q p_good q_good over apart = bytes_eq-not (place_name q) (place_name p) (λ same. apart (same_names q p q_good p_good over same))
+named-other p q p_good q_good over apart = bytes_eq-apart (place_name q) (place_name p) (λ same. apart (same_names q p q_good p_good over same))
 
 -- a place has its name
 pub named-here : (p : Place) → bytes_eq (place_name p) (place_name p) ≡ true

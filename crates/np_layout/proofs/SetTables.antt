@@ -1,14 +1,13 @@
 -- the rows of a list when the record of one member changes
 use Rattle.std.proofs.Common.{◌≡◌, ℕ, ◌+◌, ◌<◌, Bool, true, cond, List, length, map, Some, sym, ap, ◌∙◌, inr, arith}
 use Rattle.std.specs.Prelude.{slice_get}
-use Rattle.std.specs.List.{list_any}
-use Rattle.np_lists.specs.Change.{change_at}
-use Rattle.np_views.specs.Views.{Row, is_named, row_with}
-use Rattle.np_places.specs.Place.{IsGood, above, place_name}
-use Rattle.np_places.specs.declared.place.Place.{Place}
+use Rattle.np_tree.specs.Prelude.{Row, change_at, is_named, list_any, row_with}
+use Rattle.np_layout.specs.Place.{IsGood, above, place_name}
+use Rattle.np_layout.specs.declared.place.Place.{Place}
 use Rattle.np_layout.specs.Rows.{persistent, rows_from}
-use Rattle.np_layout.proofs.SetLists.{put_bytes, rows_from-any, rows_from-change, rows_from-others, within}
+use Rattle.np_layout.proofs.SetLists.{put_bytes, rows_from-any, rows_from-change, rows_from-others}
 use Rattle.np_layout.proofs.SetSteps.{named-here, named-other}
+use Rattle.np_lists.proofs.Plain.{within}
 
 -- the members' places are good, in one directory, and have numbers from the first one on
 pub record IsTable {A : Type 0} (place : ℕ → Place) (number : Place → ℕ) (dir : Place) (first : ℕ) (list : List A) : Type 0 where

@@ -2,14 +2,10 @@
 use Rattle.std.proofs.Common.{ℕ, List, [], ◌∷◌, refl, ap, ◌∙◌}
 use Rattle.std.specs.Prelude.{map}
 use Rattle.std.specs.Fmt.{decimal}
-use Rattle.std.specs.List.{list_any}
-use Rattle.np_nodes.specs.TreeState.{TreeState}
-use Rattle.np_nodes.specs.After.{after_part}
-use Rattle.np_tree.specs.Whole.{IsWhole}
-use Rattle.np_views.specs.Views.{Row, is_named}
-use Rattle.np_machine.specs.State.{State}
-use Rattle.np_places.specs.Place.{place_name}
-use Rattle.np_places.specs.declared.place.Place.TheVariants.{Poolsim, Tick}
+use Rattle.np_machine.specs.Prelude.{State, list_any}
+use Rattle.np_tree.specs.Prelude.{IsWhole, Row, TreeState, after_part, is_named}
+use Rattle.np_layout.specs.Place.{place_name}
+use Rattle.np_layout.specs.declared.place.Place.TheVariants.{Poolsim, Tick}
 use Rattle.np_layout.specs.Layout.{LaysOut}
 use Rattle.np_layout.specs.Sets.{HasGoodIds, TicksLayOut, set}
 use Rattle.np_layout.proofs.Elsewhere.{jobs-stay, launchers-stay, live-stays, node_locks-stay, nodes-stay, request_locks-stay, requests-stay, roles-stay, semaphores-stay, sessions-stay, swept-stay, tick-stays}

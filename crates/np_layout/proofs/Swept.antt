@@ -1,13 +1,10 @@
 -- the swept pairs are read back
 use Rattle.std.proofs.Common.{◌≡◌, List, [], map, ap, ◌∙◌}
-use Rattle.std.specs.List.{AllByRecursion}
-use Rattle.np_lists.specs.Rising.{Rises}
+use Rattle.np_tree.specs.Prelude.{AllByRecursion, Rises, Row, TreeState}
 use Rattle.np_lists.proofs.Each.{all-weaker}
-use Rattle.np_nodes.specs.TreeState.{TreeState}
-use Rattle.np_views.specs.Views.{Row}
 use Rattle.np_machine.specs.declared.state.Swept.{Swept}
-use Rattle.np_places.specs.Place.{IsGood}
-use Rattle.np_places.specs.declared.place.Place.TheVariants.{Swept as SweptPlace}
+use Rattle.np_layout.specs.Place.{IsGood}
+use Rattle.np_layout.specs.declared.place.Place.TheVariants.{Swept as SweptPlace}
 use Rattle.np_layout.specs.Layout.{AreSwept}
 use Rattle.np_layout.specs.Rows.{swept_row}
 use Rattle.np_layout.specs.Carried.{is_pair_before}

@@ -2,30 +2,24 @@
 use Rattle.std.proofs.Common.{◌≡◌, ℕ, ◌+◌, ◌<◌, ◌≤◌, ◌^◌, Bool, true, false, ◌||◌, List, ◌++◌, length, map, Option, Some, unwrap_or, refl, sym, ap, ◌∙◌, arith}
 use Rattle.std.specs.Prelude.{slice_get}
 use Rattle.std.specs.Fmt.{decimal}
-use Rattle.std.specs.List.{AllByRecursion, list_any, range_with_len}
+use Rattle.np_machine.specs.Prelude.{AllByRecursion, JobRecord, RoleRecord, list_any, new_job, no_deeds, number_of, range_with_len}
 use Rattle.std.proofs.lemmas.List.Folds.{list_any-append}
-use Rattle.np_text.specs.Number.{number_of}
 use Rattle.np_text.proofs.SpellingLemmas.{number_of-decimal, some_injective}
 use Rattle.np_lists.proofs.Each.{all-at}
-use Rattle.np_nodes.specs.TreeState.{TreeState}
-use Rattle.np_tree.specs.Whole.{IsWhole}
-use Rattle.np_views.specs.Views.{Row, find_named, is_named}
-use Rattle.np_record.specs.declared.record.JobRecord.{JobRecord}
-use Rattle.np_record.specs.declared.record.RoleRecord.{RoleRecord}
+use Rattle.np_tree.specs.Prelude.{IsWhole, Row, TreeState, find_named, is_named}
 use Rattle.np_spelling.specs.Reading.{job_in, max_u32, role_in}
 use Rattle.np_spelling.specs.Spelling.{IsJob, IsRole, job_text, role_text}
-use Rattle.np_machine.specs.State.{new_job, no_deeds}
-use Rattle.np_places.specs.Place.{IsGood, above, place_name}
-use Rattle.np_places.specs.declared.place.Place.{Place}
-use Rattle.np_places.specs.declared.place.Place.TheVariants.{Poolsim, Jobs, Job, Roles, LauncherRole, JanitorRole, RequesterRole, Tick}
+use Rattle.np_layout.specs.Place.{IsGood, above, place_name}
+use Rattle.np_layout.specs.declared.place.Place.{Place}
+use Rattle.np_layout.specs.declared.place.Place.TheVariants.{Poolsim, Jobs, Job, Roles, LauncherRole, JanitorRole, RequesterRole, Tick}
 use Rattle.np_layout.specs.Layout.{AreJobs, AreRoles, IsFrame}
 use Rattle.np_layout.specs.Rows.{janitor_role_row, job_row, launcher_role_row, persistent, requester_role_row, rows_from}
-use Rattle.np_layout.proofs.SetLists.{within}
 use Rattle.np_layout.proofs.SetTables.{IsTable, table-any}
 use Rattle.np_layout.specs.Decoded.{job_at, role_at, tick_at}
 use Rattle.np_layout.proofs.Lists.{map-places}
 use Rattle.np_layout.proofs.Named.{all-both, all-rows_from, find-by_name, named-same, text-at_row}
 use Rattle.np_layout.proofs.Texts.{job-read, role-read}
+use Rattle.np_lists.proofs.Plain.{within}
 
 -- ## the tick
 

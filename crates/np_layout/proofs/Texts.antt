@@ -3,18 +3,10 @@ use Rattle.std.proofs.Common.{◌≡◌, ℕ, ◌+◌, ◌^◌, ◌<◌, List, [
 use Rattle.std.specs.Prelude.{codes}
 use Rattle.std.specs.Fmt.{decimal}
 use Rattle.std.proofs.lemmas.List.{append_assoc, drop_at, take_at}
-use Rattle.np_text.specs.Number.{number_of, ten_digits_of}
-use Rattle.np_text.specs.Request.{HasText, request_text_of}
-use Rattle.np_text.specs.declared.id.NodeId.{NodeId}
-use Rattle.np_text.specs.declared.id.RequestId.{RequestId}
+use Rattle.np_machine.specs.Prelude.{HasText, JobRecord, NodeId, NodeRecord, RequestId, RequestRecord, RoleRecord, SessionRecord, number_of, request_text_of, ten_digits_of}
 use Rattle.np_text.proofs.OrderLemmas.{length-ten}
 use Rattle.np_text.proofs.RequestLemmas.{request_of-text}
 use Rattle.np_text.proofs.SpellingLemmas.{number_of-decimal, sequence_of-ten_digits_of}
-use Rattle.np_record.specs.declared.record.JobRecord.{JobRecord}
-use Rattle.np_record.specs.declared.record.NodeRecord.{NodeRecord}
-use Rattle.np_record.specs.declared.record.RequestRecord.{RequestRecord}
-use Rattle.np_record.specs.declared.record.RoleRecord.{RoleRecord}
-use Rattle.np_record.specs.declared.record.SessionRecord.{SessionRecord}
 use Rattle.np_spelling.specs.Reading.{answer, job_in, max_u64, node_in, request_record_in, role_in, session_in}
 use Rattle.np_spelling.specs.Spelling.{IsJob, IsRequest, IsRole, IsSession, SpellsNode, job_text, request_record_text, role_text, session_text}
 use Rattle.np_spelling.proofs.JobForm.{job_all}
@@ -23,8 +15,8 @@ use Rattle.np_spelling.proofs.RequestForm.{request_all}
 use Rattle.np_spelling.proofs.RoleForm.{role_all}
 use Rattle.np_spelling.proofs.SessionForm.{session_all}
 use Rattle.np_machine.specs.declared.state.Swept.{Swept}
-use Rattle.np_places.specs.Place.{IsGood, place_name}
-use Rattle.np_places.specs.declared.place.Place.TheVariants.{Swept as SweptPlace}
+use Rattle.np_layout.specs.Place.{IsGood, place_name}
+use Rattle.np_layout.specs.declared.place.Place.TheVariants.{Swept as SweptPlace}
 use Rattle.np_layout.specs.Decoded.{node_named, pair_named, request_named}
 
 -- ## records

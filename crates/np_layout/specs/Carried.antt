@@ -1,14 +1,8 @@
 -- what a tree needs of a state so that it can carry it: the state can be read from its tree
 use Rattle.std.specs.Prelude.{◌≡◌, ◌<◌, ◌^◌, ℕ, Bool, nat_lt, List, length}
-use Rattle.std.specs.List.{AllByRecursion}
-use Rattle.np_text.specs.declared.id.JobId.{JobId}
-use Rattle.np_lists.specs.Rising.{Rises}
-use Rattle.np_site.specs.Configuration.{Configuration}
-use Rattle.np_machine.specs.Node.{is_pair_after}
-use Rattle.np_machine.specs.State.{State}
+use Rattle.np_machine.specs.Prelude.{AllByRecursion, Configuration, JobId, Rises, State, is_pair_after}
 use Rattle.np_machine.specs.declared.state.Swept.{Swept}
-use Rattle.np_nodes.specs.TreeState.{TreeState}
-use Rattle.np_tree.specs.Whole.{IsWhole}
+use Rattle.np_tree.specs.Prelude.{IsWhole, TreeState}
 use Rattle.np_layout.specs.Layout.{LaysOut}
 use Rattle.np_layout.specs.Sets.{HasGoodIds}
 use Rattle.np_spelling.specs.Spelling.{IsJob, IsNode, IsRequest, IsRole, IsSessionRole}

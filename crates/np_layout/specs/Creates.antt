@@ -2,37 +2,13 @@
 -- which it is, and each of them is accepted
 use Rattle.std.specs.Prelude.{◌≡◌, ◌<◌, ◌≤◌, ◌+◌, ◌^◌, ℕ, true, false, List, [], ◌∷◌, ◌++◌, codes, length, Some, None}
 use Rattle.std.specs.Fmt.{decimal}
-use Rattle.std.specs.List.{AllByRecursion}
-use Rattle.np_text.specs.declared.id.JobId.{JobId}
-use Rattle.np_text.specs.declared.id.NodeId.{NodeId}
-use Rattle.np_text.specs.declared.id.PoolId.{PoolId}
-use Rattle.np_text.specs.declared.id.RequestId.{RequestId}
-use Rattle.np_text.specs.declared.id.Role.{Role}
-use Rattle.np_text.specs.declared.id.SemId.{SemId}
-use Rattle.np_text.specs.declared.id.SessionId.{SessionId}
-use Rattle.np_lists.specs.Change.{change_at}
-use Rattle.np_path.specs.Parts.{below}
-use Rattle.np_session.specs.Known.{is_in}
-use Rattle.np_nodes.specs.TreeState.{TreeState}
-use Rattle.np_nodes.specs.Calls.{after_begin}
-use Rattle.np_nodes.specs.Multi.{after_parts}
-use Rattle.np_nodes.specs.declared.kind.Mode.TheVariants.{Ephemeral, EphemeralSequential, PersistentSequential}
-use Rattle.np_nodes.specs.declared.op.Op.{Op}
+use Rattle.np_machine.specs.Prelude.{AllByRecursion, JobId, NodeEntry, NodeId, NodeRecord, PoolId, RequestEntry, RequestId, RequestRecord, Role, SemId, SessionId, State, change_at, has_handle, insert_request, is_queued, is_swept, joined, next_id, node_entry, node_queue, put_node_queue, put_request_queue, registered, registers, request_entry, request_queue, with_handle, with_pair}
+use Rattle.np_tree.specs.Prelude.{Ephemeral, EphemeralSequential, Goes, HasRoomFor, IsWhole, Op, PersistentSequential, TreeState, after_begin, after_parts, below, is_in}
 use Rattle.np_nodes.specs.declared.op.Op.TheVariants as op
-use Rattle.np_tree.specs.Whole.{IsWhole}
-use Rattle.np_views.specs.Several.{Goes, HasRoomFor}
-use Rattle.np_record.specs.declared.record.NodeRecord.{NodeRecord}
-use Rattle.np_record.specs.declared.record.RequestRecord.{RequestRecord}
 use Rattle.np_spelling.specs.Spelling.{SpellsNode, request_record_text, session_text}
-use Rattle.np_machine.specs.Entries.{NodeEntry, RequestEntry}
-use Rattle.np_machine.specs.Node.{is_swept, with_pair}
-use Rattle.np_machine.specs.Request.{insert_request, next_id, registers}
-use Rattle.np_machine.specs.Semaphore.{with_handle}
-use Rattle.np_machine.specs.State.{State}
-use Rattle.np_machine.specs.Tables.{has_handle, is_queued, joined, node_entry, node_queue, put_node_queue, put_request_queue, registered, request_entry, request_queue}
-use Rattle.np_places.specs.Place.{IsGood, path_of}
-use Rattle.np_places.specs.declared.place.Place.{Place}
-use Rattle.np_places.specs.declared.place.Place.TheVariants.{Requests, Request, RequestLock, Nodes, NodeLock, Launcher, Handle, Session, Swept}
+use Rattle.np_layout.specs.Place.{IsGood, path_of}
+use Rattle.np_layout.specs.declared.place.Place.{Place}
+use Rattle.np_layout.specs.declared.place.Place.TheVariants.{Requests, Request, RequestLock, Nodes, NodeLock, Launcher, Handle, Session, Swept}
 use Rattle.np_layout.specs.First.{make}
 use Rattle.np_layout.specs.Layout.{LaysOut}
 use Rattle.np_layout.specs.Rows.{tree_session}

@@ -2,37 +2,17 @@
 -- directory, the bytes at a path, the counters, and which sessions are live. Where a text spells nothing
 -- there is a default (own); a tree of a state that it can carry has no such text
 use Rattle.std.specs.Prelude.{◌≡◌, ℕ, ◌+◌, ◌-◌, false, List, [], ◌∷◌, Option, None, filter_map, fold, map, take, drop, unwrap_or}
-use Rattle.std.specs.Option.{option_map}
-use Rattle.np_text.specs.Number.{number_of}
-use Rattle.np_text.specs.Request.{request_of, sequence_of}
-use Rattle.np_text.specs.declared.id.JobId.{JobId}
-use Rattle.np_text.specs.declared.id.NodeId.{NodeId}
-use Rattle.np_text.specs.declared.id.RequestId.{RequestId}
-use Rattle.np_text.specs.declared.id.Role.TheVariants.{Reaper}
-use Rattle.np_text.specs.declared.id.SemId.{SemId}
-use Rattle.np_text.specs.declared.id.SessionId.{SessionId}
+use Rattle.np_machine.specs.Prelude.{Configuration, JobId, JobRecord, NodeEntry, NodeId, NodeRecord, Reaper, RequestEntry, RequestId, RequestRecord, RoleRecord, SemId, SessionId, SessionRecord, State, insert_before, new_job, no_deeds, number_of, option_map, request_of, sequence_of}
 use Rattle.np_text.specs.declared.word.NodeState.TheVariants.{Building}
 use Rattle.np_text.specs.declared.word.RequestState.TheVariants.{Requested}
-use Rattle.np_lists.specs.Change.{insert_before}
-use Rattle.np_session.specs.Known.{is_in}
-use Rattle.np_nodes.specs.TreeState.{TreeState}
-use Rattle.np_tree.specs.Read.{bytes_at}
-use Rattle.np_views.specs.Views.{Row, find_named}
-use Rattle.np_site.specs.Configuration.{Configuration}
-use Rattle.np_record.specs.declared.record.JobRecord.{JobRecord}
-use Rattle.np_record.specs.declared.record.NodeRecord.{NodeRecord}
-use Rattle.np_record.specs.declared.record.RequestRecord.{RequestRecord}
-use Rattle.np_record.specs.declared.record.RoleRecord.{RoleRecord}
-use Rattle.np_record.specs.declared.record.SessionRecord.{SessionRecord}
+use Rattle.np_tree.specs.Prelude.{Row, TreeState, bytes_at, find_named, is_in}
 use Rattle.np_spelling.specs.Reading.{job_in, max_u32, max_u64, node_in, request_record_in, role_in, session_in}
-use Rattle.np_machine.specs.Entries.{NodeEntry, RequestEntry}
-use Rattle.np_machine.specs.State.{State, new_job, no_deeds}
 use Rattle.np_machine.specs.declared.state.Registration.{Registration}
 use Rattle.np_machine.specs.declared.state.SessionFacts.{SessionFacts}
 use Rattle.np_machine.specs.declared.state.Swept.{Swept}
-use Rattle.np_places.specs.Place.{path_of, place_name}
-use Rattle.np_places.specs.declared.place.Place.{Place}
-use Rattle.np_places.specs.declared.place.Place.TheVariants.{Requests, RequestLock, Nodes, NodeLock, Launchers, Launcher, Semaphore, Handle, Job, LauncherRole, JanitorRole, RequesterRole, Sessions, SweptPairs, Tick}
+use Rattle.np_layout.specs.Place.{path_of, place_name}
+use Rattle.np_layout.specs.declared.place.Place.{Place}
+use Rattle.np_layout.specs.declared.place.Place.TheVariants.{Requests, RequestLock, Nodes, NodeLock, Launchers, Launcher, Semaphore, Handle, Job, LauncherRole, JanitorRole, RequesterRole, Sessions, SweptPairs, Tick}
 use Rattle.np_layout.specs.Layout.{next_under, under}
 use Rattle.np_layout.specs.Rows.{places, tree_session}
 use Rattle.np_layout.specs.Carried.{IsStored, is_pair_before}

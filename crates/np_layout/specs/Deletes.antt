@@ -1,29 +1,12 @@
 -- what goes: if a tree lays a state out, the delete of the node of what goes lays out the state
 -- without it, and the delete is accepted
 use Rattle.std.specs.Prelude.{◌≡◌, ◌≤◌, ℕ, true, false, not, List, [], ◌∷◌, ◌++◌, filter, map, slice_get, Some, IsOk}
-use Rattle.np_text.specs.declared.id.JobId.{JobId}
-use Rattle.np_text.specs.declared.id.NodeId.{NodeId}
-use Rattle.np_text.specs.declared.id.RequestId.{RequestId}
-use Rattle.np_text.specs.declared.id.SemId.{SemId}
-use Rattle.np_text.specs.declared.id.SessionId.{SessionId}
-use Rattle.np_lists.specs.Change.{change_at}
-use Rattle.np_session.specs.Known.{is_in}
-use Rattle.np_nodes.specs.TreeState.{TreeState}
-use Rattle.np_nodes.specs.Answer.{part_answer}
-use Rattle.np_nodes.specs.After.{after_end, after_part}
-use Rattle.np_nodes.specs.declared.kind.Expect.TheVariants.{Any}
-use Rattle.np_nodes.specs.declared.op.Op.{Op}
+use Rattle.np_machine.specs.Prelude.{JobId, NodeEntry, NodeId, RequestEntry, RequestId, SemId, SessionId, State, change_at, change_session, ended, has_handle, is_queued, is_session, left, node_entry, node_left, node_queue, put_node_queue, put_request_queue, remove_node, remove_request, request_entry, request_left, request_queue, without_handle}
+use Rattle.np_tree.specs.Prelude.{Any, HasRoomFor, IsWhole, Op, TreeState, after_end, after_part, delete_parts, is_in, part_answer}
 use Rattle.np_nodes.specs.declared.op.Op.TheVariants as op
-use Rattle.np_tree.specs.Whole.{IsWhole}
-use Rattle.np_views.specs.Several.{HasRoomFor, delete_parts}
-use Rattle.np_machine.specs.Entries.{NodeEntry, RequestEntry}
-use Rattle.np_machine.specs.Semaphore.{without_handle}
-use Rattle.np_machine.specs.Session.{ended, node_left, request_left}
-use Rattle.np_machine.specs.State.{State}
-use Rattle.np_machine.specs.Tables.{change_session, has_handle, is_queued, is_session, left, node_entry, node_queue, put_node_queue, put_request_queue, remove_node, remove_request, request_entry, request_queue}
-use Rattle.np_places.specs.Place.{IsGood, path_of}
-use Rattle.np_places.specs.declared.place.Place.{Place}
-use Rattle.np_places.specs.declared.place.Place.TheVariants.{Handle, Node, NodeLock, NodeWait, Request, RequestLock, RequestWait}
+use Rattle.np_layout.specs.Place.{IsGood, path_of}
+use Rattle.np_layout.specs.declared.place.Place.{Place}
+use Rattle.np_layout.specs.declared.place.Place.TheVariants.{Handle, Node, NodeLock, NodeWait, Request, RequestLock, RequestWait}
 use Rattle.np_layout.specs.Creates.{PartsLayOut}
 use Rattle.np_layout.specs.Layout.{LaysOut, under}
 use Rattle.np_layout.specs.Rows.{tree_session, wait_row}

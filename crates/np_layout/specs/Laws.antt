@@ -1,8 +1,6 @@
 -- what is true of each sound site
 use Rattle.std.specs.Prelude.{IsOk}
-use Rattle.np_site.specs.Configuration.{Configuration}
-use Rattle.np_site.specs.Sound.{IsSound}
-use Rattle.np_machine.specs.State.{start}
+use Rattle.np_machine.specs.Prelude.{Configuration, IsSound, start}
 use Rattle.np_tree.specs.TreeState.{new_tree}
 use Rattle.np_tree.specs.Calls.{after_begin}
 use Rattle.np_tree.specs.Multi.{answers_from}

@@ -8,3 +8,7 @@ pub mod Creates
 pub mod Deletes
 pub mod Carried
 pub mod Decoded
+pub mod Place
+pub mod Roles
+pub mod PlaceLaws
+pub mod Prelude

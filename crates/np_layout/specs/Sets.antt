@@ -2,35 +2,15 @@
 -- another record's text lays out the state with that record, and the set is accepted
 use Rattle.std.specs.Prelude.{◌≡◌, ◌==◌, ◌<◌, ◌≤◌, ◌^◌, ℕ, true, List, length, slice_get, Some, IsOk}
 use Rattle.std.specs.Fmt.{decimal}
-use Rattle.std.specs.List.{AllByRecursion}
-use Rattle.np_text.specs.declared.id.JobId.{JobId}
-use Rattle.np_text.specs.declared.id.NodeId.{NodeId}
-use Rattle.np_text.specs.declared.id.RequestId.{RequestId}
-use Rattle.np_text.specs.declared.id.Role.{Role}
-use Rattle.np_text.specs.declared.id.SessionId.{SessionId}
-use Rattle.np_lists.specs.Change.{change_at, change_first}
-use Rattle.np_session.specs.Known.{is_in}
-use Rattle.np_nodes.specs.TreeState.{TreeState}
-use Rattle.np_nodes.specs.Answer.{part_answer}
-use Rattle.np_nodes.specs.After.{after_part}
-use Rattle.np_nodes.specs.declared.kind.Expect.TheVariants.{Any}
-use Rattle.np_nodes.specs.declared.op.Op.{Op}
+use Rattle.np_machine.specs.Prelude.{AllByRecursion, JobId, JobRecord, NodeId, NodeRecord, RequestId, RequestRecord, Role, RoleRecord, SessionId, State, change_at, change_first, change_role, change_session, muted, node_in, put_job, request_in, role_in, same_request, session_of}
+use Rattle.np_tree.specs.Prelude.{Any, HasRoomFor, IsWhole, Op, TreeState, after_part, is_in, part_answer}
 use Rattle.np_nodes.specs.declared.op.Op.TheVariants as op
-use Rattle.np_tree.specs.Whole.{IsWhole}
-use Rattle.np_views.specs.Several.{HasRoomFor}
-use Rattle.np_record.specs.declared.record.JobRecord.{JobRecord}
-use Rattle.np_record.specs.declared.record.NodeRecord.{NodeRecord}
-use Rattle.np_record.specs.declared.record.RequestRecord.{RequestRecord}
-use Rattle.np_record.specs.declared.record.RoleRecord.{RoleRecord}
 use Rattle.np_spelling.specs.Spelling.{SpellsNode, job_text, request_record_text, role_text, session_text}
-use Rattle.np_machine.specs.Session.{muted}
-use Rattle.np_machine.specs.State.{State}
-use Rattle.np_machine.specs.Tables.{change_role, change_session, node_in, put_job, request_in, role_in, same_request, session_of}
 use Rattle.np_machine.specs.declared.state.SessionFacts.{SessionFacts}
-use Rattle.np_places.specs.Place.{IsGood, path_of}
-use Rattle.np_places.specs.Roles.{place_of_role}
-use Rattle.np_places.specs.declared.place.Place.{Place}
-use Rattle.np_places.specs.declared.place.Place.TheVariants.{Request, Node, Launcher, Job, Session, Swept, Tick}
+use Rattle.np_layout.specs.Place.{IsGood, path_of}
+use Rattle.np_layout.specs.Roles.{place_of_role}
+use Rattle.np_layout.specs.declared.place.Place.{Place}
+use Rattle.np_layout.specs.declared.place.Place.TheVariants.{Request, Node, Launcher, Job, Session, Swept, Tick}
 use Rattle.np_layout.specs.Layout.{LaysOut}
 
 -- each record, lock, registration, handle and swept pair of the state has a place whose ids have a text

@@ -3,17 +3,12 @@ use Rattle.std.specs.Prelude.{ℕ, true, false, List, [], ◌∷◌, ◌++◌, c
 use Rattle.np_text.specs.declared.word.NodeState.TheVariants as node_state
 use Rattle.np_text.specs.declared.word.Phase.TheVariants as phase
 use Rattle.np_text.specs.declared.word.RequestState.TheVariants as request_state
-use Rattle.np_record.specs.declared.record.JobRecord.{JobRecord}
-use Rattle.np_record.specs.declared.record.NodeRecord.{NodeRecord}
-use Rattle.np_record.specs.declared.record.RequestRecord.{RequestRecord}
-use Rattle.np_machine.specs.State.{State, new_job, no_deeds}
+use Rattle.np_machine.specs.Prelude.{JobRecord, NodeRecord, RequestRecord, State, new_job, no_deeds}
 use Rattle.np_tree.specs.TreeState.{TreeState, new_tree}
 use Rattle.np_tree.specs.After.{after_end, after_set}
 use Rattle.np_tree.specs.Calls.{after_begin}
 use Rattle.np_tree.specs.Multi.{after_parts}
-use Rattle.np_nodes.specs.declared.kind.Expect.TheVariants.{Any}
-use Rattle.np_nodes.specs.declared.kind.Mode.TheVariants.{Ephemeral, EphemeralSequential, Persistent, PersistentSequential}
-use Rattle.np_nodes.specs.declared.op.Op.{Op}
+use Rattle.np_tree.specs.Prelude.{Any, Ephemeral, EphemeralSequential, Op, Persistent, PersistentSequential}
 use Rattle.np_nodes.specs.declared.op.Op.TheVariants as op
 use Rattle.np_worked.specs.Site.{session, job, label, node, pool, tenant, request, launcher, janitor, requester}
 use Rattle.np_layout.specs.First.{first_directories, make}

@@ -1,18 +1,13 @@
 -- tests one after another: the numbers of their answer are within the ranges that a line has for them
 use Rattle.std.proofs.Common.{◌≡◌, ◌<◌, ◌^◌, refl, arith, Bool, true, false, Option, Some, None, Result, Ok, Err}
 use Rattle.std.proofs.lemmas.Bool.Decides.{nat_tests}
-use Rattle.np_text.specs.Request.{HasText}
-use Rattle.np_text.specs.declared.id.RequestId.{RequestId}
+use Rattle.np_changes.specs.Prelude.{Done, HasText, Refusal, RequestId, found, need, reply_of, vacant, ◌>>=◌, ◌>>◌}
 use Rattle.np_text.specs.declared.word.Ending.TheVariants as ending
-use Rattle.np_event.specs.declared.reply.Done.{Done}
 use Rattle.np_event.specs.declared.reply.Done.TheVariants as done
-use Rattle.np_event.specs.declared.reply.Refusal.{Refusal}
 use Rattle.np_event.specs.declared.reply.Refusal.TheVariants as no
 use Rattle.np_event.specs.declared.reply.Reply.TheVariants as reply
 use Rattle.np_event_lines.specs.Line.{HasReplyLine}
-use Rattle.np_lists.specs.Refusals.{◌>>=◌, ◌>>◌, need, found, vacant}
 use Rattle.np_machine.specs.Tests.{Answer, Check}
-use Rattle.np_machine.specs.Step.{reply_of}
 use Rattle.np_lines.specs.Told.{has_digits, is_told_done, is_told_refusal, is_told_answer}
 
 -- ## ranges
@@ -62,7 +57,7 @@ refuses-vacant (Some a) why each = each a refl
 
 -- ## lines
 
-text-of : (r : RequestId) → has_digits r ≡ true → r.seq < 2 ^ 32 → HasText r
+pub text-of : (r : RequestId) → has_digits r ≡ true → r.seq < 2 ^ 32 → HasText r
 text-of r digits below = record { least = grind (arith, nat_tests); most = grind (arith, nat_tests); sequence = below }
 
 done-line : (d : Done) → is_told_done d ≡ true → DoneInRange d → HasReplyLine (reply.Done d)

@@ -1,38 +1,15 @@
 -- every request that a state of a run names has a priority of three digits, and each job has its record
-use Rattle.std.proofs.Common.{◌≡◌, ℕ, zero, suc, List, [], ◌∷◌, ◌++◌, length, refl, ap, ◌∙◌, subst, arith, Bool, true, false, cond, Option, Some, None}
-use Rattle.std.specs.Prelude.{map, slice_get, slice_set, is_some, ◌==◌, find}
-use Rattle.std.specs.Option.{option_map, option_map_or}
-use Rattle.std.specs.List.{AllByRecursion}
+use Rattle.std.proofs.Common.{◌≡◌, ℕ, zero, suc, List, [], ◌∷◌, ◌++◌, length, refl, ◌∙◌, subst, arith, Bool, true, false, cond, Option, Some, None}
+use Rattle.std.specs.Prelude.{map, slice_get, is_some, ◌==◌, find}
+use Rattle.np_changes.specs.Prelude.{AllByRecursion, Configuration, EachAfter, Event, IsJob, IsPriority, IsSound, Job, JobId, JobRecord, NodeEntry, NodeId, NodeRecord, RequestEntry, RequestId, RequestRecord, SessionId, StandsByOwner, State, acquired, all_freed, all_in_use, allocated, change_first, crashed, create_by, create_for, created, effect, expired, finished, freed, given_up, in_use, is_marked, is_request, launcher, made, next, next_label, node_ended, node_freed, node_in, node_left, option_map, option_map_or, put_job, put_node, put_request, released, remove_request, reported, request_entry, request_in, request_left, same_request, session_of, start, start_by, started, take_for, take_from, taken, tenant_of_request, took_ready, with_mark, withdrawn}
 use Rattle.std.proofs.lemmas.Bool.Decides.{nat_tests}
 use Rattle.std.proofs.lemmas.List.{length-map}
-use Rattle.np_text.specs.declared.id.SessionId.{SessionId}
-use Rattle.np_text.specs.declared.id.NodeId.{NodeId}
-use Rattle.np_text.specs.declared.id.JobId.{JobId}
-use Rattle.np_text.specs.declared.id.RequestId.{RequestId}
-use Rattle.np_site.specs.Configuration.{Configuration}
-use Rattle.np_lists.specs.EachAfter.{EachAfter}
-use Rattle.np_site.specs.Sound.{StandsByOwner, IsPriority, IsJob, IsSound}
-use Rattle.np_site.specs.declared.row.Job.{Job}
-use Rattle.np_record.specs.declared.record.RequestRecord.{RequestRecord}
-use Rattle.np_record.specs.declared.record.NodeRecord.{NodeRecord}
-use Rattle.np_record.specs.declared.record.JobRecord.{JobRecord}
-use Rattle.np_event.specs.declared.event.Event.{Event}
 use Rattle.np_event.specs.declared.event.Event.TheVariants as ev
-use Rattle.np_machine.specs.Entries.{RequestEntry, NodeEntry}
-use Rattle.np_machine.specs.State.{State, start}
-use Rattle.np_lists.specs.Change.{change_first}
-use Rattle.np_machine.specs.Tables.{session_of, same_request, is_marked, request_entry, request_in, put_request, remove_request, node_in, put_node, is_request, freed, all_freed, put_job}
-use Rattle.np_machine.specs.Tenants.{tenant_of_request}
-use Rattle.np_machine.specs.Reasons.{next_label}
-use Rattle.np_machine.specs.Tests.{launcher}
 use Rattle.np_machine.specs.Request.{registers, next_id, asked_by, submit_for, submitted, request_of_job, revise_request, revised, kept_ready_by, kept_ready, accept_by, accepted, decline_by, declined, fulfilled, given_back, failed}
-use Rattle.np_machine.specs.Node.{allocated, took_ready, made, create_by, create_for, created, start_by, started, reported, with_mark, node_ended, given_up, node_freed}
-use Rattle.np_machine.specs.Semaphore.{acquired, in_use, all_in_use, take_for, take_from, taken, finished, withdrawn, released}
-use Rattle.np_machine.specs.Session.{crashed, request_left, node_left, expired}
-use Rattle.np_machine.specs.Step.{effect, next}
 use Rattle.np_machine.proofs.Steps.{after_found-keeps, after_given-keeps, next-keeps}
 use Rattle.np_lists.proofs.Each.{all-push, all-find, all-remove_first, all-insert_before, all-change_first, length-change_first}
 use Rattle.np_lines.specs.Told.{has_digits}
+use Rattle.np_lists.proofs.Plain.{length-set}
 
 -- an allocation is to such a request
 abbrev pub allocation_has_digits : Option RequestId → Bool
@@ -122,11 +99,6 @@ all_in_use-digits tick [] nodes all = all
 all_in_use-digits tick (n ∷ numbers) nodes all =
     all_in_use-digits tick numbers (change_first (λ e. e.id.0 == n.0) (in_use tick) nodes) (all-change_first AllocationHasDigits (λ e. e.id.0 == n.0) (in_use tick) nodes (λ e is. is) all)
 
-length-slice_set : {X : Type 0} (xs : List X) (i : ℕ) (x : X) → length (slice_set xs i x) ≡ length xs
-length-slice_set [] i x = refl
-length-slice_set (y ∷ xs) zero x = refl
-length-slice_set (y ∷ xs) (suc i) x = ap suc (length-slice_set xs i x)
-
 -- ## one table changed
 
 module _ (c : Configuration) (s : State) (old : HasIds c s) where
@@ -143,7 +115,7 @@ module _ (c : Configuration) (s : State) (old : HasIds c s) where
   stands n k is = node-digits n s.nodes k old.nodes is
 
   set : (j : JobId) (kept : JobRecord) → length (put_job j kept s.jobs) ≡ length c.jobs
-  set j kept = length-slice_set s.jobs j.0 kept ∙ old.jobs
+  set j kept = length-set s.jobs j.0 kept ∙ old.jobs
 
   fulfilled-ids : (r : RequestId) (request : RequestRecord) (b : Bool) → HasIds c (record s {
     requests = cond b (remove_request r s.requests) (put_request r request s.requests);

@@ -1,33 +1,10 @@
 -- each label that a request of a run asks for is in the range that a line has for it
 use Rattle.std.proofs.Common.{◌≡◌, ◌<◌, ◌≤◌, ◌^◌, ◌⊎◌, inl, inr, ℕ, zero, suc, List, [], ◌∷◌, ◌++◌, length, Bool, true, false, cond, refl, sym, subst, arith, Option, Some, None}
 use Rattle.std.specs.Prelude.{◌==◌, find, is_ok, is_some, slice_get, All}
-use Rattle.std.specs.Option.{option_map_or}
-use Rattle.std.specs.List.{AllByRecursion}
+use Rattle.np_changes.specs.Prelude.{AllByRecursion, AsksForJob, AsksToKeep, Configuration, EachAfter, Event, GrowthPremise, IsJob, IsOffer, IsPool, IsSound, IsWanted, Job, LabelId, Offer, Pool, PoolId, Premises, RequestEntry, RequestRecord, StandsByOwner, State, changed, edited, grown, is_id_before, is_offered, joined, judge, left, new_record, next, next_id, option_map_or, plan, request_left, request_queue, requests_changed, requests_left, same_request}
 use Rattle.std.proofs.lemmas.Bool.Decides.{nat_tests}
 use Rattle.std.proofs.lemmas.List.Elements.{All-head, All-tail}
-use Rattle.np_text.specs.declared.id.PoolId.{PoolId}
-use Rattle.np_text.specs.declared.id.LabelId.{LabelId}
-use Rattle.np_site.specs.Configuration.{Configuration}
-use Rattle.np_site.specs.declared.row.Job.{Job}
-use Rattle.np_site.specs.declared.row.Offer.{Offer}
-use Rattle.np_site.specs.declared.row.Pool.{Pool}
-use Rattle.np_site.specs.Sound.{StandsByOwner, IsOffer, IsPool, IsWanted, IsJob, IsSound}
-use Rattle.np_record.specs.declared.record.RequestRecord.{RequestRecord}
-use Rattle.np_event.specs.declared.event.Event.{Event}
-use Rattle.np_lists.specs.EachAfter.{EachAfter}
 use Rattle.np_lists.proofs.Each.{all-remove_first, all-insert_before, all-change_first, all-mapped}
-use Rattle.np_machine.specs.Entries.{RequestEntry}
-use Rattle.np_machine.specs.State.{State}
-use Rattle.np_machine.specs.Tables.{same_request, request_queue, joined, left}
-use Rattle.np_machine.specs.Count.{is_offered}
-use Rattle.np_machine.specs.Order.{is_id_before}
-use Rattle.np_machine.specs.Request.{next_id}
-use Rattle.np_machine.specs.Session.{request_left}
-use Rattle.np_machine.specs.Step.{judge, next}
-use Rattle.np_changes.specs.Asked.{new_record}
-use Rattle.np_changes.specs.Changes.{grown, edited, requests_changed, requests_left, changed}
-use Rattle.np_changes.specs.Plan.{plan}
-use Rattle.np_changes.specs.Premises.{AsksForJob, AsksToKeep, GrowthPremise, Premises}
 use Rattle.np_changes.specs.declared.asked.Asked.{Asked}
 use Rattle.np_changes.specs.declared.changes.Changes.{Changes}
 use Rattle.np_changes.specs.declared.changes.Maker.{Maker}

@@ -1,16 +1,9 @@
 -- each entry of a run has a line if its event has one
 use Rattle.std.proofs.Common.{◌≡◌, ◌≤◌, ◌+◌, ℕ, suc, List, [], ◌∷◌, length, refl, arith, subst}
-use Rattle.std.specs.List.{AllByRecursion}
-use Rattle.np_site.specs.Configuration.{Configuration}
-use Rattle.np_site.specs.Sound.{IsSound}
-use Rattle.np_event.specs.declared.entry.Entry.{Entry}
-use Rattle.np_event.specs.declared.event.Event.{Event}
+use Rattle.np_changes.specs.Prelude.{AllByRecursion, Configuration, Entry, Event, IsSound, Runs, State, judge, next, replayed, reply_of, start}
 use Rattle.np_event_lines.specs.Line.{HasEventLine, HasReplyLine, HasEntryLine}
-use Rattle.np_machine.specs.State.{State, start}
-use Rattle.np_machine.specs.Step.{judge, next, reply_of}
-use Rattle.np_machine.specs.History.{replayed, Runs}
-use Rattle.np_fits.proofs.ShapeRuns.{shape-next, shape-Runs}
-use Rattle.np_fits.proofs.Sites.{sound_fits}
+use Rattle.np_changes.proofs.ShapeRuns.{shape-next, shape-Runs}
+use Rattle.np_changes.proofs.Sites.{sound_fits}
 use Rattle.np_laws.proofs.Start.{invariant-start}
 use Rattle.np_laws.proofs.Runs.{invariant-next}
 use Rattle.np_lines.proofs.Ids.{HasIds-start, HasIds-next}

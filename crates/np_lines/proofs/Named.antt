@@ -1,38 +1,13 @@
 -- what a state of a run says of the values that replies name
 use Rattle.std.proofs.Common.{◌≡◌, ◌<◌, ◌≤◌, ◌^◌, ◌+◌, ◌-◌, ℕ, zero, suc, List, [], ◌∷◌, ◌++◌, length, Bool, true, false, cond, refl, subst, arith, Option, Some, None}
 use Rattle.std.specs.Prelude.{◌==◌, find, filter, fold, slice_get, not, IfSome}
-use Rattle.std.specs.Option.{option_map, option_map_or}
-use Rattle.std.specs.List.{AllByRecursion}
+use Rattle.np_changes.specs.Prelude.{AllByRecursion, Configuration, EachAfter, IsFitSite, IsJob, IsSound, IsTaken, Job, JobId, LabelId, NodeEntry, NodeId, NodeRecord, PoolId, Registration, RequestEntry, RequestId, RequestRecord, SemId, SessionFacts, SessionId, StandsByOwner, State, ahead_of, comes_before, earlier, first_full, first_of, has_handle, holder, is_candidate, is_coming, is_filled, is_free_ready, is_session, least, missing_handles, node_entry, node_holder, node_in, node_queue, option_map, option_map_or, ready_count, registered, request_entry, request_holder, request_in, same_request, session_of, unfilled}
 use Rattle.std.proofs.lemmas.Option.{slice_get_within}
 use Rattle.std.proofs.lemmas.List.Sums.{count_by-le-length}
-use Rattle.np_text.specs.declared.id.SessionId.{SessionId}
-use Rattle.np_text.specs.declared.id.PoolId.{PoolId}
-use Rattle.np_text.specs.declared.id.LabelId.{LabelId}
-use Rattle.np_text.specs.declared.id.SemId.{SemId}
-use Rattle.np_text.specs.declared.id.NodeId.{NodeId}
-use Rattle.np_text.specs.declared.id.JobId.{JobId}
-use Rattle.np_text.specs.declared.id.RequestId.{RequestId}
-use Rattle.np_site.specs.Configuration.{Configuration}
-use Rattle.np_site.specs.declared.row.Job.{Job}
-use Rattle.np_site.specs.Sound.{StandsByOwner, IsTaken, IsJob, IsSound}
-use Rattle.np_record.specs.declared.record.RequestRecord.{RequestRecord}
-use Rattle.np_record.specs.declared.record.NodeRecord.{NodeRecord}
-use Rattle.np_lists.specs.EachAfter.{EachAfter}
 use Rattle.np_lists.proofs.Each.{all-find, all-at, all-filter}
-use Rattle.np_machine.specs.Entries.{RequestEntry, NodeEntry}
-use Rattle.np_machine.specs.declared.state.Registration.{Registration}
-use Rattle.np_machine.specs.declared.state.SessionFacts.{SessionFacts}
-use Rattle.np_machine.specs.State.{State}
-use Rattle.np_machine.specs.Tables.{session_of, registered, is_session, holder, ahead_of, same_request, request_entry, request_in, request_holder, node_entry, node_in, node_queue, node_holder, has_handle}
-use Rattle.np_machine.specs.Order.{comes_before}
-use Rattle.np_machine.specs.First.{earlier, is_candidate, least, first_of}
 use Rattle.np_machine.specs.Reasons.{next_label, first_unoffered, due_tick}
-use Rattle.np_machine.specs.Tests.{missing_handles}
-use Rattle.np_machine.specs.Request.{is_filled, unfilled, ready_count, is_free_ready, is_coming}
-use Rattle.np_machine.specs.Semaphore.{first_full}
-use Rattle.np_fits.specs.Fits.{IsFitSite}
-use Rattle.np_fits.proofs.Shape.{Shaped}
-use Rattle.np_fits.proofs.Shaping.{node-queue}
+use Rattle.np_changes.proofs.Shape.{Shaped}
+use Rattle.np_changes.proofs.Shaping.{node-queue}
 use Rattle.np_laws.specs.Parts.{IsLive, IsQueue, IsLauncher, Invariant}
 use Rattle.np_lines.proofs.Ids.{HasIds}
 use Rattle.np_lines.proofs.Labels.{LabelsInRange, AsksInRange}

@@ -1,31 +1,12 @@
 -- the rows whose answers name no number, and the tests that rows share
 use Rattle.std.proofs.Common.{◌≡◌, ℕ, Bool, true, false, cond, refl, ap, ◌∙◌, Some, Ok}
 use Rattle.std.specs.Prelude.{◌||◌, not, slice_get}
-use Rattle.np_text.specs.declared.id.SessionId.{SessionId}
-use Rattle.np_text.specs.declared.id.PoolId.{PoolId}
-use Rattle.np_text.specs.declared.id.NodeId.{NodeId}
-use Rattle.np_text.specs.declared.id.JobId.{JobId}
-use Rattle.np_text.specs.declared.id.RequestId.{RequestId}
-use Rattle.np_text.specs.declared.id.Role.{Role}
-use Rattle.np_text.specs.declared.id.Role.TheVariants.{Launcher, Janitor, Requester, Reaper}
-use Rattle.np_text.specs.declared.word.Reason.{Reason}
+use Rattle.np_changes.specs.Prelude.{Configuration, Janitor, Job, JobId, JobRecord, Launcher, NodeId, PoolId, Reaper, Reason, RequestId, RequestRecord, Requester, Role, SessionId, State, found, in_state_for, is_asked, is_deleting, is_finishable, is_in_use, is_new, is_over, is_pending_by, is_queued, is_true, judge_decline, judge_finish, judge_release, judge_reset, judge_revise, judge_withdraw, may_finish, may_release, need, node_queue, requester_or_janitor, session_of, unlock_request_as, ◌>>=◌}
 use Rattle.np_text.specs.declared.word.Reason.TheVariants as reason
-use Rattle.np_site.specs.Configuration.{Configuration}
-use Rattle.np_site.specs.declared.row.Job.{Job}
-use Rattle.np_record.specs.declared.record.RequestRecord.{RequestRecord}
-use Rattle.np_record.specs.declared.record.JobRecord.{JobRecord}
 use Rattle.np_event.specs.declared.reply.Done.TheVariants as done
 use Rattle.np_event.specs.declared.reply.Refusal.TheVariants as no
-use Rattle.np_lists.specs.Refusals.{◌>>=◌, need, found}
-use Rattle.np_machine.specs.Kinds.{is_in_use, is_deleting, is_new, is_asked, is_over}
-use Rattle.np_machine.specs.State.{State}
-use Rattle.np_machine.specs.Tables.{session_of, is_queued, node_queue}
-use Rattle.np_machine.specs.Order.{is_pending_by}
-use Rattle.np_machine.specs.Reasons.{is_true}
 use Rattle.np_machine.specs.Tests.{Answer, maker, as_launcher, as_janitor, as_requester, launcher, janitor, requester, request_at, node_at, job_at, record_of, by_registrant, by_request_holder, by_node_holder, of_requester, own_job, wrong_request, wrong_node, wrong_job, in_requested, in_pending, not_declined}
-use Rattle.np_machine.specs.Request.{unlock_request_as, in_state_for, judge_revise, judge_decline, judge_reset}
 use Rattle.np_machine.specs.Node.{owner_from, is_own, is_wanted, judge_unlock_node, judge_end_node, judge_gone, judge_sweep}
-use Rattle.np_machine.specs.Semaphore.{is_finishable, may_finish, requester_or_janitor, may_release, judge_finish, judge_withdraw, judge_release}
 use Rattle.np_machine.specs.Session.{judge_crash, judge_expire}
 use Rattle.np_changes.proofs.Shown.{on-own_job}
 use Rattle.np_lines.proofs.Chains.{DoneInRange, Says, Refuses, says-found, says-then, refuses-need, refuses-found}

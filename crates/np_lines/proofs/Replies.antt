@@ -1,41 +1,13 @@
 -- the answer to an event can be printed
 use Rattle.std.proofs.Common.{◌≡◌, ℕ, List, [], ◌∷◌, refl, subst, arith, Bool, true, false, cond, Option, Some, None, Result, Ok, Err}
 use Rattle.std.specs.Prelude.{slice_get, filter, fold, not}
-use Rattle.std.specs.List.{AllByRecursion}
-use Rattle.std.specs.Option.{option_map}
+use Rattle.np_changes.specs.Prelude.{AllByRecursion, Configuration, Event, IsSound, Janitor, Job, JobId, LabelId, Launcher, NodeId, NodeRecord, PoolId, Reaper, Reason, Refusal, RequestEntry, RequestId, Requester, Role, SessionId, State, comes_before, earlier, first_of, first_unoffered, found, is_candidate, is_pinned_away, judge, judge_accept, judge_acquire, judge_create, judge_decline, judge_done, judge_end_node, judge_fail_declined, judge_finish, judge_free_node, judge_fulfil, judge_gone, judge_lock_node, judge_mark_deleting, judge_min_ready, judge_register, judge_release, judge_reset, judge_revise, judge_start, judge_submit, judge_sweep, judge_take, judge_take_ready, judge_unlock_node, judge_withdraw, least, lock_request_as, need, never_fits, next_id, node_in, option_map, other_than, same_request, tenant_never_fits, unlock_request_as, vacant, ◌>>=◌, ◌>>◌}
 use Rattle.std.proofs.lemmas.Bool.Decides.{nat_tests}
-use Rattle.np_text.specs.declared.id.SessionId.{SessionId}
-use Rattle.np_text.specs.declared.id.PoolId.{PoolId}
-use Rattle.np_text.specs.declared.id.LabelId.{LabelId}
-use Rattle.np_text.specs.declared.id.NodeId.{NodeId}
-use Rattle.np_text.specs.declared.id.JobId.{JobId}
-use Rattle.np_text.specs.declared.id.RequestId.{RequestId}
-use Rattle.np_text.specs.declared.id.Role.{Role}
-use Rattle.np_text.specs.declared.id.Role.TheVariants.{Launcher, Janitor, Requester, Reaper}
-use Rattle.np_text.specs.declared.word.Reason.{Reason}
 use Rattle.np_text.specs.declared.word.Reason.TheVariants as reason
-use Rattle.np_site.specs.Configuration.{Configuration}
-use Rattle.np_site.specs.Sound.{IsSound}
-use Rattle.np_site.specs.declared.row.Job.{Job}
-use Rattle.np_record.specs.declared.record.NodeRecord.{NodeRecord}
-use Rattle.np_event.specs.declared.event.Event.{Event}
 use Rattle.np_event.specs.declared.event.Event.TheVariants as ev
-use Rattle.np_event.specs.declared.reply.Refusal.{Refusal}
 use Rattle.np_event.specs.declared.reply.Refusal.TheVariants as no
-use Rattle.np_machine.specs.Entries.{RequestEntry}
-use Rattle.np_machine.specs.State.{State}
-use Rattle.np_machine.specs.Tables.{same_request, node_in}
-use Rattle.np_machine.specs.Order.{comes_before, is_pinned_away}
-use Rattle.np_machine.specs.First.{earlier, is_candidate, least, first_of}
 use Rattle.np_machine.specs.Tests.{Answer, Check, maker, launcher, request_at, by_registrant, by_request_holder, in_requested, not_declined, not_blocked, unlocked}
-use Rattle.np_machine.specs.Reasons.{first_unoffered, never_fits}
-use Rattle.np_machine.specs.Tenants.{tenant_never_fits}
-use Rattle.np_lists.specs.Refusals.{◌>>=◌, ◌>>◌, need, found, vacant}
-use Rattle.np_machine.specs.Request.{judge_register, judge_submit, judge_revise, judge_min_ready, other_than, lock_request_as, unlock_request_as, judge_accept, judge_decline, judge_fulfil, judge_reset, judge_fail_declined, next_id}
-use Rattle.np_machine.specs.Node.{judge_take_ready, judge_create, judge_start, judge_done, judge_lock_node, judge_unlock_node, judge_end_node, judge_mark_deleting, judge_gone, judge_free_node, judge_sweep}
-use Rattle.np_machine.specs.Semaphore.{judge_acquire, judge_take, judge_finish, judge_withdraw, judge_release}
 use Rattle.np_machine.specs.Session.{judge_open, judge_crash, judge_expire}
-use Rattle.np_machine.specs.Step.{judge}
 use Rattle.np_lists.proofs.Each.{all-filter}
 use Rattle.np_lines.specs.Told.{has_digits, is_told_refusal, is_told_answer}
 use Rattle.np_lines.proofs.Ids.{IdHasDigits, allocation_has_digits, HasIds, job-digits, node-digits}

@@ -1,48 +1,20 @@
 -- the numbers of each answer of a run are within the ranges that a line has for them
 use Rattle.std.proofs.Common.{◌≡◌, ◌<◌, ◌^◌, ℕ, length, Bool, true, false, cond, refl, subst, arith, Option, Some, None, Ok}
 use Rattle.std.specs.Prelude.{◌==◌, ◌&&◌, ◌||◌, not, is_none, is_some, slice_get, nat_lt}
-use Rattle.std.specs.Option.{option_map}
-use Rattle.std.specs.List.{list_any}
+use Rattle.np_changes.specs.Prelude.{Configuration, Event, Janitor, Job, JobId, JobRecord, LabelId, Launcher, NodeId, NodeRecord, NodeState, PoolId, Reaper, RequestId, RequestRecord, Requester, Role, SessionId, State, ahead_of, blocking, count_of, count_of_tenant, first_of, first_unoffered, found, is_asked, is_building, is_declined_by, is_fulfilled, is_new, is_offered, is_over, is_pinned_away, is_ready, is_role, is_session_of, is_short, is_spent_min_ready, judge, judge_accept, judge_fail_declined, judge_fulfil, judge_min_ready, judge_open, judge_register, judge_submit, list_any, lock_request_as, need, never_fits, node_holder, node_in, node_queue, option_map, other_than, ready_age, ready_count, registered, request_holder, request_in, same_request, tenant_never_fits, undeclined, unfilled, vacant}
 use Rattle.std.proofs.lemmas.List.Sums.{count_by-le-length}
-use Rattle.np_text.specs.declared.id.SessionId.{SessionId}
-use Rattle.np_text.specs.declared.id.PoolId.{PoolId}
-use Rattle.np_text.specs.declared.id.LabelId.{LabelId}
-use Rattle.np_text.specs.declared.id.NodeId.{NodeId}
-use Rattle.np_text.specs.declared.id.JobId.{JobId}
-use Rattle.np_text.specs.declared.id.RequestId.{RequestId}
-use Rattle.np_text.specs.declared.id.Role.{Role}
-use Rattle.np_text.specs.declared.id.Role.TheVariants.{Launcher, Janitor, Requester, Reaper}
-use Rattle.np_text.specs.declared.word.NodeState.{NodeState}
 use Rattle.np_text.specs.declared.word.NodeState.TheVariants as node_state
-use Rattle.np_site.specs.Configuration.{Configuration}
-use Rattle.np_site.specs.declared.row.Job.{Job}
-use Rattle.np_record.specs.declared.record.RequestRecord.{RequestRecord}
-use Rattle.np_record.specs.declared.record.NodeRecord.{NodeRecord}
-use Rattle.np_record.specs.declared.record.JobRecord.{JobRecord}
-use Rattle.np_event.specs.declared.event.Event.{Event}
 use Rattle.np_event.specs.declared.event.Event.TheVariants as ev
 use Rattle.np_event_lines.specs.Line.{HasEventLine}
 use Rattle.np_event.specs.declared.reply.Done.TheVariants as done
 use Rattle.np_event.specs.declared.reply.Refusal.TheVariants as no
-use Rattle.np_lists.specs.Refusals.{need, found, vacant}
 use Rattle.np_lists.proofs.RefusalLemmas.{need-last, found-some}
-use Rattle.np_machine.specs.Kinds.{is_building, is_ready, is_new, is_asked, is_over, is_fulfilled}
-use Rattle.np_machine.specs.State.{State}
-use Rattle.np_machine.specs.Tables.{is_session_of, registered, same_request, request_in, request_holder, ahead_of, node_in, node_queue, node_holder}
-use Rattle.np_machine.specs.Count.{is_offered, is_short, count_of}
-use Rattle.np_machine.specs.Order.{is_declined_by, is_pinned_away}
-use Rattle.np_machine.specs.First.{first_of, blocking}
-use Rattle.np_machine.specs.Reasons.{first_unoffered, never_fits, ready_age}
-use Rattle.np_machine.specs.Tenants.{tenant_never_fits, count_of_tenant}
 use Rattle.np_machine.specs.Tests.{maker, launcher, janitor, request_at, node_at, by_registrant, by_request_holder, by_node_holder, of_pool, unlocked, wrong_request, wrong_node, wrong_job, in_requested, in_pending, in_pending_by, not_declined, incomplete, none_missing, quota_short, not_blocked, missing_handles}
-use Rattle.np_machine.specs.Request.{is_spent_min_ready, ready_count, other_than, lock_request_as, unfilled, undeclined, judge_register, judge_submit, judge_min_ready, judge_accept, judge_fulfil, judge_fail_declined}
 use Rattle.np_machine.specs.Node.{place_reply, may_delete, standing, judge_take_ready, judge_create, judge_start, judge_done, judge_lock_node, judge_mark_deleting, judge_free_node}
 use Rattle.np_machine.specs.Semaphore.{first_full, unheld, may_take, judge_acquire, judge_take}
-use Rattle.np_machine.specs.Session.{is_role, judge_open}
-use Rattle.np_machine.specs.Step.{judge}
-use Rattle.np_fits.proofs.Shape.{NodeKept, RequestKept}
-use Rattle.np_fits.proofs.Shapes.{starts-few}
-use Rattle.np_fits.proofs.Shaping.{request-found, node-found}
+use Rattle.np_changes.proofs.Shape.{NodeKept, RequestKept}
+use Rattle.np_changes.proofs.Shapes.{starts-few}
+use Rattle.np_changes.proofs.Shaping.{request-found, node-found}
 use Rattle.np_lines.proofs.Chains.{DoneInRange, Says, Refuses, says-found, says-then, refuses-need, refuses-found, refuses-vacant}
 use Rattle.np_lines.proofs.Sums.{IsWide, wide-count, wide-tenant}
 use Rattle.np_lines.proofs.Named.{Reached, unfilled-few, due-below, request_holder-below, node_holder-below, registered-below, first_of-below, allocated-below, next_request-below, next_node-below, next_session-below, unoffered-below, next_label-below, full-below, missing-below, ready-below, ahead-below}

@@ -1,14 +1,7 @@
 -- the replies of a run can be printed
 use Rattle.std.proofs.Common.{◌≡◌, List, [], ◌∷◌, length, ap, sym, ◌∙◌, subst, true, Ok, Err}
-use Rattle.std.specs.List.{AllByRecursion}
-use Rattle.np_site.specs.Configuration.{Configuration}
-use Rattle.np_site.specs.Sound.{IsSound}
-use Rattle.np_event.specs.declared.entry.Entry.{Entry}
+use Rattle.np_changes.specs.Prelude.{AllByRecursion, Answer, Configuration, Entry, IsSound, Runs, State, judge, next, replayed, reply_of, start, state_after}
 use Rattle.np_event_lines.specs.Line.{HasEventLine}
-use Rattle.np_machine.specs.State.{State, start}
-use Rattle.np_machine.specs.Tests.{Answer}
-use Rattle.np_machine.specs.Step.{judge, next, reply_of}
-use Rattle.np_machine.specs.History.{state_after, replayed, Runs}
 use Rattle.np_lines.specs.Told.{is_told, is_told_answer, IsToldEntry}
 use Rattle.np_lines.proofs.Ids.{HasIds, HasIds-start, HasIds-next}
 use Rattle.np_lines.proofs.Replies.{judge-told}

@@ -1,15 +1,10 @@
 -- which replies have a line, if their numbers are within their types
 use Rattle.std.specs.Prelude.{◌≡◌, nat_le, Bool, true, false, ◌&&◌, Result, Ok, Err}
-use Rattle.np_text.specs.declared.id.RequestId.{RequestId}
-use Rattle.np_text.specs.declared.word.Ending.{Ending}
+use Rattle.np_changes.specs.Prelude.{Done, Ending, Entry, Refusal, Reply, RequestId}
 use Rattle.np_text.specs.declared.word.Ending.TheVariants as ending
-use Rattle.np_event.specs.declared.entry.Entry.{Entry}
 use Rattle.np_event_lines.specs.Line.{HasEventLine}
-use Rattle.np_event.specs.declared.reply.Done.{Done}
 use Rattle.np_event.specs.declared.reply.Done.TheVariants as done
-use Rattle.np_event.specs.declared.reply.Refusal.{Refusal}
 use Rattle.np_event.specs.declared.reply.Refusal.TheVariants as no
-use Rattle.np_event.specs.declared.reply.Reply.{Reply}
 use Rattle.np_event.specs.declared.reply.Reply.TheVariants as reply
 
 -- the request's priority has three digits (Nodepool developer guide: `200-0000000000`)

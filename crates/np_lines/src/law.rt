@@ -1,13 +1,8 @@
 //! The law. Its function does nothing: its contract is the law.
 
 ghost use Rattle.std.specs.Prelude.{List};
-ghost use Rattle.std.specs.List.{AllByRecursion};
-ghost use Rattle.np_site.specs.Configuration.{Configuration};
-ghost use Rattle.np_site.specs.Sound.{IsSound};
-ghost use Rattle.np_event.specs.declared.entry.Entry.{Entry};
+ghost use Rattle.np_changes.specs.Prelude.{AllByRecursion, Configuration, Entry, IsSound, Runs, State};
 ghost use Rattle.np_event_lines.specs.Line.{HasEventLine, HasEntryLine};
-ghost use Rattle.np_machine.specs.State.{State};
-ghost use Rattle.np_machine.specs.History.{Runs};
 
 /// Each entry of a run of a sound configuration has a line if its event has one.
 pub fn each_entry_of_a_run_has_a_line()

@@ -1,6 +1,6 @@
 //! Laws of runs that printing depends on: what a run answers can be printed, and each entry has a line.
 //!
-//! `specs/Told` says which replies have a line, if their numbers are within their types. `np_fits`
+//! `specs/Told` says which replies have a line, if their numbers are within their types. `np_changes`
 //! bounds the numbers of every state of a run, and `np_laws` says what they name. `proofs/Labels`
 //! bounds the labels of requests. `proofs/PlainRows` and `proofs/Rows` go through the tests of each
 //! event by `proofs/Chains`: the numbers of each answer are within the ranges that a line has.

@@ -1,13 +1,8 @@
 //! The laws. Each function does nothing: its contract is the law.
 
 ghost use Rattle.std.specs.Prelude.{◌≡◌, List, length};
-ghost use Rattle.std.specs.List.{AllByRecursion};
-ghost use Rattle.np_site.specs.Configuration.{Configuration};
-ghost use Rattle.np_site.specs.Sound.{IsSound};
-ghost use Rattle.np_event.specs.declared.entry.Entry.{Entry};
+ghost use Rattle.np_changes.specs.Prelude.{AllByRecursion, Configuration, Entry, IsSound, Runs, State};
 ghost use Rattle.np_event_lines.specs.Line.{HasEventLine};
-ghost use Rattle.np_machine.specs.State.{State};
-ghost use Rattle.np_machine.specs.History.{Runs};
 ghost use Rattle.np_lines.specs.Told.{IsToldEntry};
 
 /// Each entry of a run can be printed if its event has a line: the requests that its reply names

@@ -3,6 +3,7 @@ use Rattle.std.proofs.Common.{◌≡◌, ℕ, zero, suc, ◌+◌, ◌≤◌, Boo
 use Rattle.std.specs.Prelude.{filter, slice_get}
 use Rattle.std.specs.List.{insert, list_any, remove}
 use Rattle.std.proofs.lemmas.Bool.{or_right}
+use Rattle.np_lists.proofs.Plain.{or_swap, less-by, rest-by}
 
 -- ## each undoes the other
 
@@ -18,11 +19,6 @@ remove-insert (y ∷ xs) zero x within = refl
 remove-insert (y ∷ xs) (suc k) x within = ap (λ rest. y ∷ rest) (remove-insert xs k x (omega arith))
 
 -- ## whether some member passes
-
-or_swap : (a b c : Bool) → (a || (b || c)) ≡ (b || (a || c))
-or_swap true true c = refl
-or_swap true false c = refl
-or_swap false b c = refl
 
 pub list_any-insert : {X : Type 0} (p : X → Bool) (xs : List X) (k : ℕ) (y : X) → list_any p (insert xs k y) ≡ (p y || list_any p xs)
 list_any-insert p xs zero y = refl
@@ -58,14 +54,6 @@ pub length-filter-insert : {X : Type 0} (p : X → Bool) (y : X) (k : ℕ) (xs :
 length-filter-insert p y zero xs = more-by p y xs (p y)
 length-filter-insert p y (suc k) [] = more-by p y [] (p y)
 length-filter-insert p y (suc k) (x ∷ xs) = past-by x (filter p (insert xs k y)) (filter p xs) (cond (p y) 1 0) (p x) (length-filter-insert p y k xs)
-
-less-by : {X : Type 0} (x : X) (xs ys : List X) (b : Bool) → length xs ≤ length ys → length (cond b (x ∷ xs) xs) ≤ length (cond b (x ∷ ys) ys)
-less-by x xs ys true less = omega arith
-less-by x xs ys false less = less
-
-rest-by : {X : Type 0} (x : X) (xs : List X) (b : Bool) → length xs ≤ length (cond b (x ∷ xs) xs)
-rest-by x xs true = omega arith
-rest-by x xs false = omega arith
 
 pub length-filter-remove : {X : Type 0} (p : X → Bool) (k : ℕ) (xs : List X) → length (filter p (remove xs k)) ≤ length (filter p xs)
 length-filter-remove p zero [] = omega arith

@@ -5,6 +5,7 @@ use Rattle.std.specs.List.{AllByRecursion, list_any, prefix_len}
 use Rattle.np_lists.specs.Change.{insert_before}
 use Rattle.np_lists.specs.Rising.{NonePass, Rises}
 use Rattle.np_lists.proofs.Each.{all-weaker}
+use Rattle.np_lists.proofs.Plain.{or_swap, less-by, rest-by}
 
 -- ## each member changed
 
@@ -56,16 +57,8 @@ filter-nothing p (x ∷ xs) none = rw (none.0) (filter-nothing p xs none.1)
 
 -- ## of those that pass one test, those that pass another
 
-rest-by : {X : Type 0} (x : X) (xs : List X) (b : Bool) → length xs ≤ length (cond b (x ∷ xs) xs)
-rest-by x xs true = omega arith
-rest-by x xs false = omega arith
-
-both-by : {X : Type 0} (x : X) (xs ys : List X) (b : Bool) → length xs ≤ length ys → length (cond b (x ∷ xs) xs) ≤ length (cond b (x ∷ ys) ys)
-both-by x xs ys true less = omega arith
-both-by x xs ys false less = less
-
 keep-by : {X : Type 0} (p : X → Bool) (x : X) (xs ys : List X) (c : Bool) → length (filter p ys) ≤ length (filter p xs) → length (filter p (cond c (x ∷ ys) ys)) ≤ length (filter p (x ∷ xs))
-keep-by p x xs ys true less = both-by x (filter p ys) (filter p xs) (p x) less
+keep-by p x xs ys true less = less-by x (filter p ys) (filter p xs) (p x) less
 keep-by p x xs ys false less = let more = rest-by x (filter p xs) (p x) in omega arith
 
 pub length-filter-filter : {X : Type 0} (p keep : X → Bool) (xs : List X) → length (filter p (filter keep xs)) ≤ length (filter p xs)
@@ -141,11 +134,6 @@ prefix_len-le low high [] both = omega arith
 prefix_len-le low high (x ∷ xs) both = le-by low high x xs (low x) refl (both x) (prefix_len-le low high xs both)
 
 -- ## one member more
-
-or_swap : (a b c : Bool) → (a || (b || c)) ≡ (b || (a || c))
-or_swap true true c = refl
-or_swap true false c = refl
-or_swap false b c = refl
 
 insert-by : {X : Type 0} (q : X → Bool) (new x : X) (xs ys : List X) (b : Bool) → list_any q ys ≡ (q new || list_any q xs) → list_any q (cond b (new ∷ x ∷ xs) (x ∷ ys)) ≡ (q new || (q x || list_any q xs))
 insert-by q new x xs ys true later = refl

@@ -11,3 +11,4 @@ pub mod FilterLemmas
 pub mod FoundLemmas
 pub mod RefusalLemmas
 pub mod KeptLemmas
+pub mod Plain

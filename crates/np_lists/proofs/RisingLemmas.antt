@@ -1,16 +1,11 @@
 -- what keeps a table in order
-use Rattle.std.proofs.Common.{◌≡◌, ℕ, zero, suc, ◌<◌, ◌≤◌, List, [], ◌∷◌, ◌++◌, length, refl, ap, sym, ◌∙◌, arith, subst, Option, Some, None, Bool, true, false, get_or, take, drop, cond}
-use Rattle.std.specs.Prelude.{filter, map, slice_get, slice_set, IfSome}
+use Rattle.std.proofs.Common.{◌≡◌, ℕ, zero, suc, ◌<◌, ◌≤◌, List, [], ◌∷◌, ◌++◌, length, refl, ap, sym, ◌∙◌, arith, subst, Some, Bool, true, false, get_or, take, drop, cond}
+use Rattle.std.specs.Prelude.{filter, map, slice_get, slice_set}
 use Rattle.std.specs.List.{AllByRecursion, AllWithin, insert, remove}
 use Rattle.std.specs.List.Sorted.{IsPartitionPoint}
 use Rattle.np_lists.specs.Change.{insert_before}
-use Rattle.np_lists.specs.Rising.{Rises, NonePass, IsFirstPlace}
+use Rattle.np_lists.specs.Rising.{Rises, NonePass}
 use Rattle.np_lists.proofs.Each.{all-at, all-filter, all-get_or, all-insert, all-remove, all-weaker}
-use Rattle.np_lists.proofs.Halves.{first-within}
-
-pub first_place-within : {X : Type 0} (p : X → Bool) (xs : List X) (o : Option ℕ) → IsFirstPlace p xs o → IfSome o (λ at. at < length xs)
-first_place-within p xs None first = tt
-first_place-within p xs (Some i) first = first-within p xs i first
 
 -- ## the same keys in the same order
 

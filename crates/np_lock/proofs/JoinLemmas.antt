@@ -1,31 +1,19 @@
 -- a queue with one session more
 use Rattle.std.proofs.Common.{◌≡◌, ℕ, ◌+◌, ◌<◌, ◌≤◌, Bool, true, false, not, ◌||◌, List, [], ◌∷◌, ◌++◌, map, Option, Some, Ok, refl, sym, ap, ◌∙◌, subst, arith}
 use Rattle.std.specs.Prelude.{◌==◌}
-use Rattle.std.specs.List.{AllByRecursion, list_any}
-use Rattle.std.specs.Option.{option_map}
+use Rattle.np_tree.specs.Prelude.{AllByRecursion, EphemeralSequential, IsWhole, Node, NonePass, Rises, TreeState, after_create, below, counter_at, is_in, is_path, list_any, name_of, option_map, parent_of, ten_digits_of}
 use Rattle.std.specs.Ordering.{nat_cmp, is_lt}
 use Rattle.std.specs.Cmp.Lexicographic.{slice_cmp}
 use Rattle.std.proofs.lemmas.Bool.{leb-true}
-use Rattle.np_text.specs.Number.{ten_digits_of}
 use Rattle.np_text.proofs.OrderLemmas.{nat_cmp-more, slice_cmp-ten}
-use Rattle.np_lists.specs.Rising.{NonePass, Rises}
 use Rattle.np_lists.proofs.ChangeLemmas.{insert_before-end}
 use Rattle.np_lists.proofs.Each.{all-push, all-weaker}
-use Rattle.np_path.specs.Grammar.{is_path}
-use Rattle.np_path.specs.Parts.{below, name_of, parent_of}
 use Rattle.np_path.proofs.PathLaws.{HasParts-below}
 use Rattle.np_path.proofs.PartsLemmas.{is_path-below}
-use Rattle.np_session.specs.Known.{is_in}
-use Rattle.np_nodes.specs.TreeState.{TreeState}
-use Rattle.np_nodes.specs.After.{after_create}
-use Rattle.np_nodes.specs.declared.kind.Mode.TheVariants.{EphemeralSequential}
-use Rattle.np_nodes.specs.declared.node.Node.{Node}
-use Rattle.np_tree.specs.Read.{counter_at}
-use Rattle.np_tree.specs.Whole.{IsWhole}
 use Rattle.np_tree.proofs.PassedLemmas.{child_answer-passed}
-use Rattle.np_views.specs.Relations.{Creates}
-use Rattle.np_views.specs.Views.{Row, row_before, row_given, with_row}
-use Rattle.np_views.proofs.RelationLemmas.{child-line, creates-show}
+use Rattle.np_tree.specs.Relations.{Creates}
+use Rattle.np_tree.specs.Views.{Row, row_before, row_given, with_row}
+use Rattle.np_tree.proofs.RelationLemmas.{child-line, creates-show}
 use Rattle.np_lock.specs.Calls.{join_answer}
 use Rattle.np_lock.specs.Queue.{IsGivenOut, IsQueue, Wait, of_others, prefix, queue_at, row_of_wait, wait_path}
 use Rattle.np_lock.proofs.WaitLemmas.{queue-waits}

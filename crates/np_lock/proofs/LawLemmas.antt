@@ -1,34 +1,22 @@
 -- how a queue changes with the tree
 use Rattle.std.proofs.Common.{◌≡◌, ℕ, Bool, true, false, not, cond, List, [], ◌∷◌, ◌++◌, map, Option, Some, None, Result, Ok, Err, refl, sym, ap, ◌∙◌, subst}
 use Rattle.std.specs.Prelude.{IsOk, filter, ◌==◌}
-use Rattle.std.specs.List.{AllByRecursion}
-use Rattle.std.specs.Option.{option_map}
+use Rattle.np_tree.specs.Prelude.{AllByRecursion, Any, IsTree, Node, Row, TreeRefusal, TreeState, after_end, at_path, counter_at, delete_answer, is_owner, option_map, row_of, rows_at, seen_of, without, ◌>>=◌, ◌>>◌}
 use Rattle.std.proofs.lemmas.Bool.{eqb-true}
-use Rattle.np_lists.specs.Refusals.{◌>>=◌, ◌>>◌}
 use Rattle.np_lists.proofs.Each.{all-filter}
 use Rattle.np_lists.proofs.RisingLemmas.{Rises-filter}
-use Rattle.np_session.specs.Known.{without}
-use Rattle.np_nodes.specs.TreeState.{TreeState}
-use Rattle.np_nodes.specs.After.{after_end}
-use Rattle.np_nodes.specs.Answer.{delete_answer}
-use Rattle.np_nodes.specs.Nodes.{at_path, is_owner}
-use Rattle.np_nodes.specs.declared.kind.Expect.TheVariants.{Any}
-use Rattle.np_nodes.specs.declared.node.Node.{Node}
 use Rattle.np_nodes.specs.declared.op.OpDone.TheVariants as done
-use Rattle.np_nodes.specs.declared.refusal.TreeRefusal.{TreeRefusal}
-use Rattle.np_tree.specs.Read.{counter_at}
-use Rattle.np_tree.specs.Whole.{IsTree}
 use Rattle.np_tree.proofs.StandingLemmas.{children_of-ephemeral}
-use Rattle.np_views.specs.Relations.{is_kept}
-use Rattle.np_views.specs.Views.{Row, row_of, rows_at, seen_of}
-use Rattle.np_views.proofs.GoesLemmas.{unspent-goes}
-use Rattle.np_views.proofs.RelationLemmas.{ends-show}
+use Rattle.np_tree.specs.Relations.{is_kept}
+use Rattle.np_tree.proofs.GoesLemmas.{unspent-goes}
+use Rattle.np_tree.proofs.RelationLemmas.{ends-show}
 use Rattle.np_lock.specs.Calls.{join_answer}
 use Rattle.np_lock.specs.Laws.{EmptiesAreLocks, EndsLeave, PartsJoin, PartsLeave, QueuesAreShown}
 use Rattle.np_lock.specs.Queue.{IsGivenOut, IsQueue, Wait, of_others, row_of_wait}
 use Rattle.np_lock.proofs.JoinLemmas.{Joins-accepted, queue-joined}
 use Rattle.np_lock.proofs.LeaveLemmas.{Leaves-path, left-sessions, left_by, of_session}
 use Rattle.np_lock.proofs.WaitLemmas.{queue-waits}
+use Rattle.np_tree.proofs.ClearLemmas.{ok-then}
 
 pub queues-are-shown : QueuesAreShown
 queues-are-shown t u dir waits rows counter queue =
@@ -49,14 +37,11 @@ parts-join t s dir is whole lock none ok =
     let joins = Joins-accepted t s dir made.0 lock.0 is whole lock.1 none made.1 in
     ((lock.0 ++ record { number = joins.counter; session = s } ∷ [], joins.queue), queue-joined t s dir lock.0 lock.1 joins)
 
-ok-of : (r : Result (Unit {0}) TreeRefusal) → r ≡ Ok tt → IsOk (r >> Ok done.Deleted)
-ok-of r is = rw is refl
-
 pub parts-leave : PartsLeave
 parts-leave t s dir path is tree lock there change =
     let leaves = Leaves-path t s dir path is tree lock there in
     let ok : delete_answer t s path Any ≡ Ok tt = leaves.answer ∙ unspent-goes t change in
-    (ok-of (delete_answer t s path Any) ok, leaves.lock ok, leaves.queue ok)
+    (ok-then (delete_answer t s path Any) ok, leaves.lock ok, leaves.queue ok)
 
 -- ## the end of a session
 

@@ -2,15 +2,12 @@
 use Rattle.std.proofs.Common.{◌≡◌, ℕ, zero, suc, ◌+◌, ◌<◌, ◌≤◌, Bool, true, false, not, cond, List, [], ◌∷◌, ◌++◌, length, get_or, map, Option, Some, None, Ok, Err, refl, sym, ap, ◌∙◌, subst, arith}
 use Rattle.std.specs.Prelude.{filter, find, is_some, nat_lt, slice_get, ◌==◌}
 use Rattle.std.specs.List.{AllByRecursion, position_or_len}
-use Rattle.std.specs.Option.{option_map}
+use Rattle.np_tree.specs.Prelude.{Any, Node, NonePass, Rises, Row, Seen, TreeRefusal, TreeState, after_delete, at_path, below, child_name, children_of, counter_at, delete_answer, find_named, is_at, is_element, is_in, is_named, is_path, name_of, need, option_map, parent_of, row_before, row_of, rows_at, seen_at, seen_in, seen_of, ten_digits_of, unspent, without}
 use Rattle.std.proofs.lemmas.Bool.{eqb-true, ltb-false, ltb-true}
 use Rattle.std.proofs.lemmas.Bool.Decides.{nat_tests}
 use Rattle.std.proofs.lemmas.List.{length-map}
 use Rattle.std.proofs.lemmas.Option.{slice_get-get_or}
 use Rattle.std.proofs.lemmas.List.Folds.{find_at}
-use Rattle.np_text.specs.Number.{ten_digits_of}
-use Rattle.np_lists.specs.Refusals.{need}
-use Rattle.np_lists.specs.Rising.{NonePass, Rises}
 use Rattle.np_lists.proofs.Each.{all-filter, all-find, all-weaker}
 use Rattle.np_lists.proofs.FilterLemmas.{filter-not_none}
 use Rattle.np_lists.proofs.FoundLemmas.{find-passes}
@@ -18,32 +15,19 @@ use Rattle.np_lists.proofs.RisingLemmas.{Rises-filter}
 use Rattle.np_path.specs.Faults.{name_fault}
 use Rattle.np_path.specs.Makes.{Makes}
 use Rattle.np_path.specs.declared.path.Path.{Path}
-use Rattle.np_path.specs.Grammar.{is_element, is_path}
-use Rattle.np_path.specs.Parts.{below, name_of, parent_of}
 use Rattle.np_path.proofs.PathLaws.{HasParts-below}
 use Rattle.np_path.proofs.PartsLemmas.{is_element-numbered, is_path-below}
-use Rattle.np_session.specs.Known.{is_in, without}
-use Rattle.np_nodes.specs.TreeState.{TreeState}
-use Rattle.np_nodes.specs.After.{after_delete}
-use Rattle.np_nodes.specs.Answer.{delete_answer}
-use Rattle.np_nodes.specs.Nodes.{at_path, children_of, is_at}
-use Rattle.np_nodes.specs.Tests.{unspent}
-use Rattle.np_nodes.specs.declared.kind.Expect.TheVariants.{Any}
-use Rattle.np_nodes.specs.declared.node.Node.{Node}
 use Rattle.np_nodes.specs.declared.refusal.TreeFault.{TreeFault}
 use Rattle.np_nodes.specs.declared.refusal.TreeFault.TheVariants.{NoMemory, Refused}
-use Rattle.np_nodes.specs.declared.refusal.TreeRefusal.{TreeRefusal}
 use Rattle.np_nodes.specs.declared.refusal.TreeRefusal.TheVariants as no
 use Rattle.np_nodes.proofs.PlaceLemmas.{bytes_eq-from}
 use Rattle.np_tree.specs.Inners.{Answers}
-use Rattle.np_tree.specs.Read.{child_name, counter_at}
 use Rattle.np_tree.specs.Whole.{IsTree, IsWhole, OwnerLives}
 use Rattle.np_tree.proofs.StandingLemmas.{children_of-ephemeral}
-use Rattle.np_views.specs.Relations.{Deletes}
-use Rattle.np_views.specs.Views.{Row, Seen, find_named, is_named, row_before, row_of, rows_at, seen_at, seen_in, seen_of}
-use Rattle.np_views.proofs.GoesLemmas.{delete-changes}
-use Rattle.np_views.proofs.RelationLemmas.{apart-below, deletes-show, rows-rise, seen-is-row}
-use Rattle.np_views.proofs.SiblingLemmas.{other-name, other-name_back}
+use Rattle.np_tree.specs.Relations.{Deletes}
+use Rattle.np_tree.proofs.GoesLemmas.{delete-changes}
+use Rattle.np_tree.proofs.RelationLemmas.{apart-below, deletes-show, rows-rise, seen-is-row}
+use Rattle.np_tree.proofs.SiblingLemmas.{other-name, other-name_back}
 use Rattle.np_lock.specs.Faults.{fault_of}
 use Rattle.np_lock.specs.Calls as calls
 use Rattle.np_lock.specs.Calls.{ahead_in, find_owned, path_in}

@@ -5,9 +5,8 @@ use Rattle.std.specs.List.{list_any, position_from}
 use Rattle.std.proofs.lemmas.Iterator.Adapters.{position_from-zero}
 use Rattle.std.proofs.lemmas.List.{drop_all}
 use Rattle.np_lists.proofs.FilterLemmas.{filter-not_none, none-list_any}
-use Rattle.np_session.specs.Known.{is_in, without}
-use Rattle.np_nodes.specs.Nodes.{is_owner}
-use Rattle.np_lock.specs.Calls.{Leaves, Releases, ahead_in, first_of, held_by}
+use Rattle.np_tree.specs.Prelude.{is_in, is_owner, without}
+use Rattle.np_lock.specs.Calls.{Leaves, Releases, ahead_in, first_of}
 use Rattle.np_lock.specs.declared.answer.LockFault.{LockFault}
 use Rattle.np_lock.specs.declared.answer.LockFault.TheVariants.{NoMemory, Refused}
 
@@ -90,14 +89,6 @@ pub there-none : (queue : List ℕ) (session : ℕ) → ahead_in queue session �
 there-none queue session is = any-none (is_session session) queue 0 (sym (IsAsked-none session queue) ∙ is)
 
 -- ## the first
-
-pub held-some : (queue : List ℕ) (session first : ℕ) → first_of queue ≡ Some first → held_by queue session ≡ queue
-held-some [] session first is = absurd cc
-held-some (s ∷ queue) session first is = refl
-
-pub held-none : (queue : List ℕ) (session : ℕ) → first_of queue ≡ None → queue ++ session ∷ [] ≡ held_by queue session
-held-none [] session is = refl
-held-none (s ∷ queue) session is = absurd cc
 
 pub nobody : (queue : List ℕ) (session : ℕ) → first_of queue ≡ None → is_in queue session ≡ false
 nobody [] session is = refl

@@ -1,18 +1,10 @@
 -- the rows of a queue, and the sessions in it
 use Rattle.std.proofs.Common.{◌≡◌, ℕ, zero, suc, List, [], ◌∷◌, length, map, Option, Some, None, refl, sym, ap, ◌∙◌}
 use Rattle.std.specs.Prelude.{filter_map, slice_get, option_and_then}
-use Rattle.std.specs.Option.{option_map}
+use Rattle.np_tree.specs.Prelude.{IsTree, Node, Row, Stat, TreeState, at_path, children_of, is_at, option_map, row_of, stat_at, stat_of, stat_of_child, with_next_number}
 use Rattle.np_lists.proofs.FoundLemmas.{find-passes}
-use Rattle.np_nodes.specs.TreeState.{TreeState}
-use Rattle.np_nodes.specs.After.{with_next_number}
-use Rattle.np_nodes.specs.Nodes.{at_path, children_of, is_at, stat_of}
-use Rattle.np_nodes.specs.declared.kind.Stat.{Stat}
-use Rattle.np_nodes.specs.declared.node.Node.{Node}
 use Rattle.np_nodes.proofs.PlaceLemmas.{bytes_eq-is}
-use Rattle.np_tree.specs.Read.{stat_at, stat_of_child}
-use Rattle.np_tree.specs.Whole.{IsTree}
-use Rattle.np_views.specs.Views.{Row, row_of}
-use Rattle.np_views.proofs.RelationLemmas.{rows-nothing}
+use Rattle.np_tree.proofs.RelationLemmas.{rows-nothing}
 use Rattle.np_lock.specs.Queue.{IsLock, IsQueue, Wait, queue_at, row_of_wait}
 use Rattle.std.proofs.lemmas.List.{length-map}
 

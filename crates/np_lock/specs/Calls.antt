@@ -1,20 +1,8 @@
 -- what each call of a lock answers, and what it does to the tree
 use Rattle.std.specs.Prelude.{◌≡◌, ⊤, ℕ, zero, suc, ◌<◌, ◌==◌, Bool, true, false, List, [], ◌∷◌, ◌++◌, find, position, slice_get, Option, Some, None, Result, Ok, Err, IsOk, if◌then◌else◌}
-use Rattle.std.specs.Option.{is_none, option_map}
-use Rattle.np_session.specs.Known.{is_in}
-use Rattle.np_path.specs.Parts.{below}
-use Rattle.np_text.specs.declared.memory.NoMemory.{NoMemory}
-use Rattle.np_nodes.specs.TreeState.{TreeState}
-use Rattle.np_nodes.specs.Nodes.{is_owner}
-use Rattle.np_nodes.specs.After.{after_create, after_delete, where_found, with_next_number}
-use Rattle.np_nodes.specs.Answer.{create_answer}
-use Rattle.np_nodes.specs.declared.kind.Mode.TheVariants.{EphemeralSequential}
-use Rattle.np_nodes.specs.declared.kind.Expect.TheVariants.{Any}
-use Rattle.np_nodes.specs.declared.op.Op.{Op}
+use Rattle.np_tree.specs.Prelude.{Any, EphemeralSequential, NoMemory, Op, Row, TreeRefusal, TreeState, after_create, after_delete, below, create_answer, is_in, is_none, is_owner, option_map, rows_at, where_found, with_next_number}
 use Rattle.np_nodes.specs.declared.op.Op.TheVariants as op
-use Rattle.np_nodes.specs.declared.refusal.TreeRefusal.{TreeRefusal}
 use Rattle.np_nodes.specs.declared.refusal.TreeRefusal.TheVariants as no
-use Rattle.np_views.specs.Views.{Row, rows_at}
 use Rattle.np_lock.specs.Queue.{queue_at, wait_path}
 use Rattle.np_lock.specs.declared.answer.Place.{Place}
 use Rattle.np_lock.specs.declared.answer.Place.TheVariants.{Held, Queued}

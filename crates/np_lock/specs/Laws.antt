@@ -1,13 +1,6 @@
 -- how a queue changes with the tree
 use Rattle.std.specs.Prelude.{◌≡◌, ◌<◌, ℕ, true, false, List, [], ◌∷◌, ◌++◌, Some, IsOk}
-use Rattle.np_path.specs.Grammar.{is_path}
-use Rattle.np_session.specs.Known.{is_in, without}
-use Rattle.np_nodes.specs.TreeState.{TreeState}
-use Rattle.np_nodes.specs.After.{after_end, after_part}
-use Rattle.np_nodes.specs.Answer.{part_answer}
-use Rattle.np_tree.specs.Read.{counter_at}
-use Rattle.np_tree.specs.Whole.{IsTree, IsWhole}
-use Rattle.np_views.specs.Views.{rows_at}
+use Rattle.np_tree.specs.Prelude.{IsTree, IsWhole, TreeState, after_end, after_part, counter_at, is_in, is_path, part_answer, rows_at, without}
 use Rattle.np_lock.specs.Calls.{join_part, leave_part, path_in}
 use Rattle.np_lock.specs.Queue.{IsLock, IsQueue, Wait, queue_at}
 

@@ -1,12 +1,7 @@
 -- a lock is a directory, and its queue is the sessions of its children (ZooKeeper recipes, locks: the lowest sequence node holds)
 use Rattle.std.specs.Prelude.{◌≡◌, ◌<◌, ℕ, ◌==◌, Bool, not, List, [], codes, map, filter_map, Option, Some, None}
-use Rattle.std.specs.List.{AllByRecursion}
-use Rattle.np_lists.specs.Rising.{Rises}
-use Rattle.np_path.specs.Parts.{below}
-use Rattle.np_nodes.specs.TreeState.{TreeState}
-use Rattle.np_nodes.specs.declared.kind.Mode.TheVariants.{EphemeralSequential}
-use Rattle.np_tree.specs.Read.{counter_at}
-use Rattle.np_views.specs.Views.{Row, row_given, rows_at}
+use Rattle.np_tree.specs.Prelude.{AllByRecursion, EphemeralSequential, Rises, TreeState, below, counter_at}
+use Rattle.np_tree.specs.Views.{Row, row_given, rows_at}
 
 -- what each name in a queue begins with
 abbrev pub prefix : List ℕ

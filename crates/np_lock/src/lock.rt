@@ -1,10 +1,7 @@
 //! The queue of a directory.
 
 ghost use Rattle.std.specs.Prelude.{◌≡◌, [], ◌∷◌, ◌++◌, Some, true, false, is_some, length, slice_get, IfOk, OnOk, OnErr};
-ghost use Rattle.np_path.specs.Grammar.{is_path};
-ghost use Rattle.np_session.specs.Known.{is_in, without};
-ghost use Rattle.np_nodes.specs.After.{after_delete, with_next_number};
-ghost use Rattle.np_nodes.specs.Nodes.{is_owner};
+ghost use Rattle.np_tree.specs.Prelude.{after_delete, is_in, is_owner, is_path, with_next_number, without};
 ghost use Rattle.np_lock.specs.Queue.{IsLock, queue_at, wait_path};
 ghost use Rattle.np_lock.specs.Calls.{Enqueues, Joins, Leaves, LeavesBy, Releases, Tries, after_enqueue, after_join, after_release, after_try, ahead_in, first_of, held_by, join_answer, join_part, joined, path_in, place_with};
 

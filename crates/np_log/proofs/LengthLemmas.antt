@@ -25,6 +25,7 @@ use Rattle.np_event.specs.declared.event.Outcome.TheVariants as outcome
 use Rattle.np_event_lines.specs.Kind.{lettered}
 use Rattle.np_event_lines.specs.Line.{HasEventLine, event_line}
 use Rattle.np_log.specs.Batch.{batch_text}
+use Rattle.np_lists.proofs.Plain.{decimal-short}
 
 -- ## A word
 
@@ -45,9 +46,6 @@ reason_kind_word-short reason_kind.Spent = at_most 20 (codes "spent") refl
 end_as_word-short : (e : EndAs) → length (end_as_word e) ≤ 20
 end_as_word-short end.Used = at_most 20 (codes "used") refl
 end_as_word-short end.Hold = at_most 20 (codes "hold") refl
-
-decimal-short : (n : ℕ) → n < 2 ^ 64 → length (decimal n) ≤ 20
-decimal-short n small = length-decimal-le 20 n (omega arith) (omega arith) small
 
 lettered-short : (letter n : ℕ) → n < 2 ^ 32 → length (lettered letter n) ≤ 20
 lettered-short letter n small =

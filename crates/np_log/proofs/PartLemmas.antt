@@ -2,16 +2,11 @@
 use Rattle.std.proofs.Common.{◌≡◌, inl, inr, ℕ, ◌+◌, ◌≤◌, List, [], ◌++◌, length, take, drop, Option, Some, None, IfSome, Result, Ok, Err, refl, sym, ◌∙◌, ap, arith, append_assoc}
 use Rattle.std.specs.Option.{option_map}
 use Rattle.std.proofs.Math.Seq.{take-add}
-use Rattle.std.proofs.lemmas.List.{append-nil}
 use Rattle.np_event.specs.declared.event.Event.{Event}
 use Rattle.np_disk.specs.Disk.{DiskFacts, LeavesOnly}
 use Rattle.np_disk.proofs.Moments.{LeavesOnly-then}
 use Rattle.np_log.specs.Log.{Content, content_of, content_with}
 use Rattle.np_log.specs.Place.{SaysAllOrNone, SaysFirst}
-
-pub content_with-none : (said : Result Content ℕ) → content_with said [] ≡ said
-content_with-none (Ok said) = ap (λ (es : List Event). Ok (record { config = said.config; events = es })) (append-nil said.events)
-content_with-none (Err number) = refl
 
 pub content_with-then : (said : Result Content ℕ) (es fs : List Event) → content_with (content_with said es) fs ≡ content_with said (es ++ fs)
 content_with-then (Ok said) es fs = ap (λ (xs : List Event). Ok (record { config = said.config; events = xs })) (append_assoc said.events es fs)

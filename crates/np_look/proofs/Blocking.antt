@@ -1,17 +1,9 @@
 -- who blocks a request: a tenant without a limit blocks nothing
 use Rattle.std.proofs.Common.{◌≡◌, ◌∙◌, refl, ap, sym, Bool, true, false, ℕ, Option, Some, None}
 use Rattle.std.specs.Prelude.{is_some, is_none, not, ◌&&◌, ◌||◌, if◌then◌else◌, option_and_then}
-use Rattle.np_amount.specs.declared.amount.Amount.{Amount}
-use Rattle.np_amount.specs.declared.amount.Limit.{Limit}
+use Rattle.np_changes.specs.Prelude.{Amount, Configuration, Limit, PoolId, RequestRecord, State, TenantId, amount_of_all, blocking, may_fit}
 use Rattle.np_amount.specs.Amounts.{plus, fits, is_within}
-use Rattle.np_text.specs.declared.id.PoolId.{PoolId}
-use Rattle.np_text.specs.declared.id.TenantId.{TenantId}
-use Rattle.np_site.specs.Configuration.{Configuration}
-use Rattle.np_record.specs.declared.record.RequestRecord.{RequestRecord}
-use Rattle.np_machine.specs.State.{State}
-use Rattle.np_machine.specs.Count.{amount_of_all}
 use Rattle.np_machine.specs.Tenants.{limit_of_tenant, tenant_of_request, count_of_tenant, is_short_of}
-use Rattle.np_machine.specs.First.{may_fit, blocking}
 use Rattle.np_look.specs.Readers.{has_limit, limited_tenant}
 
 within_all : (i j k : Option ℕ) (a b d : ℕ) → (is_some i || is_some j || is_some k) ≡ false → not (is_within i a && is_within j b && is_within k d) ≡ false

@@ -1,16 +1,9 @@
 -- the node that nobody holds and that is due first, by a walk
 use Rattle.std.proofs.Common.{◌≡◌, ◌∙◌, ℕ, ◌+◌, List, [], ◌∷◌, ◌++◌, take, refl, ap, sym, Bool, true, false, Option, Some, None}
 use Rattle.std.specs.Prelude.{slice_get, ◌&&◌, if◌then◌else◌, filter, nat_lt}
-use Rattle.std.specs.Option.{option_map}
+use Rattle.np_changes.specs.Prelude.{Configuration, NodeEntry, NodeId, NodeRecord, PoolId, SessionId, State, option_map}
 use Rattle.std.proofs.lemmas.List.Elements.{filter-append}
 use Rattle.std.proofs.lemmas.List.Sums.{fold-append}
-use Rattle.np_text.specs.declared.id.SessionId.{SessionId}
-use Rattle.np_text.specs.declared.id.PoolId.{PoolId}
-use Rattle.np_text.specs.declared.id.NodeId.{NodeId}
-use Rattle.np_record.specs.declared.record.NodeRecord.{NodeRecord}
-use Rattle.np_site.specs.Configuration.{Configuration}
-use Rattle.np_machine.specs.Entries.{NodeEntry}
-use Rattle.np_machine.specs.State.{State}
 use Rattle.np_look.specs.Views.{node_view, node_seen, is_sooner}
 use Rattle.np_look.specs.Readers.{is_unclaimed, is_unheld_by, is_unheld_as, due_of, sooner, soonest}
 use Rattle.np_look.specs.declared.asked.NodeView.{NodeView}

@@ -1,17 +1,10 @@
 -- the owner of a node, by its place among the jobs
-use Rattle.std.proofs.Common.{◌≡◌, ◌<◌, ℕ, suc, ◌+◌, get_or, List, [], ◌∷◌, length, refl, sym, ◌∙◌, arith, Option, Some, None, Bool, true, false, cond}
-use Rattle.std.specs.Prelude.{slice_get, option_and_then, nat_lt, if◌then◌else◌}
-use Rattle.std.specs.Option.{option_map}
+use Rattle.std.proofs.Common.{◌≡◌, ◌<◌, ℕ, suc, ◌+◌, get_or, List, [], ◌∷◌, length, refl, ◌∙◌, arith, Some, None, Bool, true, false, cond}
+use Rattle.std.specs.Prelude.{nat_lt, if◌then◌else◌}
+use Rattle.np_changes.specs.Prelude.{option_map}
 use Rattle.std.specs.List.{position, position_or_len}
 use Rattle.std.proofs.lemmas.Bool.Decides.{nat_tests}
 use Rattle.std.proofs.lemmas.List.Sums.{position_or_len_is}
-use Rattle.np_text.specs.declared.id.NodeId.{NodeId}
-use Rattle.np_text.specs.declared.id.JobId.{JobId}
-use Rattle.np_site.specs.declared.row.Job.{Job}
-use Rattle.np_record.specs.declared.record.JobRecord.{JobRecord}
-use Rattle.np_machine.specs.Tables.{is_marked}
-use Rattle.np_machine.specs.Node.{owner_from}
-use Rattle.np_changes.specs.Readers.{owner_of}
 
 -- ## the place of the first that passes, one member more
 
@@ -41,27 +34,3 @@ position-nowhere p xs d before =
     rw (at, test) refl
 
 -- ## the owner
-
-nowhere : (o : Option ℕ) → option_and_then (λ (i : ℕ). slice_get {X = Job} [] i) o ≡ None
-nowhere None = refl
-nowhere (Some i) = refl
-
-one_later : (job : Job) (jobs : List Job) (o : Option ℕ) → option_and_then (λ (i : ℕ). slice_get (job ∷ jobs) i) (option_map (λ (i : ℕ). suc i) o) ≡ option_and_then (λ (i : ℕ). slice_get jobs i) o
-one_later job jobs None = refl
-one_later job jobs (Some i) = refl
-
-owner_by : (n : NodeId) (k : JobRecord) (records : List JobRecord) (job : Job) (jobs : List Job) (b : Bool) → is_marked n k ≡ b → owner_from n records jobs ≡ option_and_then (λ (i : ℕ). slice_get jobs i) (position (is_marked n) records) → (if b then Some job else owner_from n records jobs) ≡ option_and_then (λ (i : ℕ). slice_get (job ∷ jobs) i) (position (is_marked n) (k ∷ records))
-owner_by n k records job jobs true is later = rw (position-here (is_marked n) k records is) refl
-owner_by n k records job jobs false is later = rw (position-later (is_marked n) k records is) (later ∙ sym (one_later job jobs (position (is_marked n) records)))
-
-owner_place : (n : NodeId) (records : List JobRecord) (jobs : List Job) → owner_from n records jobs ≡ option_and_then (λ (i : ℕ). slice_get jobs i) (position (is_marked n) records)
-owner_place n [] jobs = refl
-owner_place n (k ∷ records) [] = sym (nowhere (position (is_marked n) (k ∷ records)))
-owner_place n (k ∷ records) (job ∷ jobs) = owner_by n k records job jobs (is_marked n k) refl (owner_place n records jobs)
-
-as_job : (jobs : List Job) (o : Option ℕ) → option_and_then (λ (i : ℕ). slice_get jobs i) o ≡ option_and_then (λ (j : JobId). slice_get jobs j.0) (option_map (λ (i : ℕ). record { 0 = i }) o)
-as_job jobs None = refl
-as_job jobs (Some i) = refl
-
-pub owner_at : (n : NodeId) (records : List JobRecord) (jobs : List Job) → owner_from n records jobs ≡ option_and_then (λ j. slice_get jobs j.0) (owner_of n records)
-owner_at n records jobs = owner_place n records jobs ∙ as_job jobs (position (is_marked n) records)

@@ -1,35 +1,16 @@
 -- rows as their views show them
 use Rattle.std.proofs.Common.{◌≡◌, ◌≤◌, ℕ, zero, suc, ◌+◌, ◌-◌, List, [], ◌∷◌, ◌++◌, length, take, drop, refl, ap, sym, ◌∙◌, arith, Bool, true, false, Option, Some, None}
 use Rattle.std.specs.Prelude.{slice_get, is_some, is_none, not, ◌&&◌, ◌||◌, ◌==◌, if◌then◌else◌, option_and_then, filter}
-use Rattle.std.specs.Option.{option_map, option_map_or}
-use Rattle.std.specs.List.{list_any}
+use Rattle.np_changes.specs.Prelude.{Amount, Configuration, Fits, LabelId, NodeEntry, NodeFits, NodeId, NodeRecord, PoolId, RequestEntry, RequestId, RequestRecord, SessionFacts, SessionId, State, TenantId, ahead_of, blocking, comes_before, count_of, earlier, is_candidate, is_open_to, is_pending_by, is_session, is_short, is_spare, is_stuck, least, list_any, most, next_label, node_entry, node_queue, option_map, option_map_or, session_of}
 use Rattle.std.proofs.lemmas.Bool.Decides.{nat_tests}
 use Rattle.std.proofs.lemmas.List.Elements.{filter-append}
 use Rattle.std.proofs.lemmas.List.Sums.{fold-append}
-use Rattle.np_amount.specs.declared.amount.Amount.{Amount}
-use Rattle.np_text.specs.declared.id.SessionId.{SessionId}
-use Rattle.np_text.specs.declared.id.PoolId.{PoolId}
-use Rattle.np_text.specs.declared.id.LabelId.{LabelId}
-use Rattle.np_text.specs.declared.id.NodeId.{NodeId}
-use Rattle.np_text.specs.declared.id.RequestId.{RequestId}
-use Rattle.np_text.specs.declared.id.TenantId.{TenantId}
-use Rattle.np_record.specs.declared.record.NodeRecord.{NodeRecord}
-use Rattle.np_record.specs.declared.record.RequestRecord.{RequestRecord}
-use Rattle.np_site.specs.Configuration.{Configuration}
 use Rattle.np_lists.proofs.Each.{all-find}
-use Rattle.np_machine.specs.Entries.{RequestEntry, NodeEntry}
-use Rattle.np_machine.specs.declared.state.SessionFacts.{SessionFacts}
-use Rattle.np_machine.specs.State.{State}
-use Rattle.np_machine.specs.Tables.{session_of, node_entry, node_queue, ahead_of, is_session}
-use Rattle.np_machine.specs.Count.{count_of, is_short}
-use Rattle.np_machine.specs.Order.{comes_before, is_pending_by}
-use Rattle.np_machine.specs.First.{blocking, is_open_to, is_candidate, earlier, least}
-use Rattle.np_machine.specs.Reasons.{is_spare, is_stuck, next_label}
-use Rattle.np_fits.specs.Fits.{most, Fits, NodeFits}
 use Rattle.np_look.specs.Views.{request_view, node_view, request_seen, node_seen, comes_first}
 use Rattle.np_look.specs.declared.asked.RequestView.{RequestView}
 use Rattle.np_look.specs.Readers.{is_unheld_pending, short_label}
-use Rattle.np_look.proofs.Walks.{take_there, drop_past}
+use Rattle.np_look.proofs.Walks.{take_there}
+use Rattle.np_lists.proofs.Plain.{drop-past}
 
 spare_by : (p : PoolId) (l : LabelId) (n : NodeId) (k : NodeRecord) (queue : List SessionId) → is_spare p l (record { id = n; kept = k; queue = queue }) ≡ is_spare p l (node_seen (node_view (record { id = n; kept = k; queue = queue })))
 spare_by p l n k [] = refl
@@ -174,4 +155,4 @@ ahead-here session (first ∷ queue) zero other is = let same : first ≡ other 
 ahead-here session (first ∷ queue) (suc i) other is = ahead-here session queue i other is
 
 pub ahead-past : (session : SessionId) (queue : List SessionId) (i : ℕ) → slice_get queue i ≡ None → ahead_of session (drop i queue) ≡ 0
-ahead-past session queue i is = rw (drop_past queue i is) refl
+ahead-past session queue i is = rw (drop-past queue i is) refl

@@ -1,12 +1,9 @@
 -- the last session that speaks for a role, by a walk from the newest, and the first that is mute
 use Rattle.std.proofs.Common.{◌≡◌, ◌<◌, ◌+◌, ◌-◌, ℕ, zero, suc, List, [], ◌∷◌, drop, refl, ap, sym, ◌∙◌, arith, Some, None, true, false}
 use Rattle.std.specs.Prelude.{slice_get, ◌&&◌}
-use Rattle.np_text.specs.declared.id.SessionId.{SessionId}
-use Rattle.np_text.specs.declared.id.Role.{Role}
-use Rattle.np_machine.specs.declared.state.SessionFacts.{SessionFacts}
-use Rattle.np_machine.specs.Laws.{speaks_for}
+use Rattle.np_changes.specs.Prelude.{Role, SessionFacts, SessionId, speaks_for}
 use Rattle.np_look.specs.Readers.{speaker_from, mute_from}
-use Rattle.np_look.proofs.Placed.{there}
+use Rattle.np_lists.proofs.Plain.{drop-there}
 
 -- what is found from a place on is found in all
 pub speaker-beyond : (role : Role) (sessions : List SessionFacts) (number i : ℕ) (x : SessionId) → speaker_from role (i + number) (drop i sessions) ≡ Some x → speaker_from role number sessions ≡ Some x
@@ -25,7 +22,7 @@ module _ (role : Role) (sessions : List SessionFacts) where
   speaker-here (suc i) facts some is speaks none =
       let at : suc i - 1 ≡ i = omega arith in
       let found : slice_get sessions i ≡ Some facts = ap (λ (n : ℕ). slice_get sessions n) (sym at) ∙ is in
-      let here : speaker_from role (suc i) (drop i sessions) ≡ Some (record { 0 = suc i }) = rw (there sessions i facts found, none, speaks) refl in
+      let here : speaker_from role (suc i) (drop i sessions) ≡ Some (record { 0 = suc i }) = rw (drop-there sessions i facts found, none, speaks) refl in
       let number : i + 1 ≡ suc i = omega arith in
       speaker-beyond role sessions 1 i (record { 0 = suc i }) (ap (λ (n : ℕ). speaker_from role n (drop i sessions)) number ∙ here)
 
@@ -34,14 +31,14 @@ module _ (role : Role) (sessions : List SessionFacts) where
   speaker-not (suc i) facts some is fails none =
       let at : suc i - 1 ≡ i = omega arith in
       let found : slice_get sessions i ≡ Some facts = ap (λ (n : ℕ). slice_get sessions n) (sym at) ∙ is in
-      let here : speaker_from role (suc i) (drop i sessions) ≡ None = rw (there sessions i facts found, none, fails) refl in
+      let here : speaker_from role (suc i) (drop i sessions) ≡ None = rw (drop-there sessions i facts found, none, fails) refl in
       ap (λ (n : ℕ). speaker_from role (suc n) (drop n sessions)) at ∙ here
 
 -- ## the first that is mute
 
 module _ (sessions : List SessionFacts) (i : ℕ) (facts : SessionFacts) (is : slice_get sessions i ≡ Some facts) where
   pub mute-here : (facts.live && facts.mute) ≡ true → mute_from (suc i) (drop i sessions) ≡ Some (record { 0 = suc i })
-  mute-here mute = rw (there sessions i facts is, mute) refl
+  mute-here mute = rw (drop-there sessions i facts is, mute) refl
 
   pub mute-later : (facts.live && facts.mute) ≡ false → mute_from (suc i) (drop i sessions) ≡ mute_from (suc (suc i)) (drop (suc i) sessions)
-  mute-later other = rw (there sessions i facts is, other) refl
+  mute-later other = rw (drop-there sessions i facts is, other) refl

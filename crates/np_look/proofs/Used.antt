@@ -1,13 +1,10 @@
 -- what the members that pass a test take together, one member more
 use Rattle.std.proofs.Common.{◌≡◌, ℕ, ◌+◌, List, [], ◌∷◌, ◌++◌, take, map, refl, ap, sym, ◌∙◌, arith, Bool, true, false, Option, Some, None}
 use Rattle.std.specs.Prelude.{slice_get, filter, if◌then◌else◌}
-use Rattle.std.specs.Option.{option_map}
+use Rattle.np_changes.specs.Prelude.{Amount, IsFew, nothing, option_map, plus, total}
 use Rattle.std.proofs.lemmas.List.{map-append}
 use Rattle.std.proofs.lemmas.List.Elements.{filter-append}
-use Rattle.np_amount.specs.declared.amount.Amount.{Amount}
-use Rattle.np_amount.specs.Amounts.{nothing, plus, total}
 use Rattle.np_amount.proofs.Sums.{total-append, plus-comm, nothing-plus}
-use Rattle.np_fits.specs.Fits.{IsFew}
 use Rattle.np_look.proofs.Walks.{take_there}
 
 plus-nothing : (a : Amount) → plus a nothing ≡ a

@@ -1,11 +1,11 @@
 -- a list from a place on, and up to a place
 use Rattle.std.proofs.Common.{◌≡◌, ◌<◌, ◌≤◌, ℕ, zero, suc, ◌+◌, ◌-◌, List, [], ◌∷◌, ◌++◌, length, take, drop, map, refl, ap, sym, ◌∙◌, arith, Bool, true, false, cond, Option, Some, None}
 use Rattle.std.specs.Prelude.{slice_get, ◌||◌, ◌&&◌, count_by, filter, find}
-use Rattle.std.specs.Option.{option_map}
-use Rattle.std.specs.List.{list_any, list_all}
+use Rattle.np_changes.specs.Prelude.{list_all, list_any, option_map}
 use Rattle.std.proofs.lemmas.List.{take_more, length-map}
 use Rattle.std.proofs.lemmas.List.Sums.{sum_by-cons, length-filter}
 use Rattle.std.proofs.lemmas.Option.{slice_get_within, slice_get_past, slice_get-map, get_or_from_slice_get}
+use Rattle.np_lists.proofs.Plain.{drop-past}
 
 -- ## from a place on, by what is seen there
 
@@ -37,15 +37,8 @@ module _ {X Y : Type 0} (p : Y → Bool) (f : X → Y) (q : X → Bool) (same : 
   found_later (x ∷ xs) zero y is fails = let here : f x ≡ y = cc in rw (same x, here, fails) refl
   found_later (x ∷ xs) (suc i) y is fails = found_later xs i y is fails
 
--- past the end there is none
-pub drop_past : {X : Type 0} (xs : List X) (i : ℕ) → slice_get xs i ≡ None → drop i xs ≡ []
-drop_past [] zero is = refl
-drop_past [] (suc i) is = refl
-drop_past (x ∷ xs) zero is = absurd cc
-drop_past (x ∷ xs) (suc i) is = drop_past xs i is
-
 pub any_past : {X : Type 0} (p : X → Bool) (xs : List X) (i : ℕ) → slice_get xs i ≡ None → list_any p (drop i xs) ≡ false
-any_past p xs i is = rw (drop_past xs i is) refl
+any_past p xs i is = rw (drop-past xs i is) refl
 
 pub all_here : {X : Type 0} (p : X → Bool) (xs : List X) (i : ℕ) (x : X) → slice_get xs i ≡ Some x → list_all p (drop i xs) ≡ (p x && list_all p (drop (suc i) xs))
 all_here p [] i x is = absurd cc
@@ -90,12 +83,12 @@ module _ {X Y : Type 0} (p : Y → Bool) (f : X → Y) (q : X → Bool) (same : 
   passed_over (x ∷ xs) (suc i) y left is fails = passed_over xs i y left is fails
 
 pub passed_past : {X : Type 0} (q : X → Bool) (xs : List X) (i left : ℕ) → slice_get xs i ≡ None → slice_get (filter q (drop i xs)) left ≡ None
-passed_past q xs i left is = rw (drop_past xs i is) refl
+passed_past q xs i left is = rw (drop-past xs i is) refl
 
 -- at the end all that pass are counted
 pub counted : {X I : Type 0} (q : X → Bool) (id : X → I) (xs : List X) (i count : ℕ) → length xs ≤ i → count + count_by q (drop i xs) ≡ count_by q xs → count ≡ length (map id (filter q xs))
 counted q id xs i count past all =
-    let none : count_by q (drop i xs) ≡ 0 = rw (drop_past xs i (slice_get_past xs i past)) refl in
+    let none : count_by q (drop i xs) ≡ 0 = rw (drop-past xs i (slice_get_past xs i past)) refl in
     let every : count ≡ count_by q xs = omega (arith, none, all) in
     every ∙ sym (length-map (filter q xs) id ∙ length-filter q xs)
 

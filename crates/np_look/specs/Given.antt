@@ -1,17 +1,6 @@
 -- which nodes were given to a requester, which of them its session has yet to lock, and which others it is to leave
 use Rattle.std.specs.Prelude.{ℕ, Bool, true, false, ◌==◌, ◌&&◌, not, if◌then◌else◌, filter, find, map, Option, None, option_and_then, slice_get}
-use Rattle.std.specs.Option.{option_map, option_map_or}
-use Rattle.np_text.specs.declared.id.JobId.{JobId}
-use Rattle.np_text.specs.declared.id.NodeId.{NodeId}
-use Rattle.np_text.specs.declared.id.RequesterId.{RequesterId}
-use Rattle.np_text.specs.declared.id.SessionId.{SessionId}
-use Rattle.np_text.specs.declared.word.RequestState.{RequestState}
-use Rattle.np_record.specs.declared.record.NodeRecord.{NodeRecord}
-use Rattle.np_site.specs.Configuration.{Configuration}
-use Rattle.np_machine.specs.Entries.{NodeEntry}
-use Rattle.np_machine.specs.Kinds.{is_asked, is_fulfilled}
-use Rattle.np_machine.specs.State.{State}
-use Rattle.np_machine.specs.Tables.{is_queued, node_queue, request_in}
+use Rattle.np_changes.specs.Prelude.{Configuration, JobId, NodeEntry, NodeId, NodeRecord, RequestState, RequesterId, SessionId, State, is_asked, is_fulfilled, is_queued, node_queue, option_map, option_map_or, request_in}
 
 -- ## given
 

@@ -1,19 +1,7 @@
 -- a requester's next jobs: those that can begin, that can take their nodes or acquire handles, that can be
 -- finished, and whose handles can be given back
 use Rattle.std.specs.Prelude.{ℕ, Bool, false, ◌==◌, ◌&&◌, ◌||◌, not, Option, is_none, length, slice_get}
-use Rattle.std.specs.Option.{option_map_or}
-use Rattle.std.specs.List.{list_any}
-use Rattle.np_text.specs.declared.id.JobId.{JobId}
-use Rattle.np_text.specs.declared.id.RequesterId.{RequesterId}
-use Rattle.np_text.specs.declared.word.Phase.{Phase}
-use Rattle.np_text.specs.declared.word.RequestState.{RequestState}
-use Rattle.np_record.specs.declared.record.JobRecord.{JobRecord}
-use Rattle.np_site.specs.Configuration.{Configuration}
-use Rattle.np_site.specs.declared.row.Job.{Job}
-use Rattle.np_machine.specs.Kinds.{is_asked, is_failed, is_fulfilled, is_new, is_over, is_using}
-use Rattle.np_machine.specs.Semaphore.{first_full}
-use Rattle.np_machine.specs.State.{State}
-use Rattle.np_machine.specs.Tables.{has_handle}
+use Rattle.np_changes.specs.Prelude.{Configuration, Job, JobId, JobRecord, Phase, RequestState, RequesterId, State, first_full, has_handle, is_asked, is_failed, is_fulfilled, is_new, is_over, is_using, list_any, option_map_or}
 use Rattle.np_look.specs.Readers.{jobs_from, request_state_of}
 
 -- the configuration has the job, the job is the requester's, and its row passes

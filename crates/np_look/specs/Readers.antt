@@ -1,42 +1,10 @@
 -- what the readers of a state return, beyond the machine's own definitions
 use Rattle.std.specs.Prelude.{ℕ, suc, drop, Bool, true, false, ◌==◌, ◌&&◌, ◌||◌, not, if◌then◌else◌, List, [], ◌∷◌, filter, find, fold, map, Option, Some, None, is_some, is_none, option_and_then, slice_get, length, nat_lt}
-use Rattle.std.specs.Option.{option_map, option_map_or, option_or}
-use Rattle.std.specs.List.{list_any}
-use Rattle.np_amount.specs.declared.amount.Amount.{Amount}
-use Rattle.np_amount.specs.declared.amount.Limit.{Limit}
-use Rattle.np_amount.specs.Amounts.{nothing, plus, fits}
-use Rattle.np_site.specs.Configuration.{Configuration}
-use Rattle.np_text.specs.declared.id.PoolId.{PoolId}
-use Rattle.np_text.specs.declared.id.LabelId.{LabelId}
-use Rattle.np_text.specs.declared.id.JobId.{JobId}
-use Rattle.np_text.specs.declared.id.NodeId.{NodeId}
-use Rattle.np_text.specs.declared.id.RequesterId.{RequesterId}
-use Rattle.np_text.specs.declared.id.RequestId.{RequestId}
-use Rattle.np_text.specs.declared.id.SessionId.{SessionId}
-use Rattle.np_text.specs.declared.id.TenantId.{TenantId}
-use Rattle.np_text.specs.declared.id.Role.{Role}
-use Rattle.np_text.specs.declared.word.RequestState.{RequestState}
-use Rattle.np_text.specs.declared.word.NodeState.{NodeState}
+use Rattle.np_changes.specs.Prelude.{Amount, Configuration, JobId, JobRecord, LabelId, Limit, NodeEntry, NodeId, NodeRecord, NodeState, PoolId, RequestEntry, RequestId, RequestRecord, RequestState, RequesterId, Role, SessionFacts, SessionId, State, TenantId, amount_of, amount_of_all, amount_of_node, fits, holder, is_declined_by, is_last_pool, is_over, is_pending_by, is_pending_of, is_queued, is_requested, is_tenant, limit_of, limit_of_tenant, list_any, may_fit, nothing, option_map, option_map_or, option_or, plus, request_in, rest_of_request, speaks_for, standing, tenant_of_request, undeclined}
 use Rattle.np_text.specs.declared.word.NodeState.TheVariants as node_state
-use Rattle.np_record.specs.declared.record.NodeRecord.{NodeRecord}
-use Rattle.np_record.specs.declared.record.RequestRecord.{RequestRecord}
-use Rattle.np_record.specs.declared.record.JobRecord.{JobRecord}
-use Rattle.np_machine.specs.Entries.{RequestEntry, NodeEntry}
-use Rattle.np_machine.specs.State.{State}
-use Rattle.np_machine.specs.Tables.{request_in, is_queued, holder}
-use Rattle.np_machine.specs.Count.{amount_of, amount_of_all, limit_of}
-use Rattle.np_machine.specs.Tenants.{limit_of_tenant, tenant_of_request, is_tenant, amount_of_node, rest_of_request, is_pending_of}
-use Rattle.np_machine.specs.Kinds.{is_over, is_requested}
-use Rattle.np_machine.specs.Laws.{speaks_for}
-use Rattle.np_machine.specs.declared.state.SessionFacts.{SessionFacts}
 use Rattle.np_machine.specs.Reasons.{next_label, is_spare, ready_age, due_tick}
-use Rattle.np_machine.specs.First.{may_fit}
-use Rattle.np_machine.specs.Order.{is_declined_by, is_pending_by}
-use Rattle.np_machine.specs.Request.{undeclined}
-use Rattle.np_machine.specs.Node.{standing}
 use Rattle.np_look.specs.declared.asked.UnheldKind.{UnheldKind}
 use Rattle.np_look.specs.declared.asked.UnheldKind.TheVariants as kind
-use Rattle.np_changes.specs.Readers.{is_last_pool}
 
 -- whether the pool is among the request's declines
 abbrev pub is_declined : PoolId → RequestId → State → Bool

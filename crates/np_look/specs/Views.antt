@@ -1,10 +1,6 @@
 -- rows with who holds them
 use Rattle.std.specs.Prelude.{List, [], ◌∷◌, Bool, true, Option, Some, None, nat_lt}
-use Rattle.np_text.specs.declared.id.SessionId.{SessionId}
-use Rattle.np_machine.specs.Entries.{RequestEntry, NodeEntry}
-use Rattle.np_machine.specs.Tables.{holder}
-use Rattle.np_machine.specs.Order.{comes_before}
-use Rattle.np_site.specs.Configuration.{Configuration}
+use Rattle.np_changes.specs.Prelude.{Configuration, NodeEntry, RequestEntry, SessionId, comes_before, holder}
 use Rattle.np_look.specs.Readers.{due_of}
 use Rattle.np_look.specs.declared.asked.RequestView.{RequestView}
 use Rattle.np_look.specs.declared.asked.UnheldKind.{UnheldKind}

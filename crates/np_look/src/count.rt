@@ -1,18 +1,14 @@
 //! What pools offer, by the configuration alone.
 
 ghost use Rattle.std.specs.Prelude.{◌≡◌, ◌<◌, ◌^◌, length, find, not, option_copied};
-ghost use Rattle.np_text.specs.declared.id.LabelId.{LabelId};
-ghost use Rattle.np_amount.specs.Amounts.{fits, plus};
+ghost use Rattle.np_changes.specs.Prelude.{AmountFits, IsFew, LabelId, fits, plus, ready_age};
 ghost use Rattle.np_machine.specs.Count.{offers_of, limit_of, retries_of, offer_of, is_offered, amount_of, amount_of_all};
-ghost use Rattle.np_machine.specs.Reasons.{ready_age};
-ghost use Rattle.np_fits.specs.Fits.{AmountFits, IsFew};
 ghost use Rattle.np_look.specs.Views.{node_seen};
 ghost use Rattle.np_look.specs.Readers.{amount_at};
 
 use crate::asked::NodeView;
 use np_amount::{Amount, Limit};
-use np_config::Config;
-use np_site::Offer;
+use np_config::{Config, Offer};
 use np_text::{LabelId, PoolId};
 
 pub const NOTHING: Amount = Amount {

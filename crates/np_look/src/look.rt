@@ -1,18 +1,7 @@
 //! What is looked for in a state.
 
 ghost use Rattle.std.specs.Prelude.{◌≡◌, ◌<◌, ◌^◌, length, slice_get};
-ghost use Rattle.std.specs.List.{list_any};
-ghost use Rattle.np_site.specs.Configuration.{Configuration};
-ghost use Rattle.np_machine.specs.State.{State};
-ghost use Rattle.np_machine.specs.Count.{count_of};
-ghost use Rattle.np_machine.specs.Tenants.{count_of_tenant};
-ghost use Rattle.np_machine.specs.Reasons.{is_spare, is_paused};
-ghost use Rattle.np_machine.specs.First.{blocking, first_of};
-ghost use Rattle.np_machine.specs.Request.{is_spent_min_ready, ready_count};
-ghost use Rattle.np_machine.specs.Semaphore.{has_live_session};
-ghost use Rattle.np_fits.specs.Fits.{Fits};
-ghost use Rattle.np_changes.specs.Asked.{new_record};
-ghost use Rattle.np_changes.specs.Readers.{owner_of};
+ghost use Rattle.np_changes.specs.Prelude.{Configuration, Fits, State, blocking, count_of, count_of_tenant, first_of, has_live_session, is_paused, is_spare, is_spent_min_ready, list_any, new_record, owner_of, ready_count};
 ghost use Rattle.np_look.specs.Jobs.{job_to_acquire, job_to_begin, job_to_finish, job_to_release, job_to_take};
 ghost use Rattle.np_look.specs.Given.{node_to_leave, node_to_lock};
 ghost use Rattle.np_look.specs.Readers.{free_ready_of, unfinished_of, first_mute, current_of, queued_requests, queued_nodes, pending_requests, first_unheld_pending, has_request_under_way, first_declined_by_all, first_due};
@@ -23,8 +12,7 @@ use crate::tenant::{is_short_of, limited_tenant};
 use crate::walk::{is_spare, is_spent_min_ready};
 use np_amount::Amount;
 use np_changes::Asked;
-use np_config::Config;
-use np_site::Job;
+use np_config::{Config, Job};
 use np_text::{JobId, LabelId, NodeId, PoolId, RequestId, RequesterId, Role, SessionId, TenantId};
 
 /// Searches a state. No call takes memory.

@@ -1,11 +1,7 @@
 //! What is true of a row and of the rows that it names.
 
 ghost use Rattle.std.specs.Prelude.{◌≡◌};
-ghost use Rattle.std.specs.List.{list_any};
-ghost use Rattle.np_machine.specs.Tables.{request_holder, node_queue, node_holder, ahead_of, is_queued, has_handle};
-ghost use Rattle.np_machine.specs.Request.{undeclined};
-ghost use Rattle.np_machine.specs.Semaphore.{is_full, first_full};
-ghost use Rattle.np_fits.specs.Fits.{Fits};
+ghost use Rattle.np_changes.specs.Prelude.{Fits, ahead_of, first_full, has_handle, is_full, is_queued, list_any, node_holder, node_queue, request_holder, undeclined};
 ghost use Rattle.np_look.specs.Jobs.{is_job_to_acquire, is_job_to_begin, is_job_to_release, is_job_to_take, is_supplied};
 ghost use Rattle.np_look.specs.Given.{given_to, is_given_to};
 ghost use Rattle.np_look.specs.Readers.{undeclined_of, is_last_pool_of, request_state_of, is_declined_by_all, is_unclaimed};
@@ -14,9 +10,8 @@ use crate::rows::Rows;
 use crate::walk::{declines_or_is, is_declined_by, is_requested, one_if, was_given};
 use np_amount::Amount;
 use np_changes::Asked;
-use np_config::Config;
+use np_config::{Config, Job};
 use np_record::{JobRecord, NodeRecord, RequestRecord};
-use np_site::Job;
 use np_text::{
     JobId, NodeId, Phase, PoolId, RequestId, RequestState, RequesterId, SemId, SessionId,
 };

@@ -1,12 +1,7 @@
 //! The rows of a state, as every representation of it reads them.
 
 ghost use Rattle.std.specs.Prelude.{◌≡◌, length, slice_get};
-ghost use Rattle.std.specs.Option.{option_map};
-ghost use Rattle.np_site.specs.Configuration.{Configuration};
-ghost use Rattle.np_machine.specs.State.{State};
-ghost use Rattle.np_machine.specs.Tables.{session_of, registered, request_in, request_queue, node_in, node_queue, handles_of, has_handle, role_in};
-ghost use Rattle.np_machine.specs.Node.{is_swept};
-ghost use Rattle.np_changes.specs.Asked.{asked_of};
+ghost use Rattle.np_changes.specs.Prelude.{Configuration, State, asked_of, handles_of, has_handle, is_swept, node_in, node_queue, option_map, registered, request_in, request_queue, role_in, session_of};
 ghost use Rattle.np_look.specs.Views.{request_view, node_view};
 ghost use Rattle.np_look.specs.Readers.{is_declined, queued_requests, queued_nodes};
 
@@ -14,10 +9,9 @@ use crate::asked::{NodeView, RequestView};
 use crate::walk::asked_of;
 use np_amount::Amount;
 use np_changes::Asked;
-use np_config::Config;
+use np_config::{Config, Job};
 use np_machine::{Registration, SessionFacts};
 use np_record::{JobRecord, NodeRecord, RequestRecord, RoleRecord};
-use np_site::Job;
 use np_text::{JobId, NodeId, PoolId, RequestId, Role, SemId, SessionId};
 
 /// Reads the rows of a state. No call takes memory.

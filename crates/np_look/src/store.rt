@@ -1,11 +1,7 @@
 //! Where a machine writes what changes.
 
 ghost use Rattle.std.specs.Prelude.{OnErr, OnOk};
-ghost use Rattle.np_site.specs.Configuration.{Configuration};
-ghost use Rattle.np_machine.specs.State.{State};
-ghost use Rattle.np_changes.specs.Changes.{changed};
-ghost use Rattle.np_changes.specs.Planned.{IsPlanned, IsReached};
-ghost use Rattle.np_fits.specs.Fits.{Fits};
+ghost use Rattle.np_changes.specs.Prelude.{Configuration, Fits, IsPlanned, IsReached, State, changed};
 
 use crate::rows::Rows;
 use np_changes::Changes;

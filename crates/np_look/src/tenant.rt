@@ -1,15 +1,8 @@
 //! What tenants may use, and what each node and request takes of it.
 
 ghost use Rattle.std.specs.Prelude.{◌≡◌, ◌<◌, ◌≤◌, ◌^◌, length, drop, not, false};
-ghost use Rattle.std.specs.Option.{option_map_or};
-ghost use Rattle.np_text.specs.declared.id.PoolId.{PoolId};
-ghost use Rattle.np_text.specs.declared.id.LabelId.{LabelId};
-ghost use Rattle.np_amount.specs.Amounts.{fits, plus};
-ghost use Rattle.np_machine.specs.Count.{amount_of, amount_of_all};
+ghost use Rattle.np_changes.specs.Prelude.{AmountFits, IsFew, LabelId, PoolId, amount_of, amount_of_all, fits, may_fit, new_record, option_map_or, plus};
 ghost use Rattle.np_machine.specs.Tenants.{limit_of_tenant, is_tenant, is_pending_of, passes_tenant, tenant_never_fits};
-ghost use Rattle.np_machine.specs.First.{may_fit};
-ghost use Rattle.np_fits.specs.Fits.{AmountFits, IsFew};
-ghost use Rattle.np_changes.specs.Asked.{new_record};
 ghost use Rattle.np_look.specs.Views.{request_seen, node_seen};
 ghost use Rattle.np_look.specs.Readers.{tenant_of_job, has_limit, limited_tenant, amount_for, rest_of, rest_for};
 

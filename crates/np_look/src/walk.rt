@@ -2,21 +2,10 @@
 //! the same.
 
 ghost use Rattle.std.specs.Prelude.{◌≡◌, ◌<◌, ◌≤◌, ◌^◌, ◌&&◌, ◌||◌, ◌==◌, not, is_none, cond, false, Some, []};
-ghost use Rattle.std.specs.Option.{option_map_or};
-ghost use Rattle.np_text.specs.declared.id.LabelId.{LabelId};
-ghost use Rattle.np_machine.specs.Count.{amount_of};
-ghost use Rattle.np_fits.specs.Fits.{AmountFits};
+ghost use Rattle.np_changes.specs.Prelude.{AmountFits, LabelId, amount_of, asked_of, comes_before, is_declined_by, is_failed, is_marked, is_open_to, is_pending, is_pending_by, is_pinned_away, is_pool, is_ready, is_requested, is_requesters, is_spare, option_map_or, same_role, speaks_for};
 ghost use Rattle.np_look.specs.Readers.{short_label, is_unfinished_job, is_unheld, is_unheld_pending, is_under_way_by, unheld_kind, same_kind, is_unheld_by, due_after, due_of};
 ghost use Rattle.np_look.specs.Jobs.{is_job_to_finish_by, was_given};
-ghost use Rattle.np_machine.specs.Laws.{same_role, speaks_for};
-ghost use Rattle.np_machine.specs.Kinds.{is_requested, is_pending, is_failed, is_ready};
-ghost use Rattle.np_machine.specs.Tables.{is_marked};
-ghost use Rattle.np_machine.specs.Order.{comes_before, is_pool, is_pinned_away, is_declined_by, is_pending_by};
-ghost use Rattle.np_machine.specs.Reasons.{is_spare};
-ghost use Rattle.np_machine.specs.First.{is_open_to};
 ghost use Rattle.np_machine.specs.Request.{is_min_ready_for};
-ghost use Rattle.np_machine.specs.Semaphore.{is_requesters};
-ghost use Rattle.np_changes.specs.Asked.{asked_of};
 ghost use Rattle.np_look.specs.Views.{request_seen, node_seen, comes_first, is_sooner};
 
 use crate::asked::{NodeView, RequestView, UnheldKind};

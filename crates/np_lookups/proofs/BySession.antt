@@ -3,7 +3,8 @@ use Rattle.std.proofs.Common.{◌≡◌, ◌∙◌, ◌⊎◌, inl, inr, ℕ, fa
 use Rattle.std.specs.Prelude.{unwrap_or}
 use Rattle.std.proofs.lemmas.Bool.{cases_lt}
 use Rattle.std.proofs.lemmas.Option.{slice_get_past}
-use Rattle.np_keys.specs.Prelude.{Configuration, IsReached, NodeId, RequestId, SessionId, State, is_queued, queued_nodes, queued_requests}
+use Rattle.np_changes.specs.Prelude.{Configuration, IsReached, NodeId, RequestId, SessionId, State, is_queued}
+use Rattle.np_look.specs.Readers.{queued_nodes, queued_requests}
 use Rattle.np_lists.proofs.Each.{all-weaker}
 use Rattle.np_laws.specs.Parts.{IsQueue, IsQueued}
 use Rattle.np_laws.proofs.Runs.{invariant-Runs}

@@ -1,8 +1,9 @@
 -- the ids of a list in an order, copied one by one into a table
 use Rattle.std.proofs.Common.{◌≡◌, ◌∙◌, ℕ, zero, suc, ◌+◌, Bool, true, false, List, [], ◌∷◌, ◌++◌, take, Some, sym, ap, subst}
 use Rattle.std.specs.Prelude.{slice_get}
-use Rattle.std.specs.List.{AllByRecursion}
-use Rattle.np_keys.specs.Prelude.{Configuration, Invariant, IsReached, NonePass, Rises, SessionId, State, insert_before, is_id_before, is_queued, queued_nodes, queued_requests}
+use Rattle.np_changes.specs.Prelude.{AllByRecursion, Configuration, IsReached, NonePass, Rises, SessionId, State, insert_before, is_id_before, is_queued}
+use Rattle.np_laws.specs.Parts.{Invariant}
+use Rattle.np_look.specs.Readers.{queued_nodes, queued_requests}
 use Rattle.np_lists.proofs.ChangeLemmas.{insert_before-end}
 use Rattle.np_lists.proofs.Each.{all-at, all-weaker}
 use Rattle.np_laws.proofs.Runs.{invariant-Runs}

@@ -1,32 +1,27 @@
 -- the place of the first member that passes, as one member of the list changes
 use Rattle.std.proofs.Common.{◌≡◌, ◌∙◌, ℕ, zero, suc, Bool, true, false, cond, List, [], ◌∷◌, Option, Some, None, refl, sym, ap, subst}
 use Rattle.std.specs.Prelude.{◌||◌, slice_get, slice_set}
-use Rattle.std.specs.Option.{option_map}
-use Rattle.std.specs.List.{list_any, position}
-use Rattle.np_lists.specs.Change.{change_at}
+use Rattle.np_changes.specs.Prelude.{change_at, list_any, option_map, position}
 use Rattle.np_look.proofs.OwnerLemmas.{position-here, position-later}
-
-neither : (b c : Bool) → (b || c) ≡ false → (b ≡ false) × (c ≡ false)
-neither true c is = absurd cc
-neither false c is = (refl, is)
+use Rattle.std.proofs.lemmas.Bool.{or_parts}
 
 module _ {X : Type 0} (p : X → Bool) where
   -- ## if none passes
 
   pub none-there : (xs : List X) (i : ℕ) (x : X) → list_any p xs ≡ false → slice_get xs i ≡ Some x → p x ≡ false
   none-there [] i x none is = absurd cc
-  none-there (y ∷ xs) zero x none is = let same : y ≡ x = cc in subst (λ (z : X). p z ≡ false) same (neither (p y) (list_any p xs) none).0
-  none-there (y ∷ xs) (suc i) x none is = none-there xs i x (neither (p y) (list_any p xs) none).1 is
+  none-there (y ∷ xs) zero x none is = let same : y ≡ x = cc in subst (λ (z : X). p z ≡ false) same (or_parts (p y) (list_any p xs) none).0
+  none-there (y ∷ xs) (suc i) x none is = none-there xs i x (or_parts (p y) (list_any p xs) none).1 is
 
   pub none-set : (xs : List X) (i : ℕ) (x : X) → list_any p xs ≡ false → p x ≡ false → list_any p (slice_set xs i x) ≡ false
   none-set [] i x none out = refl
-  none-set (y ∷ xs) zero x none out = rw out ((neither (p y) (list_any p xs) none).1)
-  none-set (y ∷ xs) (suc i) x none out = let parts = neither (p y) (list_any p xs) none in rw parts.0 (none-set xs i x parts.1 out)
+  none-set (y ∷ xs) zero x none out = rw out ((or_parts (p y) (list_any p xs) none).1)
+  none-set (y ∷ xs) (suc i) x none out = let parts = or_parts (p y) (list_any p xs) none in rw parts.0 (none-set xs i x parts.1 out)
 
   pub none-first : (xs : List X) → list_any p xs ≡ false → position p xs ≡ None
   none-first [] none = refl
   none-first (x ∷ xs) none =
-      let parts = neither (p x) (list_any p xs) none in
+      let parts = or_parts (p x) (list_any p xs) none in
       position-later p x xs parts.0 ∙ ap (λ (o : Option ℕ). option_map (λ (i : ℕ). suc i) o) (none-first xs parts.1)
 
   -- a member that passes is the first if there was none before
@@ -34,7 +29,7 @@ module _ {X : Type 0} (p : X → Bool) where
   first-set [] i x y none is passes = absurd cc
   first-set (z ∷ xs) zero x y none is passes = position-here p y xs passes
   first-set (z ∷ xs) (suc i) x y none is passes =
-      let parts = neither (p z) (list_any p xs) none in
+      let parts = or_parts (p z) (list_any p xs) none in
       position-later p z (slice_set xs i y) parts.0 ∙ ap (λ (o : Option ℕ). option_map (λ (k : ℕ). suc k) o) (first-set xs i x y parts.1 is passes)
 
   -- ## if the member passes after the change as before it

@@ -1,11 +1,9 @@
 -- lists of the ids of the rows that pass a test, after a change of the rows
 use Rattle.std.proofs.Common.{◌≡◌, Bool, true, false, cond, List, [], ◌∷◌, ◌++◌, map, filter, find, Some, refl, sym, ap, ◌∙◌, subst, append-nil}
-use Rattle.std.specs.Option.{option_map_or}
-use Rattle.std.specs.List.{AllByRecursion, list_any}
+use Rattle.np_changes.specs.Prelude.{AllByRecursion, NonePass, Rises, change_first, insert_before, list_any, option_map_or, remove_first}
 use Rattle.std.proofs.lemmas.Bool.{false_from_ne_true}
 use Rattle.std.proofs.lemmas.List.{map-append}
 use Rattle.std.proofs.lemmas.List.Elements.{filter-append}
-use Rattle.np_keys.specs.Prelude.{NonePass, Rises, change_first, insert_before, remove_first}
 use Rattle.np_lists.proofs.Each.{all-map, all-filter, all-find, all-mapped, all-weaker}
 use Rattle.np_lists.proofs.FilterLemmas.{filter-nothing, list_any-none, none-list_any}
 use Rattle.np_lists.proofs.FoundLemmas.{find-passes}
@@ -93,10 +91,6 @@ module _ {E I : Type 0} (id : E → I) (before : I → I → Bool) where
   ids-rise p rows rises = rise-map (filter p rows) (Rises-filter (λ a b. before (id a) (id b)) p rows rises)
 
 -- ## a list of ids
-
--- an id that is there is not put in again
-pub with_id-there : {I : Type 0} (before same : I → I → Bool) (i : I) (list : List I) → list_any (λ other. same other i) list ≡ true → with_id before same i list ≡ list
-with_id-there before same i list there = rw there refl
 
 -- an id that is not there
 pub without_id-absent : {I : Type 0} (same : I → I → Bool) (i : I) (list : List I) → list_any (λ other. same other i) list ≡ false → without_id same i list ≡ list

@@ -1,14 +1,12 @@
 -- what the changes of an event make of the nodes of a job
 use Rattle.std.proofs.Common.{◌≡◌, ◌∙◌, ◌⊎◌, inl, inr, ℕ, Bool, true, false, List, [], ◌∷◌, Some, refl, sym, ap, subst}
 use Rattle.std.specs.Prelude.{◌||◌, ◌==◌, map, slice_get}
-use Rattle.std.specs.List.{list_any}
-use Rattle.np_keys.specs.Prelude.{Asked, Changes, Configuration, JobId, JobRecord, NodeId, Phase, RequestId, State, is_asked, is_marked, is_new, is_using, marked, next_id, with_mark}
+use Rattle.np_changes.specs.Prelude.{AsksForJob, Configuration, FinishesJob, JobId, JobRecord, NodeId, Phase, PutsJob, RequestId, State, TakesOver, Withdraws, is_asked, is_marked, is_new, is_using, list_any, marked, next_id, request_after_withdraw, unended, with_mark}
+use Rattle.np_changes.specs.declared.asked.Asked.{Asked}
+use Rattle.np_changes.specs.declared.changes.Changes.{Changes}
 use Rattle.np_text.specs.declared.word.Ending.TheVariants as ending
 use Rattle.np_text.specs.declared.word.Phase.TheVariants as phase
 use Rattle.np_lists.proofs.FilterLemmas.{list_any-map}
-use Rattle.np_machine.specs.Semaphore.{unended}
-use Rattle.np_changes.specs.Premises.{PutsJob, AsksForJob, TakesOver, FinishesJob, Withdraws}
-use Rattle.np_changes.specs.Plan.{request_after_withdraw}
 use Rattle.np_changes.specs.declared.changes.Growth.TheVariants as grow
 use Rattle.np_changes.specs.declared.changes.JobsChange.TheVariants as jobs
 use Rattle.np_changes.specs.declared.changes.RequestsChange.TheVariants as requests

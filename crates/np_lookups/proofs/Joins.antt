@@ -1,7 +1,8 @@
 -- where the queue of a request is joined, nothing else grows
 use Rattle.std.proofs.Common.{◌≡◌, ℕ, true, List, Option, None, refl}
-use Rattle.std.specs.Option.{is_some}
-use Rattle.np_keys.specs.Prelude.{Growth, JobId, Maker}
+use Rattle.np_changes.specs.Prelude.{JobId, is_some}
+use Rattle.np_changes.specs.declared.changes.Growth.{Growth}
+use Rattle.np_changes.specs.declared.changes.Maker.{Maker}
 use Rattle.np_changes.specs.declared.changes.Growth.TheVariants as grow
 use Rattle.np_lookups.specs.Changed.{owners_grown, owners_taken_back}
 use Rattle.np_lookups.specs.Waits.{joins_request, joins_node}

@@ -1,10 +1,9 @@
 -- rows in the order of their keys: a row is put in and left out, in one list or in that at a place
 use Rattle.std.proofs.Common.{◌≡◌, ◌∙◌, ◌<◌, ℕ, Bool, true, false, List, [], length, get_or, Option, Some, refl, sym, ap, subst}
 use Rattle.std.specs.Prelude.{slice_get, slice_set, unwrap_or}
-use Rattle.std.specs.List.{AllByRecursion, list_any}
+use Rattle.np_changes.specs.Prelude.{AllByRecursion, NonePass, change_at, insert_before, list_any}
 use Rattle.std.proofs.lemmas.Bool.{false_from_ne_true}
 use Rattle.std.proofs.lemmas.Option.{slice_get-get_or}
-use Rattle.np_keys.specs.Prelude.{NonePass, change_at, insert_before}
 use Rattle.np_lists.proofs.ChangeLemmas.{change_at-back, change_at-set}
 use Rattle.np_lists.proofs.Each.{all-weaker}
 use Rattle.np_lookups.specs.Lists.{list_at, without_id}

@@ -1,12 +1,11 @@
 -- the jobs of lookups, made from a state job by job
 use Rattle.std.proofs.Common.{◌≡◌, ◌∙◌, ◌<◌, ◌+◌, ℕ, Bool, true, false, cond, List, [], ◌∷◌, ◌++◌, length, take, get_or, Some, None, refl, sym, ap, subst, append-nil, arith}
 use Rattle.std.specs.Prelude.{◌==◌, ◌&&◌, not, slice_get}
-use Rattle.std.specs.List.{AllByRecursion}
+use Rattle.np_changes.specs.Prelude.{AllByRecursion, Configuration, IsSound, Job, JobId, JobRecord, RequesterId, State, change_at, is_over, new_job}
 use Rattle.std.proofs.lemmas.Bool.Decides.{nat_tests}
 use Rattle.std.proofs.lemmas.List.{length-take-le}
 use Rattle.std.proofs.lemmas.List.Elements.{All-get_or}
 use Rattle.std.proofs.lemmas.Option.{slice_get-get_or, slice_get_within, get_or_from_slice_get}
-use Rattle.np_keys.specs.Prelude.{Configuration, IsSound, Job, JobId, JobRecord, RequesterId, State, change_at, is_over, new_job}
 use Rattle.np_lists.proofs.ChangeLemmas.{length-change_at}
 use Rattle.np_lists.proofs.Each.{all-weaker}
 use Rattle.np_keys.specs.Keys.{is_job_before}

@@ -1,11 +1,14 @@
 -- what the changes of an event make of the jobs that are not over
 use Rattle.std.proofs.Common.{◌≡◌, ◌∙◌, ◌⊎◌, inl, inr, ℕ, zero, suc, Bool, true, false, cond, List, [], ◌∷◌, Option, Some, None, refl, sym, ap, subst, arith}
 use Rattle.std.specs.Prelude.{◌==◌, slice_get, slice_set}
-use Rattle.std.specs.Option.{option_map_or}
-use Rattle.np_keys.specs.Prelude.{Asked, Changes, Configuration, Growth, Job, JobId, JobRecord, JobsChange, Maker, NodeId, Phase, RequestId, RequesterId, State, change_at, changed, grown, is_asked, is_new, is_over, jobs_changed, unfinished_from, with_mark}
+use Rattle.np_changes.specs.Prelude.{AsksForJob, Configuration, FinishesJob, Job, JobId, JobRecord, JobsPremise, NodeId, Phase, PutsJob, RequestId, RequesterId, State, TakesOver, Withdraws, change_at, changed, grown, is_asked, is_new, is_over, jobs_changed, option_map_or, request_after_withdraw, with_mark}
+use Rattle.np_changes.specs.declared.asked.Asked.{Asked}
+use Rattle.np_changes.specs.declared.changes.Changes.{Changes}
+use Rattle.np_changes.specs.declared.changes.Growth.{Growth}
+use Rattle.np_changes.specs.declared.changes.JobsChange.{JobsChange}
+use Rattle.np_changes.specs.declared.changes.Maker.{Maker}
+use Rattle.np_look.specs.Readers.{unfinished_from}
 use Rattle.np_text.specs.declared.word.Phase.TheVariants as phase
-use Rattle.np_changes.specs.Premises.{PutsJob, AsksForJob, TakesOver, FinishesJob, Withdraws, JobsPremise}
-use Rattle.np_changes.specs.Plan.{request_after_withdraw}
 use Rattle.np_changes.specs.declared.changes.Growth.TheVariants as grow
 use Rattle.np_changes.specs.declared.changes.JobsChange.TheVariants as jobs
 use Rattle.np_changes.specs.declared.changes.RequestsChange.TheVariants as requests

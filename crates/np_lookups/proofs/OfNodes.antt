@@ -2,10 +2,14 @@
 use Rattle.std.proofs.Common.{◌≡◌, ◌∙◌, ◌⊎◌, ◌<◌, ℕ, Bool, true, false, cond, List, [], ◌∷◌, ◌++◌, Option, Some, None, inl, inr, refl, sym, arith}
 use Rattle.std.specs.Prelude.{◌==◌, nat_lt}
 use Rattle.std.proofs.lemmas.Bool.Decides.{nat_tests}
-use Rattle.np_keys.specs.Prelude.{Changes, Configuration, Growth, IsNumbered, Maker, NodeEntry, NodeId, NodeRecord, NodesChange, Rises, SessionId, SessionsChange, State, allocated, change_first, grown, nodes_changed, nodes_left}
+use Rattle.np_changes.specs.declared.changes.Changes.{Changes}
+use Rattle.np_changes.specs.Prelude.{Configuration, NodeEntry, NodeId, NodeRecord, Rises, SessionId, State, all_in_use, allocated, change_first, freed_from, grown, in_use, is_session, node_entry, nodes_changed, nodes_left}
+use Rattle.np_changes.specs.declared.changes.Growth.{Growth}
+use Rattle.np_laws.specs.Parts.{IsNumbered}
+use Rattle.np_changes.specs.declared.changes.Maker.{Maker}
+use Rattle.np_changes.specs.declared.changes.NodesChange.{NodesChange}
+use Rattle.np_changes.specs.declared.changes.SessionsChange.{SessionsChange}
 use Rattle.np_lists.proofs.Each.{all-weaker}
-use Rattle.np_machine.specs.Semaphore.{in_use, all_in_use}
-use Rattle.np_machine.specs.Tables.{is_session, node_entry, freed_from}
 use Rattle.np_changes.specs.Premises.{IsTaken, IsMade, GrowthPremise}
 use Rattle.np_changes.specs.declared.changes.Growth.TheVariants as grow
 use Rattle.np_changes.specs.declared.changes.NodesChange.TheVariants as nodes

@@ -1,15 +1,16 @@
 -- what the changes of an event make of the owners of nodes
 use Rattle.std.proofs.Common.{◌≡◌, ◌∙◌, ◌⊎◌, ◌<◌, ◌≤◌, ◌+◌, inl, inr, ℕ, zero, suc, Bool, true, false, cond, List, [], ◌∷◌, ◌++◌, Option, Some, None, length, refl, sym, ap, arith, length-append}
 use Rattle.std.specs.Prelude.{◌==◌, ◌||◌, slice_get, slice_set, unwrap_or}
-use Rattle.std.specs.Option.{option_map}
-use Rattle.std.specs.List.{list_any}
+use Rattle.np_changes.specs.Prelude.{Configuration, JobId, JobRecord, JobsPremise, Marked, NodeId, Premises, State, changed, grown, is_asked, is_marked, is_using, jobs_changed, list_any, option_map, owner_of, with_mark}
 use Rattle.std.proofs.lemmas.Bool.{cases_lt}
 use Rattle.std.proofs.lemmas.Bool.Decides.{nat_tests}
 use Rattle.std.proofs.lemmas.Option.{slice_get_past}
-use Rattle.np_keys.specs.Prelude.{Changes, Configuration, Growth, Invariant, JobId, JobRecord, JobsChange, Maker, NodeId, State, changed, grown, is_asked, is_marked, is_using, jobs_changed, owner_of, with_mark}
-use Rattle.np_record.specs.declared.record.Marked.{Marked}
+use Rattle.np_changes.specs.declared.changes.Changes.{Changes}
+use Rattle.np_changes.specs.declared.changes.Growth.{Growth}
+use Rattle.np_laws.specs.Parts.{Invariant}
+use Rattle.np_changes.specs.declared.changes.JobsChange.{JobsChange}
+use Rattle.np_changes.specs.declared.changes.Maker.{Maker}
 use Rattle.np_lists.proofs.Each.{all-at}
-use Rattle.np_changes.specs.Premises.{JobsPremise, Premises}
 use Rattle.np_changes.specs.declared.changes.Growth.TheVariants as grow
 use Rattle.np_changes.specs.declared.changes.JobsChange.TheVariants as jobs
 use Rattle.np_laws.proofs.JobsLater.{jobs-grown}
@@ -18,6 +19,7 @@ use Rattle.np_lookups.specs.Lookups.{owner_at, AreOwners}
 use Rattle.np_lookups.proofs.Firsts.{none-first, first-set, first-same, first-changed}
 use Rattle.np_lookups.proofs.JobNodes.{is_early, KeepsNodes, TakesNodes, put-nodes, marked-has, unended-has}
 use Rattle.np_lookups.proofs.Unused.{AreUnused, taken-free, unused-changed}
+use Rattle.np_lists.proofs.Plain.{length-set}
 
 -- ## lists by place
 
@@ -29,11 +31,6 @@ owner_at-push (suc i) (o ∷ owners) = owner_at-push i owners
 
 pub owner_at-past : (i : ℕ) (owners : List (Option JobId)) → length owners ≤ i → owner_at i owners ≡ None
 owner_at-past i owners past = ap (λ (o : Option (Option JobId)). unwrap_or o None) (slice_get_past owners i past)
-
-length-set : {X : Type 0} (xs : List X) (i : ℕ) (x : X) → length (slice_set xs i x) ≡ length xs
-length-set [] i x = refl
-length-set (y ∷ xs) zero x = refl
-length-set (y ∷ xs) (suc i) x = ap suc (length-set xs i x)
 
 length-with : (j : JobId) (nodes : List Marked) (owners : List (Option JobId)) → length (owners_with j nodes owners) ≡ length owners
 length-with j [] owners = refl

@@ -1,8 +1,12 @@
 -- what the changes of an event make of the requests in whose queues one session is
 use Rattle.std.proofs.Common.{◌≡◌, List, [], Option, Some, None, refl}
-use Rattle.np_keys.specs.Prelude.{Changes, Configuration, Growth, IsNumbered, Maker, RequestEntry, RequestId, RequestsChange, Rises, SessionId, SessionsChange, State, is_id_before, new_record, next_id, request_entry, same_request}
-use Rattle.np_changes.specs.Changes.{grown, edited, requests_changed, requests_left}
-use Rattle.np_changes.specs.Premises.{GrowthPremise}
+use Rattle.np_changes.specs.declared.changes.Changes.{Changes}
+use Rattle.np_changes.specs.Prelude.{Configuration, GrowthPremise, RequestEntry, RequestId, Rises, SessionId, State, edited, grown, is_id_before, new_record, next_id, request_entry, requests_changed, requests_left, same_request}
+use Rattle.np_changes.specs.declared.changes.Growth.{Growth}
+use Rattle.np_laws.specs.Parts.{IsNumbered}
+use Rattle.np_changes.specs.declared.changes.Maker.{Maker}
+use Rattle.np_changes.specs.declared.changes.RequestsChange.{RequestsChange}
+use Rattle.np_changes.specs.declared.changes.SessionsChange.{SessionsChange}
 use Rattle.np_changes.specs.declared.changes.Growth.TheVariants as grow
 use Rattle.np_changes.specs.declared.changes.RequestsChange.TheVariants as requests
 use Rattle.np_changes.specs.declared.changes.SessionsChange.TheVariants as sessions

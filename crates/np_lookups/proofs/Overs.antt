@@ -1,12 +1,11 @@
 -- the jobs of a requester that are not over, determined by which jobs are over
 use Rattle.std.proofs.Common.{◌≡◌, ◌∙◌, ℕ, zero, suc, ◌+◌, ◌<◌, ◌≤◌, Bool, true, false, cond, List, [], ◌∷◌, ◌++◌, length, map, refl, sym, ap, arith}
 use Rattle.std.specs.Prelude.{◌==◌, ◌&&◌, not, slice_get, slice_set}
-use Rattle.std.specs.Option.{option_map_or}
-use Rattle.std.specs.List.{AllByRecursion}
+use Rattle.np_changes.specs.Prelude.{AllByRecursion, Configuration, JobId, JobRecord, RequesterId, is_over, option_map_or, remove_first}
 use Rattle.std.proofs.lemmas.Bool.Decides.{nat_tests}
-use Rattle.np_keys.specs.Prelude.{Configuration, JobId, JobRecord, RequesterId, is_over, remove_first}
 use Rattle.np_look.specs.Readers.{is_unfinished_job, unfinished_from}
 use Rattle.np_keys.specs.Keys.{same_job}
+use Rattle.np_lists.proofs.Plain.{below-apart, above-apart}
 
 -- for each job whether it is over
 abbrev pub overs : List JobRecord → List Bool
@@ -18,12 +17,6 @@ job_id n = record { 0 = n }
 -- the job with this number is the requester's
 abbrev pub is_own : Configuration → RequesterId → ℕ → Bool
 is_own c q n = option_map_or (λ row. row.requester.0 == q.0) (slice_get c.jobs n) false
-
-apart : (n m : ℕ) → n < m → (n == m) ≡ false
-apart n m less = grind (arith, nat_tests)
-
-apart_too : (n m : ℕ) → m < n → (n == m) ≡ false
-apart_too n m less = grind (arith, nat_tests)
 
 module _ (c : Configuration) (q : RequesterId) where
   -- the requester's jobs that are not over among these jobs, of which the first has this number
@@ -44,7 +37,7 @@ module _ (c : Configuration) (q : RequesterId) where
   out_before n (over ∷ rest) m less = by (is_own c q n && not over) (out_before (suc n) rest m (omega arith)) where
     by : (b : Bool) → remove_first (λ other. same_job other (job_id m)) (open_from (suc n) rest) ≡ open_from (suc n) rest
         → remove_first (λ other. same_job other (job_id m)) (cond b (job_id n ∷ open_from (suc n) rest) (open_from (suc n) rest)) ≡ cond b (job_id n ∷ open_from (suc n) rest) (open_from (suc n) rest)
-    by true later = rw (apart_too n m less) (ap (λ (jobs : List JobId). job_id n ∷ jobs) later)
+    by true later = rw (above-apart n m less) (ap (λ (jobs : List JobId). job_id n ∷ jobs) later)
     by false later = later
 
   over-here : (n m : ℕ) (over : Bool) (rest : List Bool) → m ≡ n → remove_first (λ other. same_job other (job_id m)) (open_from n (over ∷ rest)) ≡ open_from n (true ∷ rest)
@@ -68,7 +61,7 @@ module _ (c : Configuration) (q : RequesterId) where
   open-over n (suc k) m (over ∷ rest) is = by (is_own c q n && not over) (open-over (suc n) k m rest (omega arith)) where
     by : (b : Bool) → remove_first (λ other. same_job other (job_id m)) (open_from (suc n) rest) ≡ open_from (suc n) (slice_set rest k true)
         → remove_first (λ other. same_job other (job_id m)) (cond b (job_id n ∷ open_from (suc n) rest) (open_from (suc n) rest)) ≡ cond b (job_id n ∷ open_from (suc n) (slice_set rest k true)) (open_from (suc n) (slice_set rest k true))
-    by true later = rw (apart n m (omega arith)) (ap (λ (jobs : List JobId). job_id n ∷ jobs) later)
+    by true later = rw (below-apart n m (omega arith)) (ap (λ (jobs : List JobId). job_id n ∷ jobs) later)
     by false later = later
 
   -- if the job is not the requester's, nothing changes

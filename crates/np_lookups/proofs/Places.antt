@@ -1,9 +1,8 @@
 -- one of the lists by place, changed, and the lists of sessions
 use Rattle.std.proofs.Common.{◌≡◌, ◌∙◌, ◌<◌, ℕ, zero, suc, Bool, true, false, cond, List, [], ◌∷◌, ◌++◌, length, Option, Some, None, IfSome, refl, sym, ap, subst, arith, eq-eqb}
 use Rattle.std.specs.Prelude.{◌==◌, ◌||◌, slice_get, unwrap_or}
-use Rattle.std.specs.Option.{option_map, option_map_or}
+use Rattle.np_changes.specs.Prelude.{SessionId, change_at, is_queued, is_session, option_map, option_map_or}
 use Rattle.std.proofs.lemmas.Bool.{eqb-true}
-use Rattle.np_keys.specs.Prelude.{SessionId, change_at, is_queued, is_session}
 use Rattle.np_lists.proofs.ChangeLemmas.{length-change_at, slice_get-change_at, slice_get-change_at_other}
 use Rattle.np_laws.specs.Parts.{DistinctSessions}
 use Rattle.np_lookups.specs.declared.waits.Wait.{Wait}

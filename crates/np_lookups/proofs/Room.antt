@@ -1,6 +1,6 @@
 -- lookups with one list more, which is empty: they are those of the same states
 use Rattle.std.proofs.Common.{◌≡◌, ◌∙◌, List, [], ◌∷◌, ◌++◌, length, ap, arith, length-append}
-use Rattle.np_keys.specs.Prelude.{Configuration, NodeId, RequestId, State}
+use Rattle.np_changes.specs.Prelude.{Configuration, NodeId, RequestId, State}
 use Rattle.np_lookups.specs.Lookups.{LookupsOf, AreLookupsOf}
 use Rattle.np_lookups.specs.Lists.{list_at}
 use Rattle.np_lookups.proofs.Places.{list_at-push}

@@ -1,8 +1,7 @@
 -- what a change of the queues of rows makes of the rows in whose queues one session is
 use Rattle.std.proofs.Common.{◌≡◌, ◌∙◌, ℕ, Bool, true, false, cond, List, [], ◌∷◌, ◌++◌, Option, Some, None, refl, sym, ap, subst, eqb-true}
 use Rattle.std.specs.Prelude.{◌||◌, not, find, map}
-use Rattle.std.specs.Option.{option_map_or}
-use Rattle.np_keys.specs.Prelude.{Locked, Rises, SessionId, change_first, is_queued, is_session, joined, left}
+use Rattle.np_changes.specs.Prelude.{Locked, Rises, SessionId, change_first, is_queued, is_session, joined, left, option_map_or}
 use Rattle.np_lists.proofs.ChangeLemmas.{change_first-same}
 use Rattle.np_lookups.specs.Lists.{ids_of, with_id, without_id}
 use Rattle.np_lookups.proofs.Ids.{ids-map, ids-change_first, ids-map_none, ids-there, ids-joined, ids-left, without_id-absent}

@@ -1,13 +1,17 @@
 -- the lookups of a state, changed as the state is, are those of the changed state
 use Rattle.std.proofs.Common.{◌≡◌, ◌∙◌, inl, inr, ◌<◌, ◌≤◌, ◌+◌, ◌-◌, ℕ, Bool, true, false, cond, List, [], ◌∷◌, length, Option, Some, None, IfSome, refl, sym, ap, subst, arith, length-append}
 use Rattle.std.specs.Prelude.{◌==◌}
-use Rattle.std.specs.Option.{option_map, option_map_or}
-use Rattle.np_keys.specs.Prelude.{Changes, Configuration, Growth, IsPlanned, IsReached, Maker, NodeEntry, NodeId, NodesChange, RequestEntry, RequestId, RequestsChange, SessionFacts, SessionId, SessionsChange, State, ended, holder, is_id_before, is_queued, is_session, muted, node_entry, node_queue, queued_nodes, queued_requests, request_entry, request_queue, same_request}
+use Rattle.np_changes.specs.Prelude.{Configuration, IsPlanned, IsReached, MakerPremise, NodeEntry, NodeId, NodesPremise, Premises, RequestEntry, RequestId, RequestsPremise, SessionFacts, SessionId, SessionsPremise, State, changed, ended, grown, holder, is_id_before, is_queued, is_session, muted, node_entry, node_queue, nodes_changed, option_map, option_map_or, request_entry, request_queue, requests_changed, same_request, sessions_changed}
+use Rattle.np_changes.specs.declared.changes.Changes.{Changes}
+use Rattle.np_changes.specs.declared.changes.Growth.{Growth}
+use Rattle.np_changes.specs.declared.changes.Maker.{Maker}
+use Rattle.np_changes.specs.declared.changes.NodesChange.{NodesChange}
+use Rattle.np_changes.specs.declared.changes.RequestsChange.{RequestsChange}
+use Rattle.np_changes.specs.declared.changes.SessionsChange.{SessionsChange}
+use Rattle.np_look.specs.Readers.{queued_nodes, queued_requests}
 use Rattle.np_lists.proofs.ChangeLemmas.{length-change_at}
 use Rattle.np_lists.proofs.Each.{all-find}
-use Rattle.np_changes.specs.Changes.{grown, changed, requests_changed, nodes_changed, sessions_changed}
 use Rattle.np_changes.proofs.PremisesOf.{premises}
-use Rattle.np_changes.specs.Premises.{Premises, MakerPremise, RequestsPremise, NodesPremise, SessionsPremise}
 use Rattle.np_changes.specs.declared.changes.Growth.TheVariants as grow
 use Rattle.np_changes.specs.declared.changes.NodesChange.TheVariants as nodes
 use Rattle.np_changes.specs.declared.changes.RequestsChange.TheVariants as requests
@@ -20,7 +24,6 @@ use Rattle.np_lookups.specs.Changed.{lists_joined, lists_left, lists_removed, li
 use Rattle.np_lookups.specs.Lookups.{LookupsOf, HasRoom, AreLookupsOf}
 use Rattle.np_lookups.specs.Lists.{list_at, without_id}
 use Rattle.np_lookups.specs.Waits.{by, joins_request, joins_node, leaves_request, leaves_node, removed_node, removed_request, ending}
-use Rattle.np_lookups.proofs.Begun.{begun-within}
 use Rattle.np_lookups.proofs.OfJobs.{unfinished-changed}
 use Rattle.np_lookups.proofs.OfNodes.{nodes-grown, nodes-changed, nodes-left}
 use Rattle.np_lookups.proofs.OfOwners.{owners-changed}
@@ -28,12 +31,13 @@ use Rattle.np_lookups.proofs.OfRequests.{leaves, requests-grown, requests-change
 use Rattle.np_lookups.proofs.Places.{list_joined, list_left, list_removed, list_ended, at-joined, at-left, at-without, at-ended, length-joined, length-left, length-removed, length-ended}
 use Rattle.np_lookups.proofs.Rows.{waiting, rows-absent}
 use Rattle.np_lookups.proofs.Unused.{AreUnused, unused-reached}
+use Rattle.np_changes.proofs.Facts.{session-low}
 
 -- ## sessions
 
 maker-within : {I : Type 0} (s : State) (maker : Option Maker) (i : I) (many : ℕ) → MakerPremise s maker → length s.sessions < many → IfSome (by maker i) (λ w. w.session.0 < many)
 maker-within s None i many heard room = tt
-maker-within s (Some m) i many heard room = omega (arith, begun-within m.session s heard.facts heard.begun)
+maker-within s (Some m) i many heard room = omega (arith, session-low m.session s heard.facts heard.begun)
 
 joins_node-within : (s : State) (maker : Option Maker) (growth : Growth) (many : ℕ) → MakerPremise s maker → length s.sessions < many → IfSome (joins_node maker growth s.next_node) (λ w. w.session.0 < many)
 joins_node-within s maker grow.Nothing many heard room = tt

@@ -1,26 +1,18 @@
 -- a node that no job has used is no job's: this holds of every state that a run leads to
 use Rattle.std.proofs.Common.{◌≡◌, ◌∙◌, ◌⊎◌, ◌<◌, ◌≤◌, inl, inr, ℕ, Bool, true, false, cond, List, [], ◌∷◌, ◌++◌, Option, Some, None, refl, sym, ap, subst, arith, eqb-true, le_refl}
 use Rattle.std.specs.Prelude.{◌==◌, is_ok, map, nat_lt}
-use Rattle.std.specs.List.{AllByRecursion, list_any}
-use Rattle.std.specs.Option.{option_map}
+use Rattle.np_changes.specs.Prelude.{AllByRecursion, Configuration, EndAs, EndsNode, Entry, Event, Frees, GivesUp, IsReached, Job, JobRecord, JobsPremise, Marked, NodeEntry, NodeId, NodeRecord, NodeState, NodesPremise, Premises, PutsNode, Reports, RequestId, Rises, Starts, State, TakesOver, changed, ended_as, freed, grown, is_building, is_marked, is_ready, is_request, jobs_changed, judge, list_any, marked, new_job, next, node_in, nodes_changed, option_map, plan, remove_node, start, state_after, with_mark}
 use Rattle.std.proofs.lemmas.Bool.{false≢true, false_from_ne_true}
 use Rattle.std.proofs.lemmas.Option.{none-some, same_Some, slice_get_within}
-use Rattle.np_keys.specs.Prelude.{Changes, Configuration, Growth, Invariant, IsReached, Job, JobRecord, JobsChange, Maker, NodeEntry, NodeId, NodeRecord, NodesChange, RequestId, Rises, State, changed, grown, jobs_changed, new_job, nodes_changed, start}
-use Rattle.np_text.specs.declared.word.EndAs.{EndAs}
+use Rattle.np_changes.specs.declared.changes.Changes.{Changes}
+use Rattle.np_changes.specs.declared.changes.Growth.{Growth}
+use Rattle.np_laws.specs.Parts.{Invariant}
+use Rattle.np_changes.specs.declared.changes.JobsChange.{JobsChange}
+use Rattle.np_changes.specs.declared.changes.Maker.{Maker}
+use Rattle.np_changes.specs.declared.changes.NodesChange.{NodesChange}
 use Rattle.np_text.specs.declared.word.EndAs.TheVariants as end
-use Rattle.np_text.specs.declared.word.NodeState.{NodeState}
 use Rattle.np_text.specs.declared.word.NodeState.TheVariants as node_state
-use Rattle.np_record.specs.declared.record.Marked.{Marked}
-use Rattle.np_event.specs.declared.entry.Entry.{Entry}
-use Rattle.np_event.specs.declared.event.Event.{Event}
 use Rattle.np_lists.proofs.Each.{all-at, all-set, all-change_at}
-use Rattle.np_machine.specs.History.{state_after}
-use Rattle.np_machine.specs.Kinds.{is_building, is_ready}
-use Rattle.np_machine.specs.Node.{ended_as, marked, with_mark}
-use Rattle.np_machine.specs.Step.{judge, next}
-use Rattle.np_machine.specs.Tables.{is_marked, is_request, node_in, remove_node, freed}
-use Rattle.np_changes.specs.Plan.{plan}
-use Rattle.np_changes.specs.Premises.{Starts, Reports, EndsNode, GivesUp, Frees, PutsNode, TakesOver, NodesPremise, JobsPremise, Premises}
 use Rattle.np_changes.specs.declared.changes.Growth.TheVariants as grow
 use Rattle.np_changes.specs.declared.changes.JobsChange.TheVariants as jobs
 use Rattle.np_changes.specs.declared.changes.NodesChange.TheVariants as nodes
@@ -31,12 +23,13 @@ use Rattle.np_laws.proofs.JobsLater.{jobs-grown}
 use Rattle.np_laws.proofs.Lookups.{node_in-put, node_in-remove, node_in-removed, node_in-freed, node_in-in_use, node_in-allocated, node_in-other, node_in-below, used_from}
 use Rattle.np_laws.proofs.NodeKept.{found-same}
 use Rattle.np_laws.proofs.Numbered.{grown-numbered}
-use Rattle.np_laws.proofs.Places.{node-place, place-there}
+use Rattle.np_laws.proofs.Places.{node-place}
 use Rattle.np_laws.proofs.Runs.{invariant-changed}
 use Rattle.np_laws.proofs.Start.{invariant-start}
 use Rattle.np_laws.proofs.StandsOn.{owns-if}
 use Rattle.np_lookups.proofs.Firsts.{none-there, none-set, any-changed}
 use Rattle.np_lookups.proofs.JobNodes.{is_early, KeepsNodes, TakesNodes, put-nodes, marked-has, unended-has}
+use Rattle.np_lists.proofs.Plain.{member-there}
 
 -- ## what is said
 
@@ -172,7 +165,7 @@ module _ (c : Configuration) (s : State) (ch : Changes) (inv : Invariant c s) (o
   taken-free r takes n among =
       let owns = owns-if s r takes.request takes.request.state takes.fulfilled (inv.owned.requests r takes.request takes.request_stands) in
       let place = node-place n takes.request.nodes among in
-      let label = place-there takes.request.labels place.0 (subst (λ (size : ℕ). place.0 < size) owns.as_many (slice_get_within takes.request.nodes place.0 n place.1)) in
+      let label = member-there takes.request.labels place.0 (subst (λ (size : ℕ). place.0 < size) owns.as_many (slice_get_within takes.request.nodes place.0 n place.1)) in
       let is = owns.each place.0 n label.0 place.1 label.1 in
       (old.unused n is.node is.stands (ready-unused is.node.state is.ready), node_in-below n s.next_node is.node s.nodes inv.numbered.nodes_below is.stands)
 

@@ -1,8 +1,9 @@
 -- what an event's changes make of the parts of lookups
 use Rattle.std.specs.Prelude.{ℕ, ◌-◌, Bool, if◌then◌else◌, List, [], ◌∷◌, ◌++◌, Option, Some, None, length, take, slice_get, slice_set, option_and_then}
-use Rattle.std.specs.Option.{option_map_or}
-use Rattle.np_keys.specs.Prelude.{Changes, Configuration, Growth, JobId, JobsChange, NodeId, RequestId, SessionId, State, change_at, is_id_before, is_over, is_using, node_queue, request_holder, same_request}
-use Rattle.np_record.specs.declared.record.Marked.{Marked}
+use Rattle.np_changes.specs.Prelude.{Configuration, JobId, Marked, NodeId, RequestId, SessionId, State, change_at, is_id_before, is_over, is_using, node_queue, option_map_or, request_holder, same_request}
+use Rattle.np_changes.specs.declared.changes.Changes.{Changes}
+use Rattle.np_changes.specs.declared.changes.Growth.{Growth}
+use Rattle.np_changes.specs.declared.changes.JobsChange.{JobsChange}
 use Rattle.np_changes.specs.declared.changes.Growth.TheVariants as grow
 use Rattle.np_changes.specs.declared.changes.JobsChange.TheVariants as jobs
 use Rattle.np_keys.specs.Keys.{is_node_before, same_node, same_job}

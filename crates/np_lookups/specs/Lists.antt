@@ -1,7 +1,6 @@
 -- lists of ids in an order, and such lists by place
 use Rattle.std.specs.Prelude.{ℕ, Bool, if◌then◌else◌, List, [], map, filter, slice_get, unwrap_or}
-use Rattle.std.specs.List.{list_any}
-use Rattle.np_lists.specs.Change.{insert_before, remove_first}
+use Rattle.np_changes.specs.Prelude.{insert_before, list_any, remove_first}
 
 -- ## one list
 

@@ -1,6 +1,7 @@
 -- what the lookups have, and when they are those of a state
 use Rattle.std.specs.Prelude.{◌≡◌, ◌<◌, ◌+◌, ℕ, List, Option, None, length, slice_get, unwrap_or}
-use Rattle.np_keys.specs.Prelude.{Configuration, JobId, NodeId, RequestId, RequesterId, SessionId, State, owner_of, queued_nodes, queued_requests, unfinished_from}
+use Rattle.np_changes.specs.Prelude.{Configuration, JobId, NodeId, RequestId, RequesterId, SessionId, State, owner_of}
+use Rattle.np_look.specs.Readers.{queued_nodes, queued_requests, unfinished_from}
 use Rattle.np_lookups.specs.Lists.{list_at}
 
 -- the parts of lookups (own)

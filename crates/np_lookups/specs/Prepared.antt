@@ -1,6 +1,7 @@
 -- what is prepared before a state changes, and what is made of it
 use Rattle.std.specs.Prelude.{ℕ, Bool, List, Option}
-use Rattle.np_keys.specs.Prelude.{Changes, Configuration, SessionId, State, changed}
+use Rattle.np_changes.specs.declared.changes.Changes.{Changes}
+use Rattle.np_changes.specs.Prelude.{Configuration, SessionId, State, changed}
 use Rattle.np_lookups.specs.Changed.{lookups_settled, lookups_taken_back}
 use Rattle.np_lookups.specs.Lookups.{AreLookupsOf, LookupsOf}
 

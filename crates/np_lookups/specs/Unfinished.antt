@@ -1,7 +1,6 @@
 -- which jobs are over
 use Rattle.std.specs.Prelude.{Bool, false, slice_get}
-use Rattle.std.specs.Option.{option_map_or}
-use Rattle.np_keys.specs.Prelude.{JobId, State, is_over}
+use Rattle.np_changes.specs.Prelude.{JobId, State, is_over, option_map_or}
 
 -- the job exists and is over
 abbrev pub has_ended : State → JobId → Bool

@@ -1,7 +1,11 @@
 -- which queues a change joins and leaves
 use Rattle.std.specs.Prelude.{ℕ, Option, Some, None}
-use Rattle.std.specs.Option.{option_map}
-use Rattle.np_keys.specs.Prelude.{Growth, Maker, NodeId, NodesChange, RequestId, RequestsChange, SessionId, SessionsChange}
+use Rattle.np_changes.specs.Prelude.{NodeId, RequestId, SessionId, option_map}
+use Rattle.np_changes.specs.declared.changes.Growth.{Growth}
+use Rattle.np_changes.specs.declared.changes.Maker.{Maker}
+use Rattle.np_changes.specs.declared.changes.NodesChange.{NodesChange}
+use Rattle.np_changes.specs.declared.changes.RequestsChange.{RequestsChange}
+use Rattle.np_changes.specs.declared.changes.SessionsChange.{SessionsChange}
 use Rattle.np_changes.specs.declared.changes.Growth.TheVariants as grow
 use Rattle.np_changes.specs.declared.changes.RequestsChange.TheVariants as requests
 use Rattle.np_changes.specs.declared.changes.NodesChange.TheVariants as nodes

@@ -1,7 +1,7 @@
 //! What the changes of an event make of the lookups.
 
 ghost use Rattle.std.specs.Prelude.{◌≡◌, IfOk, OnErr, OnOk};
-ghost use Rattle.np_keys.specs.Prelude.{Configuration, Fits, IsPlanned, IsReached, SessionId, State};
+ghost use Rattle.np_changes.specs.Prelude.{Configuration, Fits, IsPlanned, IsReached, SessionId, State};
 ghost use Rattle.np_changes.specs.declared.changes.SessionsChange.TheVariants as sessions;
 ghost use Rattle.np_lookups.specs.Changed.{lookups_grown, lookups_settled, lookups_taken_back};
 ghost use Rattle.np_lookups.specs.Lookups.{AreLookupsOf};

@@ -1,15 +1,7 @@
 -- what keeps a directory a lock, for the tests of locks
 use Rattle.std.proofs.Common.{◌≡◌, ℕ, Bool, true, false, List, [], ◌∷◌, map, None, refl, sym, ap, subst}
 use Rattle.std.specs.Prelude.{slice_get}
-use Rattle.std.specs.Bool.{OnFalse, OnTrue}
-use Rattle.std.specs.Option.{option_map}
-use Rattle.np_nodes.specs.TreeState.{TreeState}
-use Rattle.np_nodes.specs.After.{after_end}
-use Rattle.np_nodes.specs.Nodes.{children_of, stat_of}
-use Rattle.np_nodes.specs.declared.node.Node.{Node}
-use Rattle.np_tree.specs.Read.{stat_of_child}
-use Rattle.np_tree.specs.Whole.{IsTree}
-use Rattle.np_views.specs.Views.{row_of}
+use Rattle.np_layout.specs.Prelude.{IsTree, Node, OnFalse, OnTrue, TreeState, after_end, children_of, option_map, row_of, stat_of, stat_of_child}
 use Rattle.np_lock.specs.Queue.{IsLock}
 use Rattle.np_lock.proofs.LawLemmas.{ends-leave}
 

@@ -1,8 +1,7 @@
 //! Locks: each call, parts that join and leave, and 340 sessions in a queue.
 
 ghost use Rattle.std.specs.Prelude.{◌≡◌, true};
-ghost use Rattle.std.specs.Bool.{OnTrue};
-ghost use Rattle.np_nodes.specs.Multi.{is_numbered};
+ghost use Rattle.np_layout.specs.Prelude.{OnTrue, is_numbered};
 ghost use Rattle.np_lock.specs.Queue.{IsLock};
 
 use crate::trees::{Call as TreeCall, PLAIN, Told as TreeTold, begins, tells_all};

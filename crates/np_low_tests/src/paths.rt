@@ -1,7 +1,7 @@
 //! Paths of ZooKeeper's grammar, and those of a machine's places.
 
+use np_layout::{PathText, Place, to_path};
 use np_path::{Path, PathFault, halves};
-use np_places::{PathText, Place, to_path};
 use np_text::{JobId, NodeId, PoolId, RequestId, Role, SemId, SessionId};
 use std::alloc::Global;
 

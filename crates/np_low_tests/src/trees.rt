@@ -2,9 +2,7 @@
 //! ZooKeeper's codes.
 
 ghost use Rattle.std.specs.Prelude.{◌≡◌, true, IfOk};
-ghost use Rattle.std.specs.Bool.{OnTrue};
-ghost use Rattle.std.specs.List.{list_all};
-ghost use Rattle.np_nodes.specs.Multi.{is_numbered};
+ghost use Rattle.np_layout.specs.Prelude.{OnTrue, is_numbered, list_all};
 
 use np_path::{Path, PathFault};
 use np_tree::{Bytes, Expect, Mode, MultiFault, Op, Stat, Tree, TreeFault, TreeRefusal};

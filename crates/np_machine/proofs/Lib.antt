@@ -3,3 +3,4 @@ pub mod Runs
 pub mod Rises
 pub mod Acts
 pub mod LiveHolders
+pub mod Ids

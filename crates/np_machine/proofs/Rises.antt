@@ -1,7 +1,7 @@
 -- the next numbers never fall
 use Rattle.std.proofs.Common.{◌≡◌, [], ◌∷◌, length, refl, arith, length-append}
 use Rattle.std.specs.Prelude.{slice_get}
-use Rattle.np_site.specs.Configuration.{Configuration}
+use Rattle.np_config.specs.Configuration.{Configuration}
 use Rattle.np_event.specs.declared.event.Event.{Event}
 use Rattle.np_event.specs.declared.event.Event.TheVariants as ev
 use Rattle.np_machine.specs.State.{State}

@@ -1,18 +1,11 @@
 -- laws of whole runs
-use Rattle.std.proofs.Common.{◌≡◌, List, [], ◌∷◌, ◌++◌, refl, ap, arith, length-append, Ok, Err}
-use Rattle.np_site.specs.Configuration.{Configuration}
-use Rattle.np_event.specs.declared.event.Event.{Event}
+use Rattle.std.proofs.Common.{◌≡◌, List, [], ◌∷◌, ◌++◌, refl, ap, arith, length-append}
+use Rattle.np_config.specs.Configuration.{Configuration}
 use Rattle.np_event.specs.declared.entry.Entry.{Entry}
-use Rattle.np_event.specs.declared.reply.Refusal.{Refusal}
 use Rattle.np_event.specs.declared.reply.Reply.TheVariants as reply
 use Rattle.np_machine.specs.State.{State, start}
-use Rattle.np_machine.specs.Tests.{Answer}
 use Rattle.np_machine.specs.Step.{judge, next, reply_of}
 use Rattle.np_machine.specs.History.{state_after, replayed, after, Runs}
-
-pub refusal_by : (c : Configuration) (s : State) (e : Event) (why : Refusal) (a : Answer) → judge c s e ≡ a → reply_of a ≡ reply.Refused why → next c s e ≡ s
-refusal_by c s e why (Ok what) is refused = cc
-refusal_by c s e why (Err other) is refused = rw is refl
 
 pub state_after-push : (c : Configuration) (s : State) (journal : List Entry) (entry : Entry) → state_after c s (journal ++ entry ∷ []) ≡ next c (state_after c s journal) entry.event
 state_after-push c s [] entry = refl

@@ -8,7 +8,7 @@ use Rattle.np_text.specs.declared.id.RequestId.{RequestId}
 use Rattle.np_text.specs.declared.id.Role.TheVariants.{Launcher}
 use Rattle.np_text.specs.declared.word.Reason.{Reason}
 use Rattle.np_text.specs.declared.word.Reason.TheVariants as reason
-use Rattle.np_site.specs.Configuration.{Configuration}
+use Rattle.np_config.specs.Configuration.{Configuration}
 use Rattle.np_record.specs.declared.record.RequestRecord.{RequestRecord}
 use Rattle.np_record.specs.declared.record.NodeRecord.{NodeRecord}
 use Rattle.np_event.specs.declared.event.Event.{Event}

@@ -4,7 +4,7 @@ use Rattle.std.specs.Option.{option_map_or}
 use Rattle.np_text.specs.declared.id.NodeId.{NodeId}
 use Rattle.np_text.specs.declared.id.JobId.{JobId}
 use Rattle.np_text.specs.declared.id.RequestId.{RequestId}
-use Rattle.np_site.specs.Configuration.{Configuration}
+use Rattle.np_config.specs.Configuration.{Configuration}
 use Rattle.np_record.specs.declared.record.RequestRecord.{RequestRecord}
 use Rattle.np_event.specs.declared.event.Event.{Event}
 use Rattle.np_event.specs.declared.event.Event.TheVariants as ev

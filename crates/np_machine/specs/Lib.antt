@@ -23,3 +23,4 @@ pub mod Caused
 pub mod Kept
 pub mod Fenced
 pub mod Laws
+pub mod Prelude

@@ -13,8 +13,8 @@ use Rattle.np_text.specs.declared.word.EndAs.{EndAs}
 use Rattle.np_text.specs.declared.word.EndAs.TheVariants as end
 use Rattle.np_text.specs.declared.word.NodeState.{NodeState}
 use Rattle.np_text.specs.declared.word.NodeState.TheVariants as node_state
-use Rattle.np_site.specs.Configuration.{Configuration}
-use Rattle.np_site.specs.declared.row.Job.{Job}
+use Rattle.np_config.specs.Configuration.{Configuration}
+use Rattle.np_config.specs.declared.row.Job.{Job}
 use Rattle.np_record.specs.declared.record.RequestRecord.{RequestRecord}
 use Rattle.np_record.specs.declared.record.NodeRecord.{NodeRecord}
 use Rattle.np_record.specs.declared.record.JobRecord.{JobRecord}

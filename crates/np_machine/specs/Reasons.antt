@@ -8,7 +8,7 @@ use Rattle.np_text.specs.declared.id.LabelId.{LabelId}
 use Rattle.np_text.specs.declared.id.NodeId.{NodeId}
 use Rattle.np_text.specs.declared.word.Reason.{Reason}
 use Rattle.np_text.specs.declared.word.Reason.TheVariants.{NoLabel, NeverFits, TenantNeverFits, Spent}
-use Rattle.np_site.specs.Configuration.{Configuration}
+use Rattle.np_config.specs.Configuration.{Configuration}
 use Rattle.np_record.specs.declared.record.RequestRecord.{RequestRecord}
 use Rattle.np_record.specs.declared.record.NodeRecord.{NodeRecord}
 use Rattle.np_machine.specs.Entries.{RequestEntry, NodeEntry}

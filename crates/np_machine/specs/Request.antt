@@ -15,8 +15,8 @@ use Rattle.np_text.specs.declared.word.Reason.TheVariants as reason
 use Rattle.np_text.specs.declared.word.RequestState.{RequestState}
 use Rattle.np_text.specs.declared.word.RequestState.TheVariants as request_state
 use Rattle.np_text.specs.declared.word.Phase.TheVariants as phase
-use Rattle.np_site.specs.Configuration.{Configuration}
-use Rattle.np_site.specs.declared.row.Job.{Job}
+use Rattle.np_config.specs.Configuration.{Configuration}
+use Rattle.np_config.specs.declared.row.Job.{Job}
 use Rattle.np_record.specs.declared.record.RequestRecord.{RequestRecord}
 use Rattle.np_record.specs.declared.record.JobRecord.{JobRecord}
 use Rattle.np_record.specs.declared.record.Declined.{Declined}

@@ -3,7 +3,7 @@ use Rattle.std.specs.Prelude.{◌+◌, [], ◌∷◌, ◌++◌, Bool, true, fals
 use Rattle.np_text.specs.declared.id.SessionId.{SessionId}
 use Rattle.np_text.specs.declared.id.Role.{Role}
 use Rattle.np_text.specs.declared.id.Role.TheVariants.{Launcher, Janitor, Requester, Reaper}
-use Rattle.np_site.specs.Configuration.{Configuration}
+use Rattle.np_config.specs.Configuration.{Configuration}
 use Rattle.np_record.specs.declared.record.RoleRecord.{RoleRecord}
 use Rattle.np_event.specs.declared.reply.Done.TheVariants as done
 use Rattle.np_event.specs.declared.reply.Refusal.TheVariants as no

@@ -1,6 +1,6 @@
 -- the state of the machine: numbers and flat lists
 use Rattle.std.specs.Prelude.{ℕ, List, [], map, None}
-use Rattle.np_site.specs.Configuration.{Configuration}
+use Rattle.np_config.specs.Configuration.{Configuration}
 use Rattle.np_text.specs.declared.id.JobId.{JobId}
 use Rattle.np_text.specs.declared.word.Phase.TheVariants as phase
 use Rattle.np_record.specs.declared.record.JobRecord.{JobRecord}

@@ -6,7 +6,7 @@ use Rattle.np_amount.specs.declared.amount.Limit.{Limit}
 use Rattle.np_amount.specs.Amounts.{no_limit, nothing, plus, fits, total}
 use Rattle.np_text.specs.declared.id.PoolId.{PoolId}
 use Rattle.np_text.specs.declared.id.TenantId.{TenantId}
-use Rattle.np_site.specs.Configuration.{Configuration, tenant_of}
+use Rattle.np_config.specs.Configuration.{Configuration, tenant_of}
 use Rattle.np_record.specs.declared.record.RequestRecord.{RequestRecord}
 use Rattle.np_machine.specs.Entries.{RequestEntry, NodeEntry}
 use Rattle.np_machine.specs.Kinds.{is_pending}

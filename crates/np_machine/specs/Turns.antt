@@ -1,6 +1,6 @@
 -- a journal as its turns: each entry with the states before and after it
 use Rattle.std.specs.Prelude.{◌≡◌, Bool, true, false, List, [], ◌∷◌, ◌⊎◌}
-use Rattle.np_site.specs.Configuration.{Configuration}
+use Rattle.np_config.specs.Configuration.{Configuration}
 use Rattle.np_event.specs.declared.entry.Entry.{Entry}
 use Rattle.np_event.specs.declared.reply.Reply.{Reply}
 use Rattle.np_event.specs.declared.reply.Reply.TheVariants as reply

@@ -6,7 +6,7 @@ ghost use Rattle.np_text.specs.declared.id.SessionId.{SessionId};
 ghost use Rattle.np_text.specs.declared.id.NodeId.{NodeId};
 ghost use Rattle.np_text.specs.declared.id.RequestId.{RequestId};
 ghost use Rattle.np_text.specs.declared.id.Role.{Role};
-ghost use Rattle.np_site.specs.Configuration.{Configuration};
+ghost use Rattle.np_config.specs.Configuration.{Configuration};
 ghost use Rattle.np_event.specs.declared.event.Event.{Event};
 ghost use Rattle.np_event.specs.declared.reply.Refusal.{Refusal};
 ghost use Rattle.np_event.specs.declared.reply.Reply.TheVariants as reply;

@@ -1,12 +1,8 @@
 -- names of two parts
-use Rattle.std.proofs.Common.{◌≡◌, ℕ, ◌<◌, List, [], ◌∷◌, ◌++◌, length, Ordering, Less, Equal, Greater, refl, ap, ◌∙◌, arith}
+use Rattle.std.proofs.Common.{◌≡◌, ℕ, ◌<◌, List, [], ◌∷◌, ◌++◌, length, refl, ap, ◌∙◌, arith}
 use Rattle.std.specs.Ordering.{nat_cmp, ordering_then}
 use Rattle.std.specs.Cmp.Lexicographic.{slice_cmp}
-
-then-assoc : (o p q : Ordering) → ordering_then o (ordering_then p q) ≡ ordering_then (ordering_then o p) q
-then-assoc Less p q = refl
-then-assoc Equal p q = refl
-then-assoc Greater p q = refl
+use Rattle.np_text.proofs.OrderLemmas.{then-assoc}
 
 -- a shorter name ends before the second part is read
 pub slice_cmp-shorter : (xs ys zs : List ℕ) → length xs < length ys → slice_cmp nat_cmp xs (ys ++ zs) ≡ slice_cmp nat_cmp xs ys

@@ -14,7 +14,8 @@ use Rattle.np_nodes.specs.After.{after_loss, nodes_after_end, without_child}
 use Rattle.np_nodes.specs.Order.{IsSorted}
 use Rattle.np_nodes.specs.declared.node.Node.{Node}
 use Rattle.np_nodes.proofs.PathsLemmas.{KeepsOwner, KeepsPath}
-use Rattle.np_nodes.proofs.PlaceLemmas.{bytes_eq-from, bytes_eq-is, bytes_eq-not, later-others}
+use Rattle.np_nodes.proofs.PlaceLemmas.{bytes_eq-from, bytes_eq-is, later-others}
+use Rattle.np_lists.proofs.Plain.{bytes_eq-apart}
 
 -- ## a change at a path, of each node
 
@@ -77,7 +78,7 @@ module _ (z session : ℕ) (above : List ℕ) (k : ℕ) (nodes : List Node) (m :
   -- another path loses what it lost
   loses-other : (path : List ℕ) → (path ≡ above → ⊥) → loses session path (one_less z above k nodes) ≡ loses session path nodes
   loses-other path other =
-      let fails : is_child path m ≡ false = ap (is_parent path) is.parent ∙ bytes_eq-not above path (λ same. other (sym same)) in
+      let fails : is_child path m ≡ false = ap (is_parent path) is.parent ∙ bytes_eq-apart above path (λ same. other (sym same)) in
       ap (λ (ms : List Node). loses session path (remove ms k)) (change_node-where above (without_child z) nodes sorted)
       ∙ list_any-remove (λ n. is_owned session n && is_child path n) (map (changed_where above (without_child z)) nodes) k (changed_where above (without_child z) m) moved
       (and_right (is_owned session (changed_where above (without_child z) m)) (is_child path (changed_where above (without_child z) m)) (same-child path m ∙ fails))

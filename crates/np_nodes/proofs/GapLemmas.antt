@@ -1,5 +1,5 @@
 -- a path that is free, by its two halves
-use Rattle.std.proofs.Common.{◌≡◌, ℕ, Bool, true, false, ◌&&◌, List, Some, None, refl, sym, ap, ◌∙◌}
+use Rattle.std.proofs.Common.{◌≡◌, ℕ, true, false, ◌&&◌, List, Some, None, refl, sym, ap, ◌∙◌}
 use Rattle.std.specs.Prelude.{slice_get, is_some}
 use Rattle.std.specs.List.{prefix_len}
 use Rattle.std.specs.Str.{bytes_eq}
@@ -11,7 +11,9 @@ use Rattle.np_nodes.specs.Nodes.{before_of, at_path}
 use Rattle.np_nodes.specs.Order.{AllPaths, IsSorted, place_of}
 use Rattle.np_nodes.specs.declared.node.Node.{Node}
 use Rattle.np_nodes.proofs.OrderLemmas.{has_slash, same_halves}
-use Rattle.np_nodes.proofs.PlaceLemmas.{bytes_eq-from, bytes_eq-is, bytes_eq-not, at_path-other, at_path-past, at_path-there}
+use Rattle.np_nodes.proofs.PlaceLemmas.{bytes_eq-from, bytes_eq-is, at_path-other, at_path-past, at_path-there}
+use Rattle.std.proofs.lemmas.Bool.{and_parts, and_from}
+use Rattle.np_lists.proofs.Plain.{bytes_eq-apart}
 
 -- the place of two halves
 pub record IsGapAt (path before name : List ℕ) (nodes : List Node) (k : ℕ) : Type 0 where
@@ -26,13 +28,6 @@ place path before name nodes k gap =
     ∙ ap (λ (first : List ℕ). prefix_len (λ n. stands_before first name n.path) nodes) (sym gap.half)
     ∙ ap (λ (last : List ℕ). prefix_len (λ n. stands_before (before_of path) last n.path) nodes) (sym gap.last)
 
-both-one : (p q : Bool) → (p && q) ≡ true → (p ≡ true) × (q ≡ true)
-both-one true q is = (refl, is)
-both-one false q is = absurd cc
-
-both-of : (p q : Bool) → p ≡ true → q ≡ true → (p && q) ≡ true
-both-of p q this that = rw (this, that) refl
-
 -- past the last node
 pub FindsGap-past : (path before name : List ℕ) (nodes : List Node) (k : ℕ) → IsGapAt path before name nodes k → IsSorted nodes → slice_get nodes k ≡ None → FindsGap nodes path (Some k)
 FindsGap-past path before name nodes k gap sorted past =
@@ -44,8 +39,8 @@ pub FindsGap-other : (path before name : List ℕ) (nodes : List Node) (k : ℕ)
     false ≡ (bytes_eq (before_of n.path) before && bytes_eq (name_of n.path) name) → FindsGap nodes path (Some k)
 FindsGap-other path before name nodes k n gap sorted there differ =
     let at = place path before name nodes k gap in
-    let other = bytes_eq-not n.path path (λ same.
-    let halves = both-of _ _ (bytes_eq-from (before_of n.path) before (ap before_of same ∙ gap.half)) (bytes_eq-from (name_of n.path) name (ap name_of same ∙ gap.last)) in
+    let other = bytes_eq-apart n.path path (λ same.
+    let halves = and_from _ _ (bytes_eq-from (before_of n.path) before (ap before_of same ∙ gap.half)) (bytes_eq-from (name_of n.path) name (ap name_of same ∙ gap.last)) in
     cc) in
     (at_path-other path nodes n sorted (rw at at there) other, at)
 
@@ -56,7 +51,7 @@ some-node nodes path n found = rw found refl
 pub FindsGap-none : (path before name : List ℕ) (nodes : List Node) (k : ℕ) (n : Node) → IsGapAt path before name nodes k → IsSorted nodes → AllPaths nodes → slice_get nodes k ≡ Some n →
     true ≡ (bytes_eq (before_of n.path) before && bytes_eq (name_of n.path) name) → FindsGap nodes path None
 FindsGap-none path before name nodes k n gap sorted paths there agree =
-    let halves = both-one _ _ (sym agree) in
+    let halves = and_parts _ _ (sym agree) in
     let is_n = all-at (λ m. is_path m.path ≡ true) nodes k n paths there in
     let same = same_halves n.path path (has_slash n.path is_n) (has_slash path gap.is)
     (bytes_eq-is (before_of n.path) before halves.0 ∙ sym gap.half) (bytes_eq-is (name_of n.path) name halves.1 ∙ sym gap.last) in

@@ -1,5 +1,5 @@
 -- the two halves of the path that is made
-use Rattle.std.proofs.Common.{◌≡◌, ℕ, ◌-◌, Bool, true, false, cond, ◌&&◌, ◌==◌, List, [], ◌∷◌, ◌++◌, length, take, Some, refl, ap, ◌∙◌, arith}
+use Rattle.std.proofs.Common.{◌≡◌, ℕ, ◌-◌, Bool, true, false, cond, ◌==◌, List, [], ◌∷◌, ◌++◌, length, take, Some, refl, ap, ◌∙◌, arith}
 use Rattle.std.specs.List.{list_all}
 use Rattle.std.proofs.lemmas.List.{append-nil, length-append}
 use Rattle.np_text.specs.Number.{ten_digits_of}
@@ -14,11 +14,7 @@ use Rattle.np_nodes.specs.Answer.{made_path}
 use Rattle.np_nodes.specs.Tests.{is_sequential}
 use Rattle.np_nodes.specs.declared.node.Node.{Node}
 use Rattle.np_nodes.specs.declared.kind.Mode.{Mode}
-
--- whether two texts of different lengths are equal
-longer : (b : Bool) → (b && false) ≡ false
-longer true = refl
-longer false = refl
+use Rattle.np_lists.proofs.Plain.{and_false}
 
 front : (xs : List ℕ) (y : ℕ) (zs : List ℕ) → take (length xs) ((xs ++ y ∷ []) ++ zs) ≡ xs
 front [] y zs = refl
@@ -30,7 +26,7 @@ before-below (b ∷ []) name is = rw (is_slash-is b is) refl
 before-below (b ∷ c ∷ bs) name is =
     let text = b ∷ c ∷ bs in
     let long : length (text ++ 47 ∷ []) - 1 ≡ length text = omega (arith, length-append text (47 ∷ [])) in
-    rw (long, longer (b == 47)) (front text 47 name)
+    rw (long, and_false (b == 47)) (front text 47 name)
 
 pub before_of-below : (path name : List ℕ) → is_path path ≡ true → is_element name ≡ true → before_of (below path name) ≡ half_of path
 before_of-below path name is element =

@@ -27,6 +27,7 @@ use Rattle.np_nodes.specs.declared.mark.Mark.{Mark}
 use Rattle.np_nodes.proofs.OrderLemmas.{lt-itself, lt-neither, lt-one_way, lt-trans, then-Equal}
 use Rattle.np_nodes.proofs.PathsLemmas.{KeepsOwner, KeepsPath}
 use Rattle.np_nodes.proofs.PlaceLemmas.{at_path-gone, at_path-there, bytes_eq-from, bytes_eq-is}
+use Rattle.np_lists.proofs.Plain.{above-apart, and-apart}
 
 -- ## the order of marks
 
@@ -203,10 +204,6 @@ pub record AreTaken (marks : List Mark) (j : ℕ) (mark : Mark) (nodes : List No
   pub owned : n.facts.owner ≡ Some mark.session
   pub path : mark.path ≡ n.path
 
-and-first : (s b : Bool) → (s && b) ≡ false → b ≡ true → s ≡ false
-and-first true b none is = sym is ∙ none
-and-first false b none is = refl
-
 taken-by : (marks : List Mark) (j : ℕ) (mark : Mark) (nodes : List Node) (k : ℕ) (n : Node) (session : ℕ) (q : List ℕ) (c : Bool) → is_mark session q mark ≡ c → AreTaken marks j mark nodes k n → MarkEphemerals marks nodes →
     list_any (is_mark session q) (remove marks j) ≡ is_ephemeral_of session (at_path (remove nodes k) q)
 taken-by marks j mark nodes k n session q true is taken all =
@@ -220,7 +217,7 @@ taken-by marks j mark nodes k n session q false is taken all =
     list_any-remove (is_mark session q) marks j mark taken.mark_there is
     ∙ all session q
     ∙ sym (lost-by n nodes k session q (is_at q n) refl taken.sorted taken.node_there
-    (λ here. ap (is_owner session) taken.owned ∙ and-first (mark.session == session) (bytes_eq mark.path q) is (ap (λ (r : List ℕ). bytes_eq r q) taken.path ∙ here)))
+    (λ here. ap (is_owner session) taken.owned ∙ and-apart (mark.session == session) (bytes_eq mark.path q) is (ap (λ (r : List ℕ). bytes_eq r q) taken.path ∙ here)))
 
 pub MarkEphemerals-remove : (marks : List Mark) (j : ℕ) (mark : Mark) (nodes : List Node) (k : ℕ) (n : Node) → AreTaken marks j mark nodes k n → MarkEphemerals marks nodes → MarkEphemerals (remove marks j) (remove nodes k)
 MarkEphemerals-remove marks j mark nodes k n taken all session q = taken-by marks j mark nodes k n session q (is_mark session q mark) refl taken all
@@ -259,13 +256,10 @@ session-above a session o is other = grind (arith, nat_tests)
 session-upto : (a b : ℕ) (o : Ordering) → is_lt (ordering_then (nat_cmp a b) o) ≡ true → a ≤ b
 session-upto a b o is = grind (arith, nat_tests)
 
-above-not : (a session : ℕ) → session < a → (a == session) ≡ false
-above-not a session above = grind (arith, nat_tests)
-
 later-marks : (session : ℕ) (m : Mark) (marks : List Mark) → session < m.session → AllByRecursion (λ n. ranks_before m n ≡ true) marks → NoMarks session marks
 later-marks session m marks above all =
     all-weaker (λ n. ranks_before m n ≡ true) (λ n. (n.session == session) ≡ false)
-    (λ n order. let upto = session-upto m.session n.session (slice_cmp nat_cmp m.path n.path) order in above-not n.session session (omega arith)) marks all
+    (λ n order. let upto = session-upto m.session n.session (slice_cmp nat_cmp m.path n.path) order in above-apart n.session session (omega arith)) marks all
 
 no_marks-by : (session : ℕ) (m : Mark) (marks : List Mark) (b : Bool) → mark_before session [] m ≡ b → AreRanked (m ∷ marks) →
     ((x : Mark) → slice_get (m ∷ marks) (cond b (1 + mark_place session [] marks) 0) ≡ Some x → (x.session == session) ≡ false) →

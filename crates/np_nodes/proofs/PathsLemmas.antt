@@ -12,7 +12,8 @@ use Rattle.np_path.specs.Parts.{parent_of}
 use Rattle.np_nodes.specs.Nodes.{change_node, children_of, path_before, is_at, is_parent, at_path}
 use Rattle.np_nodes.specs.Order.{AllPaths, IsSorted, place_of}
 use Rattle.np_nodes.specs.declared.node.Node.{Node}
-use Rattle.np_nodes.proofs.PlaceLemmas.{bytes_eq-is, bytes_eq-not}
+use Rattle.np_nodes.proofs.PlaceLemmas.{bytes_eq-is}
+use Rattle.np_lists.proofs.Plain.{bytes_eq-apart}
 
 -- the paths of nodes
 abbrev pub paths_of : List Node → List (List ℕ)
@@ -115,8 +116,8 @@ at_path-change_here p f keeps nodes n found = find-change_first (is_at p) f (λ 
 change-other-by : (p q : List ℕ) (f : Node → Node) → KeepsPath f → (p ≡ q → ⊥) → (m : Node) (nodes : List Node) (b : Bool) → is_at p m ≡ b → at_path (change_node p f nodes) q ≡ at_path nodes q → at_path (change_node p f (m ∷ nodes)) q ≡ at_path (m ∷ nodes) q
 change-other-by p q f keeps other m nodes true is later =
     let at : m.path ≡ p = bytes_eq-is m.path p is in
-    let not_before : is_at q m ≡ false = bytes_eq-not m.path q (λ e. other (sym at ∙ e)) in
-    let not_after : is_at q (f m) ≡ false = bytes_eq-not (f m).path q (λ e. other (sym at ∙ sym (keeps m) ∙ e)) in
+    let not_before : is_at q m ≡ false = bytes_eq-apart m.path q (λ e. other (sym at ∙ e)) in
+    let not_after : is_at q (f m) ≡ false = bytes_eq-apart (f m).path q (λ e. other (sym at ∙ sym (keeps m) ∙ e)) in
     rw (is, not_after, not_before) refl
 change-other-by p q f keeps other m nodes false is later = rw is (ap (λ (o : Option Node). cond (is_at q m) (Some m) o) later)
 

@@ -6,7 +6,6 @@ use Rattle.std.specs.List.Sorted.{IsPartitionPoint}
 use Rattle.std.specs.Ordering.{nat_cmp, is_lt, is_le, ordering_then}
 use Rattle.std.specs.Cmp.Lexicographic.{slice_cmp}
 use Rattle.std.specs.Str.{bytes_eq}
-use Rattle.std.proofs.lemmas.Bool.{false_from_ne_true}
 use Rattle.std.proofs.lemmas.List.Sums.{prefix_len-le-length}
 use Rattle.std.proofs.lemmas.Option.{slice_get-get_or}
 use Rattle.std.proofs.lemmas.Slice.Eq.{bytes_eq-Decides}
@@ -24,6 +23,7 @@ use Rattle.np_nodes.specs.Nodes.{before_of, change_node, insert_node, path_befor
 use Rattle.np_nodes.specs.Order.{AllPaths, IsSorted, node_before, place_of}
 use Rattle.np_nodes.specs.declared.node.Node.{Node}
 use Rattle.np_nodes.proofs.OrderLemmas.{path_before-first_le, path_before-halves, path_before-halves_le, halves_cmp, halves_of, has_slash, path_before-itself, path_before-trans, path_before-one_way, path_before-some_way}
+use Rattle.np_lists.proofs.Plain.{bytes_eq-apart}
 
 -- ## whether two paths are equal
 
@@ -32,9 +32,6 @@ bytes_eq-is p q is = (bytes_eq-Decides p q).0 is
 
 pub bytes_eq-from : (p q : List ℕ) → p ≡ q → bytes_eq p q ≡ true
 bytes_eq-from p q same = (bytes_eq-Decides p q).1 same
-
-pub bytes_eq-not : (p q : List ℕ) → (p ≡ q → ⊥) → bytes_eq p q ≡ false
-bytes_eq-not p q other = false_from_ne_true (bytes_eq p q) (λ is. other (bytes_eq-is p q is))
 
 -- ## the probe that a path is found by
 
@@ -45,13 +42,13 @@ less-down : (p : List ℕ) (m n : Node) → node_before m n ≡ true → less_th
 less-down p m n order less = path_before-trans m.path n.path p order less
 
 less-apart : (p : List ℕ) (n : Node) → less_than p n ≡ true → is_at p n ≡ false
-less-apart p n less = bytes_eq-not n.path p (λ same.
+less-apart p n less = bytes_eq-apart n.path p (λ same.
     let this : path_before p p ≡ true = subst (λ (q : List ℕ). path_before q p ≡ true) same less in
     let that = path_before-itself p in
     absurd cc)
 
 less-beyond : (p : List ℕ) (m n : Node) → node_before m n ≡ true → less_than p m ≡ false → is_at p n ≡ false
-less-beyond p m n order not_less = bytes_eq-not n.path p (λ same.
+less-beyond p m n order not_less = bytes_eq-apart n.path p (λ same.
     let this : path_before m.path p ≡ true = subst (λ (q : List ℕ). path_before m.path q ≡ true) same order in
     absurd cc)
 
@@ -92,7 +89,7 @@ at_path-there p nodes k n sorted is here = find-first (is_at p) nodes k (first-t
 
 -- a text with no slash is no node's path
 no-slash-at : (p : List ℕ) (n : Node) → list_any is_slash p ≡ false → is_path n.path ≡ true → is_at p n ≡ false
-no-slash-at p n without is = bytes_eq-not n.path p (λ same. let has = ap (list_any is_slash) (sym same) ∙ has_slash n.path is in absurd cc)
+no-slash-at p n without is = bytes_eq-apart n.path p (λ same. let has = ap (list_any is_slash) (sym same) ∙ has_slash n.path is in absurd cc)
 
 pub at_path-no_slash : (p : List ℕ) (nodes : List Node) → list_any is_slash p ≡ false → AllPaths nodes → at_path nodes p ≡ None
 at_path-no_slash p nodes without paths =

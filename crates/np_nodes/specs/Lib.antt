@@ -15,3 +15,4 @@ pub mod Finds
 pub mod Names
 pub mod Plans
 pub mod Kept
+pub mod Prelude

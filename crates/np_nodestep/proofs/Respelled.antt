@@ -1,24 +1,13 @@
 -- a tree in which a node's record stands in another spelling stores the same state
 use Rattle.std.proofs.Common.{◌≡◌, ℕ, ◌+◌, ◌-◌, ◌*◌, ◌<◌, Bool, true, false, cond, List, [], ◌∷◌, refl, sym, ap, subst, arith}
-use Rattle.np_text.specs.declared.id.NodeId.{NodeId}
-use Rattle.np_lists.specs.Change.{change_first}
-use Rattle.np_nodes.specs.TreeState.{TreeState}
-use Rattle.np_nodes.specs.After.{after_part, next_change, with_next_number}
-use Rattle.np_tree.specs.Whole.{IsWhole}
-use Rattle.np_views.specs.Several.{HasRoomFor}
-use Rattle.np_site.specs.Configuration.{Configuration}
-use Rattle.np_machine.specs.Entries.{NodeEntry}
-use Rattle.np_machine.specs.State.{State}
-use Rattle.np_places.specs.declared.place.Place.TheVariants.{Node}
-use Rattle.np_layout.specs.Layout.{LaysOut}
-use Rattle.np_layout.specs.Sets.{set}
+use Rattle.np_changes.specs.Prelude.{Configuration, NodeEntry, NodeId, State, change_first}
+use Rattle.np_layout.specs.Prelude.{HasRoomFor, IsStored, IsWhole, LaysOut, TreeState, after_part, decoded, next_change, set, with_next_number}
+use Rattle.np_layout.specs.declared.place.Place.TheVariants.{Node}
 use Rattle.np_layout.proofs.DeleteNodeWaits.{is_node_it}
 use Rattle.np_layout.proofs.SetNodes.{nodes-lay-out}
-use Rattle.np_layout.specs.Carried.{IsStored}
 use Rattle.np_enact.specs.Stands.{Stands}
 use Rattle.np_enact.proofs.Calls.{stands-numbered}
 use Rattle.np_enact.proofs.StandsLemmas.{room-after, room-less}
-use Rattle.np_layout.specs.Decoded.{decoded}
 use Rattle.np_layout.proofs.OneState.{trees-have-one_state}
 use Rattle.np_keeper.specs.Keeper.{IsHeld, most_changes, room_left}
 use Rattle.np_nodestep.specs.Spelling.{IsSpelling, respelled}

@@ -1,15 +1,9 @@
 -- spellings of a node's record in a tree
 use Rattle.std.specs.Prelude.{◌≡◌, ℕ, List, Some}
-use Rattle.np_text.specs.declared.id.NodeId.{NodeId}
-use Rattle.np_nodes.specs.After.{after_set, with_next_number}
-use Rattle.np_nodes.specs.TreeState.{TreeState}
-use Rattle.np_site.specs.Configuration.{Configuration}
-use Rattle.np_record.specs.declared.record.NodeRecord.{NodeRecord}
+use Rattle.np_changes.specs.Prelude.{Configuration, NodeId, NodeRecord, node_in}
+use Rattle.np_layout.specs.Prelude.{TreeState, after_set, decoded, path_of, with_next_number}
 use Rattle.np_spelling.specs.Spelling.{SpellsNode}
-use Rattle.np_machine.specs.Tables.{node_in}
-use Rattle.np_places.specs.Place.{path_of}
-use Rattle.np_places.specs.declared.place.Place.TheVariants.{Node}
-use Rattle.np_layout.specs.Decoded.{decoded}
+use Rattle.np_layout.specs.declared.place.Place.TheVariants.{Node}
 
 -- the bytes are a spelling of the record that the node has
 pub record IsSpelling (c : Configuration) (t : TreeState) (n : NodeId) (bytes : List ℕ) : Type 0 where

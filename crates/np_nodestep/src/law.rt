@@ -1,11 +1,8 @@
 //! A node's record may be spelled in two ways.
 
 ghost use Rattle.std.specs.Prelude.{◌≡◌, ◌<◌, ℕ, List};
-ghost use Rattle.np_text.specs.declared.id.NodeId.{NodeId};
-ghost use Rattle.np_nodes.specs.TreeState.{TreeState};
-ghost use Rattle.np_tree.specs.Whole.{IsWhole};
-ghost use Rattle.np_site.specs.Configuration.{Configuration};
-ghost use Rattle.np_layout.specs.Decoded.{decoded};
+ghost use Rattle.np_changes.specs.Prelude.{Configuration, NodeId};
+ghost use Rattle.np_layout.specs.Prelude.{IsWhole, TreeState, decoded};
 ghost use Rattle.np_keeper.specs.Keeper.{IsHeld};
 ghost use Rattle.np_nodestep.specs.Spelling.{IsSpelling, respelled};
 

@@ -1,13 +1,9 @@
 //! Events of nodes: the answer, and the changes.
 
 ghost use Rattle.std.specs.Prelude.{◌≡◌, ◌<◌, true, is_ok, OnOk, OnErr};
-ghost use Rattle.np_nodes.specs.Calls.{with_spare};
-ghost use Rattle.np_machine.specs.State.{State};
-ghost use Rattle.np_machine.specs.Step.{judge, next, reply_of};
-ghost use Rattle.np_changes.specs.Planned.{IsReached};
-ghost use Rattle.np_fits.specs.Fits.{Fits};
-ghost use Rattle.np_tree_look.specs.Carried.{IsStored};
-ghost use Rattle.np_layout.specs.Decoded.{decoded};
+ghost use Rattle.np_layout.specs.Prelude.{decoded, with_spare};
+ghost use Rattle.np_changes.specs.Prelude.{Fits, IsReached, State, judge, next, reply_of};
+ghost use Rattle.np_keeper.specs.Carried.{IsStored};
 ghost use Rattle.np_keeper.specs.Keeper.{IsHeld};
 ghost use Rattle.np_nodestep.specs.Nodes.{is_node_event};
 
@@ -27,7 +23,7 @@ pub fn judge_node(tree: &Tree, config: &Config, event: Event) -> Reply
     ensures laid { (s : State) → IsStored config.now s tree.now →
         result ≡ reply_of (judge config.now s event) }
 {
-    np_tree_look::judge(tree, config, event)
+    np_keeper::judge(tree, config, event)
 }
 
 /// Decides an accepted event of nodes, and makes its changes: one call of the tree, in which
@@ -54,5 +50,5 @@ pub fn enact_node(
     ensures laid { (s : State) → IsStored config.now s tree.old →
         OnOk result (IsStored config.now (next config.now s event) tree.new) }
 {
-    np_tree_look::enact(alloc, tree, config, event)
+    np_keeper::enact(alloc, tree, config, event)
 }

@@ -2,11 +2,9 @@
 use Rattle.std.proofs.Common.{◌≡◌, ◌∙◌, ◌⊎◌, inl, inr, ℕ, suc, ◌<◌, ◌≤◌, Bool, true, false, cond, List, [], ◌∷◌, length, Option, Some, None, not, map, refl, sym, ap, subst, arith}
 use Rattle.std.specs.Prelude.{◌==◌, ◌&&◌, find, is_none, nat_lt, if◌then◌else◌, option_and_then, slice_get}
 use Rattle.std.specs.Bool.{Decides}
-use Rattle.std.specs.List.{AllByRecursion}
-use Rattle.std.specs.Option.{option_map, option_map_or}
+use Rattle.np_changes.specs.Prelude.{AllByRecursion, Configuration, Job, JobId, LabelId, PoolId, RequestRecord, Rises, State, TenantId, first_unoffered, never_fits, option_map, option_map_or}
 use Rattle.std.proofs.lemmas.Bool.Decides.{nat_tests}
 use Rattle.std.proofs.lemmas.Slice.Eq.{slice_eq-Decides}
-use Rattle.np_keys.specs.Prelude.{Configuration, Job, JobId, LabelId, PoolId, RequestRecord, Rises, State, TenantId}
 use Rattle.np_text.specs.declared.word.RequestState.TheVariants.{Requested}
 use Rattle.np_lists.proofs.Each.{all-weaker}
 use Rattle.np_lists.proofs.FilterLemmas.{filter-nothing}
@@ -16,13 +14,13 @@ use Rattle.np_groups.specs.Groups.{group_from, is_group_before, is_member_before
 use Rattle.np_groups.proofs.Ids.{step}
 use Rattle.np_groups.proofs.Order.{group-equal, group-itself, group-transitive}
 use Rattle.np_machine.specs.First.{blocking, short_tenant}
-use Rattle.np_machine.specs.Reasons.{first_unoffered, never_fits}
 use Rattle.np_machine.specs.Tenants.{is_tenant, limit_of_tenant, passes_tenant, tenant_of_request}
 use Rattle.np_look.specs.Readers.{has_limit}
 use Rattle.np_open.specs.declared.ranks.Rank.{Rank}
 use Rattle.np_open.specs.Lines.{is_like, is_of_line, line_of, same_labels}
 use Rattle.np_open.specs.Open.{AreOpen, IsLineFrom, OpenOf, first_line, line_after, line_if, open_group, ranks_of}
 use Rattle.np_open.specs.Ranks.{is_rank_before}
+use Rattle.np_lists.proofs.Plain.{same_number, equal-numbers, none-is, find-alike}
 
 -- ## the requests of a line
 
@@ -49,10 +47,6 @@ blocks_as c s p pinned labels tenant =
 blocking-as : (c : Configuration) (s : State) (p : PoolId) (k : RequestRecord) → blocking c s p k ≡ blocks_as c s p k.pinned k.labels (tenant_of_request c k)
 blocking-as c s p k = refl
 
-none-is : {X : Type 0} (o : Option X) → is_none o ≡ true → o ≡ None
-none-is None is = refl
-none-is (Some x) is = absurd cc
-
 abbrev tenant_by : ℕ → TenantId
 tenant_by n = record { 0 = n }
 
@@ -62,22 +56,16 @@ label_by n = record { 0 = n }
 abbrev job_by : ℕ → JobId
 job_by n = record { 0 = n }
 
-number-is : (a b : ℕ) → (a == b) ≡ true → a ≡ b
-number-is a b is = grind (arith, nat_tests)
-
-number-same : (a b : ℕ) → a ≡ b → (a == b) ≡ true
-number-same a b is = grind (arith, nat_tests)
-
 no-false : (b : Bool) → (b && false) ≡ true → ⊥
 no-false true is = absurd cc
 no-false false is = absurd cc
 
 tenant-is : (t : TenantId) (o : Option TenantId) → is_tenant t o ≡ true → o ≡ Some t
 tenant-is t None is = absurd cc
-tenant-is t (Some other) is = ap (λ (n : ℕ). Some (tenant_by n)) (number-is other.0 t.0 is)
+tenant-is t (Some other) is = ap (λ (n : ℕ). Some (tenant_by n)) (equal-numbers other.0 t.0 is)
 
 label-decides : (a b : LabelId) → Decides (a.0 == b.0) (a ≡ b)
-label-decides a b = (λ is. ap label_by (number-is a.0 b.0 is), λ is. number-same a.0 b.0 (ap (λ (l : LabelId). l.0) is))
+label-decides a b = (λ is. ap label_by (equal-numbers a.0 b.0 is), λ is. same_number a.0 b.0 (ap (λ (l : LabelId). l.0) is))
 
 -- what the records of a line have in common
 record IsAs (c : Configuration) (job : Job) (k : RequestRecord) : Type 0 where
@@ -238,10 +226,6 @@ line-from line (x ∷ xs) rises = by (is_group_before x.group (open_group line))
       → IsLineFrom (x ∷ xs) line (line_if (option_map (λ m. m.group) (cond (not b) (Some x) (find (λ m. not (is_group_before m.group (open_group line))) xs))))
   by true first rest = skipped x xs rises.0 line first _ rest
   by false past rest = first-there x xs rises.0 line past
-
-find-alike : {X : Type 0} (p q : X → Bool) (xs : List X) → ((x : X) → p x ≡ q x) → find p xs ≡ find q xs
-find-alike p q [] alike = refl
-find-alike {X} p q (x ∷ xs) alike = ap (λ (b : Bool). cond b (Some x) (find p xs)) (alike x) ∙ ap (λ (o : Option X). cond (q x) (Some x) o) (find-alike p q xs alike)
 
 module _ (c : Configuration) (s : State) (kept : OpenOf) (are : AreOpen c s kept) where
   -- the first line is the least that has a rank

@@ -1,9 +1,8 @@
 -- the members of groups after a request is moved from those that one record has it in to another's
 use Rattle.std.proofs.Common.{◌≡◌, ◌∙◌, ◌⊎◌, inl, inr, ◌<◌, ◌≤◌, ◌+◌, ℕ, zero, suc, Bool, true, false, cond, not, List, [], ◌∷◌, length, Option, None, Some, refl, sym, ap, subst, arith}
 use Rattle.std.specs.Prelude.{◌==◌, ◌&&◌, ◌||◌, is_some, nat_lt}
-use Rattle.std.specs.Option.{option_map_or}
+use Rattle.np_changes.specs.Prelude.{Declined, PoolId, RequestId, RequestRecord, Rises, is_requested, option_map_or, same_request}
 use Rattle.std.proofs.lemmas.Bool.Decides.{nat_tests}
-use Rattle.np_keys.specs.Prelude.{Declined, PoolId, RequestId, RequestRecord, Rises, is_requested, same_request}
 use Rattle.np_groups.specs.declared.groups.Group.{Group}
 use Rattle.np_groups.specs.declared.groups.Member.{Member}
 use Rattle.np_groups.specs.Groups.{same_group, is_member_before, has_member, member}
@@ -14,12 +13,9 @@ use Rattle.np_open.specs.declared.ranks.Rank.{Rank}
 use Rattle.np_open.specs.Moves.{AreBy, IsEither, closed_member, is_found_closed, is_found_open, open_member, passes_with, rank_of, same_members, with_moved, with_one, without_one}
 use Rattle.np_open.specs.Open.{closed_group, is_closed_to, is_found_in, open_group, pool_of}
 use Rattle.np_open.specs.Ranks.{is_rank_before, rank_equal, rank_one_way, rank_some_way, rank_transitive, same_rank}
+use Rattle.np_lists.proofs.Plain.{is-below, and_false, suc-not_zero}
 
 -- ## truth values
-
-and_false : (a : Bool) → (a && false) ≡ false
-and_false true = refl
-and_false false = refl
 
 -- members by a test that says the same
 pub groups-by : (was now : Group → Rank → Bool) (ms : List (Member Rank)) → ((g : Group) (x : Rank) → was g x ≡ now g x) → AreBy was ms → AreBy now ms
@@ -218,7 +214,7 @@ module _ (pools : ℕ) (of : RequestRecord → ℕ) (r : RequestId) where
 
 -- ## the groups so far
 
--- a group of requested requests, or one of those that are closed to a pool below this number
+-- a group of requested requests, or one of those that are closed to a pool is-below this number
 abbrev pub is_done : ℕ → Group → Bool
 is_done n g = is_open g || (is_closed g && nat_lt g.first n)
 
@@ -228,9 +224,6 @@ passes_so_far pools of r now n passes g x = cond (same_request r x.request && is
 
 none_below : (n : ℕ) → nat_lt n 0 ≡ false
 none_below n = grind (arith, nat_tests)
-
-below : (m n : ℕ) → m < n → nat_lt m n ≡ true
-below m n less = grind (arith, nat_tests)
 
 -- a group of another pool
 other-done : (p : PoolId) (g : Group) → is_closed_of p g ≡ false → (is_closed g && nat_lt g.first (p.0 + 1)) ≡ (is_closed g && nat_lt g.first p.0)
@@ -263,9 +256,6 @@ none-open : (line : ℕ) (r : RequestId) (found : Option RequestRecord) → is_f
 none-open line r None out = refl
 none-open line r (Some k) out = rw out refl
 
-more-than_none : (n : ℕ) → (suc n == 0) ≡ false
-more-than_none n = grind (arith, nat_tests)
-
 none-closed : (line : ℕ) (p : PoolId) (r : RequestId) (found : Option RequestRecord) → is_found_closed found ≡ false → closed_member line p r found ≡ None
 none-closed line p r None out = refl
 none-closed line p r (Some k) out = by (is_requested k.state) k.pinned k.declined (Some (member (closed_group line p) (rank_of r k))) out where
@@ -273,7 +263,7 @@ none-closed line p r (Some k) out = by (is_requested k.state) k.pinned k.decline
       → cond (b && (is_declined_by p declined || is_elsewhere p pinned)) one None ≡ None
   by false pinned declined one out = refl
   by true None [] one out = refl
-  by true None (d ∷ declined) one out = absurd (let turned : true ≡ false = sym (ap (λ (b : Bool). not b) (more-than_none (length declined))) ∙ out in cc)
+  by true None (d ∷ declined) one out = absurd (let turned : true ≡ false = sym (ap (λ (b : Bool). not b) (suc-not_zero (length declined))) ∙ out in cc)
   by true (Some q) declined one out = absurd cc
 
 not_open-not_closed : (found : Option RequestRecord) → is_found_open found ≡ false → is_found_closed found ≡ false
@@ -321,7 +311,7 @@ module _ (pools : ℕ) (of : RequestRecord → ℕ) (r : RequestId) (was now : O
   closed-moved p within ms are =
       groups-by _ (passes_so_far pools of r now (p.0 + 1) passes) _ (λ g x. by g x (is_closed_of p g) (same_request r x.request) refl)
       (one-moved (is_closed_of p) r (closed_member line_was p r was) (closed_member line_now p r now) (λ g x. is_found_in pools of g x was) (λ g x. is_found_in pools of g x now)
-      (closed-is pools of r p (below p.0 pools within) was) (closed-is pools of r p (below p.0 pools within) now) (passes_so_far pools of r now p.0 passes)
+      (closed-is pools of r p (is-below p.0 pools within) was) (closed-is pools of r p (is-below p.0 pools within) now) (passes_so_far pools of r now p.0 passes)
       (λ g x here is. rw (is, not-done p g here) (either g x is)) ms are)
     where
       by : (g : Group) (x : Rank) (q e : Bool) → is_closed_of p g ≡ q

@@ -1,9 +1,8 @@
 -- the members of groups after a change, from those before it
-use Rattle.std.proofs.Common.{◌≡◌, ◌∙◌, inl, inr, ◌⊎◌, ◌+◌, ◌-◌, ◌*◌, ◌<◌, ℕ, Bool, true, false, cond, List, [], ◌∷◌, ◌++◌, Option, Some, length, get_or, take, map, refl, sym, ap, subst, arith}
+use Rattle.std.proofs.Common.{◌≡◌, ◌∙◌, inl, inr, ◌⊎◌, ◌+◌, ◌-◌, ◌*◌, ◌<◌, ℕ, Bool, true, false, cond, List, [], ◌∷◌, ◌++◌, Option, Some, length, take, map, refl, sym, ap, subst, arith}
 use Rattle.std.specs.Prelude.{◌||◌, slice_get}
-use Rattle.std.specs.List.{list_any}
-use Rattle.std.proofs.lemmas.Option.{slice_get-get_or}
-use Rattle.np_keys.specs.Prelude.{Changes, Configuration, IsReached, JobId, RequestId, RequestRecord, State, changed, request_in, same_request}
+use Rattle.np_changes.specs.Prelude.{Configuration, IsReached, JobId, RequestId, RequestRecord, State, changed, list_any, request_in, same_request}
+use Rattle.np_changes.specs.declared.changes.Changes.{Changes}
 use Rattle.np_groups.specs.declared.groups.Group.{Group}
 use Rattle.np_groups.specs.declared.groups.Member.{Member}
 use Rattle.np_lists.proofs.Each.{all-at, all-map, all-weaker}
@@ -20,6 +19,7 @@ use Rattle.np_open.specs.Moves.{AreAsKept, AreBy, IsEither, passes_moved, passes
 use Rattle.np_open.specs.Prepared.{AreListed, IsPrepared, is_listed, past_of}
 use Rattle.np_open.specs.Open.{AreOpen, OpenOf, is_found_in, rank_is_in}
 use Rattle.np_open.proofs.MoveLemmas.{groups-by}
+use Rattle.np_lists.proofs.Plain.{or_false, or_true, untouched}
 
 -- ## what is listed
 
@@ -44,14 +44,6 @@ kept-push (other ∷ moved) past r = ap (λ (b : Bool). same_request other.reque
   by : (b : Bool) → (b || (is_listed r moved || same_request past.request r)) ≡ ((b || is_listed r moved) || same_request past.request r)
   by true = refl
   by false = refl
-
-or_true : (a : Bool) → (a || true) ≡ true
-or_true true = refl
-or_true false = refl
-
-or_false : (a : Bool) → (a || false) ≡ a
-or_false true = refl
-or_false false = refl
 
 -- what a call makes of the members by a test, for one request
 abbrev Moves_one : ℕ → (RequestRecord → ℕ) → Past → Option RequestRecord → List (Member Rank) → List (Member Rank) → Type 0
@@ -105,11 +97,6 @@ module _ (c : Configuration) (s : State) (lines : List JobId) (moved : List Past
 
 -- ## all of them
 
--- what is not listed is not touched
-untouched : (a b : Bool) → (a ≡ true → b ≡ true) → b ≡ false → a ≡ false
-untouched true b all out = let is : b ≡ true = all refl in cc
-untouched false b all out = refl
-
 module _ (c : Configuration) (s : State) (lines : List JobId) (ch : Changes) (moved : List Past) (prepared : IsPrepared s ch moved) where
   as-kept : AreAsKept c lines moved (rank_is_in c s lines)
   as-kept =
@@ -148,14 +135,6 @@ open-noted c site s t ch moved old new same_lines moves reached prepared same_si
     }
 
 -- ## a walk over them
-
-pub take-all : {X : Type 0} (xs : List X) → take (length xs) xs ≡ xs
-take-all [] = refl
-take-all {X} (x ∷ xs) = ap (λ (rest : List X). x ∷ rest) (take-all xs)
-
--- the item at a place
-pub there-from : {X : Type 0} (xs : List X) (at : ℕ) (x : X) → at < length xs → x ≡ get_or xs at x → slice_get xs at ≡ Some x
-there-from xs at x within is = slice_get-get_or xs at x within ∙ ap Some (sym is)
 
 -- room for one request less
 pub room-next : (n i k : ℕ) → i < n → (n - i) * k ≡ (n - (i + 1)) * k + k

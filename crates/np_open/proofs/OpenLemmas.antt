@@ -1,16 +1,12 @@
 -- what the ranks of a line say of the requests of a state, and which of them a search passes over
 use Rattle.std.proofs.Common.{◌≡◌, ◌∙◌, ℕ, zero, suc, ◌+◌, ◌-◌, ◌<◌, ◌≤◌, Bool, true, false, List, [], ◌∷◌, length, drop, Option, Some, None, not, refl, sym, ap, arith}
 use Rattle.std.specs.Prelude.{◌==◌, ◌&&◌, ◌||◌, filter, is_none, slice_get}
-use Rattle.std.specs.List.{list_any}
-use Rattle.std.specs.Option.{option_map, option_map_or}
+use Rattle.np_changes.specs.Prelude.{Configuration, JobId, PoolId, RequestEntry, RequestRecord, State, holder, is_declined_by, is_open_to, is_pinned_away, is_requested, list_any, option_map, option_map_or, request_entry, request_in}
 use Rattle.std.proofs.lemmas.Bool.Decides.{nat_tests}
-use Rattle.np_keys.specs.Prelude.{Configuration, JobId, PoolId, RequestEntry, RequestRecord, State, holder, is_requested, request_entry, request_in}
 use Rattle.np_lists.proofs.EditLemmas.{list_any-there}
 use Rattle.np_groups.specs.declared.groups.Member.{Member}
 use Rattle.np_groups.specs.Groups.{same_group}
 use Rattle.np_groups.proofs.Ids.{ids-has, ids-rise}
-use Rattle.np_machine.specs.First.{is_open_to}
-use Rattle.np_machine.specs.Order.{is_declined_by, is_pinned_away}
 use Rattle.np_open.specs.declared.ranks.Rank.{Rank}
 use Rattle.np_open.specs.Lines.{line_of}
 use Rattle.np_open.specs.Open.{AreOpen, AreRequested, IsOpenFrom, IsWaiting, OpenOf, closed_group, is_closed_rank, is_found_in, is_requested_at, open_group, ranks_of}

@@ -1,9 +1,8 @@
 -- the members of groups, made request by request
 use Rattle.std.proofs.Common.{◌≡◌, ◌∙◌, inl, ◌+◌, ℕ, zero, suc, Bool, true, false, List, [], ◌∷◌, ◌++◌, Option, None, Some, length, take, refl, sym, ap, subst}
 use Rattle.std.specs.Prelude.{find, slice_get}
-use Rattle.std.specs.Option.{option_map}
-use Rattle.std.specs.List.{AllByRecursion}
-use Rattle.np_keys.specs.Prelude.{Configuration, IsReached, JobId, NonePass, RequestEntry, RequestRecord, Rises, State, is_id_before, request_in, request_view, same_request}
+use Rattle.np_changes.specs.Prelude.{AllByRecursion, Configuration, IsReached, JobId, NonePass, RequestEntry, RequestRecord, Rises, State, is_id_before, option_map, request_in, same_request}
+use Rattle.np_look.specs.Views.{request_view}
 use Rattle.np_groups.specs.declared.groups.Group.{Group}
 use Rattle.np_groups.specs.declared.groups.Member.{Member}
 use Rattle.np_lists.proofs.Each.{all-at, all-weaker}
@@ -19,6 +18,7 @@ use Rattle.np_open.specs.Lines.{line_of}
 use Rattle.np_open.specs.Moves.{AreBy, IsEither, passes_with}
 use Rattle.np_open.specs.Open.{AreOpen, OpenOf, is_found_in, rank_is_in}
 use Rattle.np_open.proofs.MoveLemmas.{groups-by}
+use Rattle.np_lists.proofs.Plain.{take-all}
 
 -- the rank's request is among these rows, and in the group
 abbrev pub is_row_in : ℕ → (RequestRecord → ℕ) → List RequestEntry → Group → Rank → Bool
@@ -52,10 +52,6 @@ module _ (pools : ℕ) (of : RequestRecord → ℕ) (rows : List RequestEntry) (
 -- what a call makes of the members by a test
 abbrev pub Adds : ℕ → (RequestRecord → ℕ) → RequestView → List (Member Rank) → List (Member Rank) → Type 0
 Adds pools of view ms later = (passes : Group → Rank → Bool) → IsEither pools of view.id None (Some view.kept) passes → AreBy passes ms → AreBy (passes_with pools of view.id (Some view.kept) passes) later
-
-take-all : {X : Type 0} (xs : List X) → take (length xs) xs ≡ xs
-take-all [] = refl
-take-all {X} (x ∷ xs) = ap (λ (rest : List X). x ∷ rest) (take-all xs)
 
 module _ (c : Configuration) (s : State) (lines : List JobId) (reached : IsReached c s) where
   rise : Rises (λ a b. is_id_before a.id b.id) s.requests

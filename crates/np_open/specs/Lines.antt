@@ -2,8 +2,7 @@
 -- of them has none for the others
 use Rattle.std.specs.Prelude.{ℕ, suc, List, Bool, false, ◌==◌, ◌&&◌, is_none, if◌then◌else◌, option_and_then, slice_get}
 use Rattle.std.specs.Cmp.Lexicographic.{pointwise}
-use Rattle.std.specs.Option.{option_map_or}
-use Rattle.np_keys.specs.Prelude.{Configuration, Job, JobId, LabelId, RequestRecord, is_tenant, limit_of_tenant, tenant_of_request}
+use Rattle.np_changes.specs.Prelude.{Configuration, Job, JobId, LabelId, RequestRecord, is_tenant, limit_of_tenant, option_map_or, tenant_of_request}
 use Rattle.np_look.specs.Readers.{has_limit}
 
 -- the same labels, in the same order

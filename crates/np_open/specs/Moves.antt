@@ -1,8 +1,6 @@
 -- what records before and after a change make of the members of groups (own)
 use Rattle.std.specs.Prelude.{◌≡◌, ◌⊎◌, ℕ, List, Bool, true, false, ◌==◌, ◌&&◌, ◌||◌, not, is_some, Option, Some, None, if◌then◌else◌, length, option_and_then}
-use Rattle.std.specs.List.{AllByRecursion}
-use Rattle.std.specs.Option.{option_map_or}
-use Rattle.np_keys.specs.Prelude.{Configuration, JobId, PoolId, RequestId, RequestRecord, Rises, State, is_requested, same_request}
+use Rattle.np_changes.specs.Prelude.{AllByRecursion, Configuration, JobId, PoolId, RequestId, RequestRecord, Rises, State, is_requested, option_map_or, same_request}
 use Rattle.np_groups.specs.declared.groups.Group.{Group}
 use Rattle.np_groups.specs.declared.groups.Member.{Member}
 use Rattle.np_groups.specs.Groups.{has_member, is_member_before, member, same_member, with_member, without_member}

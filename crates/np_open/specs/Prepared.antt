@@ -1,7 +1,7 @@
 -- which requests are listed before a change, and what is prepared for it
 use Rattle.std.specs.Prelude.{◌≡◌, ◌≤◌, ◌+◌, ◌*◌, List, Bool, true, length}
-use Rattle.std.specs.List.{AllByRecursion, list_any}
-use Rattle.np_keys.specs.Prelude.{Changes, Configuration, RequestId, State, request_in, same_request}
+use Rattle.np_changes.specs.Prelude.{AllByRecursion, Configuration, RequestId, State, list_any, request_in, same_request}
+use Rattle.np_changes.specs.declared.changes.Changes.{Changes}
 use Rattle.np_classes.specs.Touched.{touches_request}
 use Rattle.np_open.specs.declared.moves.Past.{Past}
 use Rattle.np_open.specs.Open.{OpenOf}

@@ -1,15 +1,13 @@
 //! In which line a request waits, by its record and the job that its job is like.
 
 ghost use Rattle.std.specs.Prelude.{◌≡◌, false};
-ghost use Rattle.std.specs.Option.{option_map_or};
-ghost use Rattle.np_machine.specs.Tenants.{is_tenant, limit_of_tenant};
+ghost use Rattle.np_changes.specs.Prelude.{is_tenant, limit_of_tenant, option_map_or};
 ghost use Rattle.np_look.specs.Readers.{has_limit};
 ghost use Rattle.np_open.specs.Lines.{is_like, is_of_line, line_of, same_labels};
 
-use np_config::Config;
+use np_config::{Config, Job};
 use np_look::tenant_of_job;
 use np_record::RequestRecord;
-use np_site::Job;
 use np_text::{JobId, LabelId, TenantId};
 use std::alloc::{AllocError, Global};
 

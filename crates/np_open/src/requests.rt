@@ -2,8 +2,8 @@
 //! them.
 
 ghost use Rattle.std.specs.Prelude.{◌≡◌, ◌+◌, ◌*◌, Bool, IfOk, IfSome, None, OnOk, Some, length, map, not, slice_get};
-ghost use Rattle.std.specs.List.{count_by};
-ghost use Rattle.np_keys.specs.Prelude.{Changes, Configuration, IsReached, State, changed};
+ghost use Rattle.np_changes.specs.Prelude.{Configuration, IsReached, State, changed, count_by};
+ghost use Rattle.np_changes.specs.declared.changes.Changes.{Changes};
 ghost use Rattle.np_groups.specs.declared.groups.Group.{Group};
 ghost use Rattle.np_open.specs.declared.ranks.Rank.{Rank};
 ghost use Rattle.np_open.specs.Lines.{line_of};

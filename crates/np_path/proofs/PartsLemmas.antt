@@ -1,13 +1,13 @@
 -- how parent, name and child are related
-use Rattle.std.proofs.Common.{◌≡◌, ℕ, zero, suc, ◌+◌, ◌-◌, ◌<◌, ◌≤◌, ◌≢◌, Bool, true, false, not, ◌&&◌, List, [], ◌∷◌, ◌++◌, length, take, drop, get_or, Some, refl, sym, ap, ◌∙◌, inl, inr, subst, arith}
+use Rattle.std.proofs.Common.{◌≡◌, ℕ, zero, suc, ◌+◌, ◌-◌, ◌<◌, ◌≤◌, ◌≢◌, Bool, true, false, not, List, [], ◌∷◌, ◌++◌, length, take, drop, get_or, Some, refl, sym, ap, ◌∙◌, subst, arith}
 use Rattle.std.proofs.lemmas.Bool.Decides.{nat_tests}
 use Rattle.std.proofs.lemmas.List.{append_assoc, length-append, length-take-le, get_or_at, get_or-append_right}
 use Rattle.std.proofs.lemmas.List.Elements.{All-from_get_or}
-use Rattle.std.proofs.lemmas.Bool.{cases_lt}
-use Rattle.std.proofs.lemmas.List.Folds.{list_all-append, list_any_at, list_any_none}
+use Rattle.std.proofs.lemmas.Bool.{and_from, and_parts}
+use Rattle.std.proofs.lemmas.List.Folds.{list_all-append, list_any_none}
 use Rattle.std.proofs.lemmas.List.Splits.{slice_split-cons_yes, slice_split-cons_no}
 use Rattle.std.proofs.lemmas.List.Sums.{suffix_len_is}
-use Rattle.std.proofs.lemmas.Str.{IsCharBoundary-after_ascii, IsCharBoundary-before_ascii}
+use Rattle.std.proofs.lemmas.Str.{IsCharBoundary-after_ascii}
 use Rattle.std.specs.Str.{IsUtf8, IsCharBoundary}
 use Rattle.std.specs.Char.{is_ascii_digit}
 use Rattle.std.specs.Str.{all_ascii_digits}
@@ -15,7 +15,6 @@ use Rattle.std.specs.List.{list_any, suffix_len, before_last, list_all, onto_fir
 use Rattle.np_path.specs.Grammar.{elements, is_dots, is_element, is_kept, is_path, is_slash}
 use Rattle.np_text.specs.Number.{ten_digits_of}
 use Rattle.np_text.proofs.OrderLemmas.{all_ascii_digits-ten, ten-le-length}
-use Rattle.np_text.proofs.SpellingLemmas.{both_true}
 use Rattle.np_path.specs.Parts.{IsNameAt, below, name_of, or_root, parent_of, root, slashed}
 use Rattle.np_path.proofs.GrammarLemmas.{both-first, both-second}
 use Rattle.np_path.proofs.Walk.{IsKeptTo, elements-one, kept_no_slash, onto_any}
@@ -95,7 +94,7 @@ each_kept (b ∷ bs) all = record { each = each_kept_more b bs (both-first _ _ a
 elements-element : (name : List ℕ) → is_element name ≡ true → elements name ≡ name ∷ []
 elements-element name named = elements-one name (each_kept name (both-second _ _ named))
 
--- the elements on both sides of a slash
+-- the elements on and_from sides of a slash
 some_elements_more : (b : ℕ) (bs : List ℕ) (t : Bool) → is_slash b ≡ t → (first : List ℕ) × (others : List (List ℕ)) × (elements (b ∷ bs) ≡ first ∷ others)
 some_elements_more b bs true is = ([], elements bs, slice_split-cons_yes is_slash b bs is)
 some_elements_more b bs false is =
@@ -126,15 +125,12 @@ elements-append (b ∷ xs) ys = elements-append_more b xs ys (is_slash b) refl (
 pub one_element : (name : List ℕ) → is_element name ≡ true → list_all is_element (name ∷ []) ≡ true
 one_element name named = rw named refl
 
-pub both : (p q : Bool) → p ≡ true → q ≡ true → (p && q) ≡ true
-both p q first second = grind (arith, nat_tests)
-
 -- the elements of what comes after the first slash, with one name more
 more_elements : (bs name : List ℕ) → list_all is_element (elements bs) ≡ true → is_element name ≡ true → list_all is_element (elements (bs ++ 47 ∷ name)) ≡ true
 more_elements bs name all named =
     ap (list_all is_element) (elements-append bs name ∙ ap (λ names. elements bs ++ names) (elements-element name named))
     ∙ list_all-append is_element (elements bs) (name ∷ [])
-    ∙ both _ _ all (one_element name named)
+    ∙ and_from _ _ all (one_element name named)
 
 is_path-root_child : (name : List ℕ) → is_element name ≡ true → is_path (47 ∷ name) ≡ true
 is_path-root_child [] named = absurd (cc)
@@ -145,7 +141,7 @@ is_path-below [] name is named = absurd (cc)
 is_path-below (b ∷ []) name is named = is_path-root_child name named
 is_path-below (b ∷ c ∷ bs) name is named =
     ap (λ rest. is_path (b ∷ c ∷ rest)) (append_assoc bs (47 ∷ []) name)
-    ∙ both _ _ (both-first _ _ is) (more_elements (c ∷ bs) name (both-second _ _ is) named)
+    ∙ and_from _ _ (both-first _ _ is) (more_elements (c ∷ bs) name (both-second _ _ is) named)
 
 -- there is a slash at the end, before the name
 pub slashed-ends : (path : List ℕ) → (before : List ℕ) × (slashed path ≡ before ++ 47 ∷ [])
@@ -182,12 +178,6 @@ name_boundary path at text is =
     let step : at - 1 + 1 ≡ at = omega arith in
     subst (λ (k : ℕ). IsCharBoundary path k) step (IsCharBoundary-after_ascii path (at - 1) text (omega arith) ascii)
 
-pub parent_boundary : (path : List ℕ) (at : ℕ) → IsNameAt path at → IsCharBoundary path (at - 1)
-parent_boundary path at is =
-    let after = is.after in
-    let within = is.within in
-    IsCharBoundary-before_ascii path (at - 1) (omega arith) (rw is.slash (omega arith))
-
 pub root_boundary : (path : List ℕ) → IsUtf8 path → is_path path ≡ true → IsCharBoundary path 1
 root_boundary path text is =
     let begun = begins_with_slash path is in
@@ -205,23 +195,19 @@ is_dots-long (b ∷ c ∷ d ∷ bs) long = refl
 are_kept-digits : (ds : List ℕ) → all_ascii_digits ds ≡ true → list_all is_kept ds ≡ true
 are_kept-digits [] digits = refl
 are_kept-digits (d ∷ ds) digits =
-    let parts = both_true (is_ascii_digit d) (all_ascii_digits ds) digits in
-    both _ _ (grind (arith, nat_tests)) (are_kept-digits ds parts.1)
+    let parts = and_parts (is_ascii_digit d) (all_ascii_digits ds) digits in
+    and_from _ _ (grind (arith, nat_tests)) (are_kept-digits ds parts.1)
 
 pub is_element-numbered : (prefix : List ℕ) (n : ℕ) → list_all is_kept prefix ≡ true → is_element (prefix ++ ten_digits_of n) ≡ true
 is_element-numbered prefix n kept =
-    both _ _
+    and_from _ _
     (ap not (is_dots-long (prefix ++ ten_digits_of n) (simp length-append (omega (arith, ten-le-length n)))))
-    (list_all-append is_kept prefix (ten_digits_of n) ∙ both _ _ kept (are_kept-digits (ten_digits_of n) (all_ascii_digits-ten n)))
-
--- and no name if one may not
-pub is_element-numbered_not : (prefix : List ℕ) (n : ℕ) → list_all is_kept prefix ≡ false → is_element (prefix ++ ten_digits_of n) ≡ false
-is_element-numbered_not prefix n bad = let split = list_all-append is_kept prefix (ten_digits_of n) in grind (arith, nat_tests, split)
+    (list_all-append is_kept prefix (ten_digits_of n) ∙ and_from _ _ kept (are_kept-digits (ten_digits_of n) (all_ascii_digits-ten n)))
 
 digits_are_ascii : (ds : List ℕ) (k : ℕ) → all_ascii_digits ds ≡ true → get_or ds k 0 < 128
 digits_are_ascii [] k digits = omega arith
-digits_are_ascii (d ∷ ds) zero digits = let parts = both_true (is_ascii_digit d) (all_ascii_digits ds) digits in grind (arith, nat_tests)
-digits_are_ascii (d ∷ ds) (suc k) digits = digits_are_ascii ds k (both_true (is_ascii_digit d) (all_ascii_digits ds) digits).1
+digits_are_ascii (d ∷ ds) zero digits = let parts = and_parts (is_ascii_digit d) (all_ascii_digits ds) digits in grind (arith, nat_tests)
+digits_are_ascii (d ∷ ds) (suc k) digits = digits_are_ascii ds k (and_parts (is_ascii_digit d) (all_ascii_digits ds) digits).1
 
 -- each of the ten digits is one byte of text
 pub ten_are_ascii : (ds : List ℕ) (n k : ℕ) → ds ≡ ten_digits_of n → get_or ds k 0 < 128
@@ -234,23 +220,8 @@ pub record IsPassed (text : List ℕ) (at : ℕ) : Type 0 where
   pub within : at ≤ length text
   pub others : (k : ℕ) → at ≤ k → k < length text → is_slash (get_or text k 0) ≡ false
 
-no_slash : (b : ℕ) → b ≢ 47 → is_slash b ≡ false
-no_slash b other = grind (arith, nat_tests)
-
-pub IsPassed-more : (text : List ℕ) (at : ℕ) → IsPassed text at → 0 < at → get_or text (at - 1) 0 ≢ 47 → IsPassed text (at - 1)
-IsPassed-more text at passed some other = record {
-  within = let within = passed.within in omega arith;
-  others = λ k over below. elim (cases_lt k at) [
-    | inl before ↦ (let is : k ≡ at - 1 = omega arith in rw is (no_slash _ other))
-    | inr after ↦ passed.others k after below
-  ];
-}
-
 pub AfterLast-passed : (text : List ℕ) (at : ℕ) → IsPassed text at → 0 < at → get_or text (at - 1) 0 ≡ 47 → AfterLast text at
 AfterLast-passed text at passed some slash = record { after = some; within = passed.within; slash = slash; name = passed.others }
-
-pub any_slash : (text : List ℕ) (at : ℕ) → AfterLast text at → list_any is_slash text ≡ true
-any_slash text at is = let after = is.after in let within = is.within in list_any_at is_slash text (at - 1) 0 (omega arith) (rw is.slash refl)
 
 pub none_passed : (text : List ℕ) → IsPassed text 0 → list_any is_slash text ≡ false
 none_passed text passed = list_any_none is_slash text (All-from_get_or (λ b. is_slash b ≡ false) text 0 (λ k below. passed.others k (omega arith) below))

@@ -9,7 +9,8 @@ use Rattle.std.specs.List.{before_last, list_all, list_any}
 use Rattle.np_path.specs.Grammar.{elements, is_element, is_path, is_slash}
 use Rattle.np_path.specs.Parts.{IsNameAt, below, name_of, or_root, parent_of, root, slashed}
 use Rattle.np_path.proofs.GrammarLemmas.{both-first, both-second, has_no_slash}
-use Rattle.np_path.proofs.PartsLemmas.{AfterLast, before_last-last, name_of-last, IsNameAt-below, begins_with_slash, elements-append, both, is_slash-is, name_of-at, parent_of-at}
+use Rattle.np_path.proofs.PartsLemmas.{AfterLast, before_last-last, name_of-last, IsNameAt-below, begins_with_slash, elements-append, is_slash-is, name_of-at, parent_of-at}
+use Rattle.std.proofs.lemmas.Bool.{and_from}
 
 none_after : (bs : List ℕ) → has_no_slash bs ≡ true → (k : ℕ) → k < length bs → is_slash (get_or bs k 0) ≡ false
 none_after [] none k below = absurd (omega arith)
@@ -77,7 +78,7 @@ HasParts-below path name is named =
       last = name_of-at (below path name) (length (slashed path)) there ∙ drop_at (slashed path) name (length (slashed path)) refl;
     }
 
--- what is on both sides of a path's last slash
+-- what is on and_from sides of a path's last slash
 pub record AreParts (before name : List ℕ) : Type 0 where
   pub is : is_path (or_root before) ≡ true
   pub named : is_element name ≡ true
@@ -100,7 +101,7 @@ AreParts-of (b ∷ x ∷ xs) name long one is =
     let above : list_all is_element (elements (x ∷ xs)) ≡ true = both-first (list_all is_element (elements (x ∷ xs))) (list_all is_element (elements name)) all in
     let last : list_all is_element (elements name) ≡ true = both-second (list_all is_element (elements (x ∷ xs))) (list_all is_element (elements name)) all in
     record {
-      is = both (is_slash b) (list_all is_element (elements (x ∷ xs))) slash above;
+      is = and_from (is_slash b) (list_all is_element (elements (x ∷ xs))) slash above;
       named = one_named name one last;
       whole = append_assoc (b ∷ x ∷ xs) (47 ∷ []) name;
     }
@@ -157,7 +158,7 @@ root-of [] is above = absurd (cc)
 root-of (b ∷ []) is above = ap (λ x. x ∷ []) (is_slash-is b is)
 root-of (b ∷ c ∷ bs) is above = absurd (cc)
 
--- whether no byte is a slash, in both definitions
+-- whether no byte is a slash, in and_from definitions
 no_slash-not : (text : List ℕ) → list_any is_slash text ≡ true → has_no_slash text ≡ false
 no_slash-not [] has = absurd (cc)
 no_slash-not (b ∷ bs) has = by_first (is_slash b) (list_any is_slash bs) (has_no_slash bs) (no_slash-not bs) has where

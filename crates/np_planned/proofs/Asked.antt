@@ -1,27 +1,14 @@
 -- what is found before an event's own tests: the launcher and the record of the request or the node
 use Rattle.std.proofs.Common.{◌≡◌, true, Some, Ok}
 use Rattle.std.specs.Prelude.{is_ok}
-use Rattle.np_text.specs.declared.id.NodeId.{NodeId}
-use Rattle.np_text.specs.declared.id.PoolId.{PoolId}
-use Rattle.np_text.specs.declared.id.RequestId.{RequestId}
-use Rattle.np_text.specs.declared.id.Role.TheVariants.{Launcher}
-use Rattle.np_text.specs.declared.id.SessionId.{SessionId}
-use Rattle.np_text.specs.declared.word.Reason.{Reason}
-use Rattle.np_lists.specs.Refusals.{◌>>=◌, ◌>>◌, need}
-use Rattle.np_site.specs.Configuration.{Configuration}
-use Rattle.np_record.specs.declared.record.NodeRecord.{NodeRecord}
-use Rattle.np_record.specs.declared.record.RequestRecord.{RequestRecord}
+use Rattle.np_changes.specs.Prelude.{Answer, Configuration, Launcher, NodeId, NodeRecord, PoolId, Reason, RequestId, RequestRecord, SessionId, State, by_registrant, by_request_holder, in_state_for, is_true, launcher, need, node_at, node_in, not_declined, request_at, request_in, role_of, ◌>>=◌, ◌>>◌}
 use Rattle.np_event.specs.declared.reply.Done.TheVariants as done
 use Rattle.np_event.specs.declared.reply.Refusal.TheVariants as no
-use Rattle.np_machine.specs.Reasons.{is_true}
-use Rattle.np_machine.specs.Request.{in_state_for}
-use Rattle.np_machine.specs.State.{State}
-use Rattle.np_machine.specs.Tables.{node_in, request_in, role_of}
-use Rattle.np_machine.specs.Tests.{Answer, by_registrant, by_request_holder, launcher, node_at, not_declined, request_at}
 use Rattle.np_changes.proofs.Makers.{launcher-maker, maker-role}
 use Rattle.np_planned.proofs.Known.{IsMaker, maker-is}
 use Rattle.np_planned.proofs.Same.{decline_rest, decline_with}
-use Rattle.np_planned.proofs.Tests.{first-ok, found-is, later-ok, need-true, passes-of}
+use Rattle.np_planned.proofs.Tests.{first-ok, later-ok, need-true, passes-of}
+use Rattle.np_lists.proofs.RefusalLemmas.{found-some}
 
 pub record IsAsked (s : State) (x : SessionId) (r : RequestId) (rest : PoolId → RequestRecord → Answer) : Type 0 where
   pub pool : PoolId
@@ -41,7 +28,7 @@ asked s x r rest ok =
       known = maker-is s x (Launcher pool.found) makes;
       has = maker-role s x (Launcher pool.found) makes;
       request = request.found;
-      there = found-is (request_in r s.requests) no.NoRequest request.found request.is;
+      there = found-some (request_in r s.requests) no.NoRequest request.found request.is;
       passes = request.passes;
     }
 
@@ -53,7 +40,7 @@ pub record IsNoded (s : State) (n : NodeId) (rest : NodeRecord → Answer) : Typ
 pub noded : (s : State) (n : NodeId) (rest : NodeRecord → Answer) → is_ok (node_at s n >>= rest) ≡ true → IsNoded s n rest
 noded s n rest ok =
     let k = passes-of (node_at s n) rest ok in
-    record { node = k.found; there = found-is (node_in n s.nodes) no.NoNode k.found k.is; passes = k.passes }
+    record { node = k.found; there = found-some (node_in n s.nodes) no.NoNode k.found k.is; passes = k.passes }
 
 -- the reason of an accepted decline is true
 pub decline-true : (c : Configuration) (s : State) (x : SessionId) (r : RequestId) (why : Reason) (p : PoolId) (request : RequestRecord) → is_ok (decline_with c s x r why p request) ≡ true → is_true c s p request why ≡ true

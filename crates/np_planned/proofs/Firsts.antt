@@ -1,14 +1,12 @@
 -- the first member of a list that passes a test, by its place, and a path that isn't fresh
-use Rattle.std.proofs.Common.{◌≡◌, ℕ, zero, suc, ◌<◌, Bool, true, false, cond, List, [], ◌∷◌, length, Option, Some, None, get_or, refl, sym, ap, ◌∙◌, arith}
+use Rattle.std.proofs.Common.{◌≡◌, ℕ, zero, suc, ◌<◌, Bool, true, false, cond, List, [], ◌∷◌, Option, Some, None, get_or, refl, ap, ◌∙◌, arith}
 use Rattle.std.specs.Prelude.{not, slice_get}
-use Rattle.std.specs.Option.{is_some}
+use Rattle.np_layout.specs.Prelude.{Stat, TreeState, is_some, stat_at}
 use Rattle.np_lists.specs.Rising.{FirstAt}
-use Rattle.np_nodes.specs.TreeState.{TreeState}
-use Rattle.np_nodes.specs.declared.kind.Stat.{Stat}
-use Rattle.np_tree.specs.Read.{stat_at}
 use Rattle.np_watch.specs.Fresh.{change_at_path, change_by, is_fresh, is_fresh_by, stat_above}
 use Rattle.np_watch.proofs.FreshLemmas.{stale-is-later}
 use Rattle.np_planned.specs.Stale.{is_stale}
+use Rattle.std.proofs.lemmas.Bool.{not-true}
 
 pub first-at : {A : Type 0} (p : A → Bool) (list : List A) (at : ℕ) (a : A) → slice_get list at ≡ Some a → p a ≡ true → ((k : ℕ) (b : A) → k < at → slice_get list k ≡ Some b → p b ≡ false) → FirstAt p list at
 first-at p [] at a there passes before = absurd cc
@@ -21,12 +19,6 @@ pub item-at : {A : Type 0} (list : List A) (at : ℕ) (a b : A) → slice_get li
 item-at [] at a b there is = absurd cc
 item-at (d ∷ list) zero a b there is = let same : d ≡ a = cc in is ∙ same
 item-at (d ∷ list) (suc at) a b there is = item-at list at a b there is
-
--- and it is there
-pub there-at : {A : Type 0} (list : List A) (at : ℕ) (b : A) → at < length list → b ≡ get_or list at b → slice_get list at ≡ Some b
-there-at [] at b within is = absurd (omega arith)
-there-at (d ∷ list) zero b within is = ap Some (sym is)
-there-at (d ∷ list) (suc at) b within is = there-at list at b (omega arith) is
 
 -- ## one path
 
@@ -52,9 +44,5 @@ later-by : (z : ℕ) (above here : Option Stat) → is_some above ≡ true → i
 later-by z None here stands is = absurd cc
 later-by z (Some parent) here stands is = stale-is-later z parent here is
 
-not-false : (b : Bool) → not b ≡ true → b ≡ false
-not-false true is = absurd cc
-not-false false is = refl
-
 pub stale-later : (t : TreeState) (z : ℕ) (path : List ℕ) → is_some (stat_above t path) ≡ true → is_stale t z path ≡ true → z < change_at_path t path
-stale-later t z path stands is = later-by z (stat_above t path) (stat_at t path) stands (not-false (is_fresh t z path) is)
+stale-later t z path stands is = later-by z (stat_above t path) (stat_at t path) stands (not-true (is_fresh t z path) is)

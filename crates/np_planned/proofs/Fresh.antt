@@ -1,45 +1,17 @@
 -- where the spots of a planned event are fresh it is accepted as before
 use Rattle.std.proofs.Common.{◌≡◌, ℕ, ◌+◌, ◌<◌, ◌^◌, Bool, true, not, List, [], ◌∷◌, ◌++◌, map, Option, Some, Ok, unwrap_or, sym, ap, ◌∙◌, subst}
 use Rattle.std.specs.Prelude.{◌&&◌, IfSome, is_ok}
-use Rattle.std.specs.List.{AllByRecursion}
-use Rattle.std.specs.Option.{option_map, option_map_or}
-use Rattle.np_text.specs.declared.id.NodeId.{NodeId}
-use Rattle.np_text.specs.declared.id.PoolId.{PoolId}
-use Rattle.np_text.specs.declared.id.RequestId.{RequestId}
-use Rattle.np_text.specs.declared.id.Role.{Role}
+use Rattle.np_changes.specs.Prelude.{AllByRecursion, Configuration, Event, HasText, NodeId, PoolId, Reason, RequestId, RequestRecord, Role, SessionFacts, SessionId, SessionRecord, State, by_node_holder, by_registrant, by_request_holder, holder, is_building, is_pending_by, is_queued, is_session_of, is_true, judge, judge_decline, judge_fulfil, judge_start, judge_take_ready, judge_unlock_node, judge_unlock_request, launcher, maker, need, node_at, node_queue, of_pool, option_map, option_map_or, request_at, request_holder, request_in, request_queue, role_of, session_of, starts_of, unlock_request_as, wrong_node, wrong_request, ◌>>=◌, ◌>>◌}
 use Rattle.np_text.specs.declared.id.Role.TheVariants as role
-use Rattle.np_text.specs.declared.id.SessionId.{SessionId}
-use Rattle.np_text.specs.declared.word.Reason.{Reason}
 use Rattle.np_text.specs.declared.word.Reason.TheVariants as reason
-use Rattle.np_text.specs.Request.{HasText}
-use Rattle.np_lists.specs.Refusals.{◌>>=◌, ◌>>◌, need}
-use Rattle.np_nodes.specs.TreeState.{TreeState}
-use Rattle.np_tree.specs.Read.{bytes_at}
-use Rattle.np_views.specs.Dates.{Since}
+use Rattle.np_layout.specs.Prelude.{IsGood, IsNodeId, IsSession, IsStored, Since, TreeState, bytes_at, path_of, session_text}
 use Rattle.np_watch.specs.Fresh.{IsFreshPath}
-use Rattle.np_site.specs.Configuration.{Configuration}
-use Rattle.np_record.specs.declared.record.RequestRecord.{RequestRecord}
-use Rattle.np_record.specs.declared.record.SessionRecord.{SessionRecord}
 use Rattle.np_spelling.specs.Reading.{session_in}
-use Rattle.np_spelling.specs.Spelling.{IsNodeId, IsSession, session_text}
-use Rattle.np_event.specs.declared.event.Event.{Event}
 use Rattle.np_event.specs.declared.event.Event.TheVariants as ev
 use Rattle.np_event.specs.declared.reply.Done.TheVariants as done
 use Rattle.np_event.specs.declared.reply.Refusal.TheVariants as no
-use Rattle.np_machine.specs.Kinds.{is_building}
-use Rattle.np_machine.specs.Order.{is_pending_by}
-use Rattle.np_machine.specs.Reasons.{is_true}
-use Rattle.np_machine.specs.Request.{judge_decline, judge_fulfil, judge_unlock_request, unlock_request_as}
-use Rattle.np_machine.specs.Node.{judge_start, judge_take_ready, judge_unlock_node, starts_of}
-use Rattle.np_machine.specs.State.{State}
-use Rattle.np_machine.specs.Step.{judge}
-use Rattle.np_machine.specs.Tables.{holder, is_queued, is_session_of, node_queue, request_holder, request_in, request_queue, role_of, session_of}
-use Rattle.np_machine.specs.Tests.{by_node_holder, by_registrant, by_request_holder, launcher, maker, node_at, of_pool, request_at, wrong_node, wrong_request}
-use Rattle.np_machine.specs.declared.state.SessionFacts.{SessionFacts}
-use Rattle.np_places.specs.Place.{IsGood, path_of}
-use Rattle.np_places.specs.declared.place.Place.TheVariants as place
-use Rattle.np_places.proofs.AboveLemmas.{is_path-of}
-use Rattle.np_layout.specs.Carried.{IsStored}
+use Rattle.np_layout.specs.declared.place.Place.TheVariants as place
+use Rattle.np_layout.proofs.AboveLemmas.{is_path-of}
 use Rattle.np_layout.proofs.Texts.{session-read}
 use Rattle.np_changes.proofs.Makers.{launcher-maker}
 use Rattle.np_readers.proofs.Stored.{kept_of, session-bytes, session-sound}
@@ -54,7 +26,8 @@ use Rattle.np_planned.proofs.Asked.{asked, decline-true, noded}
 use Rattle.np_planned.proofs.Known.{IsMaker, live-first, live-queued, maker-is, node-known, node-live, pool-known, request-known, request-live, session-known, spent-there}
 use Rattle.np_planned.proofs.Same.{decline_rest, decline_with, fulfil_rest, fulfil_with, leave_request_with, spots-decide, start_with, take_rest, take_with, unlock_node_with, unlock_request_with}
 use Rattle.np_planned.proofs.Seen.{bytes-same, launcher-same, node-same, node_lock-same, request-same, request_lock-same}
-use Rattle.np_planned.proofs.Tests.{first-ok, found-is, need-true, passes-of, second-ok}
+use Rattle.np_planned.proofs.Tests.{first-ok, need-true, passes-of, second-ok}
+use Rattle.np_lists.proofs.RefusalLemmas.{found-some}
 
 all-unmapped : {A B : Type 0} (P : B → Type 0) (f : A → B) (list : List A) → AllByRecursion P (map f list) → AllByRecursion (λ a. P (f a)) list
 all-unmapped P f [] all = tt
@@ -198,12 +171,12 @@ module _ (c : Configuration) (s u : State) (t v : TreeState) (z : ℕ) (stored :
     unlock-holds r (role.Launcher p) ok =
         let request = passes-of (request_at s r) (unlock_request_with s x r p) ok in (
           request.found,
-          found-is (request_in r s.requests) no.NoRequest request.found request.is,
+          found-some (request_in r s.requests) no.NoRequest request.found request.is,
           first-ok (by_request_holder s r x) (need (not (is_pending_by p request.found)) (wrong_request request.found) >> Ok done.Plain) request.passes,
         )
     unlock-holds r (role.Janitor p) ok =
         let request = passes-of (request_at s r) (leave_request_with s x r) ok in
-        (request.found, found-is (request_in r s.requests) no.NoRequest request.found request.is, first-ok (by_request_holder s r x) (Ok done.Plain) request.passes)
+        (request.found, found-some (request_in r s.requests) no.NoRequest request.found request.is, first-ok (by_request_holder s r x) (Ok done.Plain) request.passes)
     unlock-holds r (role.Requester q) ok = absurd cc
     unlock-holds r role.Reaper ok = absurd cc
 

@@ -1,41 +1,20 @@
 -- what an accepted event says of the state, and which sessions are live
-use Rattle.std.proofs.Common.{◌≡◌, ℕ, zero, suc, ◌-◌, ◌<◌, ◌^◌, Bool, true, false, not, cond, List, [], ◌∷◌, length, Option, Some, None, Result, Ok, refl, ap, subst, arith}
-use Rattle.std.specs.Prelude.{◌&&◌, ◌==◌, IfSome, slice_get}
-use Rattle.std.specs.List.{AllByRecursion, list_any}
-use Rattle.std.specs.Option.{option_map, option_map_or}
+use Rattle.std.proofs.Common.{◌≡◌, ℕ, zero, suc, ◌-◌, ◌<◌, ◌^◌, Bool, true, false, not, cond, List, [], ◌∷◌, Option, Some, None, Result, Ok, refl, ap, subst, arith}
+use Rattle.std.specs.Prelude.{◌==◌, IfSome, slice_get}
+use Rattle.np_changes.specs.Prelude.{AllByRecursion, Configuration, HasText, Launcher, NodeEntry, NodeId, NodeRecord, PoolId, Refusal, RequestEntry, RequestId, RequestRecord, Role, SessionFacts, SessionId, State, found, holder, is_failed_node, is_queued, is_session, is_session_of, is_true, list_any, maker, need, node_entry, node_in, node_queue, option_map, option_map_or, request_entry, request_in, request_queue, session_of, ◌>>=◌, ◌>>◌}
 use Rattle.std.proofs.lemmas.Bool.Decides.{nat_tests}
-use Rattle.np_text.specs.declared.id.NodeId.{NodeId}
-use Rattle.np_text.specs.declared.id.PoolId.{PoolId}
-use Rattle.np_text.specs.declared.id.RequestId.{RequestId}
-use Rattle.np_text.specs.declared.id.Role.{Role}
-use Rattle.np_text.specs.declared.id.Role.TheVariants.{Launcher}
-use Rattle.np_text.specs.declared.id.SessionId.{SessionId}
 use Rattle.np_text.specs.declared.word.Reason.TheVariants.{Spent}
-use Rattle.np_text.specs.Request.{HasText}
-use Rattle.np_lists.specs.Refusals.{◌>>=◌, ◌>>◌, found, need}
 use Rattle.np_lists.proofs.Each.{all-find}
 use Rattle.np_lists.proofs.RefusalLemmas.{need-ok}
-use Rattle.np_nodes.specs.TreeState.{TreeState}
-use Rattle.np_site.specs.Configuration.{Configuration}
-use Rattle.np_record.specs.declared.record.NodeRecord.{NodeRecord}
-use Rattle.np_record.specs.declared.record.RequestRecord.{RequestRecord}
-use Rattle.np_spelling.specs.Spelling.{IsNodeId, IsRequest, IsSession, IsSessionRole}
-use Rattle.np_event.specs.declared.reply.Refusal.{Refusal}
+use Rattle.np_layout.specs.Prelude.{IsGood, IsNodeId, IsRequest, IsSession, IsSessionRole, IsStored, TreeState}
 use Rattle.np_event.specs.declared.reply.Refusal.TheVariants as no
-use Rattle.np_machine.specs.Entries.{NodeEntry, RequestEntry}
-use Rattle.np_machine.specs.Kinds.{is_failed_node}
-use Rattle.np_machine.specs.Reasons.{is_true}
-use Rattle.np_machine.specs.State.{State}
-use Rattle.np_machine.specs.Tables.{holder, is_queued, is_session, is_session_of, node_entry, node_in, node_queue, request_entry, request_in, request_queue, session_of}
-use Rattle.np_machine.specs.Tests.{maker}
-use Rattle.np_machine.specs.declared.state.SessionFacts.{SessionFacts}
-use Rattle.np_places.specs.Place.{IsGood}
-use Rattle.np_places.specs.declared.place.Place.TheVariants as place
-use Rattle.np_layout.specs.Carried.{IsStored}
+use Rattle.np_layout.specs.declared.place.Place.TheVariants as place
 use Rattle.np_layout.proofs.DeleteNodeWaits.{found-node, is_node_it}
 use Rattle.np_layout.proofs.DeleteRequestWaits.{is_request_it, request-good}
 use Rattle.np_readers.proofs.Stored.{kept_of, session-sound}
 use Rattle.np_laws.specs.Parts.{IsLive, IsQueue, IsQueued}
+use Rattle.np_lists.proofs.Plain.{within}
+use Rattle.std.proofs.lemmas.Bool.{and_parts}
 
 -- ## the maker
 
@@ -62,10 +41,6 @@ maker-is s x role is = maker-by s x role (session_of x s) refl is
 
 -- ## what is there
 
-pub both-parts : (a b : Bool) → (a && b) ≡ true → (a ≡ true) × (b ≡ true)
-both-parts true b is = (refl, is)
-both-parts false b is = absurd cc
-
 -- a request or a node is there
 pub record HasRequest (s : State) (r : RequestId) : Type 0 where
   pub request : RequestRecord
@@ -82,7 +57,7 @@ spent-by s n (Some k) there is = record { node = k; there = there }
 -- the node of a reason that is true
 pub spent-there : (c : Configuration) (s : State) (p : PoolId) (request : RequestRecord) (n : NodeId) → is_true c s p request (Spent n) ≡ true → HasNode s n
 spent-there c s p request n is =
-    spent-by s n (node_in n s.nodes) refl (both-parts (list_any (λ other. other.0 == n.0) request.nodes) (option_map_or (λ (k : NodeRecord). is_failed_node k.state) (node_in n s.nodes) false) is).1
+    spent-by s n (node_in n s.nodes) refl (and_parts (list_any (λ other. other.0 == n.0) request.nodes) (option_map_or (λ (k : NodeRecord). is_failed_node k.state) (node_in n s.nodes) false) is).1
 
 -- ## live sessions
 
@@ -118,11 +93,6 @@ module _ (u : State) (queued : IsQueued u) where
     by (Some e) there = (all-find (λ (x : NodeEntry). IsQueue u x.queue) (is_node_it n) u.nodes e queued.at_nodes there).live
 
 -- ## ids that have a path
-
-pub within : {A : Type 0} (list : List A) (at : ℕ) (a : A) → slice_get list at ≡ Some a → at < length list
-within [] at a there = absurd cc
-within (b ∷ list) zero a there = omega arith
-within (b ∷ list) (suc at) a there = let less = within list at a there in omega arith
 
 module _ (c : Configuration) (s : State) (t : TreeState) (stored : IsStored c s t) where
   session-by : (x : SessionId) (facts : SessionFacts) (b : Bool) → cond b None (slice_get s.sessions (x.0 - 1)) ≡ Some facts → x.0 < 2 ^ 32

@@ -1,38 +1,18 @@
 -- the spots of an accepted event have paths, and the first that isn't fresh is below a node
-use Rattle.std.proofs.Common.{◌≡◌, ℕ, zero, suc, ◌+◌, ◌≤◌, Bool, true, false, not, List, [], ◌∷◌, ◌++◌, codes, length, Option, Some, None, refl, sym, ap, ◌∙◌, subst, arith}
+use Rattle.std.proofs.Common.{◌≡◌, ℕ, zero, suc, ◌+◌, ◌≤◌, true, List, [], ◌∷◌, ◌++◌, codes, length, Option, Some, None, refl, sym, ap, ◌∙◌, subst, arith}
 use Rattle.std.specs.Prelude.{is_ok, option_and_then}
-use Rattle.std.specs.List.{AllByRecursion}
-use Rattle.std.specs.Option.{is_some, option_map, option_map_or}
-use Rattle.np_text.specs.declared.id.NodeId.{NodeId}
-use Rattle.np_text.specs.declared.id.RequestId.{RequestId}
-use Rattle.np_text.specs.declared.id.Role.{Role}
+use Rattle.np_changes.specs.Prelude.{AllByRecursion, Configuration, NodeEntry, NodeId, Reason, RequestEntry, RequestId, Role, SessionId, State, is_some, judge, node_entry, option_map, option_map_or, request_entry, role_of}
 use Rattle.np_text.specs.declared.id.Role.TheVariants as role
-use Rattle.np_text.specs.declared.id.SessionId.{SessionId}
-use Rattle.np_text.specs.declared.word.Reason.{Reason}
 use Rattle.np_text.specs.declared.word.Reason.TheVariants as reason
 use Rattle.np_lists.proofs.Each.{all-find, all-weaker}
-use Rattle.np_path.specs.Parts.{below}
+use Rattle.np_layout.specs.Prelude.{IsGood, IsRequest, IsStored, Node, Seen, Since, TreeState, above, at_path, below, find_named, path_of, place_name, seen_in, seen_of, stat_at, stat_of}
 use Rattle.np_path.proofs.PathLaws.{HasParts-below}
-use Rattle.np_nodes.specs.TreeState.{TreeState}
-use Rattle.np_nodes.specs.Nodes.{at_path, stat_of}
-use Rattle.np_nodes.specs.declared.node.Node.{Node}
-use Rattle.np_tree.specs.Read.{stat_at}
-use Rattle.np_views.specs.Dates.{Since}
-use Rattle.np_views.specs.Views.{Seen, find_named, seen_in, seen_of}
 use Rattle.np_watch.specs.Fresh.{is_fresh, stat_above}
 use Rattle.np_watch.proofs.FreshLemmas.{test-says-fresh}
-use Rattle.np_site.specs.Configuration.{Configuration}
-use Rattle.np_spelling.specs.Spelling.{IsRequest}
 use Rattle.np_event.specs.declared.event.Event.TheVariants as ev
-use Rattle.np_machine.specs.Entries.{NodeEntry, RequestEntry}
-use Rattle.np_machine.specs.State.{State}
-use Rattle.np_machine.specs.Step.{judge}
-use Rattle.np_machine.specs.Tables.{node_entry, request_entry, role_of}
-use Rattle.np_places.specs.Place.{IsGood, above, path_of, place_name}
-use Rattle.np_places.specs.declared.place.Place.{Place}
-use Rattle.np_places.specs.declared.place.Place.TheVariants as place
-use Rattle.np_places.proofs.AboveLemmas.{is_path-of, parts-of}
-use Rattle.np_layout.specs.Carried.{IsStored}
+use Rattle.np_layout.specs.declared.place.Place.{Place}
+use Rattle.np_layout.specs.declared.place.Place.TheVariants as place
+use Rattle.np_layout.proofs.AboveLemmas.{is_path-of, parts-of}
 use Rattle.np_layout.specs.Layout.{HasNodeLock, IsQueue, next_under, under}
 use Rattle.np_layout.specs.Rows.{persistent}
 use Rattle.np_layout.proofs.DeleteNodeWaits.{found-node, is_node_it}
@@ -48,6 +28,7 @@ use Rattle.np_planned.specs.declared.spot.Spot.TheVariants as spot
 use Rattle.np_planned.proofs.Known.{HasNode, HasRequest, node-known, pool-known, request-known, session-known}
 use Rattle.np_planned.proofs.Seen.{node-same, request-same}
 use Rattle.np_planned.proofs.Stands.{Stand, StandsAt, stand-decline, stand-fulfil, stand-start, stand-take, stand-unlock_node, stand-unlock_request}
+use Rattle.std.proofs.lemmas.Bool.{not-false}
 
 -- ## paths
 
@@ -117,10 +98,6 @@ kept-there : {E K : Type 0} (f : E → K) (o : Option E) (k : K) → option_map 
 kept-there f None k is = absurd cc
 kept-there f (Some e) k is = (e, refl)
 
-not-stale : (b : Bool) → not b ≡ false → b ≡ true
-not-stale true is = refl
-not-stale false is = absurd cc
-
 module _ (c : Configuration) (s u : State) (t v : TreeState) (z : ℕ) (stored : IsStored c s t) (later : IsStored c u v) (since : Since z t v) (x : SessionId) where
   -- above each spot there is a node if those before it are fresh
   abbrev Parented : List Spot → Type 0
@@ -130,7 +107,7 @@ module _ (c : Configuration) (s u : State) (t v : TreeState) (z : ℕ) (stored :
   first-parented : (spots : List Spot) → Parented spots → StaleHasParent v z (paths_at spots)
   first-parented [] all at path first there = absurd first
   first-parented (one ∷ spots) all zero path first there = let same : path_at one ≡ path = cc in subst (λ (p : List ℕ). is_some (stat_above v p) ≡ true) same all.0
-  first-parented (one ∷ spots) all (suc at) path first there = first-parented spots (all.1 (not-stale (is_fresh v z (path_at one)) first.0)) at path first.1 there
+  first-parented (one ∷ spots) all (suc at) path first there = first-parented spots (all.1 (not-false (is_fresh v z (path_at one)) first.0)) at path first.1 there
 
   -- ## directories
 

@@ -1,32 +1,13 @@
 -- a planned event that is accepted is accepted in each state that agrees at its spots
 use Rattle.std.proofs.Common.{◌≡◌, ◌+◌, true, not, List, [], ◌∷◌, ◌++◌, Option, Some, None, Ok, refl, sym, ap, subst}
 use Rattle.std.specs.Prelude.{◌&&◌, ◌==◌, is_none, is_ok}
-use Rattle.std.specs.Option.{option_map, option_map_or}
-use Rattle.np_text.specs.declared.id.NodeId.{NodeId}
-use Rattle.np_text.specs.declared.id.LabelId.{LabelId}
-use Rattle.np_text.specs.declared.id.PoolId.{PoolId}
-use Rattle.np_text.specs.declared.id.RequestId.{RequestId}
-use Rattle.np_text.specs.declared.id.SessionId.{SessionId}
-use Rattle.np_text.specs.declared.id.Role.{Role}
+use Rattle.np_changes.specs.Prelude.{Configuration, LabelId, NodeEntry, NodeId, NodeRecord, PoolId, Reason, RequestId, RequestRecord, Role, SessionId, State, in_state_for, is_building, is_filled, is_pending_by, is_queued, is_ready, is_true, judge_decline, judge_fulfil, judge_start, judge_take_ready, judge_unlock_node, judge_unlock_request, need, node_entry, node_holder, node_in, node_queue, option_map, option_map_or, registered, request_queue, role_of, starts_of, unfilled, unlock_request_as, vacant, ◌>>=◌, ◌>>◌}
 use Rattle.np_text.specs.declared.id.Role.TheVariants as role
-use Rattle.np_text.specs.declared.word.Reason.{Reason}
 use Rattle.np_text.specs.declared.word.Reason.TheVariants as reason
-use Rattle.np_lists.specs.Refusals.{◌>>=◌, ◌>>◌, need, vacant}
-use Rattle.np_site.specs.Configuration.{Configuration}
-use Rattle.np_record.specs.declared.record.NodeRecord.{NodeRecord}
-use Rattle.np_record.specs.declared.record.RequestRecord.{RequestRecord}
 use Rattle.np_event.specs.declared.event.Event.TheVariants as ev
 use Rattle.np_event.specs.declared.reply.Done.TheVariants as done
 use Rattle.np_event.specs.declared.reply.Refusal.TheVariants as no
-use Rattle.np_machine.specs.Entries.{NodeEntry}
-use Rattle.np_machine.specs.Kinds.{is_building, is_ready}
-use Rattle.np_machine.specs.State.{State}
-use Rattle.np_machine.specs.Tables.{is_queued, node_entry, node_holder, node_in, node_queue, registered, request_queue, role_of}
 use Rattle.np_machine.specs.Tests.{Answer, by_node_holder, by_registrant, by_request_holder, in_pending_by, incomplete, node_at, none_missing, not_declined, of_pool, request_at, wrong_node, wrong_request}
-use Rattle.np_machine.specs.Order.{is_pending_by}
-use Rattle.np_machine.specs.Reasons.{is_true}
-use Rattle.np_machine.specs.Request.{in_state_for, is_filled, judge_decline, judge_fulfil, judge_unlock_request, unfilled, unlock_request_as}
-use Rattle.np_machine.specs.Node.{judge_start, judge_take_ready, judge_unlock_node, starts_of}
 use Rattle.np_planned.specs.Agree.{Agree, SpotsDecide}
 use Rattle.np_planned.specs.Spots.{listed, of_node, of_nodes, of_reason, of_request, of_role, spots_of}
 use Rattle.np_planned.proofs.Tests.{by-launcher, by-maker, by-node, by-request, last-ok}

@@ -1,46 +1,22 @@
 -- what is fresh in a later tree is the same in the states of both trees
 use Rattle.std.proofs.Common.{◌≡◌, ℕ, ◌+◌, ◌<◌, ◌^◌, true, List, [], ◌∷◌, codes, length, map, Option, Some, None, Result, Ok, refl, sym, ap, ◌∙◌, subst, arith}
 use Rattle.std.specs.Prelude.{◌==◌, find, option_and_then}
-use Rattle.std.specs.List.{AllZip}
-use Rattle.std.specs.Option.{option_map}
-use Rattle.np_text.specs.declared.id.NodeId.{NodeId}
-use Rattle.np_text.specs.declared.id.PoolId.{PoolId}
-use Rattle.np_text.specs.declared.id.RequestId.{RequestId}
-use Rattle.np_text.specs.declared.id.SessionId.{SessionId}
-use Rattle.np_text.specs.Request.{HasText}
-use Rattle.np_path.specs.Grammar.{is_path}
-use Rattle.np_path.specs.Parts.{below}
+use Rattle.np_changes.specs.Prelude.{AllZip, Configuration, HasText, NodeId, PoolId, Registration, RequestId, SessionId, State, node_in, node_queue, option_map, registered, request_in, request_queue}
+use Rattle.np_layout.specs.Prelude.{BadRecord, IsGood, IsStored, IsWait, Node, Row, Seen, Stat, TreeState, at_path, below, bytes_at, is_path, path_of, seen_at, seen_of, stat_at, stat_of, under}
 use Rattle.np_path.proofs.PathLaws.{HasParts-below}
-use Rattle.np_nodes.specs.TreeState.{TreeState}
-use Rattle.np_nodes.specs.Nodes.{at_path, stat_of}
-use Rattle.np_nodes.specs.declared.kind.Stat.{Stat}
-use Rattle.np_nodes.specs.declared.node.Node.{Node}
-use Rattle.np_tree.specs.Read.{bytes_at, stat_at}
-use Rattle.np_views.specs.Dates.{Since, Tag, tag_of, tags_at}
-use Rattle.np_views.specs.Views.{Row, Seen, seen_at, seen_of}
-use Rattle.np_views.proofs.FreshLemmas.{fresh-listed, fresh-seen}
+use Rattle.np_tree.specs.Dates.{Since, Tag, tag_of, tags_at}
+use Rattle.np_tree.proofs.FreshLemmas.{fresh-listed, fresh-seen}
 use Rattle.np_watch.specs.Fresh.{IsFreshPath}
-use Rattle.np_site.specs.Configuration.{Configuration}
 use Rattle.np_spelling.specs.Reading.{answer, node_in as node_record_in, request_record_in}
-use Rattle.np_spelling.specs.declared.fault.BadRecord.{BadRecord}
 use Rattle.np_spelling.proofs.NodeForm.{node_all}
 use Rattle.np_spelling.proofs.RequestForm.{request_all}
-use Rattle.np_machine.specs.State.{State}
-use Rattle.np_machine.specs.Tables.{node_in, node_queue, registered, request_in, request_queue}
-use Rattle.np_machine.specs.declared.state.Registration.{Registration}
-use Rattle.np_places.specs.Place.{IsGood, path_of}
-use Rattle.np_places.specs.declared.place.Place.{Place}
-use Rattle.np_places.specs.declared.place.Place.TheVariants as place
-use Rattle.np_places.proofs.AboveLemmas.{is_path-of}
-use Rattle.np_layout.specs.Carried.{IsStored}
-use Rattle.np_layout.specs.Layout.{IsWait, under}
+use Rattle.np_layout.specs.declared.place.Place.{Place}
+use Rattle.np_layout.specs.declared.place.Place.TheVariants as place
+use Rattle.np_layout.proofs.AboveLemmas.{is_path-of}
 use Rattle.np_readers.proofs.NodeReads.{node-read, node-unread, node-waits}
 use Rattle.np_readers.proofs.Registered.{registered-owner}
 use Rattle.np_readers.proofs.RequestReads.{IsRead, request-read, request-unread, request-waits}
-
-bytes-seen : (o : Option Node) → option_map (λ (n : Node). n.bytes) o ≡ option_map (λ (seen : Seen). seen.bytes) (option_map seen_of o)
-bytes-seen None = refl
-bytes-seen (Some n) = refl
+use Rattle.np_readers.proofs.Shown.{bytes-seen}
 
 owner-seen : (nodes : List Node) (o : Option Node) → option_and_then (λ (stat : Stat). stat.owner) (option_map (stat_of nodes) o) ≡ option_and_then (λ (seen : Seen). seen.owner) (option_map seen_of o)
 owner-seen nodes None = refl

@@ -1,35 +1,14 @@
 -- what is at the spots of an accepted event
 use Rattle.std.proofs.Common.{◌≡◌, ℕ, ◌+◌, ◌≤◌, Bool, true, false, cond, List, [], ◌∷◌, ◌++◌, length, Option, Some, None, Result, Ok, Err, refl, sym, ap, subst, arith}
 use Rattle.std.specs.Prelude.{◌==◌, is_ok}
-use Rattle.std.specs.List.{AllByRecursion}
-use Rattle.std.specs.Option.{option_map, option_map_or}
-use Rattle.std.proofs.lemmas.Bool.{eqb-true}
-use Rattle.np_text.specs.declared.id.LabelId.{LabelId}
-use Rattle.np_text.specs.declared.id.NodeId.{NodeId}
-use Rattle.np_text.specs.declared.id.PoolId.{PoolId}
-use Rattle.np_text.specs.declared.id.RequestId.{RequestId}
-use Rattle.np_text.specs.declared.id.Role.{Role}
+use Rattle.np_changes.specs.Prelude.{AllByRecursion, Configuration, LabelId, NodeEntry, NodeId, NodeRecord, PoolId, Reason, RequestId, RequestRecord, RequestState, Role, SessionId, State, is_filled, is_pending, is_pending_by, is_pool, is_true, judge, node_entry, node_in, option_map, option_map_or, request_in, role_of, unfilled, unlock_request_as, ◌>>=◌, ◌>>◌}
+use Rattle.std.proofs.lemmas.Bool.{eqb-true, and_parts}
 use Rattle.np_text.specs.declared.id.Role.TheVariants as role
-use Rattle.np_text.specs.declared.id.SessionId.{SessionId}
-use Rattle.np_text.specs.declared.word.Reason.{Reason}
 use Rattle.np_text.specs.declared.word.Reason.TheVariants as reason
-use Rattle.np_text.specs.declared.word.RequestState.{RequestState}
 use Rattle.np_text.specs.declared.word.RequestState.TheVariants as request_state
-use Rattle.np_lists.specs.Refusals.{◌>>=◌, ◌>>◌}
-use Rattle.np_site.specs.Configuration.{Configuration}
-use Rattle.np_record.specs.declared.record.NodeRecord.{NodeRecord}
-use Rattle.np_record.specs.declared.record.RequestRecord.{RequestRecord}
 use Rattle.np_event.specs.declared.event.Event.TheVariants as ev
 use Rattle.np_event.specs.declared.reply.Done.TheVariants as done
 use Rattle.np_event.specs.declared.reply.Refusal.TheVariants as no
-use Rattle.np_machine.specs.Entries.{NodeEntry}
-use Rattle.np_machine.specs.Kinds.{is_pending}
-use Rattle.np_machine.specs.Order.{is_pending_by, is_pool}
-use Rattle.np_machine.specs.Reasons.{is_true}
-use Rattle.np_machine.specs.Request.{is_filled, unfilled, unlock_request_as}
-use Rattle.np_machine.specs.State.{State}
-use Rattle.np_machine.specs.Step.{judge}
-use Rattle.np_machine.specs.Tables.{node_entry, node_in, request_in, role_of}
 use Rattle.np_machine.specs.Tests.{by_registrant, by_request_holder, in_pending_by, launcher, maker, node_at, none_missing, request_at, wrong_request}
 use Rattle.np_changes.proofs.Makers.{launcher-maker}
 use Rattle.np_laws.specs.Parts.{Invariant, IsServed, StandsIn}
@@ -37,9 +16,10 @@ use Rattle.np_planned.specs.Spots.{listed, of_node, of_nodes, of_reason, of_requ
 use Rattle.np_planned.specs.declared.spot.Spot.{Spot}
 use Rattle.np_planned.specs.declared.spot.Spot.TheVariants as spot
 use Rattle.np_planned.proofs.Asked.{asked, decline-true, noded}
-use Rattle.np_planned.proofs.Known.{HasNode, HasRequest, IsMaker, both-parts, maker-is, spent-there}
+use Rattle.np_planned.proofs.Known.{HasNode, HasRequest, IsMaker, maker-is, spent-there}
 use Rattle.np_planned.proofs.Same.{decline_with, fulfil_rest, fulfil_with, leave_request_with, start_with, take_with, unlock_node_with, unlock_request_with}
-use Rattle.np_planned.proofs.Tests.{first-ok, found-is, later-ok, need-true, passes-of}
+use Rattle.np_planned.proofs.Tests.{first-ok, later-ok, need-true, passes-of}
+use Rattle.np_lists.proofs.RefusalLemmas.{found-some}
 
 -- what a spot is for is there; for a registration, the launcher is
 abbrev pub StandsAt : State → SessionId → Spot → Type 0
@@ -126,7 +106,7 @@ module _ (c : Configuration) (s : State) (holds : Invariant c s) (x : SessionId)
   complete-of p r request there ok =
       let last = later-ok (by_registrant s p x) (by_request_holder s r x) (fulfil_rest s x r p request) ok in
       let pending = need-true (is_pending_by p request) (wrong_request request) (first-ok (in_pending_by p request) (none_missing (unfilled p x r s.nodes request.labels request.nodes) >> Ok done.Plain) last) in
-      let state = (both-parts (is_pending request.state) (is_pool p request.pool) pending).0 in
+      let state = (and_parts (is_pending request.state) (is_pool p request.pool) pending).0 in
       let second = second-of (in_pending_by p request) (none_missing (unfilled p x r s.nodes request.labels request.nodes)) done.Plain last in
       let none = need-true (unfilled p x r s.nodes request.labels request.nodes == 0) (no.NotAll (unfilled p x r s.nodes request.labels request.nodes)) second in
       nodes-of p r request.labels request.nodes (served-few r request there state) (eqb-true (unfilled p x r s.nodes request.labels request.nodes) 0 none)
@@ -153,10 +133,10 @@ module _ (c : Configuration) (s : State) (holds : Invariant c s) (x : SessionId)
   unlocked-of : (r : RequestId) (role : Role) → is_ok (unlock_request_as s x r role) ≡ true → Stand s x (of_request r)
   unlocked-of r (role.Launcher p) ok =
       let request = passes-of (request_at s r) (unlock_request_with s x r p) ok in
-      request-of r request.found (found-is (request_in r s.requests) no.NoRequest request.found request.is)
+      request-of r request.found (found-some (request_in r s.requests) no.NoRequest request.found request.is)
   unlocked-of r (role.Janitor p) ok =
       let request = passes-of (request_at s r) (leave_request_with s x r) ok in
-      request-of r request.found (found-is (request_in r s.requests) no.NoRequest request.found request.is)
+      request-of r request.found (found-some (request_in r s.requests) no.NoRequest request.found request.is)
   unlocked-of r (role.Requester q) ok = absurd cc
   unlocked-of r role.Reaper ok = absurd cc
 

@@ -1,20 +1,10 @@
 -- rows of tests of which all pass
-use Rattle.std.proofs.Common.{◌≡◌, Bool, true, false, Option, Some, None, Result, Ok, Err, refl, sym, ◌∙◌, ap}
+use Rattle.std.proofs.Common.{◌≡◌, Bool, true, false, Option, Some, Result, Ok, Err, refl, sym, ◌∙◌, ap}
 use Rattle.std.specs.Prelude.{is_ok}
-use Rattle.np_text.specs.declared.id.PoolId.{PoolId}
-use Rattle.np_text.specs.declared.id.SessionId.{SessionId}
-use Rattle.np_text.specs.declared.id.NodeId.{NodeId}
-use Rattle.np_text.specs.declared.id.RequestId.{RequestId}
-use Rattle.np_text.specs.declared.id.Role.{Role}
-use Rattle.np_text.specs.declared.id.Role.TheVariants.{Launcher}
-use Rattle.np_lists.specs.Refusals.{◌>>=◌, ◌>>◌, found, need}
-use Rattle.np_record.specs.declared.record.NodeRecord.{NodeRecord}
-use Rattle.np_record.specs.declared.record.RequestRecord.{RequestRecord}
+use Rattle.np_changes.specs.Prelude.{Answer, Launcher, NodeId, NodeRecord, PoolId, RequestId, RequestRecord, Role, SessionId, State, found, launcher, maker, need, node_at, node_in, request_at, request_in, role_of, session_of, ◌>>=◌, ◌>>◌}
 use Rattle.np_event.specs.declared.reply.Refusal.TheVariants as no
-use Rattle.np_machine.specs.State.{State}
-use Rattle.np_machine.specs.Tables.{node_in, request_in, role_of, session_of}
-use Rattle.np_machine.specs.Tests.{Answer, launcher, maker, node_at, request_at}
 use Rattle.np_changes.proofs.Makers.{launcher-role}
+use Rattle.np_lists.proofs.RefusalLemmas.{found-some}
 
 -- something was found, and the rest passes
 pub record Passes {A B E : Type 0} (r : Result A E) (rest : A → Result B E) : Type 0 where
@@ -55,11 +45,6 @@ pub need-true : {E : Type 0} (b : Bool) (refusal : E) → is_ok (need b refusal)
 need-true true refusal ok = refl
 need-true false refusal ok = absurd cc
 
--- what was found is what is there
-pub found-is : {A E : Type 0} (o : Option A) (refusal : E) (a : A) → found o refusal ≡ Ok a → o ≡ Some a
-found-is None refusal a is = absurd cc
-found-is (Some b) refusal a is = cc
-
 -- ## two states
 
 module _ (s u : State) where
@@ -87,7 +72,7 @@ module _ (s u : State) where
     pub by-request : ((request : RequestRecord) → request_in r s.requests ≡ Some request → is_ok (rest_s request) ≡ true → is_ok (rest_u request) ≡ true) → is_ok (request_at s r >>= rest_s) ≡ true → is_ok (request_at u r >>= rest_u) ≡ true
     by-request step ok =
         let request = passes-of (request_at s r) rest_s ok in
-        let there = found-is (request_in r s.requests) no.NoRequest request.found request.is in
+        let there = found-some (request_in r s.requests) no.NoRequest request.found request.is in
         passes-to (request_at u r) rest_u request.found (ap (λ (o : Option RequestRecord). found o no.NoRequest) (sym same ∙ there)) (step request.found there request.passes)
 
   module _ (n : NodeId) (same : node_in n s.nodes ≡ node_in n u.nodes) (rest_s rest_u : NodeRecord → Answer) where
@@ -95,5 +80,5 @@ module _ (s u : State) where
     pub by-node : ((k : NodeRecord) → node_in n s.nodes ≡ Some k → is_ok (rest_s k) ≡ true → is_ok (rest_u k) ≡ true) → is_ok (node_at s n >>= rest_s) ≡ true → is_ok (node_at u n >>= rest_u) ≡ true
     by-node step ok =
         let k = passes-of (node_at s n) rest_s ok in
-        let there = found-is (node_in n s.nodes) no.NoNode k.found k.is in
+        let there = found-some (node_in n s.nodes) no.NoNode k.found k.is in
         passes-to (node_at u n) rest_u k.found (ap (λ (o : Option NodeRecord). found o no.NoNode) (sym same ∙ there)) (step k.found there k.passes)

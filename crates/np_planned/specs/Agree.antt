@@ -1,11 +1,6 @@
 -- states that agree at spots
 use Rattle.std.specs.Prelude.{◌≡◌, true, List, is_ok}
-use Rattle.std.specs.List.{AllByRecursion}
-use Rattle.np_site.specs.Configuration.{Configuration}
-use Rattle.np_event.specs.declared.event.Event.{Event}
-use Rattle.np_machine.specs.State.{State}
-use Rattle.np_machine.specs.Step.{judge}
-use Rattle.np_machine.specs.Tables.{node_in, node_queue, registered, request_in, request_queue, session_of}
+use Rattle.np_changes.specs.Prelude.{AllByRecursion, Configuration, Event, State, judge, node_in, node_queue, registered, request_in, request_queue, session_of}
 use Rattle.np_useful.specs.Planned.{is_planned}
 use Rattle.np_planned.specs.Spots.{spots_of}
 use Rattle.np_planned.specs.declared.spot.Spot.{Spot}

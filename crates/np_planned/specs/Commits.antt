@@ -1,15 +1,8 @@
 -- what was planned over a tree is accepted over a later one where the spots are fresh
 use Rattle.std.specs.Prelude.{◌≡◌, ℕ, true, List, is_ok}
-use Rattle.np_nodes.specs.TreeState.{TreeState}
-use Rattle.np_views.specs.Dates.{Since}
+use Rattle.np_layout.specs.Prelude.{IsStored, Since, TreeState}
 use Rattle.np_watch.specs.Fresh.{AreFreshPaths}
-use Rattle.np_site.specs.Configuration.{Configuration}
-use Rattle.np_event.specs.declared.entry.Entry.{Entry}
-use Rattle.np_event.specs.declared.event.Event.{Event}
-use Rattle.np_machine.specs.History.{Runs}
-use Rattle.np_machine.specs.State.{State}
-use Rattle.np_machine.specs.Step.{judge}
-use Rattle.np_layout.specs.Carried.{IsStored}
+use Rattle.np_changes.specs.Prelude.{Configuration, Entry, Event, Runs, State, judge}
 use Rattle.np_useful.specs.Planned.{is_planned}
 use Rattle.np_planned.specs.Spots.{paths_at, spots_of}
 

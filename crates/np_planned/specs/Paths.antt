@@ -1,16 +1,7 @@
 -- the paths of the spots of an accepted event
 use Rattle.std.specs.Prelude.{◌≡◌, ◌≤◌, ℕ, true, List, is_ok, length}
-use Rattle.std.specs.List.{AllByRecursion}
-use Rattle.np_nodes.specs.TreeState.{TreeState}
-use Rattle.np_views.specs.Dates.{Since}
-use Rattle.np_site.specs.Configuration.{Configuration}
-use Rattle.np_event.specs.declared.entry.Entry.{Entry}
-use Rattle.np_event.specs.declared.event.Event.{Event}
-use Rattle.np_machine.specs.History.{Runs}
-use Rattle.np_machine.specs.State.{State}
-use Rattle.np_machine.specs.Step.{judge}
-use Rattle.np_places.specs.Place.{IsGood}
-use Rattle.np_layout.specs.Carried.{IsStored}
+use Rattle.np_changes.specs.Prelude.{AllByRecursion, Configuration, Entry, Event, Runs, State, judge}
+use Rattle.np_layout.specs.Prelude.{IsGood, IsStored, Since, TreeState}
 use Rattle.np_useful.specs.Planned.{is_planned}
 use Rattle.np_planned.specs.Spots.{paths_at, place_of, spots_of}
 use Rattle.np_planned.specs.Stale.{StaleHasParent}

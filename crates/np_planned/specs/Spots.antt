@@ -1,20 +1,12 @@
 -- the planned events, and their spots: what of the tree the judgement of each reads
 use Rattle.std.specs.Prelude.{ℕ, List, [], ◌∷◌, ◌++◌, codes, map, Option, Some, None}
-use Rattle.std.specs.Option.{option_map_or}
-use Rattle.np_text.specs.declared.id.NodeId.{NodeId}
-use Rattle.np_text.specs.declared.id.RequestId.{RequestId}
-use Rattle.np_text.specs.declared.id.Role.{Role}
+use Rattle.np_changes.specs.Prelude.{Event, NodeId, Reason, RequestId, Role, State, option_map_or, request_in, role_of}
 use Rattle.np_text.specs.declared.id.Role.TheVariants as role
-use Rattle.np_text.specs.declared.word.Reason.{Reason}
 use Rattle.np_text.specs.declared.word.Reason.TheVariants as reason
-use Rattle.np_path.specs.Parts.{below}
-use Rattle.np_places.specs.Place.{path_of}
-use Rattle.np_places.specs.declared.place.Place.{Place}
-use Rattle.np_places.specs.declared.place.Place.TheVariants as place
-use Rattle.np_event.specs.declared.event.Event.{Event}
+use Rattle.np_layout.specs.Prelude.{below, path_of}
+use Rattle.np_layout.specs.declared.place.Place.{Place}
+use Rattle.np_layout.specs.declared.place.Place.TheVariants as place
 use Rattle.np_event.specs.declared.event.Event.TheVariants as ev
-use Rattle.np_machine.specs.State.{State}
-use Rattle.np_machine.specs.Tables.{request_in, role_of}
 use Rattle.np_planned.specs.declared.spot.Spot.{Spot}
 use Rattle.np_planned.specs.declared.spot.Spot.TheVariants as spot
 

@@ -1,8 +1,7 @@
 -- the first path that isn't fresh
 use Rattle.std.specs.Prelude.{◌≡◌, ℕ, Bool, true, not, List, Some, slice_get}
-use Rattle.std.specs.Option.{is_some}
+use Rattle.np_layout.specs.Prelude.{TreeState, is_some}
 use Rattle.np_lists.specs.Rising.{FirstAt}
-use Rattle.np_nodes.specs.TreeState.{TreeState}
 use Rattle.np_watch.specs.Fresh.{change_at_path, is_fresh, stat_above}
 use Rattle.np_planned.specs.declared.stale.Kept.{Kept}
 

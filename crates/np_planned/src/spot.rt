@@ -1,12 +1,11 @@
 //! What of the tree the judgement of an event reads.
 
 ghost use Rattle.std.specs.Prelude.{◌≡◌, IfOk, codes};
-ghost use Rattle.np_path.specs.Parts.{below};
-ghost use Rattle.np_places.specs.Place.{IsGood};
+ghost use Rattle.np_layout.specs.Prelude.{IsGood, below};
 ghost use Rattle.np_planned.specs.Spots.{path_at, place_of};
 
+use np_layout::{Place, to_path};
 use np_path::{Path, PathFault};
-use np_places::{Place, to_path};
 use np_record::{Item, Row};
 use np_text::{NoMemory, NodeId, PoolId, RequestId, SessionId};
 use std::alloc::Global;

@@ -1,14 +1,10 @@
 -- A tick at a board at which launchers plan.
 use Rattle.std.proofs.Common.{◌≡◌, refl}
-use Rattle.np_event.specs.declared.entry.Entry.{Entry}
+use Rattle.np_changes.specs.Prelude.{Configuration, Entry}
 use Rattle.np_event.specs.declared.event.Event.TheVariants as ev
-use Rattle.np_site.specs.Configuration.{Configuration}
-use Rattle.np_desk.specs.Pass.{Sight}
-use Rattle.np_desk.specs.Turned.{Answered}
+use Rattle.np_answers.specs.Prelude.{Answered, Sight, answers, recorded}
 use Rattle.np_answers.specs.declared.ask.Ask.TheVariants as ask
 use Rattle.np_answers.specs.declared.ask.Turn.{Turn}
-use Rattle.np_answers.specs.Answers.{answers}
-use Rattle.np_answers.specs.Asks.{recorded}
 use Rattle.np_board.specs.declared.planned.plan.PlanAsk.TheVariants as plan_ask
 use Rattle.np_board.specs.declared.planned.plan.PlanTurn.{PlanTurn}
 use Rattle.np_board.specs.declared.planned.plan.PlanTurn.TheVariants as plan_turn

@@ -1,12 +1,7 @@
 //! A site at whose board launchers plan, played to its end.
 
 ghost use Rattle.std.specs.Prelude.{◌≡◌, ◌<◌, [], length, map, All, IfOk, Some, true, false};
-ghost use Rattle.np_desk.specs.Part.{IsWhole};
-ghost use Rattle.np_desk.specs.Pass.{IsOf};
-ghost use Rattle.np_useful.specs.Settled.{IsSettled};
-ghost use Rattle.np_answers.specs.Answers.{IsFull};
-ghost use Rattle.np_answers.specs.Drive.{driving};
-ghost use Rattle.np_answers.specs.Legal.{is_legal};
+ghost use Rattle.np_answers.specs.Prelude.{IsFull, IsOf, IsSettled, IsWhole, driving, is_legal};
 ghost use Rattle.np_driven.specs.Planned.{PlannedBy};
 ghost use Rattle.np_driven.specs.Players.{WasAnswered, HaveDrivenAs};
 ghost use Rattle.np_driven.specs.Round.{IsRound};

@@ -1,10 +1,7 @@
 -- a tree and the journal that led to it
 use Rattle.std.specs.Prelude.{List}
-use Rattle.np_nodes.specs.TreeState.{TreeState}
-use Rattle.np_site.specs.Configuration.{Configuration}
-use Rattle.np_event.specs.declared.entry.Entry.{Entry}
-use Rattle.np_machine.specs.History.{Runs}
-use Rattle.np_layout.specs.Decoded.{decoded}
+use Rattle.np_layout.specs.Prelude.{TreeState, decoded}
+use Rattle.np_changes.specs.Prelude.{Configuration, Entry, Runs}
 use Rattle.np_keeper.specs.Keeper.{IsHeld}
 
 -- the tree stores the state that the journal leads to, with room for the events to come

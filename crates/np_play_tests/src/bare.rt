@@ -2,9 +2,7 @@
 //! changes.
 
 ghost use Rattle.std.specs.Prelude.{◌≡◌, ◌<◌, true, is_ok, OnOk, OnErr};
-ghost use Rattle.np_machine.specs.Step.{judge, next, reply_of};
-ghost use Rattle.np_changes.specs.Planned.{IsReached};
-ghost use Rattle.np_fits.specs.Fits.{Fits};
+ghost use Rattle.np_changes.specs.Prelude.{Fits, IsReached, judge, next, reply_of};
 ghost use Rattle.np_layout.specs.Decoded.{decoded};
 ghost use Rattle.np_keeper.specs.Keeper.{IsHeld};
 ghost use Rattle.np_reqstep.specs.Requests.{is_request_event};
@@ -101,7 +99,7 @@ fn is_semaphore_event(event: Event) -> bool
     )
 }
 
-/// The reply to the event, by the crate of its group; np_tree_look answers those of sessions.
+/// The reply to the event, by the crate of its group; np_keeper answers those of sessions.
 fn judge_event(tree: &Tree, config: &Config, event: Event) -> Reply
     requires held { IsHeld config.now tree.now }
     requires fits { Fits config.now (decoded config.now tree.now) }
@@ -114,11 +112,11 @@ fn judge_event(tree: &Tree, config: &Config, event: Event) -> Reply
     } else if is_semaphore_event(event) {
         judge_semaphore(tree, config, event)
     } else {
-        np_tree_look::judge(tree, config, event)
+        np_keeper::judge(tree, config, event)
     }
 }
 
-/// Makes the changes of an accepted event, by the crate of its group; np_tree_look makes those of
+/// Makes the changes of an accepted event, by the crate of its group; np_keeper makes those of
 /// sessions.
 fn enact_event(
     alloc: Global,
@@ -142,7 +140,7 @@ fn enact_event(
     } else if is_semaphore_event(event) {
         enact_semaphore(alloc, tree, config, event)
     } else {
-        np_tree_look::enact(alloc, tree, config, event)
+        np_keeper::enact(alloc, tree, config, event)
     }
 }
 

@@ -1,7 +1,7 @@
 //! Whether a board's machine answers searches by its index as a walk does, over its own rows and
 //! over those of its tree.
 
-ghost use Rattle.np_fits.specs.Fits.{Fits};
+ghost use Rattle.np_changes.specs.Fits.{Fits};
 
 use np_board::Board;
 use np_keeper::TreeStore;

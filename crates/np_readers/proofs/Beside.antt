@@ -1,8 +1,7 @@
 -- two lists member by member: what is found in one stands beside what is found in the other
 use Rattle.std.proofs.Common.{◌≡◌, ℕ, zero, suc, Bool, true, false, cond, List, [], ◌∷◌, length, map, Option, Some, None, refl, sym, ap, ◌∙◌, subst}
 use Rattle.std.specs.Prelude.{IfSome, find, slice_get}
-use Rattle.std.specs.List.{AllByRecursion, AllZip}
-use Rattle.np_lists.specs.Rising.{Rises}
+use Rattle.np_changes.specs.Prelude.{AllByRecursion, AllZip, Rises}
 use Rattle.np_lists.proofs.Each.{all-at}
 
 -- a member and the one beside it, or neither

@@ -1,30 +1,17 @@
 -- the handles and the swept pairs of a stored state, as its tree has them
 use Rattle.std.proofs.Common.{◌≡◌, ℕ, zero, suc, ◌+◌, ◌<◌, ◌≤◌, Bool, true, false, ◌||◌, cond, List, [], ◌∷◌, length, map, unwrap_or, Option, Some, None, refl, sym, ap, ◌∙◌, subst, arith}
 use Rattle.std.specs.Prelude.{◌==◌, find, slice_get, nat_lt}
-use Rattle.std.specs.List.{AllByRecursion, list_any}
-use Rattle.std.specs.Option.{is_some, option_map}
+use Rattle.np_changes.specs.Prelude.{AllByRecursion, Configuration, JobId, NodeId, SemId, State, handles_of, has_handle, is_pair, is_some, is_swept, list_any}
 use Rattle.std.specs.Str.{bytes_eq}
 use Rattle.std.proofs.lemmas.Bool.Decides.{nat_tests}
 use Rattle.std.proofs.lemmas.List.{length-map}
-use Rattle.np_text.specs.declared.id.JobId.{JobId}
-use Rattle.np_text.specs.declared.id.NodeId.{NodeId}
-use Rattle.np_text.specs.declared.id.SemId.{SemId}
 use Rattle.np_lists.proofs.Each.{all-weaker, length-insert_before}
 use Rattle.np_lists.proofs.FilterLemmas.{list_any-none}
-use Rattle.np_nodes.specs.TreeState.{TreeState}
-use Rattle.np_nodes.specs.declared.kind.Stat.{Stat}
+use Rattle.np_layout.specs.Prelude.{IsGood, IsStored, IsWhole, Row, Stat, TreeState, above, find_named, is_named, path_of, place_name, row_before, stat_at, with_row}
 use Rattle.np_nodes.proofs.PlaceLemmas.{bytes_eq-from}
-use Rattle.np_tree.specs.Read.{stat_at}
-use Rattle.np_tree.specs.Whole.{IsWhole}
-use Rattle.np_views.specs.Views.{Row, find_named, is_named, row_before, with_row}
-use Rattle.np_site.specs.Configuration.{Configuration}
-use Rattle.np_machine.specs.Node.{is_pair, is_swept}
-use Rattle.np_machine.specs.State.{State}
-use Rattle.np_machine.specs.Tables.{handles_of, has_handle}
 use Rattle.np_machine.specs.declared.state.Swept.{Swept as SweptPair}
-use Rattle.np_places.specs.Place.{IsGood, above, path_of, place_name}
-use Rattle.np_places.specs.declared.place.Place.{Place}
-use Rattle.np_places.specs.declared.place.Place.TheVariants.{Semaphores, Semaphore, Handle, Job, SweptPairs, Swept}
+use Rattle.np_layout.specs.declared.place.Place.{Place}
+use Rattle.np_layout.specs.declared.place.Place.TheVariants.{Semaphores, Semaphore, Handle, Job, SweptPairs, Swept}
 use Rattle.np_layout.specs.Layout.{HasHandles, under}
 use Rattle.np_layout.specs.Rows.{by_name, handle_row, places, semaphore_row, swept_row}
 use Rattle.np_layout.proofs.DeleteLists.{any-mapped}
@@ -32,14 +19,12 @@ use Rattle.np_layout.proofs.FirstKinds.{rows_put}
 use Rattle.np_layout.proofs.FirstLists.{all-numbered}
 use Rattle.np_layout.proofs.SetLists.{any-by_name, at-range}
 use Rattle.np_layout.proofs.SetSteps.{named-other}
-use Rattle.np_layout.specs.Carried.{IsStored}
 use Rattle.np_readers.proofs.Shown.{owner-named, rows-none}
+use Rattle.np_lists.proofs.Plain.{map-some}
+use Rattle.np_layout.proofs.DeleteHandles.{named-by}
+use Rattle.std.proofs.lemmas.Option.{slice_get_past}
 
 -- ## whether a place is there
-
-some-mapped : {A B : Type 0} (f : A → B) (o : Option A) → is_some (option_map f o) ≡ is_some o
-some-mapped f None = refl
-some-mapped f (Some a) = refl
 
 find-any : {X : Type 0} (p : X → Bool) (xs : List X) → is_some (find p xs) ≡ list_any p xs
 find-any p [] = refl
@@ -51,9 +36,9 @@ find-any p (x ∷ xs) = by (p x) (find-any p xs) where
 -- there is a stat at a good place if a row of its directory has its name
 pub there-named : (t : TreeState) (p dir : Place) → IsWhole t.nodes → IsGood p → above p ≡ Some dir → is_some (stat_at t (path_of p)) ≡ list_any (is_named (place_name p)) (under dir t)
 there-named t p dir whole good over =
-    sym (some-mapped (λ (stat : Stat). stat.owner) (stat_at t (path_of p)))
+    sym (map-some (λ (stat : Stat). stat.owner) (stat_at t (path_of p)))
     ∙ ap is_some (owner-named t p dir whole good over)
-    ∙ some-mapped (λ (row : Row). row.owner) (find_named (place_name p) (under dir t))
+    ∙ map-some (λ (row : Row). row.owner) (find_named (place_name p) (under dir t))
     ∙ find-any (is_named (place_name p)) (under dir t)
 
 -- there is none if there is no stat
@@ -84,11 +69,6 @@ of-handles P handles x none all = each handles x.0 all where
   each (jobs ∷ list) zero all = all.0
   each (jobs ∷ list) (suc at) all = each list at all.1
 
-past-end : {A : Type 0} (list : List A) (at : ℕ) → length list ≤ at → slice_get list at ≡ None
-past-end [] at past = refl
-past-end (a ∷ list) zero past = absurd (omega arith)
-past-end (a ∷ list) (suc at) past = past-end list at (omega arith)
-
 abbrev semaphore_of : Place → ℕ
 semaphore_of (Semaphore x) = x.0
 semaphore_of other = 0
@@ -116,7 +96,7 @@ module _ (c : Configuration) (s : State) (t : TreeState) (stored : IsStored c s 
     by false is =
         let past : length s.handles ≤ x.0 = grind (arith, nat_tests) in
         rows-none t (path_of (Semaphore x)) stored.whole (no-semaphore x good past)
-        ∙ sym (ap (λ (o : Option (List JobId)). by_name (map (handle_row x) (unwrap_or o []))) (past-end s.handles x.0 past))
+        ∙ sym (ap (λ (o : Option (List JobId)). by_name (map (handle_row x) (unwrap_or o []))) (slice_get_past s.handles x.0 past))
 
   -- there are as many as handles
   pub handles-counted : (x : SemId) → IsGood (Semaphore x) → length (under (Semaphore x) t) ≡ length (handles_of x s.handles)
@@ -124,23 +104,6 @@ module _ (c : Configuration) (s : State) (t : TreeState) (stored : IsStored c s 
       ap length (handles-under x good) ∙ length-by_name (map (handle_row x) (handles_of x s.handles)) ∙ length-map (handles_of x s.handles) (handle_row x)
 
 -- ## the names of handles
-
-same-job : (a b : JobId) → (a.0 == b.0) ≡ true → a ≡ b
-same-job a b same = let number : a.0 ≡ b.0 = grind (arith, nat_tests) in ap (λ (n : ℕ). record { 0 = n }) number
-
-same-self : (a : JobId) → (a.0 == a.0) ≡ true
-same-self a = grind (arith, nat_tests)
-
-abbrev job_of : Place → JobId
-job_of (Handle x j) = j
-job_of other = record { 0 = 0 }
-
-handle-named : (x : SemId) (j other : JobId) (b : Bool) → (other.0 == j.0) ≡ b → IsGood (Handle x j) → IsGood (Handle x other) → bytes_eq (place_name (Handle x other)) (place_name (Handle x j)) ≡ b
-handle-named x j other true same j_good other_good = bytes_eq-from (place_name (Handle x other)) (place_name (Handle x j)) (ap (λ (k : JobId). place_name (Handle x k)) (same-job other j same))
-handle-named x j other false same j_good other_good =
-    named-other (Handle x j) (Handle x other) j_good other_good refl (λ equal.
-    let itself = subst (λ (k : JobId). (other.0 == k.0) ≡ true) (ap job_of equal) (same-self other) in
-    absurd cc)
 
 -- there is a node of a job's handle if the job has it
 pub handle-there : (c : Configuration) (s : State) (t : TreeState) (x : SemId) (j : JobId) → IsStored c s t → IsGood (Handle x j) → is_some (stat_at t (path_of (Handle x j))) ≡ has_handle j s.handles x
@@ -150,7 +113,7 @@ handle-there c s t x j stored good =
     ∙ any-by_name (is_named (place_name (Handle x j))) (map (handle_row x) (handles_of x s.handles))
     ∙ any-mapped (handle_row x) (is_named (place_name (Handle x j))) (λ other. other.0 == j.0) (handles_of x s.handles)
     (all-weaker (λ (other : JobId). IsGood (Job other)) (λ (other : JobId). is_named (place_name (Handle x j)) (handle_row x other) ≡ (other.0 == j.0))
-    (λ other other_good. handle-named x j other (other.0 == j.0) refl good (good.0, other_good)) (handles_of x s.handles)
+    (λ other other_good. named-by x j other (other.0 == j.0) refl good (good.0, other_good)) (handles_of x s.handles)
     (of-handles (λ jobs. AllByRecursion (λ other. IsGood (Job other)) jobs) s.handles x tt stored.carried.good.handles))
 
 -- ## swept pairs

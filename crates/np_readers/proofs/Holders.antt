@@ -1,19 +1,13 @@
 -- the jobs with a handle, from a number on
-use Rattle.std.proofs.Common.{◌≡◌, ℕ, zero, suc, ◌-◌, ◌<◌, ◌≤◌, Bool, true, false, List, [], ◌∷◌, length, Some, None, refl, sym, ap, ◌∙◌, arith, cond}
+use Rattle.std.proofs.Common.{◌≡◌, ℕ, zero, suc, ◌-◌, ◌<◌, ◌≤◌, Bool, true, false, List, [], ◌∷◌, length, Some, refl, sym, ap, ◌∙◌, arith, cond}
 use Rattle.std.specs.Prelude.{◌==◌, ◌||◌, filter, slice_get, nat_le, nat_lt}
-use Rattle.std.specs.List.{AllByRecursion}
+use Rattle.np_changes.specs.Prelude.{AllByRecursion, Configuration, JobId, Rises, SemId, State, handles_of, is_among}
 use Rattle.std.proofs.lemmas.Bool.Decides.{nat_tests}
-use Rattle.np_text.specs.declared.id.JobId.{JobId}
-use Rattle.np_lists.specs.Rising.{Rises}
 use Rattle.np_lists.proofs.Each.{all-weaker}
 use Rattle.np_lists.proofs.FilterLemmas.{filter-nothing, list_any-none}
-use Rattle.np_machine.specs.Tables.{handles_of, is_among}
-use Rattle.np_site.specs.Configuration.{Configuration}
-use Rattle.np_machine.specs.State.{State}
-use Rattle.np_nodes.specs.TreeState.{TreeState}
-use Rattle.np_layout.specs.Carried.{AreHolders, IsStored}
-use Rattle.np_text.specs.declared.id.SemId.{SemId}
+use Rattle.np_layout.specs.Prelude.{AreHolders, IsStored, TreeState}
 use Rattle.np_readers.proofs.HandleRows.{of-handles}
+use Rattle.std.proofs.lemmas.Bool.{or_parts}
 
 -- the jobs whose numbers are not below this one
 abbrev pub jobs_from : ℕ → List JobId → List JobId
@@ -35,15 +29,11 @@ from-by k j jobs true false low high same later = absurd cc
 from-by k j jobs false true low high same later = absurd cc
 from-by k j jobs false false low high same later = later
 
-both-none : (a b : Bool) → (a || b) ≡ false → (a ≡ false) × (b ≡ false)
-both-none true b is = absurd cc
-both-none false b is = (refl, is)
-
 -- a number that is none of theirs is passed over
 pub from-over : (k : ℕ) (jobs : List JobId) → is_among (record { 0 = k }) jobs ≡ false → jobs_from k jobs ≡ jobs_from (suc k) jobs
 from-over k [] is = refl
 from-over k (j ∷ jobs) is =
-    let none = both-none (j.0 == k) (is_among (record { 0 = k }) jobs) is in
+    let none = or_parts (j.0 == k) (is_among (record { 0 = k }) jobs) is in
     from-by k j jobs (nat_le k j.0) (nat_le (suc k) j.0) refl refl (steps k j.0 none.0) (from-over k jobs none.1) where
       steps : (k n : ℕ) → (n == k) ≡ false → nat_le k n ≡ nat_le (suc k) n
       steps k n other = grind (arith, nat_tests)
@@ -110,9 +100,3 @@ holder-later k zero jobs rises is later = absurd (later refl)
 holder-later k (suc at) jobs rises is later =
     let minus : suc at - 1 ≡ at = omega arith in
     ap (λ (list : List JobId). slice_get list (suc at)) (from-here k jobs rises is) ∙ ap (λ (n : ℕ). slice_get (jobs_from (suc k) jobs) n) (sym minus)
-
--- the places of a list are below its length
-pub get-none : {A : Type 0} (list : List A) (at : ℕ) → slice_get list at ≡ None → length list ≤ at
-get-none [] at is = omega arith
-get-none (a ∷ list) zero is = absurd cc
-get-none (a ∷ list) (suc at) is = let later = get-none list at is in omega arith

@@ -1,38 +1,24 @@
 -- what is read of the nodes of a stored state
 use Rattle.std.proofs.Common.{◌≡◌, ℕ, ◌<◌, ◌^◌, true, false, List, [], length, Option, Some, None, Result, Ok, refl, sym, ap, ◌∙◌, subst}
 use Rattle.std.specs.Prelude.{IfSome, slice_get}
-use Rattle.std.specs.List.{AllByRecursion, AllZip}
-use Rattle.std.specs.Option.{option_map, option_map_or}
-use Rattle.np_text.specs.Number.{ten_digits_of}
-use Rattle.np_text.specs.declared.id.NodeId.{NodeId}
-use Rattle.np_text.specs.declared.id.SessionId.{SessionId}
-use Rattle.np_lists.specs.Rising.{Rises}
+use Rattle.np_changes.specs.Prelude.{AllByRecursion, AllZip, Configuration, NodeEntry, NodeId, NodeRecord, Rises, SessionId, State, node_entry, node_in, node_queue, option_map, option_map_or, ten_digits_of}
 use Rattle.np_lists.proofs.Each.{all-at, all-find}
-use Rattle.np_nodes.specs.TreeState.{TreeState}
-use Rattle.np_tree.specs.Read.{bytes_at}
-use Rattle.np_views.specs.Views.{Row, find_named, is_named, rows_at}
-use Rattle.np_views.proofs.RelationLemmas.{rows-rise}
-use Rattle.np_views.proofs.SiblingLemmas.{other-name}
-use Rattle.np_site.specs.Configuration.{Configuration}
-use Rattle.np_record.specs.declared.record.NodeRecord.{NodeRecord}
+use Rattle.np_layout.specs.Prelude.{BadRecord, IsGood, IsStored, Row, TreeState, bytes_at, find_named, is_named, path_of, place_name, rows_at}
+use Rattle.np_tree.proofs.RelationLemmas.{rows-rise}
+use Rattle.np_tree.proofs.SiblingLemmas.{other-name}
 use Rattle.np_spelling.specs.Spelling.{SpellsNode}
-use Rattle.np_spelling.specs.declared.fault.BadRecord.{BadRecord}
-use Rattle.np_machine.specs.Entries.{NodeEntry}
-use Rattle.np_machine.specs.State.{State}
-use Rattle.np_machine.specs.Tables.{node_entry, node_in, node_queue}
-use Rattle.np_places.specs.Place.{IsGood, path_of, place_name}
-use Rattle.np_places.specs.declared.place.Place.TheVariants.{Node, NodeLock, Nodes}
+use Rattle.np_layout.specs.declared.place.Place.TheVariants.{Node, NodeLock, Nodes}
 use Rattle.np_layout.specs.Layout.{HasNodeLock, IsNodeRow, IsQueue, IsWait, under}
 use Rattle.np_layout.specs.Rows.{persistent}
 use Rattle.np_layout.proofs.CreateNodeWaits.{node_before, rises-zip}
 use Rattle.np_layout.proofs.DeleteNodeWaits.{found-node, is_node_it, node-tells}
-use Rattle.np_layout.proofs.SetNodes.{named-by, same-self}
+use Rattle.np_layout.proofs.SetNodes.{named-by}
 use Rattle.np_look.specs.Views.{node_view}
-use Rattle.np_layout.specs.Carried.{IsStored}
 use Rattle.np_readers.proofs.Beside.{Beside, beside-at, beside-found, found-there, if-at, length-beside}
 use Rattle.np_readers.proofs.RequestReads.{IsRead}
 use Rattle.np_readers.proofs.Shown.{bytes-named}
 use Rattle.np_readers.proofs.Waits.{nothing-under}
+use Rattle.np_machine.proofs.Ids.{node-itself}
 
 -- a node is there, and its number is spelled by ten digits
 pub record IsSpelled (name : List ℕ) (o : Option NodeId) : Type 0 where
@@ -153,7 +139,7 @@ module _ (c : Configuration) (s : State) (t : TreeState) (stored : IsStored c s 
   -- is found by its id
   entry-at : (at : ℕ) (e : NodeEntry) → slice_get s.nodes at ≡ Some e → node_entry e.id s.nodes ≡ Some e
   entry-at at e there =
-      found-there node_before HasId (is_node_it e.id) e (same-self e.id) (apart e (all-at HasId s.nodes at e has-ids there)) s.nodes at rises has-ids there
+      found-there node_before HasId (is_node_it e.id) e (node-itself e.id) (apart e (all-at HasId s.nodes at e has-ids there)) s.nodes at rises has-ids there
 
   abbrev viewed_at : ℕ → Option NodeId
   viewed_at at = option_map (λ (e : NodeEntry). e.id) (slice_get s.nodes at)

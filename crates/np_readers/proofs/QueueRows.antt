@@ -1,33 +1,19 @@
 -- the queues that a session is in, in a stored state and in its tree
-use Rattle.std.proofs.Common.{◌≡◌, ℕ, zero, suc, ◌+◌, ◌<◌, ◌^◌, Bool, false, ◌||◌, cond, List, [], ◌∷◌, drop, length, map, Option, Some, None, refl, sym, ap, ◌∙◌, arith}
+use Rattle.std.proofs.Common.{◌≡◌, ℕ, zero, suc, ◌+◌, ◌<◌, ◌^◌, Bool, false, ◌||◌, cond, List, [], ◌∷◌, drop, length, Option, Some, None, refl, sym, ap, ◌∙◌, arith}
 use Rattle.std.specs.Prelude.{◌==◌, IfSome, option_and_then, slice_get}
-use Rattle.std.specs.List.{AllZip, list_any}
-use Rattle.std.specs.Option.{option_map, option_map_or}
+use Rattle.np_changes.specs.Prelude.{AllZip, Configuration, HasText, NodeEntry, NodeId, RequestEntry, RequestId, SessionId, State, is_queued, is_session, list_any, option_map, option_map_or, request_of, ten_digits_of}
 use Rattle.std.proofs.lemmas.Bool.Decides.{nat_tests}
 use Rattle.std.proofs.lemmas.List.{length-map}
-use Rattle.np_text.specs.Number.{ten_digits_of}
-use Rattle.np_text.specs.Request.{HasText, request_of}
-use Rattle.np_text.specs.declared.id.NodeId.{NodeId}
-use Rattle.np_text.specs.declared.id.RequestId.{RequestId}
-use Rattle.np_text.specs.declared.id.SessionId.{SessionId}
 use Rattle.np_text.proofs.RequestLemmas.{request_of-spelled, request_of-text}
 use Rattle.np_lists.proofs.Each.{all-at}
-use Rattle.np_nodes.specs.TreeState.{TreeState}
-use Rattle.np_nodes.specs.Nodes.{is_owner}
-use Rattle.np_tree.specs.Read.{child_name}
-use Rattle.np_views.specs.Views.{Row}
-use Rattle.np_site.specs.Configuration.{Configuration}
-use Rattle.np_machine.specs.Entries.{NodeEntry, RequestEntry}
-use Rattle.np_machine.specs.State.{State}
-use Rattle.np_machine.specs.Tables.{is_queued, is_session}
-use Rattle.np_places.specs.Place.{IsGood, path_of, place_name}
-use Rattle.np_places.specs.declared.place.Place.TheVariants.{Requests, Request, RequestLock, Nodes, Node, NodeLock}
+use Rattle.np_layout.specs.Prelude.{IsGood, IsStored, Row, TreeState, child_name, is_owner, path_of, place_name}
+use Rattle.np_layout.specs.declared.place.Place.TheVariants.{Requests, Request, RequestLock, Nodes, Node, NodeLock}
 use Rattle.np_layout.specs.Layout.{HasNodeLock, IsNodeRow, IsQueue, IsWait, under}
 use Rattle.np_layout.specs.Rows.{request_row, tree_session}
-use Rattle.np_layout.specs.Carried.{IsStored}
 use Rattle.np_readers.specs.Queues.{node_if_queued, request_if_queued}
 use Rattle.np_readers.proofs.Shown.{name-at}
 use Rattle.np_readers.proofs.Steps.{passing_from}
+use Rattle.np_lists.proofs.Plain.{get-map}
 
 -- the ids of those in whose queues a session is, from a place on
 abbrev pub requests_from : SessionId → ℕ → State → List RequestId
@@ -66,11 +52,6 @@ any-step p (x ∷ xs) (suc i) = any-step p xs i
 
 -- ## the names of requests and nodes
 
-get-mapped : {A B : Type 0} (f : A → B) (list : List A) (at : ℕ) → slice_get (map f list) at ≡ option_map f (slice_get list at)
-get-mapped f [] at = refl
-get-mapped f (a ∷ list) zero = refl
-get-mapped f (a ∷ list) (suc at) = get-mapped f list at
-
 pub has-text : (text : List ℕ) (o : Option RequestId) → o ≡ request_of text → IfSome o HasText
 has-text text None is = tt
 has-text text (Some id) is = (request_of-spelled id text (sym is)).0
@@ -80,7 +61,7 @@ module _ (c : Configuration) (s : State) (t : TreeState) (stored : IsStored c s 
   name-of_request at =
       name-at t (path_of Requests) at
       ∙ ap (λ (rows : List Row). option_map (λ (row : Row). row.name) (slice_get rows at)) stored.lays.requests.rows
-      ∙ ap (option_map (λ (row : Row). row.name)) (get-mapped request_row s.requests at)
+      ∙ ap (option_map (λ (row : Row). row.name)) (get-map request_row s.requests at)
       ∙ by (slice_get s.requests at) where
         by : (o : Option RequestEntry) → option_map (λ (row : Row). row.name) (option_map request_row o) ≡ option_map (λ (e : RequestEntry). place_name (Request e.id)) o
         by None = refl

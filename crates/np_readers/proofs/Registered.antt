@@ -1,30 +1,17 @@
 -- who is registered for each pool, as the tree shows it, and the registrations in the order of pools
 use Rattle.std.proofs.Common.{◌≡◌, ℕ, zero, suc, ◌+◌, ◌-◌, ◌<◌, ◌≤◌, Bool, true, false, ◌||◌, cond, List, [], ◌∷◌, length, map, Option, Some, None, refl, sym, ap, ◌∙◌, arith}
 use Rattle.std.specs.Prelude.{filter, find, slice_get, ◌==◌, nat_le, nat_lt, option_and_then}
-use Rattle.std.specs.List.{AllByRecursion, list_any}
-use Rattle.std.specs.Option.{is_some, option_map}
+use Rattle.np_changes.specs.Prelude.{AllByRecursion, Configuration, PoolId, Registration, Rises, SessionId, State, is_some, list_any, option_map, registered}
 use Rattle.std.specs.Str.{bytes_eq}
 use Rattle.std.proofs.lemmas.Bool.Decides.{nat_tests}
-use Rattle.np_text.specs.declared.id.PoolId.{PoolId}
-use Rattle.np_text.specs.declared.id.SessionId.{SessionId}
-use Rattle.np_lists.specs.Rising.{Rises}
 use Rattle.np_lists.proofs.Each.{all-find, all-weaker}
 use Rattle.np_lists.proofs.FoundLemmas.{find-passes}
-use Rattle.np_nodes.specs.TreeState.{TreeState}
-use Rattle.np_nodes.specs.declared.kind.Stat.{Stat}
+use Rattle.np_layout.specs.Prelude.{IsGood, IsStored, Row, Stat, TreeState, find_named, is_named, path_of, place_name, stat_at}
 use Rattle.np_nodes.proofs.PlaceLemmas.{bytes_eq-from}
-use Rattle.np_tree.specs.Read.{stat_at}
-use Rattle.np_views.specs.Views.{Row, find_named, is_named}
-use Rattle.np_site.specs.Configuration.{Configuration}
-use Rattle.np_machine.specs.State.{State}
-use Rattle.np_machine.specs.Tables.{registered}
-use Rattle.np_machine.specs.declared.state.Registration.{Registration}
-use Rattle.np_places.specs.Place.{IsGood, path_of, place_name}
-use Rattle.np_places.specs.declared.place.Place.{Place}
-use Rattle.np_places.specs.declared.place.Place.TheVariants.{Launcher, Launchers}
+use Rattle.np_layout.specs.declared.place.Place.{Place}
+use Rattle.np_layout.specs.declared.place.Place.TheVariants.{Launcher, Launchers}
 use Rattle.np_layout.specs.Rows.{launcher_row}
 use Rattle.np_layout.proofs.SetSteps.{named-other}
-use Rattle.np_layout.specs.Carried.{IsStored}
 use Rattle.np_readers.proofs.Shown.{IsOnly, find-ordered, owner-named}
 
 -- ## the row of a registration

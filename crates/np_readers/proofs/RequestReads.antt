@@ -1,38 +1,23 @@
 -- what is read of the requests of a stored state
 use Rattle.std.proofs.Common.{◌≡◌, ℕ, Bool, true, false, List, [], length, Option, Some, None, Result, Ok, refl, sym, ap, ◌∙◌, subst}
 use Rattle.std.specs.Prelude.{IfSome, slice_get}
-use Rattle.std.specs.List.{AllByRecursion, AllZip}
-use Rattle.std.specs.Option.{option_map, option_map_or}
-use Rattle.np_text.specs.Request.{HasText, request_of}
-use Rattle.np_text.specs.declared.id.RequestId.{RequestId}
-use Rattle.np_text.specs.declared.id.SessionId.{SessionId}
+use Rattle.np_changes.specs.Prelude.{AllByRecursion, AllZip, Configuration, HasText, RequestEntry, RequestId, RequestRecord, Rises, SessionId, State, option_map, option_map_or, request_entry, request_in, request_of, request_queue}
 use Rattle.np_text.proofs.RequestLemmas.{request_of-text}
-use Rattle.np_lists.specs.Rising.{Rises}
 use Rattle.np_lists.proofs.Each.{all-at, all-find, all-weaker}
-use Rattle.np_nodes.specs.TreeState.{TreeState}
-use Rattle.np_tree.specs.Read.{bytes_at}
-use Rattle.np_views.specs.Views.{Row, find_named, is_named, row_before, rows_at}
-use Rattle.np_views.proofs.RelationLemmas.{rows-rise}
-use Rattle.np_views.proofs.SiblingLemmas.{other-name}
-use Rattle.np_site.specs.Configuration.{Configuration}
-use Rattle.np_record.specs.declared.record.RequestRecord.{RequestRecord}
+use Rattle.np_layout.specs.Prelude.{BadRecord, IsStored, IsWait, Row, TreeState, bytes_at, find_named, is_named, path_of, place_name, row_before, rows_at, under}
+use Rattle.np_tree.proofs.RelationLemmas.{rows-rise}
+use Rattle.np_tree.proofs.SiblingLemmas.{other-name}
 use Rattle.np_spelling.specs.Spelling.{IsRequest, SpellsRequest}
-use Rattle.np_spelling.specs.declared.fault.BadRecord.{BadRecord}
-use Rattle.np_machine.specs.Entries.{RequestEntry}
-use Rattle.np_machine.specs.State.{State}
-use Rattle.np_machine.specs.Tables.{request_entry, request_in, request_queue}
-use Rattle.np_places.specs.Place.{path_of, place_name}
-use Rattle.np_places.specs.declared.place.Place.TheVariants.{Request, RequestLock, RequestLocks, Requests}
-use Rattle.np_layout.specs.Layout.{IsWait, under}
+use Rattle.np_layout.specs.declared.place.Place.TheVariants.{Request, RequestLock, RequestLocks, Requests}
 use Rattle.np_layout.specs.Rows.{request_lock_row, request_row}
 use Rattle.np_layout.proofs.DeleteOnce.{Tells, tells-mapped}
 use Rattle.np_layout.proofs.DeleteRequestWaits.{is_request_it, lock-names, request-good, request-queue}
-use Rattle.np_layout.proofs.SetRequests.{named-by, same-self}
+use Rattle.np_layout.proofs.SetRequests.{named-by}
 use Rattle.np_look.specs.Views.{request_view}
-use Rattle.np_layout.specs.Carried.{IsStored}
 use Rattle.np_readers.proofs.Beside.{Beside, beside-at, beside-found, found-there, if-at, length-beside, rises-of, zip-map}
 use Rattle.np_readers.proofs.Shown.{bytes-named}
 use Rattle.np_readers.proofs.Waits.{nothing-under}
+use Rattle.np_machine.proofs.Ids.{request-itself}
 
 -- what was read is what is there
 pub record IsRead {A : Type 0} (o : Option A) (r : Result A BadRecord) : Type 0 where
@@ -183,7 +168,7 @@ module _ (c : Configuration) (s : State) (t : TreeState) (stored : IsStored c s 
   -- is found by its id
   entry-at : (at : ℕ) (e : RequestEntry) → slice_get s.requests at ≡ Some e → request_entry e.id s.requests ≡ Some e
   entry-at at e there =
-      found-there request_before HasId (is_request_it e.id) e (same-self e.id) (apart e (all-at HasId s.requests at e has-ids there)) s.requests at rises has-ids there
+      found-there request_before HasId (is_request_it e.id) e (request-itself e.id) (apart e (all-at HasId s.requests at e has-ids there)) s.requests at rises has-ids there
 
   abbrev viewed_at : ℕ → Option RequestId
   viewed_at at = option_map (λ (e : RequestEntry). e.id) (slice_get s.requests at)

@@ -1,30 +1,20 @@
 -- what a tree's readers answer at the path of a place: the row of the place's name among its siblings
-use Rattle.std.proofs.Common.{◌≡◌, ℕ, zero, suc, ◌+◌, ◌<◌, ◌≤◌, Bool, true, false, ◌||◌, List, [], ◌∷◌, length, map, Option, Some, None, refl, sym, ap, ◌∙◌, subst, arith}
+use Rattle.std.proofs.Common.{◌≡◌, ℕ, zero, suc, ◌+◌, ◌<◌, ◌≤◌, Bool, true, false, ◌||◌, List, [], ◌∷◌, length, Option, Some, None, refl, sym, ap, ◌∙◌, subst, arith}
 use Rattle.std.specs.Prelude.{slice_get}
-use Rattle.std.specs.List.{AllByRecursion, list_any}
-use Rattle.std.specs.Option.{is_some, option_map}
+use Rattle.np_layout.specs.Prelude.{AllByRecursion, IsGood, IsWhole, Node, Row, Seen, Stat, TreeState, above, at_path, bytes_at, child_name, children_of, find_named, is_at, is_named, is_some, list_any, name_of, option_map, path_of, place_name, row_of, rows_at, seen_at, seen_in, seen_of, stat_at, stat_of, stat_of_child, under}
 use Rattle.std.proofs.lemmas.List.{length-map}
 use Rattle.np_lists.proofs.Each.{all-find}
 use Rattle.np_lists.proofs.FilterLemmas.{list_any-none}
 use Rattle.np_lists.proofs.FoundLemmas.{find-passes}
 use Rattle.np_lists.proofs.Halves.{none-find}
-use Rattle.np_path.specs.Parts.{name_of}
-use Rattle.np_nodes.specs.TreeState.{TreeState}
-use Rattle.np_nodes.specs.Nodes.{at_path, children_of, is_at, stat_of}
-use Rattle.np_nodes.specs.declared.kind.Stat.{Stat}
-use Rattle.np_nodes.specs.declared.node.Node.{Node}
 use Rattle.np_nodes.proofs.PlaceLemmas.{bytes_eq-is}
-use Rattle.np_tree.specs.Read.{bytes_at, child_name, stat_at, stat_of_child}
-use Rattle.np_tree.specs.Whole.{IsWhole}
-use Rattle.np_views.specs.Views.{Row, Seen, find_named, is_named, row_of, rows_at, seen_at, seen_in, seen_of}
-use Rattle.np_views.proofs.RelationLemmas.{rows-nothing, seen-is-row}
-use Rattle.np_places.specs.Place.{IsGood, above, path_of, place_name}
-use Rattle.np_places.specs.declared.place.Place.{Place}
-use Rattle.np_places.proofs.AboveLemmas.{is_path-of, parts-of}
-use Rattle.np_layout.specs.Layout.{under}
+use Rattle.np_tree.proofs.RelationLemmas.{rows-nothing, seen-is-row}
+use Rattle.np_layout.specs.declared.place.Place.{Place}
+use Rattle.np_layout.proofs.AboveLemmas.{is_path-of, parts-of}
 use Rattle.np_layout.specs.Rows.{by_name, rows_from}
 use Rattle.np_layout.proofs.FirstLists.{all-put}
 use Rattle.np_layout.proofs.SetLists.{any-by_name}
+use Rattle.np_lists.proofs.Plain.{get-map}
 
 -- ## one place
 
@@ -34,7 +24,7 @@ seen-named t p dir whole good over =
     seen-is-row t (path_of p) (path_of dir) whole (is_path-of p good) ((parts-of p good).0 ∙ ap (option_map path_of) over)
     ∙ ap (λ (name : List ℕ). option_map seen_in (find_named name (under dir t))) (parts-of p good).1
 
-bytes-seen : (o : Option Node) → option_map (λ (n : Node). n.bytes) o ≡ option_map (λ (seen : Seen). seen.bytes) (option_map seen_of o)
+pub bytes-seen : (o : Option Node) → option_map (λ (n : Node). n.bytes) o ≡ option_map (λ (seen : Seen). seen.bytes) (option_map seen_of o)
 bytes-seen None = refl
 bytes-seen (Some n) = refl
 
@@ -83,11 +73,6 @@ rows-counted t dir stat is = count-by t.nodes dir (at_path t.nodes dir) stat ref
 -- and there are none if there is no stat
 pub rows-none : (t : TreeState) (dir : List ℕ) → IsWhole t.nodes → stat_at t dir ≡ None → rows_at t dir ≡ []
 rows-none t dir whole is = rows-nothing t.nodes dir whole.stand (none-there t.nodes (at_path t.nodes dir) is)
-
-get-map : {A B : Type 0} (f : A → B) (list : List A) (at : ℕ) → slice_get (map f list) at ≡ option_map f (slice_get list at)
-get-map f [] at = refl
-get-map f (a ∷ list) zero = refl
-get-map f (a ∷ list) (suc at) = get-map f list at
 
 name-row : (o : Option Node) → option_map (λ (n : Node). name_of n.path) o ≡ option_map (λ (row : Row). row.name) (option_map row_of o)
 name-row None = refl

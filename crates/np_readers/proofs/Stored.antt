@@ -2,44 +2,20 @@
 use Rattle.std.proofs.Common.{◌≡◌, ℕ, zero, suc, ◌+◌, ◌-◌, ◌<◌, ◌≤◌, Bool, true, false, ◌||◌, cond, List, [], ◌∷◌, ◌++◌, length, map, Option, Some, None, Result, Ok, refl, sym, ap, ◌∙◌, subst, arith}
 use Rattle.std.specs.Fmt.{decimal}
 use Rattle.std.specs.Prelude.{slice_get, ◌==◌, IfSome}
-use Rattle.std.specs.List.{AllByRecursion, list_any, range_with_len}
-use Rattle.std.specs.Option.{is_some, option_map}
+use Rattle.np_changes.specs.Prelude.{AllByRecursion, Configuration, JobId, JobRecord, NonePass, PoolId, RequesterId, Role, RoleRecord, SessionFacts, SessionId, SessionRecord, State, is_some, list_any, number_of, option_map, range_with_len, role_in, session_of}
 use Rattle.std.proofs.lemmas.Bool.{eqb-false, eqb-true}
 use Rattle.std.proofs.lemmas.List.{length-map}
 use Rattle.std.proofs.lemmas.List.Folds.{list_any-append}
-use Rattle.np_text.specs.declared.id.JobId.{JobId}
-use Rattle.np_text.specs.declared.id.PoolId.{PoolId}
-use Rattle.np_text.specs.declared.id.RequesterId.{RequesterId}
-use Rattle.np_text.specs.declared.id.Role.{Role}
 use Rattle.np_text.specs.declared.id.Role.TheVariants as role
-use Rattle.np_text.specs.declared.id.SessionId.{SessionId}
-use Rattle.np_text.specs.Number.{number_of}
 use Rattle.np_text.proofs.SpellingLemmas.{number_of-decimal}
-use Rattle.np_lists.specs.Rising.{NonePass}
 use Rattle.np_lists.proofs.Each.{all-at, all-weaker, length-insert_before}
 use Rattle.np_lists.proofs.FilterLemmas.{list_any-none}
-use Rattle.np_session.specs.Known.{is_in}
-use Rattle.np_nodes.specs.TreeState.{TreeState}
-use Rattle.np_tree.specs.Read.{bytes_at}
-use Rattle.np_views.specs.Views.{Row, find_named, is_named, row_before, rows_at, with_row}
-use Rattle.np_site.specs.Configuration.{Configuration}
-use Rattle.np_record.specs.declared.record.JobRecord.{JobRecord}
-use Rattle.np_record.specs.declared.record.RoleRecord.{RoleRecord}
-use Rattle.np_record.specs.declared.record.SessionRecord.{SessionRecord}
-use Rattle.np_spelling.specs.Spelling.{IsJob, IsRole, IsSession, IsSessionRole, job_text, role_text, session_text}
-use Rattle.np_spelling.specs.declared.fault.BadRecord.{BadRecord}
-use Rattle.np_machine.specs.State.{State}
-use Rattle.np_machine.specs.Tables.{role_in, session_of}
-use Rattle.np_machine.specs.declared.state.SessionFacts.{SessionFacts}
-use Rattle.np_places.specs.Place.{IsGood, above, path_of, place_name}
-use Rattle.np_places.specs.Roles.{place_of_role}
-use Rattle.np_places.specs.declared.place.Place.{Place}
-use Rattle.np_places.specs.declared.place.Place.TheVariants.{Jobs, Job, Launchers, LauncherRole, JanitorRole, RequesterRole, Poolsim, Roles, Sessions, Session, Tick}
-use Rattle.np_layout.specs.Layout.{under}
+use Rattle.np_layout.specs.Prelude.{BadRecord, IsGood, IsJob, IsRole, IsSession, IsSessionRole, IsStored, Row, TreeState, above, bytes_at, find_named, is_in, is_named, job_text, path_of, place_name, place_of_role, role_text, row_before, rows_at, session_text, under, with_row}
+use Rattle.np_layout.specs.declared.place.Place.{Place}
+use Rattle.np_layout.specs.declared.place.Place.TheVariants.{Jobs, Job, Launchers, LauncherRole, JanitorRole, RequesterRole, Poolsim, Roles, Sessions, Session, Tick}
 use Rattle.np_layout.specs.Rows.{by_name, janitor_role_row, job_row, launcher_role_row, launcher_row, requester_role_row, rows_from, session_row}
 use Rattle.np_layout.proofs.FirstKinds.{rows_put}
 use Rattle.np_layout.proofs.SetSteps.{named-here, named-other}
-use Rattle.np_layout.specs.Carried.{IsStored}
 use Rattle.np_enact.proofs.Leaves.{all-joined}
 use Rattle.np_readers.proofs.Shown.{IsOnly, bytes-named, find-only, find-ordered, past-any, past-only, table-any, table-only}
 

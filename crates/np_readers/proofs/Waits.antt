@@ -1,18 +1,9 @@
 -- the sessions that wait in a lock, and places of which there is none
 use Rattle.std.proofs.Common.{◌≡◌, ℕ, ◌+◌, ◌-◌, ◌≤◌, List, [], Option, Some, None, refl, sym, ap, ◌∙◌, arith}
 use Rattle.std.specs.Prelude.{slice_get}
-use Rattle.std.specs.List.{AllZip}
-use Rattle.std.specs.Option.{option_map}
-use Rattle.np_text.specs.declared.id.SessionId.{SessionId}
-use Rattle.np_nodes.specs.TreeState.{TreeState}
-use Rattle.np_nodes.specs.declared.kind.Stat.{Stat}
-use Rattle.np_tree.specs.Read.{stat_of_child}
-use Rattle.np_tree.specs.Whole.{IsWhole}
-use Rattle.np_views.specs.Views.{Row, find_named, seen_in}
-use Rattle.np_views.proofs.RelationLemmas.{nothing-below_nothing}
-use Rattle.np_places.specs.Place.{IsGood, above, path_of, place_name}
-use Rattle.np_places.specs.declared.place.Place.{Place}
-use Rattle.np_layout.specs.Layout.{IsWait, under}
+use Rattle.np_layout.specs.Prelude.{AllZip, IsGood, IsWait, IsWhole, Row, SessionId, Stat, TreeState, above, find_named, option_map, path_of, place_name, seen_in, stat_of_child, under}
+use Rattle.np_tree.proofs.RelationLemmas.{nothing-below_nothing}
+use Rattle.np_layout.specs.declared.place.Place.{Place}
 use Rattle.np_readers.proofs.Beside.{Beside, beside-at}
 use Rattle.np_readers.proofs.Shown.{owner-at, seen-named}
 

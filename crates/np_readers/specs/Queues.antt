@@ -1,10 +1,6 @@
 -- the requests and the nodes in whose queues a session is
 use Rattle.std.specs.Prelude.{Option, Some, None, if◌then◌else◌}
-use Rattle.np_text.specs.declared.id.NodeId.{NodeId}
-use Rattle.np_text.specs.declared.id.RequestId.{RequestId}
-use Rattle.np_text.specs.declared.id.SessionId.{SessionId}
-use Rattle.np_machine.specs.Entries.{NodeEntry, RequestEntry}
-use Rattle.np_machine.specs.Tables.{is_queued}
+use Rattle.np_changes.specs.Prelude.{NodeEntry, NodeId, RequestEntry, RequestId, SessionId, is_queued}
 
 -- the request, if the session is in its queue
 abbrev pub request_if_queued : SessionId → RequestEntry → Option RequestId

@@ -1,10 +1,7 @@
 -- what the rows of a tree are seen as, and what is always true of the tree
 use Rattle.std.specs.Prelude.{◌<◌, ◌^◌}
-use Rattle.np_nodes.specs.TreeState.{TreeState}
-use Rattle.np_site.specs.Configuration.{Configuration}
-use Rattle.np_machine.specs.State.{State}
-use Rattle.np_layout.specs.Carried.{IsStored}
-use Rattle.np_layout.specs.Decoded.{decoded}
+use Rattle.np_layout.specs.Prelude.{IsStored, TreeState, decoded}
+use Rattle.np_changes.specs.Prelude.{Configuration, State}
 
 -- a configuration and a state of its machine
 pub record SiteState : Type 0 where

@@ -1,13 +1,10 @@
 //! The bytes and the stat at a place.
 
 ghost use Rattle.std.specs.Prelude.{◌≡◌, length, option_and_then};
-ghost use Rattle.std.specs.Option.{option_copied};
-ghost use Rattle.np_tree.specs.Read.{bytes_at, counter_at, stat_at};
-ghost use Rattle.np_views.specs.Views.{rows_at};
-ghost use Rattle.np_places.specs.Place.{IsGood, path_of};
+ghost use Rattle.np_layout.specs.Prelude.{IsGood, bytes_at, counter_at, option_copied, path_of, rows_at, stat_at};
 
 use crate::directory::children;
-use np_places::{PathText, Place};
+use np_layout::{PathText, Place};
 use np_tree::{Stat, Tree};
 
 /// The bytes at a place, or `None` if there is no node.

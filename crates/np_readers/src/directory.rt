@@ -1,10 +1,7 @@
 //! The children of a directory, and whose they are.
 
 ghost use Rattle.std.specs.Prelude.{◌≡◌, false, length, slice_get};
-ghost use Rattle.std.specs.Option.{option_map_or};
-ghost use Rattle.np_layout.specs.Rows.{tree_session};
-ghost use Rattle.np_nodes.specs.Nodes.{is_owner};
-ghost use Rattle.np_views.specs.Views.{rows_at};
+ghost use Rattle.np_layout.specs.Prelude.{is_owner, option_map_or, rows_at, tree_session};
 
 use np_text::SessionId;
 use np_tree::Tree;

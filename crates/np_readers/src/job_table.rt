@@ -1,13 +1,11 @@
 //! Jobs, what each role has done, and the next numbers.
 
 ghost use Rattle.std.specs.Prelude.{◌≡◌, length, slice_get};
-ghost use Rattle.np_site.specs.Configuration.{Configuration};
-ghost use Rattle.np_machine.specs.State.{State};
-ghost use Rattle.np_machine.specs.Tables.{role_in};
+ghost use Rattle.np_changes.specs.Prelude.{Configuration, State, role_in};
 ghost use Rattle.np_layout.specs.Carried.{IsStored};
 
 use crate::bytes::{bytes_at, count_at, counter_at};
-use np_places::Place;
+use np_layout::Place;
 use np_record::{JobRecord, RoleRecord};
 use np_spelling::Record;
 use np_text::{JobId, Role};

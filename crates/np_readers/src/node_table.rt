@@ -1,17 +1,14 @@
 //! The nodes of a state, and the sessions that wait for each.
 
 ghost use Rattle.std.specs.Prelude.{◌≡◌, length, slice_get};
-ghost use Rattle.std.specs.Option.{option_map};
-ghost use Rattle.np_site.specs.Configuration.{Configuration};
-ghost use Rattle.np_machine.specs.State.{State};
-ghost use Rattle.np_machine.specs.Tables.{node_in, node_queue};
+ghost use Rattle.np_changes.specs.Prelude.{Configuration, State, node_in, node_queue, option_map};
 ghost use Rattle.np_look.specs.Views.{node_view};
 ghost use Rattle.np_layout.specs.Carried.{IsStored};
 
 use crate::bytes::{bytes_at, count_at};
 use crate::rows::{name_at, read_ten, waiting_at};
+use np_layout::Place;
 use np_look::NodeView;
-use np_places::Place;
 use np_record::NodeRecord;
 use np_spelling::Record;
 use np_text::{NodeId, SessionId};

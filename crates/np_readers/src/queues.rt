@@ -1,20 +1,15 @@
 //! The queues that a session is in, as a tree has them.
 
 ghost use Rattle.std.specs.Prelude.{◌≡◌, length, slice_get, option_and_then};
-ghost use Rattle.std.specs.List.{list_any};
-ghost use Rattle.np_layout.specs.Carried.{IsStored};
+ghost use Rattle.np_changes.specs.Prelude.{Configuration, State, list_any};
+ghost use Rattle.np_layout.specs.Prelude.{IsStored, is_owner, rows_at, tree_session};
 ghost use Rattle.np_look.specs.Readers.{queued_nodes, queued_requests};
-ghost use Rattle.np_machine.specs.State.{State};
-ghost use Rattle.np_layout.specs.Rows.{tree_session};
-ghost use Rattle.np_nodes.specs.Nodes.{is_owner};
 ghost use Rattle.np_readers.specs.Queues.{node_if_queued, request_if_queued};
-ghost use Rattle.np_site.specs.Configuration.{Configuration};
-ghost use Rattle.np_views.specs.Views.{rows_at};
 
 use crate::directory::{children, waits_at};
 use crate::node_table::node_at;
 use crate::request_table::request_at;
-use np_places::{PathText, Place};
+use np_layout::{PathText, Place};
 use np_text::{NodeId, RequestId, SessionId};
 use np_tree::Tree;
 

@@ -1,19 +1,14 @@
 //! The requests of a state, and the sessions that wait for each.
 
 ghost use Rattle.std.specs.Prelude.{◌≡◌, IfSome, length, slice_get};
-ghost use Rattle.std.specs.Bool.{OnFalse, OnTrue};
-ghost use Rattle.std.specs.Option.{option_map};
-ghost use Rattle.np_text.specs.Request.{HasText};
-ghost use Rattle.np_site.specs.Configuration.{Configuration};
-ghost use Rattle.np_machine.specs.State.{State};
-ghost use Rattle.np_machine.specs.Tables.{request_in, request_queue};
+ghost use Rattle.np_layout.specs.Prelude.{IsStored, OnFalse, OnTrue};
+ghost use Rattle.np_changes.specs.Prelude.{Configuration, HasText, State, option_map, request_in, request_queue};
 ghost use Rattle.np_look.specs.Views.{request_view};
-ghost use Rattle.np_layout.specs.Carried.{IsStored};
 
 use crate::bytes::{bytes_at, count_at};
 use crate::rows::{name_at, waiting_at};
+use np_layout::Place;
 use np_look::RequestView;
-use np_places::Place;
 use np_record::RequestRecord;
 use np_spelling::Record;
 use np_text::{RequestId, SessionId, read_request};

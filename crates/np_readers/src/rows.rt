@@ -1,15 +1,9 @@
 //! The children of a place: their names, and the sessions that wait for a lock.
 
 ghost use Rattle.std.specs.Prelude.{◌≡◌, ℕ, ◌^◌, ◌<◌, List, slice_get, Some};
-ghost use Rattle.std.specs.List.{AllZip};
-ghost use Rattle.std.specs.Option.{option_copied, option_map};
-ghost use Rattle.np_text.specs.Number.{ten_digits_of};
-ghost use Rattle.np_text.specs.declared.id.SessionId.{SessionId};
-ghost use Rattle.np_tree.specs.Read.{stat_of_child};
-ghost use Rattle.np_places.specs.Place.{IsGood, path_of};
-ghost use Rattle.np_layout.specs.Layout.{IsWait, under};
+ghost use Rattle.np_layout.specs.Prelude.{AllZip, IsGood, IsWait, SessionId, option_copied, option_map, path_of, stat_of_child, ten_digits_of, under};
 
-use np_places::{PathText, Place};
+use np_layout::{PathText, Place};
 use np_text::SessionId;
 use np_tree::{Stat, Tree};
 

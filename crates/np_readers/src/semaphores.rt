@@ -2,14 +2,11 @@
 
 ghost use Rattle.std.specs.Prelude.{◌≡◌, length, slice_get};
 ghost use Rattle.np_layout.specs.Carried.{IsStored};
-ghost use Rattle.np_machine.specs.Node.{is_swept};
-ghost use Rattle.np_machine.specs.State.{State};
-ghost use Rattle.np_machine.specs.Tables.{handles_of, has_handle};
-ghost use Rattle.np_site.specs.Configuration.{Configuration};
+ghost use Rattle.np_changes.specs.Prelude.{Configuration, State, handles_of, has_handle, is_swept};
 
 use crate::bytes::count_at;
 use np_config::Config;
-use np_places::{PathText, Place};
+use np_layout::{PathText, Place};
 use np_text::{JobId, NodeId, SemId};
 use np_tree::Tree;
 

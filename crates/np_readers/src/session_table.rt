@@ -1,15 +1,13 @@
 //! The tick, sessions and registrations.
 
 ghost use Rattle.std.specs.Prelude.{◌≡◌, ◌<◌, ◌^◌, length, slice_get};
-ghost use Rattle.np_site.specs.Configuration.{Configuration};
-ghost use Rattle.np_machine.specs.State.{State};
-ghost use Rattle.np_machine.specs.Tables.{registered, session_of};
+ghost use Rattle.np_changes.specs.Prelude.{Configuration, State, registered, session_of};
 ghost use Rattle.np_layout.specs.Carried.{IsStored};
 
 use crate::bytes::{bytes_at, count_at, owner_at};
 use np_config::Config;
+use np_layout::Place;
 use np_machine::{Registration, SessionFacts};
-use np_places::Place;
 use np_record::SessionRecord;
 use np_spelling::Record;
 use np_text::{PoolId, SessionId, read_number};

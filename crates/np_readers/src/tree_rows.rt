@@ -1,8 +1,7 @@
 //! The rows of the state that a tree stores.
 
 ghost use Rattle.std.specs.Prelude.{◌≡◌, ◌<◌, ◌^◌};
-ghost use Rattle.np_layout.specs.Decoded.{decoded};
-ghost use Rattle.np_layout.specs.Carried.{IsStored};
+ghost use Rattle.np_layout.specs.Prelude.{IsStored, decoded};
 
 use crate::{job_table, node_table, queues, request_table, semaphores, session_table};
 use np_changes::Asked;

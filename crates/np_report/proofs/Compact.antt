@@ -7,12 +7,12 @@ use Rattle.json.specs.Print.{escape_byte, escape, quoted}
 use Rattle.serde_json.specs.Data.{Num, unsigned, negative, float, Data, null, boolean, number, string, array, object, Items, no_items, item, Members, no_members, member}
 use Rattle.serde_json.specs.Written.{number_text, comma_if, compact_text, items_text, members_text}
 use Rattle.np_text.specs.Lines.{is_line}
-use Rattle.np_text.proofs.SpellingLemmas.{both_true}
+use Rattle.std.proofs.lemmas.Bool.{and_parts}
 
 pub is_line-append : (xs ys : List ℕ) → is_line xs ≡ true → is_line ys ≡ true → is_line (xs ++ ys) ≡ true
 is_line-append [] ys front back = back
 is_line-append (x ∷ xs) ys front back =
-    let parts = both_true (not (x == 10)) (is_line xs) front in
+    let parts = and_parts (not (x == 10)) (is_line xs) front in
     rw parts.0 (is_line-append xs ys parts.1 back)
 
 -- ## numbers

@@ -2,27 +2,15 @@
 use Rattle.std.proofs.Common.{◌≡◌, ℕ, ◌≤◌, List, [], codes, length, Bool, true, false, cond, refl, arith, Option, Some, None, IfSome}
 use Rattle.std.specs.Prelude.{slice_get, ◌==◌}
 use Rattle.serde_json.specs.Data.{string, no_members, member}
-use Rattle.np_text.specs.declared.id.LabelId.{LabelId}
-use Rattle.np_text.specs.declared.id.SemId.{SemId}
-use Rattle.np_text.specs.declared.id.PoolId.{PoolId}
-use Rattle.np_text.specs.declared.id.TenantId.{TenantId}
-use Rattle.np_text.specs.declared.id.Role.{Role}
+use Rattle.np_changes.specs.Prelude.{EachAfter, Fault, Job, Label, LabelId, Offer, Pool, PoolId, Role, Sem, SemId, Tenant, TenantId}
 use Rattle.np_text.specs.declared.id.Role.TheVariants as role
-use Rattle.np_site.specs.declared.row.Label.{Label}
-use Rattle.np_site.specs.declared.row.Provider.{Provider}
-use Rattle.np_site.specs.declared.row.Pool.{Pool}
-use Rattle.np_site.specs.declared.row.Offer.{Offer}
-use Rattle.np_site.specs.declared.row.Sem.{Sem}
-use Rattle.np_site.specs.declared.row.Tenant.{Tenant}
-use Rattle.np_site.specs.declared.row.Requester.{Requester}
-use Rattle.np_site.specs.declared.row.Job.{Job}
-use Rattle.np_site.specs.declared.row.Fault.{Fault}
-use Rattle.np_site.specs.Configuration.{Configuration, tenant_of}
+use Rattle.np_config.specs.declared.row.Provider.{Provider}
+use Rattle.np_config.specs.declared.row.Requester.{Requester}
+use Rattle.np_config.specs.Configuration.{Configuration, tenant_of}
 use Rattle.np_config_read.specs.Names.{pool_name}
-use Rattle.np_site.specs.Sound.{StandsByOwner, IsSound, IsLabel, IsProvider, IsOffer, IsStart, IsPool, IsSem, IsTenant, IsRequester, IsWanted, IsTaken, IsJob, IsFault}
+use Rattle.np_config.specs.Sound.{StandsByOwner, IsSound, IsLabel, IsProvider, IsOffer, IsStart, IsPool, IsSem, IsTenant, IsRequester, IsWanted, IsTaken, IsJob, IsFault}
 use Rattle.np_config_read.specs.Defaults.{count}
 use Rattle.np_config_text.specs.Canonical.{given_count, list_data, list_if_any, label_data, label_name, semaphore_name, tenant_name, full_name, offer_data, pool_data, pools_of, provider_data, semaphore_data, tenant_data, job_tenant, job_data, requester_data, role_name, fault_data, configuration_data}
-use Rattle.np_lists.specs.EachAfter.{EachAfter}
 use Rattle.np_lists.proofs.EachAfterLemmas.{EachAfter-from_all}
 use Rattle.np_config_text.proofs.Ascii.{label-ascii, semaphore-ascii, tenant-ascii, requester-ascii, pool_name-ascii}
 use Rattle.np_report.proofs.WholeData.{is_ascii, IsWhole}

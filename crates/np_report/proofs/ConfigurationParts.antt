@@ -1,22 +1,18 @@
 -- the parts of a configuration's value: its strings, its members in order and its lists
 use Rattle.std.proofs.Common.{◌≡◌, ℕ, suc, ◌+◌, ◌<◌, ◌≤◌, ◌^◌, List, [], ◌∷◌, ◌++◌, codes, map, Bool, true, false, cond, Option, Some, None, IfSome, refl, arith}
 use Rattle.std.specs.Prelude.{filter, nat_lt}
-use Rattle.std.specs.Option.{option_map_or}
+use Rattle.np_changes.specs.Prelude.{EachAfter, EndAs, FaultKind, Role, option_map_or}
 use Rattle.std.specs.Str.{IsAscii}
 use Rattle.std.proofs.lemmas.Bool.Decides.{nat_tests}
 use Rattle.serde_json.specs.Data.{Data, Members, no_members, member}
 use Rattle.serde_json.specs.View.{items_of}
 use Rattle.np_text.specs.Name.{is_name_text}
 use Rattle.np_text.proofs.NameLemmas.{IsAscii-name}
-use Rattle.np_text.specs.declared.id.Role.{Role}
 use Rattle.np_text.specs.declared.id.Role.TheVariants as role
-use Rattle.np_text.specs.declared.word.EndAs.{EndAs}
 use Rattle.np_text.specs.declared.word.EndAs.TheVariants.{Used, Hold}
-use Rattle.np_site.specs.declared.row.FaultKind.{FaultKind}
-use Rattle.np_site.specs.declared.row.FaultKind.TheVariants.{Expire, Crash, Stop}
-use Rattle.np_lists.specs.EachAfter.{EachAfter}
+use Rattle.np_config.specs.declared.row.FaultKind.TheVariants.{Expire, Crash, Stop}
 use Rattle.np_text.specs.Word.{end_as_word}
-use Rattle.np_site.specs.Word.{fault_kind_word}
+use Rattle.np_config.specs.Word.{fault_kind_word}
 use Rattle.np_config_text.specs.Canonical.{given, given_count, placed, role_word}
 use Rattle.np_report.proofs.WholeData.{is_ascii, put_all, IsWhole, AreWhole, HaveWhole}
 

@@ -2,7 +2,7 @@
 use Rattle.std.proofs.Common.{◌≡◌, ℕ, zero, suc, ◌+◌, List, [], ◌∷◌, drop, map, count_by, refl, ap, ◌∙◌, Bool, if◌then◌else◌, Some, None}
 use Rattle.std.specs.Prelude.{slice_get}
 use Rattle.std.proofs.lemmas.List.Sums.{sum_by-cons}
-use Rattle.np_report.proofs.FateLines.{drop-past}
+use Rattle.np_lists.proofs.Plain.{drop-past}
 
 -- the first of the rest, and then those after it
 pub count_by-next : {X Y : Type 0} (p : Y → Bool) (f : X → Y) (xs : List X) (at : ℕ) (x : X) → slice_get xs at ≡ Some x →

@@ -1,14 +1,9 @@
 -- the jobs' lines, one after another
 use Rattle.std.proofs.Common.{◌≡◌, ℕ, zero, suc, ◌+◌, List, [], ◌∷◌, ◌++◌, drop, map, refl, ap, ◌∙◌, append_assoc, Option, Some, None}
 use Rattle.std.specs.Prelude.{slice_get}
-use Rattle.std.specs.Option.{option_map_or}
-use Rattle.np_text.specs.Lines.{line}
-use Rattle.np_site.specs.Configuration.{Configuration}
-use Rattle.np_site.specs.declared.row.Job.{Job}
-use Rattle.np_record.specs.declared.record.JobRecord.{JobRecord}
-use Rattle.np_machine.specs.Fates.{fate_of}
-use Rattle.np_machine.specs.State.{State}
+use Rattle.np_changes.specs.Prelude.{Configuration, Job, JobRecord, State, fate_of, line, option_map_or}
 use Rattle.np_report.specs.Text.{job_text, fate_text, fate_lines}
+use Rattle.np_lists.proofs.Plain.{drop-past}
 
 -- the lines of these jobs with these records
 abbrev pub lines_from : Configuration → State → ℕ → List Job → List JobRecord → List ℕ
@@ -23,13 +18,6 @@ lines_from-next c s n zero (j ∷ jobs) (k ∷ records) job kept is has =
     ap (λ (o : Option Job). option_map_or (λ x. line (job_text c n x ++ fate_text (fate_of s k)) ++ lines_from c s (n + 1) jobs records) o []) is
     ∙ ap (λ (o : Option JobRecord). option_map_or (λ x. line (job_text c n job ++ fate_text (fate_of s x)) ++ lines_from c s (n + 1) jobs records) o []) has
 lines_from-next c s n (suc at) (j ∷ jobs) (k ∷ records) job kept is has = lines_from-next c s n at jobs records job kept is has
-
--- after the last member there is none
-pub drop-past : {X : Type 0} (xs : List X) (at : ℕ) → slice_get xs at ≡ None → drop at xs ≡ []
-drop-past [] zero is = refl
-drop-past [] (suc at) is = refl
-drop-past (x ∷ xs) zero is = absurd cc
-drop-past (x ∷ xs) (suc at) is = drop-past xs at is
 
 fate_lines-none : (c : Configuration) (n : ℕ) (jobs : List Job) → fate_lines c n jobs [] ≡ []
 fate_lines-none c n [] = refl

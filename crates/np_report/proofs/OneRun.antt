@@ -1,24 +1,14 @@
 -- a Text determines the configuration and the journal of its run
 use Rattle.std.proofs.Common.{◌≡◌, ℕ, List, [], ◌∷◌, ◌++◌, map, refl, sym, ap, ◌∙◌, true, false, append_assoc, append-nil, Option, Some, Ok}
-use Rattle.std.specs.List.{AllByRecursion, flat_map, list_all}
-use Rattle.std.specs.Option.{option_map_or}
+use Rattle.np_changes.specs.Prelude.{AllByRecursion, Configuration, Entry, Event, IsSound, Runs, State, after, fates, flat_map, is_line, judge, line, lines_of, list_all, next, option_map_or, replayed, reply_of, start}
 use Rattle.std.specs.Str.{bytes_eq}
-use Rattle.np_text.specs.Lines.{is_line, line, lines_of}
 use Rattle.np_text.specs.Sections.{bar, has_bar, sections_of}
 use Rattle.np_text.proofs.LineLemmas.{lines_of-lines}
 use Rattle.np_text.proofs.SectionLemmas.{sections_of-bar}
-use Rattle.np_site.specs.Configuration.{Configuration}
 use Rattle.np_config_text.specs.Canonical.{configuration_data, canonical}
-use Rattle.np_site.specs.Sound.{IsSound}
 use Rattle.np_config_read.specs.Walk.{reads}
-use Rattle.np_event.specs.declared.event.Event.{Event}
-use Rattle.np_event.specs.declared.entry.Entry.{Entry}
 use Rattle.np_event_lines.specs.Line.{HasEntryLine, entry_line}
 use Rattle.np_event_lines.proofs.EntryLemmas.{is_line-entry, entry_line-no_bar, entry_line-injective}
-use Rattle.np_machine.specs.State.{State, start}
-use Rattle.np_machine.specs.Step.{judge, next, reply_of}
-use Rattle.np_machine.specs.Fates.{fates}
-use Rattle.np_machine.specs.History.{replayed, after, Runs}
 use Rattle.np_report.specs.Text.{entry_lines, fate_lines, text_of}
 use Rattle.np_report.proofs.Compact.{is_line-compact_text}
 use Rattle.np_report.proofs.OwnText.{reads-canonical}

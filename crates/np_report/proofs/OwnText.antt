@@ -1,8 +1,7 @@
 -- the text of a sound configuration is read as that configuration
 use Rattle.std.proofs.Common.{◌≡◌, Ok}
-use Rattle.np_site.specs.Configuration.{Configuration}
+use Rattle.np_changes.specs.Prelude.{Configuration, IsSound}
 use Rattle.np_config_text.specs.Canonical.{configuration_data, canonical}
-use Rattle.np_site.specs.Sound.{IsSound}
 use Rattle.np_config_read.specs.Walk.{reads}
 use Rattle.np_config_text.proofs.AgainWhole.{reads-again}
 use Rattle.np_config_text.proofs.Shapes.{configuration-depth}

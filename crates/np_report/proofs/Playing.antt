@@ -1,15 +1,9 @@
 -- one event more
 use Rattle.std.proofs.Common.{◌≡◌, ℕ, suc, ◌+◌, ◌<◌, ◌≤◌, List, [], ◌∷◌, ◌++◌, length, length-take, take, get_or, refl, ap, sym, ◌∙◌, arith, true}
-use Rattle.std.specs.List.{AllByRecursion}
+use Rattle.np_changes.specs.Prelude.{AllByRecursion, Configuration, Entry, Event, State, after, judge, next, reply_of, start, state_after}
 use Rattle.std.proofs.lemmas.Bool.Decides.{nat_tests}
 use Rattle.std.proofs.lemmas.List.{take_more}
-use Rattle.np_site.specs.Configuration.{Configuration}
-use Rattle.np_event.specs.declared.entry.Entry.{Entry}
-use Rattle.np_event.specs.declared.event.Event.{Event}
 use Rattle.np_event_lines.specs.Line.{HasEventLine}
-use Rattle.np_machine.specs.State.{State, start}
-use Rattle.np_machine.specs.Step.{judge, next, reply_of}
-use Rattle.np_machine.specs.History.{state_after, after}
 use Rattle.np_rules.specs.Ran.{Ran, applied, has_room}
 use Rattle.np_machine.proofs.Runs.{state_after-push}
 use Rattle.np_report.specs.Played.{played_from, played, ran}

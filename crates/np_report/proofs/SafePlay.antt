@@ -1,14 +1,7 @@
 -- a script's events make a run, which is safe after every step
 use Rattle.std.proofs.Common.{◌≡◌, ◌≤◌, ℕ, List, [], ◌∷◌, length, refl, ap, subst, sym}
-use Rattle.std.specs.List.{AllByRecursion}
-use Rattle.np_site.specs.Configuration.{Configuration}
-use Rattle.np_site.specs.Sound.{IsSound}
-use Rattle.np_event.specs.declared.event.Event.{Event}
-use Rattle.np_event.specs.declared.entry.Entry.{Entry}
+use Rattle.np_changes.specs.Prelude.{AllByRecursion, Configuration, Entry, Event, IsSound, Runs, State, after, judge, next, replayed, reply_of, start}
 use Rattle.np_event_lines.specs.Line.{HasEventLine}
-use Rattle.np_machine.specs.State.{State, start}
-use Rattle.np_machine.specs.Step.{judge, next, reply_of}
-use Rattle.np_machine.specs.History.{replayed, after, Runs}
 use Rattle.np_laws.proofs.Runs.{safe-every_step}
 use Rattle.np_laws.proofs.Journals.{caused-every_step}
 use Rattle.np_laws.proofs.Made.{kept-every_step}

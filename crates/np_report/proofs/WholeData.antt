@@ -10,7 +10,7 @@ use Rattle.std.proofs.lemmas.Str.Ascii.{IsAscii-nil, IsAscii-cons}
 use Rattle.json.specs.Print.{escape_byte, escape, quoted}
 use Rattle.serde_json.specs.Data.{Num, unsigned, negative, float, Data, null, boolean, number, string, array, object, Items, no_items, item, Members, no_members, member, put}
 use Rattle.serde_json.specs.Written.{comma_if, compact_text, items_text, members_text}
-use Rattle.np_text.proofs.SpellingLemmas.{both_true}
+use Rattle.std.proofs.lemmas.Bool.{and_parts}
 
 -- each byte is ASCII
 abbrev pub is_ascii : List ℕ → Bool
@@ -51,7 +51,7 @@ abbrev mutual
 pub is_ascii-append : (xs ys : List ℕ) → is_ascii xs ≡ true → is_ascii ys ≡ true → is_ascii (xs ++ ys) ≡ true
 is_ascii-append [] ys front back = back
 is_ascii-append (x ∷ xs) ys front back =
-    let parts = both_true (nat_lt x 128) (is_ascii xs) front in
+    let parts = and_parts (nat_lt x 128) (is_ascii xs) front in
     rw parts.0 (is_ascii-append xs ys parts.1 back)
 
 below-from_test : (b : ℕ) → nat_lt b 128 ≡ true → b < 128
@@ -60,7 +60,7 @@ below-from_test b is = grind (arith, nat_tests)
 IsAscii-from_is_ascii : (bs : List ℕ) → is_ascii bs ≡ true → IsAscii bs
 IsAscii-from_is_ascii [] is = IsAscii-nil
 IsAscii-from_is_ascii (b ∷ bs) is =
-    let parts = both_true (nat_lt b 128) (is_ascii bs) is in
+    let parts = and_parts (nat_lt b 128) (is_ascii bs) is in
     IsAscii-cons b bs (below-from_test b parts.0) (IsAscii-from_is_ascii bs parts.1)
 
 digit_glyph-below_128 : (n : ℕ) → nat_lt (digit_glyph false (n % 10)) 128 ≡ true
@@ -87,7 +87,7 @@ is_ascii-escape_byte x within = grind (arith, nat_tests)
 is_ascii-escape : (s : List ℕ) → is_ascii s ≡ true → is_ascii (escape s) ≡ true
 is_ascii-escape [] is = refl
 is_ascii-escape (x ∷ s) is =
-    let parts = both_true (nat_lt x 128) (is_ascii s) is in
+    let parts = and_parts (nat_lt x 128) (is_ascii s) is in
     is_ascii-append (escape_byte x) (escape s) (is_ascii-escape_byte x (below-from_test x parts.0)) (is_ascii-escape s parts.1)
 
 is_ascii-quoted : (s : List ℕ) → is_ascii s ≡ true → is_ascii (quoted s) ≡ true

@@ -1,11 +1,6 @@
 -- what the machine makes of a list of events
 use Rattle.std.specs.Prelude.{List, [], ◌∷◌}
-use Rattle.np_site.specs.Configuration.{Configuration}
-use Rattle.np_event.specs.declared.entry.Entry.{Entry}
-use Rattle.np_event.specs.declared.event.Event.{Event}
-use Rattle.np_machine.specs.State.{State, start}
-use Rattle.np_machine.specs.Step.{judge, next, reply_of}
-use Rattle.np_machine.specs.History.{after}
+use Rattle.np_changes.specs.Prelude.{Configuration, Entry, Event, State, after, judge, next, reply_of, start}
 use Rattle.np_rules.specs.Ran.{Ran}
 
 -- the events, each with the machine's reply in the state that those before it left

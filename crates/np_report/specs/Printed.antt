@@ -1,16 +1,7 @@
 -- what the printed text of a run shows
 use Rattle.std.specs.Prelude.{◌≡◌, ℕ, List}
-use Rattle.std.specs.List.{AllByRecursion}
-use Rattle.np_site.specs.Configuration.{Configuration}
-use Rattle.np_site.specs.Sound.{IsSound}
-use Rattle.np_event.specs.declared.entry.Entry.{Entry}
+use Rattle.np_changes.specs.Prelude.{AllByRecursion, Caused, Configuration, Entry, Fenced, IsSound, Kept, Runs, Safe, State}
 use Rattle.np_event_lines.specs.Line.{HasEventLine}
-use Rattle.np_machine.specs.State.{State}
-use Rattle.np_machine.specs.History.{Runs}
-use Rattle.np_machine.specs.Safe.{Safe}
-use Rattle.np_machine.specs.Caused.{Caused}
-use Rattle.np_machine.specs.Kept.{Kept}
-use Rattle.np_machine.specs.Fenced.{Fenced}
 use Rattle.np_laws.specs.Steps.{AfterEveryStep}
 use Rattle.np_report.specs.Text.{text_of}
 

@@ -1,7 +1,6 @@
 -- how many jobs came to which end
 use Rattle.std.specs.Prelude.{ℕ, Bool, true, false, List, ◌++◌, codes, decimal, length, count_by}
-use Rattle.np_text.specs.Lines.{line}
-use Rattle.np_machine.specs.Fates.{Fate}
+use Rattle.np_changes.specs.Prelude.{Fate, line}
 use Rattle.np_machine.specs.Fates as fate
 use Rattle.np_report.specs.declared.ends.End.{End}
 use Rattle.np_report.specs.declared.ends.End.TheVariants as end

@@ -1,20 +1,9 @@
 -- the whole printed text of a run
 use Rattle.std.specs.Prelude.{ℕ, ◌+◌, List, [], ◌∷◌, ◌++◌, codes, decimal, Option, Some, None, slice_get}
-use Rattle.std.specs.List.{flat_map}
-use Rattle.std.specs.Option.{option_map_or}
-use Rattle.np_text.specs.declared.id.PoolId.{PoolId}
-use Rattle.np_text.specs.declared.id.NodeId.{NodeId}
+use Rattle.np_changes.specs.Prelude.{Configuration, Declined, Entry, Fate, Job, NodeId, PoolId, after, bar, fates, flat_map, line, option_map_or}
 use Rattle.np_text.specs.Word.{phase_word, reason_text_of}
-use Rattle.np_text.specs.Lines.{line}
-use Rattle.np_text.specs.Sections.{bar}
-use Rattle.np_site.specs.Configuration.{Configuration}
 use Rattle.np_config_text.specs.Canonical.{canonical}
-use Rattle.np_site.specs.declared.row.Job.{Job}
-use Rattle.np_record.specs.declared.record.Declined.{Declined}
-use Rattle.np_event.specs.declared.entry.Entry.{Entry}
 use Rattle.np_event_lines.specs.Line.{entry_line}
-use Rattle.np_machine.specs.History.{after}
-use Rattle.np_machine.specs.Fates.{Fate, fates}
 use Rattle.np_machine.specs.Fates as fate
 
 -- a pool's decline, after a space

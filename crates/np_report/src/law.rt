@@ -1,13 +1,8 @@
 //! Laws of the Text. Each function does nothing: its contract is the law.
 
 ghost use Rattle.std.specs.Prelude.{◌≡◌, List};
-ghost use Rattle.std.specs.List.{AllByRecursion};
-ghost use Rattle.np_site.specs.Configuration.{Configuration};
-ghost use Rattle.np_site.specs.Sound.{IsSound};
-ghost use Rattle.np_event.specs.declared.entry.Entry.{Entry};
+ghost use Rattle.np_changes.specs.Prelude.{AllByRecursion, Configuration, Entry, IsSound, Runs, State};
 ghost use Rattle.np_event_lines.specs.Line.{HasEntryLine};
-ghost use Rattle.np_machine.specs.State.{State};
-ghost use Rattle.np_machine.specs.History.{Runs};
 ghost use Rattle.np_script.specs.declared.script.Script.{Script};
 ghost use Rattle.np_report.specs.Played.{played};
 ghost use Rattle.np_report.specs.Printed.{IsPrinted};

@@ -1,23 +1,18 @@
 //! Printing the Text and the summary.
 
 ghost use Rattle.std.specs.Prelude.{◌≡◌, ◌+◌, ◌≤◌, ◌++◌, ◌∷◌, [], drop, length, OnOk, IfOk};
-ghost use Rattle.std.specs.List.{AllByRecursion};
-ghost use Rattle.np_text.specs.Lines.{line};
-ghost use Rattle.np_site.specs.Sound.{IsSound};
+ghost use Rattle.np_changes.specs.Prelude.{AllByRecursion, IsSound, Runs, fates, line};
 ghost use Rattle.np_event_lines.specs.Line.{HasEventLine, entry_line};
-ghost use Rattle.np_machine.specs.Fates.{fates};
-ghost use Rattle.np_machine.specs.History.{Runs};
 ghost use Rattle.np_lines.specs.Told.{IsToldEntry};
 ghost use Rattle.np_report.specs.Printed.{IsPrinted};
 ghost use Rattle.np_report.specs.Text.{text_of, job_text, entry_lines, fate_lines};
 
 use crate::fate::put_fate;
-use np_config::Config;
+use np_config::{Config, Job};
 use np_config_text::config_text;
 use np_event::Entry;
 use np_event_lines::put_entry;
 use np_look::Rows;
-use np_site::Job;
 use np_text::{JobId, NoMemory, put_number};
 use std::alloc::Global;
 

@@ -1,10 +1,7 @@
 -- a state that fits has lists that can be counted
 use Rattle.std.proofs.Common.{◌≡◌, ◌<◌, ◌≤◌, ◌^◌, List, length, arith}
-use Rattle.np_text.specs.declared.id.JobId.{JobId}
-use Rattle.np_site.specs.Configuration.{Configuration}
+use Rattle.np_changes.specs.Prelude.{Configuration, Fits, JobId, State, most}
 use Rattle.np_lists.proofs.Each.{all-weaker}
-use Rattle.np_machine.specs.State.{State}
-use Rattle.np_fits.specs.Fits.{Fits, most}
 use Rattle.np_tables.specs.Kept.{IsCountable}
 
 pub fits-countable : (c : Configuration) (s : State) → Fits c s → length s.jobs ≡ length c.jobs → length c.jobs ≤ 4096 → IsCountable s

@@ -1,8 +1,7 @@
 -- a row that comes after all rows of a table
 use Rattle.std.proofs.Common.{◌≡◌, ℕ, zero, suc, Bool, true, false, List, [], ◌∷◌, take, Some, refl, sym, subst}
 use Rattle.std.specs.Prelude.{find, slice_get}
-use Rattle.std.specs.List.{AllByRecursion}
-use Rattle.np_lists.specs.Rising.{NonePass, Rises}
+use Rattle.np_changes.specs.Prelude.{AllByRecursion, NonePass, Rises}
 use Rattle.np_lists.proofs.Each.{all-at, all-weaker}
 use Rattle.np_lookups.proofs.Ids.{apart}
 use Rattle.np_lookups.proofs.Keyed.{itself}

@@ -1,12 +1,8 @@
 -- the jobs with a handle of a semaphore stand in order
 use Rattle.std.proofs.Common.{◌≡◌, ℕ, true, List, [], take, Option, Some, None, refl}
 use Rattle.std.specs.Prelude.{nat_lt, slice_get, unwrap_or}
-use Rattle.std.specs.List.{AllByRecursion}
-use Rattle.np_text.specs.declared.id.JobId.{JobId}
-use Rattle.np_text.specs.declared.id.SemId.{SemId}
-use Rattle.np_lists.specs.Rising.{Rises}
+use Rattle.np_changes.specs.Prelude.{AllByRecursion, JobId, Rises, SemId, handles_of}
 use Rattle.np_lists.proofs.Each.{all-at}
-use Rattle.np_machine.specs.Tables.{handles_of}
 use Rattle.np_layout.specs.Carried.{AreHolders}
 use Rattle.np_restore.proofs.Ends.{all_ahead}
 

@@ -1,11 +1,8 @@
 -- pairs put at their places: none is put twice if the last list rises
 use Rattle.std.proofs.Common.{◌≡◌, Bool, true, false, cond, List, [], ◌∷◌, subst}
-use Rattle.std.specs.List.{AllByRecursion}
+use Rattle.np_changes.specs.Prelude.{AllByRecursion, NonePass, Rises, Swept, insert_before}
 use Rattle.std.proofs.lemmas.Bool.{false_from_ne_true}
-use Rattle.np_lists.specs.Change.{insert_before}
-use Rattle.np_lists.specs.Rising.{NonePass, Rises}
 use Rattle.np_lists.proofs.Each.{all-weaker}
-use Rattle.np_machine.specs.declared.state.Swept.{Swept}
 use Rattle.np_keys.specs.Keys.{pair_equal, pair_one_way, same_pair}
 use Rattle.np_layout.specs.Carried.{is_pair_before}
 use Rattle.np_layout.proofs.Order.{put_all}

@@ -1,18 +1,8 @@
 -- the rows under locks, read with their queues
 use Rattle.std.proofs.Common.{◌≡◌, ◌∙◌, ◌≤◌, ℕ, true, List, [], take, Option, Some, None, length, refl, ap, arith}
 use Rattle.std.specs.Prelude.{slice_get}
-use Rattle.std.specs.Option.{option_map, option_map_or}
-use Rattle.std.specs.List.{AllByRecursion}
+use Rattle.np_changes.specs.Prelude.{AllByRecursion, Configuration, Fits, IsReached, NodeEntry, RequestEntry, RequestFits, RequestId, SessionId, State, is_id_before, most, node_queue, option_map, option_map_or, request_entry, request_queue, same_request}
 use Rattle.np_lists.proofs.Each.{all-find}
-use Rattle.np_text.specs.declared.id.RequestId.{RequestId}
-use Rattle.np_text.specs.declared.id.SessionId.{SessionId}
-use Rattle.np_site.specs.Configuration.{Configuration}
-use Rattle.np_machine.specs.Entries.{NodeEntry, RequestEntry}
-use Rattle.np_machine.specs.Order.{is_id_before}
-use Rattle.np_machine.specs.State.{State}
-use Rattle.np_machine.specs.Tables.{node_queue, request_entry, request_queue, same_request}
-use Rattle.np_changes.specs.Planned.{IsReached}
-use Rattle.np_fits.specs.Fits.{Fits, RequestFits, most}
 use Rattle.np_laws.specs.Parts.{Invariant}
 use Rattle.np_laws.proofs.Runs.{invariant-Runs}
 use Rattle.np_keys.specs.Keys.{is_node_before, node_equal, node_one_way, node_some_way, request_equal, request_one_way, request_some_way, same_node}

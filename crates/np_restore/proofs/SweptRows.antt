@@ -1,13 +1,9 @@
 -- the pairs of a directory's rows, put one after another
 use Rattle.std.proofs.Common.{◌≡◌, ◌∙◌, ℕ, zero, suc, ◌+◌, add-one, List, [], ◌∷◌, drop, length, map, Some, refl, sym, ap, subst, arith}
 use Rattle.std.specs.Prelude.{slice_get}
-use Rattle.std.specs.Option.{option_map}
-use Rattle.np_lists.specs.Change.{insert_before}
-use Rattle.np_lists.specs.Rising.{NonePass, Rises}
-use Rattle.np_machine.specs.declared.state.Swept.{Swept}
-use Rattle.np_views.specs.Views.{Row}
+use Rattle.np_changes.specs.Prelude.{NonePass, Rises, Swept, insert_before, option_map}
+use Rattle.np_layout.specs.Prelude.{Row, is_pair_before}
 use Rattle.np_keys.specs.Keys.{same_pair}
-use Rattle.np_layout.specs.Carried.{is_pair_before}
 use Rattle.np_layout.specs.Decoded.{pair_named}
 use Rattle.np_layout.proofs.Order.{put_all}
 use Rattle.np_restore.proofs.PutLemmas.{next_is_new}

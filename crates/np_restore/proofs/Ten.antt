@@ -1,11 +1,10 @@
 -- ten digits, read as the sequence number of a request's text
 use Rattle.std.proofs.Common.{◌≡◌, ◌∙◌, ℕ, List, [], ◌∷◌, Option, Some, None, false, length, get_or, refl, ap, arith}
 use Rattle.std.specs.Prelude.{◌==◌}
-use Rattle.std.specs.Option.{option_map}
+use Rattle.np_changes.specs.Prelude.{RequestId, option_map}
 use Rattle.std.proofs.lemmas.Bool.Decides.{nat_tests}
 use Rattle.np_text.specs.Number.{digits_within, number_of}
 use Rattle.np_text.specs.Request.{request_of, request_from, sequence_of}
-use Rattle.np_text.specs.declared.id.RequestId.{RequestId}
 
 -- no other number of digits is one
 pub ten_none : (digits : List ℕ) → (length digits ≡ 10 → ⊥) → None ≡ sequence_of digits

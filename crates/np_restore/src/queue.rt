@@ -1,8 +1,7 @@
 //! The queues of locks.
 
 ghost use Rattle.std.specs.Prelude.{◌≡◌, IfOk};
-ghost use Rattle.np_machine.specs.Tables.{node_queue, request_queue};
-ghost use Rattle.np_fits.specs.Fits.{Fits};
+ghost use Rattle.np_changes.specs.Prelude.{Fits, node_queue, request_queue};
 
 use np_look::Rows;
 use np_machine::Queue;

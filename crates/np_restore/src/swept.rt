@@ -1,18 +1,14 @@
 //! The swept pairs of a tree.
 
 ghost use Rattle.std.specs.Prelude.{◌≡◌, length, slice_get, IfOk, OnOk};
-ghost use Rattle.std.specs.Option.{option_map};
-ghost use Rattle.np_lists.specs.Change.{insert_before};
-ghost use Rattle.np_lists.specs.Rising.{NonePass, Rises};
+ghost use Rattle.np_layout.specs.Prelude.{NonePass, Rises, insert_before, is_pair_before, option_map, under};
 ghost use Rattle.np_keys.specs.Keys.{same_pair};
-ghost use Rattle.np_places.specs.declared.place.Place.TheVariants.{SweptPairs};
-ghost use Rattle.np_layout.specs.Carried.{is_pair_before};
+ghost use Rattle.np_layout.specs.declared.place.Place.TheVariants.{SweptPairs};
 ghost use Rattle.np_layout.specs.Decoded.{pair_named, swept_at};
-ghost use Rattle.np_layout.specs.Layout.{under};
 
 use crate::names::pair_named;
+use np_layout::{PathText, Place};
 use np_machine::Swept;
-use np_places::{PathText, Place};
 use np_readers::children;
 use np_tables::SweptTable;
 use np_tree::Tree;

@@ -1,10 +1,8 @@
 //! All tables of a state.
 
 ghost use Rattle.std.specs.Prelude.{◌≡◌, ◌<◌, ◌^◌, IfOk};
-ghost use Rattle.np_changes.specs.Planned.{IsReached};
-ghost use Rattle.np_fits.specs.Fits.{Fits};
-ghost use Rattle.np_layout.specs.Carried.{IsCarried, IsStored};
-ghost use Rattle.np_layout.specs.Decoded.{decoded};
+ghost use Rattle.np_changes.specs.Prelude.{Fits, IsReached};
+ghost use Rattle.np_layout.specs.Prelude.{IsCarried, IsStored, decoded};
 
 use crate::handles::all_handles;
 use crate::lists::{

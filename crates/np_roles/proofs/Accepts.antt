@@ -2,15 +2,7 @@
 use Rattle.std.proofs.Common.{◌≡◌, Some, None, Ok, true, refl, arith}
 use Rattle.std.specs.Prelude.{slice_get}
 use Rattle.std.proofs.lemmas.Bool.Decides.{nat_tests}
-use Rattle.np_text.specs.declared.id.SessionId.{SessionId}
-use Rattle.np_text.specs.declared.id.NodeId.{NodeId}
-use Rattle.np_text.specs.declared.id.JobId.{JobId}
-use Rattle.np_text.specs.declared.id.RequestId.{RequestId}
-use Rattle.np_site.specs.Configuration.{Configuration}
-use Rattle.np_event.specs.declared.reply.Done.{Done}
-use Rattle.np_machine.specs.State.{State}
-use Rattle.np_machine.specs.Step.{judge, maker_of}
-use Rattle.np_machine.specs.Tables.{is_queued, is_session_of, request_in, request_queue, request_holder, node_in, node_queue, node_holder}
+use Rattle.np_changes.specs.Prelude.{Configuration, Done, JobId, NodeId, RequestId, SessionId, State, is_queued, is_session_of, judge, maker_of, node_holder, node_in, node_queue, request_holder, request_in, request_queue}
 use Rattle.np_roles.specs.declared.kind.RequestKind.{RequestKind}
 use Rattle.np_roles.specs.declared.kind.RequestKind.TheVariants as of_request
 use Rattle.np_roles.specs.declared.kind.NodeKind.{NodeKind}

@@ -2,10 +2,9 @@
 use Rattle.std.proofs.Common.{◌≡◌, ◌<◌, ◌≤◌, ℕ, zero, suc, ◌+◌, List, [], ◌∷◌, length, sym, ap, subst, arith, Some, None, Bool, true, false, refl}
 use Rattle.std.specs.Prelude.{slice_get, Option}
 use Rattle.std.proofs.lemmas.Option.{slice_get_within}
-use Rattle.np_text.specs.declared.id.JobId.{JobId}
-use Rattle.np_record.specs.declared.record.JobRecord.{JobRecord}
+use Rattle.np_changes.specs.Prelude.{JobId, JobRecord}
 use Rattle.np_look.specs.Readers.{jobs_from}
-use Rattle.np_roles.proofs.Places.{past-end}
+use Rattle.np_lists.proofs.Plain.{past-end}
 
 module _ (passes : JobId → JobRecord → Bool) where
   -- a job that passes has a place among those that do

@@ -1,20 +1,13 @@
 -- a role has at most one current session
 use Rattle.std.proofs.Common.{◌≡◌, ◌<◌, ◌+◌, ◌-◌, ℕ, suc, List, [], ◌∷◌, sym, Bool, true, false, drop, Option, Some, None, refl, ap, arith}
-use Rattle.std.specs.Prelude.{slice_get, ◌&&◌, ◌||◌, ◌==◌, not, nat_lt, if◌then◌else◌, is_some}
-use Rattle.std.specs.Option.{option_map_or, option_or}
-use Rattle.std.specs.List.{list_any}
+use Rattle.std.specs.Prelude.{slice_get, ◌&&◌, ◌==◌, not, nat_lt, if◌then◌else◌, is_some}
+use Rattle.np_changes.specs.Prelude.{Configuration, Role, SessionFacts, SessionId, State, list_any, option_map_or, option_or, speaks_for}
 use Rattle.std.proofs.lemmas.Bool.Decides.{nat_tests}
-use Rattle.np_text.specs.declared.id.SessionId.{SessionId}
-use Rattle.np_text.specs.declared.id.Role.{Role}
-use Rattle.np_machine.specs.declared.state.SessionFacts.{SessionFacts}
-use Rattle.np_site.specs.Configuration.{Configuration}
-use Rattle.np_machine.specs.Tables.{session_of}
-use Rattle.np_machine.specs.State.{State}
-use Rattle.np_machine.specs.Laws.{speaks_for}
 use Rattle.np_useful.specs.Sessions.{is_current, has_current, may_open}
 use Rattle.np_look.specs.Readers.{speaker_from, current_of}
 use Rattle.np_roles.specs.Choices.{NamesCurrent}
 use Rattle.np_roles.proofs.Places.{any-there}
+use Rattle.std.proofs.lemmas.Bool.{or_from}
 
 pub both : (t u : Bool) → (t && not u) ≡ true → (t ≡ true) × (u ≡ false)
 both true true is = absurd cc
@@ -76,13 +69,10 @@ record LastAt (role : Role) (number : ℕ) (sessions : List SessionFacts) (x : S
   speaks : speaks_for role facts ≡ true
   last : list_any (speaks_for role) (drop (suc at) sessions) ≡ false
 
-none-here : (a b : Bool) → a ≡ false → b ≡ false → (a || b) ≡ false
-none-here a b first second = rw (first, second) refl
-
 none-by : (role : Role) (number : ℕ) (facts : SessionFacts) (sessions : List SessionFacts) (o : Option SessionId) (b : Bool) → speaker_from role (suc number) sessions ≡ o → speaks_for role facts ≡ b → (speaker_from role (suc number) sessions ≡ None → list_any (speaks_for role) sessions ≡ false) → option_or o (if b then Some (record { 0 = number }) else None) ≡ None → list_any (speaks_for role) (facts ∷ sessions) ≡ false
 none-by role number facts sessions (Some x) b later speaks rest is = absurd cc
 none-by role number facts sessions None true later speaks rest is = absurd cc
-none-by role number facts sessions None false later speaks rest is = none-here (speaks_for role facts) (list_any (speaks_for role) sessions) speaks (rest later)
+none-by role number facts sessions None false later speaks rest is = or_from (speaks_for role facts) (list_any (speaks_for role) sessions) speaks (rest later)
 
 none-speaks : (role : Role) (number : ℕ) (sessions : List SessionFacts) → speaker_from role number sessions ≡ None → list_any (speaks_for role) sessions ≡ false
 none-speaks role number [] is = refl
@@ -121,9 +111,6 @@ pub current-names : (role : Role) (s : State) → NamesCurrent role s (current_o
 current-names role s = names-by role s (current_of role s) refl
 
 -- ## a session that was begun
-
-pub session-at : (s : State) (n : ℕ) (facts : SessionFacts) → session_of (record { 0 = n }) s ≡ Some facts → slice_get s.sessions (n - 1) ≡ Some facts
-session-at s n facts is = grind (arith, nat_tests)
 
 -- a role that has a current session opens none
 pub has-some : (c : Configuration) (role : Role) (s : State) (o : Option SessionId) → NamesCurrent role s o → is_some o ≡ true → false ≡ may_open c role s

@@ -3,6 +3,8 @@ use Rattle.std.proofs.Common.{◌≡◌, ◌<◌, ◌≤◌, ◌+◌, ◌-◌, �
 use Rattle.std.specs.Prelude.{find, filter, map, slice_get, is_some, ◌||◌, ◌&&◌, ◌==◌}
 use Rattle.std.specs.List.{list_any}
 use Rattle.std.proofs.lemmas.Bool.Decides.{nat_tests}
+use Rattle.np_lists.proofs.Plain.{within, drop-there}
+use Rattle.std.proofs.lemmas.Bool.{or_right}
 
 -- the member is at a place of the list
 pub record StandsIn {X : Type 0} (x : X) (xs : List X) : Type 0 where
@@ -35,20 +37,11 @@ pub named-place : {X I : Type 0} (name : X → I) (p q : X → Bool) (xs : List 
 named-place name p q [] x there passes = absurd cc
 named-place name p q (y ∷ xs) x there passes = named-by name p q x y xs (p y) (q y) refl (λ found. named-place name p q xs x found passes) there passes
 
-pub within : {X : Type 0} (xs : List X) (i : ℕ) (x : X) → slice_get xs i ≡ Some x → i < length xs
-within [] i x there = absurd cc
-within (y ∷ xs) zero x there = omega arith
-within (y ∷ xs) (suc i) x there = let later = within xs i x there in omega (arith, later)
-
-or-true : (a b : Bool) → b ≡ true → (a || b) ≡ true
-or-true true b is = refl
-or-true false b is = is
-
 -- from each place up to its own, a member that passes is among the rest
 pub any-there : {X : Type 0} (p : X → Bool) (xs : List X) (k i : ℕ) (x : X) → k ≤ i → slice_get xs i ≡ Some x → p x ≡ true → list_any p (drop k xs) ≡ true
 any-there p [] k i x low there passes = absurd cc
 any-there p (y ∷ xs) zero zero x low there passes = let same : y ≡ x = cc in rw (ap p same, passes) refl
-any-there p (y ∷ xs) zero (suc i) x low there passes = or-true (p y) (list_any p xs) (any-there p xs zero i x (omega arith) there passes)
+any-there p (y ∷ xs) zero (suc i) x low there passes = or_right (p y) (list_any p xs) (any-there p xs zero i x (omega arith) there passes)
 any-there p (y ∷ xs) (suc k) zero x low there passes = absurd (omega arith)
 any-there p (y ∷ xs) (suc k) (suc i) x low there passes = any-there p xs k i x (omega arith) there passes
 
@@ -64,45 +57,11 @@ drop-past [] (suc i) past = refl
 drop-past (x ∷ xs) zero past = absurd (omega arith)
 drop-past (x ∷ xs) (suc i) past = drop-past xs i (omega arith)
 
-pub some-there : {X : Type 0} (xs : List X) (i : ℕ) → i < length xs → slice_get xs i ≡ None → ⊥
-some-there [] i low none = omega arith
-some-there (x ∷ xs) zero low none = cc
-some-there (x ∷ xs) (suc i) low none = some-there xs i (omega arith) none
-
 pub none-is : {X : Type 0} (o : Option X) → false ≡ is_some o → o ≡ None
 none-is None is = refl
 none-is (Some x) is = absurd cc
 
 -- ## a step of a walk
-
-or-first : (a b : Bool) → (a || b) ≡ false → b ≡ false
-or-first true b none = absurd cc
-or-first false b none = none
-
--- where none passes from a place on, none does further on
-pub any-past : {X : Type 0} (p : X → Bool) (xs : List X) (i k : ℕ) → i ≤ k → list_any p (drop i xs) ≡ false → list_any p (drop k xs) ≡ false
-any-past p xs zero zero low none = none
-any-past p xs (suc i) zero low none = absurd (omega (arith, low))
-any-past p [] zero (suc k) low none = refl
-any-past p [] (suc i) (suc k) low none = refl
-any-past p (y ∷ xs) zero (suc k) low none = any-past p xs zero k (omega arith) (or-first (p y) (list_any p xs) none)
-any-past p (y ∷ xs) (suc i) (suc k) low none = any-past p xs i k (omega (arith, low)) none
-
-pub past-all : {X : Type 0} (xs : List X) (i : ℕ) → slice_get xs i ≡ None → drop i xs ≡ []
-past-all [] zero none = refl
-past-all [] (suc i) none = refl
-past-all (x ∷ xs) zero none = absurd cc
-past-all (x ∷ xs) (suc i) none = past-all xs i none
-
-pub past-end : {X : Type 0} (xs : List X) (i : ℕ) → slice_get xs i ≡ None → length xs ≤ i
-past-end [] i none = omega arith
-past-end (x ∷ xs) zero none = absurd cc
-past-end (x ∷ xs) (suc i) none = let later = past-end xs i none in omega (arith, later)
-
-drop-there : {X : Type 0} (xs : List X) (i : ℕ) (x : X) → slice_get xs i ≡ Some x → drop i xs ≡ x ∷ drop (suc i) xs
-drop-there [] i x there = absurd cc
-drop-there {X = X} (y ∷ xs) zero x there = let same : y ≡ x = cc in ap (λ (z : X). z ∷ xs) same
-drop-there (y ∷ xs) (suc i) x there = drop-there xs i x there
 
 module _ {X : Type 0} (p : X → Bool) where
   -- the member at the place is the first of those that pass

@@ -1,17 +1,12 @@
 -- what a session is in the queue of is among the requests or nodes that the readers give
 use Rattle.std.proofs.Common.{◌≡◌, ◌∷◌, [], List, Option, Some, None, true, refl, subst}
 use Rattle.std.specs.Prelude.{◌==◌}
-use Rattle.std.specs.Option.{option_map_or}
-use Rattle.np_text.specs.declared.id.SessionId.{SessionId}
-use Rattle.np_text.specs.declared.id.NodeId.{NodeId}
-use Rattle.np_text.specs.declared.id.RequestId.{RequestId}
+use Rattle.np_changes.specs.Prelude.{NodeEntry, NodeId, RequestEntry, RequestId, SessionId, State, holder, is_queued, is_session_of, node_entry, node_queue, option_map_or, request_entry, request_queue, same_request}
 use Rattle.np_lists.proofs.FoundLemmas.{find-passes}
-use Rattle.np_machine.specs.Entries.{RequestEntry, NodeEntry}
-use Rattle.np_machine.specs.State.{State}
-use Rattle.np_machine.specs.Tables.{holder, is_queued, is_session_of, same_request, request_entry, request_queue, node_entry, node_queue}
-use Rattle.np_laws.proofs.Lookups.{same_request-is, same_node-is}
+use Rattle.np_laws.proofs.Lookups.{same_node-is}
 use Rattle.np_look.specs.Readers.{queued_requests, queued_nodes}
 use Rattle.np_roles.proofs.Places.{StandsIn, named-place}
+use Rattle.np_machine.proofs.Ids.{request-equal}
 
 -- who holds is in the queue
 pub holder-queued : (session : SessionId) (queue : List SessionId) → is_session_of session (holder queue) ≡ true → is_queued session queue ≡ true
@@ -22,7 +17,7 @@ module _ (s : State) (session : SessionId) where
   request-by : (r : RequestId) (o : Option RequestEntry) → request_entry r s.requests ≡ o → is_queued session (option_map_or (λ (e : RequestEntry). e.queue) o []) ≡ true → StandsIn r (queued_requests session s)
   request-by r None there queued = absurd cc
   request-by r (Some e) there queued =
-      subst (λ (x : RequestId). StandsIn x (queued_requests session s)) (same_request-is e.id r (find-passes (λ (x : RequestEntry). same_request x.id r) s.requests e there))
+      subst (λ (x : RequestId). StandsIn x (queued_requests session s)) (request-equal e.id r (find-passes (λ (x : RequestEntry). same_request x.id r) s.requests e there))
       (named-place (λ (x : RequestEntry). x.id) (λ (x : RequestEntry). same_request x.id r) (λ (x : RequestEntry). is_queued session x.queue) s.requests e there queued)
 
   pub queued-request : (r : RequestId) → is_queued session (request_queue r s.requests) ≡ true → StandsIn r (queued_requests session s)

@@ -1,25 +1,9 @@
 -- the releases of the requester's jobs that are over and have a handle are all that may be useful
 use Rattle.std.proofs.Common.{◌≡◌, ℕ, true, false, Option, Some, None, Ok, refl, subst, arith}
 use Rattle.std.specs.Prelude.{◌==◌, ◌&&◌, slice_get}
-use Rattle.std.specs.List.{list_any}
-use Rattle.std.specs.Option.{option_map_or}
+use Rattle.np_changes.specs.Prelude.{Configuration, Done, Janitor, Job, JobId, JobRecord, Launcher, Reaper, Requester, RequesterId, Role, SessionId, State, has_handle, is_over, judge, list_any, maker, may_release, option_map_or, requester_or_janitor}
 use Rattle.std.proofs.lemmas.Bool.{and_from}
-use Rattle.np_text.specs.declared.id.SessionId.{SessionId}
-use Rattle.np_text.specs.declared.id.JobId.{JobId}
-use Rattle.np_text.specs.declared.id.RequesterId.{RequesterId}
-use Rattle.np_text.specs.declared.id.Role.{Role}
-use Rattle.np_text.specs.declared.id.Role.TheVariants.{Launcher, Janitor, Requester, Reaper}
-use Rattle.np_site.specs.Configuration.{Configuration}
-use Rattle.np_site.specs.declared.row.Job.{Job}
-use Rattle.np_record.specs.declared.record.JobRecord.{JobRecord}
 use Rattle.np_event.specs.declared.event.Event.TheVariants as ev
-use Rattle.np_event.specs.declared.reply.Done.{Done}
-use Rattle.np_machine.specs.Kinds.{is_over}
-use Rattle.np_machine.specs.Semaphore.{requester_or_janitor, may_release}
-use Rattle.np_machine.specs.State.{State}
-use Rattle.np_machine.specs.Step.{judge}
-use Rattle.np_machine.specs.Tables.{has_handle}
-use Rattle.np_machine.specs.Tests.{maker}
 use Rattle.np_changes.proofs.Tested.{ok-is, on-given, on-check, on-found, on-need}
 use Rattle.np_look.specs.Jobs.{is_job_to_release, job_to_release}
 use Rattle.np_useful.specs.Launcher.{is_by_registrant}

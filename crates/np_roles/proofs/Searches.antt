@@ -1,23 +1,10 @@
 -- the first of these events that passes, or none if none does
 use Rattle.std.proofs.Common.{◌≡◌, ◌∙◌, ◌<◌, ℕ, Bool, true, false, Option, Some, None, Ok, refl, sym, ap, subst}
 use Rattle.std.specs.Prelude.{◌&&◌, ◌==◌, slice_get, is_ok, if◌then◌else◌}
-use Rattle.std.specs.Option.{option_map}
-use Rattle.np_text.specs.declared.id.SessionId.{SessionId}
-use Rattle.np_text.specs.declared.id.NodeId.{NodeId}
-use Rattle.np_text.specs.declared.id.JobId.{JobId}
-use Rattle.np_text.specs.declared.id.RequestId.{RequestId}
-use Rattle.np_text.specs.declared.id.Role.{Role}
-use Rattle.np_site.specs.Configuration.{Configuration}
-use Rattle.np_record.specs.declared.record.JobRecord.{JobRecord}
-use Rattle.np_event.specs.declared.event.Event.{Event}
-use Rattle.np_event.specs.declared.reply.Done.{Done}
+use Rattle.np_changes.specs.Prelude.{Configuration, Done, Event, JobId, JobRecord, NodeEntry, NodeId, RequestEntry, RequestId, Role, SessionId, State, judge, maker_of, node_entry, option_map, request_entry, same_request}
 use Rattle.np_lists.proofs.FoundLemmas.{find-passes}
-use Rattle.np_machine.specs.Entries.{RequestEntry, NodeEntry}
-use Rattle.np_machine.specs.State.{State}
-use Rattle.np_machine.specs.Step.{judge, maker_of}
 use Rattle.np_changes.proofs.Tested.{ok-is}
-use Rattle.np_machine.specs.Tables.{same_request, request_entry, node_entry}
-use Rattle.np_laws.proofs.Lookups.{same_request-is, same_node-is}
+use Rattle.np_laws.proofs.Lookups.{same_node-is}
 use Rattle.np_useful.specs.Sessions.{is_current}
 use Rattle.np_useful.specs.Useful.{IsUseful, row_holds, is_maker_of}
 use Rattle.np_roles.specs.declared.kind.EventKind.{EventKind}
@@ -29,10 +16,12 @@ use Rattle.np_roles.specs.Kinds.{request_event, node_event, job_event}
 use Rattle.np_roles.specs.Candidates.{is_from_request_queue, is_from_node_queue, request_named, node_named, places, candidate}
 use Rattle.np_roles.specs.Passing.{passes, passing, IsFirst, IsFirstThatPasses}
 use Rattle.np_roles.specs.Choices.{NoneOf, ChoosesOf}
-use Rattle.np_roles.proofs.Places.{find-place, within}
+use Rattle.np_roles.proofs.Places.{find-place}
 use Rattle.np_roles.proofs.Queues.{queued-request, queued-node}
 use Rattle.np_roles.proofs.Accepts.{request-maker, node-maker, job-maker, request-there, node-there, job-there, request-queued, node-queued}
 use Rattle.np_roles.proofs.Currents.{one-current}
+use Rattle.np_machine.proofs.Ids.{request-equal}
+use Rattle.np_lists.proofs.Plain.{within}
 
 -- ## an accepted event names something that is at a place
 
@@ -54,7 +43,7 @@ module _ (c : Configuration) (s : State) (session : SessionId) where
   request-at kind r what false from is =
       let entry = entry-of (λ (e : RequestEntry). e.kept) (request_entry r s.requests) (request-there c s session what kind r is) in
       let place = find-place (λ (e : RequestEntry). same_request e.id r) s.requests entry.0 entry.1 in
-      let same : entry.0.id ≡ r = same_request-is entry.0.id r (find-passes (λ (e : RequestEntry). same_request e.id r) s.requests entry.0 entry.1) in
+      let same : entry.0.id ≡ r = request-equal entry.0.id r (find-passes (λ (e : RequestEntry). same_request e.id r) s.requests entry.0 entry.1) in
       record {
         at = place.at;
         within = rw from place.within;

@@ -1,12 +1,6 @@
 -- the choice of a role, from the choice among its kinds
 use Rattle.std.proofs.Common.{◌≡◌, ◌∙◌, true, false, List, [], ◌∷◌, Option, Some, None, sym, ap}
-use Rattle.std.specs.List.{AllByRecursion}
-use Rattle.np_text.specs.declared.id.SessionId.{SessionId}
-use Rattle.np_text.specs.declared.id.Role.{Role}
-use Rattle.np_site.specs.Configuration.{Configuration}
-use Rattle.np_event.specs.declared.event.Event.{Event}
-use Rattle.np_machine.specs.State.{State}
-use Rattle.np_machine.specs.Step.{maker_of}
+use Rattle.np_changes.specs.Prelude.{AllByRecursion, Configuration, Event, Role, SessionId, State, maker_of}
 use Rattle.np_useful.specs.Sessions.{is_current, has_current}
 use Rattle.np_useful.specs.Useful.{IsUseful, is_maker_of}
 use Rattle.np_roles.specs.declared.kind.EventKind.{EventKind}

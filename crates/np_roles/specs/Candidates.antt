@@ -1,11 +1,6 @@
 -- the candidates of a kind, by place
 use Rattle.std.specs.Prelude.{ℕ, Bool, true, false, if◌then◌else◌, Option, length, slice_get}
-use Rattle.std.specs.Option.{option_map}
-use Rattle.np_text.specs.declared.id.SessionId.{SessionId}
-use Rattle.np_text.specs.declared.id.NodeId.{NodeId}
-use Rattle.np_text.specs.declared.id.RequestId.{RequestId}
-use Rattle.np_event.specs.declared.event.Event.{Event}
-use Rattle.np_machine.specs.State.{State}
+use Rattle.np_changes.specs.Prelude.{Event, NodeId, RequestId, SessionId, State, option_map}
 use Rattle.np_look.specs.Readers.{queued_requests, queued_nodes}
 use Rattle.np_roles.specs.declared.kind.EventKind.{EventKind}
 use Rattle.np_roles.specs.declared.kind.EventKind.TheVariants as kind_of

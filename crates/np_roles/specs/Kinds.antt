@@ -1,9 +1,5 @@
 -- the events of each kind that names a request, a node or a job
-use Rattle.np_text.specs.declared.id.SessionId.{SessionId}
-use Rattle.np_text.specs.declared.id.NodeId.{NodeId}
-use Rattle.np_text.specs.declared.id.JobId.{JobId}
-use Rattle.np_text.specs.declared.id.RequestId.{RequestId}
-use Rattle.np_event.specs.declared.event.Event.{Event}
+use Rattle.np_changes.specs.Prelude.{Event, JobId, NodeId, RequestId, SessionId}
 use Rattle.np_event.specs.declared.event.Event.TheVariants as ev
 use Rattle.np_roles.specs.declared.kind.RequestKind.{RequestKind}
 use Rattle.np_roles.specs.declared.kind.RequestKind.TheVariants as of_request

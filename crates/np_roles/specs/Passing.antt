@@ -1,10 +1,6 @@
 -- the first of some events that passes
 use Rattle.std.specs.Prelude.{◌≡◌, ◌<◌, ℕ, Bool, ◌&&◌, if◌then◌else◌, Option, Some, None, is_ok}
-use Rattle.np_text.specs.declared.id.Role.{Role}
-use Rattle.np_site.specs.Configuration.{Configuration}
-use Rattle.np_event.specs.declared.event.Event.{Event}
-use Rattle.np_machine.specs.Step.{judge}
-use Rattle.np_machine.specs.State.{State}
+use Rattle.np_changes.specs.Prelude.{Configuration, Event, Role, State, judge}
 use Rattle.np_useful.specs.Useful.{row_holds}
 
 -- the machine accepts the event, and its row is true (own)

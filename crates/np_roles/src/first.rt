@@ -1,10 +1,7 @@
 //! The first event that passes, among candidates in an order.
 
 ghost use Rattle.std.specs.Prelude.{◌≡◌, ℕ, Option};
-ghost use Rattle.np_site.specs.Configuration.{Configuration};
-ghost use Rattle.np_event.specs.declared.event.Event.{Event};
-ghost use Rattle.np_machine.specs.State.{State};
-ghost use Rattle.np_fits.specs.Fits.{Fits};
+ghost use Rattle.np_changes.specs.Prelude.{Configuration, Event, Fits, State};
 ghost use Rattle.np_roles.specs.Passing.{passing, IsFirstThatPasses};
 
 use crate::rows::{RoleRows, passes};

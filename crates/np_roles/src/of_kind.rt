@@ -1,7 +1,7 @@
 //! The events of a kind as candidates.
 
 ghost use Rattle.std.specs.Prelude.{◌≡◌, true};
-ghost use Rattle.np_fits.specs.Fits.{Fits};
+ghost use Rattle.np_changes.specs.Fits.{Fits};
 ghost use Rattle.np_useful.specs.Sessions.{is_current};
 ghost use Rattle.np_roles.specs.declared.kind.EventKind.TheVariants as kind_of;
 ghost use Rattle.np_roles.specs.Candidates.{places, candidate, request_named, node_named};

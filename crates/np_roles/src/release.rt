@@ -1,7 +1,7 @@
 //! The release of the handles of a requester's jobs.
 
 ghost use Rattle.std.specs.Prelude.{◌≡◌, true};
-ghost use Rattle.np_fits.specs.Fits.{Fits};
+ghost use Rattle.np_changes.specs.Fits.{Fits};
 ghost use Rattle.np_useful.specs.Sessions.{is_current};
 ghost use Rattle.np_roles.specs.Choices.{ChoosesRelease};
 

@@ -1,10 +1,7 @@
 //! The test of one event.
 
 ghost use Rattle.std.specs.Prelude.{◌≡◌};
-ghost use Rattle.np_text.specs.declared.id.Role.{Role};
-ghost use Rattle.np_site.specs.Configuration.{Configuration};
-ghost use Rattle.np_machine.specs.State.{State};
-ghost use Rattle.np_fits.specs.Fits.{Fits};
+ghost use Rattle.np_changes.specs.Prelude.{Configuration, Fits, Role, State};
 ghost use Rattle.np_useful.specs.Useful.{row_holds};
 ghost use Rattle.np_roles.specs.Passing.{passes};
 

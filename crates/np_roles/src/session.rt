@@ -1,15 +1,13 @@
 //! Who acts for a role, and whether a session may begin.
 
 ghost use Rattle.std.specs.Prelude.{◌≡◌, ◌&&◌, ◌==◌, true, false, cond, slice_get};
-ghost use Rattle.np_machine.specs.Session.{is_role};
-ghost use Rattle.np_fits.specs.Fits.{Fits};
+ghost use Rattle.np_changes.specs.Prelude.{Fits, is_role};
 ghost use Rattle.np_useful.specs.Sessions.{has_current, faults_of, strikes_of, is_stopped, may_open};
 ghost use Rattle.np_roles.specs.Choices.{NamesCurrent, ChoosesOpening};
 
-use np_config::Config;
+use np_config::{Config, Fault, FaultKind};
 use np_event::Event;
 use np_look::{Look, Rows, is_same_role};
-use np_site::{Fault, FaultKind};
 use np_text::{Role, SessionId};
 
 /// The role's current session, or `None` if and only if it has none. It costs what the reader

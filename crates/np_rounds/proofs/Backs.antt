@@ -1,14 +1,9 @@
 -- What a crew's round leaves of its pass.
 use Rattle.std.proofs.Common.{◌≡◌, ℕ, suc, ◌+◌, List, [], ◌∷◌, length, refl, ap, ◌∙◌, subst, arith, Bool, true, false}
 use Rattle.std.specs.Prelude.{Result, Ok, Err, IfOk, MatchBool}
-use Rattle.np_text.specs.declared.memory.NoMemory.{NoMemory}
-use Rattle.np_event.specs.declared.entry.Entry.{Entry}
-use Rattle.np_site.specs.Configuration.{Configuration}
-use Rattle.np_cloud.specs.Facts.{DriverFacts}
-use Rattle.np_desk.specs.Pass.{PassView, DeskView, sight_of}
-use Rattle.np_answers.specs.Answers.{IsFull}
+use Rattle.np_changes.specs.Prelude.{Configuration, Entry, NoMemory}
+use Rattle.np_answers.specs.Prelude.{DeskView, DriverFacts, IsFull, Leads, PassView, Phase, ended, first_phase, sight_of}
 use Rattle.np_worker.specs.declared.worker.RoundEnd.{RoundEnd}
-use Rattle.np_answers.specs.Phase.{Phase, Leads, first_phase, ended}
 use Rattle.np_worker.specs.Round.{EndsAs, Rests, work_of, driving_of}
 use Rattle.np_rounds.specs.declared.crew.Crew.{Crew}
 use Rattle.np_rounds.specs.declared.crew.CrewEnd.{CrewEnd}

@@ -1,12 +1,9 @@
 -- Journals that the players drove, from one round to the next.
 use Rattle.std.proofs.Common.{◌≡◌, ◌<◌, ℕ, List, [], ◌∷◌, ◌++◌, length, length-append, refl, sym, ap, ◌∙◌, subst, arith, Bool, true, false}
-use Rattle.std.specs.Prelude.{All, Some, map, not}
+use Rattle.std.specs.Prelude.{All, Some, map}
 use Rattle.std.proofs.lemmas.List.Elements.{All-map, All-same}
-use Rattle.np_event.specs.declared.entry.Entry.{Entry}
-use Rattle.np_site.specs.Configuration.{Configuration}
-use Rattle.np_cloud.specs.Facts.{DriverFacts}
-use Rattle.np_machine.specs.History.{Runs, after}
-use Rattle.np_answers.specs.Drive.{Driving, driving}
+use Rattle.np_changes.specs.Prelude.{Configuration, Entry, Runs, after}
+use Rattle.np_answers.specs.Prelude.{DriverFacts, Driving, driving}
 use Rattle.np_driven.specs.Planned.{DrivenAs}
 use Rattle.np_driven.specs.Players.{Player, drivings_of, AreNumbered, WasAnswered, HaveDrivenAs}
 use Rattle.np_driven.specs.Round.{IsRound}
@@ -23,10 +20,6 @@ last_of e (f ∷ l) = let r = last_of f l in (e ∷ r.0, r.1, ap (λ (k : List _
 some_last : {E : Type 0} (l : List E) → 0 < length l → (earlier : List E) × (d : E) × (l ≡ earlier ++ d ∷ [])
 some_last [] some = absurd (omega (arith, some))
 some_last (e ∷ l) some = last_of e l
-
-pub not_false : (b : Bool) → not b ≡ false → b ≡ true
-not_false true h = refl
-not_false false h = absurd cc
 
 -- the drivers in the end
 pub driven_end : (plans : Bool) {D : Type 0} (facts : D → DriverFacts) (plan : D → Plan) (sound : D → List ℕ → Bool) (room : D → ℕ) (c : Configuration) (full : Bool) (journal : List Entry) (players : List Player) (ds : List D) → map (driving facts plan sound room) ds ≡ drivings_of players → IsDriven plans c full journal players → DrivenAs (WasAnswered (map (driving facts plan sound room) ds)) plans c journal

@@ -2,12 +2,8 @@
 use Rattle.std.proofs.Common.{◌≡◌, ◌∙◌, ◌<◌, ℕ, List, [], ◌∷◌, ◌++◌, length, refl, sym, ap, subst, Bool, true, false, append_assoc}
 use Rattle.std.specs.Prelude.{All, Some, map}
 use Rattle.std.proofs.lemmas.List.Elements.{All-nil, All-cons, All-append, All-map, All-same, All-weaker}
-use Rattle.np_event.specs.declared.entry.Entry.{Entry}
-use Rattle.np_site.specs.Configuration.{Configuration}
-use Rattle.np_cloud.specs.Facts.{DriverFacts}
-use Rattle.np_cloud.specs.Sound.{Soundness}
-use Rattle.np_machine.specs.History.{Runs, after}
-use Rattle.np_answers.specs.Drive.{Driving, driving}
+use Rattle.np_changes.specs.Prelude.{Configuration, Entry, Runs, after}
+use Rattle.np_answers.specs.Prelude.{DriverFacts, Driving, Soundness, driving}
 use Rattle.np_driven.specs.Players.{Player, driving_in, drivings_of, AreNumbered, HaveDriven}
 use Rattle.np_driven.specs.Round.{IsRound}
 use Rattle.np_driven.specs.Carried.{AreCarried, BeginsEmpty, BeginsNew, FailOnlyFull}

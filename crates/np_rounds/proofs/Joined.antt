@@ -6,12 +6,9 @@ use native.Mathlib.Decide.{dec_le, ℕ_discrete}
 use Rattle.np_desk.specs.History.{StartsWith, places, added, AreRising, with_place, merged}
 use Rattle.np_desk.specs.Share.{times}
 use Rattle.np_desk.proofs.HistoryLemmas.{length-rest, times_merged}
+use Rattle.np_lists.proofs.Plain.{length-none}
 
 -- ## lists
-
-pub no_more : {E : Type 0} (l : List E) → length l ≡ 0 → l ≡ []
-no_more [] h = refl
-no_more (e ∷ es) h = absurd (omega (arith, h))
 
 pub contains_here : {X : Type 0} (x : X) (xs : List X) → Contains (x ∷ xs) x
 contains_here x xs = (0, omega arith, refl)
@@ -84,7 +81,7 @@ added_there x first later h from to =
 
 pub same_length : {E : Type 0} (seen later : List E) → StartsWith later seen → length later ≡ length seen → later ≡ seen
 same_length seen later h same =
-    h.1 ∙ (ap (λ (l : List _). seen ++ l) (no_more h.0 (omega (arith, same, ap length h.1, length-append seen h.0))) ∙ append-nil seen)
+    h.1 ∙ (ap (λ (l : List _). seen ++ l) (length-none h.0 (omega (arith, same, ap length h.1, length-append seen h.0))) ∙ append-nil seen)
 
 -- if as many places were added, the history is the same
 pub same_history : {E : Type 0} (first seen later : List E) → StartsWith seen first → StartsWith later seen → StartsWith later first → length (added first later) ≡ length (added first seen) → later ≡ seen

@@ -2,19 +2,12 @@
 use Rattle.std.proofs.Common.{◌≡◌, ◌⊎◌, inl, inr, ⊎_elim, ℕ, suc, ◌+◌, ◌<◌, List, [], ◌∷◌, ◌++◌, length, refl, sym, ap, ◌∙◌, subst, arith, append-nil, Bool, true, false}
 use Rattle.std.specs.Prelude.{All, map, Option, IfSome, MatchBool, Result}
 use Rattle.std.proofs.lemmas.List.Elements.{All-nil, All-cons, All-head, All-tail}
-use Rattle.np_text.specs.declared.memory.NoMemory.{NoMemory}
-use Rattle.np_event.specs.declared.entry.Entry.{Entry}
-use Rattle.np_site.specs.Configuration.{Configuration}
-use Rattle.np_cloud.specs.Facts.{DriverFacts}
+use Rattle.np_changes.specs.Prelude.{Configuration, Entry, NoMemory}
+use Rattle.np_answers.specs.Prelude.{DeskView, DriverFacts, Driving, IsOf, Move, OwesRemoval, PassView, Phase, Sight, Walk, Work, acts, ended, looks, of_pool, of_reaper, of_requester, owes_due, owes_launch, owes_report, owes_swept, rests, sight_of, sweeps}
 use Rattle.np_desk.specs.History.{StartsWith, added, AreRising}
-use Rattle.np_desk.specs.Pass.{PassView, DeskView, IsOf, Sight, sight_of}
 use Rattle.np_desk.specs.Share.{times}
 use Rattle.np_desk.specs.declared.view.Origin.{Origin}
 use Rattle.np_desk.proofs.HistoryLemmas.{starts_on}
-use Rattle.np_answers.specs.Drive.{Driving}
-use Rattle.np_answers.specs.Move.{Move}
-use Rattle.np_answers.specs.Phase.{Work, of_pool, of_requester, of_reaper, Phase, acts, owes_launch, owes_report, looks, owes_due, sweeps, owes_swept, rests, ended, OwesRemoval}
-use Rattle.np_answers.specs.Walk.{Walk}
 use Rattle.np_driven.specs.Planned.{answers_of}
 use Rattle.np_driven.specs.Players.{Player}
 use Rattle.np_driven.specs.Round.{PlayerEnd, PlaysFrom, EachPlaysFrom, IsMade, IsCutOff, IsRound}

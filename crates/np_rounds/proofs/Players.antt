@@ -1,13 +1,8 @@
 -- Workers as players, in lists that grow and shrink at their end.
 use Rattle.std.proofs.Common.{◌≡◌, ℕ, suc, List, [], ◌∷◌, ◌++◌, length, length-append, refl, sym, ap, ◌∙◌, subst, arith, append_assoc}
 use Rattle.std.specs.Prelude.{map, Bool, Option, Some, None}
-use Rattle.np_cloud.specs.Facts.{DriverFacts}
-use Rattle.np_text.specs.declared.id.PoolId.{PoolId}
-use Rattle.np_text.specs.declared.id.RequesterId.{RequesterId}
-use Rattle.np_answers.specs.Drive.{Driving, Drives, Drove, driving}
-use Rattle.np_answers.specs.Move.{Move}
-use Rattle.np_site.specs.Configuration.{Configuration}
-use Rattle.np_event.specs.declared.entry.Entry.{Entry}
+use Rattle.np_answers.specs.Prelude.{DriverFacts, Drives, Driving, Drove, Move, driving}
+use Rattle.np_changes.specs.Prelude.{Configuration, Entry, PoolId, RequesterId}
 use Rattle.np_driven.specs.Players.{Player, driving_in, drivings_of, AreNumbered}
 use Rattle.np_driven.specs.Round.{PlayerEnd, EachPlaysFrom, IsRound}
 use Rattle.np_worker.specs.Round.{driving_of}
@@ -16,14 +11,7 @@ use Rattle.np_worker.specs.declared.worker.Worker.TheVariants as worker
 use Rattle.np_rounds.specs.Crews.{Seat, Plan, Terms, terms_of, player_of, players_of, crew_players}
 use Rattle.np_rounds.specs.Played.{terms_in}
 use Rattle.np_rounds.specs.declared.crew.Crew.{Crew}
-
-map-push : {A B : Type 0} (f : A → B) (xs : List A) (x : A) → map f (xs ++ x ∷ []) ≡ map f xs ++ f x ∷ []
-map-push f [] x = refl
-map-push f (y ∷ xs) x = ap (λ (l : List _). f y ∷ l) (map-push f xs x)
-
-map-length : {A B : Type 0} (f : A → B) (xs : List A) → length (map f xs) ≡ length xs
-map-length f [] = refl
-map-length f (x ∷ xs) = ap suc (map-length f xs)
+use Rattle.np_lists.proofs.Plain.{map-push, length-map}
 
 module _ {D : Type 0} (facts : D → DriverFacts) (plan : D → Plan) (sound : D → List ℕ → Bool) (room : D → ℕ) where
   pub players-push : (workers : List (Worker D)) (w : Worker D) → players_of facts plan sound room (workers ++ w ∷ []) ≡ player_of facts plan sound room w ∷ players_of facts plan sound room workers
@@ -120,7 +108,7 @@ module _ {D : Type 0} (facts : D → DriverFacts) (plan : D → Plan) (sound : D
       sym (one_term f g same ds) ∙ (ap (map f) (sym (terms_of_drivers ds) ∙ (ap (map terms_of) back ∙ kept)) ∙ one_term f g same es)
 
   pub as_many : {A : Type 0} (g : D → A) (ds es : List D) → map g ds ≡ map g es → length ds ≡ length es
-  as_many g ds es same = sym (map-length g ds) ∙ (ap length same ∙ map-length g es)
+  as_many g ds es same = sym (length-map g ds) ∙ (ap length same ∙ length-map g es)
 
 -- a round keeps what no call changes
 same_terms_of : (trace : List Move) (d e : Driving) → Drives trace d e → terms_of e ≡ terms_of d

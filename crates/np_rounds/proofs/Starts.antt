@@ -1,19 +1,8 @@
 -- A site that has not begun is not settled.
 use Rattle.std.proofs.Common.{◌≡◌, ◌≤◌, Bool, true, false, List, [], ◌∷◌, length, refl, sym, subst, arith, ⊎_elim}
 use Rattle.std.specs.Prelude.{is_ok, is_some, slice_get, filter, map}
-use Rattle.std.specs.Option.{option_map_or}
-use Rattle.np_text.specs.declared.id.Role.{Role}
-use Rattle.np_text.specs.declared.id.Role.TheVariants.{Launcher}
-use Rattle.np_site.specs.Configuration.{Configuration}
-use Rattle.np_site.specs.Sound.{IsSound}
-use Rattle.np_site.specs.declared.row.Pool.{Pool}
-use Rattle.np_event.specs.declared.entry.Entry.{Entry}
+use Rattle.np_changes.specs.Prelude.{Configuration, Entry, IsSound, Launcher, Pool, Role, RoleRecord, Runs, State, after, is_role, judge, no_deeds, option_map_or, start}
 use Rattle.np_event.specs.declared.event.Event.TheVariants as ev
-use Rattle.np_record.specs.declared.record.RoleRecord.{RoleRecord}
-use Rattle.np_machine.specs.History.{Runs, after}
-use Rattle.np_machine.specs.Session.{is_role}
-use Rattle.np_machine.specs.State.{State, start, no_deeds}
-use Rattle.np_machine.specs.Step.{judge}
 use Rattle.np_useful.specs.Sessions.{may_open}
 use Rattle.np_useful.specs.Settled.{IsSettled}
 use Rattle.np_useful.specs.Useful.{row_holds}

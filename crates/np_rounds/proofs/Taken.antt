@@ -3,14 +3,10 @@ use Rattle.std.proofs.Common.{◌≡◌, ◌⊎◌, inl, inr, ⊎_elim, ℕ, ◌
 use Rattle.std.specs.Prelude.{Result, Ok, Err, IfOk, ◌||◌, nat_lt}
 use Rattle.std.proofs.lemmas.Bool.Decides.{nat_tests}
 use Rattle.std.proofs.lemmas.List.Elements.{All-nil, All-cons, All-weaker}
-use Rattle.np_text.specs.declared.memory.NoMemory.{NoMemory}
-use Rattle.np_event.specs.declared.entry.Entry.{Entry}
-use Rattle.np_site.specs.Configuration.{Configuration}
-use Rattle.np_cloud.specs.Facts.{DriverFacts}
+use Rattle.np_changes.specs.Prelude.{Configuration, Entry, NoMemory}
+use Rattle.np_answers.specs.Prelude.{DeskView, DriverFacts, IsFull, PassView}
 use Rattle.np_desk.specs.History.{StartsWith, merged}
-use Rattle.np_desk.specs.Pass.{PassView, DeskView}
 use Rattle.np_desk.proofs.HistoryLemmas.{starts_same, starts_on}
-use Rattle.np_answers.specs.Answers.{IsFull}
 use Rattle.np_driven.specs.Players.{Player}
 use Rattle.np_worker.specs.declared.worker.Worker.{Worker}
 use Rattle.np_worker.specs.declared.worker.RoundEnd.{RoundEnd}
@@ -20,8 +16,9 @@ use Rattle.np_rounds.specs.Crews.{Seat, Plan, player_of, players_of}
 use Rattle.np_rounds.specs.Backs.{IsBack, IsUncut, TookBack}
 use Rattle.np_rounds.specs.Played.{with_end}
 use Rattle.np_rounds.proofs.Fulls.{full_later}
-use Rattle.np_rounds.proofs.Joined.{no_more, length_merged}
+use Rattle.np_rounds.proofs.Joined.{length_merged}
 use Rattle.np_rounds.proofs.Players.{players-push}
+use Rattle.np_lists.proofs.Plain.{length-none}
 
 -- ## the sum of a round
 
@@ -90,7 +87,7 @@ module _ {D : Type 0} (facts : D → DriverFacts) (plan : D → Plan) (sound : D
     more_still : (s.moved ≡ false → mid.mine ≡ old.mine) → t.moved ≡ false → new.mine ≡ old.mine
     more_still had still =
         let parts = nor_parts s.moved (nat_lt 0 one.end.entries) (sym one.moved ∙ still) in
-        mine ∙ (ap (merged mid.mine) (no_more e.crew.pass.mine (entries ∙ none_there one.end.entries parts.1)) ∙ had parts.0)
+        mine ∙ (ap (merged mid.mine) (length-none e.crew.pass.mine (entries ∙ none_there one.end.entries parts.1)) ∙ had parts.0)
 
     more_moved : (s.moved ≡ false → mid.mine ≡ old.mine) → (s.moved ≡ true → length old.mine < length mid.mine) → t.moved ≡ true → length old.mine < length new.mine
     more_moved same had moved = by_sum s.moved refl

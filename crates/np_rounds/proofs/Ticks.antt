@@ -1,15 +1,11 @@
 -- A tick after a round.
 use Rattle.std.proofs.Common.{◌≡◌, false, inr, List, [], ◌∷◌, ◌++◌, length, length-append, ap, ◌∙◌, arith}
-use Rattle.np_event.specs.declared.entry.Entry.{Entry}
+use Rattle.np_changes.specs.Prelude.{Configuration, Entry}
 use Rattle.np_event.specs.declared.event.Event.TheVariants as ev
-use Rattle.np_site.specs.Configuration.{Configuration}
-use Rattle.np_desk.specs.Pass.{PassView, DeskView, Sight, sight_of}
-use Rattle.np_desk.specs.Turned.{Answered}
+use Rattle.np_answers.specs.Prelude.{Answered, DeskView, PassView, Sight, answers, recorded, sight_of}
 use Rattle.np_answers.specs.declared.ask.Ask.TheVariants as ask
 use Rattle.np_answers.specs.declared.ask.Turn.{Turn}
 use Rattle.np_answers.specs.declared.ask.Turn.TheVariants as turn
-use Rattle.np_answers.specs.Answers.{answers}
-use Rattle.np_answers.specs.Asks.{recorded}
 use Rattle.np_rounds.specs.Played.{is_full, Stops, Ticks}
 use Rattle.np_rounds.proofs.Fulls.{full_turn}
 use Rattle.np_rounds.proofs.Joined.{same_length}

@@ -1,12 +1,8 @@
 -- crews that come back after a round
 use Rattle.std.specs.Prelude.{◌≡◌, ◌<◌, ℕ, suc, length, List, [], ◌∷◌, ◌++◌, All, Bool, true, false, Ok, IfOk}
-use Rattle.np_event.specs.declared.entry.Entry.{Entry}
-use Rattle.np_cloud.specs.Facts.{DriverFacts}
-use Rattle.np_site.specs.Configuration.{Configuration}
+use Rattle.np_changes.specs.Prelude.{Configuration, Entry}
+use Rattle.np_answers.specs.Prelude.{DeskView, DriverFacts, IsFull, IsOf, PassView, second_half}
 use Rattle.np_desk.specs.History.{StartsWith, merged}
-use Rattle.np_desk.specs.Part.{second_half}
-use Rattle.np_desk.specs.Pass.{PassView, DeskView, IsOf}
-use Rattle.np_answers.specs.Answers.{IsFull}
 use Rattle.np_driven.specs.Players.{Player}
 use Rattle.np_worker.specs.declared.worker.RoundEnd.{RoundEnd}
 use Rattle.np_worker.specs.declared.worker.Worker.{Worker}

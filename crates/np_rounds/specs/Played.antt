@@ -1,9 +1,7 @@
 -- what rounds of all workers leave
 use Rattle.std.specs.Prelude.{◌≡◌, ◌⊎◌, ◌||◌, nat_lt, List, [], ◌∷◌, ◌++◌, map, Bool, true, false, Result, Ok, Err}
-use Rattle.np_text.specs.declared.memory.NoMemory.{NoMemory}
-use Rattle.np_event.specs.declared.entry.Entry.{Entry}
+use Rattle.np_changes.specs.Prelude.{Configuration, Entry, NoMemory}
 use Rattle.np_event.specs.declared.event.Event.TheVariants as ev
-use Rattle.np_site.specs.Configuration.{Configuration}
 use Rattle.np_driven.specs.Planned.{DrivenAs}
 use Rattle.np_driven.specs.Players.{Player, drivings_of, AreNumbered, WasAnswered, HaveDrivenAs}
 use Rattle.np_worker.specs.declared.worker.RoundEnd.{RoundEnd}

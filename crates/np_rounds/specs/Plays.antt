@@ -1,15 +1,11 @@
 -- what a crew did in a round
 use Rattle.std.specs.Prelude.{◌≡◌, ◌+◌, length, ℕ, Bool, List, [], ◌∷◌, IfOk, Result}
-use Rattle.np_text.specs.declared.memory.NoMemory.{NoMemory}
-use Rattle.np_event.specs.declared.entry.Entry.{Entry}
-use Rattle.np_cloud.specs.Facts.{DriverFacts}
-use Rattle.np_site.specs.Configuration.{Configuration}
-use Rattle.np_desk.specs.Pass.{DeskView, IsOf, sight_of}
+use Rattle.np_changes.specs.Prelude.{Configuration, Entry, NoMemory}
+use Rattle.np_answers.specs.Prelude.{DeskView, DriverFacts, IsOf, first_phase, sight_of}
 use Rattle.np_driven.specs.Planned.{answers_of}
 use Rattle.np_worker.specs.declared.worker.RoundEnd.{RoundEnd}
 use Rattle.np_worker.specs.declared.worker.Worker.{Worker}
 use Rattle.np_worker.specs.Part.{Part}
-use Rattle.np_answers.specs.Phase.{first_phase}
 use Rattle.np_worker.specs.Round.{EndsAs, work_of, driving_of}
 use Rattle.np_rounds.specs.declared.crew.Crew.{Crew}
 use Rattle.np_rounds.specs.declared.crew.CrewEnd.{CrewEnd}

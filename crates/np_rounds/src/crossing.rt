@@ -3,7 +3,7 @@
 
 ghost use Rattle.std.specs.Thread.{IsSend, IsSync};
 ghost use Rattle.np_active.specs.contracts.active.Active as active;
-ghost use Rattle.np_awaited.specs.contracts.awaited.Awaited as awaited;
+ghost use Rattle.np_counts.specs.contracts.awaited.Awaited as awaited;
 ghost use Rattle.np_board.specs.contracts.board.Board as board;
 ghost use Rattle.np_classes.specs.contracts.classes.Classes as classes;
 ghost use Rattle.np_config.specs.contracts.config.Config as config;
@@ -16,10 +16,10 @@ ghost use Rattle.np_tables.specs.contracts.tables.Tables as tables;
 ghost use Rattle.np_tree.specs.contracts.tree.Tree as tree;
 
 use np_active::Active;
-use np_awaited::Awaited;
 use np_board::Board;
 use np_classes::Classes;
 use np_config::Config;
+use np_counts::Awaited;
 use np_event::Entry;
 use np_given::Given;
 use np_index::Index;

@@ -1,10 +1,7 @@
 //! One round of all workers.
 
 ghost use Rattle.std.specs.Prelude.{◌≡◌, ◌<◌, ◌++◌, All, IfOk, [], ◌∷◌, length, true, false};
-ghost use Rattle.np_desk.specs.Part.{IsWhole};
-ghost use Rattle.np_desk.specs.Pass.{IsOf};
-ghost use Rattle.np_answers.specs.Answers.{IsFull};
-ghost use Rattle.np_answers.specs.Legal.{is_legal};
+ghost use Rattle.np_answers.specs.Prelude.{IsFull, IsOf, IsWhole, is_legal};
 ghost use Rattle.np_driven.specs.Round.{IsRound};
 ghost use Rattle.np_rounds.specs.Crews.{zeros, split_pass, AreGiven, players_of, crew_players};
 ghost use Rattle.np_rounds.specs.Plays.{CrewPlays, Pairwise};

@@ -1,11 +1,7 @@
 //! A site, played to its end.
 
 ghost use Rattle.std.specs.Prelude.{◌≡◌, [], length, map, All, IfOk, Some, true, false};
-ghost use Rattle.np_desk.specs.Part.{IsWhole};
-ghost use Rattle.np_desk.specs.Pass.{IsOf};
-ghost use Rattle.np_useful.specs.Settled.{IsSettled};
-ghost use Rattle.np_answers.specs.Drive.{driving};
-ghost use Rattle.np_useful.specs.Driven.{DrivenBy};
+ghost use Rattle.np_answers.specs.Prelude.{DrivenBy, IsOf, IsSettled, IsWhole, driving};
 ghost use Rattle.np_driven.specs.Players.{WasAnswered, HaveDriven};
 ghost use Rattle.np_driven.specs.Carried.{AreCarried, BeginsEmpty, BeginsNew, FailOnlyFull};
 ghost use Rattle.np_driven.specs.Hosting.{Earlier, HaveHosted, IsHosted};

@@ -2,11 +2,8 @@
 use Rattle.std.proofs.Common.{◌≤◌, length, arith}
 use Rattle.std.specs.Prelude.{filter}
 use Rattle.std.proofs.lemmas.List.{length-map}
-use Rattle.np_text.specs.declared.id.PoolId.{PoolId}
+use Rattle.np_changes.specs.Prelude.{PoolId, RequestEntry, State, is_pending_by}
 use Rattle.np_lists.proofs.Each.{length-filter_at_most}
-use Rattle.np_machine.specs.Entries.{RequestEntry}
-use Rattle.np_machine.specs.Order.{is_pending_by}
-use Rattle.np_machine.specs.State.{State}
 use Rattle.np_look.specs.Readers.{pending_requests}
 
 pub few-pending : (p : PoolId) (s : State) → length (pending_requests p s) ≤ length s.requests

@@ -1,10 +1,6 @@
 -- a machine that began before the first event
 use Rattle.std.proofs.Common.{◌≡◌, ◌∙◌, ℕ, ◌+◌, List, [], ◌∷◌, length, refl, arith}
-use Rattle.np_site.specs.Configuration.{Configuration}
-use Rattle.np_event.specs.declared.event.Event.{Event}
-use Rattle.np_event.specs.declared.entry.Entry.{Entry}
-use Rattle.np_machine.specs.State.{State}
-use Rattle.np_machine.specs.History.{Runs}
+use Rattle.np_changes.specs.Prelude.{Configuration, Entry, Event, Runs, State}
 use Rattle.np_rules.specs.Ran.{Ran, answer_of, applied}
 use Rattle.np_rules.specs.RunsOn.{RunsOn, answer_after, applied_after}
 

@@ -1,15 +1,9 @@
 -- runs that go on from an earlier one
 use Rattle.std.proofs.Common.{◌≡◌, ◌<◌, ◌≤◌, ◌+◌, ℕ, List, [], ◌∷◌, ◌++◌, length, sym, subst, refl, arith, append-nil}
 use Rattle.std.proofs.lemmas.List.{append_assoc, length-append}
-use Rattle.np_site.specs.Configuration.{Configuration}
-use Rattle.np_event.specs.declared.entry.Entry.{Entry}
-use Rattle.np_machine.specs.State.{State, start}
-use Rattle.np_machine.specs.Step.{judge, next, reply_of}
-use Rattle.np_machine.specs.History.{Runs}
-use Rattle.np_changes.specs.Planned.{IsReached}
-use Rattle.np_fits.specs.Fits.{Fits, IsFitSite}
-use Rattle.np_fits.proofs.FitsRuns.{Fits-Runs}
-use Rattle.np_fits.proofs.RunSteps.{Runs-start, Runs-next}
+use Rattle.np_changes.specs.Prelude.{Configuration, Entry, Fits, IsFitSite, IsReached, Runs, State, judge, next, reply_of, start}
+use Rattle.np_changes.proofs.FitsRuns.{Fits-Runs}
+use Rattle.np_changes.proofs.RunSteps.{Runs-start, Runs-next}
 use Rattle.np_rules.specs.RunsOn.{RunsOn}
 
 -- a run of the configuration reaches the state
@@ -27,10 +21,6 @@ RunsOn-after c before s runs = record { before = before; many = refl; runs = sub
 -- before the first event
 pub RunsOn-start : (c : Configuration) → RunsOn c 0 [] (start c)
 RunsOn-start c = record { before = []; many = refl; runs = Runs-start c }
-
--- there are no more entries than a journal may have
-pub RunsOn-short : (c : Configuration) (earlier : ℕ) (journal : List Entry) (s : State) → RunsOn c earlier journal s → earlier + length journal ≤ 262144
-RunsOn-short c earlier journal s on = omega (arith, on.many, length-append on.before journal, on.runs.short)
 
 -- a run continues with an event and the machine's reply
 pub RunsOn-next : (c : Configuration) (earlier : ℕ) (journal : List Entry) (s : State) (entry : Entry) →

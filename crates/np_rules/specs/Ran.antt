@@ -1,13 +1,8 @@
 -- the machine with its journal
 use Rattle.std.specs.Prelude.{List, ◌++◌, ◌∷◌, [], Bool, if◌then◌else◌, nat_lt, length}
-use Rattle.np_site.specs.Configuration.{Configuration}
-use Rattle.np_event.specs.declared.event.Event.{Event}
-use Rattle.np_event.specs.declared.entry.Entry.{Entry}
-use Rattle.np_event.specs.declared.reply.Reply.{Reply}
+use Rattle.np_changes.specs.Prelude.{Configuration, Entry, Event, Reply, State, judge, next, reply_of}
 use Rattle.np_event.specs.declared.reply.Reply.TheVariants as reply
 use Rattle.np_event.specs.declared.reply.Refusal.TheVariants as no
-use Rattle.np_machine.specs.State.{State}
-use Rattle.np_machine.specs.Step.{judge, next, reply_of}
 
 -- a configuration, the journal that was recorded, and the state that it led to (own)
 pub record Ran : Type 0 where

@@ -1,9 +1,6 @@
 -- a machine with where it writes what changes
 use Rattle.std.specs.Prelude.{ℕ, List}
-use Rattle.np_site.specs.Configuration.{Configuration}
-use Rattle.np_event.specs.declared.entry.Entry.{Entry}
-use Rattle.np_machine.specs.State.{State}
-use Rattle.np_fits.specs.Fits.{IsFitSite}
+use Rattle.np_changes.specs.Prelude.{Configuration, Entry, IsFitSite, State}
 use Rattle.np_index.specs.Index.{IndexParts, IsIndexOf}
 use Rattle.np_rules.specs.Ran.{Ran}
 use Rattle.np_rules.specs.RunsOn.{RunsOn}

@@ -1,14 +1,8 @@
 -- a machine whose journal goes on from an earlier run
 use Rattle.std.specs.Prelude.{◌≡◌, ℕ, ◌+◌, List, ◌++◌, ◌∷◌, [], Bool, if◌then◌else◌, nat_lt, length}
-use Rattle.np_site.specs.Configuration.{Configuration}
-use Rattle.np_event.specs.declared.event.Event.{Event}
-use Rattle.np_event.specs.declared.entry.Entry.{Entry}
-use Rattle.np_event.specs.declared.reply.Reply.{Reply}
+use Rattle.np_changes.specs.Prelude.{Configuration, Entry, Event, Reply, Runs, State, judge, next, reply_of}
 use Rattle.np_event.specs.declared.reply.Reply.TheVariants as reply
 use Rattle.np_event.specs.declared.reply.Refusal.TheVariants as no
-use Rattle.np_machine.specs.State.{State}
-use Rattle.np_machine.specs.Step.{judge, next, reply_of}
-use Rattle.np_machine.specs.History.{Runs}
 use Rattle.np_rules.specs.Ran.{Ran}
 
 -- some run of so many entries, and then of the journal, leads to the state (own)

@@ -1,13 +1,9 @@
 //! The changes of an accepted event, made in store, tables and index.
 
 ghost use Rattle.std.specs.Prelude.{◌≡◌, IfOk, OnErr, OnOk};
-ghost use Rattle.np_changes.specs.Changes.{changed};
-ghost use Rattle.np_changes.specs.Planned.{IsPlanned, IsReached};
-ghost use Rattle.np_fits.specs.Fits.{Fits};
+ghost use Rattle.np_changes.specs.Prelude.{Fits, IsPlanned, IsReached, changed, judge, next, plan, reply_of};
 ghost use Rattle.np_decision.specs.Verdicts.{answer_of};
-ghost use Rattle.np_changes.specs.Plan.{plan};
 ghost use Rattle.np_index.specs.Index.{IsIndexOf};
-ghost use Rattle.np_machine.specs.Step.{judge, next, reply_of};
 
 use np_changes::Changes;
 use np_decision::Verdict;

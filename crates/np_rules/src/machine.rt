@@ -1,8 +1,7 @@
 //! The machine: tables, index and journal, beside a store.
 
 ghost use Rattle.std.specs.Prelude.{◌≡◌, [], IfErr, IfOk, OnErr, OnOk};
-ghost use Rattle.np_fits.specs.Fits.{IsFitSite};
-ghost use Rattle.np_machine.specs.State.{start};
+ghost use Rattle.np_changes.specs.Prelude.{IsFitSite, start};
 ghost use Rattle.np_rules.specs.Running.{ran_of};
 ghost use Rattle.np_rules.specs.RunsOn.{RunsOn, answer_after, applied_after, has_room_after};
 

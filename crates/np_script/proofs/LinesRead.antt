@@ -11,10 +11,6 @@ abbrev pub read_before : {A F : Type 0} → List A → Result (List A) (LinesFau
 read_before before (Err fault) = Err fault
 read_before before (Ok rest) = Ok (before ++ rest)
 
-pub read_before-nil : {A F : Type 0} (r : Result (List A) (LinesFault F)) → read_before [] r ≡ r
-read_before-nil (Ok rest) = refl
-read_before-nil (Err fault) = refl
-
 read_before-with_line : {A F : Type 0} (before : List A) (n : ℕ) (x : A) (r : Result (List A) (LinesFault F)) → read_before before (with_line n (Ok x) r) ≡ read_before (before ++ x ∷ []) r
 read_before-with_line before n x (Ok rest) = ap Ok (sym (append_assoc before (x ∷ []) rest))
 read_before-with_line before n x (Err fault) = refl

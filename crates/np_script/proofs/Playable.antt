@@ -2,7 +2,7 @@
 use Rattle.std.proofs.Common.{◌≡◌, ◌≤◌, ℕ, List, Ok, length, arith}
 use Rattle.std.specs.List.{AllByRecursion}
 use Rattle.np_text.specs.Lines.{lines_of}
-use Rattle.np_site.specs.Configuration.{Configuration}
+use Rattle.np_config.specs.Configuration.{Configuration}
 use Rattle.np_config_read.specs.Walk.{reads}
 use Rattle.np_config_read.proofs.WalkTakes.{reads-takes}
 use Rattle.np_event.specs.declared.event.Event.{Event}

@@ -4,8 +4,8 @@ use Rattle.std.specs.List.{AllByRecursion}
 use Rattle.np_text.specs.Lines.{lines_of}
 use Rattle.np_text.specs.Sections.{sections_of}
 use Rattle.np_json.specs.declared.fault.ConfigFault.{ConfigFault}
-use Rattle.np_site.specs.Configuration.{Configuration}
-use Rattle.np_site.specs.Sound.{IsSound}
+use Rattle.np_config.specs.Configuration.{Configuration}
+use Rattle.np_config.specs.Sound.{IsSound}
 use Rattle.np_config_read.specs.Walk.{reads}
 use Rattle.np_event.specs.declared.event.Event.{Event}
 use Rattle.np_event_lines.specs.declared.fault.LineFault.{LineFault}

@@ -2,10 +2,9 @@
 use Rattle.std.proofs.Common.{◌≡◌, ℕ, ◌+◌, ◌-◌, ◌*◌, ◌<◌, ◌≤◌, Bool, true, false, ◌&&◌, List, [], ◌∷◌, length, get_or, drop, Option, Some, None, refl, ap, ◌∙◌, arith}
 use Rattle.std.specs.Prelude.{nat_le, if◌then◌else◌}
 use Rattle.std.specs.Char.{is_ascii_digit}
-use Rattle.std.proofs.lemmas.Bool.{eq-eqb}
+use Rattle.std.proofs.lemmas.Bool.{eq-eqb, and_parts}
 use Rattle.std.proofs.lemmas.List.{drop_more, drop_all}
 use Rattle.np_spelling.specs.Reading.{begins, digits, fixed, lead, priority_limits, sequence_limits}
-use Rattle.np_text.proofs.SpellingLemmas.{both_true}
 use Rattle.std.proofs.lemmas.Bool.Decides.{nat_tests}
 
 pub lead_passed : (text s t : List ℕ) (i : ℕ) → i < length text → s ≡ get_or text i 0 ∷ t → lead (drop i text) s ≡ lead (drop (i + 1) text) t
@@ -93,7 +92,7 @@ fixed_most_at : (limit : ℕ) (limits : List ℕ) (n c : ℕ) (cs : List ℕ) (m
     → (if v then fixed limits (n * 10 + (c - 48)) cs else (None, c ∷ cs)) ≡ (Some m, left)
     → (n * 10 + (c - 48) ≤ limit → fixed limits (n * 10 + (c - 48)) cs ≡ (Some m, left) → m ≤ last_limit limit limits) → m ≤ last_limit limit limits
 fixed_most_at limit limits n c cs m left true test is rest =
-    let tests = both_true (is_ascii_digit c) (nat_le (n * 10 + (c - 48)) limit) test in
+    let tests = and_parts (is_ascii_digit c) (nat_le (n * 10 + (c - 48)) limit) test in
     let fits : n * 10 + (c - 48) ≤ limit = grind (arith, nat_tests) in
     rest fits is
 fixed_most_at limit limits n c cs m left false test is rest = absurd (never (c ∷ cs) left m is)

@@ -5,14 +5,14 @@ use Rattle.std.specs.Char.{digit_value, is_ascii_digit}
 use Rattle.std.specs.Fmt.{decimal}
 use Rattle.std.specs.Str.{all_ascii_digits}
 use Rattle.std.specs.Str.Parse.{digits_value, digits_value_after}
-use Rattle.std.proofs.lemmas.Bool.{cases_lt}
+use Rattle.std.proofs.lemmas.Bool.{cases_lt, and_parts}
 use Rattle.std.proofs.lemmas.Bool.Decides.{nat_tests}
 use Rattle.std.proofs.lemmas.Fmt.{first_decimal, length-decimal-le, digits_decimal, digits_value-decimal, decimal-digits_value}
 use Rattle.std.proofs.lemmas.List.{append-nil}
 use Rattle.np_text.proofs.NumberLemmas.{digit_value_digit}
 use Rattle.np_text.proofs.OrderLemmas.{all_ascii_digits-ten}
 use Rattle.np_text.proofs.RequestLemmas.{decimal_three}
-use Rattle.np_text.proofs.SpellingLemmas.{both_true, model, digits_value-zeros, length-padded, padded-digits_value}
+use Rattle.np_text.proofs.SpellingLemmas.{model, digits_value-zeros, length-padded, padded-digits_value}
 use Rattle.np_text.specs.Number.{padded, ten_digits_of}
 use Rattle.np_text.specs.Request.{HasText, request_text_of}
 use Rattle.np_text.specs.declared.id.RequestId.{RequestId}
@@ -67,7 +67,7 @@ fixed_told_at : (l m : ℕ) (ms : List ℕ) (n c : ℕ) (cs : List ℕ) (v : Boo
     → FixedTold l (m ∷ ms) n (c ∷ cs) (fixed (m ∷ ms) n (c ∷ cs)).0 (fixed (m ∷ ms) n (c ∷ cs)).1
 unfolding fixed
 fixed_told_at l m ms n c cs true test within steps rest =
-    let tests = both_true (is_ascii_digit c) (nat_le (n * 10 + (c - 48)) m) test in
+    let tests = and_parts (is_ascii_digit c) (nat_le (n * 10 + (c - 48)) m) test in
     let fits : n * 10 + (c - 48) ≤ m = grind (arith, nat_tests) in
     let told = rest fits in
     rw test (c ∷ told.0, ap (λ x. c ∷ x) told.1, says_fixed l m ms n c tests.0 (fixed ms (n * 10 + (c - 48)) cs).0 told.0 told.2, λ x agree. rw test (told.3 x agree))
@@ -105,7 +105,7 @@ fixed_complete l [] n [] x steps long all most = refl
 fixed_complete l [] n (c ∷ t) x steps long all most = absurd (omega arith)
 fixed_complete l (m ∷ ms) n [] x steps long all most = absurd (omega arith)
 fixed_complete l (m ∷ ms) n (c ∷ t) x steps long all most =
-    let digits = both_true (is_ascii_digit c) (all_ascii_digits t) all in
+    let digits = and_parts (is_ascii_digit c) (all_ascii_digits t) all in
     let value = digit_value_digit c digits.0 in
     let front = fits_front m ms (n * 10 + digit_value c) t steps.2 (omega arith) most in
     let fits : nat_le (n * 10 + (c - 48)) m ≡ true = grind (arith, nat_tests) in

@@ -5,15 +5,14 @@ use Rattle.std.specs.Char.{digit_value, is_ascii_digit}
 use Rattle.std.specs.Fmt.{decimal}
 use Rattle.std.specs.Str.{all_ascii_digits}
 use Rattle.std.specs.Str.Parse.{digits_value, digits_value_after}
-use Rattle.std.proofs.lemmas.Bool.{cases_eq, eqb-true}
+use Rattle.std.proofs.lemmas.Bool.{cases_eq, eqb-true, and_parts}
 use Rattle.std.proofs.lemmas.Bool.Decides.{nat_tests}
-use Rattle.std.proofs.lemmas.Fmt.{decimal_nonempty, decimal_digit, decimal_step, first_decimal, digits_decimal, digits_value-decimal}
+use Rattle.std.proofs.lemmas.Fmt.{decimal_nonempty, decimal_digit, decimal_step, first_decimal, digits_decimal, digits_value-decimal, decimal_injective}
 use Rattle.std.proofs.lemmas.List.{append-nil}
 use Rattle.np_text.proofs.NumberLemmas.{digit_value_digit}
-use Rattle.np_text.proofs.SpellingLemmas.{both_true, model, number_of-decimal, some_injective}
-use Rattle.np_text.specs.Number.{number_of}
+use Rattle.np_text.proofs.SpellingLemmas.{model}
 use Rattle.np_spelling.specs.Reading.{begins, digits, number}
-use Rattle.np_spelling.proofs.Readers.{Agree, NoDigit, Read, Says, Told, behind, leading}
+use Rattle.np_spelling.proofs.Readers.{NoDigit, Read, Says, Told, behind, leading}
 
 -- ## Digits after a number
 
@@ -54,7 +53,7 @@ digits_told_at : (max n c : ℕ) (cs : List ℕ) (v : Bool) → (is_ascii_digit 
     → DigitsTold max n (c ∷ cs) (digits max n (c ∷ cs)).0 (digits max n (c ∷ cs)).1
 unfolding digits
 digits_told_at max n c cs true test most some small rest =
-    let tests = both_true (is_ascii_digit c) (nat_le (n * 10 + (c - 48)) max) test in
+    let tests = and_parts (is_ascii_digit c) (nat_le (n * 10 + (c - 48)) max) test in
     let fits : n * 10 + (c - 48) ≤ max = grind (arith, nat_tests) in
     let step = decimal_more n c some tests.0 (omega arith) in
     let told = rest fits in
@@ -69,11 +68,6 @@ digits_told max n (c ∷ cs) most some small =
     digits_told_at max n c cs (is_ascii_digit c && nat_le (n * 10 + (c - 48)) max) refl most some small
     (λ fits. digits_told max (n * 10 + (c - 48)) cs fits (omega arith) small)
 
-decimal_injective : (m n : ℕ) → m < 2 ^ 64 → n < 2 ^ 64 → decimal m ≡ decimal n → m ≡ n
-decimal_injective m n m_small n_small same =
-    let max = 2 ^ 64 - 1 in
-    some_injective m n (sym (number_of-decimal max m (omega arith) (omega arith)) ∙ ap (number_of max) same ∙ number_of-decimal max n (omega arith) (omega arith))
-
 value_after_ge : (n : ℕ) (cs : List ℕ) → n ≤ digits_value_after 10 n cs
 value_after_ge n [] = omega arith
 value_after_ge n (c ∷ cs) = omega (arith, value_after_ge (n * 10 + digit_value c) cs)
@@ -83,8 +77,8 @@ value_append n [] ys = refl
 value_append n (x ∷ xs) ys = value_append (n * 10 + digit_value x) xs ys
 
 digit_behind : (xs : List ℕ) (c : ℕ) (t : List ℕ) → all_ascii_digits (xs ++ c ∷ t) ≡ true → is_ascii_digit c ≡ true
-digit_behind [] c t all = (both_true (is_ascii_digit c) (all_ascii_digits t) all).0
-digit_behind (x ∷ xs) c t all = digit_behind xs c t (both_true (is_ascii_digit x) (all_ascii_digits (xs ++ c ∷ t)) all).1
+digit_behind [] c t all = (and_parts (is_ascii_digit c) (all_ascii_digits t) all).0
+digit_behind (x ∷ xs) c t all = digit_behind xs c t (and_parts (is_ascii_digit x) (all_ascii_digits (xs ++ c ∷ t)) all).1
 
 -- one more digit is a digit, and makes at most the whole number
 part_fits : (n m c : ℕ) (t : List ℕ) → n < 2 ^ 64 → m < 2 ^ 64 → decimal n ++ c ∷ t ≡ decimal m → (is_ascii_digit c ≡ true) × (n * 10 + (c - 48) ≤ m)
@@ -134,9 +128,6 @@ says_number max c one (Some m) front says =
 says_number max c one None front says =
     ((says.0.0, says.0.1), says.1, sym says.0.3 ∙ ap (λ d. d ++ says.0.2) one ∙ ap (λ x. c ∷ x) says.2)
 
-no_number : (max : ℕ) (s : List ℕ) → number max s ≡ (None, s) → ((x : List ℕ) → Agree s x → number max x ≡ (None, x)) → NumberTold max s None s
-no_number max s is same = ([], refl, ((0, omega arith), decimal 0, refl), same)
-
 digit_text : (c : ℕ) → is_ascii_digit c ≡ true → decimal (c - 48) ≡ c ∷ []
 digit_text c digit =
     let range : (48 ≤ c) × (c - 48 < 10) = grind (arith, nat_tests) in
@@ -173,7 +164,7 @@ number_behind : (max m : ℕ) (text x : List ℕ) → decimal m ≡ text → 48 
 unfolding number
 number_behind max m [] x is first all most least small follows = absurd (omega arith)
 number_behind max m (c ∷ t) x is first all most least small follows =
-    let digit = (both_true (is_ascii_digit c) (all_ascii_digits t) all).0 in
+    let digit = (and_parts (is_ascii_digit c) (all_ascii_digits t) all).0 in
     let range : (48 ≤ c) × (c - 48 < 10) = grind (arith, nat_tests) in
     let above : 48 < c = first in
     let other : (c == 48) ≡ false = grind (arith, nat_tests) in
@@ -224,7 +215,7 @@ most n small = omega arith
 digits_first : (c : ℕ) → (c < 48) ⊎ (57 < c) → (text x : List ℕ) → 0 < length text → all_ascii_digits text ≡ true → begins c (text ++ x) ≡ false
 digits_first c other [] x some all = absurd (omega arith)
 digits_first c other (b ∷ t) x some all =
-    let digit = (both_true (is_ascii_digit b) (all_ascii_digits t) all).0 in
+    let digit = (and_parts (is_ascii_digit b) (all_ascii_digits t) all).0 in
     let range : (48 ≤ b) × (b ≤ 57) = grind (arith, nat_tests) in
     grind (arith, nat_tests)
 

@@ -257,29 +257,6 @@ pub record Shape {F : List ℕ → Type 0} {B : Type 0} (R : Read F B) : Type 1 
   pub to : (t : R.Tree) → (u : Tree) × (value u ≡ R.value t) × (text u ≡ R.text t)
   pub back : (u : Tree) → (t : R.Tree) × (R.value t ≡ value u) × (R.text t ≡ text u)
 
-says_shape : {F : List ℕ → Type 0} {B : Type 0} (R : Read F B) (S : Shape R) (o : Option B) (f : List ℕ) → Says R.text R.value o f → Says S.text S.value o f
-says_shape R S (Some b) f says = let to = S.to says.0 in (to.0, to.1 ∙ says.1, to.2 ∙ says.2)
-says_shape R S None f says = let to = S.to says.0 in (to.0, says.1, to.2 ∙ says.2)
-
-pub shape_told : {F : List ℕ → Type 0} {B : Type 0} (R : Read F B) (S : Shape R) (s : List ℕ) → Told R.run S.text S.value s (R.run s).0 (R.run s).1
-shape_told R S s = let told = R.told s in (told.0, told.1, says_shape R S (R.run s).0 told.0 told.2, told.3)
-
-pub shape_complete : {F : List ℕ → Type 0} {B : Type 0} (R : Read F B) (S : Shape R) (u : S.Tree) (x : List ℕ) → F x → R.run (S.text u ++ x) ≡ (Some (S.value u), x)
-shape_complete R S u x follows =
-    let back = S.back u in
-    ap (λ t. R.run (t ++ x)) (sym back.2) ∙ R.complete back.0 x follows ∙ ap (λ v. (Some v, x)) back.1
-
-abbrev pub shaped : {F : List ℕ → Type 0} {B : Type 0} (R : Read F B) → Shape R → Read F B
-shaped R S = record {
-  run = R.run;
-  Tree = S.Tree;
-  text = S.text;
-  value = S.value;
-  some = (S.to R.some).0;
-  told = shape_told R S;
-  complete = shape_complete R S;
-}
-
 -- the same reader under another name
 pub rerun : {F : List ℕ → Type 0} {B : Type 0} (R : Read F B) (run : Reader B) → R.run ≡ run → (s : List ℕ) → Told run R.text R.value s (run s).0 (run s).1
 rerun {F} {B} R run is = subst (λ (r : Reader B). (s : List ℕ) → Told r R.text R.value s (r s).0 (r s).1) is R.told

@@ -2,9 +2,7 @@
 use Rattle.std.proofs.Common.{◌≡◌, ℕ, zero, suc, ◌+◌, List, [], ◌∷◌, length, refl, sym, ap, ◌∙◌, subst, arith, Bool, true, false, cond, Option, Some, Result, Ok, Err}
 use Rattle.std.specs.Prelude.{All, slice_get, sum}
 use Rattle.std.proofs.lemmas.List.Elements.{All-nil, All-cons}
-use Rattle.np_text.specs.declared.id.PoolId.{PoolId}
-use Rattle.np_site.specs.Configuration.{Configuration}
-use Rattle.np_site.specs.declared.row.Pool.{Pool}
+use Rattle.np_machine.specs.Prelude.{Configuration, Pool, PoolId}
 use Rattle.np_event_lines.specs.declared.fault.LineFault.{LineFault}
 use Rattle.np_script.specs.declared.lines.LinesFault.{LinesFault}
 use Rattle.np_cloud.specs.Inventory.{told_nothing}

@@ -2,10 +2,8 @@
 use Rattle.std.proofs.Common.{◌≡◌, ℕ, zero, suc, ◌+◌, List, [], ◌∷◌, length, refl, sym, ap, ◌∙◌, subst, arith, Bool, true, false, cond, Option, Some, None, Result, Ok, Err}
 use Rattle.std.specs.Prelude.{All, slice_get, sum}
 use Rattle.np_text.specs.Sections.{sections_of}
-use Rattle.np_text.specs.declared.id.PoolId.{PoolId}
+use Rattle.np_machine.specs.Prelude.{Configuration, Pool, PoolId}
 use Rattle.np_json.specs.declared.fault.ConfigFault.{ConfigFault}
-use Rattle.np_site.specs.Configuration.{Configuration}
-use Rattle.np_site.specs.declared.row.Pool.{Pool}
 use Rattle.np_config_read.specs.Walk.{reads}
 use Rattle.np_cloud.specs.Sim.{Simulation, simulation_of}
 use Rattle.np_static.specs.declared.fault.HostsFault.{HostsFault}
@@ -14,8 +12,8 @@ use Rattle.np_static.specs.declared.line.HostLine.{HostLine}
 use Rattle.np_static.specs.Hosting.{hosting_of}
 use Rattle.np_static.specs.Hosted.{Hosted, HasHostLines, hosted_in, hosted_of, with_hosts, with_sites, without_bar}
 use Rattle.np_static.specs.Read.{hosts_in, hosts_of, is_room_for, site_with, sites_from}
-use Rattle.np_static.specs.Site.{Site, simulated, hosted, told_of}
-use Rattle.np_static.proofs.Drivers.{IsFresh, Parts, parts-of, read-of, sites-count, sites-fresh}
+use Rattle.np_static.specs.Site.{Site, simulated, hosted}
+use Rattle.np_static.proofs.Drivers.{IsFresh, parts-of, read-of, sites-count, sites-fresh}
 
 -- ## where its drivers come from
 

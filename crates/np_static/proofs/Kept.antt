@@ -6,6 +6,7 @@ use Rattle.std.proofs.lemmas.Bool.Decides.{nat_tests}
 use Rattle.np_static.specs.Loads.{host_of, load_of, have_hosts, IsFirstFree, KeepsLoads}
 use Rattle.np_static.specs.Counts.{one, count-push, count-not, count-without_other, count-without_same, all-without, all-push, without}
 use Rattle.np_static.proofs.LoadLemmas.{is_on}
+use Rattle.np_lists.proofs.Plain.{below-apart}
 
 -- ## one load changed
 
@@ -61,9 +62,6 @@ pub free-in : (hosts loads read_hosts read_loads : List ℕ) (from at : ℕ) →
 free-in hosts loads read_hosts read_loads from at same alike free =
     subst (λ (l : List ℕ). IsFirstFree l loads from at) same (subst (λ (l : List ℕ). IsFirstFree read_hosts l from at) alike free)
 
-pub below-differs : (h at : ℕ) → h < at → (h == at) ≡ false
-below-differs h at less = grind (arith, nat_tests)
-
 launched-here : (hosts loads : List ℕ) (at : ℕ) (numbers now : List ℕ) (x v h : ℕ) → slice_index loads h ≡ load_of h numbers → host_of x ≡ at → load_of h now ≡ load_of h numbers + one (is_on h x) → h ≡ at → v ≡ slice_index loads at + 1 → v ≡ load_of h now
 launched-here hosts loads at numbers now x v h counted on pushed same more =
     let test : is_on h x ≡ true = grind (arith, nat_tests) in
@@ -84,7 +82,7 @@ keeps-launched hosts loads at numbers now x v keeps inside free on grown more =
     let here : (h : ℕ) → h < length hosts → h ≡ at → v ≡ load_of h now = λ h less same. launched-here hosts loads at numbers now x v h (keeps.counted h less) on (pushed h) same more in
     let other : (h : ℕ) → h ≢ at → load_of h now ≡ load_of h numbers = λ h differ. launched-other at numbers now x h on (pushed h) differ in
     let known : nat_lt (host_of x) (length hosts) ≡ true = subst (λ (k : ℕ). nat_lt k (length hosts) ≡ true) (sym on) (grind (arith, nat_tests)) in
-    let far : (h : ℕ) → h < at → (h == at) ≡ false = λ h less. below-differs h at less in
+    let far : (h : ℕ) → h < at → (h == at) ≡ false = λ h less. below-apart h at less in
     record {
       few = keeps.few;
       lengths = length-set loads at v ∙ keeps.lengths;
@@ -124,7 +122,7 @@ pub keeps-removed : (hosts loads : List ℕ) (from to : ℕ) (numbers now : List
 keeps-removed hosts loads from to numbers now x at v keeps is inside left fewer before under =
     let here : (h : ℕ) → h < length hosts → h ≡ at → v ≡ load_of h now = λ h less same. removed-here loads at numbers now x v h (keeps.counted h less) is left fewer same in
     let other : (h : ℕ) → h ≢ at → load_of h now ≡ load_of h numbers = λ h differ. removed-other at numbers now x h is left differ in
-    let far : (h : ℕ) → h < to → (h == at) ≡ false = λ h less. below-differs h at (omega arith) in
+    let far : (h : ℕ) → h < to → (h == at) ≡ false = λ h less. below-apart h at (omega arith) in
     let shorter = fewer-left numbers now x left in
     record {
       few = keeps.few;

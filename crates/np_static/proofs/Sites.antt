@@ -1,15 +1,12 @@
 -- the drivers of one pool after another
 use Rattle.std.proofs.Common.{◌≡◌, ℕ, suc, ◌+◌, ◌≤◌, cond, Bool, true, false, List, [], ◌∷◌, ◌++◌, length, drop, refl, sym, ap, ◌∙◌, arith, append_assoc, append-nil, length-append, zero, Some, None, Result, Ok, Err}
 use Rattle.std.specs.Prelude.{filter, map, slice_get}
-use Rattle.np_text.specs.declared.id.PoolId.{PoolId}
-use Rattle.np_site.specs.Configuration.{Configuration}
-use Rattle.np_site.specs.declared.row.Pool.{Pool}
+use Rattle.np_machine.specs.Prelude.{Configuration, Pool, PoolId, lines_of}
 use Rattle.np_static.specs.declared.fault.HostsFault.{HostsFault}
 use Rattle.np_static.specs.declared.fault.HostsRead.{HostsRead}
 use Rattle.np_static.specs.declared.fault.HostsRead.TheVariants as read
 use Rattle.np_static.specs.declared.line.HostLine.{HostLine}
 use Rattle.std.proofs.lemmas.List.{map-append}
-use Rattle.np_text.specs.Lines.{lines_of}
 use Rattle.np_script.proofs.LinesRead.{lines_read-few}
 use Rattle.np_static.specs.declared.site.SiteDriver.{SiteDriver}
 use Rattle.np_static.specs.Read.{Tells, host_said, hosts_read, hosts_in, is_of, site_with, with_site, sites_from}

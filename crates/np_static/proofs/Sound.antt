@@ -1,11 +1,12 @@
 -- sound lists, host by host
-use Rattle.std.proofs.Common.{◌≡◌, ℕ, zero, suc, ◌+◌, ◌<◌, ◌≤◌, ◌==◌, ◌||◌, nat_lt, nat_le, Bool, true, false, List, [], ◌∷◌, length, refl, subst, arith, Some}
+use Rattle.std.proofs.Common.{◌≡◌, ℕ, zero, suc, ◌+◌, ◌<◌, ◌≤◌, ◌==◌, nat_lt, nat_le, true, List, [], ◌∷◌, length, refl, subst, arith, Some}
 use Rattle.std.specs.Prelude.{slice_get, slice_index}
 use Rattle.std.proofs.lemmas.Bool.Decides.{nat_tests}
 use Rattle.np_cloud.specs.Sound.{is_number}
 use Rattle.np_static.specs.Loads.{host_of, load_of, none_above, have_hosts, is_sound}
 use Rattle.np_static.specs.Counts.{both, and, all-stands}
 use Rattle.np_static.specs.SoundLemmas.{none_above-each}
+use Rattle.std.proofs.lemmas.Bool.{or_right, or_left}
 
 above-at : (h : ℕ) (hosts numbers : List ℕ) → none_above h hosts numbers ≡ true → (k i most : ℕ) → i ≡ h + k → slice_get hosts k ≡ Some most → load_of i numbers ≤ most
 above-at h [] numbers above k i most same at = absurd cc
@@ -30,20 +31,13 @@ got [] k less = absurd (omega arith)
 got (first ∷ hosts) zero less = refl
 got (first ∷ hosts) (suc k) less = got hosts k (omega arith)
 
-or-left : (a b : Bool) → a ≡ true → (a || b) ≡ true
-or-left a b is = rw is refl
-
-or-right : (a b : Bool) → b ≡ true → (a || b) ≡ true
-or-right true b is = refl
-or-right false b is = is
-
 known-each : (n : ℕ) (numbers : List ℕ) → ((x : ℕ) → is_number x numbers ≡ true → host_of x < n) → have_hosts n numbers ≡ true
 known-each n [] each = refl
 known-each n (x ∷ numbers) each =
     let self : (x == x) ≡ true = grind (arith, nat_tests) in
-    let here : host_of x < n = each x (or-left (x == x) (is_number x numbers) self) in
+    let here : host_of x < n = each x (or_left (x == x) (is_number x numbers) self) in
     let test : nat_lt (host_of x) n ≡ true = grind (arith, nat_tests) in
-    and (nat_lt (host_of x) n) (have_hosts n numbers) test (known-each n numbers (λ y stands. each y (or-right (x == y) (is_number y numbers) stands)))
+    and (nat_lt (host_of x) n) (have_hosts n numbers) test (known-each n numbers (λ y stands. each y (or_right (x == y) (is_number y numbers) stands)))
 
 pub sound-each : (hosts numbers : List ℕ) → ((h most : ℕ) → slice_get hosts h ≡ Some most → load_of h numbers ≤ most) → ((x : ℕ) → is_number x numbers ≡ true → host_of x < length hosts) → is_sound hosts numbers ≡ true
 sound-each hosts numbers carried known =

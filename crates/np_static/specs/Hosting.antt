@@ -1,7 +1,6 @@
 -- the hosts of a pool, as contracts see their driver
 use Rattle.std.specs.Prelude.{ℕ, suc, nat_lt, Bool, if◌then◌else◌, List, length, sum, Option, Some, None}
-use Rattle.np_text.specs.declared.id.PoolId.{PoolId}
-use Rattle.np_event.specs.declared.event.Outcome.{Outcome}
+use Rattle.np_machine.specs.Prelude.{Outcome, PoolId}
 use Rattle.np_event.specs.declared.event.Outcome.TheVariants as outcome
 use Rattle.np_cloud.specs.declared.driver.TheConstants.{MOST_LAUNCHES}
 use Rattle.np_cloud.specs.Facts.{DriverFacts}

@@ -1,8 +1,7 @@
 -- the line of a host (own; Nodepool's static driver lists nodes with their `max-parallel-jobs`)
 use Rattle.std.specs.Prelude.{ℕ, nat_lt, if◌then◌else◌, List, [], ◌∷◌, codes, Option, Some, None, Result, Ok, Err}
 use Rattle.std.specs.Str.{bytes_eq}
-use Rattle.np_text.specs.Number.{number_of}
-use Rattle.np_text.specs.declared.id.PoolId.{PoolId}
+use Rattle.np_machine.specs.Prelude.{PoolId, number_of}
 use Rattle.np_event_lines.specs.Kind.{number_behind}
 use Rattle.np_event_lines.specs.declared.fault.LineFault.{LineFault}
 use Rattle.np_event_lines.specs.declared.fault.LineFault.TheVariants.{UnknownEvent, WrongCount, BadArgument}

@@ -1,7 +1,6 @@
 -- the servers of each host, told by their numbers
 use Rattle.std.specs.Prelude.{◌≡◌, ◌<◌, ◌≤◌, ◌==◌, ◌&&◌, ◌%◌, ◌/◌, ◌*◌, ◌+◌, ◌^◌, ℕ, suc, nat_lt, nat_le, Bool, true, if◌then◌else◌, List, [], ◌∷◌, length, filter, slice_get, slice_index, Option, Some, None}
-use Rattle.std.specs.List.{list_all}
-use Rattle.np_event.specs.declared.event.Outcome.{Outcome}
+use Rattle.np_machine.specs.Prelude.{Outcome, list_all}
 use Rattle.np_event.specs.declared.event.Outcome.TheVariants as outcome
 use Rattle.np_cloud.specs.declared.driver.Launch.{Launch}
 use Rattle.np_static.specs.declared.limit.TheConstants.{HOSTS}

@@ -1,9 +1,6 @@
 -- the drivers of all pools, by host lines
 use Rattle.std.specs.Prelude.{◌≡◌, ◌==◌, ℕ, suc, nat_le, Bool, false, if◌then◌else◌, List, [], ◌∷◌, length, map, filter, sum, Option, Some, None, Result, Ok, Err}
-use Rattle.np_text.specs.Lines.{lines_of}
-use Rattle.np_text.specs.declared.id.PoolId.{PoolId}
-use Rattle.np_site.specs.Configuration.{Configuration}
-use Rattle.np_site.specs.declared.row.Pool.{Pool}
+use Rattle.np_machine.specs.Prelude.{Configuration, Pool, PoolId, lines_of}
 use Rattle.np_event_lines.specs.Words.{words_of}
 use Rattle.np_event_lines.specs.declared.fault.LineFault.{LineFault}
 use Rattle.np_script.specs.Lines.{lines_read}

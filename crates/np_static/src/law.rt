@@ -2,9 +2,7 @@
 //! the law.
 
 ghost use Rattle.std.specs.Prelude.{◌≡◌, ◌⊎◌, ◌≤◌, ◌<◌, ℕ, suc, List, [], ◌∷◌, All, IfSome, IsTrue, length, slice_get, sum, None, Some, Ok, Err};
-ghost use Rattle.np_text.specs.declared.id.PoolId.{PoolId};
-ghost use Rattle.np_site.specs.Configuration.{Configuration};
-ghost use Rattle.np_site.specs.declared.row.Pool.{Pool};
+ghost use Rattle.np_machine.specs.Prelude.{Configuration, Pool, PoolId};
 ghost use Rattle.np_event.specs.declared.event.Outcome.TheVariants.{Launched, Failed};
 ghost use Rattle.np_cloud.specs.declared.driver.Tag.{Tag};
 ghost use Rattle.np_cloud.specs.declared.driver.RemoveFailed.{RemoveFailed};

@@ -1,17 +1,9 @@
 -- the children of a node, as a tree's readers answer them
 use Rattle.std.proofs.Common.{◌≡◌, ℕ, zero, suc, Bool, true, false, cond, List, [], ◌∷◌, ◌++◌, drop, Option, Some, None, refl, ap, ◌∙◌}
 use Rattle.std.specs.Prelude.{find, slice_get}
-use Rattle.std.specs.List.{list_any}
-use Rattle.std.specs.Option.{is_some, option_map, option_map_or}
+use Rattle.np_layout.specs.Prelude.{Any, Op, Row, TreeState, below, child_name, delete_parts, is_some, list_any, option_map, option_map_or, rows_at}
 use Rattle.std.proofs.lemmas.List.{append_assoc}
-use Rattle.np_path.specs.Parts.{below}
-use Rattle.np_nodes.specs.TreeState.{TreeState}
-use Rattle.np_nodes.specs.declared.kind.Expect.TheVariants.{Any}
-use Rattle.np_nodes.specs.declared.op.Op.{Op}
 use Rattle.np_nodes.specs.declared.op.Op.TheVariants as op
-use Rattle.np_tree.specs.Read.{child_name}
-use Rattle.np_views.specs.Several.{delete_parts}
-use Rattle.np_views.specs.Views.{Row, rows_at}
 use Rattle.np_readers.proofs.Shown.{name-at}
 
 -- ## the deletes of all
@@ -35,10 +27,6 @@ past [] zero is = refl
 past [] (suc at) is = refl
 past (row ∷ rows) zero is = absurd cc
 past (row ∷ rows) (suc at) is = past rows at is
-
--- past the last child there are none
-pub rows-past : (t : TreeState) (dir : List ℕ) (at : ℕ) → None ≡ child_name t dir at → drop at (rows_at t dir) ≡ []
-rows-past t dir at is = past (rows_at t dir) at (is ∙ name-at t dir at)
 
 -- ## the first that is a session's
 

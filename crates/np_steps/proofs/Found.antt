@@ -1,26 +1,13 @@
 -- the parts for a record, where it is there and where it is not
 use Rattle.std.proofs.Common.{◌≡◌, [], ◌∷◌, ◌++◌, append-nil, append_assoc, List, Option, Some, None, refl, sym, ap, ◌∙◌, subst}
-use Rattle.std.specs.List.{AllByRecursion}
-use Rattle.std.specs.Option.{option_map}
-use Rattle.np_text.specs.Request.{HasText}
-use Rattle.np_text.specs.declared.id.NodeId.{NodeId}
-use Rattle.np_text.specs.declared.id.RequestId.{RequestId}
+use Rattle.np_changes.specs.Prelude.{AllByRecursion, Configuration, HasText, NodeEntry, NodeId, NodeRecord, RequestEntry, RequestId, RequestRecord, State, edited, node_entry, node_in, option_map, put_node, request_entry, request_in, requests_changed}
 use Rattle.np_lists.proofs.Each.{all-find}
 use Rattle.np_lists.proofs.FoundLemmas.{find-change_first}
-use Rattle.np_nodes.specs.declared.op.Op.{Op}
-use Rattle.np_site.specs.Configuration.{Configuration}
-use Rattle.np_record.specs.declared.record.NodeRecord.{NodeRecord}
-use Rattle.np_record.specs.declared.record.RequestRecord.{RequestRecord}
-use Rattle.np_spelling.specs.Spelling.{IsNode, IsRequest}
-use Rattle.np_machine.specs.Entries.{NodeEntry, RequestEntry}
-use Rattle.np_machine.specs.State.{State}
-use Rattle.np_machine.specs.Tables.{node_entry, node_in, put_node, request_entry, request_in}
-use Rattle.np_changes.specs.Changes.{edited, requests_changed}
+use Rattle.np_layout.specs.Prelude.{IsCarried, IsNode, IsRequest, Op}
 use Rattle.np_changes.specs.declared.changes.RequestEdit.{RequestEdit}
 use Rattle.np_changes.specs.declared.changes.RequestsChange.TheVariants.{Edit}
 use Rattle.np_layout.proofs.DeleteNodeWaits.{is_node_it}
 use Rattle.np_layout.proofs.DeleteRequestWaits.{is_request_it, request-good}
-use Rattle.np_layout.specs.Carried.{IsCarried}
 use Rattle.np_enact.specs.Parts.{where_there}
 
 -- ## parts

@@ -1,60 +1,30 @@
 -- what a stored state says of what grows
 use Rattle.std.proofs.Common.{◌≡◌, ◌≢◌, ℕ, zero, suc, Bool, true, false, ◌||◌, cond, List, [], ◌∷◌, ◌++◌, length, Option, Some, None, Result, Ok, Err, refl, sym, ap, ◌∙◌, subst, arith}
 use Rattle.std.specs.Prelude.{◌==◌, OnOk, filter, map, not, slice_get, unwrap_or}
-use Rattle.std.specs.List.{list_any}
-use Rattle.std.specs.Option.{option_map}
+use Rattle.np_changes.specs.Prelude.{Configuration, EachAfter, HasText, IsJob, IsSound, IsTaken, Job, JobId, NodeEntry, NodeId, NodeRecord, RequestEntry, RequestId, SemId, SessionId, StandsByOwner, State, TenantId, allocated, change_at, has_handle, is_among, is_queued, list_any, node_entry, node_in, option_map, request_entry, same_request, with_handle}
 use Rattle.std.proofs.lemmas.Bool.Decides.{nat_tests}
 use Rattle.std.proofs.lemmas.List.{append_assoc, append-nil}
-use Rattle.np_text.specs.Request.{HasText}
-use Rattle.np_text.specs.declared.id.JobId.{JobId}
-use Rattle.np_text.specs.declared.id.NodeId.{NodeId}
-use Rattle.np_text.specs.declared.id.RequestId.{RequestId}
-use Rattle.np_text.specs.declared.id.SemId.{SemId}
-use Rattle.np_text.specs.declared.id.SessionId.{SessionId}
-use Rattle.np_text.specs.declared.id.TenantId.{TenantId}
-use Rattle.np_lists.specs.Change.{change_at}
-use Rattle.np_lists.specs.EachAfter.{EachAfter}
 use Rattle.np_lists.proofs.ChangeLemmas.{slice_get-change_at_other}
 use Rattle.np_lists.proofs.Each.{all-find}
 use Rattle.np_lists.proofs.FoundLemmas.{find-passes}
-use Rattle.np_nodes.specs.TreeState.{TreeState}
-use Rattle.np_path.specs.Parts.{below}
-use Rattle.np_nodes.specs.declared.kind.Mode.TheVariants.{PersistentSequential}
-use Rattle.np_nodes.specs.declared.op.Op.{Op}
+use Rattle.np_layout.specs.Prelude.{HasNodeLock, IsGood, IsNode, IsQueue, IsStored, Op, PersistentSequential, TreeState, below, make, node_text, path_of, set, under}
 use Rattle.np_nodes.specs.declared.op.Op.TheVariants as op
-use Rattle.np_site.specs.Configuration.{Configuration}
-use Rattle.np_site.specs.Sound.{IsJob, IsSound, IsTaken, StandsByOwner}
-use Rattle.np_site.specs.declared.row.Job.{Job}
-use Rattle.np_record.specs.declared.record.NodeRecord.{NodeRecord}
-use Rattle.np_spelling.specs.Spelling.{IsNode, node_text}
-use Rattle.np_machine.specs.Entries.{NodeEntry, RequestEntry}
-use Rattle.np_machine.specs.Node.{allocated}
-use Rattle.np_machine.specs.Semaphore.{with_handle}
-use Rattle.np_machine.specs.State.{State}
-use Rattle.np_machine.specs.Tables.{has_handle, is_among, is_queued, node_entry, node_in, request_entry, same_request}
 use Rattle.np_changes.specs.declared.changes.Maker.{Maker}
-use Rattle.np_places.specs.Place.{IsGood, path_of}
-use Rattle.np_places.specs.declared.place.Place.TheVariants.{Handle, Node, NodeLock, Request, RequestLock, Requests}
+use Rattle.np_layout.specs.declared.place.Place.TheVariants.{Handle, Node, NodeLock, Request, RequestLock, Requests}
 use Rattle.np_layout.specs.Creates.{request_parts, request_prefix}
-use Rattle.np_layout.specs.First.{make}
-use Rattle.np_layout.specs.Layout.{HasNodeLock, IsQueue, under}
-use Rattle.np_layout.specs.Sets.{set}
-use Rattle.np_layout.proofs.SetRequests.{same-is}
-use Rattle.np_layout.specs.Carried.{IsStored}
 use Rattle.np_enact.specs.Parts.{acquire_parts, allocate_parts, by_session, join_parts, where_there}
 use Rattle.np_readers.proofs.QueueRows.{is_waiting, lock-any}
+use Rattle.np_lists.proofs.Plain.{equal-numbers}
+use Rattle.std.proofs.lemmas.Bool.{not-true, or_parts}
+use Rattle.np_machine.proofs.Ids.{request-equal}
 
 -- ## requests and nodes that are there
 
--- two numbers that pass the test are equal
-equal : (m n : ℕ) → (m == n) ≡ true → m ≡ n
-equal m n is = grind (arith, nat_tests)
-
 node-is : (n : NodeId) (nodes : List NodeEntry) (e : NodeEntry) → node_entry n nodes ≡ Some e → e.id ≡ n
-node-is n nodes e there = ap (λ (number : ℕ). record { 0 = number }) (equal e.id.0 n.0 (find-passes (λ (x : NodeEntry). x.id.0 == n.0) nodes e there))
+node-is n nodes e there = ap (λ (number : ℕ). record { 0 = number }) (equal-numbers e.id.0 n.0 (find-passes (λ (x : NodeEntry). x.id.0 == n.0) nodes e there))
 
 request-is : (r : RequestId) (requests : List RequestEntry) (e : RequestEntry) → request_entry r requests ≡ Some e → e.id ≡ r
-request-is r requests e there = same-is e.id r (find-passes (λ (x : RequestEntry). same_request x.id r) requests e there)
+request-is r requests e there = request-equal e.id r (find-passes (λ (x : RequestEntry). same_request x.id r) requests e there)
 
 module _ (c : Configuration) (s : State) (t : TreeState) (stored : IsStored c s t) where
   -- the waits at a request's lock are its queue
@@ -96,24 +66,16 @@ other-handles j x y handles apart =
     let other : y.0 ≢ x.0 = (λ same. absurd (let no : (y.0 == x.0) ≡ true = grind (arith, nat_tests) in cc)) in
     ap (λ (o : Option (List JobId)). is_among j (unwrap_or o [])) (slice_get-change_at_other x.0 y.0 (with_handle j) handles other)
 
-either-none : (a b : Bool) → (a || b) ≡ false → (a ≡ false) × (b ≡ false)
-either-none true b none = absurd cc
-either-none false b none = (refl, none)
-
 any-after : (p : SemId → Bool) (earlier : List SemId) (x : SemId) → list_any p (earlier ++ x ∷ []) ≡ false → (list_any p earlier ≡ false) × (p x ≡ false)
-any-after p [] x none = (refl, (either-none (p x) false none).0)
+any-after p [] x none = (refl, (or_parts (p x) false none).0)
 any-after p (y ∷ earlier) x none =
-    let here = either-none (p y) (list_any p (earlier ++ x ∷ [])) none in
+    let here = or_parts (p y) (list_any p (earlier ++ x ∷ [])) none in
     let later = any-after p earlier x here.1 in
     (ap (λ (b : Bool). b || list_any p earlier) here.0 ∙ later.0, later.1)
 
 one-more : (j : JobId) (x : SemId) (b : Bool) (first : List (List JobId)) (semaphores : List SemId) → has_handle j first x ≡ b → cond b [] (make [] (Handle x j) ∷ []) ++ handle_parts j semaphores first ≡ handle_parts j (x ∷ semaphores) first
 one-more j x true first semaphores has = rw has refl
 one-more j x false first semaphores has = rw has refl
-
-untaken : (b : Bool) → not b ≡ true → b ≡ false
-untaken true is = absurd cc
-untaken false is = refl
 
 -- the handles that a job makes one after another are those of semaphores of which it had none, if it
 -- names no semaphore twice
@@ -126,7 +88,7 @@ acquire-new j count earlier (x ∷ semaphores) handles first each same =
     (λ y none.
     let apart = any-after (λ (s : SemId). y.0 == s.0) earlier x none in
     other-handles j x y handles apart.1 ∙ same y apart.0) in
-    ap (λ (b : Bool). cond b [] (make [] (Handle x j) ∷ []) ++ acquire_parts j semaphores (change_at x.0 (with_handle j) handles)) (same x (untaken (list_any (λ (s : SemId). x.0 == s.0) earlier) each.0.new))
+    ap (λ (b : Bool). cond b [] (make [] (Handle x j) ∷ []) ++ acquire_parts j semaphores (change_at x.0 (with_handle j) handles)) (same x (not-true (list_any (λ (s : SemId). x.0 == s.0) earlier) each.0.new))
     ∙ ap (λ (parts : List Op). cond (has_handle j first x) [] (make [] (Handle x j) ∷ []) ++ parts) rest
     ∙ one-more j x (has_handle j first x) first semaphores refl
 

@@ -1,20 +1,11 @@
 -- the records of several nodes are edited, each as it is in the tree
 use Rattle.std.proofs.Common.{◌≡◌, Bool, true, false, cond, List, [], ◌∷◌, ◌++◌, append_assoc, Option, Some, None, refl, sym, ap, ◌∙◌, subst}
 use Rattle.std.specs.Prelude.{◌==◌}
-use Rattle.std.specs.List.{AllByRecursion}
-use Rattle.std.specs.Option.{option_map}
-use Rattle.np_text.specs.declared.id.NodeId.{NodeId}
-use Rattle.np_text.specs.declared.id.RequestId.{RequestId}
-use Rattle.np_lists.specs.Change.{change_first}
+use Rattle.np_changes.specs.Prelude.{AllByRecursion, NodeEntry, NodeId, NodeRecord, RequestId, change_first, freed, freed_from, is_request, node_entry, node_in, option_map}
 use Rattle.np_lists.proofs.Each.{all-find}
 use Rattle.np_lists.proofs.FoundLemmas.{found-change_first}
-use Rattle.np_nodes.specs.declared.op.Op.{Op}
-use Rattle.np_record.specs.declared.record.NodeRecord.{NodeRecord}
-use Rattle.np_spelling.specs.Spelling.{IsNode, node_text}
-use Rattle.np_machine.specs.Entries.{NodeEntry}
-use Rattle.np_machine.specs.Tables.{freed, freed_from, is_request, node_entry, node_in}
-use Rattle.np_places.specs.declared.place.Place.TheVariants.{Node}
-use Rattle.np_layout.specs.Sets.{set}
+use Rattle.np_layout.specs.Prelude.{IsNode, Op, node_text, set}
+use Rattle.np_layout.specs.declared.place.Place.TheVariants.{Node}
 use Rattle.np_layout.proofs.DeleteNodeWaits.{found-node, is_node_it}
 use Rattle.np_enact.specs.Parts.{change_parts, each_changed, where_there}
 use Rattle.np_enact.proofs.EachNode.{freed-keeps}

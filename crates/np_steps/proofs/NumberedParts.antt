@@ -1,36 +1,11 @@
 -- each part for an event is one that a call takes: what is made without a name is numbered
 use Rattle.std.proofs.Common.{◌≡◌, ℕ, Bool, true, false, ◌&&◌, cond, List, [], ◌∷◌, ◌++◌, Option, Some, None, refl, ap, ◌∙◌}
 use Rattle.std.specs.Prelude.{◌==◌, find, slice_get}
-use Rattle.std.specs.List.{list_all}
+use Rattle.np_changes.specs.Prelude.{Configuration, JobId, JobRecord, NodeEntry, NodeId, RequestEntry, Role, RoleRecord, SemId, SessionId, State, change_at, change_first, freed_from, has_handle, in_use, is_queued, is_swept, list_all, node_entry, node_queue, one_more_act, one_more_start, request_in, request_queue, role_in, semaphores_of, session_of, struck_unless, with_handle, without_handle}
 use Rattle.std.proofs.lemmas.List.Folds.{list_all-append}
-use Rattle.np_text.specs.declared.id.JobId.{JobId}
-use Rattle.np_text.specs.declared.id.NodeId.{NodeId}
-use Rattle.np_text.specs.declared.id.Role.{Role}
 use Rattle.np_text.specs.declared.id.Role.TheVariants.{Launcher as LauncherOf}
-use Rattle.np_text.specs.declared.id.SemId.{SemId}
-use Rattle.np_text.specs.declared.id.SessionId.{SessionId}
-use Rattle.np_lists.specs.Change.{change_at, change_first}
-use Rattle.np_path.specs.Parts.{below}
-use Rattle.np_nodes.specs.Nodes.{is_owner}
-use Rattle.np_nodes.specs.Multi.{is_numbered}
-use Rattle.np_nodes.specs.TreeState.{TreeState}
-use Rattle.np_nodes.specs.declared.kind.Expect.TheVariants.{Any}
-use Rattle.np_nodes.specs.declared.op.Op.{Op}
+use Rattle.np_layout.specs.Prelude.{Any, Op, Row, TreeState, below, delete, delete_parts, is_numbered, is_owner, make, path_of, place_of_role, tree_session, under, wait_at}
 use Rattle.np_nodes.specs.declared.op.Op.TheVariants as op
-use Rattle.np_views.specs.Several.{delete_parts}
-use Rattle.np_views.specs.Views.{Row}
-use Rattle.np_site.specs.Configuration.{Configuration}
-use Rattle.np_record.specs.declared.record.JobRecord.{JobRecord}
-use Rattle.np_record.specs.declared.record.RoleRecord.{RoleRecord}
-use Rattle.np_machine.specs.Entries.{NodeEntry, RequestEntry}
-use Rattle.np_machine.specs.Node.{one_more_start}
-use Rattle.np_machine.specs.Semaphore.{in_use, with_handle, without_handle}
-use Rattle.np_machine.specs.Session.{struck_unless}
-use Rattle.np_machine.specs.State.{State}
-use Rattle.np_machine.specs.Step.{one_more_act}
-use Rattle.np_machine.specs.Node.{is_swept}
-use Rattle.np_machine.specs.Tables.{freed_from, has_handle, is_queued, node_entry, node_queue, request_in, request_queue, role_in, session_of}
-use Rattle.np_changes.specs.Changes.{semaphores_of}
 use Rattle.np_changes.specs.declared.changes.Changes.{Changes}
 use Rattle.np_changes.specs.declared.changes.Deed.{Deed}
 use Rattle.np_changes.specs.declared.changes.Deed.TheVariants as deed
@@ -47,15 +22,8 @@ use Rattle.np_changes.specs.declared.changes.RequestsChange.{RequestsChange}
 use Rattle.np_changes.specs.declared.changes.RequestsChange.TheVariants as requests
 use Rattle.np_changes.specs.declared.changes.SessionsChange.{SessionsChange}
 use Rattle.np_changes.specs.declared.changes.SessionsChange.TheVariants as sessions
-use Rattle.np_places.specs.Place.{path_of}
-use Rattle.np_places.specs.Roles.{place_of_role}
-use Rattle.np_places.specs.declared.place.Place.{Place}
-use Rattle.np_places.specs.declared.place.Place.TheVariants.{Handle, NodeLock, RequestLock}
-use Rattle.np_layout.specs.Creates.{wait_at}
-use Rattle.np_layout.specs.Deletes.{delete}
-use Rattle.np_layout.specs.First.{make}
-use Rattle.np_layout.specs.Layout.{under}
-use Rattle.np_layout.specs.Rows.{tree_session}
+use Rattle.np_layout.specs.declared.place.Place.{Place}
+use Rattle.np_layout.specs.declared.place.Place.TheVariants.{Handle, NodeLock, RequestLock}
 use Rattle.np_enact.specs.Parts.{acquire_parts, by_session, change_parts, deed_parts, each_changed, grown_parts, handles_parts, jobs_parts, join_parts, leave_parts, nodes_of, nodes_parts, parts_of, release_parts, requests_parts, role_parts, session_parts, settled_parts, tick_parts, where_there}
 
 -- all of them are

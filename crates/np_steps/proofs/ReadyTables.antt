@@ -1,15 +1,7 @@
 -- what the parts for each table need follows from what the changes of an event need
 use Rattle.std.proofs.Common.{◌≡◌, List, refl, ap, subst}
-use Rattle.std.specs.List.{AllByRecursion}
-use Rattle.np_site.specs.Configuration.{Configuration}
-use Rattle.np_record.specs.declared.record.JobRecord.{JobRecord}
-use Rattle.np_record.specs.declared.record.RoleRecord.{RoleRecord}
-use Rattle.np_spelling.specs.Spelling.{IsJob, IsNode, IsRequest, IsRole}
-use Rattle.np_machine.specs.Entries.{NodeEntry, RequestEntry}
-use Rattle.np_machine.specs.State.{State}
-use Rattle.np_machine.specs.Tables.{change_janitor, change_launcher, change_requester}
-use Rattle.np_changes.specs.Changes.{grown, jobs_changed, nodes_changed, nodes_left, requests_changed, requests_left, with_deed}
-use Rattle.np_changes.specs.Premises.{NodesPremise, RequestsPremise}
+use Rattle.np_changes.specs.Prelude.{AllByRecursion, Configuration, JobRecord, NodeEntry, NodesPremise, RequestEntry, RequestsPremise, RoleRecord, State, change_janitor, change_launcher, change_requester, grown, jobs_changed, nodes_changed, nodes_left, requests_changed, requests_left, with_deed}
+use Rattle.np_layout.specs.Prelude.{HasSpellings, IsJob, IsNode, IsRequest, IsRole}
 use Rattle.np_changes.specs.declared.changes.Changes.{Changes}
 use Rattle.np_changes.specs.declared.changes.Growth.{Growth}
 use Rattle.np_changes.specs.declared.changes.Growth.TheVariants as grow
@@ -20,9 +12,10 @@ use Rattle.np_changes.specs.declared.changes.RequestsChange.TheVariants as reque
 use Rattle.np_changes.specs.declared.changes.SessionsChange.{SessionsChange}
 use Rattle.np_changes.specs.declared.changes.SessionsChange.TheVariants as sessions
 use Rattle.np_enact.specs.Events.{IsReady, in_call}
-use Rattle.np_layout.specs.Carried.{HasSpellings}
 use Rattle.np_enact.specs.Ways.{with_deeds}
-use Rattle.np_enact.proofs.Settled.{edit-leaves, freeing-grows, removal-grows, same-jobs, same-requests, same-roles}
+use Rattle.np_enact.proofs.Settled.{edit-leaves, freeing-grows, same-requests, same-roles}
+use Rattle.np_changes.proofs.Facts.{remove-alone}
+use Rattle.np_laws.proofs.JobsLater.{jobs-grown}
 
 -- no session ends in the call, so no queue is left
 requests-stay : (change : SessionsChange) (rows : List RequestEntry) → requests_left (in_call change) rows ≡ rows
@@ -50,7 +43,7 @@ module _ (c : Configuration) (ch : Changes) (s : State) (ready : IsReady c ch s)
   requests-by : (change : RequestsChange) → RequestsPremise c s ch change → AreRequests (requests_changed ch.maker change after_growth.requests) → AreRequests (requests_changed ch.maker change s.requests)
   requests-by requests.Same premise later = ready.spelled.requests
   requests-by (requests.Edit r change) premise later = subst (λ (rows : List RequestEntry). AreRequests (requests_changed ch.maker (requests.Edit r change) rows)) (same-requests c ch.maker ch.grows s (edit-leaves c s ch r change premise)) later
-  requests-by (requests.Remove r) premise later = subst (λ (g : State). AreRequests (requests_changed ch.maker (requests.Remove r) g.requests)) (nothing-grown (removal-grows c s ch r premise)) later
+  requests-by (requests.Remove r) premise later = subst (λ (g : State). AreRequests (requests_changed ch.maker (requests.Remove r) g.requests)) (nothing-grown (remove-alone c s ch r premise)) later
   requests-by (requests.Leave r) premise later = subst (λ (g : State). AreRequests (requests_changed ch.maker (requests.Leave r) g.requests)) (nothing-grown premise.same_size) later
 
   -- the requests after the change
@@ -76,7 +69,7 @@ module _ (c : Configuration) (ch : Changes) (s : State) (ready : IsReady c ch s)
 
   -- the jobs after the change
   pub jobs-spelled : AllByRecursion IsJob (jobs_changed ch.jobs s.jobs)
-  jobs-spelled = subst (λ (rows : List JobRecord). AllByRecursion IsJob (jobs_changed ch.jobs rows)) (same-jobs c ch.maker ch.grows s) ready.spelled_later.jobs
+  jobs-spelled = subst (λ (rows : List JobRecord). AllByRecursion IsJob (jobs_changed ch.jobs rows)) (jobs-grown c ch.maker ch.grows s) ready.spelled_later.jobs
 
   -- the roles after the deed
   pub deeds-spelled : HasSpellings (with_deeds ch.maker ch.deed s)

@@ -2,46 +2,21 @@
 use Rattle.std.proofs.Common.{◌≡◌, ℕ, zero, suc, ◌-◌, Bool, true, false, ◌||◌, cond, List, [], ◌∷◌, ◌++◌, length, Option, Some, None, Result, refl, sym, ap, subst, ◌∙◌, arith, append-nil}
 use Rattle.std.proofs.Math.Path.{ap₂}
 use Rattle.std.specs.Prelude.{◌==◌, not, slice_get, slice_set, unwrap_or, IfSome, OnOk}
-use Rattle.std.specs.List.{AllByRecursion, list_any}
-use Rattle.std.specs.Option.{option_map, option_map_or}
+use Rattle.np_changes.specs.Prelude.{AllByRecursion, Configuration, EachAfter, Job, JobId, NoMemory, PoolId, Role, RoleRecord, SemId, SessionFacts, SessionId, State, change_at, change_role, has_handle, is_among, list_any, one_more_act, one_more_start, option_map, option_map_or, role_in, semaphores_of, session_of, struck_unless, without_handle}
 use Rattle.std.proofs.lemmas.List.Folds.{list_any-append}
-use Rattle.np_text.specs.declared.id.JobId.{JobId}
-use Rattle.np_text.specs.declared.id.PoolId.{PoolId}
-use Rattle.np_text.specs.declared.id.Role.{Role}
 use Rattle.np_text.specs.declared.id.Role.TheVariants as role
-use Rattle.np_text.specs.declared.id.SemId.{SemId}
-use Rattle.np_text.specs.declared.id.SessionId.{SessionId}
-use Rattle.np_text.specs.declared.memory.NoMemory.{NoMemory}
-use Rattle.np_lists.specs.Change.{change_at}
-use Rattle.np_lists.specs.EachAfter.{EachAfter}
 use Rattle.np_lists.proofs.ChangeLemmas.{slice_get-change_at, slice_get-change_at_other}
 use Rattle.np_lists.proofs.Each.{all-at}
-use Rattle.np_nodes.specs.declared.op.Op.{Op}
-use Rattle.np_site.specs.Configuration.{Configuration}
-use Rattle.np_site.specs.Sound.{IsSound, IsJob, IsTaken, StandsByOwner, is_untaken}
-use Rattle.np_site.specs.declared.row.Job.{Job}
-use Rattle.np_record.specs.declared.record.RoleRecord.{RoleRecord}
-use Rattle.np_spelling.specs.Spelling.{IsRole, IsSessionRole, role_text}
-use Rattle.np_machine.specs.Node.{one_more_start}
-use Rattle.np_machine.specs.Semaphore.{without_handle}
-use Rattle.np_machine.specs.Session.{struck_unless}
-use Rattle.np_machine.specs.State.{State}
-use Rattle.np_machine.specs.Step.{one_more_act}
-use Rattle.np_machine.specs.declared.state.SessionFacts.{SessionFacts}
-use Rattle.np_machine.specs.Tables.{change_role, has_handle, is_among, role_in, session_of}
-use Rattle.np_changes.specs.Changes.{semaphores_of}
+use Rattle.np_layout.specs.Prelude.{HasSpellings, IsRole, IsSessionRole, Op, delete, place_of_role, role_text, set}
+use Rattle.np_config.specs.Sound.{IsSound, IsJob, IsTaken, StandsByOwner, is_untaken}
 use Rattle.np_changes.specs.declared.changes.Deed.{Deed}
 use Rattle.np_changes.specs.declared.changes.Deed.TheVariants as deed
 use Rattle.np_changes.specs.declared.changes.Maker.{Maker}
-use Rattle.np_places.specs.Roles.{place_of_role}
-use Rattle.np_places.specs.declared.place.Place.TheVariants.{Handle}
-use Rattle.np_layout.specs.Deletes.{delete}
-use Rattle.np_layout.specs.Sets.{set}
-use Rattle.np_enact.proofs.RecordParts.{slice_get-set}
+use Rattle.np_layout.specs.declared.place.Place.TheVariants.{Handle}
 use Rattle.np_enact.specs.Parts.{release_parts, role_parts, where_there}
-use Rattle.np_layout.specs.Carried.{HasSpellings}
 use Rattle.np_enact.specs.Ways.{with_deeds}
 use Rattle.np_steps.specs.Releases.{each_released, released}
+use Rattle.np_lists.proofs.Plain.{set-here}
 
 -- ## what is there, and what is not
 
@@ -55,7 +30,7 @@ none-parts f items o is = subst (λ (x : Option _). items ≡ items ++ where_the
 
 -- what was put is among those of which something is true
 pub put-sound : {X : Type 0} (P : X → Type 0) (xs : List X) (i : ℕ) (x old : X) → Some old ≡ slice_get xs i → AllByRecursion P (slice_set xs i x) → P x
-put-sound P xs i x old there all = all-at P (slice_set xs i x) i x all (slice_get-set xs i x old (sym there))
+put-sound P xs i x old there all = all-at P (slice_set xs i x) i x all (set-here xs i x old (sym there))
 
 -- and so is what was changed
 pub changed-sound : {X : Type 0} (P : X → Type 0) (f : X → X) (xs : List X) (i : ℕ) (old : X) → Some old ≡ slice_get xs i → AllByRecursion P (change_at i f xs) → P (f old)

@@ -1,11 +1,8 @@
 -- what happens to the record of each of several nodes
 use Rattle.std.specs.Prelude.{if◌then◌else◌}
 use Rattle.np_text.specs.declared.word.NodeState.TheVariants.{InUse}
-use Rattle.np_record.specs.declared.record.NodeRecord.{NodeRecord}
+use Rattle.np_changes.specs.Prelude.{NodeEntry, NodeRecord, freed, freed_from, in_use, is_request}
 use Rattle.np_spelling.specs.Spelling.{IsNode}
-use Rattle.np_machine.specs.Entries.{NodeEntry}
-use Rattle.np_machine.specs.Semaphore.{in_use}
-use Rattle.np_machine.specs.Tables.{freed, freed_from, is_request}
 use Rattle.np_steps.specs.declared.nodes.NodeEdit.{NodeEdit}
 use Rattle.np_steps.specs.declared.nodes.NodeEdit.TheVariants as edit
 

@@ -1,9 +1,7 @@
 //! All parts for the changes of an event.
 
 ghost use Rattle.std.specs.Prelude.{◌≡◌, ◌≤◌, ◌++◌, true, length, IfOk, OnOk};
-ghost use Rattle.std.specs.List.{list_all};
-ghost use Rattle.np_nodes.specs.Multi.{is_numbered};
-ghost use Rattle.np_layout.specs.Carried.{IsCarried, IsStored};
+ghost use Rattle.np_layout.specs.Prelude.{IsCarried, IsStored, is_numbered, list_all};
 ghost use Rattle.np_enact.specs.Events.{IsReady};
 ghost use Rattle.np_enact.specs.Parts.{parts_of, settled_parts};
 

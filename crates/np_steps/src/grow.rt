@@ -1,36 +1,21 @@
 //! The parts for what grows. If memory runs out, nothing is promised of the parts.
 
 ghost use Rattle.std.specs.Prelude.{◌≡◌, ◌<◌, ◌^◌, ◌++◌, ◌∷◌, [], Some, false, not, if◌then◌else◌, filter, map, IfOk, IfSome, OnOk};
-ghost use Rattle.std.specs.List.{list_any};
-ghost use Rattle.np_text.specs.Request.{HasText};
-ghost use Rattle.np_path.specs.Parts.{below};
-ghost use Rattle.np_nodes.specs.Nodes.{is_owner};
+ghost use Rattle.np_changes.specs.Prelude.{Configuration, HasText, NodeEntry, RequestEntry, State, has_handle, is_swept, list_any, new_record, node_entry, request_entry, semaphores_of};
+ghost use Rattle.np_layout.specs.Prelude.{IsGood, IsNode, IsRequest, IsSessionRole, IsStored, below, is_owner, make, node_text, path_of, request_record_text, session_text, tree_session, under};
 ghost use Rattle.np_nodes.specs.declared.kind.Mode.TheVariants as modes;
 ghost use Rattle.np_nodes.specs.declared.op.Op.TheVariants as op;
-ghost use Rattle.np_site.specs.Configuration.{Configuration};
-ghost use Rattle.np_spelling.specs.Spelling.{IsNode, IsRequest, IsSessionRole, node_text, request_record_text, session_text};
-ghost use Rattle.np_machine.specs.Entries.{NodeEntry, RequestEntry};
-ghost use Rattle.np_machine.specs.Node.{is_swept};
-ghost use Rattle.np_machine.specs.State.{State};
-ghost use Rattle.np_machine.specs.Tables.{has_handle, node_entry, request_entry};
-ghost use Rattle.np_changes.specs.Asked.{new_record};
-ghost use Rattle.np_changes.specs.Changes.{semaphores_of};
-ghost use Rattle.np_places.specs.Place.{IsGood, path_of};
-ghost use Rattle.np_places.specs.declared.place.Place.TheVariants.{Handle, Launcher, NodeLock, RequestLock, Requests, Session, Swept};
+ghost use Rattle.np_layout.specs.declared.place.Place.TheVariants.{Handle, Launcher, NodeLock, RequestLock, Requests, Session, Swept};
 ghost use Rattle.np_layout.specs.Creates.{node_parts, request_parts, request_prefix, wait_at};
-ghost use Rattle.np_layout.specs.First.{make};
-ghost use Rattle.np_layout.specs.Layout.{under};
-ghost use Rattle.np_layout.specs.Rows.{tree_session};
-ghost use Rattle.np_layout.specs.Carried.{IsStored};
 ghost use Rattle.np_enact.specs.Parts.{acquire_parts, allocate_parts, by_session, grown_parts, join_parts, where_there};
 ghost use Rattle.np_enact.specs.Ways.{GrowthReady};
 
 use crate::ops::{child, push_make, push_set, push_wait, waits};
 use np_changes::{Asked, Growth, Maker};
+use np_layout::{Place, to_path};
 use np_look::Rows;
 use np_nodes::{Bytes, Mode, Op};
 use np_path::Path;
-use np_places::{Place, to_path};
 use np_record::{DeclineRow, NodeRecord, RequestRecord, SessionRecord};
 use np_spelling::Record;
 use np_text::{JobId, NoMemory, NodeId, PoolId, RequestId, Role, SemId, SessionId, TenantId};

@@ -1,23 +1,18 @@
 //! The parts for what happens to the nodes.
 
 ghost use Rattle.std.specs.Prelude.{◌≡◌, ◌++◌, ◌∷◌, [], OnOk};
-ghost use Rattle.std.specs.List.{AllByRecursion};
-ghost use Rattle.np_spelling.specs.Spelling.{IsNode, node_text};
-ghost use Rattle.np_machine.specs.Tables.{freed_from, is_request, node_entry, put_node};
-ghost use Rattle.np_changes.specs.Changes.{nodes_changed};
-ghost use Rattle.np_places.specs.declared.place.Place.TheVariants.{Node, NodeLock};
-ghost use Rattle.np_layout.specs.Deletes.{node_deletes};
-ghost use Rattle.np_layout.specs.Sets.{set};
-ghost use Rattle.np_layout.specs.Carried.{IsCarried};
+ghost use Rattle.np_changes.specs.Prelude.{AllByRecursion, freed_from, is_request, node_entry, nodes_changed, put_node};
+ghost use Rattle.np_layout.specs.Prelude.{IsCarried, IsNode, node_deletes, node_text, set};
+ghost use Rattle.np_layout.specs.declared.place.Place.TheVariants.{Node, NodeLock};
 ghost use Rattle.np_enact.specs.Parts.{change_parts, each_changed, leave_parts, nodes_of, nodes_parts, where_there};
 ghost use Rattle.np_enact.specs.Ways.{NodesReady};
 ghost use Rattle.np_steps.specs.NodeEdits.{KeepsNodes, edited_entry, edited_record};
 
 use crate::ops::{push_delete, push_deletes, push_leave, push_set};
 use np_changes::{Maker, NodesChange};
+use np_layout::Place;
 use np_look::Rows;
 use np_nodes::Op;
-use np_places::Place;
 use np_record::NodeRecord;
 use np_text::{NoMemory, NodeId, NodeState, RequestId, SessionId};
 use np_tree::Tree;

@@ -1,27 +1,15 @@
 //! Single parts of a call, put behind others. If memory runs out, nothing is promised of the parts.
 
 ghost use Rattle.std.specs.Prelude.{◌≡◌, ◌++◌, ◌∷◌, [], codes, find, IfOk, OnOk};
-ghost use Rattle.std.specs.List.{list_any};
-ghost use Rattle.std.specs.Option.{option_copied, option_map};
-ghost use Rattle.np_path.specs.Parts.{below};
-ghost use Rattle.np_nodes.specs.Nodes.{is_owner};
+ghost use Rattle.np_layout.specs.Prelude.{IsGood, below, delete, delete_parts, is_owner, list_any, make, option_copied, option_map, path_of, rows_at, set, tree_session, under, wait_at};
 ghost use Rattle.np_nodes.specs.declared.kind.Expect.TheVariants as expects;
 ghost use Rattle.np_nodes.specs.declared.op.Op.TheVariants as op;
-ghost use Rattle.np_views.specs.Several.{delete_parts};
-ghost use Rattle.np_views.specs.Views.{rows_at};
-ghost use Rattle.np_places.specs.Place.{IsGood, path_of};
-ghost use Rattle.np_layout.specs.Creates.{wait_at};
-ghost use Rattle.np_layout.specs.Deletes.{delete};
-ghost use Rattle.np_layout.specs.First.{make};
-ghost use Rattle.np_layout.specs.Layout.{under};
-ghost use Rattle.np_layout.specs.Rows.{tree_session};
-ghost use Rattle.np_layout.specs.Sets.{set};
 ghost use Rattle.np_enact.specs.Parts.{leave_parts};
 
+use np_layout::{PathText, Place, to_path};
 use np_lock::enqueue_op;
 use np_nodes::{Bytes, Expect, Mode, Op};
 use np_path::Path;
-use np_places::{PathText, Place, to_path};
 use np_readers::{children, waits_at};
 use np_spelling::Record;
 use np_text::{NoMemory, SessionId};

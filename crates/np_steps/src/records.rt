@@ -2,29 +2,19 @@
 
 ghost use Rattle.std.specs.Prelude.{◌≡◌, ◌<◌, ◌≤◌, ◌+◌, ◌^◌, ◌++◌, ◌∷◌, [], true, length, map, slice_get, IfSome, OnOk};
 ghost use Rattle.std.specs.Fmt.{decimal};
-ghost use Rattle.std.specs.List.{AllByRecursion};
-ghost use Rattle.np_lists.specs.Change.{change_at};
-ghost use Rattle.np_spelling.specs.Spelling.{IsJob, IsRole, IsSessionRole, job_text, role_text, session_text};
-ghost use Rattle.np_machine.specs.Node.{marked, one_more_start, with_mark};
-ghost use Rattle.np_machine.specs.Session.{struck_unless};
-ghost use Rattle.np_machine.specs.Step.{one_more_act};
-ghost use Rattle.np_machine.specs.Tables.{has_handle, put_job, role_in};
-ghost use Rattle.np_changes.specs.Changes.{jobs_changed};
-ghost use Rattle.np_places.specs.Place.{IsGood};
-ghost use Rattle.np_places.specs.Roles.{place_of_role};
-ghost use Rattle.np_places.specs.declared.place.Place.TheVariants as place;
+ghost use Rattle.np_changes.specs.Prelude.{AllByRecursion, change_at, has_handle, jobs_changed, marked, one_more_act, one_more_start, put_job, role_in, struck_unless, with_mark};
+ghost use Rattle.np_layout.specs.Prelude.{HasSpellings, IsGood, IsJob, IsRole, IsSessionRole, job_text, place_of_role, role_text, session_text, set};
+ghost use Rattle.np_layout.specs.declared.place.Place.TheVariants as place;
 ghost use Rattle.np_text.specs.declared.id.Role.TheVariants as role;
-ghost use Rattle.np_layout.specs.Sets.{set};
 ghost use Rattle.np_enact.specs.Parts.{deed_parts, handles_parts, jobs_parts, role_parts, session_parts, tick_parts, where_there};
-ghost use Rattle.np_layout.specs.Carried.{HasSpellings};
 ghost use Rattle.np_enact.specs.Ways.{with_deeds};
 ghost use Rattle.np_steps.specs.Releases.{each_released, released};
 
 use crate::ops::{push_delete, push_set};
 use np_changes::{Deed, HandlesChange, JobsChange, Maker, SessionsChange};
+use np_layout::{Place, to_path};
 use np_look::Rows;
 use np_nodes::{Bytes, Expect, Op};
-use np_places::{Place, to_path};
 use np_record::{JobRecord, MarkRow, Marked, RoleRecord, SessionRecord};
 use np_spelling::Record;
 use np_text::{JobId, NoMemory, NodeId, Role, SemId, SessionId, put_number};

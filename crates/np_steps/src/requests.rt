@@ -1,22 +1,17 @@
 //! The parts for what happens to the requests.
 
 ghost use Rattle.std.specs.Prelude.{◌≡◌, ◌++◌, ◌∷◌, [], None, OnOk};
-ghost use Rattle.std.specs.List.{AllByRecursion};
-ghost use Rattle.np_spelling.specs.Spelling.{IsRequest, request_record_text};
-ghost use Rattle.np_machine.specs.Tables.{request_in};
-ghost use Rattle.np_changes.specs.Changes.{edited, requests_changed};
+ghost use Rattle.np_changes.specs.Prelude.{AllByRecursion, edited, request_in, requests_changed};
+ghost use Rattle.np_layout.specs.Prelude.{IsCarried, IsRequest, request_deletes, request_record_text, set};
 ghost use Rattle.np_changes.specs.declared.changes.RequestsChange.TheVariants as requests;
-ghost use Rattle.np_places.specs.declared.place.Place.TheVariants.{Request, RequestLock};
-ghost use Rattle.np_layout.specs.Deletes.{request_deletes};
-ghost use Rattle.np_layout.specs.Sets.{set};
-ghost use Rattle.np_layout.specs.Carried.{IsCarried};
+ghost use Rattle.np_layout.specs.declared.place.Place.TheVariants.{Request, RequestLock};
 ghost use Rattle.np_enact.specs.Parts.{leave_parts, requests_parts, where_there};
 
 use crate::ops::{push_delete, push_deletes, push_leave, push_set};
 use np_changes::{Maker, RequestEdit, RequestsChange};
+use np_layout::Place;
 use np_look::Rows;
 use np_nodes::Op;
-use np_places::Place;
 use np_record::{Declined, NodeRow, RequestRecord};
 use np_text::{NoMemory, RequestId, RequestState, SessionId};
 use np_tree::Tree;

@@ -1,9 +1,8 @@
 -- a change of the row that was found is the change of its queue in the definitions
 use Rattle.std.proofs.Common.{◌≡◌, List, [], ◌∷◌, ◌++◌, refl, Bool, Option, Some, None}
 use Rattle.std.specs.Prelude.{find, ◌==◌}
-use Rattle.std.specs.Option.{option_map_or}
-use Rattle.np_keys.specs.Prelude.{Locked, Maker, NodeEntry, NodeId, RequestEntry, RequestId, SessionId, TenantId, allocated, by_maker, change_first}
-use Rattle.np_machine.specs.Tables.{joined, same_request, request_queue, put_request_queue, node_queue, put_node_queue}
+use Rattle.np_changes.specs.Prelude.{Locked, NodeEntry, NodeId, RequestEntry, RequestId, SessionId, TenantId, allocated, by_maker, change_first, joined, node_queue, option_map_or, put_node_queue, put_request_queue, request_queue, same_request}
+use Rattle.np_changes.specs.declared.changes.Maker.{Maker}
 use Rattle.np_lists.proofs.ChangeLemmas.{change_first-same}
 
 -- the queue of the row found is the one that is changed

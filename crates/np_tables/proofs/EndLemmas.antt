@@ -1,7 +1,13 @@
 -- in whose queues a session is that ends, once all else is changed
 use Rattle.std.proofs.Common.{◌≡◌, List, refl, sym, ap, ◌∙◌, subst}
 use Rattle.std.specs.Prelude.{filter, map}
-use Rattle.np_keys.specs.Prelude.{Changes, Configuration, Growth, IsNumbered, IsPlanned, IsReached, NodeEntry, NodeId, NodesChange, RequestEntry, RequestId, RequestsChange, Rises, SessionId, SessionsChange, State, grown, is_id_before, is_queued, nodes_changed, requests_changed}
+use Rattle.np_changes.specs.declared.changes.Changes.{Changes}
+use Rattle.np_changes.specs.Prelude.{Configuration, IsPlanned, IsReached, NodeEntry, NodeId, RequestEntry, RequestId, Rises, SessionId, State, grown, is_id_before, is_queued, nodes_changed, requests_changed}
+use Rattle.np_changes.specs.declared.changes.Growth.{Growth}
+use Rattle.np_laws.specs.Parts.{IsNumbered}
+use Rattle.np_changes.specs.declared.changes.NodesChange.{NodesChange}
+use Rattle.np_changes.specs.declared.changes.RequestsChange.{RequestsChange}
+use Rattle.np_changes.specs.declared.changes.SessionsChange.{SessionsChange}
 use Rattle.np_changes.specs.Premises.{EndsSession, Premises, SessionsPremise}
 use Rattle.np_changes.specs.declared.changes.SessionsChange.TheVariants as sessions
 use Rattle.np_changes.proofs.PremisesOf.{premises}

@@ -1,9 +1,8 @@
 -- a number that no row has yet
 use Rattle.std.proofs.Common.{◌≡◌, ℕ, ◌<◌, List, [], ◌∷◌, arith}
 use Rattle.std.specs.Prelude.{◌==◌, ◌++◌, nat_lt}
-use Rattle.std.specs.List.{AllByRecursion}
+use Rattle.np_changes.specs.Prelude.{AllByRecursion, NodeEntry, NonePass, RequestEntry, insert_before, same_request}
 use Rattle.std.proofs.lemmas.Bool.Decides.{nat_tests}
-use Rattle.np_keys.specs.Prelude.{NodeEntry, NonePass, RequestEntry, insert_before, same_request}
 use Rattle.np_lists.proofs.ChangeLemmas.{insert_before-end}
 
 -- no request of any priority has the next number

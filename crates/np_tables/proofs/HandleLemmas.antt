@@ -1,11 +1,11 @@
 -- the jobs with a handle of a semaphore, one more and one less
 use Rattle.std.proofs.Common.{◌≡◌, ℕ, zero, suc, ◌<◌, ◌≤◌, List, [], ◌∷◌, length, refl, ap, ◌∙◌, arith, Bool, true, false, get_or, take}
 use Rattle.std.specs.Prelude.{◌==◌, ◌||◌, nat_lt, slice_set}
-use Rattle.std.specs.List.{AllByRecursion}
+use Rattle.np_changes.specs.Prelude.{AllByRecursion, JobId, change_at, insert_before, is_among, remove_first, with_handle, without_handle}
 use Rattle.std.proofs.lemmas.Bool.Decides.{nat_tests}
-use Rattle.np_keys.specs.Prelude.{JobId, change_at, insert_before, is_among, remove_first, with_handle, without_handle}
 use Rattle.np_table.specs.Roomy.{Roomy}
 use Rattle.np_tables.specs.Room.{has_place, rooms_of, rows_of}
+use Rattle.np_lists.proofs.Plain.{equal-itself}
 
 -- ## one semaphore's table among all
 
@@ -59,18 +59,15 @@ room-place j t place none =
 
 -- ## a handle is taken
 
-itself : (n : ℕ) → (n == n) ≡ true
-itself n = grind (arith, nat_tests)
-
 pub is_among-inserted : (j : JobId) (jobs : List JobId) → is_among j (insert_before (λ other. nat_lt j.0 other.0) j jobs) ≡ true
-is_among-inserted j [] = rw (itself j.0) refl
+is_among-inserted j [] = rw (equal-itself j.0) refl
 is_among-inserted j (other ∷ jobs) = by (nat_lt j.0 other.0) refl (is_among-inserted j jobs) where
   among-later : (b : Bool) → (other.0 == j.0) ≡ b → is_among j (insert_before (λ x. nat_lt j.0 x.0) j jobs) ≡ true → is_among j (other ∷ insert_before (λ x. nat_lt j.0 x.0) j jobs) ≡ true
   among-later true is later = rw is refl
   among-later false is later = rw is later
 
   by : (b : Bool) → nat_lt j.0 other.0 ≡ b → is_among j (insert_before (λ x. nat_lt j.0 x.0) j jobs) ≡ true → is_among j (insert_before (λ x. nat_lt j.0 x.0) j (other ∷ jobs)) ≡ true
-  by true is later = rw is (rw (itself j.0) refl)
+  by true is later = rw is (rw (equal-itself j.0) refl)
   by false is later = rw is (among-later (other.0 == j.0) refl later)
 
 pub with_handle-there : (j : JobId) (jobs : List JobId) → is_among j jobs ≡ true → with_handle j jobs ≡ jobs

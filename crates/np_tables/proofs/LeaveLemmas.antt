@@ -1,13 +1,13 @@
 -- a session leaves the queues of all rows that have it
 use Rattle.std.proofs.Common.{◌≡◌, Bool, true, false, cond, List, [], ◌∷◌, refl, sym, ap, ◌∙◌, arith}
 use Rattle.std.specs.Prelude.{filter, map}
-use Rattle.std.specs.List.{AllByRecursion}
+use Rattle.np_changes.specs.Prelude.{AllByRecursion, Locked, NodeEntry, NodeId, RequestEntry, Rises, SessionId, change_first, is_id_before, is_queued, is_session, left, node_left, request_left, same_request}
 use Rattle.std.proofs.lemmas.Bool.Decides.{nat_tests}
-use Rattle.np_keys.specs.Prelude.{Locked, NodeEntry, NodeId, RequestEntry, RequestId, Rises, SessionId, change_first, is_id_before, is_queued, is_session, left, same_request}
 use Rattle.np_lists.proofs.Each.{all-filter, all-mapped}
 use Rattle.np_lists.proofs.FilterLemmas.{filter-not_none, none-list_any}
-use Rattle.np_machine.specs.Session.{node_left, request_left}
 use Rattle.np_keys.specs.Keys.{is_node_before, same_node}
+use Rattle.np_changes.proofs.Facts.{request-apart}
+use Rattle.np_machine.proofs.Ids.{request-itself}
 
 -- a queue that doesn't have the session stays as it is
 left-absent : (session : SessionId) (queue : List SessionId) → is_queued session queue ≡ false → left session queue ≡ queue
@@ -61,12 +61,6 @@ module _ {I K : Type 0} (same : I → I → Bool) (session : SessionId) where
 
 -- ## requests and nodes
 
-request-self : (r : RequestId) → same_request r r ≡ true
-request-self r = grind (arith, nat_tests)
-
-request-apart : (a b : RequestId) → is_id_before a b ≡ true → same_request a b ≡ false
-request-apart a b first = grind (arith, nat_tests)
-
 node-self : (n : NodeId) → same_node n n ≡ true
 node-self n = grind (arith, nat_tests)
 
@@ -74,7 +68,7 @@ node-apart : (a b : NodeId) → is_node_before a b ≡ true → same_node a b �
 node-apart a b first = grind (arith, nat_tests)
 
 pub requests-left : (session : SessionId) (rows : List RequestEntry) → Rises (λ a b. is_id_before a.id b.id) rows → each_left same_request session (waiting same_request session rows) rows ≡ map (request_left session) rows
-requests-left session rows rises = each_left-all same_request session is_id_before request-self request-apart rows rises
+requests-left session rows rises = each_left-all same_request session is_id_before request-itself request-apart rows rises
 
 pub nodes-left : (session : SessionId) (rows : List NodeEntry) → Rises (λ a b. is_node_before a.id b.id) rows → each_left same_node session (waiting same_node session rows) rows ≡ map (node_left session) rows
 nodes-left session rows rises = each_left-all same_node session is_node_before node-self node-apart rows rises

@@ -1,43 +1,18 @@
 -- what the plan of an accepted event finds room for
-use Rattle.std.proofs.Common.{◌≡◌, ◌<◌, ℕ, refl, arith, List, Option, Some, None, Result, Ok, Err, Bool, true, false}
-use Rattle.std.specs.Prelude.{is_ok, is_some, nat_lt, slice_get}
-use Rattle.std.proofs.lemmas.Bool.Decides.{nat_tests}
-use Rattle.np_keys.specs.Prelude.{Changes, Configuration, Growth, IsPlanned, Maker, NodeEntry, RequestEntry, RequestId, RequestRecord, Role, SessionId, State, grown, next_label, node_in, request_entry, request_in, session_of}
-use Rattle.np_text.specs.declared.id.Role.TheVariants.{Launcher, Janitor, Requester}
-use Rattle.np_event.specs.declared.event.Event.{Event}
+use Rattle.std.proofs.Common.{◌≡◌, ◌<◌, ℕ, refl, List, Option, Some, None, Result, Ok, Err, Bool, true, false}
+use Rattle.std.specs.Prelude.{is_ok, is_some, slice_get}
+use Rattle.np_changes.specs.declared.changes.Changes.{Changes}
+use Rattle.np_changes.specs.Prelude.{Configuration, Event, Fits, IsPlanned, Janitor, Launcher, Refusal, RequestEntry, RequestId, RequestRecord, Requester, Role, SessionId, State, grown, janitor, judge, launcher, made_by, maker, next_label, node_in, plan, request_entry, request_in, request_of_job, requester, session_of, with_found, with_given}
+use Rattle.np_changes.specs.declared.changes.Growth.{Growth}
+use Rattle.np_changes.specs.declared.changes.Maker.{Maker}
 use Rattle.np_event.specs.declared.event.Event.TheVariants as ev
-use Rattle.np_event.specs.declared.reply.Refusal.{Refusal}
-use Rattle.np_lists.proofs.Each.{all-weaker}
-use Rattle.np_machine.specs.Step.{judge}
-use Rattle.np_machine.specs.Tests.{janitor, launcher, maker, requester}
-use Rattle.np_machine.specs.Request.{request_of_job}
-use Rattle.np_fits.specs.Fits.{Fits, NodeFits, RequestFits}
 use Rattle.np_changes.specs.Plan
-use Rattle.np_changes.specs.Plan.{made_by, plan, with_found, with_given}
 use Rattle.np_changes.specs.declared.changes.Growth.TheVariants as grow
-use Rattle.np_tables.specs.CanChange.{CanGrow, CanSettle, TakesEdit}
+use Rattle.np_tables.specs.CanChange.{CanSettle, TakesEdit}
 use Rattle.np_tables.proofs.Finds.{decline-room, next-room, take-room}
+use Rattle.np_lists.proofs.Plain.{is-below}
 
 -- ## growing
-
--- whatever grows finds room in a state that fits
-pub can-grow : (c : Configuration) (s : State) → Fits c s → (growth : Growth) → CanGrow growth s
-can-grow c s fits grow.Nothing = tt
-can-grow c s fits (grow.Session role) = tt
-can-grow c s fits (grow.Registration p) = tt
-can-grow c s fits (grow.Request priority asked) = record {
-  number = fits.next_request;
-  fresh = all-weaker (RequestFits c s) (λ (e : RequestEntry). e.id.seq < s.next_request) (λ e is. is.id) s.requests fits.each_request;
-}
-can-grow c s fits (grow.Node kept) = record {
-  number = fits.next_node;
-  fresh = all-weaker (NodeFits s) (λ (e : NodeEntry). e.id.0 < s.next_node) (λ e is. is.id) s.nodes fits.each_node;
-}
-can-grow c s fits (grow.JoinRequest r) = tt
-can-grow c s fits (grow.JoinNode n) = tt
-can-grow c s fits (grow.Allocate n r tenant) = tt
-can-grow c s fits (grow.Handles j) = tt
-can-grow c s fits (grow.Swept n x) = tt
 
 -- ## what growing keeps
 
@@ -64,9 +39,6 @@ grown-keeps c maker (grow.Handles j) s = record { tick = refl; launchers = refl;
 grown-keeps c maker (grow.Swept n x) s = record { tick = refl; launchers = refl; janitors = refl; requesters = refl }
 
 -- ## the edit of a request
-
-below : (n m : ℕ) → n < m → nat_lt n m ≡ true
-below n m is = grind (arith, nat_tests)
 
 module _ (c : Configuration) (s : State) where
   -- the rows that the changes edit have room
@@ -108,12 +80,12 @@ module _ (c : Configuration) (s : State) where
   plan-roomy fits (ev.UnlockRequest session r) ok = on-given (maker s session) _ (λ role _. tt)
   plan-roomy fits (ev.Accept session r) ok = on-given (launcher s session) _ (λ p _. λ e is. refl)
   plan-roomy fits (ev.Decline session r why) ok =
-      on-given (launcher s session) _ (λ p who. on-found_by session (Launcher p) (request_in r s.requests) _ (λ request _. λ e is. below _ 64 (decline-room c s session r why p e fits ok who is)))
+      on-given (launcher s session) _ (λ p who. on-found_by session (Launcher p) (request_in r s.requests) _ (λ request _. λ e is. is-below _ 64 (decline-room c s session r why p e fits ok who is)))
   plan-roomy fits (ev.TakeReady session r n) ok =
-      on-given (launcher s session) _ (λ p _. on-found_by session (Launcher p) (request_in r s.requests) _ (λ request _. λ e is. below _ 32 (take-room c s session r n e fits ok is)))
+      on-given (launcher s session) _ (λ p _. on-found_by session (Launcher p) (request_in r s.requests) _ (λ request _. λ e is. is-below _ 32 (take-room c s session r n e fits ok is)))
   plan-roomy fits (ev.Create session r) ok =
       on-given (launcher s session) _ (λ p _. on-found_by session (Launcher p) (request_in r s.requests) _ (λ request has. on-found_by session (Launcher p) (next_label request) _ (λ l next. λ e is.
-      below _ 32 (next-room c s r e l fits is (next_of e request l has is next)))))
+      is-below _ 32 (next-room c s r e l fits is (next_of e request l has is next)))))
     where
       next_of : (e : RequestEntry) (request : RequestRecord) (l : _) → request_in r s.requests ≡ Some request → request_entry r s.requests ≡ Some e → next_label request ≡ Some l → next_label e.kept ≡ Some l
       next_of e request l has is next = let same : e.kept ≡ request = (let found : Some e.kept ≡ Some request = rw is at has in cc) in rw same next

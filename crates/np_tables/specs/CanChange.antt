@@ -1,7 +1,10 @@
 -- what the vectors need of a state to grow and to settle (only this code needs it)
 use Rattle.std.specs.Prelude.{◌≡◌, ◌<◌, ◌≤◌, List, Bool, true, length, nat_lt, if◌then◌else◌, Some}
-use Rattle.std.specs.List.{AllByRecursion}
-use Rattle.np_keys.specs.Prelude.{Changes, Growth, RequestEdit, RequestEntry, RequestRecord, RequestsChange, RoleFits, State, edited, most, request_entry}
+use Rattle.np_changes.specs.Prelude.{AllByRecursion, RequestEntry, RequestRecord, RoleFits, State, edited, most, request_entry}
+use Rattle.np_changes.specs.declared.changes.Changes.{Changes}
+use Rattle.np_changes.specs.declared.changes.Growth.{Growth}
+use Rattle.np_changes.specs.declared.changes.RequestEdit.{RequestEdit}
+use Rattle.np_changes.specs.declared.changes.RequestsChange.{RequestsChange}
 use Rattle.np_changes.specs.declared.changes.Growth.TheVariants as grow
 use Rattle.np_changes.specs.declared.changes.RequestEdit.TheVariants as edit
 use Rattle.np_changes.specs.declared.changes.RequestsChange.TheVariants as requests

@@ -1,7 +1,6 @@
 -- what the tables keep, and what bounds their lists
 use Rattle.std.specs.Prelude.{ℕ, ◌<◌, ◌^◌, List, length}
-use Rattle.std.specs.List.{AllByRecursion}
-use Rattle.np_keys.specs.Prelude.{Configuration, State}
+use Rattle.np_changes.specs.Prelude.{AllByRecursion, Configuration, State}
 
 -- how many more rows each table takes without memory (own)
 pub record Room : Type 0 where

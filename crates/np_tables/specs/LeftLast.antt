@@ -1,6 +1,9 @@
 -- a session that ends leaves its queues last (only this code needs it)
 use Rattle.std.specs.Prelude.{◌≡◌, List}
-use Rattle.np_keys.specs.Prelude.{Changes, Configuration, NodeId, RequestId, Rises, SessionId, SessionsChange, State, is_id_before, queued_nodes, queued_requests}
+use Rattle.np_changes.specs.declared.changes.Changes.{Changes}
+use Rattle.np_changes.specs.Prelude.{Configuration, NodeId, RequestId, Rises, SessionId, State, is_id_before}
+use Rattle.np_changes.specs.declared.changes.SessionsChange.{SessionsChange}
+use Rattle.np_look.specs.Readers.{queued_nodes, queued_requests}
 use Rattle.np_changes.specs.Changes.{grown, nodes_changed, nodes_left, requests_changed, requests_left, settled}
 use Rattle.np_changes.specs.declared.changes.SessionsChange.TheVariants as sessions
 use Rattle.np_keys.specs.Keys.{is_node_before}

@@ -1,6 +1,8 @@
 -- in whose queues a session is that ends
 use Rattle.std.specs.Prelude.{◌≡◌, List}
-use Rattle.np_keys.specs.Prelude.{Changes, NodeId, RequestId, SessionId, State, queued_nodes, queued_requests}
+use Rattle.np_changes.specs.declared.changes.Changes.{Changes}
+use Rattle.np_changes.specs.Prelude.{NodeId, RequestId, SessionId, State}
+use Rattle.np_look.specs.Readers.{queued_nodes, queued_requests}
 use Rattle.np_changes.specs.declared.changes.SessionsChange.TheVariants as sessions
 
 -- if the changes end a session, these are the requests and the nodes in whose queues it is

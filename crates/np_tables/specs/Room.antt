@@ -1,7 +1,9 @@
 -- what room an event needs in the tables
 use Rattle.std.specs.Prelude.{◌≡◌, ◌<◌, ℕ, List, [], Bool, ◌||◌, nat_lt, Option, map}
-use Rattle.std.specs.List.{AllByRecursion}
-use Rattle.np_keys.specs.Prelude.{Changes, Growth, JobId, Maker, SessionId, State, by_maker, is_among, joined, node_queue, request_queue}
+use Rattle.np_changes.specs.Prelude.{AllByRecursion, JobId, SessionId, State, by_maker, is_among, joined, node_queue, request_queue}
+use Rattle.np_changes.specs.declared.changes.Changes.{Changes}
+use Rattle.np_changes.specs.declared.changes.Growth.{Growth}
+use Rattle.np_changes.specs.declared.changes.Maker.{Maker}
 use Rattle.np_table.specs.Roomy.{Roomy}
 use Rattle.np_changes.specs.declared.changes.Growth.TheVariants as grow
 use Rattle.np_tables.specs.Kept.{Kept, Room}

@@ -1,8 +1,6 @@
 //! The edits of one request or one node under its lock.
 
-ghost use Rattle.np_keys.specs.Prelude.{Locked, NodeEntry, edited};
-ghost use Rattle.np_machine.specs.Semaphore.{in_use};
-ghost use Rattle.np_machine.specs.Tables.{freed_from, is_request, left};
+ghost use Rattle.np_changes.specs.Prelude.{Locked, NodeEntry, edited, freed_from, in_use, is_request, left};
 ghost use Rattle.np_tables.specs.CanChange.{edited_in_room, has_room};
 ghost use Rattle.std.specs.Prelude.{◌≡◌, Some, true};
 

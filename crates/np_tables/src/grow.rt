@@ -1,13 +1,7 @@
 //! What grows in the vectors. There is room for it, so nothing here fails.
 
 ghost use Rattle.std.specs.Prelude.{◌≡◌, ◌<◌, ◌==◌, ◌+◌, ◌++◌, ◌∷◌, [], nat_lt, true, false, vec_capacity, vec_len};
-ghost use Rattle.std.specs.List.{AllByRecursion, position};
-ghost use Rattle.np_keys.specs.Prelude.{change_first, insert_before, new_record};
-ghost use Rattle.np_machine.specs.Node.{allocated, with_pair};
-ghost use Rattle.np_machine.specs.Request.{insert_request, next_id, registers};
-ghost use Rattle.np_machine.specs.Semaphore.{all_with_handle};
-ghost use Rattle.np_machine.specs.Tables.{joined, node_queue, put_node_queue, put_request_queue, request_queue};
-ghost use Rattle.np_changes.specs.Changes.{by_maker, grown, semaphores_of};
+ghost use Rattle.np_changes.specs.Prelude.{AllByRecursion, all_with_handle, allocated, by_maker, change_first, grown, insert_before, insert_request, joined, new_record, next_id, node_queue, position, put_node_queue, put_request_queue, registers, request_queue, semaphores_of, with_pair};
 ghost use Rattle.np_tables.specs.CanChange.{CanGrow, TakesNode, TakesRequest};
 ghost use Rattle.np_tables.specs.Room.{IsRoomFor, queue_after};
 

@@ -1,9 +1,7 @@
 //! The handles of semaphores that a job takes together and gives back together.
 
 ghost use Rattle.std.specs.Prelude.{◌≡◌, ◌<◌, OnOk, true};
-ghost use Rattle.std.specs.List.{AllByRecursion};
-ghost use Rattle.np_lists.specs.Change.{change_at};
-ghost use Rattle.np_machine.specs.Semaphore.{all_with_handle, all_without_handle, with_handle, without_handle};
+ghost use Rattle.np_changes.specs.Prelude.{AllByRecursion, all_with_handle, all_without_handle, change_at, with_handle, without_handle};
 ghost use Rattle.np_tables.specs.Room.{has_place, rooms_of, rows_of};
 
 use crate::keys::HandleTable;

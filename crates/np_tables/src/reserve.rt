@@ -1,7 +1,7 @@
 //! The memory that an event needs, taken before anything changes.
 
 ghost use Rattle.std.specs.Prelude.{◌≡◌, IfOk, OnOk};
-ghost use Rattle.np_keys.specs.Prelude.{by_maker, joined};
+ghost use Rattle.np_changes.specs.Prelude.{by_maker, joined};
 ghost use Rattle.np_tables.specs.Room.{IsRoomFor, queue_after};
 
 use crate::handles::reserve_handles;

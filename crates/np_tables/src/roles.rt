@@ -1,15 +1,9 @@
 //! What each role has done, counted.
 
 ghost use Rattle.std.specs.Prelude.{◌≡◌, ◌≤◌, Some};
-ghost use Rattle.std.specs.List.{AllByRecursion};
-ghost use Rattle.np_keys.specs.Prelude.{RoleFits, change_at, most};
-ghost use Rattle.np_machine.specs.Tables.{change_janitor, change_launcher, change_requester, change_role};
-ghost use Rattle.np_changes.specs.Changes.{with_deed};
+ghost use Rattle.np_changes.specs.Prelude.{AllByRecursion, RoleFits, change_at, change_janitor, change_launcher, change_requester, change_role, most, one_more_act, one_more_start, struck_unless, with_deed};
 ghost use Rattle.np_changes.specs.declared.changes.Deed.TheVariants as deed;
 ghost use Rattle.np_tables.specs.CanChange.{RolesFit};
-ghost use Rattle.np_machine.specs.Session.{struck_unless};
-ghost use Rattle.np_machine.specs.Node.{one_more_start};
-ghost use Rattle.np_machine.specs.Step.{one_more_act};
 
 use crate::vectors::Vectors;
 use np_changes::{Deed, Maker};

@@ -1,10 +1,7 @@
 //! What may not fail: how each table changes once the tables have grown.
 
 ghost use Rattle.std.specs.Prelude.{◌≡◌, ◌≤◌, None, filter, length, map, not};
-ghost use Rattle.np_keys.specs.Prelude.{change_at, ended, marked, muted, with_mark};
-ghost use Rattle.np_machine.specs.Semaphore.{all_in_use, all_without_handle};
-ghost use Rattle.np_machine.specs.Tables.{change_session, is_session, put_job};
-ghost use Rattle.np_changes.specs.Changes.{handles_changed, jobs_changed, nodes_changed, registrations_left, requests_changed, semaphores_of, sessions_changed};
+ghost use Rattle.np_changes.specs.Prelude.{all_in_use, all_without_handle, change_at, change_session, ended, handles_changed, is_session, jobs_changed, marked, muted, nodes_changed, put_job, registrations_left, requests_changed, semaphores_of, sessions_changed, with_mark};
 ghost use Rattle.np_changes.specs.declared.changes.NodesChange.TheVariants as nodes_change;
 ghost use Rattle.np_changes.specs.declared.changes.RequestsChange.TheVariants as requests_change;
 ghost use Rattle.np_tables.specs.CanChange.{CanSettle, TakesEdit};

@@ -1,8 +1,7 @@
 //! The vectors before the first event.
 
 ghost use Rattle.std.specs.Prelude.{◌≡◌, List, [], replicate, IfOk};
-ghost use Rattle.np_text.specs.declared.id.JobId.{JobId};
-ghost use Rattle.np_machine.specs.State.{start, new_job, no_deeds};
+ghost use Rattle.np_changes.specs.Prelude.{JobId, new_job, no_deeds, start};
 ghost use Rattle.np_tables.specs.Room.{rows_of};
 
 use crate::keys::{HandleTable, NodeTable, RequestTable, SweptTable};

@@ -1,7 +1,7 @@
 //! A configuration and the tables of a state of its machine.
 
 ghost use Rattle.std.specs.Prelude.{◌≡◌, IfOk};
-ghost use Rattle.np_keys.specs.Prelude.{Fits, IsPlanned, IsReached, IsSound, changed, start};
+ghost use Rattle.np_changes.specs.Prelude.{Fits, IsPlanned, IsReached, IsSound, changed, start};
 ghost use Rattle.np_tables.specs.Kept.{IsCountable};
 ghost use Rattle.np_tables.specs.Queues.{AreQueuesOf};
 ghost use Rattle.np_tables.specs.Room.{HasRoomFor};

@@ -1,10 +1,8 @@
 //! A state in vectors, seen as the state of the definitions, with the room that the vectors have.
 
 ghost use Rattle.std.specs.Prelude.{◌≡◌, option_copied, slice_get};
-ghost use Rattle.std.specs.Option.{option_map};
+ghost use Rattle.np_changes.specs.Prelude.{handles_of, has_handle, is_swept, node_entry, node_queue, option_map, registered, request_entry, request_queue, role_in, session_of};
 ghost use Rattle.np_look.specs.Views.{node_view, request_view};
-ghost use Rattle.np_machine.specs.Node.{is_swept};
-ghost use Rattle.np_machine.specs.Tables.{handles_of, has_handle, node_entry, node_queue, registered, request_entry, request_queue, role_in, session_of};
 
 use crate::keys::{HandleTable, NodeTable, RequestTable, SweptTable};
 use np_look::{NodeView, RequestView};

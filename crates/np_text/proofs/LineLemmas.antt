@@ -3,12 +3,12 @@ use Rattle.std.proofs.Common.{◌≡◌, ℕ, suc, ◌-◌, append_assoc, take, 
 use Rattle.std.specs.Prelude.{unwrap_or}
 use Rattle.std.specs.List.{flat_map, list_all, onto_first, position, position_or_len}
 use Rattle.std.proofs.Math.Numerals.{one-add}
-use Rattle.std.proofs.lemmas.Bool.{eqb-true}
+use Rattle.std.proofs.lemmas.Bool.{eqb-true, and_parts}
 use Rattle.std.proofs.lemmas.Bool.Decides.{nat_tests}
 use Rattle.std.proofs.lemmas.List.{drop_all, drop-drop, length-drop}
 use Rattle.std.proofs.lemmas.List.Sums.{prefix_len-le-length}
 use Rattle.np_text.specs.Lines.{is_line, line, line_in, line_length, lines_of}
-use Rattle.np_text.proofs.SpellingLemmas.{both_true, some_injective}
+use Rattle.np_text.proofs.SpellingLemmas.{some_injective}
 
 -- where the first line ends
 pub unwrap_or-position : (p : ℕ → Bool) (xs : List ℕ) → unwrap_or (position p xs) (length xs) ≡ position_or_len p xs
@@ -77,14 +77,14 @@ lines_of-walk text from start end within some = cases (from == length text) refl
 pub lines_of-line : (bytes rest : List ℕ) → is_line bytes ≡ true → lines_of (bytes ++ 10 ∷ rest) ≡ bytes ∷ lines_of rest
 lines_of-line [] rest plain = refl
 lines_of-line (b ∷ bs) rest plain =
-    let parts = both_true (not (b == 10)) (is_line bs) plain in
+    let parts = and_parts (not (b == 10)) (is_line bs) plain in
     let other : (b == 10) ≡ false = grind (arith, nat_tests) in
     rw other (ap (onto_first b) (lines_of-line bs rest parts.1))
 
 pub lines_of-lines : (lines : List (List ℕ)) (rest : List ℕ) → list_all is_line lines ≡ true → lines_of (flat_map line lines ++ rest) ≡ lines ++ lines_of rest
 lines_of-lines [] rest plain = refl
 lines_of-lines (bytes ∷ more) rest plain =
-    let parts = both_true (is_line bytes) (list_all is_line more) plain in
+    let parts = and_parts (is_line bytes) (list_all is_line more) plain in
     ap lines_of (append_assoc (line bytes) (flat_map line more) rest ∙ append_assoc bytes (10 ∷ []) (flat_map line more ++ rest))
     ∙ lines_of-line bytes (flat_map line more ++ rest) parts.0
     ∙ ap (λ lines. bytes ∷ lines) (lines_of-lines more rest parts.1)
@@ -93,9 +93,9 @@ lines_of-lines (bytes ∷ more) rest plain =
 pub lines_of-last : (bytes : List ℕ) → is_line bytes ≡ true → 0 < length bytes → lines_of bytes ≡ bytes ∷ []
 lines_of-last [] plain some = absurd (omega arith)
 lines_of-last (b ∷ []) plain some =
-    let other : (b == 10) ≡ false = grind (arith, nat_tests, (both_true (not (b == 10)) true plain).0) in
+    let other : (b == 10) ≡ false = grind (arith, nat_tests, (and_parts (not (b == 10)) true plain).0) in
     rw other refl
 lines_of-last (b ∷ c ∷ cs) plain some =
-    let parts = both_true (not (b == 10)) (is_line (c ∷ cs)) plain in
+    let parts = and_parts (not (b == 10)) (is_line (c ∷ cs)) plain in
     let other : (b == 10) ≡ false = grind (arith, nat_tests) in
     rw other (ap (onto_first b) (lines_of-last (c ∷ cs) parts.1 (omega arith)))

@@ -1,12 +1,12 @@
 -- Lemmas on numbers and their decimal spelling.
-use Rattle.std.proofs.Common.{◌⊎◌, inl, inr, append_assoc, add-one, ◌≡◌, ℕ, ◌+◌, ◌-◌, ◌*◌, ◌/◌, ◌%◌, ◌^◌, ◌<◌, ◌≤◌, Bool, true, false, ◌&&◌, List, [], ◌∷◌, ◌++◌, length, get_or, drop, set, replicate, Option, Some, None, refl, sym, ap, ◌∙◌, arith, zero, suc}
+use Rattle.std.proofs.Common.{◌⊎◌, inl, inr, append_assoc, add-one, ◌≡◌, ℕ, ◌+◌, ◌-◌, ◌*◌, ◌/◌, ◌%◌, ◌^◌, ◌<◌, ◌≤◌, true, false, ◌&&◌, List, [], ◌∷◌, ◌++◌, length, get_or, drop, set, replicate, Option, Some, None, refl, sym, ap, ◌∙◌, arith, zero, suc}
 use Rattle.std.specs.Prelude.{nat_le, if◌then◌else◌}
 use Rattle.std.specs.Char.{digit_value, is_ascii_digit}
 use Rattle.std.specs.Fmt.{decimal}
 use Rattle.std.specs.Str.{all_ascii_digits}
 use Rattle.std.specs.Str.Parse.{digits_value_after}
 use Rattle.std.proofs.lemmas.Bool.Decides.{nat_tests}
-use Rattle.std.proofs.lemmas.Bool.{cases_lt}
+use Rattle.std.proofs.lemmas.Bool.{cases_lt, and_right}
 use Rattle.std.proofs.lemmas.Fmt.{decimal_digit, decimal_step}
 use Rattle.std.proofs.lemmas.List.{drop_more, drop_all, drop-set, append-nil, length_push, replicate_more}
 use Rattle.np_text.specs.Number.{digits_within, padded}
@@ -41,16 +41,12 @@ digits_value_after_ge : (n : ℕ) (cs : List ℕ) → n ≤ digits_value_after 1
 digits_value_after_ge n [] = omega arith
 digits_value_after_ge n (c ∷ cs) = omega (arith, digits_value_after_ge (n * 10 + digit_value c) cs)
 
-not_both : (a b : Bool) → b ≡ false → (a && b) ≡ false
-not_both true b not_b = not_b
-not_both false b not_b = refl
-
 pub digits_from_past : (max n : ℕ) (cs : List ℕ) → max < n → digits_from max n cs ≡ None
 unfolding digits_from
 digits_from_past max n cs past =
     let above = digits_value_after_ge n cs in
     let over : nat_le (digits_value_after 10 n cs) max ≡ false = grind (arith, nat_tests) in
-    rw (not_both (all_ascii_digits cs) (nat_le (digits_value_after 10 n cs) max) over) refl
+    rw (and_right (all_ascii_digits cs) (nat_le (digits_value_after 10 n cs) max) over) refl
 
 pub digits_from-more_past : (max n i : ℕ) (text : List ℕ) → i < length text → is_ascii_digit (get_or text i 0) ≡ true → max < n * 10 + (get_or text i 0 - 48)
     → digits_from max n (drop i text) ≡ None

@@ -7,7 +7,7 @@ use Rattle.std.specs.Fmt.{decimal, digit_glyph, digits, digits_onto}
 use Rattle.std.specs.Ordering.{nat_cmp, ordering_then}
 use Rattle.std.specs.Str.{all_ascii_digits}
 use Rattle.std.specs.Str.Parse.{digits_value, digits_value_after}
-use Rattle.std.proofs.lemmas.Bool.{cases_lt}
+use Rattle.std.proofs.lemmas.Bool.{cases_lt, and_parts}
 use Rattle.std.proofs.lemmas.Bool.Decides.{nat_tests}
 use Rattle.std.proofs.lemmas.List.{length-replicate}
 use Rattle.std.proofs.lemmas.Fmt.{digits_decimal, digits_value-decimal}
@@ -15,7 +15,7 @@ use Rattle.np_text.specs.Number.{ten_digits_of}
 use Rattle.np_text.specs.Request.{HasText, request_cmp, request_text_of}
 use Rattle.np_text.specs.declared.id.RequestId.{RequestId}
 use Rattle.np_text.proofs.NumberLemmas.{digit_value_digit}
-use Rattle.np_text.proofs.SpellingLemmas.{both_true, model, length-padded, all_ascii_digits-zeros, digits_value-zeros}
+use Rattle.np_text.proofs.SpellingLemmas.{model, length-padded, all_ascii_digits-zeros, digits_value-zeros}
 use Rattle.np_text.proofs.RequestLemmas.{decimal_three}
 
 -- ## Comparisons of lists
@@ -56,8 +56,8 @@ after-less m n [] [] less same xs_digits ys_digits = less
 after-less m n [] (y ∷ ys) less same xs_digits ys_digits = absurd (omega arith)
 after-less m n (x ∷ xs) [] less same xs_digits ys_digits = absurd (omega arith)
 after-less m n (x ∷ xs) (y ∷ ys) less same xs_digits ys_digits =
-    let x_parts = both_true (is_ascii_digit x) (all_ascii_digits xs) xs_digits in
-    let y_parts = both_true (is_ascii_digit y) (all_ascii_digits ys) ys_digits in
+    let x_parts = and_parts (is_ascii_digit x) (all_ascii_digits xs) xs_digits in
+    let y_parts = and_parts (is_ascii_digit y) (all_ascii_digits ys) ys_digits in
     let x_digit = digit_below x x_parts.0 in
     after-less (m * 10 + digit_value x) (n * 10 + digit_value y) xs ys (omega (arith, x_digit)) (omega arith) x_parts.1 y_parts.1
 
@@ -68,7 +68,7 @@ slice_cmp-after n [] [] same xs_digits ys_digits = sym (nat_cmp-same n n refl)
 slice_cmp-after n [] (y ∷ ys) same xs_digits ys_digits = absurd (omega arith)
 slice_cmp-after n (x ∷ xs) [] same xs_digits ys_digits = absurd (omega arith)
 slice_cmp-after n (x ∷ xs) (y ∷ ys) same xs_digits ys_digits =
-    cases (both_true (is_ascii_digit x) (all_ascii_digits xs) xs_digits) (both_true (is_ascii_digit y) (all_ascii_digits ys) ys_digits)
+    cases (and_parts (is_ascii_digit x) (all_ascii_digits xs) xs_digits) (and_parts (is_ascii_digit y) (all_ascii_digits ys) ys_digits)
     (λ m x_rest y_rest. slice_cmp-after m xs ys (omega arith) x_rest y_rest) (cases_lt x y) (cases_lt y x)
   where
     cases : (is_ascii_digit x ≡ true) × (all_ascii_digits xs ≡ true) → (is_ascii_digit y ≡ true) × (all_ascii_digits ys ≡ true)

@@ -1,12 +1,12 @@
 -- Lemmas on a text's sections.
-use Rattle.std.proofs.Common.{◌≡◌, ℕ, ◌+◌, ◌<◌, ◌≤◌, Bool, true, false, not, ◌&&◌, ◌||◌, ◌==◌, List, [], ◌∷◌, ◌++◌, length, take, drop, get_or, Option, Some, None, refl, sym, ap, ◌∙◌, append_assoc, arith}
+use Rattle.std.proofs.Common.{◌≡◌, ℕ, ◌+◌, ◌<◌, ◌≤◌, Bool, true, false, not, ◌&&◌, ◌==◌, List, [], ◌∷◌, ◌++◌, length, take, drop, get_or, Option, Some, None, refl, sym, ap, ◌∙◌, append_assoc, arith}
 use Rattle.std.specs.List.{flat_map, list_all}
 use Rattle.std.specs.Str.{bytes_eq}
 use Rattle.std.proofs.lemmas.Bool.Decides.{nat_tests}
 use Rattle.std.proofs.lemmas.List.{drop_more, drop_all, take_more, append-nil}
 use Rattle.np_text.specs.Lines.{is_line, line}
 use Rattle.np_text.specs.Sections.{bar, begins_with_bar, behind, has_bar, sections_from, sections_of}
-use Rattle.np_text.proofs.SpellingLemmas.{both_true}
+use Rattle.std.proofs.lemmas.Bool.{or_parts, and_parts}
 
 pub behind_behind : (front next : List ℕ) (o : Option (List ℕ × List ℕ)) → behind front (behind next o) ≡ behind (front ++ next) o
 behind_behind front next None = refl
@@ -60,8 +60,8 @@ begins_with_bar-line (a ∷ b ∷ []) rest plain = cases (a == 37) (b == 37)
     cases true false = refl
     cases false t = refl
 begins_with_bar-line (a ∷ b ∷ c ∷ cs) rest plain =
-    let parts = both_true (not (b == 10)) (is_line (c ∷ cs)) (both_true (not (a == 10)) (is_line (b ∷ c ∷ cs)) plain).1 in
-    let other : (c == 10) ≡ false = grind (arith, nat_tests, (both_true (not (c == 10)) (is_line cs) parts.1).0) in
+    let parts = and_parts (not (b == 10)) (is_line (c ∷ cs)) (and_parts (not (a == 10)) (is_line (b ∷ c ∷ cs)) plain).1 in
+    let other : (c == 10) ≡ false = grind (arith, nat_tests, (and_parts (not (c == 10)) (is_line cs) parts.1).0) in
     rw other (cases (a == 37) (b == 37))
   where
     cases : (s t : Bool) → ((s && t) && false) ≡ (s && (t && false))
@@ -73,7 +73,7 @@ sections_from-inside : (bytes rest : List ℕ) → is_line bytes ≡ true → se
 unfolding sections_from
 sections_from-inside [] rest plain = refl
 sections_from-inside (b ∷ bs) rest plain =
-    let parts = both_true (not (b == 10)) (is_line bs) plain in
+    let parts = and_parts (not (b == 10)) (is_line bs) plain in
     let other : (b == 10) ≡ false = grind (arith, nat_tests) in
     rw other (ap (behind (b ∷ [])) (sections_from-inside bs rest parts.1) ∙ behind_behind (b ∷ []) (line bs) (sections_from true rest))
 
@@ -87,10 +87,6 @@ sections_of-line bytes rest plain other =
     ap sections_of (append_assoc bytes (10 ∷ []) rest)
     ∙ sections_from-not_bar (bytes ++ 10 ∷ rest) (begins_with_bar-line bytes rest plain ∙ other)
     ∙ sections_from-inside bytes rest plain
-
-neither : (a b : Bool) → (a || b) ≡ false → (a ≡ false) × (b ≡ false)
-neither true b none = absurd (cc)
-neither false b none = (refl, none)
 
 sections_of-bar_here : (rest : List ℕ) → sections_of (line bar ++ rest) ≡ Some ([], rest)
 unfolding sections_from
@@ -115,8 +111,8 @@ begins_with_bar-last (a ∷ b ∷ []) plain = cases (a == 37) (b == 37)
     cases true false = refl
     cases false t = refl
 begins_with_bar-last (a ∷ b ∷ c ∷ cs) plain =
-    let parts = both_true (not (b == 10)) (is_line (c ∷ cs)) (both_true (not (a == 10)) (is_line (b ∷ c ∷ cs)) plain).1 in
-    let other : (c == 10) ≡ false = grind (arith, nat_tests, (both_true (not (c == 10)) (is_line cs) parts.1).0) in
+    let parts = and_parts (not (b == 10)) (is_line (c ∷ cs)) (and_parts (not (a == 10)) (is_line (b ∷ c ∷ cs)) plain).1 in
+    let other : (c == 10) ≡ false = grind (arith, nat_tests, (and_parts (not (c == 10)) (is_line cs) parts.1).0) in
     rw other (cases (a == 37) (b == 37))
   where
     cases : (s t : Bool) → ((s && t) && false) ≡ (s && (t && false))
@@ -128,7 +124,7 @@ sections_from-rest : (bytes : List ℕ) → is_line bytes ≡ true → sections_
 unfolding sections_from
 sections_from-rest [] plain = refl
 sections_from-rest (b ∷ bs) plain =
-    let parts = both_true (not (b == 10)) (is_line bs) plain in
+    let parts = and_parts (not (b == 10)) (is_line bs) plain in
     let other : (b == 10) ≡ false = grind (arith, nat_tests) in
     rw other (ap (behind (b ∷ [])) (sections_from-rest bs parts.1))
 
@@ -140,8 +136,8 @@ pub sections_of-lines : (lines : List (List ℕ)) (rest : List ℕ) → list_all
     → sections_of (flat_map line lines ++ rest) ≡ behind (flat_map line lines) (sections_of rest)
 sections_of-lines [] rest plain other = sym (behind-nil (sections_of rest))
 sections_of-lines (bytes ∷ more) rest plain other =
-    let parts = both_true (is_line bytes) (list_all is_line more) plain in
-    let others = neither (bytes_eq bytes bar) (has_bar more) other in
+    let parts = and_parts (is_line bytes) (list_all is_line more) plain in
+    let others = or_parts (bytes_eq bytes bar) (has_bar more) other in
     ap sections_of (append_assoc (line bytes) (flat_map line more) rest)
     ∙ sections_of-line bytes (flat_map line more ++ rest) parts.0 others.0
     ∙ ap (behind (line bytes)) (sections_of-lines more rest parts.1 others.1)

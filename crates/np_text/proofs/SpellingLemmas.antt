@@ -7,7 +7,7 @@ use Rattle.std.specs.Fmt.{decimal}
 use Rattle.std.specs.Str.{all_ascii_digits}
 use Rattle.std.specs.Str.Parse.{digits_value}
 use Rattle.std.proofs.Math.Numerals.{one-add}
-use Rattle.std.proofs.lemmas.Bool.{cases_eq, eq-eqb, eqb-true}
+use Rattle.std.proofs.lemmas.Bool.{cases_eq, eq-eqb, eqb-true, and_parts}
 use Rattle.std.proofs.lemmas.Bool.Decides.{nat_tests}
 use Rattle.std.proofs.lemmas.List.{length-replicate, drop_at}
 use Rattle.std.proofs.lemmas.Str.Parse.{IsNumeralModel, numerals_by_value, tells_all_ascii_digits, digits_value_short}
@@ -30,17 +30,13 @@ pub when_found : {A : Type 0} (b : Bool) (o : Option A) (y : A) → (if b then o
 when_found true o y answer = (refl, answer)
 when_found false o y answer = absurd (cc)
 
-pub both_true : (a b : Bool) → (a && b) ≡ true → (a ≡ true) × (b ≡ true)
-both_true true b both = (refl, both)
-both_true false b both = absurd (cc)
-
 -- ## Digits with zeros in front
 
 pub digits_within-told : (max n : ℕ) (text : List ℕ) → digits_within max text ≡ Some n → (all_ascii_digits text ≡ true) × (digits_value 10 text ≤ max) × (digits_value 10 text ≡ n)
 unfolding digits_within
 digits_within-told max n text answer =
     let told = when_some (all_ascii_digits text && nat_le (digits_value 10 text) max) (digits_value 10 text) n answer in
-    let tests = both_true (all_ascii_digits text) (nat_le (digits_value 10 text) max) told.0 in
+    let tests = and_parts (all_ascii_digits text) (nat_le (digits_value 10 text) max) told.0 in
     (tests.0, grind (arith, nat_tests), told.1)
 
 pub digits_within-digits : (max n : ℕ) (text : List ℕ) → all_ascii_digits text ≡ true → digits_value 10 text ≡ n → n ≤ max → digits_within max text ≡ Some n
@@ -99,10 +95,10 @@ no_zero_in_front k c cs other long digits small =
 -- digits are the spelling of their value at their own length
 pub padded-digits_value : (k : ℕ) (text : List ℕ) → length text ≡ suc k → all_ascii_digits text ≡ true → digits_value 10 text < 2 ^ 64 → padded (suc k) (digits_value 10 text) ≡ text
 padded-digits_value k [] long digits small = absurd (omega arith)
-padded-digits_value zero (c ∷ []) long digits small = digit_alone c (both_true (is_ascii_digit c) true digits).0
+padded-digits_value zero (c ∷ []) long digits small = digit_alone c (and_parts (is_ascii_digit c) true digits).0
 padded-digits_value zero (c ∷ d ∷ cs) long digits small = absurd (omega arith)
 padded-digits_value (suc k) (c ∷ cs) long digits small =
-    one_more (both_true (is_ascii_digit c) (all_ascii_digits cs) digits) (padded-digits_value k cs (omega arith)) (cases_eq c 48)
+    one_more (and_parts (is_ascii_digit c) (all_ascii_digits cs) digits) (padded-digits_value k cs (omega arith)) (cases_eq c 48)
   where
     one_more : (is_ascii_digit c ≡ true) × (all_ascii_digits cs ≡ true)
         → (all_ascii_digits cs ≡ true → digits_value 10 cs < 2 ^ 64 → padded (suc k) (digits_value 10 cs) ≡ cs)

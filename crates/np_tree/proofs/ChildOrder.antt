@@ -1,14 +1,11 @@
 -- children are in byte order of their names
 use Rattle.std.proofs.Common.{◌≡◌, ℕ, Bool, true, false, cond, List, [], ◌∷◌, Option, Some, None, refl, sym, ap, ◌∙◌}
 use Rattle.std.specs.Prelude.{filter}
-use Rattle.std.specs.List.{AllByRecursion}
+use Rattle.np_nodes.specs.Prelude.{AllByRecursion, Rises, is_path, name_of, parent_of}
 use Rattle.std.specs.Ordering.{nat_cmp, is_lt, ordering_then}
 use Rattle.std.specs.Cmp.Lexicographic.{slice_cmp}
 use Rattle.std.proofs.lemmas.Cmp.{nat_list_cmp_total, tied_itself}
-use Rattle.np_path.specs.Grammar.{is_path}
-use Rattle.np_path.specs.Parts.{name_of, parent_of}
 use Rattle.np_nodes.specs.Nodes.{before_of, children_of, is_child, is_parent}
-use Rattle.np_lists.specs.Rising.{Rises}
 use Rattle.np_lists.proofs.RisingLemmas.{Rises-filter}
 use Rattle.np_nodes.specs.Order.{AllPaths, node_before}
 use Rattle.np_nodes.specs.declared.node.Node.{Node}

@@ -3,14 +3,9 @@ use Rattle.std.proofs.Common.{◌≡◌, ℕ, ◌<◌, false, not, List, length,
 use Rattle.std.specs.Prelude.{nat_lt, ◌==◌}
 use Rattle.std.specs.Str.{bytes_eq}
 use Rattle.std.proofs.lemmas.Bool.{eqb-true, ltb-true, not-true}
-use Rattle.np_lists.specs.Refusals.{◌>>=◌, ◌>>◌, need}
+use Rattle.np_nodes.specs.Prelude.{TreeState, at_path, children_of, delete_answer, is_in, need, root, ◌>>=◌, ◌>>◌}
 use Rattle.np_lists.proofs.RefusalLemmas.{found-ok, need-last, need-ok}
-use Rattle.np_path.specs.Parts.{root}
-use Rattle.np_session.specs.Known.{is_in}
-use Rattle.np_nodes.specs.TreeState.{TreeState}
-use Rattle.np_nodes.specs.Nodes.{children_of, at_path}
 use Rattle.np_nodes.specs.Tests.{has_version, is_expected, there, unspent}
-use Rattle.np_nodes.specs.Answer.{delete_answer}
 use Rattle.np_nodes.specs.declared.node.Node.{Node}
 use Rattle.np_nodes.specs.declared.kind.Expect.{Expect}
 use Rattle.np_nodes.specs.declared.refusal.TreeRefusal.{TreeRefusal}

@@ -4,12 +4,7 @@ use Rattle.std.specs.Prelude.{OnOk, OnErr}
 use Rattle.np_session.specs.Known.{Known, without}
 use Rattle.np_session.specs.Known as known
 use Rattle.np_session.specs.declared.fault.SessionFault.{SessionFault}
-use Rattle.np_nodes.specs.After.{after_end, after_part, next_change, nodes_after_end, with_next_number}
-use Rattle.np_nodes.specs.Answer.{part_answer}
-use Rattle.np_nodes.specs.Calls.{after_begin, after_raise, with_counter}
-use Rattle.np_nodes.specs.Kept.{IsKept}
-use Rattle.np_nodes.specs.Nodes.{change_node}
-use Rattle.np_nodes.specs.TreeState.{TreeState, new_tree, root_node}
+use Rattle.np_nodes.specs.Prelude.{IsKept, TreeState, after_begin, after_end, after_part, after_raise, change_node, new_tree, next_change, nodes_after_end, part_answer, root_node, with_counter, with_next_number}
 use Rattle.np_nodes.specs.declared.lists.NodeLists.{NodeLists}
 use Rattle.np_nodes.specs.declared.op.Op.{Op}
 use Rattle.np_nodes.specs.declared.op.OpDone.{OpDone}

@@ -9,3 +9,15 @@ pub mod RoomLemmas
 pub mod TreeLemmas
 pub mod HoldsLemmas
 pub mod ChildOrder
+pub mod SiblingLemmas
+pub mod RowLemmas
+pub mod FindLemmas
+pub mod RelationLemmas
+pub mod GoesLemmas
+pub mod SeveralLemmas
+pub mod ViewRoomLemmas
+pub mod ClearLemmas
+pub mod ElsewhereLemmas
+pub mod DateLemmas
+pub mod LaterLemmas
+pub mod FreshLemmas

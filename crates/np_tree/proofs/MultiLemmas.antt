@@ -1,12 +1,7 @@
 -- the parts of a call, one after another
 use Rattle.std.proofs.Common.{◌≡◌, ℕ, true, false, not, List, [], ◌∷◌, ◌++◌, Option, Some, None, refl, ap, ◌∙◌}
-use Rattle.std.specs.List.{list_any}
+use Rattle.np_nodes.specs.Prelude.{TreeState, after_create_under, after_part, after_parts, at_path, is_check, list_any, name_of, next_change, parent_of, where_found, with_new_child}
 use Rattle.std.proofs.lemmas.Bool.{not-false, or_parts}
-use Rattle.np_nodes.specs.TreeState.{TreeState}
-use Rattle.np_nodes.specs.After.{after_create_under, after_part, next_change, where_found, with_new_child}
-use Rattle.np_nodes.specs.Multi.{after_parts, is_check}
-use Rattle.np_path.specs.Parts.{name_of, parent_of}
-use Rattle.np_nodes.specs.Nodes.{at_path}
 use Rattle.np_nodes.specs.declared.node.Node.{Node}
 use Rattle.np_nodes.specs.declared.kind.Mode.{Mode}
 use Rattle.np_nodes.specs.declared.op.Op.{Op}

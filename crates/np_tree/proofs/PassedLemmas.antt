@@ -1,17 +1,10 @@
 -- what an accepted operation implies about the tree
 use Rattle.std.proofs.Common.{◌≡◌, ℕ, ◌<◌, ◌≤◌, true, not, ◌||◌, List, length, Some, Result, Ok, refl, subst}
 use Rattle.std.specs.Prelude.{nat_le, nat_lt}
-use Rattle.std.specs.Option.{is_none}
+use Rattle.np_nodes.specs.Prelude.{MakesName, TreeState, at_path, child_answer, children_of, is_at, is_none, is_path, made_path, need, parent_of, ◌>>◌}
 use Rattle.std.proofs.lemmas.Bool.{leb-true, ltb-true}
-use Rattle.np_lists.specs.Refusals.{◌>>◌, need}
 use Rattle.np_lists.proofs.RefusalLemmas.{found-ok, need-ok}
-use Rattle.np_path.specs.Grammar.{is_path}
-use Rattle.np_path.specs.Parts.{parent_of}
-use Rattle.np_nodes.specs.TreeState.{TreeState}
-use Rattle.np_nodes.specs.Nodes.{children_of, is_at, at_path}
 use Rattle.np_nodes.specs.Tests.{fits, is_sequential, unspent}
-use Rattle.np_nodes.specs.Answer.{child_answer, made_path}
-use Rattle.np_nodes.specs.Names.{MakesName}
 use Rattle.np_nodes.specs.declared.node.Node.{Node}
 use Rattle.np_nodes.specs.declared.kind.Mode.{Mode}
 use Rattle.np_nodes.specs.declared.refusal.TreeRefusal.{TreeRefusal}

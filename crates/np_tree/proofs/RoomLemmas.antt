@@ -1,20 +1,12 @@
 -- no node has more children than its stat can count
 use Rattle.std.proofs.Common.{◌≡◌, ℕ, ◌<◌, true, not, List, [], length, Option, Some, None, Ok, refl, sym, subst}
 use Rattle.std.specs.Prelude.{filter}
-use Rattle.np_lists.specs.Refusals.{◌>>=◌, found}
+use Rattle.np_nodes.specs.Prelude.{MakesName, TreeState, after_create_under, after_loss, after_part, at_path, change_node, child_answer, children_of, create_answer, create_under_answer, found, is_at, is_in, is_owned, is_path, made_path, name_of, new_node, new_tree, next_change, nodes_after_end, parent_of, part_answer, where_found, with_bytes, with_child, with_new_child, without_child_above, ◌>>=◌}
 use Rattle.np_lists.proofs.Each.{all-find}
 use Rattle.np_lists.proofs.FoundLemmas.{find-passes}
 use Rattle.np_lists.proofs.RefusalLemmas.{bind-ok, need-ok}
-use Rattle.np_path.specs.Grammar.{is_path}
-use Rattle.np_path.specs.Parts.{name_of, parent_of}
-use Rattle.np_session.specs.Known.{is_in}
-use Rattle.np_nodes.specs.After.{after_create_under, after_loss, after_part, new_node, next_change, nodes_after_end, where_found, with_bytes, with_child, with_new_child, without_child_above}
-use Rattle.np_nodes.specs.Answer.{child_answer, create_answer, create_under_answer, made_path, part_answer}
 use Rattle.np_nodes.specs.Kept.{HasRoom}
-use Rattle.np_nodes.specs.Names.{MakesName}
-use Rattle.np_nodes.specs.Nodes.{at_path, change_node, children_of, is_at, is_owned}
 use Rattle.np_nodes.specs.Order.{place_of}
-use Rattle.np_nodes.specs.TreeState.{TreeState, new_tree}
 use Rattle.np_nodes.specs.declared.kind.Mode.{Mode}
 use Rattle.np_nodes.specs.declared.node.Node.{Node}
 use Rattle.np_nodes.specs.declared.op.Op.{Op}
@@ -29,7 +21,8 @@ use Rattle.np_nodes.proofs.PlaceLemmas.{insert_node-at}
 use Rattle.np_nodes.proofs.PlanLemmas.{HasRoom-paths, paths_of-without_child_above}
 use Rattle.np_tree.specs.Whole.{IsPart, IsWhole}
 use Rattle.np_tree.proofs.PassedLemmas.{IsChildPath-above, child_answer-passed}
-use Rattle.np_tree.proofs.WholeLemmas.{empty-makes, none-is}
+use Rattle.np_tree.proofs.WholeLemmas.{empty-makes}
+use Rattle.np_lists.proofs.Plain.{none-is}
 
 pub HasRoom-new_tree : HasRoom new_tree.nodes
 HasRoom-new_tree = IsKept-root.room

@@ -1,17 +1,10 @@
 -- there is a root, and no session owns it
 use Rattle.std.proofs.Common.{◌≡◌, ℕ, Bool, true, false, not, List, [], Option, Some, None, Ok, refl, sym, ap, ◌∙◌, subst}
 use Rattle.std.specs.Prelude.{filter}
-use Rattle.std.specs.Option.{is_none, option_map}
+use Rattle.np_nodes.specs.Prelude.{TreeState, after_create_under, after_loss, after_part, at_path, change_node, child_answer, create_answer, create_under_answer, delete_answer, found, insert_node, is_at, is_in, is_none, is_owned, is_owner, made_path, name_of, new_node, new_tree, next_change, nodes_after_end, option_map, parent_of, part_answer, path_before, root, root_node, where_found, with_bytes, with_child, with_new_child, without_child, without_child_above, without_node, ◌>>=◌}
 use Rattle.std.specs.Str.{bytes_eq}
-use Rattle.np_lists.specs.Refusals.{◌>>=◌, found}
 use Rattle.np_lists.proofs.FoundLemmas.{find-filter, find-insert_before, find-map, find-passes}
 use Rattle.np_lists.proofs.RefusalLemmas.{bind-ok, need-ok, then-ok}
-use Rattle.np_path.specs.Parts.{name_of, parent_of, root}
-use Rattle.np_session.specs.Known.{is_in}
-use Rattle.np_nodes.specs.TreeState.{TreeState, root_node, new_tree}
-use Rattle.np_nodes.specs.Nodes.{change_node, path_before, is_at, is_owned, is_owner, at_path, insert_node, without_node}
-use Rattle.np_nodes.specs.Answer.{part_answer, child_answer, create_answer, create_under_answer, delete_answer, made_path}
-use Rattle.np_nodes.specs.After.{where_found, after_create_under, after_part, after_loss, new_node, next_change, nodes_after_end, with_bytes, with_child, with_new_child, without_child, without_child_above}
 use Rattle.np_nodes.specs.declared.node.Node.{Node}
 use Rattle.np_nodes.specs.declared.kind.Mode.{Mode}
 use Rattle.np_nodes.specs.declared.op.Op.{Op}
@@ -20,10 +13,11 @@ use Rattle.np_nodes.specs.declared.op.OpDone.{OpDone}
 use Rattle.np_nodes.specs.declared.op.OpDone.TheVariants as done
 use Rattle.np_nodes.specs.declared.refusal.TreeRefusal.TheVariants as no
 use Rattle.np_nodes.proofs.PathsLemmas.{KeepsOwner, KeepsPath, at_path-change_here, at_path-change_other}
-use Rattle.np_nodes.proofs.PlaceLemmas.{bytes_eq-from, bytes_eq-is, bytes_eq-not}
+use Rattle.np_nodes.proofs.PlaceLemmas.{bytes_eq-from, bytes_eq-is}
 use Rattle.np_tree.specs.Whole.{HasRoot}
 use Rattle.np_tree.proofs.DeleteLemmas.{delete_answer-passed}
 use Rattle.np_tree.proofs.PassedLemmas.{child_answer-passed}
+use Rattle.np_lists.proofs.Plain.{bytes_eq-apart}
 
 pub HasRoot-new_tree : HasRoot new_tree.nodes
 HasRoot-new_tree = record { node = root_node; there = refl; free = refl }
@@ -56,7 +50,7 @@ HasRoot-insert_node n nodes other has = record { node = has.node; there = find-i
 not_at : (p : List ℕ) (n : Node) (nodes : List Node) → bytes_eq p root ≡ false → at_path nodes root ≡ Some n → is_at p n ≡ false
 not_at p n nodes other there =
     let top : n.path ≡ root = bytes_eq-is n.path root (find-passes (is_at root) nodes n there) in
-    bytes_eq-not n.path p (λ same. let here = bytes_eq-from p root (sym same ∙ top) in absurd cc)
+    bytes_eq-apart n.path p (λ same. let here = bytes_eq-from p root (sym same ∙ top) in absurd cc)
 
 pub HasRoot-without_node : (p : List ℕ) (nodes : List Node) → bytes_eq p root ≡ false → HasRoot nodes → HasRoot (without_node p nodes)
 HasRoot-without_node p nodes other has =
@@ -82,7 +76,7 @@ none-not (Some b) a is there = cc
 HasRoot-made : (t : TreeState) (session : ℕ) (above name bytes : List ℕ) (mode : Mode) (parent : Node) → is_none (at_path t.nodes (made_path parent name mode)) ≡ true → HasRoot t.nodes → HasRoot (with_new_child (next_change t) session above name bytes mode parent t.nodes)
 HasRoot-made t session above name bytes mode parent new has =
     let n : Node = new_node (next_change t) session (made_path parent name mode) bytes mode in
-    let other : is_at root n ≡ false = bytes_eq-not (made_path parent name mode) root (λ same. none-not (at_path t.nodes (made_path parent name mode)) has.node new (ap (at_path t.nodes) same ∙ has.there)) in
+    let other : is_at root n ≡ false = bytes_eq-apart (made_path parent name mode) root (λ same. none-not (at_path t.nodes (made_path parent name mode)) has.node new (ap (at_path t.nodes) same ∙ has.there)) in
     HasRoot-insert_node n (change_node above (with_child (next_change t) mode) t.nodes) other (HasRoot-change_node above (with_child (next_change t) mode) (λ _. refl) (λ _. refl) t.nodes has)
 
 HasRoot-under : (t : TreeState) (session : ℕ) (above name bytes : List ℕ) (mode : Mode) (made : List ℕ) → child_answer t above name bytes mode ≡ Ok made → HasRoot t.nodes → HasRoot (after_create_under t session above name bytes mode).nodes

@@ -1,20 +1,16 @@
 -- each node except the root is below a node that no session owns
 use Rattle.std.proofs.Common.{◌≡◌, ℕ, Bool, true, false, not, cond, List, [], ◌∷◌, length, Option, Some, None, refl, sym, ap, ◌∙◌, subst, arith}
 use Rattle.std.specs.Prelude.{filter}
-use Rattle.std.specs.List.{AllByRecursion}
-use Rattle.std.specs.Option.{option_map}
+use Rattle.np_nodes.specs.Prelude.{AllByRecursion, after_loss, at_path, change_node, children_of, insert_node, is_at, is_child, is_owned, is_owner, is_parent, new_tree, nodes_after_end, option_map, parent_of, path_before, without_node}
 use Rattle.std.specs.Str.{bytes_eq}
 use Rattle.np_lists.proofs.Each.{all-change_first, all-filter, all-insert_before, all-mapped, all-weaker}
 use Rattle.np_lists.proofs.FilterLemmas.{filter-nothing}
 use Rattle.np_lists.proofs.FoundLemmas.{find-filter, find-insert_before, find-map, find-passes}
-use Rattle.np_path.specs.Parts.{parent_of}
-use Rattle.np_nodes.specs.TreeState.{new_tree}
-use Rattle.np_nodes.specs.Nodes.{change_node, children_of, path_before, is_at, is_child, is_owned, is_parent, is_owner, at_path, insert_node, without_node}
-use Rattle.np_nodes.specs.After.{after_loss, nodes_after_end}
 use Rattle.np_nodes.specs.declared.node.Node.{Node}
 use Rattle.np_nodes.proofs.PathsLemmas.{KeepsOwner, KeepsPath, at_path-change_here, at_path-change_other}
-use Rattle.np_nodes.proofs.PlaceLemmas.{bytes_eq-from, bytes_eq-is, bytes_eq-not}
+use Rattle.np_nodes.proofs.PlaceLemmas.{bytes_eq-from, bytes_eq-is}
 use Rattle.np_tree.specs.Whole.{AllStand, HasParent, Stand}
+use Rattle.np_lists.proofs.Plain.{bytes_eq-apart}
 
 -- a parent that is found in one list and another
 parent-also : (ns ms : List Node) (o : Option (List ℕ)) → ((above : List ℕ) (parent : Node) → o ≡ Some above → at_path ns above ≡ Some parent → parent.facts.owner ≡ None → HasParent ms (Some above)) → HasParent ns o → HasParent ms o
@@ -47,7 +43,7 @@ with-parent n nodes o new has =
     parent-also nodes (insert_node n nodes) o
     (λ above parent is there free. (
       parent,
-      find-insert_before (is_at above) (λ m. path_before n.path m.path) n nodes (bytes_eq-not n.path above (λ same. let e : None ≡ Some parent = sym new ∙ (ap (at_path nodes) same ∙ there) in absurd cc)) ∙ there,
+      find-insert_before (is_at above) (λ m. path_before n.path m.path) n nodes (bytes_eq-apart n.path above (λ same. let e : None ≡ Some parent = sym new ∙ (ap (at_path nodes) same ∙ there) in absurd cc)) ∙ there,
       free,
     )) has
 
@@ -70,7 +66,7 @@ childless path (n ∷ nodes) none = let both = no-child-by path n nodes (is_chil
 without-parent : (path : List ℕ) (nodes : List Node) (o : Option (List ℕ)) → is_parent path o ≡ false → HasParent nodes o → HasParent (without_node path nodes) o
 without-parent path nodes None other has = tt
 without-parent path nodes (Some above) other has =
-    let away : is_at path has.0 ≡ false = bytes_eq-not has.0.path path (λ same.
+    let away : is_at path has.0 ≡ false = bytes_eq-apart has.0.path path (λ same.
     let at = bytes_eq-is has.0.path above (find-passes (is_at above) nodes has.0 has.1) in
     let here = bytes_eq-from above path (sym at ∙ same) in absurd cc) in
     (has.0, find-filter (is_at above) (λ n. not (is_at path n)) has.0 nodes (ap not away) has.1, has.2)
@@ -104,7 +100,7 @@ Stand-after_end z session nodes all =
 
 not_child : (nodes : List Node) (path : List ℕ) (n : Node) (session : ℕ) (o : Option (List ℕ)) → at_path nodes path ≡ Some n → n.facts.owner ≡ Some session → HasParent nodes o → is_parent path o ≡ false
 not_child nodes path n session None there owned has = refl
-not_child nodes path n session (Some above) there owned has = bytes_eq-not above path (λ same.
+not_child nodes path n session (Some above) there owned has = bytes_eq-apart above path (λ same.
     let found : at_path nodes path ≡ Some has.0 = subst (λ (p : List ℕ). at_path nodes p ≡ Some has.0) same has.1 in
     let node : n ≡ has.0 = let e : Some n ≡ Some has.0 = sym there ∙ found in cc in
     absurd (let e : Some session ≡ None = sym owned ∙ ap (λ (m : Node). m.facts.owner) node ∙ has.2 in cc))

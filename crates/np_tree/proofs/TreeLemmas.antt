@@ -1,20 +1,12 @@
 -- what is always true of a tree, after each call
 use Rattle.std.proofs.Common.{◌≡◌, ℕ, ◌+◌, ◌≤◌, Bool, true, false, not, ◌||◌, cond, List, [], ◌∷◌, ◌++◌, Option, Some, None, Ok, refl, sym, ap, ◌∙◌, subst, lit≤, arith}
 use Rattle.std.specs.Prelude.{◌==◌, filter, min}
-use Rattle.std.specs.List.{AllByRecursion, list_any}
+use Rattle.np_nodes.specs.Prelude.{AllByRecursion, TreeState, after_begin, after_create_under, after_loss, after_part, after_parts, answers_from, at_path, change_node, is_at, is_check, is_in, is_owned, is_owner, list_any, made_path, name_of, new_node, new_tree, next_change, parent_of, part_answer, path_before, where_found, with_bytes, with_child, with_counter, with_new_child, with_next_number, without, without_child, without_child_above}
 use Rattle.std.proofs.lemmas.Bool.{eq-eqb, eqb-true, false_from_ne_true, or_left}
 use Rattle.std.proofs.lemmas.List.Folds.{list_any-append}
 use Rattle.np_lists.proofs.Each.{all-change_first, all-filter, all-filter_to, all-insert_before, all-mapped, all-weaker}
-use Rattle.np_path.specs.Parts.{name_of, parent_of}
-use Rattle.np_session.specs.Known.{is_in, without}
-use Rattle.np_nodes.specs.After.{after_create_under, after_loss, after_part, new_node, next_change, where_found, with_bytes, with_child, with_new_child, with_next_number, without_child, without_child_above}
-use Rattle.np_nodes.specs.Answer.{made_path, part_answer}
-use Rattle.np_nodes.specs.Calls.{after_begin, with_counter}
 use Rattle.np_nodes.specs.Kept.{HasRoom}
-use Rattle.np_nodes.specs.Multi.{after_parts, answers_from, is_check}
-use Rattle.np_nodes.specs.Nodes.{at_path, change_node, is_at, is_owned, is_owner, path_before}
 use Rattle.np_nodes.specs.Tests.{is_ephemeral}
-use Rattle.np_nodes.specs.TreeState.{TreeState, new_tree}
 use Rattle.np_nodes.specs.declared.kind.Mode.{Mode}
 use Rattle.np_nodes.specs.declared.node.Node.{Node}
 use Rattle.np_nodes.specs.declared.op.Op.{Op}

@@ -1,24 +1,11 @@
 -- each accepted operation, and each session's end, leaves a whole tree
 use Rattle.std.proofs.Common.{◌≡◌, ℕ, ◌+◌, Bool, not, cond, true, false, List, [], ◌∷◌, length, Option, Some, None, Result, Ok, Err, refl, sym, ◌∙◌, subst}
 use Rattle.std.specs.Prelude.{filter}
-use Rattle.std.specs.List.{AllByRecursion, list_any}
-use Rattle.std.specs.Option.{is_none}
-use Rattle.np_lists.specs.Refusals.{◌>>=◌, found}
+use Rattle.np_nodes.specs.Prelude.{AllByRecursion, AllPaths, AtPart, IsSorted, MakesName, TreeState, after_parts, and_then, answers_from, at_path, change_node, child_answer, children_of, create_answer, create_under_answer, delete_answer, found, is_at, is_check, is_in, is_owned, is_path, is_sequential, list_any, made_path, name_of, new_tree, parent_of, part_answer, with_counter, ◌>>=◌}
 use Rattle.np_lists.proofs.Each.{all-find}
 use Rattle.np_lists.proofs.FoundLemmas.{find-passes}
 use Rattle.np_lists.proofs.RefusalLemmas.{bind-ok, need-ok, then-ok}
-use Rattle.np_path.specs.Grammar.{is_path}
-use Rattle.np_path.specs.Parts.{name_of, parent_of}
-use Rattle.np_session.specs.Known.{is_in}
-use Rattle.np_nodes.specs.TreeState.{TreeState, new_tree}
-use Rattle.np_nodes.specs.Nodes.{change_node, children_of, is_at, is_owned, at_path}
-use Rattle.np_nodes.specs.Tests.{is_sequential}
-use Rattle.np_nodes.specs.Answer.{part_answer, child_answer, create_answer, create_under_answer, delete_answer, made_path}
 use Rattle.np_nodes.specs.After.{after_create_under, after_loss, after_part, after_removal, new_node, next_change, nodes_after_end, where_found, with_bytes, with_child, with_new_child, with_next_number, without_child, without_child_above}
-use Rattle.np_nodes.specs.Calls.{with_counter}
-use Rattle.np_nodes.specs.Multi.{AtPart, and_then, answers_from, after_parts, is_check}
-use Rattle.np_nodes.specs.Names.{MakesName}
-use Rattle.np_nodes.specs.Order.{AllPaths, IsSorted}
 use Rattle.np_nodes.specs.declared.node.Node.{Node}
 use Rattle.np_nodes.specs.declared.kind.Mode.{Mode}
 use Rattle.np_nodes.specs.declared.op.Op.{Op}
@@ -36,6 +23,7 @@ use Rattle.np_tree.proofs.DeleteLemmas.{delete_answer-passed}
 use Rattle.np_tree.proofs.PassedLemmas.{IsChildPath-above, child_answer-passed}
 use Rattle.np_tree.proofs.RootLemmas.{HasRoot-after_part, HasRoot-change_node, HasRoot-after_end, HasRoot-new_tree}
 use Rattle.np_tree.proofs.StandingLemmas.{Stand-change_node, Stand-after_end, Stand-insert_node, Stand-new_tree, Stand-without_node}
+use Rattle.np_lists.proofs.Plain.{none-is}
 
 pub IsWhole-new_tree : IsWhole new_tree.nodes
 IsWhole-new_tree = record { sorted = (tt, tt); paths = (refl, tt); root = HasRoot-new_tree; stand = Stand-new_tree }
@@ -47,10 +35,6 @@ record Standing (nodes : List Node) : Type 0 where
   sorted : IsSorted nodes
   paths : AllPaths nodes
   stand : Stand nodes
-
-pub none-is : {A : Type 0} (o : Option A) → is_none o ≡ true → o ≡ None
-none-is None is = refl
-none-is (Some a) is = absurd cc
 
 Standing-made : (t : TreeState) (session : ℕ) (above name bytes : List ℕ) (mode : Mode) (parent : Node) → MakesName name mode → at_path t.nodes above ≡ Some parent → parent.facts.owner ≡ None → at_path t.nodes (made_path parent name mode) ≡ None → IsWhole t.nodes →
     Standing (with_new_child (next_change t) session above name bytes mode parent t.nodes)

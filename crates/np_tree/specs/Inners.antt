@@ -1,7 +1,6 @@
 -- the fields of the tree, for the code only; and how calls answer
 use Rattle.std.specs.Prelude.{◌≡◌, [], Result, Ok, Err, IsOk}
-use Rattle.np_nodes.specs.Kept.{IsKept}
-use Rattle.np_nodes.specs.TreeState.{TreeState}
+use Rattle.np_nodes.specs.Prelude.{IsKept, TreeState}
 use Rattle.np_nodes.specs.declared.refusal.TreeFault.{TreeFault}
 use Rattle.np_nodes.specs.declared.refusal.TreeFault.TheVariants.{Refused, NoMemory}
 use Rattle.np_nodes.specs.declared.refusal.TreeRefusal.{TreeRefusal}

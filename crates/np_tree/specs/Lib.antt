@@ -13,3 +13,9 @@ pub mod Sorted
 pub mod Whole
 pub mod Inners
 pub mod Worked
+pub mod Views
+pub mod Relations
+pub mod Goes
+pub mod Several
+pub mod Dates
+pub mod Prelude

@@ -1,9 +1,6 @@
 -- what the readers return
 use Rattle.std.specs.Prelude.{ℕ, List, Option, slice_get}
-use Rattle.std.specs.Option.{option_map}
-use Rattle.np_path.specs.Parts.{name_of}
-use Rattle.np_nodes.specs.TreeState.{TreeState}
-use Rattle.np_nodes.specs.Nodes.{children_of, at_path, stat_of}
+use Rattle.np_nodes.specs.Prelude.{TreeState, at_path, children_of, name_of, option_map, stat_of}
 use Rattle.np_nodes.specs.declared.node.Node.{Node}
 use Rattle.np_nodes.specs.declared.kind.Stat.{Stat}
 

@@ -2,11 +2,7 @@
 use Rattle.std.specs.Prelude.{◌≡◌, ℕ, Bool, true, List, Some}
 use Rattle.std.specs.Ordering.{nat_cmp, is_lt}
 use Rattle.std.specs.Cmp.Lexicographic.{slice_cmp}
-use Rattle.np_path.specs.Grammar.{is_path}
-use Rattle.np_path.specs.Parts.{name_of, parent_of}
-use Rattle.np_nodes.specs.Nodes.{children_of, path_before}
-use Rattle.np_lists.specs.Rising.{Rises}
-use Rattle.np_nodes.specs.Order.{AllPaths, IsSorted}
+use Rattle.np_nodes.specs.Prelude.{AllPaths, IsSorted, Rises, children_of, is_path, name_of, parent_of, path_before}
 use Rattle.np_nodes.specs.declared.node.Node.{Node}
 
 -- each path comes after its parent's

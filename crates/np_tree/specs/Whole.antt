@@ -1,17 +1,8 @@
 -- a tree with nothing out of place
 use Rattle.std.specs.Prelude.{◌≡◌, ◌≤◌, ⊤, ℕ, true, List, [], Option, Some, None, Ok}
-use Rattle.std.specs.List.{AllByRecursion}
-use Rattle.np_path.specs.Grammar.{is_path}
-use Rattle.np_path.specs.Parts.{parent_of, root}
-use Rattle.np_session.specs.Known.{is_in}
-use Rattle.np_nodes.specs.TreeState.{TreeState}
-use Rattle.np_nodes.specs.Nodes.{at_path, children_of}
-use Rattle.np_nodes.specs.Answer.{part_answer}
-use Rattle.np_nodes.specs.After.{after_part, after_end, next_change}
-use Rattle.np_nodes.specs.Calls.{after_begin, after_raise}
+use Rattle.np_nodes.specs.Prelude.{AllByRecursion, AllPaths, IsSorted, TreeState, after_begin, after_end, after_part, after_raise, at_path, children_of, is_in, is_path, next_change, parent_of, part_answer, root}
 use Rattle.np_nodes.specs.Kept.{HasRoom}
 use Rattle.np_nodes.specs.Multi.{after_multi, answers_from, is_numbered, path_of}
-use Rattle.np_nodes.specs.Order.{AllPaths, IsSorted}
 use Rattle.np_nodes.specs.declared.node.Node.{Node}
 use Rattle.np_nodes.specs.declared.op.Op.{Op}
 use Rattle.np_nodes.specs.declared.op.OpDone.{OpDone}

@@ -1,11 +1,7 @@
 -- worked calls on closed trees, and their answers
 use Rattle.std.specs.Prelude.{ℕ, List, [], ◌∷◌, codes, Result, Ok, Err, if◌then◌else◌}
 use Rattle.std.specs.Result.{is_ok}
-use Rattle.np_nodes.specs.TreeState.{TreeState, new_tree}
-use Rattle.np_nodes.specs.Calls.{after_raise}
-use Rattle.np_nodes.specs.After.{with_next_number, after_part, after_end}
-use Rattle.np_nodes.specs.Answer.{part_answer}
-use Rattle.np_nodes.specs.Multi.{AtPart}
+use Rattle.np_nodes.specs.Prelude.{AtPart, TreeState, after_end, after_part, after_raise, new_tree, part_answer, with_next_number}
 use Rattle.np_nodes.specs.declared.op.Op.{Op}
 use Rattle.np_nodes.specs.declared.op.Op.TheVariants as op
 use Rattle.np_nodes.specs.declared.op.OpDone.{OpDone}

@@ -2,10 +2,8 @@
 
 ghost use Rattle.std.specs.Prelude.{◌≡◌, ◌+◌, Ok, Err, true, false, MatchOption, MatchResult};
 ghost use Rattle.np_nodes.specs.Answer.{check_answer, child_answer, delete_answer, made_path, set_answer};
-ghost use Rattle.np_nodes.specs.Calls.{may_raise};
+ghost use Rattle.np_nodes.specs.Prelude.{IsKept, MakesName, may_raise};
 ghost use Rattle.np_nodes.specs.Finds.{IsPlace};
-ghost use Rattle.np_nodes.specs.Kept.{IsKept};
-ghost use Rattle.np_nodes.specs.Names.{MakesName};
 ghost use Rattle.np_nodes.specs.Plans.{IsSpot};
 ghost use Rattle.np_tree.specs.Inners.{state_of};
 

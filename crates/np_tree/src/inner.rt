@@ -1,18 +1,8 @@
 //! The fields of the tree, and what each call does to them.
 
 ghost use Rattle.std.specs.Prelude.{◌≡◌, ◌<◌, ◌≤◌, ◌+◌, [], true, IfOk, OnOk, OnErr};
-ghost use Rattle.std.specs.Bool.{OnTrue, OnFalse};
-ghost use Rattle.np_path.specs.Grammar.{is_path};
+ghost use Rattle.np_nodes.specs.Prelude.{IsKept, MakesName, OnFalse, OnTrue, after_begin, after_create, after_create_under, after_delete, after_end, after_raise, after_set, child_answer, create_answer, create_under_answer, delete_answer, is_in, is_path, is_sequential, may_raise, new_tree, next_change, set_answer, stat_of, with_next_number, with_spare};
 ghost use Rattle.np_session.specs.Begins.{Begins};
-ghost use Rattle.np_session.specs.Known.{is_in};
-ghost use Rattle.np_nodes.specs.After.{after_create, after_create_under, after_delete, after_end, after_set, next_change, with_next_number};
-ghost use Rattle.np_nodes.specs.Answer.{child_answer, create_answer, create_under_answer, delete_answer, set_answer};
-ghost use Rattle.np_nodes.specs.Calls.{after_begin, after_raise, may_raise, with_spare};
-ghost use Rattle.np_nodes.specs.Kept.{IsKept};
-ghost use Rattle.np_nodes.specs.Names.{MakesName};
-ghost use Rattle.np_nodes.specs.Nodes.{stat_of};
-ghost use Rattle.np_nodes.specs.Tests.{is_sequential};
-ghost use Rattle.np_nodes.specs.TreeState.{new_tree};
 ghost use Rattle.np_nodes.specs.Undo.{KeepsStart};
 ghost use Rattle.np_tree.specs.Inners.{Answers, Holds, state_of};
 

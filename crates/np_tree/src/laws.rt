@@ -2,10 +2,7 @@
 //! what calls keep true of the tree, and what the order of nodes means.
 
 ghost use Rattle.std.specs.Prelude.{◌≡◌, codes, [], ◌∷◌, None, Err};
-ghost use Rattle.np_nodes.specs.Answer.{set_answer};
-ghost use Rattle.np_nodes.specs.Multi.{after_multi, answers_from};
-ghost use Rattle.np_nodes.specs.Nodes.{at_path};
-ghost use Rattle.np_nodes.specs.TreeState.{new_tree};
+ghost use Rattle.np_nodes.specs.Prelude.{after_multi, answers_from, at_path, new_tree, set_answer};
 ghost use Rattle.np_nodes.specs.declared.kind.Expect.TheVariants.{Any};
 ghost use Rattle.np_nodes.specs.declared.refusal.TreeRefusal.TheVariants.{SessionExpired};
 ghost use Rattle.np_tree.specs.Sorted.{ChildrenByName, ParentsComeFirst};

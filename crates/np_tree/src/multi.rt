@@ -1,12 +1,8 @@
 //! Several operations in one change, or none.
 
 ghost use Rattle.std.specs.Prelude.{◌≡◌, ◌≤◌, [], true, not, length, MatchResult, OnOk, OnErr};
-ghost use Rattle.std.specs.List.{AllByRecursion, list_all, list_any};
+ghost use Rattle.np_nodes.specs.Prelude.{AllByRecursion, IsKept, Stops, after_multi, after_part, after_parts, answers_from, is_check, is_numbered, list_all, list_any, part_answer};
 ghost use Rattle.np_nodes.specs.Undo.{KeepsStart};
-ghost use Rattle.np_nodes.specs.After.{after_part};
-ghost use Rattle.np_nodes.specs.Answer.{part_answer};
-ghost use Rattle.np_nodes.specs.Kept.{IsKept};
-ghost use Rattle.np_nodes.specs.Multi.{Stops, after_multi, answers_from, after_parts, is_check, is_numbered};
 ghost use Rattle.np_tree.specs.Inners.{Answers, Holds, state_of};
 ghost use Rattle.np_tree.specs.Whole.{IsPart};
 

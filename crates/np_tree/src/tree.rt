@@ -1,17 +1,9 @@
 //! The tree.
 
 ghost use Rattle.std.specs.Prelude.{◌≡◌, ◌<◌, ◌≤◌, ◌+◌, ℕ, [], true, length, IfOk, MatchResult, OnOk, OnErr};
-ghost use Rattle.std.specs.Bool.{OnTrue, OnFalse};
-ghost use Rattle.std.specs.List.{list_all};
-ghost use Rattle.std.specs.Option.{option_copied, option_map};
+ghost use Rattle.np_nodes.specs.Prelude.{OnFalse, OnTrue, Stops, after_begin, after_create, after_create_under, after_delete, after_end, after_multi, after_raise, after_set, answers_from, is_in, is_numbered, is_sequential, list_all, may_raise, new_tree, option_copied, option_map, with_next_number, with_spare};
 ghost use Rattle.np_session.specs.Begins.{Begins};
-ghost use Rattle.np_session.specs.Known.{is_in};
-ghost use Rattle.np_nodes.specs.After.{after_create, after_create_under, after_delete, after_end, after_set, with_next_number};
 ghost use Rattle.np_nodes.specs.Answer.{check_answer, create_answer, create_under_answer, delete_answer, set_answer};
-ghost use Rattle.np_nodes.specs.Calls.{after_begin, after_raise, may_raise, with_spare};
-ghost use Rattle.np_nodes.specs.Multi.{Stops, after_multi, answers_from, is_numbered};
-ghost use Rattle.np_nodes.specs.Tests.{is_sequential};
-ghost use Rattle.np_nodes.specs.TreeState.{new_tree};
 ghost use Rattle.np_tree.specs.Inners.{Answers};
 ghost use Rattle.np_tree.specs.Read.{bytes_at, child_name, counter_at, stat_at, stat_of_child};
 ghost use Rattle.np_tree.specs.Whole.{IsTree};

@@ -1,12 +1,8 @@
 -- which nodes a janitor removes or frees
 use Rattle.std.specs.Prelude.{Bool, true, ◌&&◌, ◌||◌, is_some, is_none}
-use Rattle.np_text.specs.declared.word.NodeState.{NodeState}
+use Rattle.np_machine.specs.Prelude.{Configuration, NodeRecord, NodeState, State, standing}
 use Rattle.np_text.specs.declared.word.NodeState.TheVariants as node_state
-use Rattle.np_site.specs.Configuration.{Configuration}
-use Rattle.np_record.specs.declared.record.NodeRecord.{NodeRecord}
 use Rattle.np_machine.specs.Reasons.{is_old_ready, is_old_hold, is_paused}
-use Rattle.np_machine.specs.Node.{standing}
-use Rattle.np_machine.specs.State.{State}
 
 -- allocated to a request that no longer exists (own)
 abbrev pub is_left_over : State → NodeRecord → Bool

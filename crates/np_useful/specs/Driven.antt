@@ -1,24 +1,10 @@
 -- when a journal was driven by the parties and their clouds, and not by a script
 use Rattle.std.specs.Prelude.{◌≡◌, ◌&&◌, ◌==◌, ℕ, Bool, true, false, List, [], ◌∷◌, ◌++◌, Some, ◌⊎◌}
-use Rattle.np_text.specs.declared.id.SessionId.{SessionId}
-use Rattle.np_text.specs.declared.id.PoolId.{PoolId}
-use Rattle.np_text.specs.declared.id.NodeId.{NodeId}
-use Rattle.np_text.specs.declared.id.Role.{Role}
-use Rattle.np_text.specs.declared.id.Role.TheVariants.{Janitor}
-use Rattle.np_site.specs.Configuration.{Configuration}
-use Rattle.np_record.specs.declared.record.NodeRecord.{NodeRecord}
-use Rattle.np_event.specs.declared.event.Event.{Event}
+use Rattle.np_machine.specs.Prelude.{Configuration, EachTurn, Entry, Event, Janitor, NodeId, NodeRecord, Outcome, PoolId, Role, SessionId, SomeTurn, Turn, is_node, is_session, is_swept, node_in, outcome_of, turns}
 use Rattle.np_event.specs.declared.event.Event.TheVariants as ev
-use Rattle.np_event.specs.declared.event.Outcome.{Outcome}
 use Rattle.np_event.specs.declared.event.Outcome.TheVariants as outcome
-use Rattle.np_event.specs.declared.entry.Entry.{Entry}
 use Rattle.np_event.specs.declared.reply.Reply.TheVariants as reply
 use Rattle.np_event.specs.declared.reply.Done.TheVariants as done
-use Rattle.np_machine.specs.Tables.{is_session, node_in}
-use Rattle.np_machine.specs.LiveHolder.{is_node}
-use Rattle.np_machine.specs.Node.{is_swept}
-use Rattle.np_machine.specs.Plan.{outcome_of}
-use Rattle.np_machine.specs.Turns.{Turn, turns, SomeTurn, EachTurn}
 use Rattle.np_useful.specs.Sessions.{is_current}
 use Rattle.np_useful.specs.Useful.{IsUseful}
 

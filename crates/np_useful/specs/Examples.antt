@@ -1,17 +1,10 @@
 -- what the examples say, and the sites and journals that are made for them
 use Rattle.std.specs.Prelude.{◌≡◌, ℕ, List, [], ◌∷◌, ◌++◌, Some, None, true, false, is_ok, codes, take}
-use Rattle.np_text.specs.declared.id.Role.{Role}
-use Rattle.np_site.specs.Configuration.{Configuration}
-use Rattle.np_site.specs.declared.row.FaultKind.{FaultKind}
-use Rattle.np_site.specs.declared.row.FaultKind.TheVariants as kind
-use Rattle.np_event.specs.declared.event.Event.{Event}
+use Rattle.np_machine.specs.Prelude.{Configuration, Entry, Event, FaultKind, Role, State, after, judge, maker_of, replayed, start}
+use Rattle.np_config.specs.declared.row.FaultKind.TheVariants as kind
 use Rattle.np_event.specs.declared.event.Event.TheVariants as ev
 use Rattle.np_event.specs.declared.event.Outcome.TheVariants as outcome
-use Rattle.np_event.specs.declared.entry.Entry.{Entry}
 use Rattle.np_event.specs.declared.reply.Done.TheVariants as done
-use Rattle.np_machine.specs.History.{after, replayed}
-use Rattle.np_machine.specs.Step.{judge, maker_of}
-use Rattle.np_machine.specs.State.{State, start}
 use Rattle.np_worked.specs.Site.{session, node, job, label, request, launcher, janitor, requester, at_most, offer, a_label, a_provider, a_pool, a_job, one_pool, plain_site, line}
 use Rattle.np_worked.specs.PlainPath as plain
 use Rattle.np_worked.specs.ExpiryDuringALaunch as expiry_during_a_launch

@@ -1,15 +1,7 @@
 -- which events are useful for the janitor of a pool: one line per event
 use Rattle.std.specs.Prelude.{Bool, true, false, ◌&&◌, not, is_none}
-use Rattle.np_text.specs.declared.id.PoolId.{PoolId}
-use Rattle.np_text.specs.declared.id.Role.TheVariants.{Janitor, Requester}
-use Rattle.np_site.specs.Configuration.{Configuration}
-use Rattle.np_event.specs.declared.event.Event.{Event}
+use Rattle.np_machine.specs.Prelude.{Configuration, Event, Janitor, PoolId, Requester, State, is_pending, is_pending_by, node_holder, same_role}
 use Rattle.np_event.specs.declared.event.Event.TheVariants as ev
-use Rattle.np_machine.specs.Kinds.{is_pending}
-use Rattle.np_machine.specs.Tables.{node_holder}
-use Rattle.np_machine.specs.Laws.{same_role}
-use Rattle.np_machine.specs.Order.{is_pending_by}
-use Rattle.np_machine.specs.State.{State}
 use Rattle.np_useful.specs.Sessions.{is_stopped, may_open}
 use Rattle.np_useful.specs.Cleanable.{is_cleanable}
 use Rattle.np_useful.specs.Rows.{request_is, node_is, job_is, is_node_of, has_some_handle}

@@ -1,34 +1,9 @@
 -- which events are useful for the launcher of a pool: one line per event
 use Rattle.std.specs.Prelude.{ℕ, Bool, true, false, ◌==◌, ◌&&◌, ◌||◌, not, Option, is_ok, is_none, find, slice_get, count_by, nat_lt, option_and_then}
-use Rattle.std.specs.Option.{option_map, option_map_or}
-use Rattle.std.specs.List.{list_any}
-use Rattle.np_text.specs.declared.id.SessionId.{SessionId}
-use Rattle.np_text.specs.declared.id.PoolId.{PoolId}
-use Rattle.np_text.specs.declared.id.NodeId.{NodeId}
-use Rattle.np_text.specs.declared.id.RequestId.{RequestId}
-use Rattle.np_text.specs.declared.id.Role.{Role}
-use Rattle.np_text.specs.declared.id.Role.TheVariants.{Launcher, Janitor, Requester, Reaper}
-use Rattle.np_text.specs.declared.word.Reason.{Reason}
+use Rattle.np_machine.specs.Prelude.{Configuration, Event, Janitor, Launcher, NodeId, NodeRecord, Outcome, PoolId, Reaper, Reason, RequestEntry, RequestId, RequestRecord, Requester, Role, SessionId, State, blocking, first_unoffered, holder, is_declined_by, is_node, is_paused, is_pending, is_pending_by, is_requested, is_session_of, is_spent, judge, list_any, maker_of, may_fit, never_fits, option_map, option_map_or, outcome_of, registered, role_of, same_role, tenant_never_fits}
 use Rattle.np_text.specs.declared.word.Reason.TheVariants as reason
-use Rattle.np_site.specs.Configuration.{Configuration}
-use Rattle.np_record.specs.declared.record.RequestRecord.{RequestRecord}
-use Rattle.np_record.specs.declared.record.NodeRecord.{NodeRecord}
-use Rattle.np_event.specs.declared.event.Event.{Event}
 use Rattle.np_event.specs.declared.event.Event.TheVariants as ev
-use Rattle.np_event.specs.declared.event.Outcome.{Outcome}
 use Rattle.np_event.specs.declared.event.Outcome.TheVariants as outcome
-use Rattle.np_machine.specs.Entries.{RequestEntry}
-use Rattle.np_machine.specs.Kinds.{is_requested, is_pending}
-use Rattle.np_machine.specs.Tables.{role_of, is_session_of, registered, holder}
-use Rattle.np_machine.specs.Laws.{same_role}
-use Rattle.np_machine.specs.Order.{is_pending_by, is_declined_by}
-use Rattle.np_machine.specs.Reasons.{first_unoffered, never_fits, is_spent, is_paused}
-use Rattle.np_machine.specs.Tenants.{tenant_never_fits}
-use Rattle.np_machine.specs.First.{may_fit, blocking}
-use Rattle.np_machine.specs.LiveHolder.{is_node}
-use Rattle.np_machine.specs.Plan.{outcome_of}
-use Rattle.np_machine.specs.Step.{judge, maker_of}
-use Rattle.np_machine.specs.State.{State}
 use Rattle.np_useful.specs.Sessions.{may_open}
 use Rattle.np_useful.specs.Rows.{request_is, node_is, is_listed, is_complete, has_failed_node}
 

@@ -11,3 +11,10 @@ pub mod Settled
 pub mod Driven
 pub mod Planned
 pub mod Examples
+pub mod Parts
+pub mod Losses
+pub mod Ends
+pub mod Changes
+pub mod Journals
+pub mod Handles
+pub mod Clouds

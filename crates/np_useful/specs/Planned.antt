@@ -1,13 +1,7 @@
 -- events that were chosen on an older state and committed later
 use Rattle.std.specs.Prelude.{◌≡◌, ◌≤◌, ◌++◌, ◌∷◌, [], ℕ, Bool, true, false, List, length, take, is_ok}
-use Rattle.np_text.specs.declared.id.Role.{Role}
-use Rattle.np_site.specs.Configuration.{Configuration}
-use Rattle.np_event.specs.declared.event.Event.{Event}
+use Rattle.np_machine.specs.Prelude.{Configuration, Entry, Event, Role, SomeTurn, Turn, after, judge}
 use Rattle.np_event.specs.declared.event.Event.TheVariants as ev
-use Rattle.np_event.specs.declared.entry.Entry.{Entry}
-use Rattle.np_machine.specs.History.{after}
-use Rattle.np_machine.specs.Step.{judge}
-use Rattle.np_machine.specs.Turns.{Turn, SomeTurn}
 use Rattle.np_useful.specs.Useful.{IsUseful}
 
 -- a launcher's events that can be planned (own)

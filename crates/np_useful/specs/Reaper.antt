@@ -1,12 +1,7 @@
 -- which events are useful for the reaper, which has no session: one line per event
 use Rattle.std.specs.Prelude.{Bool, false, ◌||◌, not}
-use Rattle.std.specs.Option.{option_map_or}
-use Rattle.np_text.specs.declared.id.SessionId.{SessionId}
-use Rattle.np_site.specs.Configuration.{Configuration}
-use Rattle.np_event.specs.declared.event.Event.{Event}
+use Rattle.np_machine.specs.Prelude.{Configuration, Event, SessionId, State, option_map_or, session_of}
 use Rattle.np_event.specs.declared.event.Event.TheVariants as ev
-use Rattle.np_machine.specs.Tables.{session_of}
-use Rattle.np_machine.specs.State.{State}
 use Rattle.np_useful.specs.Sessions.{is_expire, is_struck_by}
 
 -- the session's party has stopped (own)

@@ -1,25 +1,9 @@
 -- which events are useful for a requester: one line per event
 use Rattle.std.specs.Prelude.{Bool, true, false, ◌==◌, ◌&&◌, ◌||◌, not, slice_get, option_and_then}
-use Rattle.std.specs.Option.{option_map_or}
-use Rattle.std.specs.List.{list_any}
-use Rattle.np_text.specs.declared.id.JobId.{JobId}
-use Rattle.np_text.specs.declared.id.NodeId.{NodeId}
-use Rattle.np_text.specs.declared.id.RequesterId.{RequesterId}
-use Rattle.np_text.specs.declared.id.Role.TheVariants.{Requester}
-use Rattle.np_text.specs.declared.word.EndAs.{EndAs}
+use Rattle.np_machine.specs.Prelude.{Configuration, EndAs, Event, Job, JobId, JobRecord, NodeId, RequestEntry, Requester, RequesterId, State, is_asked, is_fulfilled, is_in_use, is_new, is_queued, list_any, missing_handles, node_queue, option_map_or, request_in, same_role}
 use Rattle.np_text.specs.declared.word.EndAs.TheVariants as end
-use Rattle.np_site.specs.Configuration.{Configuration}
-use Rattle.np_site.specs.declared.row.Job.{Job}
-use Rattle.np_record.specs.declared.record.JobRecord.{JobRecord}
-use Rattle.np_event.specs.declared.event.Event.{Event}
 use Rattle.np_event.specs.declared.event.Event.TheVariants as ev
-use Rattle.np_machine.specs.Entries.{RequestEntry}
-use Rattle.np_machine.specs.Kinds.{is_fulfilled, is_in_use, is_new, is_asked}
-use Rattle.np_machine.specs.Tables.{is_queued, request_in, node_queue}
-use Rattle.np_machine.specs.Laws.{same_role}
-use Rattle.np_machine.specs.Tests.{missing_handles}
 use Rattle.np_machine.specs.Node.{owner_from}
-use Rattle.np_machine.specs.State.{State}
 use Rattle.np_useful.specs.Sessions.{may_open}
 use Rattle.np_useful.specs.Window.{is_in_window}
 use Rattle.np_useful.specs.Rows.{node_is, job_is, is_listed, has_some_handle}

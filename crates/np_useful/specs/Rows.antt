@@ -1,19 +1,6 @@
 -- words that the rows of several roles use
 use Rattle.std.specs.Prelude.{Bool, false, ◌==◌, is_none, slice_get}
-use Rattle.std.specs.Option.{option_map_or}
-use Rattle.std.specs.List.{list_any}
-use Rattle.np_text.specs.declared.id.PoolId.{PoolId}
-use Rattle.np_text.specs.declared.id.NodeId.{NodeId}
-use Rattle.np_text.specs.declared.id.JobId.{JobId}
-use Rattle.np_text.specs.declared.id.RequestId.{RequestId}
-use Rattle.np_site.specs.Configuration.{Configuration}
-use Rattle.np_site.specs.declared.row.Job.{Job}
-use Rattle.np_record.specs.declared.record.RequestRecord.{RequestRecord}
-use Rattle.np_record.specs.declared.record.NodeRecord.{NodeRecord}
-use Rattle.np_machine.specs.Tables.{request_in, node_in, has_handle}
-use Rattle.np_machine.specs.Reasons.{next_label, is_spent}
-use Rattle.np_machine.specs.LiveHolder.{is_node}
-use Rattle.np_machine.specs.State.{State}
+use Rattle.np_machine.specs.Prelude.{Configuration, Job, JobId, NodeId, NodeRecord, PoolId, RequestId, RequestRecord, State, has_handle, is_node, is_spent, list_any, next_label, node_in, option_map_or, request_in}
 
 -- the request exists and passes the test (own)
 abbrev pub request_is : RequestId → State → (RequestRecord → Bool) → Bool

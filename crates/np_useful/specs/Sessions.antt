@@ -1,16 +1,8 @@
 -- who acts for a role, and the faults that are planned for it
 use Rattle.std.specs.Prelude.{ℕ, ◌-◌, List, Bool, true, false, ◌==◌, ◌&&◌, not, if◌then◌else◌, Option, None, filter, drop, slice_get, nat_le}
-use Rattle.std.specs.Option.{option_map_or}
-use Rattle.std.specs.List.{list_any}
-use Rattle.np_text.specs.declared.id.SessionId.{SessionId}
-use Rattle.np_text.specs.declared.id.Role.{Role}
-use Rattle.np_site.specs.Configuration.{Configuration}
-use Rattle.np_site.specs.declared.row.Fault.{Fault}
-use Rattle.np_site.specs.declared.row.FaultKind.{FaultKind}
-use Rattle.np_site.specs.declared.row.FaultKind.TheVariants as kind
-use Rattle.np_machine.specs.Tables.{session_of, role_in}
+use Rattle.np_machine.specs.Prelude.{Configuration, Fault, FaultKind, Role, SessionId, State, list_any, option_map_or, role_in, session_of}
+use Rattle.np_config.specs.declared.row.FaultKind.TheVariants as kind
 use Rattle.np_machine.specs.Laws.{acts_of, same_role, speaks_for}
-use Rattle.np_machine.specs.State.{State}
 
 -- ## sessions
 

@@ -1,11 +1,6 @@
 -- when nothing is left to do
 use Rattle.std.specs.Prelude.{◌≡◌, Bool, true}
-use Rattle.np_text.specs.declared.id.Role.{Role}
-use Rattle.np_text.specs.declared.id.Role.TheVariants.{Launcher, Janitor, Requester, Reaper}
-use Rattle.np_site.specs.Configuration.{Configuration}
-use Rattle.np_event.specs.declared.event.Event.{Event}
-use Rattle.np_machine.specs.Session.{is_role}
-use Rattle.np_machine.specs.State.{State}
+use Rattle.np_machine.specs.Prelude.{Configuration, Event, Janitor, Launcher, Reaper, Requester, Role, State, is_role}
 use Rattle.np_useful.specs.Useful.{IsUseful}
 
 -- a role of the configuration, or the reaper (own)

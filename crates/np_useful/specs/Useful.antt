@@ -1,12 +1,6 @@
 -- which events are useful for a role
 use Rattle.std.specs.Prelude.{◌≡◌, Bool, true, Option, Some, None, is_ok}
-use Rattle.np_text.specs.declared.id.SessionId.{SessionId}
-use Rattle.np_text.specs.declared.id.Role.{Role}
-use Rattle.np_text.specs.declared.id.Role.TheVariants.{Launcher, Janitor, Requester, Reaper}
-use Rattle.np_site.specs.Configuration.{Configuration}
-use Rattle.np_event.specs.declared.event.Event.{Event}
-use Rattle.np_machine.specs.Step.{judge, maker_of}
-use Rattle.np_machine.specs.State.{State}
+use Rattle.np_machine.specs.Prelude.{Configuration, Event, Janitor, Launcher, Reaper, Requester, Role, SessionId, State, judge, maker_of}
 use Rattle.np_useful.specs.Sessions.{is_current}
 use Rattle.np_useful.specs.Launcher.{launcher_row}
 use Rattle.np_useful.specs.Requester.{requester_row}

@@ -1,14 +1,7 @@
 -- which jobs a requester works on
 use Rattle.std.specs.Prelude.{ℕ, List, Bool, false, ◌==◌, ◌&&◌, not, take, slice_get, count_by, nat_lt}
 use Rattle.std.specs.List.{zip}
-use Rattle.std.specs.Option.{option_map_or}
-use Rattle.np_text.specs.declared.id.JobId.{JobId}
-use Rattle.np_text.specs.declared.id.RequesterId.{RequesterId}
-use Rattle.np_site.specs.Configuration.{Configuration}
-use Rattle.np_site.specs.declared.row.Job.{Job}
-use Rattle.np_record.specs.declared.record.JobRecord.{JobRecord}
-use Rattle.np_machine.specs.Kinds.{is_over}
-use Rattle.np_machine.specs.State.{State}
+use Rattle.np_machine.specs.Prelude.{Configuration, Job, JobId, JobRecord, RequesterId, State, is_over, option_map_or}
 
 -- each job as the configuration has it and as the machine keeps it, in order (own)
 abbrev pub jobs_of : Configuration → State → List (Job × JobRecord)

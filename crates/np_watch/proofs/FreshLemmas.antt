@@ -3,21 +3,9 @@ use Rattle.std.proofs.Common.{◌≡◌, ℕ, ◌≤◌, ◌<◌, Bool, true, fa
 use Rattle.std.specs.Prelude.{◌&&◌, max, nat_le}
 use Rattle.std.specs.Option.{option_and_then, option_map}
 use Rattle.std.proofs.lemmas.Bool.Decides.{nat_tests}
-use Rattle.np_path.specs.Parts.{parent_of}
-use Rattle.np_nodes.specs.TreeState.{TreeState}
-use Rattle.np_nodes.specs.Nodes.{at_path, stat_of}
-use Rattle.np_nodes.specs.declared.node.Node.{Node}
-use Rattle.np_nodes.specs.declared.kind.Stat.{Stat}
-use Rattle.np_tree.specs.Read.{stat_at}
+use Rattle.np_tree.specs.Prelude.{Node, TreeState, at_path, parent_of, stat_at, stat_of}
 use Rattle.np_watch.specs.Fresh.{IsFreshPath, StaleIsLater, TestSaysFresh, is_fresh, is_listed_by, is_written_by, stat_above}
-
-both-true : (a b : Bool) → (a && b) ≡ true → (a ≡ true) × (b ≡ true)
-both-true true true is = (refl, refl)
-both-true true false is = absurd cc
-both-true false b is = absurd cc
-
-and-true : (a b : Bool) → a ≡ true → b ≡ true → (a && b) ≡ true
-and-true a b first second = rw (first, second) refl
+use Rattle.std.proofs.lemmas.Bool.{and_parts, and_from}
 
 module _ (t : TreeState) (z : ℕ) where
   -- the node of a path that was listed at z or before
@@ -44,7 +32,7 @@ module _ (t : TreeState) (z : ℕ) where
 
   fresh-from : (path : List ℕ) → is_fresh t z path ≡ true → IsFreshPath z t path
   fresh-from path is =
-      let both = both-true (is_listed_by z (stat_above t path)) (is_written_by z (stat_at t path)) is in
+      let both = and_parts (is_listed_by z (stat_above t path)) (is_written_by z (stat_at t path)) is in
       fresh-from-by path (parent_of path) refl both.0 both.1
 
   written-by : (path : List ℕ) (o : Option Node) → at_path t.nodes path ≡ o → ((n : Node) → at_path t.nodes path ≡ Some n → n.facts.mzxid ≤ z) → is_written_by z (option_map (stat_of t.nodes) o) ≡ true
@@ -56,7 +44,7 @@ module _ (t : TreeState) (z : ℕ) where
 
   fresh-to : (path : List ℕ) → IsFreshPath z t path → is_fresh t z path ≡ true
   fresh-to path fresh =
-      and-true (is_listed_by z (stat_above t path)) (is_written_by z (stat_at t path))
+      and_from (is_listed_by z (stat_above t path)) (is_written_by z (stat_at t path))
       (ap (λ o. is_listed_by z (option_and_then (stat_at t) o)) fresh.above
       ∙ ap (λ o. is_listed_by z (option_map (stat_of t.nodes) o)) fresh.fresh.parent.1
       ∙ listed-by fresh.fresh.parent.0 fresh.fresh.parent.2)

@@ -2,8 +2,7 @@
 use Rattle.std.proofs.Common.{◌≡◌, ℕ, suc, ◌<◌, Bool, true, false, not, cond, List, [], ◌∷◌, length, filter, find, Option, Some, None, refl, ap, arith}
 use Rattle.std.specs.Prelude.{option_map}
 use Rattle.std.proofs.lemmas.Bool.Decides.{nat_tests}
-use Rattle.np_lists.specs.Change.{remove_first}
-use Rattle.np_lists.specs.Rising.{NonePass, Rises}
+use Rattle.np_tree.specs.Prelude.{NonePass, Rises, remove_first}
 use Rattle.np_lists.proofs.Each.{all-find, all-insert_before, all-remove_first, all-weaker, length-insert_before, length-remove_first}
 use Rattle.np_watch.specs.Keys.{key_transitive}
 use Rattle.np_watch.specs.Watching.{AreWatches, has_key, key_before, with_watch}

@@ -1,12 +1,8 @@
 -- paths that are as they were at a change
 use Rattle.std.specs.Prelude.{◌≡◌, ◌<◌, ℕ, nat_le, max, Bool, true, false, ◌&&◌, ◌↔◌, List, Option, Some, None}
-use Rattle.std.specs.List.{AllByRecursion}
+use Rattle.np_tree.specs.Prelude.{AllByRecursion, Stat, TreeState, parent_of, stat_at}
 use Rattle.std.specs.Option.{option_and_then}
-use Rattle.np_path.specs.Parts.{parent_of}
-use Rattle.np_nodes.specs.TreeState.{TreeState}
-use Rattle.np_nodes.specs.declared.kind.Stat.{Stat}
-use Rattle.np_tree.specs.Read.{stat_at}
-use Rattle.np_views.specs.Dates.{IsFresh}
+use Rattle.np_tree.specs.Dates.{IsFresh}
 
 -- the node above a path has the children that it had at z, and the node at the path, if there is one, the bytes (own;
 -- ZooKeeper Programmer's Guide, Stat: a change of the children sets pzxid, one of the bytes mzxid)

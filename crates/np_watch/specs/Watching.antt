@@ -1,9 +1,6 @@
 -- watches, in the order of their keys
 use Rattle.std.specs.Prelude.{ℕ, ◌==◌, ◌≤◌, nat_le, nat_lt, Bool, not, ◌&&◌, List, length}
-use Rattle.std.specs.List.{list_any}
-use Rattle.np_lists.specs.Change.{insert_before}
-use Rattle.np_lists.specs.Rising.{Rises}
-use Rattle.np_nodes.specs.TreeState.{TreeState}
+use Rattle.np_tree.specs.Prelude.{Rises, TreeState, insert_before, list_any}
 use Rattle.np_watch.specs.Fresh.{is_fresh}
 use Rattle.np_watch.specs.declared.watch.Watch.{Watch}
 

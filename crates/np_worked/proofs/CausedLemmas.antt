@@ -1,16 +1,9 @@
 -- a request that failed without an accepted decline has no cause
 use Rattle.std.proofs.Common.{◌≡◌, refl, true, false, ap, sym, ◌∙◌, List, [], ◌∷◌, None, Bool, inl, inr}
 use Rattle.std.specs.Prelude.{◌&&◌, Contains}
-use Rattle.np_text.specs.declared.id.PoolId.{PoolId}
-use Rattle.np_text.specs.declared.id.RequestId.{RequestId}
-use Rattle.np_text.specs.declared.word.Reason.{Reason}
-use Rattle.np_site.specs.Configuration.{Configuration}
-use Rattle.np_record.specs.declared.record.RequestRecord.{RequestRecord}
-use Rattle.np_event.specs.declared.event.Event.{Event}
+use Rattle.np_machine.specs.Prelude.{Configuration, EachTurn, Event, HasCause, IsTrueDecline, PoolId, Reason, RequestId, RequestRecord, SomeTurn, Turn, is_done}
 use Rattle.np_event.specs.declared.event.Event.TheVariants as ev
 use Rattle.np_machine.specs.declared.state.Registration.{Registration}
-use Rattle.np_machine.specs.Turns.{Turn, SomeTurn, EachTurn, is_done}
-use Rattle.np_machine.specs.Caused.{IsTrueDecline, HasCause}
 
 -- the event is a decline
 abbrev pub is_decline : Event → Bool

@@ -1,18 +1,11 @@
 -- a node's age counts from its last change; and what its record says along the way
 use Rattle.std.specs.Prelude.{ℕ, List, [], ◌∷◌, Option}
-use Rattle.std.specs.Option.{option_map}
+use Rattle.np_machine.specs.Prelude.{Configuration, Entry, Fate, PoolId, Role, after, node_in, option_map, request_in, role_in}
 use Rattle.np_text.specs.declared.word.EndAs.TheVariants as end
 use Rattle.np_text.specs.declared.word.Phase.TheVariants as phase
-use Rattle.np_text.specs.declared.id.PoolId.{PoolId}
-use Rattle.np_text.specs.declared.id.Role.{Role}
-use Rattle.np_site.specs.Configuration.{Configuration}
 use Rattle.np_event.specs.declared.event.Event.TheVariants as ev
 use Rattle.np_event.specs.declared.event.Outcome.TheVariants as outcome
-use Rattle.np_event.specs.declared.entry.Entry.{Entry}
 use Rattle.np_event.specs.declared.reply.Done.TheVariants as done
-use Rattle.np_machine.specs.Tables.{node_in, request_in, role_in}
-use Rattle.np_machine.specs.History.{after}
-use Rattle.np_machine.specs.Fates.{Fate}
 use Rattle.np_machine.specs.Fates as fate
 use Rattle.np_worked.specs.Site.{session, node, job, request, launcher, requester, plain_site, line}
 

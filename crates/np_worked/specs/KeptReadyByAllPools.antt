@@ -1,13 +1,11 @@
 -- a label is kept ready by all pools together, and not by each
 use Rattle.std.specs.Prelude.{List, [], ◌∷◌, codes}
 use Rattle.np_text.specs.declared.word.Phase.TheVariants as phase
-use Rattle.np_site.specs.Configuration.{Configuration}
+use Rattle.np_machine.specs.Prelude.{Configuration, Entry, Fate}
 use Rattle.np_event.specs.declared.event.Event.TheVariants as ev
 use Rattle.np_event.specs.declared.event.Outcome.TheVariants as outcome
-use Rattle.np_event.specs.declared.entry.Entry.{Entry}
 use Rattle.np_event.specs.declared.reply.Done.TheVariants as done
 use Rattle.np_event.specs.declared.reply.Refusal.TheVariants as no
-use Rattle.np_machine.specs.Fates.{Fate}
 use Rattle.np_machine.specs.Fates as fate
 use Rattle.np_worked.specs.Site.{session, node, job, label, request, launcher, requester, offer, a_label, a_pool, a_job, one_pool, line, refused}
 

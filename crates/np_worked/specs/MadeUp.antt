@@ -1,18 +1,12 @@
 -- journals and turns that no machine makes, each against one property
 use Rattle.std.specs.Prelude.{List, [], ◌∷◌, ◌++◌, Some, None, true, false, take}
-use Rattle.np_text.specs.declared.word.NodeState.{NodeState}
+use Rattle.np_machine.specs.Prelude.{Declined, Entry, NodeEntry, NodeState, RequestEntry, RequestState, State, Turn, start}
 use Rattle.np_text.specs.declared.word.NodeState.TheVariants as node_state
-use Rattle.np_text.specs.declared.word.RequestState.{RequestState}
 use Rattle.np_text.specs.declared.word.RequestState.TheVariants as request_state
 use Rattle.np_text.specs.declared.word.Reason.TheVariants as reason
-use Rattle.np_record.specs.declared.record.Declined.{Declined}
 use Rattle.np_event.specs.declared.event.Event.TheVariants as ev
-use Rattle.np_event.specs.declared.entry.Entry.{Entry}
 use Rattle.np_event.specs.declared.reply.Done.TheVariants as done
 use Rattle.np_event.specs.declared.reply.Refusal.TheVariants as no
-use Rattle.np_machine.specs.Entries.{RequestEntry, NodeEntry}
-use Rattle.np_machine.specs.State.{State, start}
-use Rattle.np_machine.specs.Turns.{Turn}
 use Rattle.np_worked.specs.Site.{session, node, label, job, pool, request, launcher, plain_site, line, refused}
 use Rattle.np_worked.specs.PlainPath as plain
 

@@ -1,13 +1,11 @@
 -- a job waits for room in the pool, and another for the semaphore that the first has
 use Rattle.std.specs.Prelude.{List, [], ◌∷◌, true, codes}
 use Rattle.np_text.specs.declared.word.Phase.TheVariants as phase
-use Rattle.np_site.specs.Configuration.{Configuration}
+use Rattle.np_machine.specs.Prelude.{Configuration, Entry, Fate}
 use Rattle.np_event.specs.declared.event.Event.TheVariants as ev
 use Rattle.np_event.specs.declared.event.Outcome.TheVariants as outcome
-use Rattle.np_event.specs.declared.entry.Entry.{Entry}
 use Rattle.np_event.specs.declared.reply.Done.TheVariants as done
 use Rattle.np_event.specs.declared.reply.Refusal.TheVariants as no
-use Rattle.np_machine.specs.Fates.{Fate}
 use Rattle.np_machine.specs.Fates as fate
 use Rattle.np_worked.specs.Site.{session, node, job, label, semaphore, request, launcher, requester, offer, at_most, a_pool, a_semaphore, a_job, one_pool, line, refused}
 

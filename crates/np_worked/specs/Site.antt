@@ -1,34 +1,9 @@
 -- what worked journals are made of: ids, sites and lines
 use Rattle.std.specs.Prelude.{◌≡◌, ℕ, List, [], ◌∷◌, Some, None, false, codes}
-use Rattle.np_amount.specs.declared.amount.Limit.{Limit}
-use Rattle.np_amount.specs.Amounts.{no_limit}
-use Rattle.np_text.specs.declared.id.SessionId.{SessionId}
-use Rattle.np_text.specs.declared.id.PoolId.{PoolId}
-use Rattle.np_text.specs.declared.id.LabelId.{LabelId}
-use Rattle.np_text.specs.declared.id.SemId.{SemId}
-use Rattle.np_text.specs.declared.id.TenantId.{TenantId}
-use Rattle.np_text.specs.declared.id.NodeId.{NodeId}
-use Rattle.np_text.specs.declared.id.JobId.{JobId}
-use Rattle.np_text.specs.declared.id.RequestId.{RequestId}
-use Rattle.np_text.specs.declared.id.Role.{Role}
-use Rattle.np_text.specs.declared.id.Role.TheVariants.{Launcher, Janitor, Requester}
+use Rattle.np_machine.specs.Prelude.{Configuration, Done, Entry, Event, Fate, Janitor, Job, JobId, Label, LabelId, Launcher, Limit, NodeId, Offer, Pool, PoolId, Refusal, RequestId, Requester, Role, Sem, SemId, SessionId, Tenant, TenantId, after, fates, no_limit, replayed, start}
 use Rattle.np_text.specs.declared.word.EndAs.TheVariants as end
-use Rattle.np_site.specs.Configuration.{Configuration}
-use Rattle.np_site.specs.declared.row.Label.{Label}
-use Rattle.np_site.specs.declared.row.Provider.{Provider}
-use Rattle.np_site.specs.declared.row.Offer.{Offer}
-use Rattle.np_site.specs.declared.row.Pool.{Pool}
-use Rattle.np_site.specs.declared.row.Sem.{Sem}
-use Rattle.np_site.specs.declared.row.Tenant.{Tenant}
-use Rattle.np_site.specs.declared.row.Job.{Job}
-use Rattle.np_event.specs.declared.event.Event.{Event}
-use Rattle.np_event.specs.declared.entry.Entry.{Entry}
-use Rattle.np_event.specs.declared.reply.Done.{Done}
-use Rattle.np_event.specs.declared.reply.Refusal.{Refusal}
+use Rattle.np_config.specs.declared.row.Provider.{Provider}
 use Rattle.np_event.specs.declared.reply.Reply.TheVariants as reply
-use Rattle.np_machine.specs.State.{start}
-use Rattle.np_machine.specs.History.{replayed, after}
-use Rattle.np_machine.specs.Fates.{Fate, fates}
 
 -- the machine's replies are those of the journal, and the jobs end with these fates
 pub record Plays (c : Configuration) (journal : List Entry) (ends : List Fate) : Type 0 where

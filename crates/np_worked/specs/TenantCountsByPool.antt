@@ -1,14 +1,11 @@
 -- a tenant counts what each node and each request takes of its own pool, and what a pool can never serve is declined
 use Rattle.std.specs.Prelude.{List, [], ◌∷◌, codes, Some}
-use Rattle.np_amount.specs.Amounts.{no_limit}
+use Rattle.np_machine.specs.Prelude.{Configuration, Entry, Fate, no_limit}
 use Rattle.np_text.specs.declared.word.Reason.TheVariants as reason
 use Rattle.np_text.specs.declared.word.Phase.TheVariants as phase
-use Rattle.np_site.specs.Configuration.{Configuration}
 use Rattle.np_event.specs.declared.event.Event.TheVariants as ev
-use Rattle.np_event.specs.declared.entry.Entry.{Entry}
 use Rattle.np_event.specs.declared.reply.Done.TheVariants as done
 use Rattle.np_event.specs.declared.reply.Refusal.TheVariants as no
-use Rattle.np_machine.specs.Fates.{Fate}
 use Rattle.np_machine.specs.Fates as fate
 use Rattle.np_worked.specs.Site.{session, node, job, label, request, launcher, requester, tenant, at_most, offer, a_label, a_pool, a_tenant, a_job, one_pool, line, refused}
 

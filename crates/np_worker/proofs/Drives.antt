@@ -2,20 +2,15 @@
 use Rattle.std.proofs.Common.{◌≡◌, ℕ, ◌≤◌, List, [], ◌∷◌, ◌++◌, sym, refl, ap, ◌∙◌, arith, subst, append_assoc, append-nil, true, eq-eqb}
 use Rattle.std.specs.Prelude.{Bool, ◌==◌, IsTrue, Option, Some, None, IfSome, Ok, Err}
 use Rattle.std.proofs.lemmas.Bool.{or_left, or_right}
-use Rattle.std.specs.Option.{option_map}
+use Rattle.np_changes.specs.Prelude.{Outcome, option_map}
 use Rattle.np_io.specs.Counts.{Rose}
-use Rattle.np_event.specs.declared.event.Outcome.{Outcome}
 use Rattle.np_event.specs.declared.event.Outcome.TheVariants as outcome
-use Rattle.np_cloud.specs.declared.driver.Tag.{Tag}
-use Rattle.np_cloud.specs.declared.driver.Server.{Server}
+use Rattle.np_answers.specs.Prelude.{DriverFacts, Launch, Move, Server, Tag, asked, launched, launches_of, removed}
 use Rattle.np_cloud.specs.declared.driver.LaunchFault.TheVariants as fault
-use Rattle.np_cloud.specs.Facts.{DriverFacts}
-use Rattle.np_cloud.specs.declared.driver.Launch.{Launch}
 use Rattle.np_cloud.specs.Calls.{Answers, IsAsPlanned, with_launched, without_number, KeepsCounts}
 use Rattle.np_cloud.specs.Sound.{numbers_of, is_number, Soundness, IsFull}
 use Rattle.np_answers.specs.declared.ask.Ask.{Ask}
 use Rattle.np_answers.specs.declared.ask.Turn.{Turn}
-use Rattle.np_answers.specs.Move.{Move, asked, launched, removed, launches_of}
 use Rattle.np_answers.specs.Drive.{Driving, servers_after, IsOfServer, SweepsServers, FollowsPlan, IsSoundAlone, AreSoundAlone, FailsFull, FailFull, Drives, Drove}
 use Rattle.np_worker.specs.Part.{IsOfDriver, RemovalFailed}
 use Rattle.np_answers.proofs.Traces.{launches-append, servers-append, sweeps-append, plan-append, alone-append, full-append}

@@ -1,14 +1,10 @@
 -- How the roles of a worker go on.
 use Rattle.std.proofs.Common.{◌≡◌, ◌<◌, List, refl, ◌∙◌, subst}
 use Rattle.std.specs.Prelude.{Option, Ok}
-use Rattle.np_text.specs.declared.id.PoolId.{PoolId}
-use Rattle.np_desk.specs.Pass.{Sight}
-use Rattle.np_event.specs.declared.entry.Entry.{Entry}
+use Rattle.np_changes.specs.Prelude.{Entry, PoolId}
+use Rattle.np_answers.specs.Prelude.{Driving, Drove, Move, Phase, Sight, Work, of_pool, sweeps}
 use Rattle.np_answers.specs.declared.ask.Ask.{Ask}
 use Rattle.np_answers.specs.declared.ask.Turn.{Turn}
-use Rattle.np_answers.specs.Drive.{Driving, Drove}
-use Rattle.np_answers.specs.Move.{Move}
-use Rattle.np_answers.specs.Phase.{Work, of_pool, Phase, sweeps}
 use Rattle.np_worker.specs.Part.{Part, Comes}
 use Rattle.np_worker.specs.Stage.{IsOfWork, WentOn, phase_of, steps_left}
 use Rattle.np_worker.specs.declared.next.Next.{Next}

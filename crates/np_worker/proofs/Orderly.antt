@@ -1,15 +1,10 @@
 -- The moves of a round are orderly.
 use Rattle.std.proofs.Common.{◌≡◌, ◌∙◌, ap, subst, List, ◌++◌}
 use Rattle.std.specs.Prelude.{Option, map}
-use Rattle.np_desk.specs.Pass.{Sight}
+use Rattle.np_answers.specs.Prelude.{Driving, Launch, Leads, Move, OwesRemoval, Phase, Sight, Tag, Work, first_phase, launches_of, of_pool, of_reaper, of_requester}
 use Rattle.np_event.specs.declared.entry.Entry.{Entry}
-use Rattle.np_cloud.specs.declared.driver.Tag.{Tag}
-use Rattle.np_cloud.specs.declared.driver.Launch.{Launch}
 use Rattle.np_answers.specs.declared.ask.Ask.{Ask}
 use Rattle.np_answers.specs.declared.ask.Turn.{Turn}
-use Rattle.np_answers.specs.Drive.{Driving}
-use Rattle.np_answers.specs.Move.{Move, launches_of}
-use Rattle.np_answers.specs.Phase.{Work, of_pool, of_requester, of_reaper, Phase, OwesRemoval, first_phase, Leads}
 use Rattle.np_answers.specs.Trace.{starts_of, tags_launched, owed_tags}
 use Rattle.np_answers.proofs.Ends.{is_at_end, ends_where_full}
 use Rattle.np_answers.proofs.Gained.{walk_gains}

@@ -1,25 +1,15 @@
 -- Parts of a round one after the other.
 use Rattle.std.proofs.Common.{◌≡◌, ℕ, ◌+◌, List, [], ◌∷◌, ◌++◌, length, sym, refl, ap, arith, subst, length-append, inr, cond}
 use Rattle.std.specs.Prelude.{Option, Some, None, Result, Ok, Err, IfSome}
-use Rattle.np_text.specs.declared.memory.NoMemory.{NoMemory}
-use Rattle.np_desk.specs.Pass.{Sight}
-use Rattle.np_desk.specs.Turned.{Answered, Unturned, Records, Turned}
+use Rattle.np_changes.specs.Prelude.{Entry, NoMemory, Outcome, PoolId}
+use Rattle.np_answers.specs.Prelude.{Answered, Driving, Drove, IsOfServer, Move, Records, Server, Sight, Tag, Turned, Unturned, WasKept, asked, launched, recorded, removed}
 use Rattle.np_desk.proofs.HistoryLemmas.{starts_same}
-use Rattle.np_event.specs.declared.entry.Entry.{Entry}
 use Rattle.np_answers.specs.declared.ask.Ask.{Ask}
 use Rattle.np_answers.specs.declared.ask.Turn.{Turn}
 use Rattle.np_answers.specs.declared.ask.Turn.TheVariants as turn
-use Rattle.np_answers.specs.Asks.{recorded}
-use Rattle.np_event.specs.declared.event.Outcome.{Outcome}
-use Rattle.np_cloud.specs.declared.driver.Tag.{Tag}
-use Rattle.np_answers.specs.Move.{Move, asked, launched, removed}
 use Rattle.np_answers.specs.Phase.{Phase, MayAsk, MayLaunch, MayRemove, Leads, after_turn, after_launch, after_removal, after_sweep, sweeps, owes_swept, rests, is_unwanted, OwesRemoval, Work}
-use Rattle.np_cloud.specs.declared.driver.Server.{Server}
-use Rattle.np_text.specs.declared.id.PoolId.{PoolId}
 use Rattle.np_worker.specs.declared.next.Next.{Next}
 use Rattle.np_worker.specs.declared.next.Next.TheVariants as next
-use Rattle.np_answers.specs.Drive.{Driving, Drove, IsOfServer}
-use Rattle.np_answers.specs.Trace.{WasKept}
 use Rattle.np_worker.specs.Part.{Part, Comes, Goes, Counts, entry_count, IsOfDriver, RemovalEnds, SweepsOne, SweepsAll, IsDealtWith, is_full}
 use Rattle.np_worker.specs.Round.{EndsAs, Rests}
 use Rattle.np_worker.proofs.Sweeps.{are_kept_after}
@@ -140,14 +130,6 @@ if_some (Some x) P h = h x
 pub of_no_server : (a : Ask) → ((s : List Server) → IsOfServer a s) → (d : Option Driving) → IsOfDriver a d
 of_no_server a h None = tt
 of_no_server a h (Some d) = if_some d.facts.servers (IsOfServer a) h
-
--- the same without removals
-pub goes_on : (go go' idle : Phase) (n : Next) (trace trace' : List Move) (to : Phase)
-    → (n ≡ next.Go → ⊥) → Goes go idle (Ok n) trace to → Goes go' idle (Ok n) trace' to
-goes_on go go' idle next.Go trace trace' to h l = absurd (h refl)
-goes_on go go' idle next.Idle trace trace' to h l = l
-goes_on go go' idle next.Full trace trace' to h l = l
-goes_on go go' idle next.Failed trace trace' to h l = l
 
 -- a removal and what it comes to
 module _ {F : Type 0} {answers : F → List Entry → Ask → Turn → Type 0} {f : F} where

@@ -1,21 +1,15 @@
 -- Rounds, by the kind of worker.
 use Rattle.std.proofs.Common.{◌≡◌, List, sym, subst}
 use Rattle.std.specs.Prelude.{ℕ, Bool, Option, None, Result}
-use Rattle.np_text.specs.declared.id.RequesterId.{RequesterId}
+use Rattle.np_changes.specs.Prelude.{Entry, NoMemory, Outcome, RequesterId}
 use Rattle.np_text.specs.declared.id.Role.TheVariants as role
-use Rattle.np_text.specs.declared.memory.NoMemory.{NoMemory}
-use Rattle.np_desk.specs.Pass.{Sight}
-use Rattle.np_event.specs.declared.entry.Entry.{Entry}
-use Rattle.np_event.specs.declared.event.Outcome.{Outcome}
-use Rattle.np_cloud.specs.declared.driver.Tag.{Tag}
-use Rattle.np_cloud.specs.Facts.{DriverFacts}
+use Rattle.np_answers.specs.Prelude.{DriverFacts, Sight, Tag, acting, first_phase, of_reaper, of_requester}
 use Rattle.np_answers.specs.declared.ask.Ask.{Ask}
 use Rattle.np_answers.specs.declared.ask.Turn.{Turn}
 use Rattle.np_worker.specs.declared.worker.RoundEnd.{RoundEnd}
 use Rattle.np_worker.specs.declared.worker.Worker.{Worker}
 use Rattle.np_worker.specs.declared.worker.Worker.TheVariants as worker
 use Rattle.np_worker.specs.Part.{Part}
-use Rattle.np_answers.specs.Phase.{acting, first_phase, of_requester, of_reaper}
 use Rattle.np_worker.specs.Round.{EndsAs, work_of, driving_of}
 
 module _ {F : Type 0} {answers : F → List Entry → Ask → Turn → Type 0} {f : F} {D : Type 0} (facts : D → DriverFacts) (plan : D → Tag → Option Outcome) (sound : D → List ℕ → Bool) (room : D → ℕ) where

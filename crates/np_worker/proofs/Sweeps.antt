@@ -1,26 +1,17 @@
 -- The servers that were asked about, the last first.
 use Rattle.std.proofs.Common.{◌≡◌, ℕ, zero, suc, ◌≤◌, inl, inr, List, [], ◌∷◌, ◌++◌, length, get_or, drop, sym, refl, ap, arith, subst, Bool, true, false, cond, eq-eqb}
 use Rattle.std.specs.Prelude.{Option, Some, None, IfSome, All, filter, not, ◌==◌, slice_get}
-use Rattle.std.specs.List.{AllByRecursion}
-use Rattle.std.specs.Option.{option_map}
+use Rattle.np_changes.specs.Prelude.{AllByRecursion, PoolId, option_map}
 use Rattle.std.proofs.lemmas.List.Elements.{All-from_recursion, Contains-append_left, Contains-append_right}
-use Rattle.np_text.specs.declared.id.PoolId.{PoolId}
-use Rattle.np_cloud.specs.declared.driver.Server.{Server}
-use Rattle.np_cloud.specs.Calls.{without_number}
+use Rattle.np_answers.specs.Prelude.{Driving, Move, Server, WasKept, asked, without_number}
 use Rattle.np_answers.specs.declared.ask.Ask.TheVariants as ask
-use Rattle.np_answers.specs.Move.{Move, asked}
-use Rattle.np_answers.specs.Drive.{Driving}
-use Rattle.np_answers.specs.Trace.{WasKept}
 use Rattle.np_worker.specs.Part.{AreKept, IsDealtWith}
+use Rattle.np_lists.proofs.Plain.{by_bool}
 
 -- the servers from a place on were asked about and kept
 abbrev pub KeptFrom : PoolId → List Move → ℕ → Option (List Server) → Type 0
 KeptFrom pool trace n None = Unit {0}
 KeptFrom pool trace n (Some s) = AllByRecursion (WasKept pool trace) (drop n s)
-
-by_bool : (P : Bool → Type 0) (b : Bool) → (b ≡ true → P true) → (b ≡ false → P false) → P b
-by_bool P true t f = t refl
-by_bool P false t f = f refl
 
 all_weaker : (P Q : Server → Type 0) → ((x : Server) → P x → Q x) → (xs : List Server) → AllByRecursion P xs → AllByRecursion Q xs
 all_weaker P Q w [] h = tt

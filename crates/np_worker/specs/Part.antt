@@ -1,24 +1,14 @@
 -- a part of a round
 use Rattle.std.specs.Prelude.{◌≡◌, ◌⊎◌, ℕ, ◌+◌, length, List, [], ◌∷◌, All, Bool, true, false, Option, Some, None, IfSome, Result, Ok, Err}
-use Rattle.std.specs.Option.{option_map}
+use Rattle.np_changes.specs.Prelude.{Entry, NoMemory, PoolId, option_map}
 use Rattle.np_io.specs.Counts.{Rose}
-use Rattle.np_text.specs.declared.memory.NoMemory.{NoMemory}
-use Rattle.np_desk.specs.Pass.{Sight}
-use Rattle.np_event.specs.declared.entry.Entry.{Entry}
-use Rattle.np_cloud.specs.declared.driver.Server.{Server}
-use Rattle.np_cloud.specs.Calls.{without_number}
-use Rattle.np_text.specs.declared.id.PoolId.{PoolId}
+use Rattle.np_answers.specs.Prelude.{Drives, Driving, Drove, IsOfServer, Leads, Move, OwesRemoval, Phase, Server, Sight, Walk, WasKept, after_turn, asked, removed, without_number}
 use Rattle.np_answers.specs.declared.ask.Ask.{Ask}
 use Rattle.np_answers.specs.declared.ask.Turn.{Turn}
 use Rattle.np_answers.specs.declared.ask.Turn.TheVariants as turn
 use Rattle.np_worker.specs.declared.next.Next.{Next}
 use Rattle.np_worker.specs.declared.next.Next.TheVariants as next
-use Rattle.np_answers.specs.Drive.{Driving, Drives, Drove, IsOfServer}
-use Rattle.np_answers.specs.Move.{Move, asked, removed}
-use Rattle.np_answers.specs.Phase.{Phase, Leads, OwesRemoval, after_turn}
 use Rattle.np_answers.specs.Phase as phase
-use Rattle.np_answers.specs.Trace.{WasKept}
-use Rattle.np_answers.specs.Walk.{Walk}
 
 -- how many entries a turn made (own)
 abbrev pub entry_count : Turn → ℕ

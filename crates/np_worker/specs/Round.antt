@@ -1,16 +1,11 @@
 -- what a round came to
 use Rattle.std.specs.Prelude.{◌≡◌, ◌⊎◌, ℕ, Bool, List, MatchBool, Option, Some, None, Result, Ok, Err}
-use Rattle.np_text.specs.declared.memory.NoMemory.{NoMemory}
-use Rattle.np_cloud.specs.declared.driver.Tag.{Tag}
-use Rattle.np_cloud.specs.Facts.{DriverFacts}
-use Rattle.np_event.specs.declared.event.Outcome.{Outcome}
+use Rattle.np_changes.specs.Prelude.{NoMemory, Outcome}
+use Rattle.np_answers.specs.Prelude.{DriverFacts, Driving, Move, OwesRemoval, Phase, Tag, Work, driving, ended, of_pool, of_reaper, of_requester, rests, sweeps}
 use Rattle.np_worker.specs.declared.worker.RoundEnd.{RoundEnd}
 use Rattle.np_worker.specs.declared.worker.Worker.{Worker}
 use Rattle.np_worker.specs.declared.worker.Worker.TheVariants as worker
-use Rattle.np_answers.specs.Drive.{Driving, driving}
-use Rattle.np_answers.specs.Move.{Move}
 use Rattle.np_worker.specs.Part.{RemovalFailed, AreKept}
-use Rattle.np_answers.specs.Phase.{Work, of_pool, of_requester, of_reaper, Phase, sweeps, rests, ended, OwesRemoval}
 
 -- a round that was not cut off: all servers were asked about, or a removal failed (own)
 abbrev pub Rests : Work → Option Driving → Option Driving → List Move → Phase → Type 0

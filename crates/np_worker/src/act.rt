@@ -2,9 +2,7 @@
 
 ghost use Rattle.std.specs.Prelude.{◌≡◌, ◌+◌, IfOk, Option};
 ghost use Rattle.np_event.specs.declared.entry.Entry.{Entry};
-ghost use Rattle.np_answers.specs.Asks.{recorded};
-ghost use Rattle.np_answers.specs.Drive.{Driving};
-ghost use Rattle.np_answers.specs.Phase.{Work, Phase, MayAsk, acting, rests};
+ghost use Rattle.np_answers.specs.Prelude.{Driving, MayAsk, Phase, Work, acting, recorded, rests};
 ghost use Rattle.np_worker.specs.Part.{Counts, entry_count, Part, Came, Goes, IsOfDriver};
 ghost use Rattle.np_worker.specs.Stage.{IsLone, IsOfWork, Reaches, WentFar, phase_of, player};
 

@@ -2,9 +2,7 @@
 
 ghost use Rattle.std.specs.Prelude.{◌≡◌, IfOk, Some};
 ghost use Rattle.np_text.specs.declared.id.Role.TheVariants.{Launcher};
-ghost use Rattle.np_answers.specs.Asks.{recorded};
-ghost use Rattle.np_answers.specs.Drive.{driving};
-ghost use Rattle.np_answers.specs.Phase.{Work, acting, sweeps};
+ghost use Rattle.np_answers.specs.Prelude.{Work, acting, driving, recorded, sweeps};
 ghost use Rattle.np_worker.specs.Part.{Counts, Part, Comes};
 ghost use Rattle.np_worker.specs.Stage.{IsOfWork, WentOn, phase_of};
 

@@ -1,10 +1,8 @@
 //! The sweep of a driver's servers.
 
 ghost use Rattle.std.specs.Prelude.{◌≡◌, ◌≤◌, length, Contains, IfOk, IfSome, Some};
-ghost use Rattle.np_answers.specs.Asks.{recorded};
-ghost use Rattle.np_answers.specs.Drive.{driving};
+ghost use Rattle.np_answers.specs.Prelude.{driving, is_unwanted, recorded, sweeps};
 ghost use Rattle.np_worker.specs.Part.{Counts, Part, SweepsOne, SweepsAll};
-ghost use Rattle.np_answers.specs.Phase.{sweeps, is_unwanted};
 
 use crate::act::take_turn;
 use crate::driver::remove_server;

@@ -2,10 +2,8 @@
 
 ghost use Rattle.std.specs.Prelude.{◌≡◌, ℕ, ◌+◌, length, IfOk, Some};
 ghost use Rattle.np_text.specs.declared.id.Role.TheVariants.{Launcher};
-ghost use Rattle.np_answers.specs.Asks.{recorded};
-ghost use Rattle.np_answers.specs.Drive.{driving};
+ghost use Rattle.np_answers.specs.Prelude.{acting, driving, first_phase, recorded};
 ghost use Rattle.np_worker.specs.Part.{Counts, Part, SweepsAll, is_full};
-ghost use Rattle.np_answers.specs.Phase.{acting, first_phase};
 ghost use Rattle.np_worker.specs.Moves.{HasMoves};
 ghost use Rattle.np_worker.specs.Round.{EndsAs, work_of, driving_of};
 

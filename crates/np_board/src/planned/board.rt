@@ -1,9 +1,7 @@
 //! The board.
 
 ghost use Rattle.std.specs.Prelude.{◌≡◌, ◌↔◌, [], true, IfOk, None, OnErr, length, replicate};
-ghost use Rattle.np_machine.specs.History.{Runs};
-ghost use Rattle.np_machine.specs.State.{start};
-ghost use Rattle.np_fits.specs.Fits.{IsFitSite};
+ghost use Rattle.np_changes.specs.Prelude.{IsFitSite, Runs, start};
 ghost use Rattle.np_layout.specs.Decoded.{decoded};
 ghost use Rattle.np_keeper.specs.Keeper.{Holds, IsHeld};
 ghost use Rattle.np_rules.specs.Running as running;

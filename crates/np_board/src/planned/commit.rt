@@ -1,8 +1,7 @@
 //! What a commit tests.
 
 ghost use Rattle.std.specs.Prelude.{◌≡◌, ◌≤◌, ◌<◌, true, length, IfSome, MatchOption, None, find, option_and_then, slice_get, if◌then◌else◌};
-ghost use Rattle.std.specs.Option.{is_some};
-ghost use Rattle.np_lists.specs.Change.{remove_first};
+ghost use Rattle.np_changes.specs.Prelude.{is_some, remove_first};
 ghost use Rattle.np_watch.specs.Fresh.{AreFreshPaths};
 ghost use Rattle.np_watch.specs.Watching.{is_fired};
 ghost use Rattle.np_planned.specs.Spots.{paths_at};

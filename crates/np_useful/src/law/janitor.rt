@@ -1,6 +1,6 @@
 //! A janitor's rows.
 
-ghost use Rattle.np_site.specs.declared.row.FaultKind.TheVariants as kind;
+ghost use Rattle.np_config.specs.declared.row.FaultKind.TheVariants as kind;
 ghost use Rattle.np_event.specs.declared.event.Event.TheVariants as ev;
 ghost use Rattle.np_useful.specs.Useful.{IsUseful};
 ghost use Rattle.np_useful.specs.Examples.{IsUseless, HasReplies, after_first, other_pool, left_alone_site};

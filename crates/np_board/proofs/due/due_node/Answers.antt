@@ -1,14 +1,14 @@
 use Rattle.std.proofs.Common.{◌<◌, length, sym, arith, below_more}
 use Rattle.np_look.specs.Readers.{queued_nodes}
-use Rattle.np_roles.proofs.Places.{some-there}
 use Rattle.np_board.proofs.DueLemmas.{IsNotDueAt, not-due-at, none-left}
 use Rattle.np_board.proofs.due.due_node.Goals as goal
+use Rattle.np_lists.proofs.Plain.{not-past}
 
 pub returns-in_default : goal.returns-in_default
 returns-in_default g c =
     let nodes = queued_nodes c.args.session (g.L.Look.state c.args.look.now) in
     let within : c.loop-at.at < length nodes = omega (arith, c.queued_nodes-at-end.ensures, c.loop-at-test.true) in
-    absurd (some-there nodes c.loop-at.at within (sym c.in_default.ensures))
+    absurd (not-past nodes c.loop-at.at within (sym c.in_default.ensures))
 
 pub loop-at-preserved : goal.loop-at-preserved
 loop-at-preserved g c =

@@ -1,4 +1,4 @@
-use Rattle.np_fits.proofs.Sites.{sound_fits}
+use Rattle.np_changes.proofs.Sites.{sound_fits}
 use Rattle.np_rules.proofs.RunLemmas.{RunsOn-fits, RunsOn-reached}
 use Rattle.np_board.proofs.reading.machine_of_tree.Goals as goal
 

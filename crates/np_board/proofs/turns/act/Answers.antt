@@ -4,7 +4,7 @@ use Rattle.std.proofs.lemmas.Result.{IfOk-weaker}
 use Rattle.np_rules.proofs.First.{Runs-first}
 use Rattle.np_rules.proofs.RunLemmas.{RunsOn-fits, RunsOn-reached}
 use Rattle.np_board.proofs.TurnLemmas.{act-taken, idle-taken}
-use Rattle.np_views.proofs.LaterLemmas.{later-than-itself}
+use Rattle.np_tree.proofs.LaterLemmas.{later-than-itself}
 use Rattle.np_board.proofs.turns.act.Goals as goal
 
 pub choose-requires-clause-reached : goal.choose-requires-clause-reached

@@ -6,7 +6,7 @@ use Rattle.np_roles.proofs.Currents.{current-has}
 use Rattle.np_answers.specs.Answers.{IsNotKept}
 use Rattle.np_rules.proofs.First.{Runs-first}
 use Rattle.np_board.proofs.TurnLemmas.{kept-taken, swept-taken, sweep-taken}
-use Rattle.np_views.proofs.LaterLemmas.{later-than-itself}
+use Rattle.np_tree.proofs.LaterLemmas.{later-than-itself}
 use Rattle.np_board.proofs.turns.sweep.Goals as goal
 
 pub returns-in_default-clause-turn : goal.returns-in_default-clause-turn

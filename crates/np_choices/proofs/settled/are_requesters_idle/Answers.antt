@@ -1,6 +1,5 @@
 use Rattle.std.proofs.Common.{◌≡◌, ◌<◌, ℕ, true, refl, arith, below_more}
-use Rattle.np_text.specs.declared.id.Role.TheVariants.{Requester}
-use Rattle.np_text.specs.declared.limit.TheConstants.{REQUESTERS}
+use Rattle.np_changes.specs.Prelude.{REQUESTERS, Requester}
 use Rattle.np_choices.specs.Idle.{IsIdle}
 use Rattle.np_choices.proofs.settled.are_requesters_idle.Goals as goal
 

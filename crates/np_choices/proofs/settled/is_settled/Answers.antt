@@ -1,6 +1,5 @@
 use Rattle.std.proofs.Common.{◌≡◌, ◌∙◌, true, subst}
-use Rattle.np_site.specs.Configuration.{Configuration}
-use Rattle.np_site.specs.Sound.{IsSound}
+use Rattle.np_changes.specs.Prelude.{Configuration, IsSound}
 use Rattle.np_choices.proofs.Settles.{all-idle, settled-pools, settled-requesters, settled-reaper}
 use Rattle.np_choices.proofs.settled.is_settled.Goals as goal
 use Rattle.np_choices.proofs.settled.is_settled.Goals.{then-are_pools_idle, else-are_pools_idle}

@@ -1,5 +1,6 @@
 use Rattle.std.proofs.Common.{◌≡◌}
-use Rattle.np_keys.specs.Prelude.{is_id_before, request_view, same_request}
+use Rattle.np_changes.specs.Prelude.{is_id_before, same_request}
+use Rattle.np_look.specs.Views.{request_view}
 use Rattle.np_classes.specs.Placed.{placed_request_view}
 use Rattle.np_classes.proofs.Rebuilt.{made}
 use Rattle.np_classes.proofs.members.all_requests.Given as goal

@@ -1,6 +1,6 @@
 use Rattle.std.proofs.Common.{◌∙◌, ap}
 use Rattle.std.specs.Prelude.{List, map}
-use Rattle.np_keys.specs.Prelude.{NodeId, RequestId}
+use Rattle.np_changes.specs.Prelude.{NodeId, RequestId}
 use Rattle.np_classes.specs.Placed.{past_node, past_queue, past_request}
 use Rattle.np_classes.proofs.Listed.{is-prepared}
 use Rattle.np_classes.proofs.touched.touched_by.Goals as goal

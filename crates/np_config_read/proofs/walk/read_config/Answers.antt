@@ -1,5 +1,5 @@
 use Rattle.serde_json.specs.View.{view}
-use Rattle.np_site.specs.Sound.{IsSound}
+use Rattle.np_config.specs.Sound.{IsSound}
 use Rattle.np_config_read.proofs.Parsed.{parsed-none, parsed-some}
 use Rattle.np_config_read.proofs.WalkTakes.{configuration-takes, gives_ok}
 use Rattle.np_config_read.specs.Walk.{configuration_at, reads}

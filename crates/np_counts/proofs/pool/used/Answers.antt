@@ -1,6 +1,5 @@
 use Rattle.std.proofs.Common.{◌≡◌, ◌+◌, ap, refl, get_or, arith}
-use Rattle.np_keys.specs.Prelude.{Amount, times}
-use Rattle.np_site.specs.declared.row.Offer.{Offer}
+use Rattle.np_changes.specs.Prelude.{Amount, Offer, times}
 use Rattle.np_counts.proofs.Sums.{offer-part, offer-next, offers-all}
 use Rattle.np_counts.proofs.pool.used.Goals as goal
 

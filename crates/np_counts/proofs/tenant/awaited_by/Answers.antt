@@ -1,6 +1,6 @@
 use Rattle.std.proofs.Common.{◌∙◌, sym, subst}
-use Rattle.np_keys.specs.Prelude.{Amount, IsFew}
-use Rattle.np_awaited.proofs.Few.{awaited-few}
+use Rattle.np_changes.specs.Prelude.{Amount, IsFew}
+use Rattle.np_counts.proofs.Few.{awaited-few}
 use Rattle.np_counts.proofs.tenant.awaited_by.Goals as goal
 
 pub returns-clause-awaited : goal.returns-clause-awaited

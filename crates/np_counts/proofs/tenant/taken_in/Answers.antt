@@ -1,5 +1,5 @@
 use Rattle.std.proofs.Common.{◌∙◌, sym, subst, arith}
-use Rattle.np_keys.specs.Prelude.{Amount, IsFew}
+use Rattle.np_changes.specs.Prelude.{Amount, IsFew}
 use Rattle.np_counts.proofs.TenantLemmas.{none-in, part-in, part-few}
 use Rattle.np_counts.proofs.tenant.taken_in.Goals as goal
 

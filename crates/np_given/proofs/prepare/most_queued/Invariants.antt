@@ -1,6 +1,5 @@
 use Rattle.std.proofs.Common.{◌≤◌, suc, length, take}
-use Rattle.std.specs.List.{AllByRecursion}
-use Rattle.np_machine.specs.Tables.{node_queue}
+use Rattle.np_changes.specs.Prelude.{AllByRecursion, node_queue}
 use Rattle.np_given.proofs.prepare.most_queued.Given as goal
 
 abbrev pub invariant-loop-node : goal.invariant-loop-node

@@ -1,7 +1,6 @@
 use Rattle.std.proofs.Common.{◌≤◌, ◌∙◌, suc, ap, subst}
 use Rattle.std.specs.Prelude.{List, length, map}
-use Rattle.std.specs.List.{AllByRecursion}
-use Rattle.np_keys.specs.Prelude.{NodeId, node_queue}
+use Rattle.np_changes.specs.Prelude.{AllByRecursion, NodeId, node_queue}
 use Rattle.np_given.specs.Prepared.{placed_node}
 use Rattle.np_given.proofs.Listed.{is-prepared}
 use Rattle.np_given.proofs.prepare.prepared_by.Goals as goal

@@ -3,8 +3,9 @@ use Rattle.std.proofs.Common.{◌≡◌, ◌∙◌, sym, Some, arith}
 use Rattle.std.specs.Prelude.{slice_get}
 use Rattle.std.proofs.lemmas.Bool.{OnTrue_from, OnFalse_from}
 use Rattle.std.proofs.lemmas.Option.{get_or_from_slice_get, slice_get_within}
-use Rattle.np_groups.proofs.Search.{member-found, member-absent, none-past}
+use Rattle.np_groups.proofs.Search.{member-found, member-absent}
 use Rattle.np_groups.proofs.groups.is_at.Goals as goal
+use Rattle.np_lists.proofs.Plain.{past-end}
 
 pub returns-in-Some-clause-yes : goal.returns-in-Some-clause-yes
 returns-in-Some-clause-yes g c =
@@ -26,6 +27,6 @@ returns-in-Some-clause-no g c =
 
 pub returns-in-None-clause-no : goal.returns-in-None-clause-no
 returns-in-None-clause-no g c =
-    let past = none-past c.args.members.now.items c.args.at (sym c.at.ensures ∙ c.in-None.is) in
+    let past = past-end c.args.members.now.items c.args.at (sym c.at.ensures ∙ c.in-None.is) in
     member-absent g.O.Order.before g.O.Order.same g.met.O.Order.transitive g.met.O.Order.one_way g.met.O.Order.equal c.args.one c.args.members.now.items
     c.args.at c.requires.rises c.requires.point (λ within. absurd (omega arith))

@@ -1,8 +1,8 @@
 -- the ids of the inner group before the one at the place are those before the place
 use Rattle.std.proofs.Common.{◌∙◌, ℕ, arith, nat_le, sym, ap}
-use Rattle.np_groups.proofs.Search.{none-past}
 use Rattle.np_groups.proofs.MemberLemmas.{outside-rank}
 use Rattle.np_groups.proofs.ranks.is_rank_at_most.Goals as goal
+use Rattle.np_lists.proofs.Plain.{past-end}
 
 pub returns-in-Some : goal.returns-in-Some
 returns-in-Some g c = λ ranked within.
@@ -13,5 +13,5 @@ returns-in-Some g c = λ ranked within.
 
 pub returns-in-None : goal.returns-in-None
 returns-in-None g c = λ ranked within.
-    let past = none-past (g.I.Ids.ids c.args.ids.now) c.args.place (sym c.at.ensures ∙ c.in-None.is) in
+    let past = past-end (g.I.Ids.ids c.args.ids.now) c.args.place (sym c.at.ensures ∙ c.in-None.is) in
     absurd (omega arith)

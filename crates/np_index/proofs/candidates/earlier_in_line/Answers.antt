@@ -5,10 +5,11 @@ use Rattle.np_machine.specs.First.{blocking}
 use Rattle.np_open.specs.declared.ranks.Rank.{Rank}
 use Rattle.np_open.specs.Open.{IsOpenFrom, ranks_of}
 use Rattle.np_index.specs.Candidates.{may_take_up}
-use Rattle.np_index.proofs.Firsts.{beats, some-within}
+use Rattle.np_index.proofs.Firsts.{beats}
 use Rattle.np_index.proofs.WalkLemmas.{open-takes, room-told, shut-fails, start_of, walk-begins, walk-blocked, walk-ends, walk-finds, walk-goes_on, walk-late}
 use Rattle.np_index.proofs.candidates.earlier_in_line.Goals.{in-None, in-Some, in-None-best, in-Some-best, in-Some-open_record+else-is_none+else-are_alike, in_default}
 use Rattle.np_index.proofs.candidates.earlier_in_line.Goals as goal
+use Rattle.np_lists.proofs.Plain.{not-past}
 
 pub loop-place-init : goal.loop-place-init
 loop-place-init g c =
@@ -23,7 +24,7 @@ loop-place-init g c =
 
 pub returns-in_err-rank : goal.returns-in_err-rank
 returns-in_err-rank g c =
-    absurd (some-within (ranks_of c.args.line c.args.requested.now.members) c.loop-place.place (omega (arith, c.len-end.ensures, c.loop-place-test.true)) (sym c.at.ensures ∙ c.in_err-rank.was))
+    absurd (not-past (ranks_of c.args.line c.args.requested.now.members) c.loop-place.place (omega (arith, c.len-end.ensures, c.loop-place-test.true)) (sym c.at.ensures ∙ c.in_err-rank.was))
 
 pub returns-then-not-is_first : goal.returns-then-not-is_first
 returns-then-not-is_first g c =

@@ -1,6 +1,5 @@
 use Rattle.std.proofs.Common.{◌≡◌, sym, arith, Some, false, below_more}
-use Rattle.np_text.specs.declared.id.JobId.{JobId}
-use Rattle.np_text.specs.declared.id.Role.TheVariants.{Janitor}
+use Rattle.np_changes.specs.Prelude.{Janitor, JobId}
 use Rattle.np_event.specs.declared.event.Event.TheVariants as ev
 use Rattle.np_look.specs.Readers.{jobs_from}
 use Rattle.np_look.specs.Jobs.{is_job_to_finish, job_to_finish}

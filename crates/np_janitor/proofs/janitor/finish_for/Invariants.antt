@@ -1,6 +1,5 @@
 use Rattle.std.proofs.Common.{◌≡◌, ◌<◌, ℕ, Some, false}
-use Rattle.np_text.specs.declared.id.JobId.{JobId}
-use Rattle.np_text.specs.declared.id.Role.TheVariants.{Janitor}
+use Rattle.np_changes.specs.Prelude.{Janitor, JobId}
 use Rattle.np_event.specs.declared.event.Event.TheVariants as ev
 use Rattle.np_look.specs.Jobs.{job_to_finish}
 use Rattle.np_roles.specs.Passing.{passes}

@@ -1,7 +1,5 @@
 use Rattle.std.proofs.Common.{◌∙◌, ℕ, sym, subst, arith, below_more}
-use Rattle.np_text.specs.declared.id.Role.TheVariants.{Janitor}
-use Rattle.np_site.specs.Configuration.{Configuration}
-use Rattle.np_site.specs.Sound.{IsSound}
+use Rattle.np_changes.specs.Prelude.{Configuration, IsSound, Janitor}
 use Rattle.np_roles.specs.Choices.{NoneReleased}
 use Rattle.np_janitor.proofs.ReleaseLemmas.{none-found, release-none}
 use Rattle.np_janitor.proofs.janitor.first_release_of_all.Goals as goal

@@ -1,6 +1,6 @@
 use Rattle.std.proofs.Common.{◌≡◌, ◌<◌, ◌-◌, ℕ, length, Some, None}
 use Rattle.std.specs.Prelude.{slice_get}
-use Rattle.np_site.specs.declared.row.Fault.{Fault}
+use Rattle.np_config.specs.declared.row.Fault.{Fault}
 use Rattle.np_janitor.specs.Struck.{strike_by}
 use Rattle.np_janitor.proofs.reaper.first_strike.Given as goal
 

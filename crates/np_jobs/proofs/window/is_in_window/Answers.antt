@@ -1,5 +1,5 @@
 use Rattle.std.proofs.Common.{◌≡◌, ◌∙◌, ◌+◌, ◌-◌, sym, ap, arith}
-use Rattle.np_site.specs.Configuration.{Configuration}
+use Rattle.np_config.specs.Configuration.{Configuration}
 use Rattle.np_useful.specs.Window.{window_of}
 use Rattle.np_jobs.proofs.WindowLemmas.{over-outside, last-none, last-some}
 use Rattle.np_jobs.proofs.window.is_in_window.Goals as goal

@@ -1,9 +1,8 @@
 use Rattle.std.proofs.Common.{◌≡◌, ◌<◌, ◌∙◌, subst, ap, arith}
 use Rattle.std.proofs.lemmas.Result.{on_err_weaker, on_ok_weaker}
-use Rattle.np_nodes.specs.TreeState.{TreeState}
-use Rattle.np_views.proofs.LaterLemmas.{later-joined}
+use Rattle.np_layout.specs.Prelude.{IsStored, TreeState}
+use Rattle.np_tree.proofs.LaterLemmas.{later-joined}
 use Rattle.np_machine.specs.State.{State}
-use Rattle.np_layout.specs.Carried.{IsStored}
 use Rattle.np_layout.proofs.OneState.{trees-have-one_state}
 use Rattle.np_keeper.proofs.Enacted.{can-make, holds-made}
 use Rattle.np_keeper.proofs.Later.{later-spared}

@@ -1,6 +1,5 @@
 use Rattle.std.proofs.Common.{take}
-use Rattle.std.specs.List.{AllByRecursion}
-use Rattle.np_tree.specs.Whole.{IsPart}
+use Rattle.np_layout.specs.Prelude.{AllByRecursion, IsPart}
 use Rattle.np_keeper.proofs.range.parts_are_proper.Given as goal
 
 abbrev pub invariant-loop-part : goal.invariant-loop-part

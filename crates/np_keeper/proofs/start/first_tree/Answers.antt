@@ -1,10 +1,5 @@
 use Rattle.std.proofs.Common.{◌≡◌, ◌∙◌, length, List, ap, sym, subst, arith}
-use Rattle.std.specs.List.{list_all}
-use Rattle.np_nodes.specs.TreeState.{TreeState, new_tree}
-use Rattle.np_nodes.specs.Calls.{after_begin, with_spare}
-use Rattle.np_nodes.specs.Multi.{after_multi, after_parts, is_numbered}
-use Rattle.np_nodes.specs.declared.op.Op.{Op}
-use Rattle.np_views.specs.Several.{Goes}
+use Rattle.np_layout.specs.Prelude.{Goes, Op, TreeState, after_begin, after_multi, after_parts, is_numbered, list_all, new_tree, with_spare}
 use Rattle.np_layout.specs.First.{first_parts}
 use Rattle.np_keeper.proofs.FirstParts.{decoded-first, first-few, first-goes-spared, first-numbered, held-first}
 use Rattle.np_keeper.proofs.start.first_tree.Goals as goal

@@ -1,5 +1,5 @@
 use Rattle.std.proofs.Common.{[]}
-use Rattle.np_places.specs.declared.place.Place.TheVariants.{Nodepool, Launchers, Nodes, Requests, RequestLocks, Poolsim, Jobs, Roles, Sessions, SweptPairs, Zuul, Semaphores}
+use Rattle.np_layout.specs.declared.place.Place.TheVariants.{Nodepool, Launchers, Nodes, Requests, RequestLocks, Poolsim, Jobs, Roles, Sessions, SweptPairs, Zuul, Semaphores}
 use Rattle.np_layout.specs.First.{make}
 use Rattle.np_keeper.proofs.Made.{twelve}
 use Rattle.np_keeper.proofs.start.push_directories.Goals as goal

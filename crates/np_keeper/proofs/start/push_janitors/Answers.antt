@@ -1,5 +1,5 @@
 use Rattle.std.proofs.Common.{sym}
-use Rattle.np_places.specs.declared.place.Place.TheVariants.{JanitorRole}
+use Rattle.np_layout.specs.declared.place.Place.TheVariants.{JanitorRole}
 use Rattle.np_keeper.proofs.Made.{made-all, made-next}
 use Rattle.np_keeper.proofs.start.push_janitors.Goals as goal
 

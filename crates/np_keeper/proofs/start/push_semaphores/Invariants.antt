@@ -1,5 +1,5 @@
 use Rattle.std.proofs.Common.{◌-◌, length, []}
-use Rattle.np_places.specs.declared.place.Place.TheVariants.{Semaphore}
+use Rattle.np_layout.specs.declared.place.Place.TheVariants.{Semaphore}
 use Rattle.np_keeper.proofs.Made.{IsMade}
 use Rattle.np_keeper.proofs.start.push_semaphores.Given as goal
 

@@ -1,8 +1,6 @@
 use Rattle.std.proofs.Common.{◌≡◌, ◌∙◌, true, false, add-one, refl, sym}
 use Rattle.std.specs.Prelude.{◌&&◌, not}
-use Rattle.np_record.specs.declared.record.RequestRecord.{RequestRecord}
-use Rattle.np_machine.specs.Entries.{RequestEntry}
-use Rattle.np_machine.specs.Order.{is_pending_by}
+use Rattle.np_changes.specs.Prelude.{RequestEntry, RequestRecord, is_pending_by}
 use Rattle.np_look.specs.Views.{request_view}
 use Rattle.np_look.specs.declared.asked.RequestView.{RequestView}
 use Rattle.np_look.proofs.Walks.{any_found, any_later}

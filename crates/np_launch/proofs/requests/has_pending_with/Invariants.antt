@@ -1,8 +1,6 @@
 use Rattle.std.proofs.Common.{◌≡◌, drop}
 use Rattle.std.specs.Prelude.{◌&&◌, not}
-use Rattle.std.specs.List.{list_any}
-use Rattle.np_machine.specs.Entries.{RequestEntry}
-use Rattle.np_machine.specs.Order.{is_pending_by}
+use Rattle.np_changes.specs.Prelude.{RequestEntry, is_pending_by, list_any}
 use Rattle.np_useful.specs.Launcher.{is_to_launch}
 use Rattle.np_useful.specs.Rows.{is_listed, has_failed_node}
 use Rattle.np_launch.proofs.requests.has_pending_with.Given as goal

@@ -1,15 +1,15 @@
 use Rattle.std.proofs.Common.{◌∙◌, ◌<◌, ◌≤◌, length, sym, arith}
 use Rattle.np_look.specs.Readers.{queued_requests}
-use Rattle.np_roles.proofs.Places.{some-there}
 use Rattle.np_launch.specs.Hands.{is_in_hand_at}
 use Rattle.np_launch.proofs.Finds.{any-found, any-later, any-past}
 use Rattle.np_launch.proofs.Named.{any-in_hand}
 use Rattle.np_launch.proofs.requests.has_request_in_hand.Goals as goal
+use Rattle.np_lists.proofs.Plain.{not-past}
 
 pub returns-in_default : goal.returns-in_default
 returns-in_default g c =
     let low : c.loop-at.at < length (queued_requests c.args.session (g.L.Look.state c.args.look.now)) = omega (arith, c.queued_requests-at-end.ensures, c.loop-at-test.true) in
-    absurd (some-there (queued_requests c.args.session (g.L.Look.state c.args.look.now)) c.loop-at.at low (sym c.in_default.ensures))
+    absurd (not-past (queued_requests c.args.session (g.L.Look.state c.args.look.now)) c.loop-at.at low (sym c.in_default.ensures))
 
 pub returns-then-is_in_hand : goal.returns-then-is_in_hand
 returns-then-is_in_hand g c =

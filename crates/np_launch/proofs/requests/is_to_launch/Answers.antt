@@ -1,6 +1,5 @@
 use Rattle.std.proofs.Common.{◌∙◌, Option, false, not, sym, ap}
-use Rattle.std.specs.Option.{option_map_or}
-use Rattle.np_record.specs.declared.record.RequestRecord.{RequestRecord}
+use Rattle.np_changes.specs.Prelude.{RequestRecord, option_map_or}
 use Rattle.np_useful.specs.Rows.{has_failed_node}
 use Rattle.np_launch.proofs.Allocated.{launch-is}
 use Rattle.np_launch.proofs.requests.is_to_launch.Goals as goal

@@ -1,9 +1,10 @@
 use Rattle.std.proofs.Common.{refl, inr, arith}
 use Rattle.std.specs.Fmt.{digits}
-use Rattle.np_text.specs.Number.{ten_digits_of}
-use Rattle.np_text.specs.Request.{request_text_of}
-use Rattle.np_places.specs.Place.{path_of}
+use Rattle.np_machine.specs.Prelude.{}
+use Rattle.np_layout.specs.Place.{path_of}
 use Rattle.np_layout.proofs.laws.a_worked_tree_lays_out_its_state.Goals as goal
+use Rattle.np_text.specs.Request.{request_text_of}
+use Rattle.np_text.specs.Number.{ten_digits_of}
 
 pub returns : goal.returns
 unfolding path_of ten_digits_of request_text_of digits

@@ -1,13 +1,12 @@
 use Rattle.std.proofs.Common.{refl, Bool, true, false, List, [], ◌∷◌, codes, Option, Some, None, ℕ, ◌==◌, not, sym}
-use Rattle.std.specs.List.{list_any}
+use Rattle.np_tree.specs.Prelude.{Row, list_any}
 use Rattle.std.specs.Str.{bytes_eq}
 use Rattle.std.specs.Fmt.{digits}
-use Rattle.np_text.specs.Number.{ten_digits_of}
-use Rattle.np_text.specs.Request.{request_text_of}
-use Rattle.np_places.specs.Place.{path_of}
-use Rattle.np_views.specs.Views.{Row}
+use Rattle.np_layout.specs.Place.{path_of}
 use Rattle.np_layout.proofs.Refute.{refute}
 use Rattle.np_layout.proofs.laws.other_trees_do_not.Goals as goal
+use Rattle.np_text.specs.Request.{request_text_of}
+use Rattle.np_text.specs.Number.{ten_digits_of}
 
 abbrev is_named_owner : ℕ → Option ℕ → Bool
 is_named_owner session None = false

@@ -1,7 +1,5 @@
 use Rattle.std.proofs.Common.{◌≡◌, List, ℕ, [], ◌∷◌, ◌++◌, Ok, sym, ap, ◌∙◌}
-use Rattle.np_nodes.specs.After.{after_create}
-use Rattle.np_nodes.specs.Answer.{create_answer}
-use Rattle.np_nodes.specs.declared.kind.Mode.TheVariants.{EphemeralSequential}
+use Rattle.np_tree.specs.Prelude.{EphemeralSequential, after_create, create_answer}
 use Rattle.np_lock.specs.Calls.{join_answer}
 use Rattle.np_lock.specs.Queue.{wait_path}
 use Rattle.np_lock.proofs.JoinLemmas.{Joins-accepted, queue-joined}

@@ -1,8 +1,7 @@
 use Rattle.std.proofs.Common.{◌≡◌, ◌+◌, sym, ◌∙◌, ap, arith}
-use Rattle.np_amount.specs.declared.amount.Amount.{Amount}
-use Rattle.np_fits.specs.Fits.{AmountFits}
-use Rattle.np_look.proofs.CountLemmas.{total_more}
+use Rattle.np_changes.specs.Prelude.{Amount, AmountFits}
 use Rattle.np_look.proofs.count.amount_of_all.Goals as goal
+use Rattle.np_amount.proofs.Sums.{total_more}
 
 pub loop-label-preserved : goal.loop-label-preserved
 loop-label-preserved c =

@@ -1,6 +1,5 @@
 use Rattle.std.proofs.Common.{◌≡◌, ◌≤◌, ◌*◌, map, take}
-use Rattle.np_amount.specs.Amounts.{total}
-use Rattle.np_machine.specs.Count.{amount_of}
+use Rattle.np_changes.specs.Prelude.{amount_of, total}
 use Rattle.np_look.proofs.count.amount_of_all.Given as goal
 
 abbrev pub invariant-loop-label : goal.invariant-loop-label

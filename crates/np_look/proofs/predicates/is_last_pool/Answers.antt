@@ -1,7 +1,6 @@
 use Rattle.std.proofs.Common.{◌≡◌, ◌∙◌, sym, refl, true, false, add-one}
 use Rattle.std.specs.Prelude.{◌||◌, ◌==◌}
-use Rattle.np_machine.specs.declared.state.Registration.{Registration}
-use Rattle.np_machine.specs.Order.{is_declined_by}
+use Rattle.np_changes.specs.Prelude.{Registration, is_declined_by}
 use Rattle.np_look.proofs.Walks.{all_here}
 use Rattle.np_look.proofs.predicates.is_last_pool.Goals as goal
 

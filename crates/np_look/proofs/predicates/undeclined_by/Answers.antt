@@ -1,7 +1,6 @@
 use Rattle.std.proofs.Common.{◌≡◌, sym, refl, cond, add-one, arith}
 use Rattle.std.specs.Prelude.{not}
-use Rattle.np_machine.specs.declared.state.Registration.{Registration}
-use Rattle.np_machine.specs.Order.{is_declined_by}
+use Rattle.np_changes.specs.Prelude.{Registration, is_declined_by}
 use Rattle.np_look.proofs.Walks.{count_here, as_it_is}
 use Rattle.np_look.proofs.predicates.undeclined_by.Goals as goal
 

@@ -1,8 +1,7 @@
 use Rattle.std.proofs.Common.{◌≡◌, ◌<◌, ◌∙◌, sym, refl, true, false, add-one, length, arith, None}
 use Rattle.std.specs.Prelude.{slice_get}
 use Rattle.std.proofs.lemmas.Option.{slice_get_within}
-use Rattle.np_text.specs.declared.id.SessionId.{SessionId}
-use Rattle.np_machine.specs.Tables.{node_queue, is_session}
+use Rattle.np_changes.specs.Prelude.{SessionId, is_session, node_queue}
 use Rattle.np_look.proofs.Walks.{any_found, any_later, any_past, as_it_is}
 use Rattle.np_look.proofs.Seen.{is-session, not-session, queue-fits}
 use Rattle.np_look.proofs.predicates.waits_at_node.Goals as goal

@@ -1,6 +1,6 @@
 use Rattle.std.proofs.Common.{◌≡◌, ◌<◌, sym, subst, length, Some, None, arith}
 use Rattle.std.specs.Prelude.{slice_get}
-use Rattle.np_keys.specs.Prelude.{Configuration, IsSound}
+use Rattle.np_changes.specs.Prelude.{Configuration, IsSound}
 use Rattle.np_lookups.proofs.Made.{made-over, made-unowned, made-before, made-more}
 use Rattle.np_lookups.proofs.unfinished.list_unfinished.Goals as goal
 

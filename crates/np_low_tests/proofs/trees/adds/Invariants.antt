@@ -1,6 +1,5 @@
 use Rattle.std.proofs.Common.{◌≡◌, true}
-use Rattle.std.specs.List.{list_all}
-use Rattle.np_nodes.specs.Multi.{is_numbered}
+use Rattle.np_layout.specs.Prelude.{is_numbered, list_all}
 use Rattle.np_low_tests.proofs.trees.adds.Given as goal
 
 abbrev pub invariant-loop-call : goal.invariant-loop-call

@@ -1,14 +1,15 @@
 use Rattle.std.proofs.Common.{◌≡◌, ◌∙◌, ◌+◌, ℕ, List, Some, length, take, ap, subst, arith}
 use Rattle.std.specs.Prelude.{slice_get}
-use Rattle.np_site.specs.Configuration.{Configuration}
+use Rattle.np_config.specs.Configuration.{Configuration}
 use Rattle.np_open.specs.declared.moves.Past.{Past}
 use Rattle.np_open.specs.Moves.{AreBy, passes_moved}
-use Rattle.np_open.proofs.NoteLemmas.{move-next, room-next, there-from, take-all}
+use Rattle.np_open.proofs.NoteLemmas.{move-next, room-next}
 use Rattle.np_open.proofs.moves.move_all.Goals as goal
+use Rattle.np_lists.proofs.Plain.{there-at, take-all}
 
 pub loop-past-preserved : goal.loop-past-preserved
 loop-past-preserved g c =
-    let there : slice_get c.args.moved.now c.loop-past.past-index ≡ Some c.past-item.result = there-from c.args.moved.now c.loop-past.past-index c.past-item.result c.loop-past-test.true c.past-item.is in
+    let there : slice_get c.args.moved.now c.loop-past.past-index ≡ Some c.past-item.result = there-at c.args.moved.now c.loop-past.past-index c.past-item.result c.loop-past-test.true c.past-item.is in
     let pools : c.pools_of-pools.result ≡ length (g.R.Rows.site c.args.rows.now).pools = c.pools_of-pools.ensures ∙ ap (λ (config : Configuration). length config.pools) c.config-config.ensures in
     record {
       members = λ passes kept are.

@@ -1,7 +1,8 @@
 use Rattle.std.proofs.Common.{◌∙◌, ◌<◌, List, length, refl, sym, ap, subst, arith}
 use Rattle.std.specs.Prelude.{slice_get}
 use Rattle.np_groups.specs.declared.groups.Member.{Member}
-use Rattle.np_keys.specs.Prelude.{Configuration, request_view}
+use Rattle.np_config.specs.Configuration.{Configuration}
+use Rattle.np_look.specs.Views.{request_view}
 use Rattle.np_look.proofs.Walks.{none_there}
 use Rattle.np_open.specs.declared.ranks.Rank.{Rank}
 use Rattle.np_open.specs.Lines.{line_of}

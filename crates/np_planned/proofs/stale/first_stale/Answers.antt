@@ -3,9 +3,9 @@ use Rattle.np_lists.proofs.Each.{all-from_at}
 use Rattle.np_watch.specs.Fresh.{IsFreshPath, is_fresh}
 use Rattle.np_watch.proofs.FreshLemmas.{test-says-fresh}
 use Rattle.np_planned.specs.Stale.{is_stale}
-use Rattle.np_planned.proofs.Firsts.{first-at, fresh-none, item-at, stale-later, stale-some, there-at}
-use Rattle.np_planned.proofs.Known.{within}
+use Rattle.np_planned.proofs.Firsts.{first-at, fresh-none, item-at, stale-later, stale-some}
 use Rattle.np_planned.proofs.stale.first_stale.Goals as goal
+use Rattle.np_lists.proofs.Plain.{there-at, within}
 
 pub returns-in-Some-clause-answer : goal.returns-in-Some-clause-answer
 returns-in-Some-clause-answer g c =

@@ -1,6 +1,5 @@
 use Rattle.std.proofs.Common.{true, List, ap, subst, sym}
-use Rattle.np_event.specs.declared.entry.Entry.{Entry}
-use Rattle.np_site.specs.Configuration.{Configuration}
+use Rattle.np_changes.specs.Prelude.{Configuration, Entry}
 use Rattle.np_answers.proofs.LegalLemmas.{Runs-legal}
 use Rattle.np_driven.specs.Players.{HaveDrivenAs}
 use Rattle.np_rounds.specs.Crews.{players_of}

@@ -1,5 +1,5 @@
 use Rattle.std.proofs.Common.{true, ◌∙◌, sym, subst}
-use Rattle.np_site.specs.Configuration.{Configuration}
+use Rattle.np_config.specs.Configuration.{Configuration}
 use Rattle.np_driven.specs.Players.{HaveDrivenAs}
 use Rattle.np_rounds.specs.Crews.{players_of}
 use Rattle.np_rounds.specs.Played.{IsDriven, Stops}

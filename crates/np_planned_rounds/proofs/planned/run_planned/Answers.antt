@@ -1,6 +1,5 @@
 use Rattle.std.proofs.Common.{◌∙◌, refl, inl, true, List, map, ap, sym, subst}
-use Rattle.np_site.specs.Configuration.{Configuration}
-use Rattle.np_event.specs.declared.entry.Entry.{Entry}
+use Rattle.np_changes.specs.Prelude.{Configuration, Entry}
 use Rattle.np_driven.specs.Players.{HaveDrivenAs}
 use Rattle.np_rounds.specs.Crews.{Terms, terms_of, players_of}
 use Rattle.np_rounds.specs.Played.{IsDriven}

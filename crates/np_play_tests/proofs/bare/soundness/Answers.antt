@@ -1,5 +1,5 @@
-use Rattle.np_fits.proofs.FitsRuns.{Fits-Runs}
-use Rattle.np_fits.proofs.Sites.{sound_fits}
+use Rattle.np_changes.proofs.FitsRuns.{Fits-Runs}
+use Rattle.np_changes.proofs.Sites.{sound_fits}
 use Rattle.np_play_tests.proofs.bare.soundness.Goals as goal
 
 pub returns-clause-fits : goal.returns-clause-fits

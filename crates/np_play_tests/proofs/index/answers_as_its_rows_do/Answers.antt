@@ -1,4 +1,4 @@
-use Rattle.np_fits.specs.Fits.{Fits}
+use Rattle.np_changes.specs.Fits.{Fits}
 use Rattle.np_rules.proofs.RunLemmas.{RunsOn-fits}
 use Rattle.np_play_tests.proofs.index.answers_as_its_rows_do.Goals as goal
 

@@ -1,6 +1,5 @@
 use Rattle.std.proofs.Common.{◌≡◌, ◌∙◌, sym, ap}
-use Rattle.np_site.specs.Configuration.{Configuration}
-use Rattle.np_fits.specs.Fits.{Fits}
+use Rattle.np_changes.specs.Prelude.{Configuration, Fits}
 use Rattle.np_rules.proofs.RunLemmas.{RunsOn-fits}
 use Rattle.np_layout.specs.Decoded.{decoded}
 use Rattle.np_rules.specs.Ran.{Ran}

@@ -1,10 +1,6 @@
 use Rattle.std.proofs.Common.{◌≡◌, ℕ, [], List, ap, length}
-use Rattle.np_nodes.specs.TreeState.{TreeState}
-use Rattle.np_site.specs.Configuration.{Configuration}
-use Rattle.np_event.specs.declared.entry.Entry.{Entry}
-use Rattle.np_machine.specs.State.{State}
-use Rattle.np_machine.specs.History.{Runs}
-use Rattle.np_layout.specs.Decoded.{decoded}
+use Rattle.np_layout.specs.Prelude.{TreeState, decoded}
+use Rattle.np_changes.specs.Prelude.{Configuration, Entry, Runs, State}
 use Rattle.np_rules.specs.RunsOn.{RunsOn}
 use Rattle.np_rules.proofs.RunLemmas.{RunsOn-after}
 use Rattle.np_play_tests.proofs.restored.read_back.Goals as goal

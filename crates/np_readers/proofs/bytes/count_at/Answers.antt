@@ -1,5 +1,5 @@
 use Rattle.std.proofs.Common.{◌∙◌, ap, List, ℕ, length}
-use Rattle.np_views.specs.Views.{rows_at}
+use Rattle.np_tree.specs.Views.{rows_at}
 use Rattle.np_readers.proofs.bytes.count_at.Goals as goal
 
 pub returns : goal.returns

@@ -1,8 +1,6 @@
 use Rattle.std.proofs.Common.{◌≡◌, ◌∙◌, sym, ap, true, false, List, ℕ}
-use Rattle.std.specs.List.{list_any}
-use Rattle.np_views.specs.Views.{rows_at}
-use Rattle.np_places.specs.Place.{path_of}
-use Rattle.np_places.specs.declared.place.Place.TheVariants.{NodeLock}
+use Rattle.np_layout.specs.Prelude.{list_any, path_of, rows_at}
+use Rattle.np_layout.specs.declared.place.Place.TheVariants.{NodeLock}
 use Rattle.np_readers.proofs.QueueRows.{is_waiting, node-queued}
 use Rattle.np_readers.proofs.queues.queued_node.Goals as goal
 

@@ -1,9 +1,7 @@
 use Rattle.std.proofs.Common.{◌≡◌, ◌∙◌, ◌≤◌, sym, ap, List, ℕ, length, add-one, arith}
 use Rattle.std.specs.Prelude.{slice_get}
-use Rattle.np_text.specs.declared.id.NodeId.{NodeId}
-use Rattle.np_views.specs.Views.{rows_at}
-use Rattle.np_machine.specs.Entries.{NodeEntry}
-use Rattle.np_machine.specs.Tables.{is_queued}
+use Rattle.np_changes.specs.Prelude.{NodeEntry, NodeId, is_queued}
+use Rattle.np_tree.specs.Views.{rows_at}
 use Rattle.np_readers.proofs.QueueRows.{nodes-counted}
 use Rattle.np_readers.proofs.Steps.{first-here, first-later, first-over, passing-past}
 use Rattle.np_readers.proofs.queues.queued_node_at.Goals as goal

@@ -1,7 +1,6 @@
 use Rattle.std.proofs.Common.{◌≡◌}
 use Rattle.std.specs.Prelude.{slice_get}
-use Rattle.np_site.specs.Configuration.{Configuration}
-use Rattle.np_machine.specs.State.{State}
+use Rattle.np_changes.specs.Prelude.{Configuration, State}
 use Rattle.np_look.specs.Readers.{queued_nodes}
 use Rattle.np_layout.specs.Carried.{IsStored}
 use Rattle.np_readers.proofs.QueueRows.{nodes_from}

@@ -1,7 +1,6 @@
 use Rattle.std.proofs.Common.{◌≡◌, ◌∙◌, ◌≤◌, ap, List, ℕ, Some, None, length, arith}
-use Rattle.np_views.specs.Views.{rows_at}
-use Rattle.np_machine.specs.Entries.{RequestEntry}
-use Rattle.np_machine.specs.Tables.{is_queued}
+use Rattle.np_tree.specs.Views.{rows_at}
+use Rattle.np_changes.specs.Prelude.{RequestEntry, is_queued}
 use Rattle.np_readers.proofs.QueueRows.{requests-counted}
 use Rattle.np_readers.proofs.Steps.{count-step, passing-past}
 use Rattle.np_readers.proofs.queues.queued_requests.Goals as goal

@@ -1,8 +1,6 @@
 use Rattle.std.proofs.Common.{◌≡◌, ◌∙◌, sym, ap, Bool, true, false, ◌||◌, drop, suc, add-one}
 use Rattle.std.specs.Prelude.{slice_get}
-use Rattle.std.specs.List.{list_any}
-use Rattle.std.specs.Option.{option_map_or}
-use Rattle.np_views.specs.Views.{rows_at}
+use Rattle.np_layout.specs.Prelude.{list_any, option_map_or, rows_at}
 use Rattle.np_readers.proofs.QueueRows.{any-step, is_waiting}
 use Rattle.np_readers.proofs.queues.waits.Goals as goal
 

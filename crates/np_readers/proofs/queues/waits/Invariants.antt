@@ -1,6 +1,5 @@
 use Rattle.std.proofs.Common.{◌≡◌, drop}
-use Rattle.std.specs.List.{list_any}
-use Rattle.np_views.specs.Views.{rows_at}
+use Rattle.np_layout.specs.Prelude.{list_any, rows_at}
 use Rattle.np_readers.proofs.QueueRows.{is_waiting}
 use Rattle.np_readers.proofs.queues.waits.Given as goal
 

@@ -1,11 +1,10 @@
 use Rattle.std.proofs.Common.{◌≡◌, ◌∙◌, ◌<◌, sym, ap, List, Some, None, true, false, length, add-one, arith}
 use Rattle.std.specs.Prelude.{slice_get}
-use Rattle.std.specs.Option.{option_copied}
+use Rattle.np_changes.specs.Prelude.{JobId, handles_of, has_handle, option_copied}
 use Rattle.std.proofs.lemmas.Option.{slice_get_within}
-use Rattle.np_text.specs.declared.id.JobId.{JobId}
-use Rattle.np_machine.specs.Tables.{handles_of, has_handle}
-use Rattle.np_readers.proofs.Holders.{are-holders, from-end, from-over, from-zero, get-none, holder-here, holder-later}
+use Rattle.np_readers.proofs.Holders.{are-holders, from-end, from-over, from-zero, holder-here, holder-later}
 use Rattle.np_readers.proofs.semaphores.handle_at.Goals as goal
+use Rattle.np_lists.proofs.Plain.{past-end}
 
 pub loop-job-init : goal.loop-job-init
 loop-job-init c = record {
@@ -58,5 +57,5 @@ pub returns : goal.returns
 returns c s stored =
     let none : slice_get c.args.config.now.jobs c.loop-job.number ≡ None = sym c.job.ensures ∙ ap option_copied c.in_default.is in
     let holders = are-holders c.args.config.now s c.args.tree.now c.args.semaphore stored in
-    let past = get-none c.args.config.now.jobs c.loop-job.number none in
+    let past = past-end c.args.config.now.jobs c.loop-job.number none in
     sym (ap (λ (jobs : List JobId). slice_get jobs c.loop-job.left) (from-end (length c.args.config.now.jobs) c.loop-job.number (handles_of c.args.semaphore s.handles) holders.exist past)) ∙ c.loop-job.invariant.rest s stored

@@ -1,7 +1,6 @@
 use Rattle.std.proofs.Common.{◌≡◌, ◌≤◌, ◌-◌, length}
 use Rattle.std.specs.Prelude.{slice_get}
-use Rattle.np_machine.specs.State.{State}
-use Rattle.np_machine.specs.Tables.{handles_of}
+use Rattle.np_changes.specs.Prelude.{State, handles_of}
 use Rattle.np_layout.specs.Carried.{IsStored}
 use Rattle.np_readers.proofs.Holders.{jobs_from}
 use Rattle.np_readers.proofs.semaphores.handle_at.Given as goal

@@ -1,6 +1,6 @@
 use Rattle.std.proofs.Common.{◌∙◌, rules}
-use Rattle.np_places.specs.Place.{IsGood}
-use Rattle.np_places.specs.declared.place.Place.TheVariants.{Semaphore}
+use Rattle.np_layout.specs.Place.{IsGood}
+use Rattle.np_layout.specs.declared.place.Place.TheVariants.{Semaphore}
 use Rattle.np_readers.proofs.HandleRows.{handles-counted}
 use Rattle.np_readers.proofs.semaphores.handles.Goals as goal
 

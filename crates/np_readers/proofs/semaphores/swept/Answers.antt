@@ -1,8 +1,6 @@
 use Rattle.std.proofs.Common.{◌∙◌, ap, List, ℕ, rules}
-use Rattle.std.specs.Option.{is_some}
-use Rattle.np_tree.specs.Read.{stat_at}
-use Rattle.np_places.specs.Place.{IsGood}
-use Rattle.np_places.specs.declared.place.Place.TheVariants.{Swept}
+use Rattle.np_layout.specs.Prelude.{IsGood, is_some, stat_at}
+use Rattle.np_layout.specs.declared.place.Place.TheVariants.{Swept}
 use Rattle.np_readers.proofs.HandleRows.{swept-there}
 use Rattle.np_readers.proofs.semaphores.swept.Goals as goal
 

@@ -1,7 +1,6 @@
 use Rattle.std.proofs.Common.{◌∙◌, arith}
-use Rattle.std.specs.Option.{option_map}
+use Rattle.np_changes.specs.Prelude.{option_map, session_of}
 use Rattle.np_spelling.specs.Spelling.{IsSession, session_text}
-use Rattle.np_machine.specs.Tables.{session_of}
 use Rattle.np_readers.proofs.Stored.{kept_of, read-none, read-some, session-bytes, session-known, session-none, session-sound, text-none, text-some}
 use Rattle.np_readers.proofs.session_table.session.Goals as goal
 

@@ -1,7 +1,6 @@
 use Rattle.std.proofs.Common.{ap, subst, List}
 use Rattle.std.specs.Prelude.{IfOk}
-use Rattle.np_event.specs.declared.event.Event.{Event}
-use Rattle.np_site.specs.Configuration.{Configuration}
+use Rattle.np_changes.specs.Prelude.{Configuration, Event}
 use Rattle.np_rules.specs.Running.{Running}
 use Rattle.np_report.specs.Played.{played}
 use Rattle.np_report.specs.Printed.{IsPrinted}

@@ -1,5 +1,5 @@
 use Rattle.std.proofs.Common.{subst}
-use Rattle.np_site.specs.Sound.{IsSound}
+use Rattle.np_config.specs.Sound.{IsSound}
 use Rattle.np_lines.proofs.ToldRuns.{told-Runs}
 use Rattle.np_report.proofs.print.parts.Goals as goal
 

@@ -1,8 +1,7 @@
 use Rattle.std.proofs.Common.{◌≡◌, ◌<◌, ◌+◌, ◌++◌, ◌∙◌, sym, ap, arith, length, append-nil, List, ℕ, Some}
 use Rattle.std.specs.Prelude.{slice_get}
-use Rattle.std.specs.Option.{option_copied}
+use Rattle.np_changes.specs.Prelude.{Configuration, option_copied}
 use Rattle.std.proofs.lemmas.Option.{slice_get_within}
-use Rattle.np_site.specs.Configuration.{Configuration}
 use Rattle.np_report.proofs.FateLines.{lines_from, lines_from-put, lines_from-end, lines_from-short}
 use Rattle.np_report.proofs.print.put_fates.Goals as goal
 

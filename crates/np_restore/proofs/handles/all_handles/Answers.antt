@@ -1,7 +1,6 @@
 use Rattle.std.proofs.Common.{◌<◌, [], length, ap, arith}
-use Rattle.np_text.specs.declared.id.JobId.{JobId}
+use Rattle.np_changes.specs.Prelude.{Configuration, JobId}
 use Rattle.np_table.specs.Roomy.{Roomy}
-use Rattle.np_site.specs.Configuration.{Configuration}
 use Rattle.np_restore.proofs.Copying.{seen_next}
 use Rattle.np_restore.proofs.handles.all_handles.Goals as goal
 

@@ -1,7 +1,6 @@
 use Rattle.std.proofs.Common.{◌∙◌, ap, arith}
-use Rattle.np_text.specs.declared.id.JobId.{JobId}
+use Rattle.np_changes.specs.Prelude.{JobId, handles_of}
 use Rattle.np_table.specs.Roomy.{Roomy}
-use Rattle.np_machine.specs.Tables.{handles_of}
 use Rattle.np_restore.proofs.Copying.{copied_next, none_missing, take_whole}
 use Rattle.np_restore.proofs.Holders.{holders_ahead}
 use Rattle.np_restore.proofs.handles.handles_of.Goals as goal

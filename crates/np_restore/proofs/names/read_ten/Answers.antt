@@ -1,6 +1,5 @@
 use Rattle.std.proofs.Common.{◌∙◌, ap, sym, arith}
-use Rattle.std.specs.Option.{option_map}
-use Rattle.np_text.specs.declared.id.RequestId.{RequestId}
+use Rattle.np_changes.specs.Prelude.{RequestId, option_map}
 use Rattle.np_restore.proofs.Ten.{ten_none, ten_told}
 use Rattle.np_restore.proofs.names.read_ten.Goals as goal
 

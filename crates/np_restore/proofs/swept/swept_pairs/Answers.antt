@@ -2,7 +2,7 @@ use Rattle.std.proofs.Common.{◌∙◌, ap, arith}
 use Rattle.std.specs.Prelude.{slice_get}
 use Rattle.np_table.specs.Roomy.{Roomy}
 use Rattle.np_machine.specs.declared.state.Swept.{Swept}
-use Rattle.np_places.specs.declared.place.Place.TheVariants.{SweptPairs}
+use Rattle.np_layout.specs.declared.place.Place.TheVariants.{SweptPairs}
 use Rattle.np_layout.specs.Decoded.{swept_at}
 use Rattle.np_layout.specs.Layout.{under}
 use Rattle.np_restore.proofs.Copying.{none_missing}

@@ -1,5 +1,5 @@
 use Rattle.std.proofs.Common.{◌≡◌}
-use Rattle.np_places.specs.declared.place.Place.TheVariants.{SweptPairs}
+use Rattle.np_layout.specs.declared.place.Place.TheVariants.{SweptPairs}
 use Rattle.np_layout.specs.Decoded.{swept_at}
 use Rattle.np_layout.specs.Layout.{under}
 use Rattle.np_layout.proofs.Order.{put_all}

@@ -1,9 +1,9 @@
 use Rattle.std.proofs.Common.{◌≡◌, ◌∙◌, ◌+◌, ◌-◌, ℕ, Bool, true, false, cond, drop, sym, ap, Some, None, arith}
 use Rattle.std.specs.Prelude.{slice_get, filter, ◌&&◌, ◌==◌}
-use Rattle.np_site.specs.declared.row.Fault.{Fault}
-use Rattle.np_machine.specs.Laws.{same_role}
-use Rattle.np_roles.proofs.Places.{within, past-all, filter-first, filter-later, next-parts}
+use Rattle.np_changes.specs.Prelude.{Fault, same_role}
+use Rattle.np_roles.proofs.Places.{filter-first, filter-later, next-parts}
 use Rattle.np_roles.proofs.session.fault_of.Goals as goal
+use Rattle.np_lists.proofs.Plain.{within, drop-past}
 
 pub returns-then-is_next : goal.returns-then-is_next
 returns-then-is_next c =
@@ -35,5 +35,5 @@ loop-fault-preserved c =
 pub returns : goal.returns
 returns c =
     let none : slice_get c.args.config.now.faults c.loop-fault.at ≡ None = sym c.in_default.ensures in
-    sym (ap (λ faults. slice_get (filter (λ (f : Fault). same_role f.role c.args.role) faults) c.loop-fault.left) (past-all c.args.config.now.faults c.loop-fault.at none))
+    sym (ap (λ faults. slice_get (filter (λ (f : Fault). same_role f.role c.args.role) faults) c.loop-fault.left) (drop-past c.args.config.now.faults c.loop-fault.at none))
     ∙ c.loop-fault.invariant.rest

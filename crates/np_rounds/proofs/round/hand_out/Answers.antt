@@ -1,6 +1,5 @@
 use Rattle.std.proofs.Common.{◌≡◌, ℕ, [], ◌∷◌, ◌++◌, suc, length, length-append, ap, ◌∙◌, sym, subst, arith}
-use Rattle.np_event.specs.declared.entry.Entry.{Entry}
-use Rattle.np_site.specs.Configuration.{Configuration}
+use Rattle.np_changes.specs.Prelude.{Configuration, Entry}
 use Rattle.np_desk.specs.Part.{first_half, second_half}
 use Rattle.np_desk.specs.Pass.{PassView}
 use Rattle.np_rounds.specs.declared.crew.Crew.{Crew}

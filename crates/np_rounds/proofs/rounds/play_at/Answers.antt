@@ -4,10 +4,11 @@ use Rattle.np_driven.specs.Hosting.{IsHosted}
 use Rattle.np_driven.proofs.Hosted.{round-hosted}
 use Rattle.np_rounds.specs.Crews.{players_of}
 use Rattle.np_rounds.specs.Played.{IsDriven, Stops, Ticks}
-use Rattle.np_rounds.proofs.Driven.{driven_round, driven_whole, driven_tick, not_false}
+use Rattle.np_rounds.proofs.Driven.{driven_round, driven_whole, driven_tick}
 use Rattle.np_rounds.proofs.Hosted.{hosted_whole, hosted_tick, workers_sound}
 use Rattle.np_rounds.proofs.Players.{same_terms}
 use Rattle.np_rounds.proofs.rounds.play_at.Goals as goal
+use Rattle.std.proofs.lemmas.Bool.{not-false}
 
 pub returns-then-together-clause-terms : goal.returns-then-together-clause-terms
 returns-then-together-clause-terms g c = same_terms false c.args.desk.now.origin.fixed c.loop.pass.seen c.play_round.new.pass.seen (players_of g.D.Driver.facts g.D.Driver.plan g.D.Driver.sound g.D.Driver.room c.loop.workers.items) (players_of g.D.Driver.facts g.D.Driver.plan g.D.Driver.sound g.D.Driver.room c.play_round.new.workers.items) c.in_ok-together.together.full c.in_ok-together.ensures.round ∙ c.loop.invariant.terms
@@ -42,7 +43,7 @@ returns-then-branch-clause-driven g c = λ had.
     let now = players_of g.D.Driver.facts g.D.Driver.plan g.D.Driver.sound g.D.Driver.room c.play_round.new.workers.items in
     driven_tick false fixed c.loop.pass.seen c.play_round.new.pass.seen c.tick.new.pass.seen before now c.in_ok-together.together.full true c.in_ok-together.ensures.round c.if-together.false
     (legal-Runs fixed c.play_round.new.pass.seen c.in_ok-together.ensures.legal) (c.loop.invariant.driven had)
-    (c.in_ok-together.ensures.moved (not_false c.in_ok-together.together.moved c.if-not-together.false))
+    (c.in_ok-together.ensures.moved (not-false c.in_ok-together.together.moved c.if-not-together.false))
     (subst (λ b. Ticks b c.play_round.new.pass.seen c.tick.new.pass.seen) c.if-branch.true c.in_ok-tick.ensures.ticks)
 
 pub returns-then-together-clause-hosted : goal.returns-then-together-clause-hosted
@@ -69,7 +70,7 @@ returns-then-branch-clause-hosted g c = λ earlier had.
     let now = players_of g.D.Driver.facts g.D.Driver.plan g.D.Driver.sound g.D.Driver.room c.play_round.new.workers.items in
     hosted_tick earlier fixed c.loop.pass.seen c.play_round.new.pass.seen c.tick.new.pass.seen before now c.in_ok-together.together.full true c.in_ok-together.ensures.round c.if-together.false
     (legal-Runs fixed c.play_round.new.pass.seen c.in_ok-together.ensures.legal) (c.loop.invariant.hosted earlier had)
-    (c.in_ok-together.ensures.moved (not_false c.in_ok-together.together.moved c.if-not-together.false))
+    (c.in_ok-together.ensures.moved (not-false c.in_ok-together.together.moved c.if-not-together.false))
     (subst (λ b. Ticks b c.play_round.new.pass.seen c.tick.new.pass.seen) c.if-branch.true c.in_ok-tick.ensures.ticks)
     (workers_sound g.D.Driver.facts g.D.Driver.plan g.D.Driver.sound g.D.Driver.room g.D.Driver.soundness c.play_round.new.workers.items)
 
@@ -85,11 +86,11 @@ loop-preserved g c =
       terms = same_terms false c.args.desk.now.origin.fixed c.loop.pass.seen c.play_round.new.pass.seen (players_of g.D.Driver.facts g.D.Driver.plan g.D.Driver.sound g.D.Driver.room c.loop.workers.items) (players_of g.D.Driver.facts g.D.Driver.plan g.D.Driver.sound g.D.Driver.room c.play_round.new.workers.items) c.in_ok-together.together.full c.in_ok-together.ensures.round ∙ c.loop.invariant.terms;
       driven = λ had. driven_tick false fixed c.loop.pass.seen c.play_round.new.pass.seen c.tick.new.pass.seen before now c.in_ok-together.together.full false c.in_ok-together.ensures.round c.if-together.false
           (legal-Runs fixed c.play_round.new.pass.seen c.in_ok-together.ensures.legal) (c.loop.invariant.driven had)
-          (c.in_ok-together.ensures.moved (not_false c.in_ok-together.together.moved c.if-not-together.false))
+          (c.in_ok-together.ensures.moved (not-false c.in_ok-together.together.moved c.if-not-together.false))
           (subst (λ b. Ticks b c.play_round.new.pass.seen c.tick.new.pass.seen) c.if-branch.false c.in_ok-tick.ensures.ticks);
       hosted = λ earlier had. hosted_tick earlier fixed c.loop.pass.seen c.play_round.new.pass.seen c.tick.new.pass.seen before now c.in_ok-together.together.full false c.in_ok-together.ensures.round c.if-together.false
           (legal-Runs fixed c.play_round.new.pass.seen c.in_ok-together.ensures.legal) (c.loop.invariant.hosted earlier had)
-          (c.in_ok-together.ensures.moved (not_false c.in_ok-together.together.moved c.if-not-together.false))
+          (c.in_ok-together.ensures.moved (not-false c.in_ok-together.together.moved c.if-not-together.false))
           (subst (λ b. Ticks b c.play_round.new.pass.seen c.tick.new.pass.seen) c.if-branch.false c.in_ok-tick.ensures.ticks)
           (workers_sound g.D.Driver.facts g.D.Driver.plan g.D.Driver.sound g.D.Driver.room g.D.Driver.soundness c.play_round.new.workers.items);
     }

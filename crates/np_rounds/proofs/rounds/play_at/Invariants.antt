@@ -1,6 +1,5 @@
 use Rattle.std.proofs.Common.{◌≡◌, false}
-use Rattle.np_desk.specs.Part.{IsWhole}
-use Rattle.np_desk.specs.Pass.{IsOf}
+use Rattle.np_answers.specs.Prelude.{IsOf, IsWhole}
 use Rattle.np_driven.specs.Players.{HaveDrivenAs}
 use Rattle.np_driven.specs.Hosting.{Earlier, HaveHosted}
 use Rattle.np_rounds.specs.Crews.{players_of}

@@ -1,5 +1,5 @@
 use Rattle.std.proofs.Common.{◌∙◌, refl, inl, false, map, ap, sym, subst}
-use Rattle.np_site.specs.Configuration.{Configuration}
+use Rattle.np_config.specs.Configuration.{Configuration}
 use Rattle.np_rules.specs.Ran.{Ran}
 use Rattle.np_answers.specs.Drive.{driving}
 use Rattle.np_driven.specs.Players.{HaveDrivenAs}

@@ -1,10 +1,7 @@
 use Rattle.std.proofs.Common.{◌≡◌, ◌∙◌, sym, ap, true, Result}
 use Rattle.std.specs.Prelude.{is_ok}
-use Rattle.np_event.specs.declared.reply.Refusal.{Refusal}
-use Rattle.np_machine.specs.Step.{judge}
+use Rattle.np_changes.specs.Prelude.{Refusal, changed, judge, plan}
 use Rattle.np_changes.specs.declared.changes.Changes.{Changes}
-use Rattle.np_changes.specs.Changes.{changed}
-use Rattle.np_changes.specs.Plan.{plan}
 use Rattle.np_changes.proofs.PlanLaws.{plan-next}
 use Rattle.np_decision.specs.Verdicts.{answer_of}
 use Rattle.np_decision.specs.declared.verdict.Verdict.{Verdict}

@@ -1,9 +1,8 @@
 use Rattle.std.proofs.Common.{◌≡◌, ◌<◌, ◌∙◌, ℕ, List, sym, ap, subst, arith, length, Some, Ok}
 use Rattle.std.proofs.lemmas.Option.{slice_get_within}
 use Rattle.std.proofs.lemmas.Result.{err_from_is_err_and}
-use Rattle.std.specs.Option.{option_copied}
+use Rattle.np_machine.specs.Prelude.{PoolId, option_copied}
 use Rattle.std.specs.Prelude.{slice_get}
-use Rattle.np_text.specs.declared.id.PoolId.{PoolId}
 use Rattle.np_static.specs.Read.{Tells, hosts_in, site_with, sites_from}
 use Rattle.np_static.specs.Site.{site_of}
 use Rattle.np_static.proofs.Sites.{hosts_in-few, said_at, sites-push, sites-tell, sites-end}

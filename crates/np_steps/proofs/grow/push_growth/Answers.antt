@@ -1,12 +1,8 @@
 use Rattle.std.proofs.Common.{◌≡◌, ◌∙◌, ◌+◌, ◌++◌, ◌∷◌, [], ℕ, Option, length, false, sym, ap, subst, arith}
-use Rattle.std.specs.Option.{option_map_or}
-use Rattle.np_spelling.specs.Spelling.{node_text, request_record_text, session_text}
-use Rattle.np_record.specs.declared.record.RequestRecord.{RequestRecord}
-use Rattle.np_machine.specs.Entries.{NodeEntry, RequestEntry}
+use Rattle.np_changes.specs.Prelude.{NodeEntry, RequestEntry, RequestRecord, option_map_or}
+use Rattle.np_layout.specs.Prelude.{make, node_parts, node_text, request_parts, request_record_text, session_text}
 use Rattle.np_changes.specs.declared.changes.Growth.{Growth}
-use Rattle.np_places.specs.declared.place.Place.TheVariants.{NodeLock, RequestLock, Session}
-use Rattle.np_layout.specs.Creates.{node_parts, request_parts}
-use Rattle.np_layout.specs.First.{make}
+use Rattle.np_layout.specs.declared.place.Place.TheVariants.{NodeLock, RequestLock, Session}
 use Rattle.np_enact.specs.Parts.{by_session, grown_parts, join_parts}
 use Rattle.np_enact.specs.Ways.{GrowthReady}
 use Rattle.np_steps.proofs.Growing.{on-ok, request-text}

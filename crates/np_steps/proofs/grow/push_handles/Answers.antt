@@ -1,11 +1,7 @@
 use Rattle.std.proofs.Common.{◌∙◌, ◌++◌, [], List, Option, subst, sym, ap}
-use Rattle.std.specs.Option.{option_map_or}
+use Rattle.np_changes.specs.Prelude.{Configuration, IsSound, Job, SemId, option_map_or}
 use Rattle.std.specs.Prelude.{slice_get}
-use Rattle.np_text.specs.declared.id.SemId.{SemId}
 use Rattle.np_nodes.specs.declared.op.Op.{Op}
-use Rattle.np_site.specs.Configuration.{Configuration}
-use Rattle.np_site.specs.Sound.{IsSound}
-use Rattle.np_site.specs.declared.row.Job.{Job}
 use Rattle.np_enact.specs.Parts.{acquire_parts}
 use Rattle.np_steps.proofs.Growing.{acquire-job, handle_parts, on-ok}
 use Rattle.np_steps.proofs.grow.push_handles.Goals as goal

@@ -1,6 +1,6 @@
 use Rattle.std.proofs.Common.{◌∙◌, ◌++◌, ◌∷◌, [], Bool, Option, cond, sym, ap}
 use Rattle.np_changes.specs.declared.changes.Maker.{Maker}
-use Rattle.np_places.specs.declared.place.Place.TheVariants.{NodeLock}
+use Rattle.np_layout.specs.declared.place.Place.TheVariants.{NodeLock}
 use Rattle.np_layout.specs.Creates.{wait_at}
 use Rattle.np_enact.specs.Parts.{by_session, join_parts}
 use Rattle.np_steps.proofs.Growing.{node-waits, on-ok}

@@ -1,11 +1,7 @@
 use Rattle.std.proofs.Common.{◌≡◌, ◌++◌, ◌∷◌, [], List, OnOk, subst, sym}
-use Rattle.np_nodes.specs.declared.op.Op.{Op}
-use Rattle.np_record.specs.declared.record.NodeRecord.{NodeRecord}
-use Rattle.np_spelling.specs.Spelling.{IsNode, node_text}
-use Rattle.np_machine.specs.Entries.{NodeEntry}
-use Rattle.np_machine.specs.Tables.{node_entry}
-use Rattle.np_places.specs.declared.place.Place.TheVariants.{Node}
-use Rattle.np_layout.specs.Sets.{set}
+use Rattle.np_layout.specs.Prelude.{IsNode, Op, node_text, set}
+use Rattle.np_changes.specs.Prelude.{NodeEntry, NodeRecord, node_entry}
+use Rattle.np_layout.specs.declared.place.Place.TheVariants.{Node}
 use Rattle.np_enact.specs.Parts.{change_parts}
 use Rattle.np_steps.specs.NodeEdits.{edited_entry}
 use Rattle.np_steps.proofs.Found.{row-none}

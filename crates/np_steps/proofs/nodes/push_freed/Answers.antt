@@ -1,8 +1,5 @@
 use Rattle.std.proofs.Common.{◌≡◌, ◌++◌, [], append-nil, Option, OnOk, List, ap, sym, subst, ◌∙◌}
-use Rattle.std.specs.Option.{option_map_or}
-use Rattle.np_text.specs.declared.id.NodeId.{NodeId}
-use Rattle.np_record.specs.declared.record.RequestRecord.{RequestRecord}
-use Rattle.np_machine.specs.Tables.{freed_from}
+use Rattle.np_changes.specs.Prelude.{NodeId, RequestRecord, freed_from, option_map_or}
 use Rattle.np_enact.specs.Parts.{each_changed}
 use Rattle.np_steps.proofs.nodes.push_freed.Goals as goal
 

@@ -1,6 +1,5 @@
 use Rattle.std.proofs.Common.{◌≡◌, ◌++◌, ℕ, List, OnOk, subst, sym}
-use Rattle.np_text.specs.declared.id.NodeId.{NodeId}
-use Rattle.np_machine.specs.Semaphore.{in_use}
+use Rattle.np_changes.specs.Prelude.{NodeId, in_use}
 use Rattle.np_changes.specs.declared.changes.NodesChange.{NodesChange}
 use Rattle.np_enact.specs.Parts.{each_changed, nodes_parts}
 use Rattle.np_steps.proofs.nodes.push_nodes.Goals as goal

@@ -1,12 +1,7 @@
 use Rattle.std.proofs.Common.{◌≡◌, List, OnOk, subst}
-use Rattle.np_nodes.specs.declared.op.Op.{Op}
-use Rattle.np_views.specs.Several.{delete_parts}
-use Rattle.np_machine.specs.Entries.{NodeEntry}
-use Rattle.np_machine.specs.Tables.{node_entry}
-use Rattle.np_places.specs.Place.{path_of}
-use Rattle.np_places.specs.declared.place.Place.TheVariants.{Node, NodeLock}
-use Rattle.np_layout.specs.Deletes.{delete, node_deletes}
-use Rattle.np_layout.specs.Layout.{under}
+use Rattle.np_layout.specs.Prelude.{Op, delete, delete_parts, node_deletes, path_of, under}
+use Rattle.np_changes.specs.Prelude.{NodeEntry, node_entry}
+use Rattle.np_layout.specs.declared.place.Place.TheVariants.{Node, NodeLock}
 use Rattle.np_enact.specs.Parts.{where_there}
 use Rattle.np_steps.proofs.Found.{parts-behind, row-none, row-some}
 use Rattle.np_steps.proofs.nodes.push_removal.Goals as goal

@@ -1,8 +1,5 @@
 use Rattle.std.proofs.Common.{◌≡◌, ◌∙◌, ◌++◌, ap, ℕ, List, Some, add-one, drop, suc}
-use Rattle.np_nodes.specs.declared.op.Op.{Op}
-use Rattle.np_tree.specs.Read.{child_name}
-use Rattle.np_views.specs.Several.{delete_parts}
-use Rattle.np_views.specs.Views.{rows_at}
+use Rattle.np_layout.specs.Prelude.{Op, child_name, delete_parts, rows_at}
 use Rattle.np_steps.proofs.ChildRows.{deletes-step}
 use Rattle.np_steps.proofs.ops.push_child_deletes.Goals as goal
 

@@ -1,6 +1,6 @@
 use Rattle.std.proofs.Common.{◌≡◌, drop}
 use Rattle.std.specs.Prelude.{find}
-use Rattle.np_views.specs.Views.{rows_at}
+use Rattle.np_tree.specs.Views.{rows_at}
 use Rattle.np_readers.proofs.QueueRows.{is_waiting}
 use Rattle.np_steps.proofs.ops.wait_name.Given as goal
 

@@ -1,8 +1,6 @@
 use Rattle.std.proofs.Common.{◌∙◌, ap, List, ℕ}
-use Rattle.std.specs.Option.{is_some, option_map}
+use Rattle.np_layout.specs.Prelude.{Row, is_some, option_map, rows_at, under}
 use Rattle.std.specs.Prelude.{find}
-use Rattle.np_views.specs.Views.{Row, rows_at}
-use Rattle.np_layout.specs.Layout.{under}
 use Rattle.np_readers.proofs.QueueRows.{is_waiting}
 use Rattle.np_steps.proofs.ChildRows.{found-any, mapped-some}
 use Rattle.np_steps.proofs.ops.waits.Goals as goal

@@ -1,8 +1,7 @@
 use Rattle.std.proofs.Common.{◌≡◌, ◌∙◌, ◌++◌, List, ap, subst, sym}
 use Rattle.std.specs.Prelude.{OnOk, slice_get}
 use Rattle.np_nodes.specs.declared.op.Op.{Op}
-use Rattle.np_site.specs.Configuration.{Configuration}
-use Rattle.np_site.specs.Sound.{IsSound}
+use Rattle.np_changes.specs.Prelude.{Configuration, IsSound}
 use Rattle.np_changes.specs.declared.changes.HandlesChange.{HandlesChange}
 use Rattle.np_enact.specs.Parts.{handles_parts}
 use Rattle.np_steps.proofs.RecordRows.{handles-read}

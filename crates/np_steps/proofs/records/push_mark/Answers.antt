@@ -1,10 +1,8 @@
 use Rattle.std.proofs.Common.{◌≡◌, ◌++◌, [], ◌∷◌, subst, sym}
 use Rattle.std.specs.Prelude.{OnOk}
-use Rattle.np_record.specs.declared.record.JobRecord.{JobRecord}
-use Rattle.np_spelling.specs.Spelling.{IsJob, job_text}
-use Rattle.np_machine.specs.Node.{with_mark}
-use Rattle.np_places.specs.declared.place.Place.TheVariants.{Job}
-use Rattle.np_layout.specs.Sets.{set}
+use Rattle.np_changes.specs.Prelude.{JobRecord, with_mark}
+use Rattle.np_layout.specs.Prelude.{IsJob, job_text, set}
+use Rattle.np_layout.specs.declared.place.Place.TheVariants.{Job}
 use Rattle.np_steps.proofs.RecordRows.{changed-sound, none-parts, there-parts}
 use Rattle.np_steps.proofs.records.push_mark.Goals as goal
 

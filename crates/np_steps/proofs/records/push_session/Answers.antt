@@ -1,11 +1,9 @@
 use Rattle.std.proofs.Common.{◌≡◌, ◌++◌, [], ◌∷◌, true, subst, sym}
 use Rattle.std.specs.Prelude.{OnOk}
-use Rattle.np_spelling.specs.Spelling.{session_text}
-use Rattle.np_machine.specs.Tables.{session_of}
-use Rattle.np_machine.specs.declared.state.SessionFacts.{SessionFacts}
+use Rattle.np_layout.specs.Prelude.{session_text, set}
+use Rattle.np_changes.specs.Prelude.{SessionFacts, session_of}
 use Rattle.np_changes.specs.declared.changes.SessionsChange.{SessionsChange}
-use Rattle.np_places.specs.declared.place.Place.TheVariants.{Session}
-use Rattle.np_layout.specs.Sets.{set}
+use Rattle.np_layout.specs.declared.place.Place.TheVariants.{Session}
 use Rattle.np_enact.specs.Parts.{session_parts}
 use Rattle.np_steps.proofs.RecordRows.{none-parts, session-role, there-parts}
 use Rattle.np_steps.proofs.records.push_session.Goals as goal

@@ -1,7 +1,7 @@
 use Rattle.std.proofs.Common.{◌≡◌, ◌++◌, ◌+◌, [], ◌∷◌, ℕ, Bool, arith, subst, sym}
 use Rattle.std.specs.Prelude.{OnOk}
 use Rattle.std.specs.Fmt.{decimal}
-use Rattle.np_places.specs.declared.place.Place.TheVariants.{Tick}
+use Rattle.np_layout.specs.declared.place.Place.TheVariants.{Tick}
 use Rattle.np_layout.specs.Sets.{set}
 use Rattle.np_enact.specs.Parts.{tick_parts}
 use Rattle.np_steps.proofs.records.push_tick.Goals as goal

@@ -1,10 +1,7 @@
 use Rattle.std.proofs.Common.{◌≡◌, ◌++◌, ◌∷◌, [], Option, OnOk, subst, sym}
-use Rattle.np_record.specs.declared.record.RequestRecord.{RequestRecord}
-use Rattle.np_spelling.specs.Spelling.{IsRequest, request_record_text}
-use Rattle.np_machine.specs.Tables.{request_in}
-use Rattle.np_changes.specs.Changes.{edited}
-use Rattle.np_places.specs.declared.place.Place.TheVariants.{Request}
-use Rattle.np_layout.specs.Sets.{set}
+use Rattle.np_changes.specs.Prelude.{RequestRecord, edited, request_in}
+use Rattle.np_layout.specs.Prelude.{IsRequest, request_record_text, set}
+use Rattle.np_layout.specs.declared.place.Place.TheVariants.{Request}
 use Rattle.np_enact.specs.Parts.{where_there}
 use Rattle.np_steps.proofs.Found.{parts-none, request-edited, request-text}
 use Rattle.np_steps.proofs.requests.push_edit.Goals as goal

@@ -1,7 +1,6 @@
 use Rattle.std.proofs.Common.{◌≡◌, ◌++◌, Option, OnOk, subst}
-use Rattle.np_record.specs.declared.record.RequestRecord.{RequestRecord}
-use Rattle.np_machine.specs.Tables.{request_in}
-use Rattle.np_places.specs.declared.place.Place.TheVariants.{RequestLock}
+use Rattle.np_changes.specs.Prelude.{RequestRecord, request_in}
+use Rattle.np_layout.specs.declared.place.Place.TheVariants.{RequestLock}
 use Rattle.np_enact.specs.Parts.{leave_parts, where_there}
 use Rattle.np_steps.proofs.Found.{parts-none, request-text}
 use Rattle.np_steps.proofs.requests.push_leaving.Goals as goal

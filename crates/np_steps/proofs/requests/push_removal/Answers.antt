@@ -1,12 +1,7 @@
 use Rattle.std.proofs.Common.{◌≡◌, List, Option, OnOk, ap, subst}
-use Rattle.np_nodes.specs.declared.op.Op.{Op}
-use Rattle.np_views.specs.Several.{delete_parts}
-use Rattle.np_record.specs.declared.record.RequestRecord.{RequestRecord}
-use Rattle.np_machine.specs.Tables.{request_in}
-use Rattle.np_places.specs.Place.{path_of}
-use Rattle.np_places.specs.declared.place.Place.TheVariants.{Request, RequestLock}
-use Rattle.np_layout.specs.Deletes.{delete, request_deletes}
-use Rattle.np_layout.specs.Layout.{under}
+use Rattle.np_layout.specs.Prelude.{Op, delete, delete_parts, path_of, request_deletes, under}
+use Rattle.np_changes.specs.Prelude.{RequestRecord, request_in}
+use Rattle.np_layout.specs.declared.place.Place.TheVariants.{Request, RequestLock}
 use Rattle.np_enact.specs.Parts.{where_there}
 use Rattle.np_steps.proofs.Found.{parts-behind, parts-none, request-text}
 use Rattle.np_steps.proofs.requests.push_removal.Goals as goal

@@ -1,6 +1,5 @@
 use Rattle.std.proofs.Common.{◌≡◌, true, drop}
-use Rattle.std.specs.List.{AllByRecursion}
-use Rattle.np_machine.specs.Semaphore.{all_with_handle}
+use Rattle.np_changes.specs.Prelude.{AllByRecursion, all_with_handle}
 use Rattle.np_tables.specs.Room.{has_place, rows_of}
 use Rattle.np_tables.proofs.handles.add_handles.Given as goal
 

@@ -1,7 +1,6 @@
 use Rattle.std.proofs.Common.{◌∙◌, ◌<◌, ◌≤◌, List, length, arith, add-one, subst}
-use Rattle.std.specs.List.{AllByRecursion}
+use Rattle.np_changes.specs.Prelude.{AllByRecursion, JobId}
 use Rattle.std.proofs.lemmas.List.{length-set, take_all}
-use Rattle.np_text.specs.declared.id.JobId.{JobId}
 use Rattle.np_lists.proofs.Each.{all-mapped}
 use Rattle.np_table.specs.Roomy.{Roomy}
 use Rattle.np_tables.proofs.HandleLemmas.{IsRoomy, roomy-more, rows_of-same}

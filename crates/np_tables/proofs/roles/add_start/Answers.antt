@@ -1,12 +1,9 @@
 use Rattle.std.proofs.Common.{◌≡◌, ◌<◌, sym, ◌∙◌, ap, arith, length, Some}
 use Rattle.std.specs.Prelude.{slice_get, slice_set}
 use Rattle.std.proofs.lemmas.Option.{slice_get-get_or}
-use Rattle.np_record.specs.declared.record.RoleRecord.{RoleRecord}
-use Rattle.np_machine.specs.Node.{one_more_start}
-use Rattle.np_machine.specs.Step.{one_more_act}
+use Rattle.np_changes.specs.Prelude.{RoleFits, RoleRecord, one_more_act, one_more_start}
 use Rattle.np_lists.proofs.ChangeLemmas.{change_at-set, change_at-past}
 use Rattle.np_lists.proofs.Each.{all-at}
-use Rattle.np_fits.specs.Fits.{RoleFits}
 use Rattle.np_tables.proofs.roles.add_start.Goals as goal
 
 abbrev started : RoleRecord → RoleRecord

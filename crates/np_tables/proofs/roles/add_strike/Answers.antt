@@ -1,11 +1,9 @@
 use Rattle.std.proofs.Common.{◌≡◌, ◌<◌, sym, ◌∙◌, ap, arith, length, Some}
 use Rattle.std.specs.Prelude.{slice_get, slice_set}
 use Rattle.std.proofs.lemmas.Option.{slice_get-get_or}
-use Rattle.np_record.specs.declared.record.RoleRecord.{RoleRecord}
-use Rattle.np_machine.specs.Session.{struck_unless}
+use Rattle.np_changes.specs.Prelude.{RoleFits, RoleRecord, struck_unless}
 use Rattle.np_lists.proofs.ChangeLemmas.{change_at-set, change_at-past}
 use Rattle.np_lists.proofs.Each.{all-at}
-use Rattle.np_fits.specs.Fits.{RoleFits}
 use Rattle.np_tables.proofs.roles.add_strike.Goals as goal
 
 pub returns-then-at-len : goal.returns-then-at-len

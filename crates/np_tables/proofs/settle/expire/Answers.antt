@@ -1,6 +1,6 @@
 use Rattle.std.proofs.Common.{◌<◌, ◌-◌, sym, ◌∙◌, ap, arith, length}
 use Rattle.std.specs.Prelude.{slice_set}
-use Rattle.np_keys.specs.Prelude.{SessionFacts, ended}
+use Rattle.np_changes.specs.Prelude.{SessionFacts, ended}
 use Rattle.np_lists.proofs.ChangeLemmas.{change_at-set, change_at-past}
 use Rattle.np_tables.proofs.settle.expire.Goals as goal
 

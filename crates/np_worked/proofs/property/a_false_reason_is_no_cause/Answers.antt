@@ -1,11 +1,7 @@
 use Rattle.std.proofs.Common.{◌≡◌, refl, arith, sym, ◌∙◌, [], ◌∷◌, true, false, inl, inr, subst₂}
-use Rattle.np_text.specs.declared.word.Reason.{Reason}
+use Rattle.np_machine.specs.Prelude.{HasCause, IsTrueDecline, Reason, RequestRecord, SomeTurn, is_true}
 use Rattle.np_text.specs.declared.word.Reason.TheVariants as reason
 use Rattle.np_text.specs.declared.word.RequestState.TheVariants as request_state
-use Rattle.np_record.specs.declared.record.RequestRecord.{RequestRecord}
-use Rattle.np_machine.specs.Reasons.{is_true}
-use Rattle.np_machine.specs.Turns.{SomeTurn}
-use Rattle.np_machine.specs.Caused.{IsTrueDecline, HasCause}
 use Rattle.np_worked.specs.MadeUp.{asked_request, with_request, false_decline}
 use Rattle.np_worked.specs.PlainPath as plain_path
 use Rattle.np_worked.specs.Site.{pool, request, session}

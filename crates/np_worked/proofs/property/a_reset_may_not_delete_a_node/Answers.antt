@@ -1,10 +1,7 @@
 use Rattle.std.proofs.Common.{◌≡◌, refl, ap, true, false, Some, inl, inr}
 use Rattle.std.specs.Prelude.{◌⊎◌}
-use Rattle.std.specs.Option.{option_map_or}
+use Rattle.np_machine.specs.Prelude.{NodeRecord, TakenBack, is_deleting, option_map_or}
 use Rattle.np_text.specs.declared.word.NodeState.TheVariants as node_state
-use Rattle.np_record.specs.declared.record.NodeRecord.{NodeRecord}
-use Rattle.np_machine.specs.Kinds.{is_deleting}
-use Rattle.np_machine.specs.Fenced.{TakenBack}
 use Rattle.np_worked.specs.MadeUp.{held_node, deleting_reset}
 use Rattle.np_worked.specs.Site.{node, request}
 use Rattle.np_worked.proofs.property.a_reset_may_not_delete_a_node.Goals as goal

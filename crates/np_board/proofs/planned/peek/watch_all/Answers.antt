@@ -1,7 +1,7 @@
 use Rattle.std.proofs.Common.{◌<◌, length, arith}
-use Rattle.np_planned.proofs.Firsts.{there-at}
 use Rattle.np_board.proofs.WatchLemmas.{set-next}
 use Rattle.np_board.proofs.planned.peek.watch_all.Goals as goal
+use Rattle.np_lists.proofs.Plain.{there-at}
 
 pub loop-place-preserved : goal.loop-place-preserved
 loop-place-preserved c =

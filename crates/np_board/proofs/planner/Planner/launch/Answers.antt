@@ -1,11 +1,6 @@
 use Rattle.std.proofs.Common.{subst}
-use Rattle.np_text.specs.declared.id.Role.TheVariants.{Launcher}
-use Rattle.np_site.specs.Configuration.{Configuration}
-use Rattle.np_event.specs.declared.entry.Entry.{Entry}
-use Rattle.np_desk.specs.Pass.{DeskView, sight_of}
-use Rattle.np_desk.specs.Turned.{Turned, Unturned}
-use Rattle.np_answers.specs.Answers.{answers, answers_also}
-use Rattle.np_answers.specs.Asks.{recorded}
+use Rattle.np_changes.specs.Prelude.{Configuration, Entry, Launcher}
+use Rattle.np_answers.specs.Prelude.{DeskView, Turned, Unturned, answers, answers_also, recorded, sight_of}
 use Rattle.np_answers.specs.declared.ask.Ask.TheVariants as asks
 use Rattle.np_board.specs.Planner.{launchers_before}
 use Rattle.np_board.proofs.PlannerLemmas.{turned-also, turned-on}

@@ -1,6 +1,5 @@
 use Rattle.std.proofs.Common.{◌≡◌}
-use Rattle.np_desk.specs.Pass.{IsOf, sight_of}
-use Rattle.np_desk.specs.Turned.{Unturned}
+use Rattle.np_answers.specs.Prelude.{IsOf, Unturned, sight_of}
 use Rattle.np_board.proofs.planner.Planner.tries.Given as goal
 
 abbrev pub invariant-loop : goal.invariant-loop

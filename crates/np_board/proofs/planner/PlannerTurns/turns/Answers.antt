@@ -1,12 +1,7 @@
 use Rattle.std.proofs.Common.{◌∙◌, Ok, sym, subst, arith}
 use Rattle.std.proofs.lemmas.Result.{err_from_is_err_and}
-use Rattle.np_site.specs.Configuration.{Configuration}
-use Rattle.np_event.specs.declared.entry.Entry.{Entry}
-use Rattle.np_useful.specs.Planned.{WasUseful}
-use Rattle.np_desk.specs.Pass.{DeskView, sight_of}
-use Rattle.np_desk.specs.Turned.{Turned}
-use Rattle.np_answers.specs.Answers.{answers_also}
-use Rattle.np_answers.specs.Asks.{recorded}
+use Rattle.np_changes.specs.Prelude.{Configuration, Entry}
+use Rattle.np_answers.specs.Prelude.{DeskView, Turned, WasUseful, answers_also, recorded, sight_of}
 use Rattle.np_board.specs.Planner.{launchers_before}
 use Rattle.np_board.proofs.PlannerLemmas.{one-more, took-part, turned-wider}
 use Rattle.np_board.proofs.planner.PlannerTurns.turns.Goals as goal

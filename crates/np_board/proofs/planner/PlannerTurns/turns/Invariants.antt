@@ -1,8 +1,5 @@
 use Rattle.std.proofs.Common.{◌≡◌}
-use Rattle.np_useful.specs.Planned.{WasUseful}
-use Rattle.np_desk.specs.Pass.{IsOf, sight_of}
-use Rattle.np_answers.specs.Answers.{answers_also}
-use Rattle.np_answers.specs.Asks.{recorded}
+use Rattle.np_answers.specs.Prelude.{IsOf, WasUseful, answers_also, recorded, sight_of}
 use Rattle.np_board.proofs.PlannerLemmas.{WentFrom}
 use Rattle.np_board.proofs.planner.PlannerTurns.turns.Given as goal
 

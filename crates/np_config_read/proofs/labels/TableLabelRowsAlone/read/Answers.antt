@@ -9,7 +9,7 @@ use Rattle.np_json.specs.Leaf.{named_at}
 use Rattle.np_json.proofs.Binds.{binds}
 use Rattle.np_json.proofs.Takes.{ok}
 use Rattle.np_lists.specs.Refusals.{◌>>=◌}
-use Rattle.np_site.specs.declared.row.Label.{Label}
+use Rattle.np_config.specs.declared.row.Label.{Label}
 use Rattle.np_config_read.specs.Keys.{label_keys}
 use Rattle.np_config_read.specs.Labels.{label_row, label_at}
 use Rattle.np_config_read.proofs.labels.TableLabelRowsAlone.read.Goals as goal

@@ -9,10 +9,10 @@ use Rattle.np_json.specs.Leaf.{named_at}
 use Rattle.np_json.proofs.Binds.{binds}
 use Rattle.np_json.proofs.Takes.{ok}
 use Rattle.np_lists.specs.Refusals.{◌>>=◌}
-use Rattle.np_site.specs.declared.row.Label.{Label}
-use Rattle.np_site.specs.declared.row.Sem.{Sem}
-use Rattle.np_site.specs.declared.row.Tenant.{Tenant}
-use Rattle.np_site.specs.declared.row.Job.{Job}
+use Rattle.np_config.specs.declared.row.Label.{Label}
+use Rattle.np_config.specs.declared.row.Sem.{Sem}
+use Rattle.np_config.specs.declared.row.Tenant.{Tenant}
+use Rattle.np_config.specs.declared.row.Job.{Job}
 use Rattle.np_config_read.specs.declared.requesters.Demand.{Demand}
 use Rattle.np_config_read.specs.declared.requesters.JobsOf.{JobsOf}
 use Rattle.np_config_read.specs.Keys.{job_keys}

@@ -1,5 +1,5 @@
 use Rattle.std.proofs.Common.{◌∙◌, ap, subst, sym}
-use Rattle.np_awaited.specs.Awaited.{first_rest}
+use Rattle.np_counts.specs.Awaited.{first_rest}
 use Rattle.np_open.specs.Prepared.{AreListed}
 use Rattle.np_classes.proofs.Noted.{classes-same}
 use Rattle.np_given.specs.Given.{AreGivenGroups}

@@ -1,6 +1,6 @@
 use Rattle.std.proofs.Common.{subst, sym}
 use Rattle.std.proofs.lemmas.Result.{on_err_weaker}
-use Rattle.np_site.specs.Sound.{IsSound}
+use Rattle.np_config.specs.Sound.{IsSound}
 use Rattle.np_layout.specs.Carried.{IsCarried}
 use Rattle.np_keeper.specs.Keeper.{Holds}
 use Rattle.np_keeper.proofs.Accepted.{may-change}

@@ -1,10 +1,6 @@
 use Rattle.std.proofs.Common.{◌≡◌, ◌∙◌, sym, ap, true, false, Some}
 use Rattle.std.specs.Prelude.{not}
-use Rattle.np_amount.specs.Amounts.{plus, fits}
-use Rattle.np_site.specs.Configuration.{Configuration}
-use Rattle.np_machine.specs.Count.{amount_of_all}
-use Rattle.np_machine.specs.Tenants.{limit_of_tenant}
-use Rattle.np_changes.specs.Asked.{new_record}
+use Rattle.np_changes.specs.Prelude.{Configuration, amount_of_all, fits, limit_of_tenant, new_record, plus}
 use Rattle.np_look.specs.Readers.{limited_tenant}
 use Rattle.np_look.proofs.Blocking.{blocks, has_room}
 use Rattle.np_look.proofs.scan.ScanLook.blocking.Goals as goal

@@ -1,8 +1,6 @@
 use Rattle.std.proofs.Common.{◌≡◌, ◌∙◌, sym, ap, true, false, Option}
 use Rattle.std.specs.Prelude.{is_some}
-use Rattle.np_text.specs.declared.id.TenantId.{TenantId}
-use Rattle.np_machine.specs.First.{blocking}
-use Rattle.np_changes.specs.Asked.{new_record}
+use Rattle.np_changes.specs.Prelude.{TenantId, blocking, new_record}
 use Rattle.np_changes.specs.declared.asked.Asked.{Asked}
 use Rattle.np_look.proofs.Seen.{best-later, best-blocked, best-found}
 use Rattle.np_look.proofs.scan.ScanLook.first_of.Goals as goal

@@ -1,14 +1,14 @@
 use Rattle.std.proofs.Common.{◌≡◌, ◌∙◌, ◌≤◌, sym, refl, ap, true, false, add-one, length, arith, None}
 use Rattle.std.specs.Prelude.{find, drop}
-use Rattle.std.specs.Option.{option_map}
+use Rattle.np_changes.specs.Prelude.{RequestEntry, option_map}
 use Rattle.std.proofs.lemmas.Option.{slice_get_past}
-use Rattle.np_machine.specs.Entries.{RequestEntry}
 use Rattle.np_look.specs.Readers.{is_unheld_pending}
 use Rattle.np_look.specs.Views.{request_view, request_seen}
 use Rattle.np_look.specs.declared.asked.RequestView.{RequestView}
-use Rattle.np_look.proofs.Walks.{found_here, found_later, drop_past}
+use Rattle.np_look.proofs.Walks.{found_here, found_later}
 use Rattle.np_look.proofs.Seen.{unheld-pending-seen}
 use Rattle.np_look.proofs.scan.ScanLook.first_unheld_pending.Goals as goal
+use Rattle.np_lists.proofs.Plain.{drop-past}
 
 pub returns-then-is_unheld_pending : goal.returns-then-is_unheld_pending
 returns-then-is_unheld_pending g c =
@@ -24,5 +24,5 @@ loop-at-preserved g c =
 pub returns : goal.returns
 returns g c =
     let past : length (g.R.Rows.state c.args.self.now.rows.now).requests ≤ c.loop-at.at = omega (arith, c.requests-at-end.ensures, c.loop-at-test.false) in
-    let none : find (is_unheld_pending c.args.pool) (drop c.loop-at.at (g.R.Rows.state c.args.self.now.rows.now).requests) ≡ None = rw (drop_past (g.R.Rows.state c.args.self.now.rows.now).requests c.loop-at.at (slice_get_past (g.R.Rows.state c.args.self.now.rows.now).requests c.loop-at.at past)) refl in
+    let none : find (is_unheld_pending c.args.pool) (drop c.loop-at.at (g.R.Rows.state c.args.self.now.rows.now).requests) ≡ None = rw (drop-past (g.R.Rows.state c.args.self.now.rows.now).requests c.loop-at.at (slice_get_past (g.R.Rows.state c.args.self.now.rows.now).requests c.loop-at.at past)) refl in
     ap (option_map (λ (e : RequestEntry). e.id)) (sym none ∙ c.loop-at.invariant)

@@ -1,7 +1,5 @@
 use Rattle.std.proofs.Common.{◌≡◌, ◌∙◌, ap, sym, refl, true, false, Option, Some, None, add-one}
-use Rattle.std.specs.Option.{option_map}
-use Rattle.np_machine.specs.Entries.{NodeEntry}
-use Rattle.np_machine.specs.Reasons.{is_spare}
+use Rattle.np_changes.specs.Prelude.{NodeEntry, is_spare, option_map}
 use Rattle.np_look.specs.Views.{node_view, node_seen}
 use Rattle.np_look.specs.declared.asked.NodeView.{NodeView}
 use Rattle.np_look.proofs.Seen.{spare-seen}

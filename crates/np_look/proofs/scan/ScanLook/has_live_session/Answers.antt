@@ -1,7 +1,6 @@
 use Rattle.std.proofs.Common.{◌≡◌, ◌∙◌, sym, true, false, add-one, refl, Some}
 use Rattle.std.specs.Prelude.{◌&&◌, slice_get}
-use Rattle.np_machine.specs.declared.state.SessionFacts.{SessionFacts}
-use Rattle.np_machine.specs.Semaphore.{is_requesters}
+use Rattle.np_changes.specs.Prelude.{SessionFacts, is_requesters}
 use Rattle.np_look.proofs.Seen.{session-there}
 use Rattle.np_look.proofs.Walks.{any_found, any_later, as_it_is}
 use Rattle.np_look.proofs.scan.ScanLook.has_live_session.Goals as goal

@@ -1,6 +1,5 @@
 use Rattle.std.proofs.Common.{◌≡◌, drop}
-use Rattle.std.specs.List.{list_any}
-use Rattle.np_machine.specs.Entries.{RequestEntry}
+use Rattle.np_changes.specs.Prelude.{RequestEntry, list_any}
 use Rattle.np_look.specs.Readers.{is_under_way_by, has_request_under_way}
 use Rattle.np_look.proofs.scan.ScanLook.has_request_under_way.Given as goal
 

@@ -1,6 +1,5 @@
 use Rattle.std.proofs.Common.{◌≡◌, drop}
-use Rattle.std.specs.List.{list_any}
-use Rattle.np_machine.specs.Reasons.{is_spare}
+use Rattle.np_changes.specs.Prelude.{is_spare, list_any}
 use Rattle.np_look.proofs.scan.ScanLook.has_spare.Given as goal
 
 abbrev pub invariant-loop-at : goal.invariant-loop-at

@@ -1,6 +1,5 @@
 use Rattle.std.proofs.Common.{◌≡◌, drop}
-use Rattle.std.specs.List.{list_any}
-use Rattle.np_machine.specs.Request.{is_spent_min_ready}
+use Rattle.np_changes.specs.Prelude.{is_spent_min_ready, list_any}
 use Rattle.np_look.proofs.scan.ScanLook.has_spent_min_ready.Given as goal
 
 abbrev pub invariant-loop-at : goal.invariant-loop-at

@@ -1,6 +1,5 @@
 use Rattle.std.proofs.Common.{◌≡◌, drop}
-use Rattle.std.specs.List.{list_any}
-use Rattle.np_machine.specs.Reasons.{is_stuck}
+use Rattle.np_changes.specs.Prelude.{is_stuck, list_any}
 use Rattle.np_look.proofs.scan.ScanLook.is_paused.Given as goal
 
 abbrev pub invariant-loop-at : goal.invariant-loop-at

@@ -1,7 +1,6 @@
-use Rattle.std.proofs.Common.{◌≡◌, ◌∙◌, ◌≤◌, sym, refl, Bool, true, false, not, add-one, length, arith, None}
+use Rattle.std.proofs.Common.{◌≡◌, ◌∙◌, ◌≤◌, sym, refl, Bool, true, false, add-one, length, arith}
 use Rattle.std.specs.Prelude.{◌&&◌}
-use Rattle.np_machine.specs.Entries.{NodeEntry}
-use Rattle.np_machine.specs.Tables.{is_queued, node_queue}
+use Rattle.np_changes.specs.Prelude.{NodeEntry, is_queued, node_queue}
 use Rattle.np_look.specs.Given.{is_given_to, is_to_leave}
 use Rattle.np_look.specs.Views.{node_view, node_seen}
 use Rattle.np_look.specs.declared.asked.NodeView.{NodeView}

@@ -1,15 +1,14 @@
-use Rattle.std.proofs.Common.{◌≡◌, ◌∙◌, ◌≤◌, sym, refl, ap, Bool, true, false, not, add-one, length, arith, None}
+use Rattle.std.proofs.Common.{◌≡◌, ◌∙◌, ◌≤◌, sym, refl, ap, Bool, true, false, add-one, length, arith, None}
 use Rattle.std.specs.Prelude.{◌&&◌, find, drop}
-use Rattle.std.specs.Option.{option_map}
+use Rattle.np_changes.specs.Prelude.{NodeEntry, is_queued, node_queue, option_map}
 use Rattle.std.proofs.lemmas.Option.{slice_get_past}
-use Rattle.np_machine.specs.Entries.{NodeEntry}
-use Rattle.np_machine.specs.Tables.{is_queued, node_queue}
 use Rattle.np_look.specs.Given.{is_given_to, is_to_lock}
 use Rattle.np_look.specs.Views.{node_view, node_seen}
 use Rattle.np_look.specs.declared.asked.NodeView.{NodeView}
-use Rattle.np_look.proofs.Walks.{found_here, found_later, drop_past}
+use Rattle.np_look.proofs.Walks.{found_here, found_later}
 use Rattle.np_look.proofs.scan.ScanLook.node_to_lock.Goals as goal
 use Rattle.np_look.proofs.scan.ScanLook.node_to_lock.Goals.{else-is_given_to-via-then-is_given_to+else-not-waits_at_node, else-is_given_to-via-else-is_given_to}
+use Rattle.np_lists.proofs.Plain.{drop-past}
 
 pub returns-then-not-waits_at_node : goal.returns-then-not-waits_at_node
 returns-then-not-waits_at_node g c =
@@ -36,5 +35,5 @@ loop-at-preserved g c =
 pub returns : goal.returns
 returns g c =
     let past : length (g.R.Rows.state c.args.self.now.rows.now).nodes ≤ c.loop-at.at = omega (arith, c.nodes-at-end.ensures, c.loop-at-test.false) in
-    let none : find (is_to_lock (g.R.Rows.site c.args.self.now.rows.now) (g.R.Rows.state c.args.self.now.rows.now) c.args.requester c.args.session) (drop c.loop-at.at (g.R.Rows.state c.args.self.now.rows.now).nodes) ≡ None = rw (drop_past (g.R.Rows.state c.args.self.now.rows.now).nodes c.loop-at.at (slice_get_past (g.R.Rows.state c.args.self.now.rows.now).nodes c.loop-at.at past)) refl in
+    let none : find (is_to_lock (g.R.Rows.site c.args.self.now.rows.now) (g.R.Rows.state c.args.self.now.rows.now) c.args.requester c.args.session) (drop c.loop-at.at (g.R.Rows.state c.args.self.now.rows.now).nodes) ≡ None = rw (drop-past (g.R.Rows.state c.args.self.now.rows.now).nodes c.loop-at.at (slice_get_past (g.R.Rows.state c.args.self.now.rows.now).nodes c.loop-at.at past)) refl in
     ap (option_map (λ (e : NodeEntry). e.id)) (sym none ∙ c.loop-at.invariant)

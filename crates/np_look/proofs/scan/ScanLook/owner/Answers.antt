@@ -1,8 +1,6 @@
 use Rattle.std.proofs.Common.{◌≡◌, ◌∙◌, ℕ, sym, ap, true, false, get_or, arith, below_more, Option}
-use Rattle.std.specs.Option.{option_map}
+use Rattle.np_changes.specs.Prelude.{is_marked, new_job, option_map}
 use Rattle.std.proofs.lemmas.Option.{slice_get_within, get_or_from_slice_get}
-use Rattle.np_machine.specs.State.{new_job}
-use Rattle.np_machine.specs.Tables.{is_marked}
 use Rattle.np_look.proofs.OwnerLemmas.{position-at, position-nowhere}
 use Rattle.np_look.proofs.scan.ScanLook.owner.Goals as goal
 

@@ -1,6 +1,5 @@
 use Rattle.std.proofs.Common.{◌≡◌, ◌<◌, ℕ, false, get_or}
-use Rattle.np_machine.specs.State.{new_job}
-use Rattle.np_machine.specs.Tables.{is_marked}
+use Rattle.np_changes.specs.Prelude.{is_marked, new_job}
 use Rattle.np_look.proofs.scan.ScanLook.owner.Given as goal
 
 abbrev pub invariant-loop-at : goal.invariant-loop-at

@@ -1,6 +1,5 @@
 use Rattle.std.proofs.Common.{◌≡◌, ◌<◌, ◌≤◌, sym, refl, cond, add-one, length, arith}
-use Rattle.np_machine.specs.Entries.{RequestEntry}
-use Rattle.np_machine.specs.Order.{is_pending_by}
+use Rattle.np_changes.specs.Prelude.{RequestEntry, is_pending_by}
 use Rattle.np_look.specs.Views.{request_view}
 use Rattle.np_look.specs.declared.asked.RequestView.{RequestView}
 use Rattle.np_look.proofs.Walks.{count_here, none_there, counted}

@@ -1,7 +1,6 @@
 use Rattle.std.proofs.Common.{◌≡◌, ◌∙◌, ◌+◌, sym, ap, refl}
 use Rattle.std.specs.Prelude.{◌==◌}
-use Rattle.np_machine.specs.Entries.{NodeEntry}
-use Rattle.np_machine.specs.Count.{amount_of}
+use Rattle.np_changes.specs.Prelude.{NodeEntry, amount_of}
 use Rattle.np_look.specs.Readers.{amount_at}
 use Rattle.np_look.specs.Views.{node_view, node_seen}
 use Rattle.np_look.specs.declared.asked.NodeView.{NodeView}

@@ -1,8 +1,6 @@
 use Rattle.std.proofs.Common.{◌≡◌, map, take}
 use Rattle.std.specs.Prelude.{filter, ◌==◌}
-use Rattle.np_amount.specs.Amounts.{total}
-use Rattle.np_machine.specs.Count.{amount_of}
-use Rattle.np_fits.specs.Fits.{IsFew}
+use Rattle.np_changes.specs.Prelude.{IsFew, amount_of, total}
 use Rattle.np_look.proofs.scan.ScanLook.used.Given as goal
 
 abbrev pub invariant-loop-at : goal.invariant-loop-at

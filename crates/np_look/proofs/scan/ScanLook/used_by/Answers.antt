@@ -1,6 +1,5 @@
 use Rattle.std.proofs.Common.{◌≡◌, ◌∙◌, ◌+◌, ◌*◌, sym, ap, refl, arith}
-use Rattle.np_machine.specs.Entries.{NodeEntry}
-use Rattle.np_machine.specs.Tenants.{is_tenant, amount_of_node, rest_of_request, is_pending_of}
+use Rattle.np_changes.specs.Prelude.{NodeEntry, amount_of_node, is_pending_of, is_tenant, rest_of_request}
 use Rattle.np_look.specs.Readers.{amount_for, rest_for}
 use Rattle.np_look.specs.Views.{node_view, node_seen, request_view, request_seen}
 use Rattle.np_look.specs.declared.asked.NodeView.{NodeView}

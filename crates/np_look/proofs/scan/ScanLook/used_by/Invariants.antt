@@ -1,8 +1,6 @@
 use Rattle.std.proofs.Common.{◌≡◌, ◌*◌, map, take}
 use Rattle.std.specs.Prelude.{filter}
-use Rattle.np_amount.specs.Amounts.{total}
-use Rattle.np_machine.specs.Tenants.{is_tenant, amount_of_node, rest_of_request, is_pending_of}
-use Rattle.np_fits.specs.Fits.{IsFew}
+use Rattle.np_changes.specs.Prelude.{IsFew, amount_of_node, is_pending_of, is_tenant, rest_of_request, total}
 use Rattle.np_look.proofs.scan.ScanLook.used_by.Given as goal
 
 abbrev pub invariant-loop-at : goal.invariant-loop-at

@@ -1,6 +1,6 @@
 use Rattle.std.proofs.Common.{sym, subst}
-use Rattle.np_keys.specs.Prelude.{Fits, IsPlanned, IsReached}
-use Rattle.np_fits.proofs.Sites.{sound_fits}
+use Rattle.np_changes.specs.Prelude.{Fits, IsPlanned, IsReached}
+use Rattle.np_changes.proofs.Sites.{sound_fits}
 use Rattle.np_tables.specs.Kept.{Kept}
 use Rattle.np_tables.specs.Queues.{AreQueuesOf}
 use Rattle.np_tables.proofs.Counts.{countable-changed}

@@ -1,6 +1,6 @@
 use Rattle.std.proofs.Common.{◌≡◌, ◌++◌, ◌∷◌, [], refl}
 use Rattle.std.specs.Prelude.{nat_lt}
-use Rattle.np_keys.specs.Prelude.{NodeEntry, insert_before}
+use Rattle.np_changes.specs.Prelude.{NodeEntry, insert_before}
 use Rattle.np_tables.proofs.Changing.{joined-none}
 use Rattle.np_tables.proofs.Fresh.{fresh-node, last-node}
 use Rattle.np_tables.proofs.vectors.Vectors.add_node.Goals as goal

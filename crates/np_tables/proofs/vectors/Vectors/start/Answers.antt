@@ -1,6 +1,5 @@
 use Rattle.std.proofs.Common.{[], List, refl}
-use Rattle.np_text.specs.declared.id.JobId.{JobId}
-use Rattle.np_machine.specs.State.{new_job, no_deeds}
+use Rattle.np_changes.specs.Prelude.{JobId, new_job, no_deeds}
 use Rattle.np_tables.proofs.StartLemmas.{replicate-map}
 use Rattle.np_tables.proofs.vectors.Vectors.start.Goals as goal
 

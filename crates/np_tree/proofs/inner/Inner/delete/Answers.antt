@@ -1,6 +1,5 @@
 use Rattle.std.proofs.Common.{Result, Ok, refl, ap, ◌∙◌}
-use Rattle.np_lists.specs.Refusals.{◌>>◌}
-use Rattle.np_nodes.specs.After.{with_next_number}
+use Rattle.np_nodes.specs.Prelude.{with_next_number, ◌>>◌}
 use Rattle.np_nodes.specs.declared.op.OpDone.{OpDone}
 use Rattle.np_nodes.specs.declared.op.OpDone.TheVariants as done
 use Rattle.np_nodes.specs.declared.op.Op.TheVariants as op

@@ -1,11 +1,7 @@
 use Rattle.std.proofs.Common.{◌≡◌, List, [], ◌∷◌, ◌++◌, inl, inr}
-use Rattle.np_text.specs.declared.id.Role.{Role}
-use Rattle.np_text.specs.declared.id.Role.TheVariants.{Launcher, Janitor, Requester, Reaper}
+use Rattle.np_machine.specs.Prelude.{Janitor, Launcher, Reaper, Requester, Role, Turn, next, start}
 use Rattle.np_event.specs.declared.event.Event.TheVariants as ev
 use Rattle.np_event.specs.declared.reply.Done.TheVariants as done
-use Rattle.np_machine.specs.State.{start}
-use Rattle.np_machine.specs.Step.{next}
-use Rattle.np_machine.specs.Turns.{Turn}
 use Rattle.np_useful.specs.Useful.{IsUseful}
 use Rattle.np_useful.specs.Driven.{IsDrivenTurn, as_planned}
 use Rattle.np_worked.specs.PlainPath as plain_path

@@ -1,7 +1,6 @@
 use Rattle.std.proofs.Common.{refl, inl, inr, take}
-use Rattle.np_text.specs.declared.id.Role.TheVariants.{Reaper}
+use Rattle.np_machine.specs.Prelude.{Reaper, turns}
 use Rattle.np_event.specs.declared.event.Outcome.TheVariants as outcome
-use Rattle.np_machine.specs.Turns.{turns}
 use Rattle.np_useful.specs.Examples.{expiring_site, all_kinds}
 use Rattle.np_worked.specs.Site.{launcher, requester, janitor, session, node, pool}
 use Rattle.np_useful.proofs.law.whole.a_journal_of_all_kinds_was_driven.Goals as goal

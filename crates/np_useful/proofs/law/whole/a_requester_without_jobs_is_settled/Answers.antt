@@ -1,20 +1,8 @@
-use Rattle.std.proofs.Common.{◌≡◌, refl, ℕ, zero, suc, ◌-◌, Bool, true, false, ◌==◌, ◌&&◌, not, Some, None, inl, inr, drop}
+use Rattle.std.proofs.Common.{◌≡◌, refl, ℕ, zero, suc, ◌-◌, Bool, true, false, ◌==◌, not, Some, None, inl, inr, drop}
 use Rattle.std.specs.Prelude.{is_ok, ◌⊎◌}
-use Rattle.std.specs.List.{list_any}
-use Rattle.np_text.specs.declared.id.SessionId.{SessionId}
-use Rattle.np_text.specs.declared.id.JobId.{JobId}
-use Rattle.np_text.specs.declared.id.RequesterId.{RequesterId}
-use Rattle.np_text.specs.declared.id.Role.{Role}
-use Rattle.np_text.specs.declared.id.Role.TheVariants.{Launcher, Janitor, Requester, Reaper}
-use Rattle.np_site.specs.declared.row.FaultKind.{FaultKind}
-use Rattle.np_event.specs.declared.event.Event.{Event}
+use Rattle.np_machine.specs.Prelude.{Event, FaultKind, Janitor, JobId, Launcher, Reaper, Requester, RequesterId, Role, SessionId, State, after, judge, list_any, session_of, speaks_for}
 use Rattle.np_event.specs.declared.event.Event.TheVariants as ev
 use Rattle.np_machine.specs.declared.state.SessionFacts.{SessionFacts}
-use Rattle.np_machine.specs.Tables.{session_of}
-use Rattle.np_machine.specs.Step.{judge}
-use Rattle.np_machine.specs.State.{State}
-use Rattle.np_machine.specs.History.{after}
-use Rattle.np_machine.specs.Laws.{speaks_for}
 use Rattle.np_useful.specs.Sessions.{is_struck_by, is_expire, may_open}
 use Rattle.np_useful.specs.Reaper.{reaper_row, is_mute}
 use Rattle.np_useful.specs.Useful.{IsUseful}
@@ -22,9 +10,7 @@ use Rattle.np_useful.specs.Settled.{takes_part}
 use Rattle.np_useful.specs.Examples.{quiet_site, quiet}
 use Rattle.np_worked.specs.Site.{requester}
 use Rattle.np_useful.proofs.law.whole.a_requester_without_jobs_is_settled.Goals as goal
-
-differ : false ≡ true → ⊥
-differ same = absurd cc
+use Rattle.np_lists.proofs.Plain.{false-apart, and-second}
 
 abbrev opened : State
 opened = after quiet_site quiet
@@ -75,81 +61,77 @@ no-open p zero at accepted may =
 no-open p (suc place) at accepted may =
     let out : is_ok (judge quiet_site opened (ev.OpenSession (Requester p))) ≡ false = rw at refl in absurd cc
 
-second : (a b : Bool) → (a && b) ≡ true → b ≡ true
-second true b both = both
-second false b both = absurd cc
-
 opens : (q : RequesterId) (role : Role) → IsUseful quiet_site opened (Requester q) (ev.OpenSession role) → ⊥
-opens q (Launcher p) useful = differ useful.row
-opens q (Janitor p) useful = differ useful.row
-opens q (Requester p) useful = no-open p p.0 refl useful.accepted (second _ _ useful.row)
-opens q Reaper useful = differ useful.row
+opens q (Launcher p) useful = false-apart useful.row
+opens q (Janitor p) useful = false-apart useful.row
+opens q (Requester p) useful = no-open p p.0 refl useful.accepted (and-second _ _ useful.row)
+opens q Reaper useful = false-apart useful.row
 
 asked : (q : RequesterId) (e : Event) → IsUseful quiet_site opened (Requester q) e → ⊥
-asked q ev.Tick useful = differ useful.row
+asked q ev.Tick useful = false-apart useful.row
 asked q (ev.OpenSession role) useful = opens q role useful
-asked q (ev.Crash session) useful = differ useful.row
-asked q (ev.Expire session) useful = differ useful.row
-asked q (ev.Register session) useful = differ useful.row
-asked q (ev.Submit session j) useful = differ useful.row
-asked q (ev.Revise session j relative) useful = differ useful.row
-asked q (ev.MinReady session l) useful = differ useful.row
-asked q (ev.LockRequest session r) useful = differ useful.row
-asked q (ev.UnlockRequest session r) useful = differ useful.row
-asked q (ev.Accept session r) useful = differ useful.row
-asked q (ev.Decline session r why) useful = differ useful.row
-asked q (ev.TakeReady session r n) useful = differ useful.row
-asked q (ev.Create session r) useful = differ useful.row
-asked q (ev.Start session n) useful = differ useful.row
-asked q (ev.Done session n attempt o) useful = differ useful.row
-asked q (ev.Fulfil session r) useful = differ useful.row
-asked q (ev.LockNode session n) useful = differ useful.row
-asked q (ev.UnlockNode session n) useful = differ useful.row
-asked q (ev.Acquire session j) useful = differ useful.row
+asked q (ev.Crash session) useful = false-apart useful.row
+asked q (ev.Expire session) useful = false-apart useful.row
+asked q (ev.Register session) useful = false-apart useful.row
+asked q (ev.Submit session j) useful = false-apart useful.row
+asked q (ev.Revise session j relative) useful = false-apart useful.row
+asked q (ev.MinReady session l) useful = false-apart useful.row
+asked q (ev.LockRequest session r) useful = false-apart useful.row
+asked q (ev.UnlockRequest session r) useful = false-apart useful.row
+asked q (ev.Accept session r) useful = false-apart useful.row
+asked q (ev.Decline session r why) useful = false-apart useful.row
+asked q (ev.TakeReady session r n) useful = false-apart useful.row
+asked q (ev.Create session r) useful = false-apart useful.row
+asked q (ev.Start session n) useful = false-apart useful.row
+asked q (ev.Done session n attempt o) useful = false-apart useful.row
+asked q (ev.Fulfil session r) useful = false-apart useful.row
+asked q (ev.LockNode session n) useful = false-apart useful.row
+asked q (ev.UnlockNode session n) useful = false-apart useful.row
+asked q (ev.Acquire session j) useful = false-apart useful.row
 asked q (ev.Take session j) useful = (let accepted = useful.accepted in let out = no-take session j (who session) in absurd cc)
-asked q (ev.EndNode session n as_what) useful = differ useful.row
+asked q (ev.EndNode session n as_what) useful = false-apart useful.row
 asked q (ev.Finish session j) useful = (let accepted = useful.accepted in let out = no-finish session j (who session) in absurd cc)
-asked q (ev.Withdraw session j) useful = differ useful.row
-asked q (ev.Release session j) useful = differ useful.row
-asked q (ev.MarkDeleting session n) useful = differ useful.row
-asked q (ev.Gone session n) useful = differ useful.row
-asked q (ev.Reset session r) useful = differ useful.row
-asked q (ev.FreeNode session n) useful = differ useful.row
-asked q (ev.FailDeclined session r) useful = differ useful.row
-asked q (ev.Sweep session n x) useful = differ useful.row
+asked q (ev.Withdraw session j) useful = false-apart useful.row
+asked q (ev.Release session j) useful = false-apart useful.row
+asked q (ev.MarkDeleting session n) useful = false-apart useful.row
+asked q (ev.Gone session n) useful = false-apart useful.row
+asked q (ev.Reset session r) useful = false-apart useful.row
+asked q (ev.FreeNode session n) useful = false-apart useful.row
+asked q (ev.FailDeclined session r) useful = false-apart useful.row
+asked q (ev.Sweep session n x) useful = false-apart useful.row
 
 reaped : (e : Event) → IsUseful quiet_site opened Reaper e → ⊥
-reaped ev.Tick useful = differ useful.row
-reaped (ev.OpenSession role) useful = differ useful.row
+reaped ev.Tick useful = false-apart useful.row
+reaped (ev.OpenSession role) useful = false-apart useful.row
 reaped (ev.Crash session) useful = let row = useful.row in let out = no-crash session in absurd cc
 reaped (ev.Expire session) useful = let row = useful.row in let out = no-expiry session in absurd cc
-reaped (ev.Register session) useful = differ useful.row
-reaped (ev.Submit session j) useful = differ useful.row
-reaped (ev.Revise session j relative) useful = differ useful.row
-reaped (ev.MinReady session l) useful = differ useful.row
-reaped (ev.LockRequest session r) useful = differ useful.row
-reaped (ev.UnlockRequest session r) useful = differ useful.row
-reaped (ev.Accept session r) useful = differ useful.row
-reaped (ev.Decline session r why) useful = differ useful.row
-reaped (ev.TakeReady session r n) useful = differ useful.row
-reaped (ev.Create session r) useful = differ useful.row
-reaped (ev.Start session n) useful = differ useful.row
-reaped (ev.Done session n attempt o) useful = differ useful.row
-reaped (ev.Fulfil session r) useful = differ useful.row
-reaped (ev.LockNode session n) useful = differ useful.row
-reaped (ev.UnlockNode session n) useful = differ useful.row
-reaped (ev.Acquire session j) useful = differ useful.row
-reaped (ev.Take session j) useful = differ useful.row
-reaped (ev.EndNode session n as_what) useful = differ useful.row
-reaped (ev.Finish session j) useful = differ useful.row
-reaped (ev.Withdraw session j) useful = differ useful.row
-reaped (ev.Release session j) useful = differ useful.row
-reaped (ev.MarkDeleting session n) useful = differ useful.row
-reaped (ev.Gone session n) useful = differ useful.row
-reaped (ev.Reset session r) useful = differ useful.row
-reaped (ev.FreeNode session n) useful = differ useful.row
-reaped (ev.FailDeclined session r) useful = differ useful.row
-reaped (ev.Sweep session n x) useful = differ useful.row
+reaped (ev.Register session) useful = false-apart useful.row
+reaped (ev.Submit session j) useful = false-apart useful.row
+reaped (ev.Revise session j relative) useful = false-apart useful.row
+reaped (ev.MinReady session l) useful = false-apart useful.row
+reaped (ev.LockRequest session r) useful = false-apart useful.row
+reaped (ev.UnlockRequest session r) useful = false-apart useful.row
+reaped (ev.Accept session r) useful = false-apart useful.row
+reaped (ev.Decline session r why) useful = false-apart useful.row
+reaped (ev.TakeReady session r n) useful = false-apart useful.row
+reaped (ev.Create session r) useful = false-apart useful.row
+reaped (ev.Start session n) useful = false-apart useful.row
+reaped (ev.Done session n attempt o) useful = false-apart useful.row
+reaped (ev.Fulfil session r) useful = false-apart useful.row
+reaped (ev.LockNode session n) useful = false-apart useful.row
+reaped (ev.UnlockNode session n) useful = false-apart useful.row
+reaped (ev.Acquire session j) useful = false-apart useful.row
+reaped (ev.Take session j) useful = false-apart useful.row
+reaped (ev.EndNode session n as_what) useful = false-apart useful.row
+reaped (ev.Finish session j) useful = false-apart useful.row
+reaped (ev.Withdraw session j) useful = false-apart useful.row
+reaped (ev.Release session j) useful = false-apart useful.row
+reaped (ev.MarkDeleting session n) useful = false-apart useful.row
+reaped (ev.Gone session n) useful = false-apart useful.row
+reaped (ev.Reset session r) useful = false-apart useful.row
+reaped (ev.FreeNode session n) useful = false-apart useful.row
+reaped (ev.FailDeclined session r) useful = false-apart useful.row
+reaped (ev.Sweep session n x) useful = false-apart useful.row
 
 none : (role : Role) (e : Event) → takes_part quiet_site role ≡ true → IsUseful quiet_site opened role e → ⊥
 none (Launcher p) e plays useful = absurd cc

@@ -1,13 +1,7 @@
 use Rattle.std.proofs.Common.{◌≡◌, refl, Bool, true, false, ◌==◌, None}
 use Rattle.std.specs.Prelude.{is_ok}
-use Rattle.np_text.specs.declared.id.SessionId.{SessionId}
-use Rattle.np_text.specs.declared.id.Role.{Role}
-use Rattle.np_text.specs.declared.id.Role.TheVariants.{Launcher, Janitor, Requester, Reaper}
-use Rattle.np_event.specs.declared.event.Event.{Event}
+use Rattle.np_machine.specs.Prelude.{Event, Janitor, Launcher, Reaper, Requester, Role, SessionId, judge, session_of, start}
 use Rattle.np_event.specs.declared.event.Event.TheVariants as ev
-use Rattle.np_machine.specs.Tables.{session_of}
-use Rattle.np_machine.specs.Step.{judge}
-use Rattle.np_machine.specs.State.{start}
 use Rattle.np_useful.specs.Useful.{IsUseful}
 use Rattle.np_useful.specs.Settled.{takes_part}
 use Rattle.np_useful.specs.Examples.{empty_site}

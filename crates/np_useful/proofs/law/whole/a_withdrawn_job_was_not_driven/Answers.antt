@@ -1,12 +1,7 @@
 use Rattle.std.proofs.Common.{List, inl, inr}
-use Rattle.np_text.specs.declared.id.Role.{Role}
-use Rattle.np_text.specs.declared.id.Role.TheVariants.{Launcher, Janitor, Requester, Reaper}
-use Rattle.np_event.specs.declared.event.Event.{Event}
+use Rattle.np_machine.specs.Prelude.{Event, Janitor, Launcher, Reaper, Requester, Role, State, Turn, next}
 use Rattle.np_event.specs.declared.event.Event.TheVariants as ev
 use Rattle.np_event.specs.declared.reply.Done.TheVariants as done
-use Rattle.np_machine.specs.Step.{next}
-use Rattle.np_machine.specs.State.{State}
-use Rattle.np_machine.specs.Turns.{Turn}
 use Rattle.np_useful.specs.Useful.{IsUseful}
 use Rattle.np_useful.specs.Driven.{IsDrivenTurn, as_planned}
 use Rattle.np_useful.specs.Examples.{after_first, moved_window, window_site}

@@ -1,6 +1,6 @@
 use Rattle.std.proofs.Common.{◌∙◌, length, List, refl, ap, sym}
 use Rattle.np_nodes.specs.TreeState.{TreeState}
-use Rattle.np_site.specs.declared.row.Pool.{Pool}
+use Rattle.np_config.specs.declared.row.Pool.{Pool}
 use Rattle.np_rules.specs.Running.{Running}
 use Rattle.np_board.specs.Outstanding.{planning_of}
 use Rattle.np_board.proofs.PlanLemmas.{start-planning}

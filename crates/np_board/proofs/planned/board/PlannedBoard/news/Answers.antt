@@ -1,6 +1,5 @@
 use Rattle.std.proofs.Common.{◌≡◌, ◌∙◌, None, Some, sym, ap, subst, List, Option}
-use Rattle.np_lists.specs.Change.{remove_first}
-use Rattle.np_nodes.specs.TreeState.{TreeState}
+use Rattle.np_layout.specs.Prelude.{TreeState, remove_first}
 use Rattle.np_watch.specs.Watching.{is_fired}
 use Rattle.np_board.specs.Outstanding.{IsPlanning, Outstanding, Planning, plan_of, planning_of, with_plan}
 use Rattle.np_board.specs.PlanTaken.{HasNoNews, TakenNews}

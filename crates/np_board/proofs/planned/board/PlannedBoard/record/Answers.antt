@@ -1,6 +1,5 @@
 use Rattle.std.proofs.Common.{◌∙◌, ◌+◌, refl, sym, subst}
-use Rattle.np_event.specs.declared.entry.Entry.{Entry}
-use Rattle.np_machine.specs.History.{Runs}
+use Rattle.np_changes.specs.Prelude.{Entry, Runs}
 use Rattle.np_board.specs.Outstanding.{FreshAreAccepted, Planning, planning_of, ran_of}
 use Rattle.np_rules.proofs.First.{answer-first, applied-first}
 use Rattle.np_board.specs.PlanTaken.{IsCommitted}

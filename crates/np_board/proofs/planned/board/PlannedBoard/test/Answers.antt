@@ -1,7 +1,6 @@
 use Rattle.std.proofs.Common.{◌∙◌, ◌≤◌, List, length, sym, subst, arith}
 use Rattle.np_nodes.specs.TreeState.{TreeState}
-use Rattle.np_event.specs.declared.entry.Entry.{Entry}
-use Rattle.np_machine.specs.History.{Runs}
+use Rattle.np_changes.specs.Prelude.{Entry, Runs}
 use Rattle.np_keeper.specs.Keeper.{Holds}
 use Rattle.np_planned.specs.Stale.{StaleHasParent}
 use Rattle.np_board.specs.Outstanding.{Planning, planning_of}

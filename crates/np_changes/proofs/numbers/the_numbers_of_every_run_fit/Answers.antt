@@ -1,0 +1,5 @@
+use Rattle.np_changes.proofs.FitsRuns.{Fits-Runs}
+use Rattle.np_changes.proofs.numbers.the_numbers_of_every_run_fit.Goals as goal
+
+pub returns : goal.returns
+returns c = Fits-Runs

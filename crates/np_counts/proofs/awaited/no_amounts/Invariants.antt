@@ -1,0 +1,10 @@
+use Rattle.std.proofs.Common.{◌≡◌, ◌≤◌, ◌-◌, suc, length}
+use Rattle.std.specs.Prelude.{replicate}
+use Rattle.np_changes.specs.Prelude.{Amount, nothing}
+use Rattle.np_counts.proofs.awaited.no_amounts.Given as goal
+
+abbrev pub invariant-loop-amounts : goal.invariant-loop-amounts
+invariant-loop-amounts l = (l.count ≤ suc (length l.config.tenants)) × (l.amounts.items ≡ replicate {A = Amount} l.count nothing)
+
+abbrev pub decreases-loop-amounts : goal.decreases-loop-amounts
+decreases-loop-amounts l = suc (length l.config.tenants) - l.count

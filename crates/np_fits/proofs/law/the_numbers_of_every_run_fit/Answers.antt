@@ -1,5 +1,0 @@
-use Rattle.np_fits.proofs.FitsRuns.{Fits-Runs}
-use Rattle.np_fits.proofs.law.the_numbers_of_every_run_fit.Goals as goal
-
-pub returns : goal.returns
-returns c = Fits-Runs

@@ -1,0 +1,229 @@
+-- Truth values, numbers, options and lists: what every crate may need.
+use Rattle.std.proofs.Common.{Bool, List, None, Option, Some, [], ap, arith, cond, drop, false, get_or, inl, inr, length, refl, suc, sym, take, true, zero, ℕ, ◌++◌, ◌-◌, ◌<◌, ◌^◌, ◌∙◌, ◌∷◌, ◌≡◌, ◌≢◌, ◌≤◌}
+use Rattle.std.proofs.lemmas.Bool.Decides.{nat_tests}
+use Rattle.std.proofs.lemmas.Fmt.{length-decimal-le}
+use Rattle.std.proofs.lemmas.Option.{slice_get-get_or, slice_get_within}
+use Rattle.std.proofs.lemmas.Slice.Eq.{bytes_eq-Decides}
+use Rattle.std.specs.Fmt.{decimal}
+use Rattle.std.specs.List.{list_any}
+use Rattle.std.specs.Option.{option_map}
+use Rattle.std.specs.Prelude.{find, is_none, is_some, map, min, nat_le, nat_lt, slice_get, slice_set, ◌&&◌, ◌==◌, ◌||◌, ◌⊎◌}
+use Rattle.std.specs.Str.{bytes_eq}
+
+pub false-apart : false ≡ true → ⊥
+false-apart is = cc
+
+pub not-zero : (n : ℕ) → 0 < n → (n == 0) ≡ false
+not-zero n is = grind (arith, nat_tests)
+
+pub not-below : (i n : ℕ) → nat_lt i n ≡ false → n ≤ i
+not-below i n is = grind (arith, nat_tests)
+
+pub and_true : (b : Bool) → (b && true) ≡ b
+and_true true = refl
+and_true false = refl
+
+pub by_bool : (P : Bool → Type 0) (b : Bool) → (b ≡ true → P true) → (b ≡ false → P false) → P b
+by_bool P true t f = t refl
+by_bool P false t f = f refl
+
+pub length-set : {X : Type 0} (xs : List X) (i : ℕ) (x : X) → length (slice_set xs i x) ≡ length xs
+length-set [] i x = refl
+length-set (y ∷ xs) zero x = refl
+length-set (y ∷ xs) (suc i) x = ap suc (length-set xs i x)
+
+pub same_number : (a b : ℕ) → a ≡ b → (a == b) ≡ true
+same_number a b e = grind (arith, nat_tests)
+
+pub below-apart : (n m : ℕ) → n < m → (n == m) ≡ false
+below-apart n m less = grind (arith, nat_tests)
+
+pub any-next : {X Y : Type 0} (p : Y → Bool) (f : X → Y) (xs : List X) (at : ℕ) (x : X) → slice_get xs at ≡ Some x →
+    list_any p (map f (drop at xs)) ≡ (p (f x) || list_any p (map f (drop (suc at) xs)))
+any-next p f [] at x is = absurd cc
+any-next {X} p f (y ∷ xs) zero x is = let same : y ≡ x = cc in ap (λ (z : X). p (f z) || list_any p (map f xs)) same
+any-next p f (y ∷ xs) (suc at) x is = any-next p f xs at x is
+
+pub drop-past : {X : Type 0} (xs : List X) (i : ℕ) → slice_get xs i ≡ None → drop i xs ≡ []
+drop-past [] zero is = refl
+drop-past [] (suc i) is = refl
+drop-past (x ∷ xs) zero is = absurd cc
+drop-past (x ∷ xs) (suc i) is = drop-past xs i is
+
+pub bytes_eq-apart : (xs ys : List ℕ) → (xs ≡ ys → ⊥) → bytes_eq xs ys ≡ false
+bytes_eq-apart xs ys apart = by (bytes_eq xs ys) refl
+  where
+    by : (b : Bool) → bytes_eq xs ys ≡ b → bytes_eq xs ys ≡ false
+    by true is = absurd (apart ((bytes_eq-Decides xs ys).0 is))
+    by false is = is
+
+pub is-below : (n m : ℕ) → n < m → nat_lt n m ≡ true
+is-below n m is = grind (arith, nat_tests)
+
+pub equal-itself : (n : ℕ) → (n == n) ≡ true
+equal-itself n = grind (arith, nat_tests)
+
+pub or_false : (b : Bool) → (b || false) ≡ b
+or_false true = refl
+or_false false = refl
+
+pub map-push : {A B : Type 0} (f : A → B) (xs : List A) (x : A) → map f (xs ++ x ∷ []) ≡ map f xs ++ f x ∷ []
+map-push f [] x = refl
+map-push f (y ∷ xs) x = ap (λ (l : List _). f y ∷ l) (map-push f xs x)
+
+pub take-all : {X : Type 0} (xs : List X) → take (length xs) xs ≡ xs
+take-all [] = refl
+take-all {X} (x ∷ xs) = ap (λ (rest : List X). x ∷ rest) (take-all xs)
+
+pub or_true : (a : Bool) → (a || true) ≡ true
+or_true true = refl
+or_true false = refl
+
+pub untouched : (a b : Bool) → (a ≡ true → b ≡ true) → b ≡ false → a ≡ false
+untouched true b all out = let is : b ≡ true = all refl in cc
+untouched false b all out = refl
+
+pub above-apart : (n m : ℕ) → m < n → (n == m) ≡ false
+above-apart n m less = grind (arith, nat_tests)
+
+pub length-map : {X Y : Type 0} (f : X → Y) (xs : List X) → length (map f xs) ≡ length xs
+length-map f [] = refl
+length-map f (x ∷ xs) = ap suc (length-map f xs)
+
+pub equal-numbers : (m n : ℕ) → (m == n) ≡ true → m ≡ n
+equal-numbers m n is = grind (arith, nat_tests)
+
+pub past-end : {X : Type 0} (xs : List X) (i : ℕ) → slice_get xs i ≡ None → length xs ≤ i
+past-end [] i none = omega arith
+past-end (x ∷ xs) zero none = absurd cc
+past-end (x ∷ xs) (suc i) none = omega (arith, past-end xs i none)
+
+pub is-at_most : (n m : ℕ) → n ≤ m → nat_le n m ≡ true
+is-at_most n m is = grind (arith, nat_tests)
+
+pub or_swap : (a b c : Bool) → (a || (b || c)) ≡ (b || (a || c))
+or_swap true true c = refl
+or_swap true false c = refl
+or_swap false b c = refl
+
+pub less-by : {X : Type 0} (x : X) (xs ys : List X) (b : Bool) → length xs ≤ length ys → length (cond b (x ∷ xs) xs) ≤ length (cond b (x ∷ ys) ys)
+less-by x xs ys true less = omega arith
+less-by x xs ys false less = less
+
+pub rest-by : {X : Type 0} (x : X) (xs : List X) (b : Bool) → length xs ≤ length (cond b (x ∷ xs) xs)
+rest-by x xs true = omega arith
+rest-by x xs false = omega arith
+
+pub some-within : {X : Type 0} (xs : List X) (i : ℕ) (o : Option X) → slice_get xs i ≡ o → is_some o ≡ true → i < length xs
+some-within xs i None there some = absurd cc
+some-within xs i (Some x) there some = slice_get_within xs i x there
+
+pub and-first : (t u : Bool) → (t && u) ≡ true → t ≡ true
+and-first true u is = refl
+and-first false u is = absurd cc
+
+pub and_false : (b : Bool) → (b && false) ≡ false
+and_false true = refl
+and_false false = refl
+
+pub and-second : (a b : Bool) → (a && b) ≡ true → b ≡ true
+and-second true b both = both
+and-second false b both = absurd cc
+
+pub both-ways : (a b : Bool) → (a ≡ true → b ≡ true) → (b ≡ true → a ≡ true) → a ≡ b
+both-ways true b there back = sym (there refl)
+both-ways false true there back = absurd (let no : false ≡ true = back refl in cc)
+both-ways false false there back = refl
+
+pub any-same : {X : Type 0} (p q : X → Bool) → ((x : X) → p x ≡ q x) → (xs : List X) → list_any p xs ≡ list_any q xs
+any-same p q same [] = refl
+any-same p q same (x ∷ xs) = rw (same x, any-same p q same xs) refl
+
+pub suc-not_zero : (n : ℕ) → (suc n == 0) ≡ false
+suc-not_zero n = grind (arith, nat_tests)
+
+pub and-apart : (s b : Bool) → (s && b) ≡ false → b ≡ true → s ≡ false
+and-apart true b none is = sym is ∙ none
+and-apart false b none is = refl
+
+pub within : {X : Type 0} (xs : List X) (i : ℕ) (x : X) → slice_get xs i ≡ Some x → i < length xs
+within [] i x there = absurd cc
+within (y ∷ xs) zero x there = omega arith
+within (y ∷ xs) (suc i) x there = let later = within xs i x there in omega (arith, later)
+
+pub not-past : {X : Type 0} (xs : List X) (i : ℕ) → i < length xs → slice_get xs i ≡ None → ⊥
+not-past [] i low none = omega arith
+not-past (x ∷ xs) zero low none = cc
+not-past (x ∷ xs) (suc i) low none = not-past xs i (omega arith) none
+
+pub not-second : (a b : Bool) → (a || b) ≡ false → b ≡ false
+not-second true b none = absurd cc
+not-second false b none = none
+
+pub drop-there : {X : Type 0} (xs : List X) (i : ℕ) (x : X) → slice_get xs i ≡ Some x → drop i xs ≡ x ∷ drop (suc i) xs
+drop-there [] i x is = absurd cc
+drop-there (first ∷ xs) zero x is = let same : first ≡ x = cc in rw same refl
+drop-there (first ∷ xs) (suc i) x is = drop-there xs i x is
+
+pub member-there : {T : Type 0} (xs : List T) (i : ℕ) → i < length xs → (x : T) × (slice_get xs i ≡ Some x)
+member-there [] i within = absurd (omega arith)
+member-there (x ∷ xs) zero within = (x, refl)
+member-there (x ∷ xs) (suc i) within = member-there xs i (omega arith)
+
+pub decimal-short : (n : ℕ) → n < 2 ^ 64 → length (decimal n) ≤ 20
+decimal-short n small = length-decimal-le 20 n (omega arith) (omega arith) small
+
+pub set-other : {X : Type 0} (xs : List X) (i j : ℕ) (x : X) → i ≢ j → slice_get (slice_set xs i x) j ≡ slice_get xs j
+set-other [] i j x other = refl
+set-other (z ∷ xs) zero zero x other = absurd (other refl)
+set-other (z ∷ xs) zero (suc j) x other = refl
+set-other (z ∷ xs) (suc i) zero x other = refl
+set-other (z ∷ xs) (suc i) (suc j) x other = set-other xs i j x (λ same. other (ap suc same))
+
+pub there-at : {X : Type 0} (xs : List X) (at : ℕ) (x : X) → at < length xs → x ≡ get_or xs at x → slice_get xs at ≡ Some x
+there-at xs at x within is = slice_get-get_or xs at x within ∙ ap Some (sym is)
+
+pub low-min : (a b : ℕ) → min a b ≤ a
+low-min a b = omega arith
+
+pub set-here : {X : Type 0} (xs : List X) (i : ℕ) (x y : X) → slice_get xs i ≡ Some y → slice_get (slice_set xs i x) i ≡ Some x
+set-here [] i x y is = absurd cc
+set-here (z ∷ xs) zero x y is = refl
+set-here (z ∷ xs) (suc i) x y is = set-here xs i x y is
+
+pub some-unless : {X : Type 0} (o : Option X) → (o ≡ None → ⊥) → (x : X) × (o ≡ Some x)
+some-unless None there = absurd (there refl)
+some-unless (Some x) there = (x, refl)
+
+pub map-some : {A B : Type 0} (f : A → B) (o : Option A) → is_some (option_map f o) ≡ is_some o
+map-some f None = refl
+map-some f (Some a) = refl
+
+pub none-is : {X : Type 0} (o : Option X) → is_none o ≡ true → o ≡ None
+none-is None is = refl
+none-is (Some x) is = absurd cc
+
+pub neither : (false ≡ true) ⊎ ⊥ → ⊥
+neither (inl there) = absurd cc
+neither (inr ended) = ended
+
+pub some-of : {A : Type 0} (o : Option A) → is_some o ≡ true → (a : A) × (o ≡ Some a)
+some-of None is = absurd cc
+some-of (Some a) is = (a, refl)
+
+pub mapped : {A B : Type 0} (f : A → B) (o : Option A) (y : B) → option_map f o ≡ Some y → (x : A) × (o ≡ Some x) × (f x ≡ y)
+mapped f None y e = absurd (cc)
+mapped f (Some x) y e = (x, refl, cc)
+
+pub get-map : {A B : Type 0} (f : A → B) (xs : List A) (i : ℕ) → slice_get (map f xs) i ≡ option_map f (slice_get xs i)
+get-map f [] i = refl
+get-map f (x ∷ xs) zero = refl
+get-map f (x ∷ xs) (suc i) = get-map f xs i
+
+pub length-none : {E : Type 0} (l : List E) → length l ≡ 0 → l ≡ []
+length-none [] h = refl
+length-none (e ∷ es) h = absurd (omega (arith, h))
+
+pub find-alike : {X : Type 0} (p r : X → Bool) (xs : List X) → ((x : X) → p x ≡ r x) → find p xs ≡ find r xs
+find-alike p r [] alike = refl
+find-alike p r (x ∷ xs) alike = rw (alike x, find-alike p r xs alike) refl

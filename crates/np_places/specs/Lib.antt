@@ -1,3 +1,0 @@
-pub mod Place
-pub mod Roles
-pub mod Laws

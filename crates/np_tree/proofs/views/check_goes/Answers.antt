@@ -1,0 +1,5 @@
+use Rattle.np_tree.proofs.GoesLemmas.{checks-go}
+use Rattle.np_tree.proofs.views.check_goes.Goals as goal
+
+pub returns : goal.returns
+returns c = checks-go

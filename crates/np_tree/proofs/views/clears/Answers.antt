@@ -1,0 +1,5 @@
+use Rattle.np_tree.proofs.ClearLemmas.{clears-empty, clears-go}
+use Rattle.np_tree.proofs.views.clears.Goals as goal
+
+pub returns : goal.returns
+returns c = record { goes = clears-go; empty = clears-empty }

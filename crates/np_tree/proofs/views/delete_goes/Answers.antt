@@ -1,0 +1,5 @@
+use Rattle.np_tree.proofs.GoesLemmas.{deletes-go}
+use Rattle.np_tree.proofs.views.delete_goes.Goals as goal
+
+pub returns : goal.returns
+returns c = deletes-go

@@ -1,0 +1,5 @@
+use Rattle.np_tree.proofs.ElsewhereLemmas.{elsewhere, goes-whole}
+use Rattle.np_tree.proofs.views.elsewhere.Goals as goal
+
+pub returns : goal.returns
+returns c = record { rows = elsewhere; whole = goes-whole }

@@ -1,0 +1,5 @@
+use Rattle.np_tree.proofs.GoesLemmas.{sets-go}
+use Rattle.np_tree.proofs.views.set_goes.Goals as goal
+
+pub returns : goal.returns
+returns c = sets-go

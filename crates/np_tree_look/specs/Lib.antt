@@ -1,1 +1,0 @@
-pub use Rattle.np_layout.specs.Carried

@@ -1,5 +1,0 @@
-use Rattle.np_views.proofs.GoesLemmas.{creates-go, creates-under-go}
-use Rattle.np_views.proofs.laws.create_goes.Goals as goal
-
-pub returns : goal.returns
-returns c = record { create = creates-go; under = creates-under-go }

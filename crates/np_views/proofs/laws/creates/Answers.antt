@@ -1,5 +1,0 @@
-use Rattle.np_views.proofs.RelationLemmas.{creates-answer, creates-show, creates-under-show}
-use Rattle.np_views.proofs.laws.creates.Goals as goal
-
-pub returns : goal.returns
-returns c = record { answer = creates-answer; shows = creates-show; under = creates-under-show }

@@ -1,5 +1,0 @@
-use Rattle.np_views.proofs.SeveralLemmas.{goes-empty, goes-front, goes-joined}
-use Rattle.np_views.proofs.laws.goes_joined.Goals as goal
-
-pub returns : goal.returns
-returns c = record { empty = goes-empty; front = goes-front; joined = goes-joined }

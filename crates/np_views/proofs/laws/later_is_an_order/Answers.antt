@@ -1,5 +1,0 @@
-use Rattle.np_views.proofs.LaterLemmas.{later-joined, later-than-itself}
-use Rattle.np_views.proofs.laws.later_is_an_order.Goals as goal
-
-pub returns : goal.returns
-returns c = record { itself = later-than-itself; joined = later-joined }

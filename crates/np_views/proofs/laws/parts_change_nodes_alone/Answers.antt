@@ -1,5 +1,0 @@
-use Rattle.np_views.proofs.RelationLemmas.{parts-change_nodes_alone}
-use Rattle.np_views.proofs.laws.parts_change_nodes_alone.Goals as goal
-
-pub returns : goal.returns
-returns c = parts-change_nodes_alone

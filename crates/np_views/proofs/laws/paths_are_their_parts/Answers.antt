@@ -1,5 +1,0 @@
-use Rattle.np_views.proofs.SeveralLemmas.{paths-are-their-parts}
-use Rattle.np_views.proofs.laws.paths_are_their_parts.Goals as goal
-
-pub returns : goal.returns
-returns c = paths-are-their-parts

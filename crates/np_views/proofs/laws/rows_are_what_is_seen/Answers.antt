@@ -1,5 +1,0 @@
-use Rattle.np_views.proofs.RelationLemmas.{rows-rise, seen-is-row}
-use Rattle.np_views.proofs.laws.rows_are_what_is_seen.Goals as goal
-
-pub returns : goal.returns
-returns c = record { rise = rows-rise; seen = seen-is-row }

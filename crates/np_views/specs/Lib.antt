@@ -1,5 +1,0 @@
-pub mod Views
-pub mod Relations
-pub mod Goes
-pub mod Several
-pub mod Dates
