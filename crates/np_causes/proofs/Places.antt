@@ -1,5 +1,5 @@
 -- the places of what a fact names
-use Rattle.std.proofs.Common.{◌≡◌, ◌≤◌, ◌<◌, ◌+◌, ◌-◌, ℕ, suc, zero, List, [], ◌∷◌, length, Option, Some, None, refl, sym, ap, ◌∙◌, arith}
+use Rattle.std.proofs.Common.{◌≡◌, ◌≤◌, ◌<◌, ◌+◌, ◌-◌, ℕ, suc, zero, List, [], ◌∷◌, ◌++◌, length, Option, Some, None, refl, sym, ap, ◌∙◌, arith}
 use Rattle.std.specs.Prelude.{map, slice_get}
 use Rattle.std.proofs.lemmas.Option.{slice_get-map, slice_get-get_or, slice_get_past, slice_get_within}
 use Rattle.std.proofs.lemmas.List.FromFn.{get_or-map-range_with_len, length-map-range_with_len}
@@ -19,6 +19,18 @@ pub after_second : {X : Type 0} (x y : X) (xs : List X) (at : ℕ) → (at ≡ 0
 after_second x y xs zero none one = absurd (none refl)
 after_second x y xs (suc zero) none one = absurd (one (omega arith))
 after_second x y xs (suc (suc at)) none one = ap (λ (k : ℕ). slice_get xs k) (omega arith)
+
+-- ## one list and then another
+
+pub in_first : {X : Type 0} (xs ys : List X) (at : ℕ) → at < length xs → slice_get (xs ++ ys) at ≡ slice_get xs at
+in_first [] ys at less = absurd (omega arith)
+in_first (x ∷ xs) ys zero less = refl
+in_first (x ∷ xs) ys (suc at) less = in_first xs ys at (omega arith)
+
+pub in_second : {X : Type 0} (xs ys : List X) (at : ℕ) → length xs ≤ at → slice_get (xs ++ ys) at ≡ slice_get ys (at - length xs)
+in_second [] ys at past = ap (λ (k : ℕ). slice_get ys k) (omega arith)
+in_second (x ∷ xs) ys zero past = absurd (omega arith)
+in_second (x ∷ xs) ys (suc at) past = in_second xs ys at (omega arith) ∙ ap (λ (k : ℕ). slice_get ys k) (omega arith)
 
 -- ## rows by their views
 

@@ -4,6 +4,7 @@ use Rattle.np_changes.specs.Prelude.{Configuration, JobId, LabelId, NodeId, Node
 use Rattle.np_text.specs.declared.word.RequestState.TheVariants as request_state
 use Rattle.np_machine.specs.Reasons.{is_stuck_at}
 use Rattle.np_look.specs.Readers.{current_of, has_request_under_way, unfinished_of}
+use Rattle.np_useful.specs.Sessions.{is_stopped}
 use Rattle.np_useful.specs.Window.{window_of}
 use Rattle.np_causes.specs.declared.fact.Thing.{Thing}
 use Rattle.np_causes.specs.declared.fact.Thing.TheVariants as thing
@@ -47,7 +48,8 @@ about_of (fact.Allocated n r) = thing.Owner n
 about_of (fact.Free n) = thing.Owner n
 about_of (fact.Known session facts) = thing.Session session
 about_of (fact.Current role session) = thing.Role role
-about_of (fact.Silent role) = thing.Role role
+about_of (fact.Stopped role) = thing.Role role
+about_of (fact.MayOpen role) = thing.Role role
 about_of (fact.Missing it) = it
 
 -- ## words of the facts
@@ -154,7 +156,8 @@ IsTrueOf c s (fact.Allocated n r) = (owner_of n s.jobs ≡ None) × (allocation_
 IsTrueOf c s (fact.Free n) = (owner_of n s.jobs ≡ None) × (allocation_of n s ≡ None)
 IsTrueOf c s (fact.Known session facts) = session_of session s ≡ Some facts
 IsTrueOf c s (fact.Current role session) = current_of role s ≡ Some session
-IsTrueOf c s (fact.Silent role) = current_of role s ≡ None
+IsTrueOf c s (fact.Stopped role) = (current_of role s ≡ None) × (is_stopped c role s ≡ true)
+IsTrueOf c s (fact.MayOpen role) = (current_of role s ≡ None) × (is_stopped c role s ≡ false)
 IsTrueOf c s (fact.Missing it) = IsMissing c s it
 
 -- it is about the thing, and true

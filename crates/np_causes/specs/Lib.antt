@@ -1,3 +1,4 @@
 pub mod Fact
 pub mod Names
 pub mod Explains
+pub mod Worked

@@ -1,6 +1,6 @@
 -- which things a fact names
-use Rattle.std.specs.Prelude.{◌==◌, ◌&&◌, false, List, [], ◌∷◌, if◌then◌else◌, Option, Some, None, length, map, option_and_then, slice_get}
-use Rattle.np_changes.specs.Prelude.{Configuration, Janitor, JobId, Launcher, NodeEntry, NodeId, Phase, PoolId, RequestEntry, RequestId, Requester, Role, SessionId, State, TenantId, handles_of, is_tenant, option_map, option_map_or, range_with_len, request_in, request_of_job, same_role, session_of}
+use Rattle.std.specs.Prelude.{◌==◌, ◌&&◌, false, List, [], ◌∷◌, ◌++◌, if◌then◌else◌, Option, Some, None, length, map, option_and_then, slice_get}
+use Rattle.np_changes.specs.Prelude.{Configuration, Janitor, JobId, Launcher, NodeEntry, NodeId, Phase, PoolId, RequestEntry, RequestId, Requester, Role, SessionId, State, TenantId, handles_of, is_pending_of, is_tenant, option_map, option_map_or, range_with_len, request_in, request_of_job, same_role, session_of}
 use Rattle.np_text.specs.declared.word.Phase.TheVariants as phase
 use Rattle.np_look.specs.Readers.{is_under_way_by}
 use Rattle.np_causes.specs.Fact.{pool_of}
@@ -35,6 +35,14 @@ if_of_pool p e = if e.kept.pool.0 == p.0 then Some (thing.Node e.id) else None
 
 abbrev pub if_of_tenant : TenantId → NodeEntry → Option Thing
 if_of_tenant t e = if is_tenant t e.kept.tenant then Some (thing.Node e.id) else None
+
+-- a pending request of a job of the tenant
+abbrev pub if_pending_of : Configuration → TenantId → RequestEntry → Option Thing
+if_pending_of c t e = if is_pending_of c t e then Some (thing.Request e.id) else None
+
+-- what the tenant's count is made of: its nodes, and what its pending requests still wait for
+abbrev pub parts_of : Configuration → State → TenantId → List (Option Thing)
+parts_of c s t = map (if_of_tenant t) s.nodes ++ map (if_pending_of c t) s.requests
 
 -- a live session of the role
 abbrev pub if_live : Role → State → SessionId → Option Thing
@@ -79,7 +87,7 @@ named_by c s (fact.Unregistered p) = Some (thing.Role (Launcher p)) ∷ []
 named_by c s (fact.Busy p) = map (if_under_way p) s.requests
 named_by c s (fact.Idle p) = []
 named_by c s (fact.PoolUses p used) = map (if_of_pool p) s.nodes
-named_by c s (fact.TenantUses t used) = map (if_of_tenant t) s.nodes
+named_by c s (fact.TenantUses t used) = parts_of c s t
 named_by c s (fact.Stands n state attempts) = Some (thing.Lock n) ∷ Some (thing.Owner n) ∷ []
 named_by c s (fact.Held n session) = Some (thing.Session session) ∷ []
 named_by c s (fact.Unheld n) = []
@@ -88,5 +96,6 @@ named_by c s (fact.Allocated n r) = Some (thing.Request r) ∷ []
 named_by c s (fact.Free n) = []
 named_by c s (fact.Known session facts) = []
 named_by c s (fact.Current role session) = []
-named_by c s (fact.Silent role) = sessions_for role s
+named_by c s (fact.Stopped role) = sessions_for role s
+named_by c s (fact.MayOpen role) = sessions_for role s
 named_by c s (fact.Missing it) = []

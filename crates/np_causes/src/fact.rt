@@ -228,8 +228,12 @@ pub enum Fact {
         role: Role,
         session: SessionId,
     },
-    /// The role has no current session.
-    Silent {
+    /// The role has no current session, and stopped for good.
+    Stopped {
+        role: Role,
+    },
+    /// The role has no current session, and may open one.
+    MayOpen {
         role: Role,
     },
     /// The state or the configuration has no such thing.
@@ -273,7 +277,9 @@ pub fn about(fact: &Fact) -> Thing
             Thing::Owner(node)
         }
         Fact::Known { session, .. } => Thing::Session(session),
-        Fact::Current { role, .. } | Fact::Silent { role } => Thing::Role(role),
+        Fact::Current { role, .. } | Fact::Stopped { role } | Fact::MayOpen { role } => {
+            Thing::Role(role)
+        }
         Fact::Missing { thing } => thing,
     }
 }

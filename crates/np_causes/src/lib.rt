@@ -18,8 +18,14 @@ mod request;
 mod role;
 mod same;
 mod tell;
+mod worked;
 
 pub use explain::{causes, waits};
 pub use fact::{Fact, Thing, about};
 pub use names::{Place, named};
 pub use tell::fact_of;
+pub use worked::{
+    a_launcher_is_lost, a_launcher_stopped, a_node_is_launched_again, a_pool_has_no_room,
+    a_request_is_not_taken, a_request_is_taken_up, a_requester_is_gone, a_semaphore_is_full,
+    a_tenant_has_no_room, a_window_is_full, nobody_is_registered,
+};

@@ -1,14 +1,16 @@
 //! Which things a fact names.
 
 ghost use Rattle.std.specs.Prelude.{◌≡◌, ◌∷◌, [], Some, map, slice_get};
-ghost use Rattle.np_changes.specs.Prelude.{Janitor, handles_of, is_tenant, option_map, request_of_job};
+ghost use Rattle.np_changes.specs.Prelude.{Janitor, handles_of, is_pending_of, is_tenant, option_map, request_of_job};
 ghost use Rattle.np_look.specs.Readers.{is_under_way_by};
+ghost use Rattle.np_look.specs.Views.{request_seen};
 ghost use Rattle.np_causes.specs.Fact.{pool_of};
-ghost use Rattle.np_causes.specs.Names.{a_node, if_of_pool, if_of_tenant, if_under_way, if_live, job_of, named_by, named_in, nodes_in, offers_for, sessions_for, supply_of};
+ghost use Rattle.np_causes.specs.Names.{a_node, if_live, if_of_pool, if_of_tenant, if_pending_of, if_under_way, job_of, named_by, named_in, nodes_in, offers_for, parts_of, sessions_for, supply_of};
 ghost use Rattle.np_causes.specs.declared.fact.Thing.TheVariants as thing;
 
 use crate::fact::{Fact, Thing};
-use np_look::{Look, Rows, is_same_role};
+use np_config::Config;
+use np_look::{Look, RequestView, Rows, is_same_role, tenant_of_job};
 use np_record::RequestRecord;
 use np_text::{JobId, Phase, PoolId, RequestId, RequestState, Role, SemId, SessionId, TenantId};
 
@@ -209,6 +211,49 @@ fn node_of_tenant<R: Rows>(rows: &R, tenant: TenantId, at: u32) -> Option<Place>
     }
 }
 
+/// Whether the request is pending and its job is the tenant's.
+fn is_pending_of(config: &Config, tenant: TenantId, view: &RequestView) -> bool
+    ensures { result ≡ is_pending_of config.now tenant (request_seen view.now) }
+{
+    view.kept.state == RequestState::Pending
+        && is_tenant(tenant, tenant_of_job(config, view.kept.job))
+}
+
+/// The request, if it is pending and its job is the tenant's.
+fn if_pending_of(config: &Config, tenant: TenantId, view: &RequestView) -> Place
+    ensures { result ≡ if_pending_of config.now tenant (request_seen view.now) }
+{
+    if is_pending_of(config, tenant, view) {
+        Some(Thing::Request(view.id))
+    } else {
+        None
+    }
+}
+
+/// The request at a place of all, if it is pending and its job is the tenant's.
+fn request_of_tenant<R: Rows>(rows: &R, tenant: TenantId, at: u32) -> Option<Place>
+    ensures { result ≡
+        slice_get (map (if_pending_of (R.site rows.now) tenant) (R.state rows.now).requests) at }
+{
+    match rows.request_view(at) {
+        None => None,
+        Some(view) => Some(if_pending_of(rows.config(), tenant, &view)),
+    }
+}
+
+/// What the tenant's count is made of, at a place: first the nodes, and then the requests.
+#[tactic(auto, using(crate::proofs::Places::in_first, crate::proofs::Places::in_second))]
+fn part_of_tenant<R: Rows>(rows: &R, tenant: TenantId, at: u32) -> Option<Place>
+    ensures { result ≡ slice_get (parts_of (R.site rows.now) (R.state rows.now) tenant) at }
+{
+    let nodes = rows.nodes();
+    if at < nodes {
+        node_of_tenant(rows, tenant, at)
+    } else {
+        request_of_tenant(rows, tenant, at - nodes)
+    }
+}
+
 /// The session, if it is live and the role's.
 fn if_live<R: Rows>(rows: &R, role: Role, session: SessionId) -> Place
     ensures { result ≡ if_live role (R.state rows.now) session }
@@ -304,9 +349,9 @@ pub fn named<L: Look>(look: &L, fact: &Fact, at: u32) -> Option<Place>
         Fact::Unregistered { pool } => only(Some(Thing::Role(Role::Launcher(pool))), at),
         Fact::Busy { pool } => request_under_way(rows, pool, at),
         Fact::PoolUses { pool, .. } => node_of_pool(rows, pool, at),
-        Fact::TenantUses { tenant, .. } => node_of_tenant(rows, tenant, at),
+        Fact::TenantUses { tenant, .. } => part_of_tenant(rows, tenant, at),
         Fact::Stands { node, .. } => both(Some(Thing::Lock(node)), Some(Thing::Owner(node)), at),
-        Fact::Silent { role } => session_of_role(rows, role, at),
+        Fact::Stopped { role } | Fact::MayOpen { role } => session_of_role(rows, role, at),
         Fact::Allocated { request, .. } => only(Some(Thing::Request(request)), at),
         Fact::InWindow { .. }
         | Fact::PastWindow { .. }
