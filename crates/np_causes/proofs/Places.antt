@@ -6,7 +6,6 @@ use Rattle.std.proofs.lemmas.List.FromFn.{get_or-map-range_with_len, length-map-
 use Rattle.np_changes.specs.Prelude.{Configuration, NodeId, Pool, RequestId, RequestRecord, Role, State, asked_of, option_map, option_map_or, range_with_len, request_in}
 use Rattle.np_changes.specs.declared.asked.Asked.{Asked}
 use Rattle.np_causes.specs.Names.{a_node, if_live, nodes_in, offers_for, sessions_for}
-use Rattle.np_causes.specs.declared.fact.Thing.{Thing}
 use Rattle.np_causes.specs.declared.fact.Thing.TheVariants as thing
 
 -- ## a list that begins with one thing, and with two

@@ -1,5 +1,5 @@
 -- which lists of facts explain why a job waits
-use Rattle.std.specs.Prelude.{◌≡◌, ◌⊎◌, ◌<◌, ℕ, List, [], Bool, true, false, not, Option, Some, None, slice_get, All}
+use Rattle.std.specs.Prelude.{◌≡◌, ◌⊎◌, ℕ, List, [], Bool, false, not, Option, Some, None, slice_get, All}
 use Rattle.np_changes.specs.Prelude.{Configuration, EachAfter, JobId, State, is_over, option_map_or}
 use Rattle.np_causes.specs.Fact.{about_of, IsTrueOf}
 use Rattle.np_causes.specs.Names.{named_by}

@@ -1,20 +1,22 @@
 -- worked cases: the facts that explain a wait, in states of worked journals
 use Rattle.std.specs.Prelude.{ℕ, List, [], ◌∷◌, true, false}
-use Rattle.np_changes.specs.Prelude.{AllByRecursion, Amount, Configuration, NodeId, PoolId, Role, SessionFacts, State}
+use Rattle.np_changes.specs.Prelude.{AllByRecursion, Amount, Configuration, Entry, Role, SessionFacts}
 use Rattle.np_text.specs.declared.word.NodeState.TheVariants as node_state
 use Rattle.np_text.specs.declared.word.Phase.TheVariants as phase
 use Rattle.np_text.specs.declared.word.Reason.TheVariants as reason
-use Rattle.np_text.specs.declared.id.RequesterId.{RequesterId}
+use Rattle.np_useful.specs.Examples.{after_first}
 use Rattle.np_worked.specs.Site.{job, janitor, label, launcher, node, pool, request, requester, semaphore, session, tenant}
 use Rattle.np_causes.specs.Fact.{IsTrueOf}
 use Rattle.np_causes.specs.declared.fact.Fact.{Fact}
 use Rattle.np_causes.specs.declared.fact.Fact.TheVariants as fact
 
-abbrev pub AreTrue : Configuration → State → List Fact → Type 0
-AreTrue c s facts = AllByRecursion (IsTrueOf c s) facts
+-- in the state after so many entries of a journal each of these facts is true
+abbrev pub TrueAfter : ℕ → Configuration → List Entry → List Fact → Type 0
+TrueAfter n c journal facts = AllByRecursion (IsTrueOf c (after_first n c journal)) facts
 
-abbrev pub IsFalse : Configuration → State → Fact → Type 0
-IsFalse c s f = IsTrueOf c s f → ⊥
+-- and there this one is not
+abbrev pub FalseAfter : ℕ → Configuration → List Entry → Fact → Type 0
+FalseAfter n c journal f = IsTrueOf c (after_first n c journal) f → ⊥
 
 -- what is known of a session that is live, and of one that crashed
 abbrev pub live : Role → SessionFacts

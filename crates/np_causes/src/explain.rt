@@ -103,8 +103,9 @@ fn tell_all<L: Look>(look: &L, job: JobId, facts: &mut Vec<Fact>) -> Result<(), 
     Err(NoMemory)
 }
 
-/// Why the job waits, or nothing if it doesn't exist or is over. It fails only if memory runs out.
-/// Each thing is told once: with many facts the cost grows with their number times itself.
+/// Why the job waits, or nothing if it doesn't exist or is over. Each thing is told once: with many
+/// facts the cost grows with their number times itself. No clause says when it fails: if memory runs
+/// out, or if one fact names more than 4,294,967,294 things, which it does in no state that fits.
 #[tactic(auto, using(crate::proofs::Growing::first_sound, crate::proofs::Growing::first_told))]
 pub fn causes<L: Look>(alloc: Global, look: &L, job: JobId) -> Result<Vec<Fact>, NoMemory>
     requires { Fits (L.site look.now) (L.state look.now) }

@@ -1,4 +1,3 @@
-use Rattle.std.proofs.Common.{◌≡◌, ◌∙◌, sym}
 use Rattle.np_causes.proofs.Growing.{told_there}
 use Rattle.np_causes.proofs.explain.is_told.Goals as goal
 
