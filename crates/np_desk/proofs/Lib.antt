@@ -1,7 +1,7 @@
 pub mod HistoryLemmas
 pub mod PartLemmas
 pub mod ShareLemmas
-mod SeriesLemmas
+pub mod SeriesLemmas
 mod Accounts
 mod TurnSteps
 mod PassSteps

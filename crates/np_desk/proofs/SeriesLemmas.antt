@@ -1,11 +1,11 @@
 -- Turns of a series, one after another.
 use Rattle.std.proofs.Common.{◌≡◌, ℕ, ◌+◌, ◌≤◌, List, [], ◌∷◌, ◌++◌, length, drop, sym, refl, ap, ◌∙◌, subst, arith, length-append, append-nil, append_assoc, zero-add}
-use Rattle.std.specs.Prelude.{◌⊎◌, Option, Some, None, Result, Ok, Err}
+use Rattle.std.specs.Prelude.{◌⊎◌, IfOk, MatchResult, Option, Some, None, Result, Ok, Err}
 use Rattle.np_text.specs.declared.memory.NoMemory.{NoMemory}
 use Rattle.np_desk.specs.History.{StartsWith, places}
 use Rattle.np_desk.specs.Pass.{Sight, whole_sight}
-use Rattle.np_desk.specs.Series.{Asked, grown, Walked, Heard, Took}
-use Rattle.np_desk.specs.Turned.{entries_of, Records, Answered, Unturned}
+use Rattle.np_desk.specs.Series.{Asked, grown, Walk, Heard, IsOver, Took, TookAtOnce}
+use Rattle.np_desk.specs.Turned.{entries_of, Records, Answered, AnsweredAtOnce, Unturned}
 use Rattle.np_desk.proofs.HistoryLemmas.{starts_same, starts_more, starts_on, drop-all, places_grow, places-append}
 
 module _ {E : Type 0} where
@@ -34,77 +34,134 @@ module _ {E : Type 0} where
   pub begins_on : (before mid after more : List E) → StartsWith mid before → after ≡ mid ++ more → StartsWith after before
   begins_on before mid after more h e = subst (λ (l : List E). StartsWith l before) (sym e) (starts_more mid before more h)
 
+  pub unturned-same : (v : Sight E) → Unturned v v
+  unturned-same v = (starts_same v.seen, refl)
+
   unturned_on : (u v w : Sight E) → Unturned u v → Unturned v w → Unturned u w
   unturned_on u v w h k = (starts_on w.seen v.seen u.seen k.0 h.0, k.1 ∙ h.1)
 
   pub unturned_grown : (v : Sight E) (h : List E) → StartsWith h v.seen → Unturned v (grown v.mine h h)
   unturned_grown v h s = (s, grown_same v.mine h)
 
-module _ {F E A T : Type 0} (answers : F → List E → A → T → Type 0) (recorded : A → T → Option E) where
-  walked-snoc : (f : F) (v u w : Sight E) (xs : List (Asked A T)) (a : A) (t : T) → Walked answers recorded f v xs u → Answered answers recorded f u a t w → Walked answers recorded f v (xs ++ record { ask = a; turn = t } ∷ []) w
-  walked-snoc f v u w [] a t h k = (w, subst (λ (z : Sight E). Answered answers recorded f z a t w) (sym h) k, refl)
-  walked-snoc f v u w (x ∷ xs) a t h k = (h.0, h.1, walked-snoc f h.0 u w xs a t h.2 k)
-
-  grown_turn : (f : F) (mine : List ℕ) (before mid after : List E) (a : A) (t : T) → StartsWith mid before → answers f mid a t → after ≡ mid ++ entries_of (recorded a t)
-      → Answered answers recorded f (grown mine before mid) a t (grown mine before after)
-  grown_turn f mine before mid after a t h k e = (mid, starts_same mid, k, grown_records mine before mid after (recorded a t) h e)
+module _ {E A T : Type 0} (step : Sight E → A → T → Sight E → Type 0) where
+  walk-snoc : (v u w : Sight E) (xs : List (Asked A T)) (a : A) (t : T) → Walk step v xs u → step u a t w → Walk step v (xs ++ record { ask = a; turn = t } ∷ []) w
+  walk-snoc v u w [] a t h k = (w, subst (λ (z : Sight E). step z a t w) (sym h) k, refl)
+  walk-snoc v u w (x ∷ xs) a t h k = (h.0, h.1, walk-snoc h.0 u w xs a t h.2 k)
 
 module _ {S A T : Type 0} (asks : S → Option A) (hears : S → T → S → Type 0) where
   heard-snoc : (p q r : S) (xs : List (Asked A T)) (a : A) (t : T) → Heard asks hears p xs q → asks q ≡ Some a → hears q t r → Heard asks hears p (xs ++ record { ask = a; turn = t } ∷ []) r
   heard-snoc p q r [] a t h e k = (ap asks h ∙ e, r, subst (λ (z : S). hears z t r) (sym h) k, refl)
   heard-snoc p q r (x ∷ xs) a t h e k = (h.0, h.1, h.2, heard-snoc h.1 q r xs a t h.3 e k)
 
-module _ {F E A T S : Type 0} (answers : F → List E → A → T → Type 0) (recorded : A → T → Option E) (asks : S → Option A) (hears : S → T → S → Type 0) where
-  -- n turns of the series were taken
-  abbrev pub Went : F → Sight E → S → ℕ → Sight E → S → Type 0
-  Went f v p n w q = (xs : List (Asked A T)) × Walked answers recorded f v xs w × Heard asks hears p xs q × (length xs ≡ n)
+module _ {E A T S : Type 0} (step : Sight E → A → T → Sight E → Type 0) (asks : S → Option A) (hears : S → T → S → Type 0) where
+  -- so many turns of the series were taken
+  pub record Went (v : Sight E) (p : S) (n : ℕ) (w : Sight E) (q : S) : Type 0 where
+    pub turns : List (Asked A T)
+    pub walked : Walk step v turns w
+    pub heard : Heard asks hears p turns q
+    pub count : length turns ≡ n
 
-  pub went_none : (f : F) (v : Sight E) (p : S) → Went f v p 0 v p
-  went_none f v p = ([], refl, refl, refl)
+  pub none-went : (v : Sight E) (p : S) → Went v p 0 v p
+  none-went v p = record { turns = []; walked = refl; heard = refl; count = refl }
 
-  pub went_on : (f : F) (mine : List ℕ) (before mid after : List E) (p q r : S) (n : ℕ) (a : A) (t : T) → Went f (grown mine before before) p n (grown mine before mid) q
-      → asks q ≡ Some a → hears q t r → StartsWith mid before → answers f mid a t → after ≡ mid ++ entries_of (recorded a t)
-      → Went f (grown mine before before) p (n + 1) (grown mine before after) r
-  went_on f mine before mid after p q r n a t h e k s y g = let x : Asked A T = record { ask = a; turn = t } in (
-    h.0 ++ x ∷ [],
-    walked-snoc answers recorded f (grown mine before before) (grown mine before mid) (grown mine before after) h.0 a t h.1 (grown_turn answers recorded f mine before mid after a t s y g),
-    heard-snoc asks hears p q r h.0 a t h.2 e k,
-    omega (arith, length-append h.0 (x ∷ []), h.3),
-  )
-
-  pub took_all : {R : Type 0} (f : F) (v : Sight E) (p : S) (most n : ℕ) (w : Sight E) (q : S) (y : R) → Went f v p n w q → n ≤ most → (asks q ≡ None) ⊎ (n ≡ most) → Took answers recorded asks hears f v p most (Ok y) w q
-  took_all f v p most n w q y h few over = record {
-    turns = h.0;
-    first = v;
-    last = w;
-    saw = (starts_same v.seen, refl);
-    walked = h.1;
-    heard = h.2;
-    few = omega (arith, h.3);
-    over = (refl, subst (λ (m : ℕ). (asks q ≡ None) ⊎ (m ≡ most)) (sym h.3) over);
+  pub one-more : (v u w : Sight E) (p q r : S) (n : ℕ) (a : A) (t : T) → Went v p n u q → asks q ≡ Some a → step u a t w → hears q t r → Went v p (n + 1) w r
+  one-more v u w p q r n a t went e k heard = let x : Asked A T = record { ask = a; turn = t } in record {
+    turns = went.turns ++ x ∷ [];
+    walked = walk-snoc step v u w went.turns a t went.walked k;
+    heard = heard-snoc asks hears p q r went.turns a t went.heard e heard;
+    count = omega (arith, length-append went.turns (x ∷ []), went.count);
   }
 
-  pub took_some : {R : Type 0} (f : F) (v : Sight E) (p : S) (most n : ℕ) (result : Result R NoMemory) (y : NoMemory) (u w : Sight E) (q : S) → result ≡ Err y → Went f v p n u q → n ≤ most → u ≡ w → Took answers recorded asks hears f v p most result w q
-  took_some {R} f v p most n result y u w q e h few same = subst (λ (z : Result R NoMemory). Took answers recorded asks hears f v p most z w q) (sym e) record {
-    turns = h.0;
+module _ {F E A T S : Type 0} (answers : F → List E → A → T → Type 0) (recorded : A → T → Option E) (asks : S → Option A) (hears : S → T → S → Type 0) where
+  grown_turn : (f : F) (mine : List ℕ) (before mid after : List E) (a : A) (t : T) → StartsWith mid before → answers f mid a t → after ≡ mid ++ entries_of (recorded a t)
+      → AnsweredAtOnce answers recorded f (grown mine before mid) a t (grown mine before after)
+  grown_turn f mine before mid after a t h k e = (k, grown_records mine before mid after (recorded a t) h e)
+
+  -- so many turns of the series were taken at once
+  abbrev pub WentAtOnce : F → Sight E → S → ℕ → Sight E → S → Type 0
+  WentAtOnce f v p n w q = Went (AnsweredAtOnce answers recorded f) asks hears v p n w q
+
+  pub went_on : (f : F) (mine : List ℕ) (before mid after : List E) (p q r : S) (n : ℕ) (a : A) (t : T) → WentAtOnce f (grown mine before before) p n (grown mine before mid) q
+      → asks q ≡ Some a → hears q t r → StartsWith mid before → answers f mid a t → after ≡ mid ++ entries_of (recorded a t)
+      → WentAtOnce f (grown mine before before) p (n + 1) (grown mine before after) r
+  went_on f mine before mid after p q r n a t h e k s y g = one-more (AnsweredAtOnce answers recorded f) asks hears (grown mine before before) (grown mine before mid) (grown mine before after) p q r n a t h e (grown_turn f mine before mid after a t s y g) k
+
+  pub took_all : {R : Type 0} (f : F) (v : Sight E) (p : S) (most n : ℕ) (w : Sight E) (q : S) (y : R) → WentAtOnce f v p n w q → n ≤ most → (asks q ≡ None) ⊎ (n ≡ most) → TookAtOnce answers recorded asks hears f v p most (Ok y) w q
+  took_all f v p most n w q y h few over = record {
+    turns = h.turns;
     first = v;
-    last = u;
-    saw = (starts_same v.seen, refl);
-    walked = h.1;
-    heard = h.2;
-    few = omega (arith, h.3);
-    over = subst (λ (z : Sight E). Unturned u z) same (starts_same u.seen, refl);
+    saw = unturned-same v;
+    walked = h.walked;
+    heard = h.heard;
+    few = omega (arith, h.count);
+    over = subst (λ (m : ℕ). (asks q ≡ None) ⊎ (m ≡ most)) (sym h.count) over;
+  }
+
+  pub took_some : {R : Type 0} (f : F) (v : Sight E) (p : S) (most n : ℕ) (result : Result R NoMemory) (y : NoMemory) (u w : Sight E) (q : S) → result ≡ Err y → WentAtOnce f v p n u q → n ≤ most → u ≡ w → TookAtOnce answers recorded asks hears f v p most result w q
+  took_some {R} f v p most n result y u w q e h few same = subst (λ (z : Result R NoMemory). TookAtOnce answers recorded asks hears f v p most z w q) (sym e) record {
+    turns = h.turns;
+    first = v;
+    saw = unturned-same v;
+    walked = subst (λ (z : Sight E). Walk (AnsweredAtOnce answers recorded f) v h.turns z) same h.walked;
+    heard = h.heard;
+    few = omega (arith, h.count);
+    over = tt;
   }
 
   -- the same, if less had been seen before
-  pub took_later : {R : Type 0} {f : F} {v : Sight E} {u : Sight E} {p : S} {most : ℕ} {result : Result R NoMemory} {w : Sight E} {q : S} → Unturned v u → Took answers recorded asks hears f u p most result w q → Took answers recorded asks hears f v p most result w q
+  pub took_later : {R : Type 0} {f : F} {v : Sight E} {u : Sight E} {p : S} {most : ℕ} {result : Result R NoMemory} {w : Sight E} {q : S} → Unturned v u → TookAtOnce answers recorded asks hears f u p most result w q → TookAtOnce answers recorded asks hears f v p most result w q
   took_later {R} {f} {v} {u} h k = record {
     turns = k.turns;
     first = k.first;
-    last = k.last;
     saw = unturned_on v u k.first h k.saw;
     walked = k.walked;
     heard = k.heard;
     few = k.few;
     over = k.over;
+  }
+
+  walked-loosely : (f : F) (v w : Sight E) (xs : List (Asked A T)) → Walk (AnsweredAtOnce answers recorded f) v xs w → Walk (Answered answers recorded f) v xs w
+  walked-loosely f v w [] h = h
+  walked-loosely f v w (x ∷ xs) h = (h.0, (v.seen, starts_same v.seen, h.1.0, h.1.1), walked-loosely f h.0 w xs h.2)
+
+  over-loosely : {R : Type 0} (result : Result R NoMemory) (w : Sight E) (most : ℕ) (xs : List (Asked A T)) (q : S) → IfOk result (λ _. IsOver asks most xs q) → MatchResult result (λ _. (w ≡ w) × IsOver asks most xs q) (λ _. Unturned w w)
+  over-loosely (Ok y) w most xs q h = (refl, h)
+  over-loosely (Err y) w most xs q h = unturned-same w
+
+  -- turns that were taken at once were taken
+  pub took-loosely : {R : Type 0} (f : F) (v : Sight E) (p : S) (most : ℕ) (result : Result R NoMemory) (w : Sight E) (q : S) → TookAtOnce answers recorded asks hears f v p most result w q → Took answers recorded asks hears f v p most result w q
+  took-loosely f v p most result w q h = record {
+    turns = h.turns;
+    first = h.first;
+    last = w;
+    saw = h.saw;
+    walked = walked-loosely f h.first w h.turns h.walked;
+    heard = h.heard;
+    few = h.few;
+    over = over-loosely result w most h.turns q h.over;
+  }
+
+  -- turns that were taken one after another, and all of them
+  pub took-whole : {R : Type 0} (f : F) (v w : Sight E) (p q : S) (most n : ℕ) (y : R) → Went (Answered answers recorded f) asks hears v p n w q → n ≤ most → (asks q ≡ None) ⊎ (n ≡ most) → Took answers recorded asks hears f v p most (Ok y) w q
+  took-whole f v w p q most n y went few over = record {
+    turns = went.turns;
+    first = v;
+    last = w;
+    saw = unturned-same v;
+    walked = went.walked;
+    heard = went.heard;
+    few = omega (arith, went.count);
+    over = (refl, subst (λ (m : ℕ). (asks q ≡ None) ⊎ (m ≡ most)) (sym went.count) over);
+  }
+
+  pub took-part : {R : Type 0} (f : F) (v u w : Sight E) (p q : S) (most n : ℕ) (result : Result R NoMemory) (y : NoMemory) → result ≡ Err y → Went (Answered answers recorded f) asks hears v p n u q → n ≤ most → Unturned u w → Took answers recorded asks hears f v p most result w q
+  took-part {R} f v u w p q most n result y is went few rest = subst (λ (z : Result R NoMemory). Took answers recorded asks hears f v p most z w q) (sym is) record {
+    turns = went.turns;
+    first = v;
+    last = u;
+    saw = unturned-same v;
+    walked = went.walked;
+    heard = went.heard;
+    few = omega (arith, went.count);
+    over = rest;
   }

@@ -1,8 +1,8 @@
 -- The turns of a series: what was asked and answered in each, and what they saw and made.
-use Rattle.std.specs.Prelude.{◌≡◌, ◌⊎◌, ℕ, ◌≤◌, List, [], ◌∷◌, ◌++◌, length, drop, Option, Some, None, Result, MatchResult}
+use Rattle.std.specs.Prelude.{◌≡◌, ◌⊎◌, ℕ, ◌≤◌, List, [], ◌∷◌, ◌++◌, length, drop, Option, Some, None, Result, IfOk, MatchResult}
 use Rattle.np_desk.specs.History.{places}
 use Rattle.np_desk.specs.Pass.{Sight}
-use Rattle.np_desk.specs.Turned.{Answered, Unturned}
+use Rattle.np_desk.specs.Turned.{Answered, AnsweredAtOnce, Unturned}
 use Rattle.np_text.specs.declared.memory.NoMemory.{NoMemory}
 
 -- an ask, and the turn that answered it
@@ -17,13 +17,17 @@ grown mine before after = record {
   mine = mine ++ places (length before) (drop (length before) after);
 }
 
+module _ {E A T : Type 0} (step : Sight E → A → T → Sight E → Type 0) where
+  -- each turn is a step from what was seen after the one before it
+  abbrev pub Walk : Sight E → List (Asked A T) → Sight E → Type 0
+  Walk v [] w = v ≡ w
+  Walk v (x ∷ xs) w = (u : Sight E) × step v x.ask x.turn u × Walk u xs w
+
 module _ {F E A T : Type 0} (answers : F → List E → A → T → Type 0)
     (recorded : A → T → Option E) where
   -- each turn is answered after the one before it
   abbrev pub Walked : F → Sight E → List (Asked A T) → Sight E → Type 0
-  Walked f v [] w = v ≡ w
-  Walked f v (x ∷ xs) w = (u : Sight E)
-      × Answered answers recorded f v x.ask x.turn u × Walked f u xs w
+  Walked f v xs w = Walk (Answered answers recorded f) v xs w
 
 module _ {S A T : Type 0} (asks : S → Option A) (hears : S → T → S → Type 0) where
   -- the series asked these one after another, and heard the answers
@@ -51,3 +55,15 @@ module _ {F E A T S : Type 0} (answers : F → List E → A → T → Type 0)
     pub few : length turns ≤ most
     pub over : MatchResult result
         (λ _. (w ≡ last) × IsOver asks most turns q) (λ _. Unturned last w)
+
+  -- The same of turns with one ticket, or alone: nothing else is seen between the first and the last
+  -- of them, nor after it
+  pub record TookAtOnce {R : Type 0} (f : F) (v : Sight E) (p : S) (most : ℕ) (result : Result R NoMemory)
+      (w : Sight E) (q : S) : Type 0 where
+    pub turns : List (Asked A T)
+    pub first : Sight E
+    pub saw : Unturned v first
+    pub walked : Walk (AnsweredAtOnce answers recorded f) first turns w
+    pub heard : Heard asks hears p turns q
+    pub few : length turns ≤ most
+    pub over : IfOk result (λ _. IsOver asks most turns q)

@@ -27,6 +27,10 @@ module _ {F E A T : Type 0} (answers : F → List E → A → T → Type 0)
   Answered f v ask turn w = (before : List E) × StartsWith before v.seen
       × answers f before ask turn × Records (recorded ask turn) before v w
 
+  -- the same after nothing but what was seen
+  abbrev pub AnsweredAtOnce : F → Sight E → A → T → Sight E → Type 0
+  AnsweredAtOnce f v ask turn w = answers f v.seen ask turn × Records (recorded ask turn) v.seen v w
+
   -- what a call of `turn` did
   abbrev pub Turned : F → Sight E → A → Result T NoMemory → Sight E → Type 0
   Turned f v ask (Ok turn) w = Answered f v ask turn w

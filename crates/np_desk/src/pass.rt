@@ -4,7 +4,7 @@ ghost use Rattle.std.specs.Prelude.{◌≡◌, List, [], ◌∷◌, length, Bool
 ghost use Rattle.np_desk.specs.History.{StartsWith, AreRising, added, merged};
 ghost use Rattle.np_desk.specs.Part.{IsWhole, first_half, second_half, joined};
 ghost use Rattle.np_desk.specs.Pass.{PassView, IsOf, IsAllMine, sight_of};
-ghost use Rattle.np_desk.specs.Series.{Took};
+ghost use Rattle.np_desk.specs.Series.{TookAtOnce};
 ghost use Rattle.np_desk.specs.Turned.{Turned};
 ghost use Rattle.np_desk.specs.Step.{pass_view, IsPass};
 
@@ -84,7 +84,7 @@ impl<M: SeqObject> Pass<M> {
     ) -> Result<(), NoMemory>
         requires own { IsOf self.old desk.now }
         ensures own { IsOf self.new desk.now }
-        ensures turns { Took M.answers M.recorded S.asks S.hears desk.now.origin.fixed
+        ensures turns { TookAtOnce M.answers M.recorded S.asks S.hears desk.now.origin.fixed
             (sight_of self.old) series.old most result (sight_of self.new) series.new }
         ensures legal { M.legal desk.now.origin.fixed self.new.seen ≡ true }
         ensures part { self.new.part ≡ self.old.part }

@@ -2,7 +2,7 @@
 
 ghost use Rattle.std.specs.Prelude.{◌≡◌, ℕ, List, true};
 ghost use Rattle.np_desk.specs.History.{StartsWith};
-ghost use Rattle.np_desk.specs.Series.{Took, grown};
+ghost use Rattle.np_desk.specs.Series.{TookAtOnce, grown};
 
 use crate::object::SeqObject;
 use crate::series::Series;
@@ -19,7 +19,7 @@ pub(crate) fn take_turns<M: SeqObject, S: Series<Ask = M::Ask, Turn = M::Turn>>(
     ensures legal { M.legal (M.fixed object.old) (M.history object.new) ≡ true }
     ensures begins { StartsWith (M.history object.new) (M.history object.old) }
     ensures turns { (mine : List ℕ) →
-        Took M.answers M.recorded S.asks S.hears (M.fixed object.old)
+        TookAtOnce M.answers M.recorded S.asks S.hears (M.fixed object.old)
         (grown mine (M.history object.old) (M.history object.old)) series.old most result
         (grown mine (M.history object.old) (M.history object.new)) series.new }
 {

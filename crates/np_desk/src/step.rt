@@ -4,7 +4,7 @@ ghost use Rattle.std.specs.Prelude.{◌≡◌, ℕ, ◌+◌, ◌<◌, ◌^◌, L
 ghost use Rattle.np_desk.specs.declared.view.Stage.TheVariants.{Idle, Waits, Has};
 ghost use Rattle.np_desk.specs.History.{StartsWith};
 ghost use Rattle.np_desk.specs.Pass.{origin_of};
-ghost use Rattle.np_desk.specs.Series.{Took, grown};
+ghost use Rattle.np_desk.specs.Series.{TookAtOnce, grown};
 ghost use Rattle.np_desk.specs.Step.{IsDesk, IsAt, IsServed, at_stage, after_turn, KnowsMine, HasObject};
 ghost use Rattle.np_desk.specs.Turned.{entries_of};
 
@@ -106,7 +106,7 @@ pub fn ask_in_row<M: SeqObject, S: Series<Ask = M::Ask, Turn = M::Turn>>(
     ensures same { (seat.new.table_id ≡ seat.old.table_id) × (seat.new.me.0 ≡ seat.old.me.0) }
     ensures object { HasObject M.history M.fixed M.legal (M.fixed table.now.key.value) seat.new.me
         (λ h. StartsWith h seat.old.me.0.seen
-        × ((mine : List ℕ) → Took M.answers M.recorded S.asks S.hears (M.fixed table.now.key.value)
+        × ((mine : List ℕ) → TookAtOnce M.answers M.recorded S.asks S.hears (M.fixed table.now.key.value)
         (grown mine seat.old.me.0.seen seat.old.me.0.seen) series.old most result
         (grown mine seat.old.me.0.seen h) series.new)) }
 {

@@ -1,8 +1,9 @@
 use Rattle.std.proofs.Common.{◌≡◌, true, List, refl, sym, ap, ◌∙◌, subst, arith, inl, inr}
 use Rattle.std.proofs.lemmas.Result.{err_from_is_err_and}
 use Rattle.np_desk.specs.Series.{grown}
+use Rattle.np_desk.specs.Turned.{AnsweredAtOnce}
 use Rattle.np_desk.proofs.HistoryLemmas.{starts_same}
-use Rattle.np_desk.proofs.SeriesLemmas.{begins_on, went_none, went_on, took_all, took_some}
+use Rattle.np_desk.proofs.SeriesLemmas.{begins_on, none-went, went_on, took_all, took_some}
 use Rattle.np_desk.proofs.row.take_turns.Goals as goal
 
 pub loop-turn-init : goal.loop-turn-init
@@ -10,7 +11,7 @@ loop-turn-init g c = record {
   fixed = refl;
   legal = c.requires.legal;
   begins = starts_same (g.M.SeqObject.history c.args.object.now);
-  went = λ mine. went_none g.M.SeqObject.answers g.M.SeqObject.recorded g.S.Series.asks g.S.Series.hears (g.M.SeqObject.fixed c.args.object.now) (grown mine (g.M.SeqObject.history c.args.object.now) (g.M.SeqObject.history c.args.object.now)) c.args.series.now;
+  went = λ mine. none-went (AnsweredAtOnce g.M.SeqObject.answers g.M.SeqObject.recorded (g.M.SeqObject.fixed c.args.object.now)) g.S.Series.asks g.S.Series.hears (grown mine (g.M.SeqObject.history c.args.object.now) (g.M.SeqObject.history c.args.object.now)) c.args.series.now;
 }
 
 pub loop-turn-preserved : goal.loop-turn-preserved
