@@ -4,7 +4,7 @@ use Rattle.std.specs.Prelude.{◌||◌, find, is_none}
 use Rattle.std.proofs.lemmas.Bool.{or_parts}
 use Rattle.np_changes.specs.Prelude.{Configuration, JobId, JobRecord, RequesterId, State, first_full, is_new}
 use Rattle.np_lists.proofs.FoundLemmas.{find-passes}
-use Rattle.np_groups.specs.Groups.{ids_in}
+use Rattle.np_table.specs.Groups.{ids_in}
 use Rattle.np_look.specs.Jobs.{is_job_to_begin, is_supplied, job_to_begin, may_begin}
 use Rattle.np_active.specs.Active.{ActiveOf, AreActive, is_job_in, is_prompt, prompt_group, prompt_ones, waiting_group, waiting_ones}
 use Rattle.np_active.specs.Begin.{IsBest, comes_first, may_begin_of}

@@ -4,10 +4,10 @@ use Rattle.std.specs.Prelude.{◌&&◌}
 use Rattle.std.proofs.lemmas.Bool.{cases_order}
 use Rattle.std.proofs.lemmas.Bool.Decides.{nat_tests}
 use Rattle.np_changes.specs.Prelude.{Configuration, JobId, Rises, State}
-use Rattle.np_groups.specs.declared.groups.Group.{Group}
-use Rattle.np_groups.specs.declared.groups.Member.{Member}
-use Rattle.np_groups.specs.Groups.{is_member_before}
-use Rattle.np_keys.specs.Keys.{is_job_before}
+use Rattle.np_table.specs.declared.groups.Group.{Group}
+use Rattle.np_table.specs.declared.groups.Member.{Member}
+use Rattle.np_table.specs.Groups.{is_member_before}
+use Rattle.np_look.specs.Keys.{is_job_before}
 use Rattle.np_active.specs.Begin.{IsBest, IsPast, comes_first, earlier_job, first_line, first_of_line, is_free, line_after}
 use Rattle.np_active.proofs.WaitingLemmas.{IsEmpty, IsLineFrom, first-line, next-line}
 

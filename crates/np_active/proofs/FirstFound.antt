@@ -2,10 +2,10 @@
 use Rattle.std.proofs.Common.{◌≡◌, ◌∙◌, ◌⊎◌, inl, inr, ℕ, Bool, true, false, List, Option, Some, None, refl, sym, ap}
 use Rattle.std.specs.Prelude.{find, slice_get}
 use Rattle.np_changes.specs.Prelude.{Configuration, JobId, JobRecord, Rises, State, list_any, option_map_or}
-use Rattle.np_groups.specs.declared.groups.Group.{Group}
-use Rattle.np_groups.specs.Groups.{ids_in}
-use Rattle.np_groups.proofs.Ids.{ids-has, ids-rise, same-itself}
-use Rattle.np_keys.specs.Keys.{is_job_before, same_job, job_one_way, job_some_way, job_equal}
+use Rattle.np_table.specs.declared.groups.Group.{Group}
+use Rattle.np_table.specs.Groups.{ids_in}
+use Rattle.np_table.proofs.Ids.{ids-has, ids-rise, same-itself}
+use Rattle.np_look.specs.Keys.{is_job_before, same_job, job_one_way, job_some_way, job_equal}
 use Rattle.np_look.specs.Readers.{jobs_from}
 use Rattle.np_active.specs.Active.{ActiveOf, AreActive, JobKind, is_job_in, job_group}
 use Rattle.np_active.specs.Begin.{IsBest, at_line, comes_first, first_of_line, is_free}

@@ -4,11 +4,11 @@ use Rattle.std.specs.Prelude.{◌==◌, ◌&&◌, ◌||◌, is_some, slice_get}
 use Rattle.np_changes.specs.Prelude.{Configuration, JobId, JobRecord, RequesterId, Rises, Role, SessionFacts, SessionId, State, has_live_session, list_any, option_map_or, option_or, speaks_for}
 use Rattle.std.proofs.lemmas.Bool.Decides.{nat_tests}
 use Rattle.std.proofs.lemmas.Option.{slice_get_past}
-use Rattle.np_groups.specs.declared.groups.Group.{Group}
-use Rattle.np_groups.specs.declared.groups.Member.{Member}
-use Rattle.np_groups.specs.Groups.{ids_in}
-use Rattle.np_groups.proofs.Ids.{ids-has, ids-rise, same-itself, same-list}
-use Rattle.np_keys.specs.Keys.{is_job_before, same_job, job_one_way, job_some_way, job_equal, is_session_before, same_session, session_one_way, session_some_way, session_equal}
+use Rattle.np_table.specs.declared.groups.Group.{Group}
+use Rattle.np_table.specs.declared.groups.Member.{Member}
+use Rattle.np_table.specs.Groups.{ids_in}
+use Rattle.np_table.proofs.Ids.{ids-has, ids-rise, same-itself, same-list}
+use Rattle.np_look.specs.Keys.{is_job_before, same_job, job_one_way, job_some_way, job_equal, is_session_before, same_session, session_one_way, session_some_way, session_equal}
 use Rattle.np_look.specs.Readers.{current_of, first_mute, jobs_from, mute_from, speaker_from}
 use Rattle.np_active.specs.Active.{ActiveOf, AreActive, JobKind, SessionKind, is_job_of, is_kind_in, is_of_kind, job_group, live_group, live_ones, mute_group, mute_ones, role_group, session_group, speakers}
 use Rattle.np_active.proofs.Rows.{has-at, ids_from, last-at, last_of, none-before, numbers-rise}

@@ -7,12 +7,12 @@ use Rattle.np_lists.proofs.Each.{all-weaker}
 use Rattle.np_lists.proofs.FilterLemmas.{filter-nothing}
 use Rattle.np_lists.proofs.FoundLemmas.{find-passes}
 use Rattle.np_lists.proofs.Halves.{none-find}
-use Rattle.np_groups.specs.declared.groups.Group.{Group}
-use Rattle.np_groups.specs.declared.groups.Member.{Member}
-use Rattle.np_groups.specs.Groups.{group_after, is_group_before, is_member_before, same_group}
-use Rattle.np_groups.proofs.Order.{group-equal}
-use Rattle.np_groups.proofs.Walk.{IsLeast, least-found}
-use Rattle.np_keys.specs.Keys.{is_job_before}
+use Rattle.np_table.specs.declared.groups.Group.{Group}
+use Rattle.np_table.specs.declared.groups.Member.{Member}
+use Rattle.np_table.specs.Groups.{group_after, is_group_before, is_member_before, same_group}
+use Rattle.np_table.proofs.MemberOrder.{group-equal}
+use Rattle.np_table.proofs.Walk.{IsLeast, least-found}
+use Rattle.np_look.specs.Keys.{is_job_before}
 use Rattle.np_active.specs.Begin.{at_line, first_line, first_of_line, line_after, line_if}
 use Rattle.np_lists.proofs.Plain.{find-alike}
 

@@ -1,15 +1,11 @@
 -- the groups of jobs and of sessions, and what a state says of them
 use Rattle.std.specs.Prelude.{◌≡◌, ◌≤◌, ◌==◌, ◌&&◌, ◌||◌, ℕ, List, Bool, true, false, not, if◌then◌else◌, Option, Some, None, option_and_then, slice_get}
 use Rattle.np_changes.specs.Prelude.{Configuration, Janitor, Job, JobId, JobRecord, Launcher, Reaper, RequestId, Requester, RequesterId, Rises, Role, SessionFacts, SessionId, State, is_new, is_requesters, option_map_or, request_in, session_of, speaks_for}
-use Rattle.np_changes.specs.declared.changes.RequestEdit.{RequestEdit}
-use Rattle.np_changes.specs.declared.changes.RequestsChange.{RequestsChange}
 use Rattle.np_look.specs.Readers.{request_state_of}
-use Rattle.np_groups.specs.declared.groups.Group.{Group}
-use Rattle.np_groups.specs.declared.groups.Member.{Member}
-use Rattle.np_groups.specs.Groups.{has_member, is_member_before}
-use Rattle.np_keys.specs.Keys.{is_job_before, is_session_before, same_job, same_session}
-use Rattle.np_changes.specs.declared.changes.RequestEdit.TheVariants as edit
-use Rattle.np_changes.specs.declared.changes.RequestsChange.TheVariants as requests
+use Rattle.np_table.specs.declared.groups.Group.{Group}
+use Rattle.np_table.specs.declared.groups.Member.{Member}
+use Rattle.np_table.specs.Groups.{has_member, is_member_before}
+use Rattle.np_look.specs.Keys.{is_job_before, is_session_before, same_job, same_session}
 use Rattle.np_look.specs.Jobs.{is_job_to_finish, is_job_to_release, is_job_to_take, is_own, is_supplied, was_given}
 use Rattle.np_active.specs.Lines.{line_of}
 
@@ -162,32 +158,3 @@ pub record ActiveOf : Type 0 where
 pub record AreActive (c : Configuration) (s : State) (active : ActiveOf) : Type 0 where
   pub jobs : AreJobGroups c s active.lines active.jobs
   pub sessions : AreSessionGroups s active.sessions
-
--- ## the changes of an event (own)
-
--- the job that asks for the request, if it is there and has one
-abbrev pub asker_of_request : RequestId → State → Option JobId
-asker_of_request r s = option_and_then (λ request. request.job) (request_in r s.requests)
-
--- the edit answers the request: it is fulfilled or failed from then on
-abbrev pub answers : RequestEdit → Bool
-answers (edit.Serve p) = false
-answers (edit.AddNode n) = false
-answers (edit.Decline p why failed) = failed
-answers edit.Fulfil = true
-answers edit.GiveBack = false
-answers edit.Fail = true
-answers (edit.Revise relative) = false
-
--- the job that asks for the request that is answered or removed
-abbrev pub asker_of : RequestsChange → State → Option JobId
-asker_of (requests.Edit r change) s = if answers change then asker_of_request r s else None
-asker_of (requests.Remove r) s = asker_of_request r s
-asker_of change s = None
-
--- there is room in six groups each for a job that asks, one whose record is put, one that takes handles and
--- one that gives them back, and in three groups each for a session that begins and for one that is mute or
--- over
-pub record HasRoom (active : ActiveOf) : Type 0 where
-  pub jobs : 24 ≤ active.job_room
-  pub sessions : 6 ≤ active.session_room

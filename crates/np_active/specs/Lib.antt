@@ -1,4 +1,5 @@
 pub mod Lines
 pub mod Active
 pub mod Begin
-pub mod Members
+pub mod Placed
+pub mod Prepared

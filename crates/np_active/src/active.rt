@@ -1,20 +1,21 @@
 //! The groups of a state's jobs and of its sessions, kept as events change it.
 
-ghost use Rattle.std.specs.Prelude.{◌≡◌, IfOk, OnOk};
-ghost use Rattle.np_changes.specs.Prelude.{Configuration, IsPlanned, IsReached, State, changed, has_live_session};
+ghost use Rattle.std.specs.Prelude.{◌≡◌, IfOk};
+ghost use Rattle.np_changes.specs.Prelude.{Configuration, IsReached, State, changed, has_live_session};
+ghost use Rattle.np_changes.specs.declared.changes.Changes.{Changes};
 ghost use Rattle.np_look.specs.Jobs.{job_to_finish, job_to_release, job_to_take};
 ghost use Rattle.np_look.specs.Readers.{current_of, first_mute};
-ghost use Rattle.np_active.specs.Active.{AreActive, HasRoom, asker_of};
+ghost use Rattle.np_active.specs.Active.{AreActive};
+ghost use Rattle.np_active.specs.Prepared.{HasRoom, IsPast};
+ghost use Rattle.np_classes.specs.Listed.{IsTouched, TouchedOf};
 
-use crate::jobs::{all_jobs, asker_of, ending_group, put_named, releasing_group, supplied_group};
+use crate::jobs::{all_jobs, ending_group, move_jobs, releasing_group, supplied_group};
 use crate::lines::lines_of;
-use crate::members::{
-    all_sessions, live_group, mute_group, put_changed_session, put_new_session, role_group,
-};
-use np_changes::Changes;
-use np_groups::Groups;
-use np_keys::{ByJob, BySession};
-use np_look::Rows;
+use crate::past::{Past, past_of};
+use crate::sessions::{all_sessions, live_group, move_sessions, mute_group, role_group};
+use np_classes::Touched;
+use np_look::{ByJob, BySession, Rows};
+use np_table::Groups;
 use np_text::{JobId, RequesterId, Role, SessionId};
 use std::alloc::{AllocError, Global};
 use std::marker::Model;
@@ -48,8 +49,8 @@ impl Model for Active {
 impl Active {
     /// The groups of the state. For each job it finds the first of its requester that has the same
     /// semaphores, which costs the number of jobs times that of the different lists of semaphores
-    /// of a requester. Then it reads each job and each session once, with six binary searches for
-    /// each job, a lookup for each of its semaphores, and up to three for each session.
+    /// of a requester. Then it reads each job and each session once, with a few binary searches for
+    /// each, and a lookup for each semaphore of a job.
     pub fn rebuild<R: Rows>(alloc: Global, rows: &R) -> Result<Active, AllocError>
         ensures { IfOk result (λ x. AreActive (R.site rows.now) (R.state rows.now) x) }
     {
@@ -121,42 +122,45 @@ impl Active {
         self.sessions.at(live_group(requester), 0).is_some()
     }
 
-    /// Takes the memory that `note` needs for the changes, before the state changes, and returns
-    /// the job that asks for the request that they answer or remove, if it has one. The members
-    /// stay as they are. One lookup of a request if they answer or remove it; any other edit of a
-    /// request costs no lookup.
+    /// Lists the jobs and the sessions that an event's changes touch with the groups that they are
+    /// in, before the state changes, and takes the memory for `note`. The members stay as they are.
+    /// Two lookups for each such job, one of its request if it has asked for its nodes, a lookup for
+    /// each of its semaphores, and one lookup for each session.
     pub fn prepare<R: Rows>(
         &mut self,
+        alloc: Global,
         rows: &R,
-        changes: &Changes,
-    ) -> Result<Option<JobId>, AllocError>
+        touched: &Touched,
+    ) -> Result<Past, AllocError>
         ensures lines { self.new.lines ≡ self.old.lines }
         ensures jobs { self.new.jobs ≡ self.old.jobs }
         ensures sessions { self.new.sessions ≡ self.old.sessions }
-        ensures asker { IfOk result (λ asker.
-            asker ≡ asker_of changes.now.requests (R.state rows.now)) }
-        ensures room { OnOk result (HasRoom self.new) }
+        ensures past { IfOk result (λ past.
+            IsPast (R.site rows.now) (R.state rows.now) self.old.lines touched.now past) }
+        ensures room { IfOk result (λ past. HasRoom past self.new) }
     {
-        self.jobs.reserve(24)?;
-        self.sessions.reserve(6)?;
-        Ok(asker_of(rows, &changes.requests))
+        let past = past_of(alloc, rows, self.lines.as_slice(), touched)?;
+        self.jobs.reserve(past.jobs.len())?;
+        self.sessions.reserve(2 * past.sessions.len())?;
+        Ok(past)
     }
 
-    /// Puts the jobs and the sessions that the changes name, and the job that `prepare` returned,
-    /// where they are now, after the state has changed. It takes no memory. It costs two lookups
-    /// and six binary searches for a job whose record is put, for one that takes handles or gives
-    /// them back, and for the one that `prepare` returned, if there is one; a lookup more for each
-    /// semaphore of such a job that is new or over, or was given its nodes; and a lookup and up to
-    /// three binary searches for a session.
-    pub fn note<R: Rows>(&mut self, rows: &R, changes: &Changes, asker: Option<JobId>)
-        requires { HasRoom self.old }
-        ensures { (c : Configuration) (s : State) → IsReached c s → IsPlanned c s changes.now
-            → asker ≡ asker_of changes.now.requests s
-            → R.site rows.now ≡ c → R.state rows.now ≡ changed c changes.now s
-            → AreActive c s self.old → AreActive c (changed c changes.now s) self.new }
+    /// Moves the jobs and the sessions that were touched to where they are now, after the state has
+    /// changed. It takes no memory. The same lookups as for `prepare`. A group that is left or
+    /// joined costs a few binary searches; where an id stays, nothing is searched.
+    pub fn note<R: Rows>(&mut self, rows: &R, past: &Past)
+        requires { HasRoom past.now self.old }
+        ensures { (c : Configuration) (s : State) (ch : Changes) (touched : TouchedOf)
+            → IsReached c s → IsTouched s ch touched → IsPast c s self.old.lines touched past.now
+            → R.site rows.now ≡ c → R.state rows.now ≡ changed c ch s
+            → AreActive c s self.old → AreActive c (changed c ch s) self.new }
     {
-        put_named(&mut self.jobs, rows, self.lines.as_slice(), asker, changes);
-        put_new_session(&mut self.sessions, rows, &changes.grows);
-        put_changed_session(&mut self.sessions, rows, &changes.sessions);
+        move_jobs(
+            &mut self.jobs,
+            rows,
+            self.lines.as_slice(),
+            past.jobs.as_slice(),
+        );
+        move_sessions(&mut self.sessions, rows, past.sessions.as_slice());
     }
 }

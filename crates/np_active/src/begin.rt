@@ -3,17 +3,16 @@
 
 ghost use Rattle.std.specs.Prelude.{◌≡◌, None, find};
 ghost use Rattle.np_lists.specs.Rising.{Rises};
-ghost use Rattle.np_groups.specs.Groups.{ids_in, is_member_before};
-ghost use Rattle.np_keys.specs.Keys.{is_job_before};
+ghost use Rattle.np_table.specs.Groups.{ids_in, is_member_before};
+ghost use Rattle.np_look.specs.Keys.{is_job_before};
 ghost use Rattle.np_look.specs.Jobs.{job_to_acquire, job_to_begin};
 ghost use Rattle.np_active.specs.Active.{AreActive, prompt_group};
 ghost use Rattle.np_active.specs.Begin.{IsBest, at_line, earlier_job, first_line, first_of_line, is_free, line_after, line_if, may_begin_of};
 
 use crate::active::Active;
 use crate::jobs::{lacking_group, prompt_group, waiting_group};
-use np_groups::{Group, Groups};
-use np_keys::ByJob;
-use np_look::{Rows, first_full};
+use np_look::{ByJob, Rows, first_full};
+use np_table::{Group, Groups};
 use np_text::{JobId, RequesterId};
 
 // ## one job

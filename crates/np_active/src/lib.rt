@@ -13,14 +13,11 @@
 //! which is found once, from the configuration.
 //!
 //! `specs/Active` says which groups a job and a session are in, and when the members of all groups
-//! are those of a state; `specs/Lines` says which line a job is in. `Active` keeps them as each
-//! event changes the state: `prepare` takes the memory, and once the state has changed, `note` puts
-//! the jobs and the session that the changes name where they are now, which can't fail. The
-//! requester and the semaphores of a job and the role of a session never change, so one thing only
-//! is read of the state before: which job asks for the request that is answered or removed. A
-//! request is answered once it is fulfilled or failed. Any other edit leaves the request's job
-//! where it is: it keeps the request's state, or the request was requested or pending before it and
-//! is so after it.
+//! are those of a state; `specs/Lines` says which line a job is in. A job is in one group at most, by
+//! its phase, and a session in two. `Active` keeps them as each event changes the state: `prepare`
+//! lists the jobs and the sessions that the event's changes touch (np_classes), with the groups that
+//! they are in, and takes the memory; once the state has changed, `note` moves what is elsewhere now,
+//! which can't fail.
 //!
 //! | reader | members of which group | binary searches |
 //! |---|---|---|
@@ -38,6 +35,8 @@ mod active;
 mod begin;
 mod jobs;
 mod lines;
-mod members;
+mod past;
+mod sessions;
 
 pub use active::Active;
+pub use past::Past;

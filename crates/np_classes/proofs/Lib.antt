@@ -1,9 +1,11 @@
 pub mod Apart
 pub mod Rows
-pub mod Folds
 pub mod Declines
-pub mod Untouched
-pub mod Listed
 pub mod Unheld
 pub mod Noted
 pub mod Rebuilt
+pub mod Untouched
+pub mod Listed
+pub mod Grouped
+pub mod JobsUntouched
+pub mod SessionsUntouched

@@ -11,7 +11,7 @@ use Rattle.np_changes.specs.declared.changes.RequestsChange.{RequestsChange}
 use Rattle.np_changes.specs.declared.changes.SessionsChange.{SessionsChange}
 use Rattle.np_look.specs.Readers.{queued_nodes, queued_requests}
 use Rattle.np_text.specs.declared.word.Phase.TheVariants as phase
-use Rattle.np_keys.specs.Keys.{same_node, request_equal}
+use Rattle.np_look.specs.Keys.{same_node, request_equal}
 use Rattle.np_changes.specs.declared.changes.Growth.TheVariants as grow
 use Rattle.np_changes.specs.declared.changes.RequestEdit.TheVariants as edit
 use Rattle.np_changes.specs.declared.changes.RequestsChange.TheVariants as requests
@@ -21,9 +21,8 @@ use Rattle.np_changes.specs.Premises.{Premises, NodesPremise, RequestsPremise, E
 use Rattle.np_changes.proofs.PremisesOf.{premises}
 use Rattle.np_laws.specs.Parts.{AllocationsListed, Invariant, IsAsking, JobIn, JobsStand}
 use Rattle.np_laws.proofs.Runs.{invariant-Runs}
-use Rattle.np_classes.specs.Touched.{grows_node, changes_node, ends_at_node, unclaims_node, touches_node, grows_request, changes_request, touches_request, grows_request_queue, leaves_request_queue, ends_at_request, touches_request_queue}
-use Rattle.np_classes.specs.Placed.{past_node, past_queue, past_request}
-use Rattle.np_classes.specs.Prepared.{IsPrepared, TouchedOf, ended, grown_nodes, changed_nodes, unclaimed_nodes, touched_nodes, grown_requests, changed_requests, touched_requests, grown_queues, left_queues, touched_queues}
+use Rattle.np_classes.specs.Touched.{touched_jobs, touched_sessions, grows_node, changes_node, ends_at_node, unclaims_node, touches_node, grows_request, changes_request, touches_request, grows_request_queue, leaves_request_queue, ends_at_request, touches_request_queue}
+use Rattle.np_classes.specs.Listed.{IsTouched, TouchedOf, ended, grown_nodes, changed_nodes, unclaimed_nodes, touched_nodes, grown_requests, changed_requests, touched_requests, grown_queues, left_queues, touched_queues}
 use Rattle.np_lists.proofs.Plain.{or_false, or_true}
 use Rattle.np_changes.proofs.Facts.{remove-alone}
 
@@ -281,37 +280,32 @@ touched-once c s ch given = by ch.requests given.requests where
 
 -- ## all of it
 
-pub node-listed : (c : Configuration) (s : State) (ch : Changes) (queued : List NodeId) → IsReached c s → IsPlanned c s ch
-    → ((session : SessionId) → ch.sessions ≡ sessions.End session → queued ≡ queued_nodes session s)
-    → (n : NodeId) → touches_node ch s n ≡ true → listed n (touched_nodes ch queued s) ≡ true
-node-listed c s ch queued reached planned all n is =
-    let given : Premises c s ch = subst (Premises c s) (sym planned.plan) (premises c s planned.event planned.accepted) in
-    let holds : Invariant c s = invariant-Runs c reached.journal s reached.runs in
-    either-listed n _ _ _ (unclaimed_nodes ch.requests s)
-    (either-listed n _ _ _ (ended ch.sessions queued)
-    (either-listed n _ _ (grown_nodes ch.grows s) (changed_nodes ch.nodes s)
-    (grown-listed ch.grows s n)
-    (changed-listed c s ch n holds.owned.allocations holds.jobs given ch.nodes refl))
-    (ended-listed s queued n ch.sessions all))
-    (unclaimed-listed c s ch n holds.owned.allocations holds.jobs given ch.requests refl)
-    is
+module _ (c : Configuration) (s : State) (ch : Changes) (queued_nodes_are : List NodeId) (queued_requests_are : List RequestId) (reached : IsReached c s) (planned : IsPlanned c s ch)
+    (all_nodes : (session : SessionId) → ch.sessions ≡ sessions.End session → queued_nodes_are ≡ queued_nodes session s)
+    (all_requests : (session : SessionId) → ch.sessions ≡ sessions.End session → queued_requests_are ≡ queued_requests session s) where
+  given : Premises c s ch
+  given = subst (Premises c s) (sym planned.plan) (premises c s planned.event planned.accepted)
 
--- what is listed, with the groups that it is in, is prepared
-pub is-prepared : (c : Configuration) (s : State) (ch : Changes) (nodes : List NodeId) (queued : List RequestId) (touched : TouchedOf) → IsReached c s → IsPlanned c s ch
-    → ((session : SessionId) → ch.sessions ≡ sessions.End session → nodes ≡ queued_nodes session s)
-    → ((session : SessionId) → ch.sessions ≡ sessions.End session → queued ≡ queued_requests session s)
-    → touched.nodes ≡ touched_nodes ch nodes s → touched.requests ≡ touched_requests ch s → touched.queues ≡ touched_queues ch queued
-    → touched.past_nodes ≡ map (past_node c s) touched.nodes → touched.past_requests ≡ map (past_request s) touched.requests
-    → touched.past_queues ≡ map (past_queue s) touched.queues
-    → IsPrepared c s ch touched
-is-prepared c s ch nodes queued touched reached planned all_nodes all_requests nodes_are requests_are queues_are past_nodes past_requests past_queues =
-    let given : Premises c s ch = subst (Premises c s) (sym planned.plan) (premises c s planned.event planned.accepted) in
-    record {
-      nodes = λ n is. ap (listed n) nodes_are ∙ node-listed c s ch nodes reached planned all_nodes n is;
-      requests = λ r is. ap (listed_request r) requests_are ∙ request-listed s ch r is;
-      queues = λ r is. ap (listed_request r) queues_are ∙ queue-listed s ch queued all_requests r is;
-      past_nodes = past_nodes;
-      past_requests = past_requests;
-      past_queues = past_queues;
-      once = subst (λ (rs : List RequestId). length rs ≤ 1) (sym requests_are) (touched-once c s ch given);
-    }
+  node-listed : (n : NodeId) → touches_node ch s n ≡ true → listed n (touched_nodes ch queued_nodes_are s) ≡ true
+  node-listed n is =
+      let holds : Invariant c s = invariant-Runs c reached.journal s reached.runs in
+      either-listed n _ _ _ (unclaimed_nodes ch.requests s)
+      (either-listed n _ _ _ (ended ch.sessions queued_nodes_are)
+      (either-listed n _ _ (grown_nodes ch.grows s) (changed_nodes ch.nodes s)
+      (grown-listed ch.grows s n)
+      (changed-listed c s ch n holds.owned.allocations holds.jobs given ch.nodes refl))
+      (ended-listed s queued_nodes_are n ch.sessions all_nodes))
+      (unclaimed-listed c s ch n holds.owned.allocations holds.jobs given ch.requests refl)
+      is
+
+  -- what is listed is touched
+  pub is-touched : (touched : TouchedOf) → touched.nodes ≡ touched_nodes ch queued_nodes_are s → touched.requests ≡ touched_requests ch s → touched.queues ≡ touched_queues ch queued_requests_are
+      → touched.jobs ≡ touched_jobs ch s → touched.sessions ≡ touched_sessions ch s → IsTouched s ch touched
+  is-touched touched nodes_are requests_are queues_are jobs_are sessions_are = record {
+    nodes = λ n is. ap (listed n) nodes_are ∙ node-listed n is;
+    requests = λ r is. ap (listed_request r) requests_are ∙ request-listed s ch r is;
+    queues = λ r is. ap (listed_request r) queues_are ∙ queue-listed s ch queued_requests_are all_requests r is;
+    jobs = jobs_are;
+    sessions = sessions_are;
+    once = subst (λ (rs : List RequestId). length rs ≤ 1) (sym requests_are) (touched-once c s ch given);
+  }

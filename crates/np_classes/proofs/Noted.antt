@@ -6,21 +6,24 @@ use Rattle.std.proofs.lemmas.Simd.{map-map}
 use Rattle.np_changes.specs.declared.changes.Changes.{Changes}
 use Rattle.np_laws.specs.Parts.{IsNumbered}
 use Rattle.np_look.specs.Readers.{is_unclaimed}
-use Rattle.np_groups.specs.declared.groups.Group.{Group}
-use Rattle.np_groups.specs.declared.groups.Member.{Member}
-use Rattle.np_groups.specs.Groups.{has_member, is_member_before}
-use Rattle.np_groups.specs.Moves.{Placed, is_among, shift, with_all_moved}
-use Rattle.np_groups.proofs.MoveLemmas.{all-moved, each-moved, rises-all_moved}
-use Rattle.np_keys.specs.Keys.{is_node_before, same_node, node_transitive, node_one_way, node_some_way, node_equal, request_transitive, request_one_way, request_some_way, request_equal}
+use Rattle.np_table.specs.declared.groups.Group.{Group}
+use Rattle.np_table.specs.declared.groups.Member.{Member}
+use Rattle.np_table.specs.Groups.{has_member, is_member_before}
+use Rattle.np_table.specs.Moves.{Placed, is_among, shift, with_all_moved}
+use Rattle.np_table.proofs.MoveLemmas.{all-moved, rises-all_moved}
+use Rattle.np_look.specs.Keys.{is_node_before, same_node, request_transitive, request_one_way, request_some_way, request_equal}
 use Rattle.np_laws.proofs.Numbered.{numbered}
 use Rattle.np_laws.proofs.Runs.{invariant-Runs}
 use Rattle.np_classes.specs.Classes.{ClassesOf, AreClasses, AreNodeGroups, AreRequestGroups, node_groups, node_is_in, request_groups, request_is_in}
 use Rattle.np_classes.specs.Placed.{groups_of_node, groups_of_request, no_node_groups, no_request_groups, node_before, past_node, past_queue, past_request, queue_before, request_before, unheld_groups}
-use Rattle.np_classes.specs.Prepared.{IsPrepared, TouchedOf}
+use Rattle.np_classes.specs.Prepared.{IsPast, PastOf}
+use Rattle.np_classes.specs.Grouped.{AreGrouped, placed_all}
+use Rattle.np_classes.specs.Listed.{IsTouched, TouchedOf}
 use Rattle.np_classes.specs.Touched.{touches_node, touches_request, touches_request_queue}
-use Rattle.np_classes.proofs.Untouched.{node-untouched, queue-untouched, request-untouched, unclaimed-untouched}
+use Rattle.np_classes.proofs.Grouped.{grouped-moved, nodes-in_order}
+use Rattle.np_classes.proofs.Untouched.{node-untouched, queue-untouched, record-stays, unclaimed-untouched}
 use Rattle.np_classes.proofs.Unheld.{noted-both, others-stay, unheld-alone, unheld-among}
-use Rattle.np_lists.proofs.Plain.{untouched}
+use Rattle.np_lists.proofs.Plain.{contrapositive}
 
 -- the groups of a node that is not there are none
 pub node-among : (c : Configuration) (s : State) (g : Group) (n : NodeId) → is_among g (groups_of_node c s n) ≡ node_is_in c s g n
@@ -36,56 +39,49 @@ request-among s g r = by (request_in r s.requests) where
   by None = refl
   by (Some k) = refl
 
--- the record of a request that is not listed stays
-pub record-stays : (c : Configuration) (s : State) (ch : Changes) (touched : TouchedOf) → IsPrepared c s ch touched
-    → (r : RequestId) → list_any (λ x. same_request x r) touched.requests ≡ false → request_in r (changed c ch s).requests ≡ request_in r s.requests
-record-stays c s ch touched prepared r out = request-untouched c ch s r (untouched (touches_request ch s r) (list_any (λ x. same_request x r) touched.requests) (prepared.requests r) out)
+-- the nodes by their groups
+pub nodes-grouped : (c : Configuration) (s : State) (ms : List (Member NodeId)) → AreNodeGroups c s ms → AreGrouped is_node_before same_node (groups_of_node c s) ms
+nodes-grouped c s ms are = record { rises = are.rises; each = λ g n. are.each g n ∙ sym (node-among c s g n) }
 
-module _ (c : Configuration) (s : State) (ch : Changes) (touched : TouchedOf) (reached : IsReached c s) (prepared : IsPrepared c s ch touched) (later : IsNumbered (changed c ch s)) where
-  nodes-noted : (ms new : List (Member NodeId)) → AreNodeGroups c s ms
-      → new ≡ with_all_moved is_node_before same_node (groups_of_node c (changed c ch s)) (map node_before touched.past_nodes) ms
+pub grouped-nodes : (c : Configuration) (s : State) (ms : List (Member NodeId)) → IsNumbered s → AreGrouped is_node_before same_node (groups_of_node c s) ms → AreNodeGroups c s ms
+grouped-nodes c s ms numbers are = record { rises = are.rises; each = λ g n. are.each g n ∙ node-among c s g n; once = numbers.nodes_rise }
+
+module _ (c : Configuration) (s : State) (ch : Changes) (touched : TouchedOf) (reached : IsReached c s) (all : IsTouched s ch touched) (later : IsNumbered (changed c ch s)) where
+  node-stays : (n : NodeId) → list_any (λ m. same_node m n) touched.nodes ≡ false → groups_of_node c (changed c ch s) n ≡ groups_of_node c s n
+  node-stays n out =
+      let none : touches_node ch s n ≡ false = contrapositive (touches_node ch s n) (list_any (λ m. same_node m n) touched.nodes) (all.nodes n) out in
+      let same = node-untouched c ch s n none in
+      ap (λ (o : Option NodeRecord). option_map_or (λ k. node_groups c k (is_none (node_holder n (changed c ch s).nodes)) (is_unclaimed (changed c ch s) k)) o no_node_groups) same.0
+      ∙ ap (λ (queue : List SessionId). option_map_or (λ k. node_groups c k (is_none (holder queue)) (is_unclaimed (changed c ch s) k)) (node_in n s.nodes) no_node_groups) same.1
+      ∙ by none (node_in n s.nodes) refl
+    where
+      by : touches_node ch s n ≡ false → (o : Option NodeRecord) → node_in n s.nodes ≡ o
+          → option_map_or (λ k. node_groups c k (is_none (node_holder n s.nodes)) (is_unclaimed (changed c ch s) k)) o no_node_groups
+          ≡ option_map_or (λ k. node_groups c k (is_none (node_holder n s.nodes)) (is_unclaimed s k)) o no_node_groups
+      by none None at = refl
+      by none (Some k) at = ap (node_groups c k (is_none (node_holder n s.nodes))) (unclaimed-untouched c ch s n k (invariant-Runs c reached.journal s reached.runs).owned.allocations at none)
+
+  nodes-noted : (past : PastOf) (ms new : List (Member NodeId)) → IsPast c s touched past → AreNodeGroups c s ms
+      → new ≡ with_all_moved is_node_before same_node (groups_of_node c (changed c ch s)) (map node_before past.nodes) ms
       → AreNodeGroups c (changed c ch s) new
-  nodes-noted ms new old is = subst (AreNodeGroups c (changed c ch s))
+  nodes-noted past ms new listed old is =
+      grouped-nodes c (changed c ch s) new later
+      (subst (AreGrouped is_node_before same_node (groups_of_node c (changed c ch s)))
       (sym (is
       ∙ ap (λ (placed : List (Placed NodeId)). with_all_moved is_node_before same_node (groups_of_node c (changed c ch s)) placed ms)
-      (ap (map node_before) prepared.past_nodes ∙ map-map node_before (past_node c s) touched.nodes)))
-      (record {
-        rises =
-            rises-all_moved is_node_before same_node node_transitive node_one_way node_some_way node_equal
-            (groups_of_node c (changed c ch s)) (map (λ n. record { id = n; groups = groups_of_node c s n }) touched.nodes) ms old.rises;
-        each = λ g n.
-            each-moved is_node_before same_node node_transitive node_one_way node_some_way node_equal g n
-            (groups_of_node c s) (groups_of_node c (changed c ch s)) touched.nodes ms old.rises
-            (old.each g n ∙ sym (node-among c s g n))
-            (λ out. ap (is_among g) (stays n out))
-            ∙ node-among c (changed c ch s) g n;
-        once = later.nodes_rise;
-      })
-    where
-      stays : (n : NodeId) → list_any (λ m. same_node m n) touched.nodes ≡ false → groups_of_node c (changed c ch s) n ≡ groups_of_node c s n
-      stays n out =
-          let none : touches_node ch s n ≡ false = untouched (touches_node ch s n) (list_any (λ m. same_node m n) touched.nodes) (prepared.nodes n) out in
-          let same = node-untouched c ch s n none in
-          ap (λ (o : Option NodeRecord). option_map_or (λ k. node_groups c k (is_none (node_holder n (changed c ch s).nodes)) (is_unclaimed (changed c ch s) k)) o no_node_groups) same.0
-          ∙ ap (λ (queue : List SessionId). option_map_or (λ k. node_groups c k (is_none (holder queue)) (is_unclaimed (changed c ch s) k)) (node_in n s.nodes) no_node_groups) same.1
-          ∙ by none (node_in n s.nodes) refl
-        where
-          by : touches_node ch s n ≡ false → (o : Option NodeRecord) → node_in n s.nodes ≡ o
-              → option_map_or (λ k. node_groups c k (is_none (node_holder n s.nodes)) (is_unclaimed (changed c ch s) k)) o no_node_groups
-              ≡ option_map_or (λ k. node_groups c k (is_none (node_holder n s.nodes)) (is_unclaimed s k)) o no_node_groups
-          by none None at = refl
-          by none (Some k) at = ap (node_groups c k (is_none (node_holder n s.nodes))) (unclaimed-untouched c ch s n k (invariant-Runs c reached.journal s reached.runs).owned.allocations at none)
+      (ap (map node_before) listed.nodes ∙ map-map node_before (past_node c s) touched.nodes)))
+      (grouped-moved is_node_before same_node nodes-in_order (groups_of_node c s) (groups_of_node c (changed c ch s)) touched.nodes ms (nodes-grouped c s ms old) node-stays))
 
   -- where its record is not touched
   stays : (r : RequestId) → list_any (λ x. same_request x r) touched.requests ≡ false → request_in r (changed c ch s).requests ≡ request_in r s.requests
-  stays r out = record-stays c s ch touched prepared r out
+  stays r out = record-stays c s ch touched all r out
 
   -- where its queue is not touched either
   stays-all : (r : RequestId) → list_any (λ x. same_request x r) touched.requests ≡ false → list_any (λ x. same_request x r) touched.queues ≡ false
       → groups_of_request (changed c ch s) r ≡ groups_of_request s r
   stays-all r out calm =
-      let none : touches_request ch s r ≡ false = untouched (touches_request ch s r) (list_any (λ x. same_request x r) touched.requests) (prepared.requests r) out in
-      let none_queued : touches_request_queue ch s r ≡ false = untouched (touches_request_queue ch s r) (list_any (λ x. same_request x r) touched.queues) (prepared.queues r) calm in
+      let none : touches_request ch s r ≡ false = contrapositive (touches_request ch s r) (list_any (λ x. same_request x r) touched.requests) (all.requests r) out in
+      let none_queued : touches_request_queue ch s r ≡ false = contrapositive (touches_request_queue ch s r) (list_any (λ x. same_request x r) touched.queues) (all.queues r) calm in
       ap (λ (o : Option RequestRecord). option_map_or (λ k. request_groups k (is_none (request_holder r (changed c ch s).requests))) o no_request_groups) (stays r out)
       ∙ ap (λ (queue : List SessionId). option_map_or (λ k. request_groups k (is_none (holder queue))) (request_in r s.requests) no_request_groups) (queue-untouched c ch s r none none_queued)
 
@@ -131,46 +127,36 @@ module _ (c : Configuration) (s : State) (ch : Changes) (touched : TouchedOf) (r
       is_record : Bool
       is_record = list_any (λ x. same_request x r) touched.requests
 
-  requests-noted : (ms new : List (Member RequestId)) → AreRequestGroups s ms
-      → new ≡ with_all_moved is_id_before same_request (unheld_groups (changed c ch s)) (map queue_before touched.past_queues)
-      (with_all_moved is_id_before same_request (groups_of_request (changed c ch s)) (map request_before touched.past_requests) ms)
+  requests-noted : (past : PastOf) (ms new : List (Member RequestId)) → IsPast c s touched past → AreRequestGroups s ms
+      → new ≡ with_all_moved is_id_before same_request (unheld_groups (changed c ch s)) (map queue_before past.queues)
+      (with_all_moved is_id_before same_request (groups_of_request (changed c ch s)) (map request_before past.requests) ms)
       → AreRequestGroups (changed c ch s) new
-  requests-noted ms new old is = subst (AreRequestGroups (changed c ch s))
+  requests-noted past ms new listed old is = subst (AreRequestGroups (changed c ch s))
       (sym (is
-      ∙ ap (λ (placed : List (Placed RequestId)). with_all_moved is_id_before same_request (unheld_groups (changed c ch s)) (map queue_before touched.past_queues)
+      ∙ ap (λ (placed : List (Placed RequestId)). with_all_moved is_id_before same_request (unheld_groups (changed c ch s)) (map queue_before past.queues)
       (with_all_moved is_id_before same_request (groups_of_request (changed c ch s)) placed ms))
-      (ap (map request_before) prepared.past_requests ∙ map-map request_before (past_request s) touched.requests)
+      (ap (map request_before) listed.requests ∙ map-map request_before (past_request s) touched.requests)
       ∙ ap (λ (placed : List (Placed RequestId)). with_all_moved is_id_before same_request (unheld_groups (changed c ch s)) placed (noted_records ms))
-      (ap (map queue_before) prepared.past_queues ∙ map-map queue_before (past_queue s) touched.queues)))
+      (ap (map queue_before) listed.queues ∙ map-map queue_before (past_queue s) touched.queues)))
       (record {
         rises = rises-queues (noted_records ms) (rises-records ms old.rises);
         each = each-noted ms old;
         once = later.requests_rise;
       })
 
--- ids moved, as a call does it with a list that is passed
-pub moved-by : {K P : Type 0} (before same : K → K → Bool) (now : K → List (Option Group)) (place : P → Placed K) (old was new : List (Member K)) (listed moved given : List P)
-    → was ≡ old → moved ≡ listed → given ≡ moved
-    → new ≡ with_all_moved before same now (map place given) was
-    → new ≡ with_all_moved before same now (map place listed) old
-moved-by before same now place old was new listed moved given was_is moved_is passed put =
-    put
-    ∙ ap (λ (ms : List (Member _)). with_all_moved before same now (map place given) ms) was_is
-    ∙ ap (λ (some : List _). with_all_moved before same now (map place some) old) (passed ∙ moved_is)
-
 -- ## all of it
 
 -- what is touched moves to where it is after the change
-pub classes-noted : (c site : Configuration) (s t : State) (ch : Changes) (touched : TouchedOf) (old new : ClassesOf)
-    → new.nodes ≡ with_all_moved is_node_before same_node (groups_of_node site t) (map node_before touched.past_nodes) old.nodes
-    → new.requests ≡ with_all_moved is_id_before same_request (unheld_groups t) (map queue_before touched.past_queues)
-    (with_all_moved is_id_before same_request (groups_of_request t) (map request_before touched.past_requests) old.requests)
-    → IsReached c s → IsPrepared c s ch touched → site ≡ c → t ≡ changed c ch s → AreClasses c s old → AreClasses c (changed c ch s) new
-classes-noted c site s t ch touched old new nodes requests reached prepared same_site later_is was =
+pub classes-noted : (c site : Configuration) (s t : State) (ch : Changes) (touched : TouchedOf) (past : PastOf) (old new : ClassesOf)
+    → new.nodes ≡ with_all_moved is_node_before same_node (groups_of_node site t) (map node_before past.nodes) old.nodes
+    → new.requests ≡ with_all_moved is_id_before same_request (unheld_groups t) (map queue_before past.queues)
+    (with_all_moved is_id_before same_request (groups_of_request t) (map request_before past.requests) old.requests)
+    → IsReached c s → IsTouched s ch touched → IsPast c s touched past → site ≡ c → t ≡ changed c ch s → AreClasses c s old → AreClasses c (changed c ch s) new
+classes-noted c site s t ch touched past old new nodes requests reached all listed same_site later_is was =
     let later : IsNumbered (changed c ch s) = numbered c s ch (invariant-Runs c reached.journal s reached.runs).numbered in
     record {
-      nodes = nodes-noted c s ch touched reached prepared later old.nodes new.nodes was.nodes (rw (← later_is, ← same_site) nodes);
-      requests = requests-noted c s ch touched reached prepared later old.requests new.requests was.requests (rw (← later_is) requests);
+      nodes = nodes-noted c s ch touched reached all later past old.nodes new.nodes listed was.nodes (rw (← later_is, ← same_site) nodes);
+      requests = requests-noted c s ch touched reached all later past old.requests new.requests listed was.requests (rw (← later_is) requests);
     }
 
 -- members that stay are those of the same state

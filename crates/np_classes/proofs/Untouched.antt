@@ -10,7 +10,7 @@ use Rattle.np_changes.specs.declared.changes.RequestsChange.{RequestsChange}
 use Rattle.np_changes.specs.declared.changes.SessionsChange.{SessionsChange}
 use Rattle.np_look.specs.Readers.{is_unclaimed}
 use Rattle.np_lists.proofs.FilterLemmas.{none-list_any, filter-not_none}
-use Rattle.np_keys.specs.Keys.{request_equal}
+use Rattle.np_look.specs.Keys.{request_equal}
 use Rattle.np_changes.specs.declared.changes.Growth.TheVariants as grow
 use Rattle.np_changes.specs.declared.changes.RequestsChange.TheVariants as requests
 use Rattle.np_changes.specs.declared.changes.NodesChange.TheVariants as nodes
@@ -20,6 +20,8 @@ use Rattle.np_laws.proofs.Lookups.{request_in-edit, request_in-insert, request_i
 use Rattle.np_laws.proofs.After.{found-grown, grown-request, calm-request, left-request}
 use Rattle.np_classes.specs.Touched.{grows_node, changes_node, ends_at_node, unclaims_node, touches_node, grows_request, changes_request, touches_request, grows_request_queue, leaves_request_queue, ends_at_request, touches_request_queue}
 use Rattle.std.proofs.lemmas.Bool.{or_parts}
+use Rattle.np_lists.proofs.Plain.{contrapositive}
+use Rattle.np_classes.specs.Listed.{IsTouched, TouchedOf}
 
 -- what a test that fails would change stays
 unchanged : {K : Type 0} (b : Bool) (f : K → K) (o : Option K) → b ≡ false → option_map (λ k. cond b (f k) k) o ≡ o
@@ -126,6 +128,11 @@ request-untouched c ch s r out =
     left-request ch.sessions r (requests_changed ch.maker ch.requests more.requests)
     ∙ request-changed ch.maker ch.requests r more.requests both.1
     ∙ request-grown c ch.maker ch.grows s r both.0
+
+-- the record of a request that is not listed stays
+pub record-stays : (c : Configuration) (s : State) (ch : Changes) (touched : TouchedOf) → IsTouched s ch touched
+    → (r : RequestId) → list_any (λ x. same_request x r) touched.requests ≡ false → request_in r (changed c ch s).requests ≡ request_in r s.requests
+record-stays c s ch touched all r out = request-untouched c ch s r (contrapositive (touches_request ch s r) (list_any (λ x. same_request x r) touched.requests) (all.requests r) out)
 
 -- ## queues of requests
 

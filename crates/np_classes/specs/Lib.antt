@@ -1,4 +1,6 @@
 pub mod Classes
 pub mod Placed
-pub mod Touched
 pub mod Prepared
+pub mod Touched
+pub mod Listed
+pub mod Grouped

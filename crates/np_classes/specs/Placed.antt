@@ -1,23 +1,13 @@
--- ids with the groups that they are in, and what they make of the members of groups
+-- ids with the groups that they are in
 use Rattle.std.specs.Prelude.{Bool, List, [], ◌∷◌, Option, None, is_none, option_and_then}
 use Rattle.np_changes.specs.Prelude.{Configuration, NodeId, RequestId, State, node_holder, node_in, option_map_or, request_holder, request_in}
 use Rattle.np_look.specs.Readers.{is_unclaimed}
-use Rattle.np_groups.specs.declared.groups.Group.{Group}
-use Rattle.np_groups.specs.declared.groups.Member.{Member}
-use Rattle.np_groups.specs.Moves.{Placed, with_groups}
-use Rattle.np_look.specs.declared.asked.NodeView.{NodeView}
-use Rattle.np_look.specs.declared.asked.RequestView.{RequestView}
-use Rattle.np_classes.specs.declared.touched.PastNode.{PastNode}
-use Rattle.np_classes.specs.declared.touched.PastQueue.{PastQueue}
-use Rattle.np_classes.specs.declared.touched.PastRequest.{PastRequest}
+use Rattle.np_table.specs.declared.groups.Group.{Group}
+use Rattle.np_table.specs.Moves.{Placed}
+use Rattle.np_classes.specs.declared.past.PastNode.{PastNode}
+use Rattle.np_classes.specs.declared.past.PastQueue.{PastQueue}
+use Rattle.np_classes.specs.declared.past.PastRequest.{PastRequest}
 use Rattle.np_classes.specs.Classes.{node_groups, request_groups, unheld_pending_group_of}
-
--- ## ids put in their groups
-
--- all ids are in their groups
-abbrev pub with_all : {K : Type 0} → (K → K → Bool) → (K → K → Bool) → List (Placed K) → List (Member K) → List (Member K)
-with_all before same [] ms = ms
-with_all before same (p ∷ placed) ms = with_all before same placed (with_groups before same p.id [] p.groups ms)
 
 -- ## nodes and requests
 
@@ -63,10 +53,3 @@ request_before past = record { id = past.request; groups = past.groups }
 
 abbrev pub queue_before : PastQueue → Placed RequestId
 queue_before past = record { id = past.request; groups = past.groups }
-
--- as a walk sees them
-abbrev pub placed_node_view : Configuration → State → NodeView → Placed NodeId
-placed_node_view c s v = record { id = v.id; groups = node_groups c v.kept (is_none v.holder) (is_unclaimed s v.kept) }
-
-abbrev pub placed_request_view : RequestView → Placed RequestId
-placed_request_view v = record { id = v.id; groups = request_groups v.kept (is_none v.holder) }

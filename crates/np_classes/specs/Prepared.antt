@@ -1,112 +1,27 @@
--- which nodes and requests are listed before a change, and what is prepared for it
-use Rattle.std.specs.Prelude.{◌≡◌, ◌≤◌, ◌+◌, ◌*◌, List, [], ◌∷◌, ◌++◌, true, length, map}
-use Rattle.np_changes.specs.Prelude.{Configuration, NodeId, RequestId, State, list_any, next_id, option_map_or, request_in, same_request}
-use Rattle.np_changes.specs.declared.changes.Changes.{Changes}
-use Rattle.np_changes.specs.declared.changes.Growth.{Growth}
-use Rattle.np_changes.specs.declared.changes.NodesChange.{NodesChange}
-use Rattle.np_changes.specs.declared.changes.RequestsChange.{RequestsChange}
-use Rattle.np_changes.specs.declared.changes.SessionsChange.{SessionsChange}
-use Rattle.np_keys.specs.Keys.{same_node}
-use Rattle.np_changes.specs.declared.changes.Growth.TheVariants as grow
-use Rattle.np_changes.specs.declared.changes.RequestsChange.TheVariants as requests
-use Rattle.np_changes.specs.declared.changes.NodesChange.TheVariants as nodes
-use Rattle.np_changes.specs.declared.changes.SessionsChange.TheVariants as sessions
+-- what is prepared for a change: what it touches, with the groups that this is in before it
+use Rattle.std.specs.Prelude.{◌≡◌, ◌≤◌, ◌+◌, ◌*◌, List, length, map}
+use Rattle.np_changes.specs.Prelude.{Configuration, State}
+use Rattle.np_classes.specs.Listed.{TouchedOf}
 use Rattle.np_classes.specs.Classes.{ClassesOf}
-use Rattle.np_classes.specs.declared.touched.PastNode.{PastNode}
-use Rattle.np_classes.specs.declared.touched.PastQueue.{PastQueue}
-use Rattle.np_classes.specs.declared.touched.PastRequest.{PastRequest}
+use Rattle.np_classes.specs.declared.past.PastNode.{PastNode}
+use Rattle.np_classes.specs.declared.past.PastQueue.{PastQueue}
+use Rattle.np_classes.specs.declared.past.PastRequest.{PastRequest}
 use Rattle.np_classes.specs.Placed.{past_node, past_queue, past_request}
-use Rattle.np_classes.specs.Touched.{touches_node, touches_request, touches_request_queue}
 
--- those in whose queues the session is that ends, if one does
-abbrev pub ended : {K : Type 0} → SessionsChange → List K → List K
-ended sessions.Same queued = []
-ended (sessions.Mute session) queued = []
-ended (sessions.End session) queued = queued
+-- the nodes, the requests, and those of which the queue alone is touched, with their groups (own)
+pub record PastOf : Type 0 where
+  pub nodes : List PastNode
+  pub requests : List PastRequest
+  pub queues : List PastQueue
 
--- ## nodes
-
-abbrev pub grown_nodes : Growth → State → List NodeId
-grown_nodes (grow.Node kept) s = record { 0 = s.next_node } ∷ []
-grown_nodes (grow.JoinNode n) s = n ∷ []
-grown_nodes (grow.Allocate n r tenant) s = n ∷ []
-grown_nodes growth s = []
-
--- the nodes that are freed are in their request's list
-abbrev pub changed_nodes : NodesChange → State → List NodeId
-changed_nodes nodes.Same s = []
-changed_nodes (nodes.Put n kept) s = n ∷ []
-changed_nodes (nodes.Remove n) s = n ∷ []
-changed_nodes (nodes.Leave n) s = n ∷ []
-changed_nodes (nodes.FreeAll r) s = option_map_or (λ k. k.nodes) (request_in r s.requests) []
-changed_nodes (nodes.TakeOver numbers) s = numbers
-
--- the nodes in the list of the request that goes away
-abbrev pub unclaimed_nodes : RequestsChange → State → List NodeId
-unclaimed_nodes requests.Same s = []
-unclaimed_nodes (requests.Edit r edit) s = []
-unclaimed_nodes (requests.Remove r) s = option_map_or (λ k. k.nodes) (request_in r s.requests) []
-unclaimed_nodes (requests.Leave r) s = []
-
--- a node that is freed by a request that goes away is listed twice
-abbrev pub touched_nodes : Changes → List NodeId → State → List NodeId
-touched_nodes ch queued s = ((grown_nodes ch.grows s ++ changed_nodes ch.nodes s) ++ ended ch.sessions queued) ++ unclaimed_nodes ch.requests s
-
--- ## requests
-
-abbrev pub grown_requests : Growth → State → List RequestId
-grown_requests (grow.Request priority asked) s = next_id priority s ∷ []
-grown_requests growth s = []
-
-abbrev pub changed_requests : RequestsChange → List RequestId
-changed_requests requests.Same = []
-changed_requests (requests.Edit r edit) = r ∷ []
-changed_requests (requests.Remove r) = r ∷ []
-changed_requests (requests.Leave r) = []
-
-abbrev pub touched_requests : Changes → State → List RequestId
-touched_requests ch s = grown_requests ch.grows s ++ changed_requests ch.requests
-
--- ## queues of requests
-
-abbrev pub grown_queues : Growth → List RequestId
-grown_queues (grow.JoinRequest r) = r ∷ []
-grown_queues growth = []
-
-abbrev pub left_queues : RequestsChange → List RequestId
-left_queues requests.Same = []
-left_queues (requests.Edit r edit) = []
-left_queues (requests.Remove r) = []
-left_queues (requests.Leave r) = r ∷ []
-
-abbrev pub touched_queues : Changes → List RequestId → List RequestId
-touched_queues ch queued = (grown_queues ch.grows ++ left_queues ch.requests) ++ ended ch.sessions queued
-
--- ## what is prepared
-
--- the nodes and the requests that a change touches, the requests of which it touches the queue alone,
--- and the groups that they are in before it (own)
-pub record TouchedOf : Type 0 where
-  pub nodes : List NodeId
-  pub requests : List RequestId
-  pub queues : List RequestId
-  pub past_nodes : List PastNode
-  pub past_requests : List PastRequest
-  pub past_queues : List PastQueue
-
--- all that the changes touch in the state is listed, with the groups that it is in there; they touch
--- one request at most
-pub record IsPrepared (c : Configuration) (s : State) (ch : Changes) (touched : TouchedOf) : Type 0 where
-  pub nodes : (n : NodeId) → touches_node ch s n ≡ true → list_any (λ m. same_node m n) touched.nodes ≡ true
-  pub requests : (r : RequestId) → touches_request ch s r ≡ true → list_any (λ x. same_request x r) touched.requests ≡ true
-  pub queues : (r : RequestId) → touches_request_queue ch s r ≡ true → list_any (λ x. same_request x r) touched.queues ≡ true
-  pub past_nodes : touched.past_nodes ≡ map (past_node c s) touched.nodes
-  pub past_requests : touched.past_requests ≡ map (past_request s) touched.requests
-  pub past_queues : touched.past_queues ≡ map (past_queue s) touched.queues
-  pub once : length touched.requests ≤ 1
+-- all that is touched, with the groups that it is in in the state
+pub record IsPast (c : Configuration) (s : State) (touched : TouchedOf) (past : PastOf) : Type 0 where
+  pub nodes : past.nodes ≡ map (past_node c s) touched.nodes
+  pub requests : past.requests ≡ map (past_request s) touched.requests
+  pub queues : past.queues ≡ map (past_queue s) touched.queues
 
 -- there is room for each node in the five groups that it may be in, for each request in its seven, and
 -- for each queue in its one
-pub record HasRoom (touched : TouchedOf) (classes : ClassesOf) : Type 0 where
-  pub nodes : 5 * length touched.past_nodes ≤ classes.node_room
-  pub requests : 7 * length touched.past_requests + length touched.past_queues ≤ classes.request_room
+pub record HasRoom (past : PastOf) (classes : ClassesOf) : Type 0 where
+  pub nodes : 5 * length past.nodes ≤ classes.node_room
+  pub requests : 7 * length past.requests + length past.queues ≤ classes.request_room

@@ -1,8 +1,10 @@
--- which nodes and requests the changes of an event may change
-use Rattle.std.specs.Prelude.{Bool, false, ◌==◌, ◌||◌}
-use Rattle.np_changes.specs.Prelude.{NodeId, RequestId, State, is_queued, is_request, list_any, next_id, node_in, node_queue, option_map_or, request_queue, same_request}
+-- what the changes of an event may change: nodes, requests, of which only the queue, jobs, and sessions
+use Rattle.std.specs.Prelude.{Bool, false, ◌+◌, ◌-◌, ◌==◌, ◌||◌, ◌++◌, List, length, Option, Some, None, option_and_then, option_to_list}
+use Rattle.np_changes.specs.Prelude.{JobId, NodeId, RequestId, SessionId, State, is_queued, is_request, list_any, next_id, node_in, node_queue, option_map_or, request_in, request_queue, same_request}
 use Rattle.np_changes.specs.declared.changes.Changes.{Changes}
 use Rattle.np_changes.specs.declared.changes.Growth.{Growth}
+use Rattle.np_changes.specs.declared.changes.HandlesChange.{HandlesChange}
+use Rattle.np_changes.specs.declared.changes.JobsChange.{JobsChange}
 use Rattle.np_changes.specs.declared.changes.NodesChange.{NodesChange}
 use Rattle.np_changes.specs.declared.changes.RequestsChange.{RequestsChange}
 use Rattle.np_changes.specs.declared.changes.SessionsChange.{SessionsChange}
@@ -10,6 +12,9 @@ use Rattle.np_changes.specs.declared.changes.Growth.TheVariants as grow
 use Rattle.np_changes.specs.declared.changes.RequestsChange.TheVariants as requests
 use Rattle.np_changes.specs.declared.changes.NodesChange.TheVariants as nodes
 use Rattle.np_changes.specs.declared.changes.SessionsChange.TheVariants as sessions
+use Rattle.np_changes.specs.declared.changes.JobsChange.TheVariants as jobs
+use Rattle.np_changes.specs.declared.changes.HandlesChange.TheVariants as handles
+use Rattle.np_look.specs.Keys.{same_job, same_session}
 
 -- ## nodes
 
@@ -84,3 +89,64 @@ ends_at_request (sessions.End session) s r = is_queued session (request_queue r 
 -- the queue of the request may change
 abbrev pub touches_request_queue : Changes → State → RequestId → Bool
 touches_request_queue ch s r = grows_request_queue ch.grows r || leaves_request_queue ch.requests r || ends_at_request ch.sessions s r
+
+-- ## jobs
+
+-- the job that takes handles
+abbrev pub taking : Growth → Option JobId
+taking (grow.Handles j) = Some j
+taking growth = None
+
+-- the job whose record changes
+abbrev pub changed_job : JobsChange → Option JobId
+changed_job jobs.Same = None
+changed_job (jobs.Put j kept) = Some j
+changed_job (jobs.EndNode j n) = Some j
+
+-- the job that gives its handles back
+abbrev pub releasing : HandlesChange → Option JobId
+releasing handles.Same = None
+releasing (handles.Release j) = Some j
+
+-- the job of the request, if it is there and has one
+abbrev pub job_of_request : RequestId → State → Option JobId
+job_of_request r s = option_and_then (λ request. request.job) (request_in r s.requests)
+
+-- the job of the request whose record changes or that goes away
+abbrev pub asker_of : RequestsChange → State → Option JobId
+asker_of requests.Same s = None
+asker_of (requests.Edit r edit) s = job_of_request r s
+asker_of (requests.Remove r) s = job_of_request r s
+asker_of (requests.Leave r) s = None
+
+-- the jobs whose record, handles or request may change
+abbrev pub touched_jobs : Changes → State → List JobId
+touched_jobs ch s =
+    ((option_to_list (taking ch.grows) ++ option_to_list (changed_job ch.jobs)) ++ option_to_list (releasing ch.handles)) ++ option_to_list (asker_of ch.requests s)
+
+abbrev pub touches_job : Changes → State → JobId → Bool
+touches_job ch s j = list_any (λ i. same_job i j) (touched_jobs ch s)
+
+-- ## sessions
+
+-- the session that begins: they count from 1
+abbrev pub beginning : Growth → State → Option SessionId
+beginning (grow.Session role) s = Some (record { 0 = length s.sessions + 1 })
+beginning growth s = None
+
+-- the session whose facts a change of this session's changes: that of the place before its number
+abbrev pub at_place : SessionId → SessionId
+at_place x = record { 0 = (x.0 - 1) + 1 }
+
+-- the session that is mute or over now
+abbrev pub stopping : SessionsChange → Option SessionId
+stopping sessions.Same = None
+stopping (sessions.Mute x) = Some (at_place x)
+stopping (sessions.End x) = Some (at_place x)
+
+-- the sessions whose facts may change
+abbrev pub touched_sessions : Changes → State → List SessionId
+touched_sessions ch s = option_to_list (beginning ch.grows s) ++ option_to_list (stopping ch.sessions)
+
+abbrev pub touches_session : Changes → State → SessionId → Bool
+touches_session ch s x = list_any (λ y. same_session y x) (touched_sessions ch s)

@@ -2,19 +2,17 @@
 
 ghost use Rattle.std.specs.Prelude.{◌≡◌, IfOk, length, slice_get};
 ghost use Rattle.np_changes.specs.declared.changes.Changes.{Changes};
-ghost use Rattle.np_changes.specs.Prelude.{Configuration, IsPlanned, IsReached, SessionId, State, changed};
-ghost use Rattle.np_look.specs.Readers.{queued_nodes, queued_requests};
-ghost use Rattle.np_changes.specs.declared.changes.SessionsChange.TheVariants as sessions;
-ghost use Rattle.np_groups.specs.Groups.{group_after, group_from, ids_in};
+ghost use Rattle.np_changes.specs.Prelude.{Configuration, IsReached, State, changed};
+ghost use Rattle.np_table.specs.Groups.{group_after, group_from, ids_in};
 ghost use Rattle.np_classes.specs.Classes.{AreClasses};
-ghost use Rattle.np_classes.specs.Prepared.{HasRoom, IsPrepared};
+ghost use Rattle.np_classes.specs.Prepared.{HasRoom, IsPast};
+ghost use Rattle.np_classes.specs.Listed.{IsTouched, TouchedOf};
 
+use crate::Touched;
 use crate::members::{all_nodes, all_requests, move_nodes, move_queues, move_requests};
-use crate::touched::{Touched, touched_by};
-use np_changes::Changes;
-use np_groups::{Group, Groups};
-use np_keys::{ByNode, ByRequest};
-use np_look::Rows;
+use crate::past::{Past, past_of};
+use np_look::{ByNode, ByRequest, Rows};
+use np_table::{Group, Groups};
 use np_text::{NodeId, RequestId};
 use std::alloc::{AllocError, Global};
 use std::marker::Model;
@@ -40,8 +38,7 @@ impl Model for Classes {
 }
 
 impl Classes {
-    /// The groups of the state. It reads each node and each request once, and looks up the request
-    /// that each node is allocated to.
+    /// The groups of the state. A few lookups for each node and two for each request.
     pub fn rebuild<R: Rows>(alloc: Global, rows: &R) -> Result<Classes, AllocError>
         requires { IsReached (R.site rows.now) (R.state rows.now) }
         ensures { IfOk result (λ x. AreClasses (R.site rows.now) (R.state rows.now) x) }
@@ -109,36 +106,28 @@ impl Classes {
         self.requests.group_after(group)
     }
 
-    /// Lists what the changes touch, before the state changes, and takes the memory for `note`. The
-    /// members stay as they are, so nothing need be undone if the change fails. Where a session
-    /// ends, `nodes` and `requests` are those in whose queues it is; where a request goes away, its
-    /// nodes are touched too. It costs a few lookups for each node that is touched and for a request
+    /// Lists what an event's changes touch with the groups that it is in, before the state changes,
+    /// and takes the memory for `note`. The members stay as they are, so nothing need be undone if
+    /// the change fails. It costs a few lookups for each node that is touched and for a request
     /// whose record may change, for one that pools declined a scan of its declines for each of the
     /// 64 pools, and two lookups for each request whose queue alone changes.
     pub fn prepare<R: Rows>(
         &mut self,
         alloc: Global,
         rows: &R,
-        changes: &Changes,
-        nodes: &[NodeId],
-        requests: &[RequestId],
-    ) -> Result<Touched, AllocError>
-        requires reached { IsReached (R.site rows.now) (R.state rows.now) }
-        requires planned { IsPlanned (R.site rows.now) (R.state rows.now) changes.now }
-        requires nodes { (session : SessionId) → changes.now.sessions ≡ sessions.End session
-            → nodes.now ≡ queued_nodes session (R.state rows.now) }
-        requires requests { (session : SessionId) → changes.now.sessions ≡ sessions.End session
-            → requests.now ≡ queued_requests session (R.state rows.now) }
+        touched: &Touched,
+    ) -> Result<Past, AllocError>
         ensures nodes { self.new.nodes ≡ self.old.nodes }
         ensures requests { self.new.requests ≡ self.old.requests }
-        ensures prepared { IfOk result (λ touched.
-            IsPrepared (R.site rows.now) (R.state rows.now) changes.now touched) }
-        ensures room { IfOk result (λ touched. HasRoom touched self.new) }
+        ensures past { IfOk result
+            (λ past. IsPast (R.site rows.now) (R.state rows.now) touched.now past) }
+        ensures room { IfOk result (λ past. HasRoom past self.new) }
     {
-        let touched = touched_by(alloc, rows, changes, nodes, requests)?;
-        self.nodes.reserve(5 * touched.past_nodes.len())?;
-        self.requests.reserve(7 * touched.past_requests.len() + touched.past_queues.len())?;
-        Ok(touched)
+        let past = past_of(alloc, rows, touched)?;
+        self.nodes.reserve(5 * past.nodes.len())?;
+        self.requests
+            .reserve(7 * past.requests.len() + past.queues.len())?;
+        Ok(past)
     }
 
     /// Moves what was touched to where it is now, after the state has changed. It takes no memory.
@@ -146,15 +135,15 @@ impl Classes {
     /// changed, for one that pools declined a scan of its declines for each of the 64 pools, and two
     /// lookups for a request whose queue alone was touched. A group that is left or joined costs a
     /// few binary searches; where an id stays, nothing is searched.
-    pub fn note<R: Rows>(&mut self, rows: &R, touched: &Touched)
-        requires { HasRoom touched.now self.old }
-        ensures { (c : Configuration) (s : State) (ch : Changes)
-            → IsReached c s → IsPrepared c s ch touched.now
+    pub fn note<R: Rows>(&mut self, rows: &R, past: &Past)
+        requires { HasRoom past.now self.old }
+        ensures { (c : Configuration) (s : State) (ch : Changes) (touched : TouchedOf)
+            → IsReached c s → IsTouched s ch touched → IsPast c s touched past.now
             → R.site rows.now ≡ c → R.state rows.now ≡ changed c ch s
             → AreClasses c s self.old → AreClasses c (changed c ch s) self.new }
     {
-        move_nodes(&mut self.nodes, rows, touched.past_nodes.as_slice());
-        move_requests(&mut self.requests, rows, touched.past_requests.as_slice());
-        move_queues(&mut self.requests, rows, touched.past_queues.as_slice());
+        move_nodes(&mut self.nodes, rows, past.nodes.as_slice());
+        move_requests(&mut self.requests, rows, past.requests.as_slice());
+        move_queues(&mut self.requests, rows, past.queues.as_slice());
     }
 }

@@ -1,19 +1,18 @@
 //! Ids moved between their groups. Only making groups anew takes memory.
 
 ghost use Rattle.std.specs.Prelude.{◌≡◌, ◌≤◌, ◌+◌, ◌*◌, [], IfOk, OnOk, length, map};
-ghost use Rattle.np_keys.specs.Keys.{is_node_before, same_node};
+ghost use Rattle.np_look.specs.Keys.{is_node_before, same_node};
 ghost use Rattle.np_changes.specs.Prelude.{IsReached, is_id_before, same_request};
 ghost use Rattle.np_classes.specs.Classes.{AreNodeGroups, AreRequestGroups};
-ghost use Rattle.np_groups.specs.Moves.{with_all_moved, with_groups};
-ghost use Rattle.np_classes.specs.Placed.{groups_of_node, groups_of_request, node_before, placed_node_view, placed_request_view, queue_before, request_before, unheld_groups};
+ghost use Rattle.np_table.specs.Moves.{with_all_moved, with_groups};
+ghost use Rattle.np_classes.specs.Placed.{groups_of_node, groups_of_request, node_before, queue_before, request_before, unheld_groups};
 
-use crate::group::{node_groups, request_groups};
-use crate::touched::{
+use crate::past::{
     PastNode, PastQueue, PastRequest, groups_of_node, groups_of_request, unheld_group_of_request,
 };
-use np_groups::{Groups, move_id};
-use np_keys::{ByNode, ByRequest};
-use np_look::{NodeView, RequestView, Rows, is_unclaimed};
+use np_look::{ByNode, ByRequest, Rows};
+use np_table::{Groups, move_id};
+use np_text::{NodeId, RequestId};
 use std::alloc::{AllocError, Global};
 
 /// Moves the nodes to where the state has them.
@@ -62,25 +61,19 @@ pub(crate) fn move_queues<R: Rows>(groups: &mut Groups<ByRequest>, rows: &R, mov
 }
 
 /// Puts the node in its groups, and takes the memory.
-fn add_node<R: Rows>(
-    groups: &mut Groups<ByNode>,
-    rows: &R,
-    view: &NodeView,
-) -> Result<(), AllocError>
+fn add_node<R: Rows>(groups: &mut Groups<ByNode>, rows: &R, node: NodeId) -> Result<(), AllocError>
     ensures { OnOk result (groups.new.members
-        ≡ with_groups is_node_before same_node view.now.id []
-        (placed_node_view (R.site rows.now) (R.state rows.now) view.now).groups
+        ≡ with_groups is_node_before same_node node []
+        (groups_of_node (R.site rows.now) (R.state rows.now) node)
         groups.old.members) }
 {
-    let is_unclaimed = is_unclaimed(rows, &view.kept);
-    let is_unlocked = view.holder.is_none();
-    let places = node_groups(rows.config(), &view.kept, is_unlocked, is_unclaimed);
     groups.reserve(5)?;
-    move_id(groups, view.id, &[], &places);
+    let now = groups_of_node(rows, node);
+    move_id(groups, node, &[], &now);
     Ok(())
 }
 
-/// The groups of all nodes, by one walk over them, with a lookup of each one's request.
+/// The groups of all nodes, by one walk over them, with a few lookups of each.
 pub(crate) fn all_nodes<R: Rows>(alloc: Global, rows: &R) -> Result<Groups<ByNode>, AllocError>
     requires { IsReached (R.site rows.now) (R.state rows.now) }
     ensures { IfOk result (λ groups.
@@ -88,27 +81,30 @@ pub(crate) fn all_nodes<R: Rows>(alloc: Global, rows: &R) -> Result<Groups<ByNod
 {
     let mut groups = Groups::new(alloc);
     for at in 0..rows.nodes() {
-        if let Some(view) = rows.node_view(at) {
-            add_node(&mut groups, rows, &view)?;
+        if let Some(node) = rows.node_at(at) {
+            add_node(&mut groups, rows, node)?;
         }
     }
     Ok(groups)
 }
 
 /// Puts the request in its groups, and takes the memory.
-fn add_request(groups: &mut Groups<ByRequest>, view: &RequestView) -> Result<(), AllocError>
+fn add_request<R: Rows>(
+    groups: &mut Groups<ByRequest>,
+    rows: &R,
+    request: RequestId,
+) -> Result<(), AllocError>
     ensures { OnOk result (groups.new.members
-        ≡ with_groups is_id_before same_request view.now.id []
-        (placed_request_view view.now).groups groups.old.members) }
+        ≡ with_groups is_id_before same_request request []
+        (groups_of_request (R.state rows.now) request) groups.old.members) }
 {
-    let is_unlocked = view.holder.is_none();
-    let places = request_groups(&view.kept, is_unlocked);
     groups.reserve(7)?;
-    move_id(groups, view.id, &[], &places);
+    let now = groups_of_request(rows, request);
+    move_id(groups, request, &[], &now);
     Ok(())
 }
 
-/// The groups of all requests, by one walk over them.
+/// The groups of all requests, by one walk over them, with two lookups of each.
 pub(crate) fn all_requests<R: Rows>(
     alloc: Global,
     rows: &R,
@@ -119,8 +115,8 @@ pub(crate) fn all_requests<R: Rows>(
 {
     let mut groups = Groups::new(alloc);
     for at in 0..rows.requests() {
-        if let Some(view) = rows.request_view(at) {
-            add_request(&mut groups, &view)?;
+        if let Some(request) = rows.request_at(at) {
+            add_request(&mut groups, rows, request)?;
         }
     }
     Ok(groups)

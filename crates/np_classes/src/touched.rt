@@ -1,56 +1,34 @@
-//! The nodes, the requests and the queues of requests that the changes of an event touch, listed
-//! before it.
+//! The nodes, the requests, the queues of requests, the jobs and the sessions that the changes of an
+//! event touch, listed before it.
 
-ghost use Rattle.std.specs.Prelude.{◌≡◌, ◌≤◌, ◌++◌, IfOk, OnOk, length, map, option_to_list};
-ghost use Rattle.np_changes.specs.Prelude.{IsPlanned, IsReached, SessionId};
+ghost use Rattle.std.specs.Prelude.{◌≡◌, ◌++◌, ◌-◌, IfOk, OnOk, option_to_list};
+ghost use Rattle.np_changes.specs.Prelude.{Fits, IsPlanned, IsReached, SessionId};
 ghost use Rattle.np_look.specs.Readers.{queued_nodes, queued_requests};
 ghost use Rattle.np_changes.specs.declared.changes.SessionsChange.TheVariants as sessions;
-ghost use Rattle.np_classes.specs.Placed.{groups_of_node, groups_of_request, past_node, past_queue, past_request, unheld_group_of_request};
-ghost use Rattle.np_classes.specs.Prepared.{IsPrepared, changed_nodes, changed_requests, ended, grown_nodes, grown_queues, grown_requests, left_queues, touched_nodes, touched_queues, touched_requests, unclaimed_nodes};
+ghost use Rattle.np_classes.specs.Listed.{IsTouched, changed_nodes, changed_requests, ended, grown_nodes, grown_queues, grown_requests, left_queues, touched_nodes, touched_queues, touched_requests, unclaimed_nodes};
+ghost use Rattle.np_classes.specs.Touched.{asker_of, at_place, beginning, changed_job, job_of_request, releasing, stopping, taking, touched_jobs, touched_sessions};
 
-use crate::group::{node_groups, request_groups, unheld_pending_group_of};
-use np_changes::{Changes, Growth, NodesChange, RequestsChange, SessionsChange};
-use np_groups::Group;
-use np_look::{Rows, is_unclaimed, node_holder, request_holder};
-use np_text::{NodeId, RequestId};
+use np_changes::{
+    Changes, Growth, HandlesChange, JobsChange, NodesChange, RequestsChange, SessionsChange,
+};
+use np_look::Rows;
+use np_text::{JobId, NodeId, RequestId, SessionId};
 use std::alloc::{AllocError, Global};
 use std::marker::Model;
 
-/// A node, with the groups that it is in before a change.
-#[derive(Clone, Copy)]
-pub(crate) struct PastNode {
-    pub(crate) node: NodeId,
-    pub(crate) groups: [Option<Group>; 5],
-}
-
-/// A request, with its groups.
-#[derive(Clone, Copy)]
-pub(crate) struct PastRequest {
-    pub(crate) request: RequestId,
-    pub(crate) groups: [Option<Group>; 7],
-}
-
-/// A request, with the one group that its queue decides.
-#[derive(Clone, Copy)]
-pub(crate) struct PastQueue {
-    pub(crate) request: RequestId,
-    pub(crate) groups: [Option<Group>; 1],
-}
-
-/// The nodes and the requests that an event's changes touch, with the groups that they are in
-/// before it: the requests whose records may change, and those whose queues alone may.
+/// What an event's changes touch: nodes, the requests whose records may change, those whose queues
+/// alone may, jobs and sessions.
 #[derive(Drop)]
 pub struct Touched {
     nodes: Vec<NodeId>,
     requests: Vec<RequestId>,
     queues: Vec<RequestId>,
-    pub(crate) past_nodes: Vec<PastNode>,
-    pub(crate) past_requests: Vec<PastRequest>,
-    pub(crate) past_queues: Vec<PastQueue>,
+    jobs: Vec<JobId>,
+    sessions: Vec<SessionId>,
 }
 
 impl Model for Touched {
-    ghost use Rattle.np_classes.specs.Prepared.{TouchedOf};
+    ghost use Rattle.np_classes.specs.Listed.{TouchedOf};
 
     ghost Value = { TouchedOf };
 
@@ -58,70 +36,50 @@ impl Model for Touched {
       nodes = touched.nodes.items;
       requests = touched.requests.items;
       queues = touched.queues.items;
-      past_nodes = touched.past_nodes.items;
-      past_requests = touched.past_requests.items;
-      past_queues = touched.past_queues.items;
+      jobs = touched.jobs.items;
+      sessions = touched.sessions.items;
     } };
 }
 
 impl Touched {
-    /// The requests whose records may change, for whatever else is kept of them; one at most. It
-    /// costs nothing.
+    /// The nodes whose records or queues may change, and those whose request goes away. Constant
+    /// time.
+    pub fn nodes(&self) -> &[NodeId]
+        ensures { result.now ≡ self.now.nodes }
+    {
+        self.nodes.as_slice()
+    }
+
+    /// The requests whose records may change, one at most. Constant time.
     pub fn requests(&self) -> &[RequestId]
         ensures { result.now ≡ self.now.requests }
     {
         self.requests.as_slice()
     }
 
-    /// The nodes whose records or queues may change, and those whose request goes away, for whatever
-    /// else is kept of them. It costs nothing.
-    pub fn nodes(&self) -> &[NodeId]
-        ensures { result.now ≡ self.now.nodes }
+    /// The requests whose queues alone may change. Constant time.
+    pub fn queues(&self) -> &[RequestId]
+        ensures { result.now ≡ self.now.queues }
     {
-        self.nodes.as_slice()
+        self.queues.as_slice()
+    }
+
+    /// The jobs whose record, handles or request may change. Constant time.
+    pub fn jobs(&self) -> &[JobId]
+        ensures { result.now ≡ self.now.jobs }
+    {
+        self.jobs.as_slice()
+    }
+
+    /// The sessions that may begin, be mute or be over. Constant time.
+    pub fn sessions(&self) -> &[SessionId]
+        ensures { result.now ≡ self.now.sessions }
+    {
+        self.sessions.as_slice()
     }
 }
 
-/// A node in no group.
-const NO_NODE_GROUPS: [Option<Group>; 5] = [None, None, None, None, None];
-
-/// A request in no group.
-const NO_REQUEST_GROUPS: [Option<Group>; 7] = [None, None, None, None, None, None, None];
-
-/// The groups that the node is in, if it is there. Three lookups: of the node, of its queue and of
-/// the request that it is allocated to.
-pub(crate) fn groups_of_node<R: Rows>(rows: &R, node: NodeId) -> [Option<Group>; 5]
-    ensures { result ≡ groups_of_node (R.site rows.now) (R.state rows.now) node }
-{
-    let Some(kept) = rows.node(node) else {
-        return NO_NODE_GROUPS;
-    };
-    let is_unlocked = node_holder(rows, node).is_none();
-    let is_unclaimed = is_unclaimed(rows, &kept);
-    node_groups(rows.config(), &kept, is_unlocked, is_unclaimed)
-}
-
-/// The groups that the request is in, if it is there. Two lookups: of the request and of its queue.
-pub(crate) fn groups_of_request<R: Rows>(rows: &R, request: RequestId) -> [Option<Group>; 7]
-    ensures { result ≡ groups_of_request (R.state rows.now) request }
-{
-    let Some(kept) = rows.request(request) else {
-        return NO_REQUEST_GROUPS;
-    };
-    let is_unlocked = request_holder(rows, request).is_none();
-    request_groups(&kept, is_unlocked)
-}
-
-/// Its group among the pending ones that nobody holds. The same two lookups, without its declines.
-pub(crate) fn unheld_group_of_request<R: Rows>(rows: &R, request: RequestId) -> Option<Group>
-    ensures { result ≡ unheld_group_of_request (R.state rows.now) request }
-{
-    let asked = rows.asked(request)?;
-    let is_unlocked = request_holder(rows, request).is_none();
-    unheld_pending_group_of(asked.state, asked.pool, is_unlocked)
-}
-
-// ## lists of ids
+// ## nodes and requests
 
 /// The node that grows, or whose queue or allocation does.
 fn grown_node<R: Rows>(rows: &R, growth: &Growth) -> Option<NodeId>
@@ -281,65 +239,112 @@ fn touched_queues(
     Ok(list)
 }
 
-// ## groups before a change
+// ## jobs
 
-fn past_nodes<R: Rows>(
+fn taking(growth: &Growth) -> Option<JobId>
+    ensures { result ≡ taking growth.now }
+{
+    match growth {
+        Growth::Handles { job } => Some(*job),
+        _ => None,
+    }
+}
+
+fn changed_job(change: &JobsChange) -> Option<JobId>
+    ensures { result ≡ changed_job change.now }
+{
+    match change {
+        JobsChange::Same => None,
+        JobsChange::Put { job, .. } => Some(*job),
+        JobsChange::EndNode { job, .. } => Some(*job),
+    }
+}
+
+fn releasing(change: &HandlesChange) -> Option<JobId>
+    ensures { result ≡ releasing change.now }
+{
+    match change {
+        HandlesChange::Same => None,
+        HandlesChange::Release { job } => Some(*job),
+    }
+}
+
+/// The job of the request whose record changes or that goes away. One lookup if there is one.
+fn asker_of<R: Rows>(rows: &R, change: &RequestsChange) -> Option<JobId>
+    ensures { result ≡ asker_of change.now (R.state rows.now) }
+{
+    match change {
+        RequestsChange::Edit { request, .. } => rows.asked(*request)?.job,
+        RequestsChange::Remove { request } => rows.asked(*request)?.job,
+        RequestsChange::Same | RequestsChange::Leave { .. } => None,
+    }
+}
+
+fn touched_jobs<R: Rows>(
     alloc: Global,
     rows: &R,
-    nodes: &[NodeId],
-) -> Result<Vec<PastNode>, AllocError>
-    ensures { IfOk result (λ list. list.items
-        ≡ map (past_node (R.site rows.now) (R.state rows.now)) nodes.now) }
+    changes: &Changes,
+) -> Result<Vec<JobId>, AllocError>
+    ensures { IfOk result (λ list. list.items ≡ touched_jobs changes.now (R.state rows.now)) }
 {
-    let mut list = Vec::with_capacity(alloc, nodes.len())?;
-    for node in nodes {
-        list.push(PastNode {
-            node: *node,
-            groups: groups_of_node(rows, *node),
-        })?;
-    }
+    let mut list = Vec::new(alloc);
+    list_if(&mut list, taking(&changes.grows))?;
+    list_if(&mut list, changed_job(&changes.jobs))?;
+    list_if(&mut list, releasing(&changes.handles))?;
+    list_if(&mut list, asker_of(rows, &changes.requests))?;
     Ok(list)
 }
 
-fn past_requests<R: Rows>(
+// ## sessions
+
+fn beginning<R: Rows>(rows: &R, growth: &Growth) -> Option<SessionId>
+    requires { Fits (R.site rows.now) (R.state rows.now) }
+    ensures { result ≡ beginning growth.now (R.state rows.now) }
+{
+    match growth {
+        Growth::Session { .. } => Some(SessionId(rows.sessions() + 1)),
+        _ => None,
+    }
+}
+
+/// The session of the place before the number: sessions count from 1.
+fn at_place(session: SessionId) -> SessionId
+    ensures { result ≡ at_place session }
+{
+    SessionId(session.0.saturating_sub(1) + 1)
+}
+
+fn stopping(change: &SessionsChange) -> Option<SessionId>
+    ensures { result ≡ stopping change.now }
+{
+    match change {
+        SessionsChange::Same => None,
+        SessionsChange::Mute { session } => Some(at_place(*session)),
+        SessionsChange::End { session } => Some(at_place(*session)),
+    }
+}
+
+fn touched_sessions<R: Rows>(
     alloc: Global,
     rows: &R,
-    requests: &[RequestId],
-) -> Result<Vec<PastRequest>, AllocError>
+    changes: &Changes,
+) -> Result<Vec<SessionId>, AllocError>
+    requires { Fits (R.site rows.now) (R.state rows.now) }
     ensures { IfOk result
-        (λ list. list.items ≡ map (past_request (R.state rows.now)) requests.now) }
+        (λ list. list.items ≡ touched_sessions changes.now (R.state rows.now)) }
 {
-    let mut list = Vec::with_capacity(alloc, requests.len())?;
-    for request in requests {
-        list.push(PastRequest {
-            request: *request,
-            groups: groups_of_request(rows, *request),
-        })?;
-    }
+    let mut list = Vec::new(alloc);
+    list_if(&mut list, beginning(rows, &changes.grows))?;
+    list_if(&mut list, stopping(&changes.sessions))?;
     Ok(list)
 }
 
-fn past_queues<R: Rows>(
-    alloc: Global,
-    rows: &R,
-    requests: &[RequestId],
-) -> Result<Vec<PastQueue>, AllocError>
-    ensures { IfOk result
-        (λ list. list.items ≡ map (past_queue (R.state rows.now)) requests.now) }
-{
-    let mut list = Vec::with_capacity(alloc, requests.len())?;
-    for request in requests {
-        list.push(PastQueue {
-            request: *request,
-            groups: [unheld_group_of_request(rows, *request)],
-        })?;
-    }
-    Ok(list)
-}
+// ## all of it
 
-/// What the changes touch. The nodes that are freed or whose request goes away are read from that
-/// request, and the nodes and the requests in whose queues a session is that ends are passed.
-pub(crate) fn touched_by<R: Rows>(
+/// What the changes touch, before the state changes. The nodes that are freed or whose request goes
+/// away are read from that request; those in whose queues a session is that ends, and such requests,
+/// are passed. It costs a lookup of a request for each of these, and one for its job.
+pub fn touched_by<R: Rows>(
     alloc: Global,
     rows: &R,
     changes: &Changes,
@@ -347,26 +352,24 @@ pub(crate) fn touched_by<R: Rows>(
     ended_requests: &[RequestId],
 ) -> Result<Touched, AllocError>
     requires reached { IsReached (R.site rows.now) (R.state rows.now) }
+    requires fits { Fits (R.site rows.now) (R.state rows.now) }
     requires planned { IsPlanned (R.site rows.now) (R.state rows.now) changes.now }
     requires nodes { (session : SessionId) → changes.now.sessions ≡ sessions.End session
         → ended_nodes.now ≡ queued_nodes session (R.state rows.now) }
     requires requests { (session : SessionId) → changes.now.sessions ≡ sessions.End session
         → ended_requests.now ≡ queued_requests session (R.state rows.now) }
-    ensures { IfOk result (λ touched.
-        IsPrepared (R.site rows.now) (R.state rows.now) changes.now touched) }
+    ensures { IfOk result (λ touched. IsTouched (R.state rows.now) changes.now touched) }
 {
     let nodes = touched_nodes(alloc, rows, changes, ended_nodes)?;
     let requests = touched_requests(alloc, rows, changes)?;
     let queues = touched_queues(alloc, changes, ended_requests)?;
-    let past_nodes = past_nodes(alloc, rows, nodes.as_slice())?;
-    let past_requests = past_requests(alloc, rows, requests.as_slice())?;
-    let past_queues = past_queues(alloc, rows, queues.as_slice())?;
+    let jobs = touched_jobs(alloc, rows, changes)?;
+    let sessions = touched_sessions(alloc, rows, changes)?;
     Ok(Touched {
         nodes,
         requests,
         queues,
-        past_nodes,
-        past_requests,
-        past_queues,
+        jobs,
+        sessions,
     })
 }

@@ -1,7 +1,7 @@
 -- each row is found by its id
 use Rattle.std.proofs.Common.{◌≡◌, Some}
 use Rattle.np_changes.specs.Prelude.{AllByRecursion, Configuration, NodeEntry, RequestEntry, State, is_id_before, node_entry, request_entry, same_request}
-use Rattle.np_keys.specs.Keys.{same_node, is_node_before, node_equal, request_equal}
+use Rattle.np_look.specs.Keys.{same_node, is_node_before, node_equal, request_equal}
 use Rattle.np_classes.specs.Classes.{ClassesOf, AreClasses}
 use Rattle.np_classes.proofs.Rows.{rows-found}
 use Rattle.np_classes.proofs.Apart.{same_node-self}

@@ -9,10 +9,10 @@ use Rattle.np_lists.proofs.Each.{all-find, all-weaker}
 use Rattle.np_lists.proofs.FilterLemmas.{none-list_any}
 use Rattle.np_lists.proofs.FoundLemmas.{find-passes}
 use Rattle.np_lists.proofs.Halves.{find-none, none-find}
-use Rattle.np_groups.specs.declared.groups.Group.{Group}
-use Rattle.np_groups.specs.declared.groups.Member.{Member}
-use Rattle.np_groups.specs.Groups.{same_group, same_member, member, group_from, group_after, ids_in}
-use Rattle.np_keys.specs.Keys.{request_one_way}
+use Rattle.np_table.specs.declared.groups.Group.{Group}
+use Rattle.np_table.specs.declared.groups.Member.{Member}
+use Rattle.np_table.specs.Groups.{same_group, same_member, member, group_from, group_after, ids_in}
+use Rattle.np_look.specs.Keys.{request_one_way}
 use Rattle.np_look.specs.Readers.{is_declined_by_all}
 use Rattle.np_look.proofs.Walks.{any_found, any_later, as_it_is}
 use Rattle.np_classes.specs.Classes.{declined_group, decline_set, is_still_requested, request_is_in, ClassesOf, AreClasses}

@@ -6,10 +6,10 @@ use Rattle.std.proofs.lemmas.Bool.{eqb-true, eq-eqb}
 use Rattle.std.proofs.lemmas.Bool.Decides.{nat_tests}
 use Rattle.np_lists.proofs.Each.{all-filter_to, all-weaker}
 use Rattle.np_lists.proofs.FilterLemmas.{filter-nothing}
-use Rattle.np_groups.specs.declared.groups.Group.{Group}
-use Rattle.np_groups.specs.declared.groups.Member.{Member}
-use Rattle.np_groups.specs.Groups.{same_group, member, same_member, group_from, ids_in}
-use Rattle.np_keys.specs.Keys.{same_node, is_node_before}
+use Rattle.np_table.specs.declared.groups.Group.{Group}
+use Rattle.np_table.specs.declared.groups.Member.{Member}
+use Rattle.np_table.specs.Groups.{same_group, member, same_member, group_from, ids_in}
+use Rattle.np_look.specs.Keys.{same_node, is_node_before}
 use Rattle.np_look.specs.declared.asked.UnheldKind.{UnheldKind}
 use Rattle.np_look.specs.Readers.{due_of, first_due, is_unheld_as, sooner, soonest}
 use Rattle.np_classes.specs.Classes.{unheld_class, unheld_group, node_is_in, ClassesOf, AreClasses}

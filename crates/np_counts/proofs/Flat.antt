@@ -4,10 +4,10 @@ use Rattle.std.specs.Prelude.{◌==◌, ◌&&◌, ◌||◌, if◌then◌else◌,
 use Rattle.np_changes.specs.Prelude.{AllByRecursion, LabelId, PoolId, RequestId, RequestRecord, State, is_failed, is_pending, is_requested, list_any, next_label, option_map, option_map_or, request_holder, request_in, same_request}
 use Rattle.std.proofs.lemmas.Bool.Decides.{nat_tests}
 use Rattle.np_lists.proofs.Each.{all-weaker}
-use Rattle.np_groups.specs.declared.groups.Group.{Group}
-use Rattle.np_groups.specs.declared.groups.Member.{Member}
-use Rattle.np_groups.specs.Groups.{same_group, same_member, has_member}
-use Rattle.np_groups.proofs.Order.{group-itself}
+use Rattle.np_table.specs.declared.groups.Group.{Group}
+use Rattle.np_table.specs.declared.groups.Member.{Member}
+use Rattle.np_table.specs.Groups.{same_group, same_member, has_member}
+use Rattle.np_table.proofs.MemberOrder.{group-itself}
 use Rattle.np_classes.specs.Classes.{pending_group, unheld_pending_group, coming_group, spent_group, declined_group, decline_set, is_still_requested, next_label_group, pinned_label_group, request_groups, is_among, AreRequestGroups}
 use Rattle.np_counts.specs.Waiting.{is_beside}
 use Rattle.np_counts.proofs.Labels.{first_group, AreFlat}

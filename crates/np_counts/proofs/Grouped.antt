@@ -4,12 +4,12 @@ use Rattle.std.specs.Prelude.{filter, is_none}
 use Rattle.np_changes.specs.Prelude.{Configuration, NodeEntry, NodeId, RequestEntry, RequestId, State, holder, is_id_before, node_entry, option_map, option_map_or, request_entry, same_request}
 use Rattle.np_look.specs.Readers.{is_unclaimed}
 use Rattle.np_lists.proofs.RisingLemmas.{Rises-filter}
-use Rattle.np_groups.specs.declared.groups.Group.{Group}
-use Rattle.np_groups.specs.declared.groups.Member.{Member}
-use Rattle.np_groups.specs.Groups.{ids_in}
-use Rattle.np_keys.specs.Keys.{same_node, is_node_before, node_equal, node_one_way, request_equal, request_one_way}
+use Rattle.np_table.specs.declared.groups.Group.{Group}
+use Rattle.np_table.specs.declared.groups.Member.{Member}
+use Rattle.np_table.specs.Groups.{ids_in}
+use Rattle.np_look.specs.Keys.{same_node, is_node_before, node_equal, node_one_way, request_equal, request_one_way}
 use Rattle.np_classes.specs.Classes.{node_groups, request_groups, is_among, AreNodeGroups, AreRequestGroups}
-use Rattle.np_groups.proofs.Ids.{ids-rise, ids-has, same-list}
+use Rattle.np_table.proofs.Ids.{ids-rise, ids-has, same-list}
 use Rattle.np_classes.proofs.Apart.{same_node-self}
 use Rattle.np_classes.proofs.Rows.{filter-each, ids-in_order, row-passes}
 use Rattle.np_counts.proofs.Tests.{groups_of, groups_of_request}

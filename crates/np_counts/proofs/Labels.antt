@@ -7,11 +7,11 @@ use Rattle.np_lists.proofs.Each.{all-find, all-weaker}
 use Rattle.np_lists.proofs.FilterLemmas.{list_any-none}
 use Rattle.np_lists.proofs.FoundLemmas.{find-passes}
 use Rattle.np_lists.proofs.Halves.{none-find}
-use Rattle.np_groups.specs.declared.groups.Group.{Group}
-use Rattle.np_groups.specs.declared.groups.Member.{Member}
-use Rattle.np_groups.specs.Groups.{same_group, is_group_before, is_member_before, group_from, group_after}
-use Rattle.np_groups.proofs.Order.{group-equal, group-some_way, group-transitive}
-use Rattle.np_groups.proofs.Walk.{IsLeast, group-not_before, least-found}
+use Rattle.np_table.specs.declared.groups.Group.{Group}
+use Rattle.np_table.specs.declared.groups.Member.{Member}
+use Rattle.np_table.specs.Groups.{same_group, is_group_before, is_member_before, group_from, group_after}
+use Rattle.np_table.proofs.MemberOrder.{group-equal, group-some_way, group-transitive}
+use Rattle.np_table.proofs.Walk.{IsLeast, group-not_before, least-found}
 use Rattle.np_counts.specs.Waiting.{is_beside, label_if}
 use Rattle.np_counts.proofs.Any.{any-each, any-find, any-weaker}
 use Rattle.std.proofs.lemmas.Bool.{not-true}

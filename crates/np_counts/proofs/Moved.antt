@@ -2,7 +2,7 @@
 use Rattle.std.proofs.Common.{◌≡◌, ◌∙◌, ◌<◌, false, List, map, sym, ap, subst}
 use Rattle.std.specs.Prelude.{ℕ}
 use Rattle.np_changes.specs.Prelude.{Amount, Configuration, IsSound, RequestEntry, RequestId, RequestRecord, Rises, State, TenantId, is_id_before, minus, nothing, option_map_or, plus, request_in, same_request, total}
-use Rattle.np_keys.specs.Keys.{request_equal, request_one_way}
+use Rattle.np_look.specs.Keys.{request_equal, request_one_way}
 use Rattle.np_counts.specs.Awaited.{AreAwaited, AreSmall, IsSmall, awaited_by, exchange, rest_at}
 use Rattle.np_counts.proofs.Rows.{moved-total, same-kept}
 use Rattle.np_counts.proofs.Changed.{amount-exchange, length-exchange, share}

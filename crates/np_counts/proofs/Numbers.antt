@@ -7,8 +7,8 @@ use Rattle.std.proofs.lemmas.List.Sums.{length-filter}
 use Rattle.std.proofs.lemmas.Option.{slice_get-map}
 use Rattle.std.proofs.lemmas.Bool.Decides.{nat_tests}
 use Rattle.np_lists.proofs.Each.{length-filter_at_most}
-use Rattle.np_groups.specs.declared.groups.Group.{Group}
-use Rattle.np_groups.specs.Groups.{ids_in}
+use Rattle.np_table.specs.declared.groups.Group.{Group}
+use Rattle.np_table.specs.Groups.{ids_in}
 use Rattle.np_machine.specs.Count.{is_kind, number_of}
 use Rattle.np_look.specs.Readers.{first_unheld_pending, free_ready_of, is_unheld_pending, pending_requests}
 use Rattle.np_classes.specs.Classes.{kind_group, spare_group, free_group, pending_group, unheld_pending_group, coming_group, spent_group, is_among, ClassesOf, AreClasses}

@@ -1,8 +1,8 @@
 -- what the walk over offers adds up
 use Rattle.std.proofs.Common.{◌≡◌, ◌∙◌, ◌<◌, ◌≤◌, ◌+◌, ℕ, List, length, map, take, get_or, sym, ap}
 use Rattle.np_changes.specs.Prelude.{Amount, Configuration, Fits, Offer, PoolId, State, plus, times, total}
-use Rattle.np_groups.specs.declared.groups.Group.{Group}
-use Rattle.np_groups.specs.Groups.{ids_in}
+use Rattle.np_table.specs.declared.groups.Group.{Group}
+use Rattle.np_table.specs.Groups.{ids_in}
 use Rattle.np_machine.specs.Count.{offers_of, count_of, number_of}
 use Rattle.np_changes.proofs.Offered.{IsPart, part_bound, passed_total}
 use Rattle.np_classes.specs.Classes.{kind_group, ClassesOf, AreClasses}

@@ -9,12 +9,12 @@ use Rattle.np_lists.proofs.Each.{all-find, all-weaker}
 use Rattle.np_lists.proofs.FilterLemmas.{filter-nothing}
 use Rattle.np_lists.proofs.FoundLemmas.{find-passes}
 use Rattle.np_lists.proofs.Halves.{none-find}
-use Rattle.np_groups.specs.declared.groups.Group.{Group}
-use Rattle.np_groups.specs.declared.groups.Member.{Member}
-use Rattle.np_groups.specs.Groups.{same_group, same_member, is_group_before, is_member_before, member, group_from, group_after, ids_in}
-use Rattle.np_groups.proofs.Order.{group-apart, group-is, group-one_way, group-turned}
-use Rattle.np_groups.proofs.Walk.{IsLeast, least-found}
-use Rattle.np_keys.specs.Keys.{same_node, is_node_before}
+use Rattle.np_table.specs.declared.groups.Group.{Group}
+use Rattle.np_table.specs.declared.groups.Member.{Member}
+use Rattle.np_table.specs.Groups.{same_group, same_member, is_group_before, is_member_before, member, group_from, group_after, ids_in}
+use Rattle.np_table.proofs.MemberOrder.{group-apart, group-is, group-one_way, group-turned}
+use Rattle.np_table.proofs.Walk.{IsLeast, least-found}
+use Rattle.np_look.specs.Keys.{same_node, is_node_before}
 use Rattle.np_classes.specs.Classes.{tenant_group, node_is_in, ClassesOf, AreClasses}
 use Rattle.np_counts.specs.Taken.{taken_by}
 use Rattle.np_counts.specs.TenantGroups.{beside_if, is_in_tenant_group}

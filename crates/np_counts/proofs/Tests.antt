@@ -3,8 +3,8 @@ use Rattle.std.proofs.Common.{◌≡◌, ◌∙◌, ℕ, Bool, true, false, List
 use Rattle.std.specs.Prelude.{◌==◌, ◌&&◌, ◌||◌, if◌then◌else◌, is_none, is_some, nat_lt, slice_get, option_and_then}
 use Rattle.std.proofs.lemmas.Bool.Decides.{nat_tests}
 use Rattle.np_changes.specs.Prelude.{Configuration, LabelId, NodeEntry, NodeRecord, PoolId, RequestEntry, RequestRecord, State, TenantId, holder, is_failed, is_kind, is_pending, is_pending_by, is_pool, is_ready, is_requested, is_spare, next_label, option_map, option_map_or}
-use Rattle.np_groups.specs.declared.groups.Group.{Group}
-use Rattle.np_groups.specs.Groups.{same_group}
+use Rattle.np_table.specs.declared.groups.Group.{Group}
+use Rattle.np_table.specs.Groups.{same_group}
 use Rattle.np_look.specs.declared.asked.UnheldKind.{UnheldKind}
 use Rattle.np_look.specs.declared.asked.UnheldKind.TheVariants as kind
 use Rattle.np_look.specs.Readers.{due_of, is_unclaimed, is_unheld_as, is_unheld_pending, same_kind, unheld_kind}

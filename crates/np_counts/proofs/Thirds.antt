@@ -6,11 +6,11 @@ use Rattle.std.proofs.lemmas.Bool.Decides.{nat_tests}
 use Rattle.np_lists.proofs.Each.{all-find}
 use Rattle.np_lists.proofs.FoundLemmas.{find-passes}
 use Rattle.np_lists.proofs.Halves.{none-find}
-use Rattle.np_groups.specs.declared.groups.Group.{Group}
-use Rattle.np_groups.specs.declared.groups.Member.{Member}
-use Rattle.np_groups.specs.Groups.{same_group, is_group_before, is_member_before, group_from, group_after}
-use Rattle.np_groups.proofs.Order.{group-equal}
-use Rattle.np_groups.proofs.Walk.{IsLeast, least-found}
+use Rattle.np_table.specs.declared.groups.Group.{Group}
+use Rattle.np_table.specs.declared.groups.Member.{Member}
+use Rattle.np_table.specs.Groups.{same_group, is_group_before, is_member_before, group_from, group_after}
+use Rattle.np_table.proofs.MemberOrder.{group-equal}
+use Rattle.np_table.proofs.Walk.{IsLeast, least-found}
 use Rattle.np_counts.specs.Thirds.{is_alike, third_if}
 use Rattle.np_counts.proofs.Any.{any-find}
 use Rattle.std.proofs.lemmas.Bool.{not-true}

@@ -6,10 +6,10 @@ use Rattle.std.proofs.lemmas.Bool.{eq-eqb, and_from}
 use Rattle.std.proofs.lemmas.Bool.Decides.{nat_tests}
 use Rattle.np_lists.proofs.Each.{all-find}
 use Rattle.np_lists.proofs.FoundLemmas.{find-passes}
-use Rattle.np_groups.specs.declared.groups.Group.{Group}
-use Rattle.np_groups.specs.declared.groups.Member.{Member}
-use Rattle.np_groups.specs.Groups.{same_group, same_member, member, group_from, group_after, has_member}
-use Rattle.np_groups.proofs.Order.{group-equal, group-itself}
+use Rattle.np_table.specs.declared.groups.Group.{Group}
+use Rattle.np_table.specs.declared.groups.Member.{Member}
+use Rattle.np_table.specs.Groups.{same_group, same_member, member, group_from, group_after, has_member}
+use Rattle.np_table.proofs.MemberOrder.{group-equal, group-itself}
 use Rattle.np_machine.specs.Reasons.{next_label, is_spare, is_stuck_at}
 use Rattle.np_classes.specs.Classes.{request_groups, is_among, request_is_in, AreRequestGroups, ClassesOf, AreClasses}
 use Rattle.np_counts.specs.Waiting.{label_group, is_beside, label_if, is_pinned_as, is_stuck_label, is_stuck_as, is_under_way_as}

@@ -1,8 +1,8 @@
 -- the groups of a tenant's nodes (own)
 use Rattle.std.specs.Prelude.{ℕ, Bool, false, if◌then◌else◌, Option, Some, None}
 use Rattle.np_changes.specs.Prelude.{NodeEntry, option_map_or}
-use Rattle.np_groups.specs.declared.groups.Group.{Group}
-use Rattle.np_groups.specs.Groups.{same_group}
+use Rattle.np_table.specs.declared.groups.Group.{Group}
+use Rattle.np_table.specs.Groups.{same_group}
 use Rattle.np_classes.specs.Classes.{tenant_group}
 use Rattle.np_counts.specs.Waiting.{is_beside}
 

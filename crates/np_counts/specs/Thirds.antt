@@ -1,6 +1,6 @@
 -- groups that differ in their third number alone (own)
 use Rattle.std.specs.Prelude.{ℕ, Bool, ◌==◌, ◌&&◌, if◌then◌else◌, Option, Some, None}
-use Rattle.np_groups.specs.declared.groups.Group.{Group}
+use Rattle.np_table.specs.declared.groups.Group.{Group}
 
 -- both are of one class, and have one first and one second number
 abbrev pub is_alike : Group → Group → Bool

@@ -1,7 +1,7 @@
 -- the labels that requests of a pool wait for, and when such a request is stuck or under way (own)
 use Rattle.std.specs.Prelude.{Bool, ◌==◌, ◌&&◌, ◌||◌, not, if◌then◌else◌, Option, Some, None, is_some, is_none}
 use Rattle.np_changes.specs.Prelude.{Configuration, LabelId, PoolId, RequestEntry, RequestRecord, State, is_short, is_spare, is_stuck, list_any}
-use Rattle.np_groups.specs.declared.groups.Group.{Group}
+use Rattle.np_table.specs.declared.groups.Group.{Group}
 use Rattle.np_look.specs.Readers.{is_under_way_by}
 use Rattle.np_classes.specs.Classes.{next_label_group, pinned_label_group}
 

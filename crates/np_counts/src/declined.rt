@@ -8,8 +8,7 @@ ghost use Rattle.np_counts.specs.Sets.{earlier, first_of_set, is_late};
 
 use crate::kinds::third_if;
 use np_classes::{Classes, declined_group};
-use np_keys::ByRequest;
-use np_look::{Look, Rows, Scan, is_declined_by_all};
+use np_look::{ByRequest, Look, Rows, Scan, is_declined_by_all};
 use np_table::Order;
 use np_text::{POOLS, RequestId};
 

@@ -8,8 +8,8 @@ ghost use Rattle.np_classes.specs.Classes.{AreClasses};
 ghost use Rattle.np_counts.specs.Thirds.{third_if};
 
 use np_classes::{Classes, pending_group, unheld_group, unheld_pending_group};
-use np_groups::Group;
 use np_look::UnheldKind;
+use np_table::Group;
 use np_text::{NodeId, PoolId, RequestId};
 
 /// The number of requests that are pending by the pool. Two binary searches.

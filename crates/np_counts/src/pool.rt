@@ -9,8 +9,8 @@ ghost use Rattle.np_counts.specs.Waiting.{is_stuck_as, is_stuck_label, is_under_
 
 use np_amount::Amount;
 use np_classes::{Classes, kind_group, next_label_group, pinned_label_group, spare_group};
-use np_groups::Group;
 use np_look::{NOTHING, Rows, lacks_room, offers};
+use np_table::Group;
 use np_text::{LabelId, NodeId, PoolId};
 
 /// What the pool uses: for each of its offers, the number of its nodes of that label times the

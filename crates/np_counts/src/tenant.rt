@@ -10,8 +10,8 @@ use crate::Awaited;
 use crate::amounts::taken_by;
 use np_amount::Amount;
 use np_classes::{Classes, tenant_group};
-use np_groups::Group;
 use np_look::{NOTHING, Rows};
+use np_table::Group;
 use np_text::{LabelId, PoolId, TenantId};
 
 /// The group that was found, if its class and its first number are those of the other.

@@ -4,7 +4,7 @@ use Rattle.std.specs.Prelude.{◌||◌, map}
 use Rattle.np_changes.specs.Prelude.{AllByRecursion, Configuration, NodeId, State, list_any, node_queue}
 use Rattle.std.proofs.lemmas.List.Folds.{list_any-append}
 use Rattle.np_changes.specs.declared.changes.Changes.{Changes}
-use Rattle.np_keys.specs.Keys.{same_node}
+use Rattle.np_look.specs.Keys.{same_node}
 use Rattle.np_classes.specs.Touched.{touches_node}
 use Rattle.np_given.specs.Listed.{nodes_by_job, nodes_by_state, touches_given}
 use Rattle.np_given.specs.Prepared.{IsPrepared, PreparedOf, placed_node}

@@ -5,20 +5,21 @@ use Rattle.np_changes.specs.Prelude.{AllByRecursion, Configuration, IsReached, N
 use Rattle.std.proofs.lemmas.List.{take_all}
 use Rattle.np_lists.proofs.Each.{all-weaker}
 use Rattle.np_changes.specs.declared.changes.Changes.{Changes}
-use Rattle.np_groups.specs.declared.groups.Group.{Group}
-use Rattle.np_groups.specs.declared.groups.Member.{Member}
-use Rattle.np_keys.specs.Keys.{is_node_before, same_node, node_transitive, node_one_way, node_some_way, node_equal}
+use Rattle.np_table.specs.declared.groups.Group.{Group}
+use Rattle.np_table.specs.declared.groups.Member.{Member}
+use Rattle.np_look.specs.Keys.{is_node_before, same_node}
 use Rattle.np_laws.proofs.Numbered.{numbered}
 use Rattle.np_laws.proofs.Runs.{invariant-Runs}
-use Rattle.np_groups.specs.Moves.{Placed, is_among, with_all_moved, with_moved}
-use Rattle.np_groups.proofs.MoveLemmas.{each-moved, rises-all_moved}
+use Rattle.np_table.specs.Moves.{Placed, with_all_moved, with_moved}
+use Rattle.np_classes.specs.Grouped.{AreGrouped, placed_all}
+use Rattle.np_classes.proofs.Grouped.{grouped-moved, nodes-in_order}
 use Rattle.np_given.specs.Given.{AreGivenGroups, groups_by, groups_of_node}
 use Rattle.np_given.specs.Listed.{touches_given}
 use Rattle.np_given.specs.Prepared.{IsPrepared, PreparedOf, placed_node}
 use Rattle.np_given.specs.Within.{groups_within}
 use Rattle.np_given.proofs.Untouched.{given-untouched}
 use Rattle.np_given.proofs.Longer.{queue-longer}
-use Rattle.np_lists.proofs.Plain.{untouched}
+use Rattle.np_lists.proofs.Plain.{contrapositive}
 
 -- the whole queue is read if there are so many sessions at most
 pub whole : (c : Configuration) (s : State) (most : ℕ) (n : NodeId) → length (node_queue n s.nodes) ≤ most → groups_within c s most n ≡ groups_of_node c s n
@@ -37,22 +38,15 @@ module _ (c : Configuration) (s : State) (ch : Changes) (prepared : PreparedOf) 
   later-whole n few = whole c (changed c ch s) prepared.most n (omega (arith, queue-longer c ch s n reached))
 
   stays : (n : NodeId) → list_any (λ m. same_node m n) ready.listed ≡ false → groups_of_node c (changed c ch s) n ≡ groups_of_node c s n
-  stays n out = given-untouched c ch s n reached (untouched (touches_given ch s n) (list_any (λ m. same_node m n) ready.listed) (ready.nodes n) out)
+  stays n out = given-untouched c ch s n reached (contrapositive (touches_given ch s n) (list_any (λ m. same_node m n) ready.listed) (ready.nodes n) out)
 
   -- the listed nodes move to where they are
   members-moved : (ms : List (Member NodeId)) → AreGivenGroups c s ms
       → AreGivenGroups c (changed c ch s) (with_all_moved is_node_before same_node (groups_of_node c (changed c ch s)) (map (placed_node c s) ready.listed) ms)
-  members-moved ms old = record {
-    rises =
-        rises-all_moved is_node_before same_node node_transitive node_one_way node_some_way node_equal
-        (groups_of_node c (changed c ch s)) (map (placed_node c s) ready.listed) ms old.rises;
-    each = λ g n.
-        each-moved is_node_before same_node node_transitive node_one_way node_some_way node_equal g n
-        (groups_of_node c s) (groups_of_node c (changed c ch s)) ready.listed ms old.rises
-        (old.each g n)
-        (λ out. ap (is_among g) (stays n out));
-    once = (numbered c s ch (invariant-Runs c reached.journal s reached.runs).numbered).nodes_rise;
-  }
+  members-moved ms old =
+      let are : AreGrouped is_node_before same_node (groups_of_node c (changed c ch s)) (with_all_moved is_node_before same_node (groups_of_node c (changed c ch s)) (placed_all (groups_of_node c s) ready.listed) ms) =
+      grouped-moved is_node_before same_node nodes-in_order (groups_of_node c s) (groups_of_node c (changed c ch s)) ready.listed ms (record { rises = old.rises; each = old.each }) stays in
+      record { rises = are.rises; each = are.each; once = (numbered c s ch (invariant-Runs c reached.journal s reached.runs).numbered).nodes_rise }
 
   members-noted : (ms new : List (Member NodeId)) → AreGivenGroups c s ms
       → new ≡ with_all_moved is_node_before same_node (groups_within c (changed c ch s) prepared.most) prepared.past ms

@@ -6,16 +6,16 @@ use Rattle.std.proofs.lemmas.Option.{slice_get-map}
 use Rattle.np_look.specs.Readers.{queued_nodes}
 use Rattle.np_lists.proofs.Each.{all-weaker}
 use Rattle.np_lists.proofs.RisingLemmas.{Rises-filter}
-use Rattle.np_groups.specs.declared.groups.Group.{Group}
-use Rattle.np_groups.specs.declared.groups.Member.{Member}
-use Rattle.np_groups.specs.Groups.{has_member, ids_in, same_group}
-use Rattle.np_groups.proofs.Ids.{ids-rise, ids-has, same-list}
-use Rattle.np_keys.specs.Keys.{same_node, is_node_before, node_equal, node_one_way}
+use Rattle.np_table.specs.declared.groups.Group.{Group}
+use Rattle.np_table.specs.declared.groups.Member.{Member}
+use Rattle.np_table.specs.Groups.{has_member, ids_in, same_group}
+use Rattle.np_table.proofs.Ids.{ids-rise, ids-has, same-list}
+use Rattle.np_look.specs.Keys.{same_node, is_node_before, node_equal, node_one_way}
 use Rattle.np_look.specs.Given.{given_to, is_given_to, is_to_leave, is_to_lock, node_to_leave, node_to_lock}
-use Rattle.np_groups.specs.Moves.{is_among}
+use Rattle.np_table.specs.Moves.{is_among}
 use Rattle.np_classes.proofs.Apart.{same_node-self}
 use Rattle.np_classes.proofs.Rows.{ids-in_order, row-passes, rows-found}
-use Rattle.np_groups.specs.Ranks.{outside}
+use Rattle.np_table.specs.Ranks.{outside}
 use Rattle.np_given.specs.Given.{AreGivenGroups, given_group, given_groups, groups_by, locked_group}
 use Rattle.np_lists.proofs.Plain.{or_false}
 use Rattle.np_laws.proofs.Lookups.{node-apart}

@@ -4,7 +4,7 @@ use Rattle.std.specs.Prelude.{slice_get}
 use Rattle.std.proofs.lemmas.List.{map-append, take_all}
 use Rattle.np_look.proofs.Walks.{take_there}
 use Rattle.np_changes.specs.Prelude.{RequesterId, SessionId}
-use Rattle.np_groups.specs.declared.groups.Group.{Group}
+use Rattle.np_table.specs.declared.groups.Group.{Group}
 use Rattle.np_given.specs.Given.{locked_group}
 use Rattle.np_given.specs.Within.{locked_groups}
 use Rattle.np_lists.proofs.Plain.{past-end}

@@ -2,8 +2,8 @@
 use Rattle.std.specs.Prelude.{◌≡◌, ◌≤◌, ◌*◌, ℕ, suc, List, true, length, map}
 use Rattle.np_changes.specs.Prelude.{AllByRecursion, Configuration, NodeId, State, list_any, node_queue}
 use Rattle.np_changes.specs.declared.changes.Changes.{Changes}
-use Rattle.np_keys.specs.Keys.{same_node}
-use Rattle.np_groups.specs.Moves.{Placed}
+use Rattle.np_look.specs.Keys.{same_node}
+use Rattle.np_table.specs.Moves.{Placed}
 use Rattle.np_given.specs.Given.{GivenOf, groups_of_node}
 use Rattle.np_given.specs.Listed.{touches_given}
 

@@ -1,16 +1,15 @@
 //! Nodes moved between their groups. Only making the groups anew takes memory.
 
 ghost use Rattle.std.specs.Prelude.{◌≡◌, ◌≤◌, ◌+◌, ◌*◌, [], suc, IfOk, OnOk, length, vec_capacity};
-ghost use Rattle.np_keys.specs.Keys.{is_node_before, same_node};
+ghost use Rattle.np_look.specs.Keys.{is_node_before, same_node};
 ghost use Rattle.np_changes.specs.Prelude.{Fits, IsReached};
-ghost use Rattle.np_groups.specs.Moves.{with_all_moved, with_groups, with_moved};
+ghost use Rattle.np_table.specs.Moves.{with_all_moved, with_groups, with_moved};
 ghost use Rattle.np_given.specs.Given.{AreGivenGroups, groups_of_node};
 ghost use Rattle.np_given.specs.Within.{groups_within};
 
 use crate::past::{PastNode, past_node, write_groups};
-use np_groups::{Group, Groups, move_id};
-use np_keys::ByNode;
-use np_look::Rows;
+use np_look::{ByNode, Rows};
+use np_table::{Group, Groups, move_id};
 use np_text::NodeId;
 use std::alloc::{AllocError, Global};
 

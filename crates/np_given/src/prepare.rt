@@ -2,7 +2,7 @@
 
 ghost use Rattle.std.specs.Prelude.{◌≡◌, ◌≤◌, ◌++◌, suc, true, IfOk, OnOk, length, map};
 ghost use Rattle.np_changes.specs.Prelude.{AllByRecursion, Fits, list_any, most, node_queue};
-ghost use Rattle.np_keys.specs.Keys.{same_node};
+ghost use Rattle.np_look.specs.Keys.{same_node};
 ghost use Rattle.np_classes.specs.Touched.{touches_node};
 ghost use Rattle.np_given.specs.Listed.{changes_state, nodes_by_job, nodes_by_state, nodes_of_request};
 ghost use Rattle.np_given.specs.Prepared.{IsPrepared, placed_node};

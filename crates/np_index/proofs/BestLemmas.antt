@@ -4,7 +4,7 @@ use Rattle.std.specs.Prelude.{◌==◌, ◌&&◌, find, nat_lt, slice_get}
 use Rattle.np_changes.specs.Prelude.{Configuration, PoolId, Rises, State, option_map_or}
 use Rattle.std.proofs.lemmas.Bool.Decides.{nat_tests}
 use Rattle.np_lists.proofs.FoundLemmas.{find-passes}
-use Rattle.np_groups.specs.declared.groups.Member.{Member}
+use Rattle.np_table.specs.declared.groups.Member.{Member}
 use Rattle.np_open.specs.declared.ranks.Rank.{Rank}
 use Rattle.np_open.specs.Open.{AreOpen, IsLineFrom, OpenOf, first_line, line_after, ranks_of}
 use Rattle.np_open.specs.Ranks.{is_rank_before}

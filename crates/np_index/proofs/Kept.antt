@@ -1,12 +1,13 @@
 -- parts of an index that stay are those of the same state
-use Rattle.std.proofs.Common.{◌≡◌, subst, sym}
+use Rattle.std.proofs.Common.{◌≡◌, List, subst, sym}
 use Rattle.np_changes.specs.declared.changes.Changes.{Changes}
-use Rattle.np_changes.specs.Prelude.{Configuration, State, changed}
+use Rattle.np_changes.specs.Prelude.{Configuration, JobId, State, changed}
 use Rattle.np_changes.specs.declared.changes.SessionsChange.TheVariants as sessions
 use Rattle.np_counts.specs.Awaited.{OthersStay}
-use Rattle.np_classes.specs.Prepared.{TouchedOf, IsPrepared as AreTouchedOf}
-use Rattle.np_classes.proofs.Noted.{record-stays}
+use Rattle.np_classes.specs.Listed.{IsTouched, TouchedOf}
+use Rattle.np_classes.proofs.Untouched.{record-stays}
 use Rattle.np_open.specs.Open.{AreOpen, OpenOf}
+use Rattle.np_active.specs.Prepared.{IsPast, PastOf}
 use Rattle.np_active.specs.Active.{ActiveOf, AreActive, AreJobGroups, AreSessionGroups}
 
 -- where the members and the lines stay, they are those of the same state
@@ -22,8 +23,12 @@ active-same c s old new lines jobs sessions was = record {
   sessions = subst (AreSessionGroups s) (sym sessions) was.sessions;
 }
 
+-- what was placed by lines that stay
+pub placed-same : (c : Configuration) (s : State) (old new : List JobId) (touched : TouchedOf) (past : PastOf) → new ≡ old → IsPast c s old touched past → IsPast c s new touched past
+placed-same c s old new touched past same is = subst (λ (lines : List JobId). IsPast c s lines touched past) (sym same) is
+
 -- the requests that are touched are one at most, and the records of all others stay
-pub others-stay : (c : Configuration) (s : State) (ch : Changes) (touched : TouchedOf) → AreTouchedOf c s ch touched → OthersStay touched.requests s (changed c ch s)
+pub others-stay : (c : Configuration) (s : State) (ch : Changes) (touched : TouchedOf) → IsTouched s ch touched → OthersStay touched.requests s (changed c ch s)
 others-stay c s ch touched is = record {
   once = is.once;
   same = record-stays c s ch touched is;

@@ -5,7 +5,7 @@ use Rattle.np_changes.specs.Prelude.{AllByRecursion, Configuration, PoolId, Requ
 use Rattle.np_changes.specs.declared.asked.Asked.{Asked}
 use Rattle.np_lists.proofs.Each.{all-at, all-filter, all-from_at, all-weaker}
 use Rattle.np_lists.proofs.FilterLemmas.{filter-nothing}
-use Rattle.np_groups.specs.declared.groups.Member.{Member}
+use Rattle.np_table.specs.declared.groups.Member.{Member}
 use Rattle.np_open.specs.declared.ranks.Rank.{Rank}
 use Rattle.np_open.specs.Open.{AreOpen, IsOpenFrom, IsWaiting, OpenOf, is_closed_rank, ranks_of}
 use Rattle.np_open.specs.Ranks.{is_rank_before}

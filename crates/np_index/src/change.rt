@@ -8,11 +8,11 @@ ghost use Rattle.np_index.specs.Prepared.{HasRoomFor, IsPreparedFor};
 
 use crate::index::Index;
 use np_changes::{Changes, SessionsChange};
-use np_classes::Touched;
+use np_classes::{Touched, touched_by};
 use np_counts::{Rest, first_rest};
 use np_look::Rows;
 use np_open::Moved;
-use np_text::{JobId, SessionId};
+use np_text::SessionId;
 use std::alloc::{AllocError, Global};
 use std::marker::Model;
 
@@ -20,9 +20,10 @@ use std::marker::Model;
 #[derive(Drop)]
 pub struct Prepared {
     touched: Touched,
+    past: np_classes::Past,
     before: Option<Rest>,
     moved: Moved,
-    asker: Option<JobId>,
+    placed: np_active::Past,
     given: np_given::Prepared,
     lookups: np_lookups::Prepared,
 }
@@ -34,9 +35,10 @@ impl Model for Prepared {
 
     ghost view = { λ prepared. record {
       touched = prepared.touched;
+      past = prepared.past;
       before = prepared.before;
       moved = prepared.moved;
-      asker = prepared.asker;
+      placed = prepared.placed;
       given = prepared.given;
       lookups = prepared.lookups;
     } };
@@ -80,17 +82,19 @@ impl Index {
         let session = ending(&changes.sessions);
         let nodes = self.lookups.nodes_of(session);
         let requests = self.lookups.requests_of(session);
-        let touched = self.classes.prepare(alloc, rows, changes, nodes, requests)?;
+        let touched = touched_by(alloc, rows, changes, nodes, requests)?;
+        let past = self.classes.prepare(alloc, rows, &touched)?;
         let before = first_rest(rows, touched.requests());
         let moved = self.requested.prepare(alloc, rows, touched.requests())?;
-        let asker = self.active.prepare(rows, changes)?;
+        let placed = self.active.prepare(alloc, rows, &touched)?;
         let given = self.given.prepare(alloc, rows, changes, touched.nodes())?;
         let lookups = self.lookups.prepare(rows, changes)?;
         Ok(Prepared {
             touched,
+            past,
             before,
             moved,
-            asker,
+            placed,
             given,
             lookups,
         })
@@ -108,7 +112,7 @@ impl Index {
     ///
     /// It costs a few lookups for each node and request that was listed, a few binary searches for
     /// each group that one of them leaves or joins, and both for each job and session that the
-    /// changes name. A request whose record changed costs a lookup for each pool as well, and if it
+    /// changes touch. A request whose record changed costs a lookup for each pool as well, and if it
     /// is requested, and a pool declined it or it is pinned, its declines are read a few times for
     /// each pool.
     pub fn note<R: Rows>(&mut self, rows: &R, changes: &Changes, prepared: &Prepared)
@@ -120,11 +124,11 @@ impl Index {
     {
         self.lookups
             .settle(rows.config(), changes, &prepared.lookups);
-        self.classes.note(rows, &prepared.touched);
+        self.classes.note(rows, &prepared.past);
         self.awaited
             .note(rows, prepared.touched.requests(), prepared.before);
         self.requested.note(rows, &prepared.moved);
-        self.active.note(rows, changes, prepared.asker);
+        self.active.note(rows, &prepared.placed);
         self.given.note(rows, &prepared.given);
     }
 }

@@ -7,7 +7,7 @@ use Rattle.np_look.specs.Readers.{queued_nodes, queued_requests}
 use Rattle.np_lists.proofs.ChangeLemmas.{insert_before-end}
 use Rattle.np_lists.proofs.Each.{all-at, all-weaker}
 use Rattle.np_laws.proofs.Runs.{invariant-Runs}
-use Rattle.np_keys.specs.Keys.{is_node_before}
+use Rattle.np_look.specs.Keys.{is_node_before}
 use Rattle.np_look.proofs.Walks.{take_there}
 use Rattle.np_lookups.proofs.Ids.{apart, ids-rise}
 

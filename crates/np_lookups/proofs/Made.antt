@@ -8,7 +8,7 @@ use Rattle.std.proofs.lemmas.List.Elements.{All-get_or}
 use Rattle.std.proofs.lemmas.Option.{slice_get-get_or, slice_get_within, get_or_from_slice_get}
 use Rattle.np_lists.proofs.ChangeLemmas.{length-change_at}
 use Rattle.np_lists.proofs.Each.{all-weaker}
-use Rattle.np_keys.specs.Keys.{is_job_before}
+use Rattle.np_look.specs.Keys.{is_job_before}
 use Rattle.np_look.specs.Readers.{is_unfinished_job, unfinished_from}
 use Rattle.np_look.proofs.Walks.{take_there}
 use Rattle.np_lookups.specs.Lists.{list_at}

@@ -12,7 +12,7 @@ use Rattle.np_text.specs.declared.word.Phase.TheVariants as phase
 use Rattle.np_changes.specs.declared.changes.Growth.TheVariants as grow
 use Rattle.np_changes.specs.declared.changes.JobsChange.TheVariants as jobs
 use Rattle.np_changes.specs.declared.changes.RequestsChange.TheVariants as requests
-use Rattle.np_keys.specs.Keys.{same_job}
+use Rattle.np_look.specs.Keys.{same_job}
 use Rattle.np_lookups.specs.Changed.{unfinished_changed}
 use Rattle.np_lookups.specs.Lookups.{AreUnfinished}
 use Rattle.np_lookups.specs.Lists.{list_at, without_id}

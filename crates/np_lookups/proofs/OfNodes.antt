@@ -16,7 +16,7 @@ use Rattle.np_changes.specs.declared.changes.NodesChange.TheVariants as nodes
 use Rattle.np_changes.specs.declared.changes.SessionsChange.TheVariants as sessions
 use Rattle.np_laws.proofs.Ids.{row-of}
 use Rattle.np_laws.proofs.Lookups.{freed-id, freed-queue}
-use Rattle.np_keys.specs.Keys.{is_node_before, same_node, node_one_way, node_equal}
+use Rattle.np_look.specs.Keys.{is_node_before, same_node, node_one_way, node_equal}
 use Rattle.np_lookups.specs.Lists.{with_id}
 use Rattle.np_lookups.specs.Waits.{joins_node, leaves_node, removed_node, ending}
 use Rattle.np_lookups.proofs.Ids.{ids-map, ids-change_first, ids-push_out, ids-pushed, ids-removed}

@@ -11,7 +11,7 @@ use Rattle.np_changes.specs.declared.changes.Growth.TheVariants as grow
 use Rattle.np_changes.specs.declared.changes.RequestsChange.TheVariants as requests
 use Rattle.np_changes.specs.declared.changes.SessionsChange.TheVariants as sessions
 use Rattle.np_laws.proofs.Ids.{row-of}
-use Rattle.np_keys.specs.Keys.{request_one_way, request_equal}
+use Rattle.np_look.specs.Keys.{request_one_way, request_equal}
 use Rattle.np_lookups.specs.declared.waits.Wait.{Wait}
 use Rattle.np_lookups.specs.Waits.{by, joins_request, removed_request, ending}
 use Rattle.np_lookups.proofs.Ids.{ids-change_first, ids-insert_out, ids-removed}

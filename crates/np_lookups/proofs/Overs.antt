@@ -4,7 +4,7 @@ use Rattle.std.specs.Prelude.{◌==◌, ◌&&◌, not, slice_get, slice_set}
 use Rattle.np_changes.specs.Prelude.{AllByRecursion, Configuration, JobId, JobRecord, RequesterId, is_over, option_map_or, remove_first}
 use Rattle.std.proofs.lemmas.Bool.Decides.{nat_tests}
 use Rattle.np_look.specs.Readers.{is_unfinished_job, unfinished_from}
-use Rattle.np_keys.specs.Keys.{same_job}
+use Rattle.np_look.specs.Keys.{same_job}
 use Rattle.np_lists.proofs.Plain.{below-apart, above-apart}
 
 -- for each job whether it is over

@@ -19,7 +19,7 @@ use Rattle.np_changes.specs.declared.changes.SessionsChange.TheVariants as sessi
 use Rattle.np_laws.specs.Parts.{DistinctSessions, Invariant, IsQueue}
 use Rattle.np_laws.proofs.Numbered.{grown-numbered}
 use Rattle.np_laws.proofs.Runs.{invariant-Runs}
-use Rattle.np_keys.specs.Keys.{is_node_before, same_node, node_one_way, node_equal, request_one_way, request_equal}
+use Rattle.np_look.specs.Keys.{is_node_before, same_node, node_one_way, node_equal, request_one_way, request_equal}
 use Rattle.np_lookups.specs.Changed.{lists_joined, lists_left, lists_removed, lists_ended, queue_at, holder_at, lookups_grown, lookups_settled}
 use Rattle.np_lookups.specs.Lookups.{LookupsOf, HasRoom, AreLookupsOf}
 use Rattle.np_lookups.specs.Lists.{list_at, without_id}

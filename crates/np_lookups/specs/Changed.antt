@@ -6,7 +6,7 @@ use Rattle.np_changes.specs.declared.changes.Growth.{Growth}
 use Rattle.np_changes.specs.declared.changes.JobsChange.{JobsChange}
 use Rattle.np_changes.specs.declared.changes.Growth.TheVariants as grow
 use Rattle.np_changes.specs.declared.changes.JobsChange.TheVariants as jobs
-use Rattle.np_keys.specs.Keys.{is_node_before, same_node, same_job}
+use Rattle.np_look.specs.Keys.{is_node_before, same_node, same_job}
 use Rattle.np_lookups.specs.declared.waits.Wait.{Wait}
 use Rattle.np_lookups.specs.Lookups.{LookupsOf}
 use Rattle.np_lookups.specs.Lists.{with_id, without_id, taken_back}

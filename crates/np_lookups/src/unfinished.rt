@@ -9,8 +9,7 @@ ghost use Rattle.np_lookups.specs.Unfinished.{has_ended};
 use crate::lists::{push_at, remove_at};
 use np_changes::JobsChange;
 use np_config::Config;
-use np_keys::JobTable;
-use np_look::Rows;
+use np_look::{JobTable, Rows};
 use np_text::{JobId, Phase, RequesterId};
 use std::alloc::{AllocError, Global};
 

@@ -8,11 +8,11 @@ use Rattle.std.proofs.lemmas.Slice.Eq.{slice_eq-Decides}
 use Rattle.np_text.specs.declared.word.RequestState.TheVariants.{Requested}
 use Rattle.np_lists.proofs.Each.{all-weaker}
 use Rattle.np_lists.proofs.FilterLemmas.{filter-nothing}
-use Rattle.np_groups.specs.declared.groups.Group.{Group}
-use Rattle.np_groups.specs.declared.groups.Member.{Member}
-use Rattle.np_groups.specs.Groups.{group_from, is_group_before, is_member_before, same_group}
-use Rattle.np_groups.proofs.Ids.{step}
-use Rattle.np_groups.proofs.Order.{group-equal, group-itself, group-transitive}
+use Rattle.np_table.specs.declared.groups.Group.{Group}
+use Rattle.np_table.specs.declared.groups.Member.{Member}
+use Rattle.np_table.specs.Groups.{group_from, is_group_before, is_member_before, same_group}
+use Rattle.np_table.proofs.Ids.{step}
+use Rattle.np_table.proofs.MemberOrder.{group-equal, group-itself, group-transitive}
 use Rattle.np_machine.specs.First.{blocking, short_tenant}
 use Rattle.np_machine.specs.Tenants.{is_tenant, limit_of_tenant, passes_tenant, tenant_of_request}
 use Rattle.np_look.specs.Readers.{has_limit}

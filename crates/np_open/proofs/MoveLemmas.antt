@@ -3,11 +3,11 @@ use Rattle.std.proofs.Common.{◌≡◌, ◌∙◌, ◌⊎◌, inl, inr, ◌<◌
 use Rattle.std.specs.Prelude.{◌==◌, ◌&&◌, ◌||◌, is_some, nat_lt}
 use Rattle.np_changes.specs.Prelude.{Declined, PoolId, RequestId, RequestRecord, Rises, is_requested, option_map_or, same_request}
 use Rattle.std.proofs.lemmas.Bool.Decides.{nat_tests}
-use Rattle.np_groups.specs.declared.groups.Group.{Group}
-use Rattle.np_groups.specs.declared.groups.Member.{Member}
-use Rattle.np_groups.specs.Groups.{same_group, is_member_before, has_member, member}
-use Rattle.np_groups.proofs.Kept.{has-with, has-without, rises-with, rises-without}
-use Rattle.np_groups.proofs.Order.{member-equal}
+use Rattle.np_table.specs.declared.groups.Group.{Group}
+use Rattle.np_table.specs.declared.groups.Member.{Member}
+use Rattle.np_table.specs.Groups.{same_group, is_member_before, has_member, member}
+use Rattle.np_table.proofs.Kept.{has-with, has-without, rises-with, rises-without}
+use Rattle.np_table.proofs.MemberOrder.{member-equal}
 use Rattle.np_machine.specs.Order.{is_declined_by, is_elsewhere}
 use Rattle.np_open.specs.declared.ranks.Rank.{Rank}
 use Rattle.np_open.specs.Moves.{AreBy, IsEither, closed_member, is_found_closed, is_found_open, open_member, passes_with, rank_of, same_members, with_moved, with_one, without_one}

@@ -3,10 +3,10 @@ use Rattle.std.proofs.Common.{◌≡◌, ◌∙◌, inl, inr, ◌⊎◌, ◌+◌
 use Rattle.std.specs.Prelude.{◌||◌, slice_get}
 use Rattle.np_changes.specs.Prelude.{Configuration, IsReached, JobId, RequestId, RequestRecord, State, changed, list_any, request_in, same_request}
 use Rattle.np_changes.specs.declared.changes.Changes.{Changes}
-use Rattle.np_groups.specs.declared.groups.Group.{Group}
-use Rattle.np_groups.specs.declared.groups.Member.{Member}
+use Rattle.np_table.specs.declared.groups.Group.{Group}
+use Rattle.np_table.specs.declared.groups.Member.{Member}
 use Rattle.np_lists.proofs.Each.{all-at, all-map, all-weaker}
-use Rattle.np_keys.specs.Keys.{request_equal}
+use Rattle.np_look.specs.Keys.{request_equal}
 use Rattle.np_laws.proofs.Numbered.{numbered}
 use Rattle.np_laws.proofs.Runs.{invariant-Runs}
 use Rattle.np_look.proofs.Walks.{take_there}
@@ -19,7 +19,7 @@ use Rattle.np_open.specs.Moves.{AreAsKept, AreBy, IsEither, passes_moved, passes
 use Rattle.np_open.specs.Prepared.{AreListed, IsPrepared, is_listed, past_of}
 use Rattle.np_open.specs.Open.{AreOpen, OpenOf, is_found_in, rank_is_in}
 use Rattle.np_open.proofs.MoveLemmas.{groups-by}
-use Rattle.np_lists.proofs.Plain.{or_false, or_true, untouched}
+use Rattle.np_lists.proofs.Plain.{or_false, or_true, contrapositive}
 
 -- ## what is listed
 
@@ -113,7 +113,7 @@ module _ (c : Configuration) (s : State) (lines : List JobId) (ch : Changes) (mo
     by true listed = refl
     by false out =
         ap (is_found_in (length c.pools) (line_of c lines) g x)
-        (sym (request-untouched c ch s x.request (untouched (touches_request ch s x.request) (is_listed x.request moved) (prepared.touched x.request) out)))
+        (sym (request-untouched c ch s x.request (contrapositive (touches_request ch s x.request) (is_listed x.request moved) (prepared.touched x.request) out)))
 
 -- the same for all
 abbrev pub Moves : List JobId → List Past → List (Member Rank) → List (Member Rank) → Configuration → State → Type 0

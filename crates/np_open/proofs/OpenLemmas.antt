@@ -4,9 +4,9 @@ use Rattle.std.specs.Prelude.{◌==◌, ◌&&◌, ◌||◌, filter, is_none, sli
 use Rattle.np_changes.specs.Prelude.{Configuration, JobId, PoolId, RequestEntry, RequestRecord, State, holder, is_declined_by, is_open_to, is_pinned_away, is_requested, list_any, option_map, option_map_or, request_entry, request_in}
 use Rattle.std.proofs.lemmas.Bool.Decides.{nat_tests}
 use Rattle.np_lists.proofs.EditLemmas.{list_any-there}
-use Rattle.np_groups.specs.declared.groups.Member.{Member}
-use Rattle.np_groups.specs.Groups.{same_group}
-use Rattle.np_groups.proofs.Ids.{ids-has, ids-rise}
+use Rattle.np_table.specs.declared.groups.Member.{Member}
+use Rattle.np_table.specs.Groups.{same_group}
+use Rattle.np_table.proofs.Ids.{ids-has, ids-rise}
 use Rattle.np_open.specs.declared.ranks.Rank.{Rank}
 use Rattle.np_open.specs.Lines.{line_of}
 use Rattle.np_open.specs.Open.{AreOpen, AreRequested, IsOpenFrom, IsWaiting, OpenOf, closed_group, is_closed_rank, is_found_in, is_requested_at, open_group, ranks_of}

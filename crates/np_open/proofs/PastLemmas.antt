@@ -5,10 +5,10 @@ use Rattle.std.specs.List.{AllByRecursion, count_by, list_any, prefix_len}
 use Rattle.std.proofs.lemmas.Bool.{false_from_ne_true}
 use Rattle.std.proofs.lemmas.List.Sums.{count_by-le-length, sum_by-cons}
 use Rattle.np_lists.specs.Rising.{Rises}
-use Rattle.np_groups.specs.declared.groups.Group.{Group}
-use Rattle.np_groups.specs.declared.groups.Member.{Member}
-use Rattle.np_groups.specs.Groups.{has_member, ids_in, is_member_before}
-use Rattle.np_groups.proofs.Ids.{ids-has, ids-rise}
+use Rattle.np_table.specs.declared.groups.Group.{Group}
+use Rattle.np_table.specs.declared.groups.Member.{Member}
+use Rattle.np_table.specs.Groups.{has_member, ids_in, is_member_before}
+use Rattle.np_table.proofs.Ids.{ids-has, ids-rise}
 use Rattle.np_open.specs.declared.ranks.Rank.{Rank}
 use Rattle.np_open.specs.Open.{open_group, ranks_of}
 use Rattle.np_open.specs.Ranks.{is_rank_before, rank_equal, rank_one_way, rank_some_way, rank_transitive, same_rank}

@@ -3,11 +3,11 @@ use Rattle.std.proofs.Common.{◌≡◌, ◌∙◌, inl, ◌+◌, ℕ, zero, suc
 use Rattle.std.specs.Prelude.{find, slice_get}
 use Rattle.np_changes.specs.Prelude.{AllByRecursion, Configuration, IsReached, JobId, NonePass, RequestEntry, RequestRecord, Rises, State, is_id_before, option_map, request_in, same_request}
 use Rattle.np_look.specs.Views.{request_view}
-use Rattle.np_groups.specs.declared.groups.Group.{Group}
-use Rattle.np_groups.specs.declared.groups.Member.{Member}
+use Rattle.np_table.specs.declared.groups.Group.{Group}
+use Rattle.np_table.specs.declared.groups.Member.{Member}
 use Rattle.np_lists.proofs.Each.{all-at, all-weaker}
 use Rattle.np_lists.proofs.Halves.{find-none}
-use Rattle.np_keys.specs.Keys.{request_equal, request_one_way}
+use Rattle.np_look.specs.Keys.{request_equal, request_one_way}
 use Rattle.np_table.proofs.KeyLemmas.{apart}
 use Rattle.np_laws.proofs.Locked.{find-push_other, find-push_new}
 use Rattle.np_laws.proofs.Runs.{invariant-Runs}

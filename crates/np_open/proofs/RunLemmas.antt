@@ -8,8 +8,8 @@ use Rattle.std.proofs.lemmas.Bool.Decides.{nat_tests}
 use Rattle.std.proofs.lemmas.Option.{slice_get_within}
 use Rattle.np_lists.proofs.Each.{all-at, all-filter, all-weaker}
 use Rattle.np_lists.proofs.RisingLemmas.{Rises-filter}
-use Rattle.np_groups.specs.Groups.{has_member, ids_in}
-use Rattle.np_groups.proofs.Ids.{ids-has, ids-rise, same-list}
+use Rattle.np_table.specs.Groups.{has_member, ids_in}
+use Rattle.np_table.proofs.Ids.{ids-has, ids-rise, same-list}
 use Rattle.np_open.specs.declared.ranks.Rank.{Rank}
 use Rattle.np_open.specs.Lines.{line_of}
 use Rattle.np_open.specs.Open.{AreOpen, IsOpenFrom, OpenOf, closed_group, is_closed_rank, is_found_in, open_group, ranks_of}

@@ -1,9 +1,9 @@
 -- what records before and after a change make of the members of groups (own)
 use Rattle.std.specs.Prelude.{◌≡◌, ◌⊎◌, ℕ, List, Bool, true, false, ◌==◌, ◌&&◌, ◌||◌, not, is_some, Option, Some, None, if◌then◌else◌, length, option_and_then}
 use Rattle.np_changes.specs.Prelude.{AllByRecursion, Configuration, JobId, PoolId, RequestId, RequestRecord, Rises, State, is_requested, option_map_or, same_request}
-use Rattle.np_groups.specs.declared.groups.Group.{Group}
-use Rattle.np_groups.specs.declared.groups.Member.{Member}
-use Rattle.np_groups.specs.Groups.{has_member, is_member_before, member, same_member, with_member, without_member}
+use Rattle.np_table.specs.declared.groups.Group.{Group}
+use Rattle.np_table.specs.declared.groups.Member.{Member}
+use Rattle.np_table.specs.Groups.{has_member, is_member_before, member, same_member, with_member, without_member}
 use Rattle.np_open.specs.declared.moves.Past.{Past}
 use Rattle.np_open.specs.declared.ranks.Rank.{Rank}
 use Rattle.np_open.specs.Lines.{line_of}

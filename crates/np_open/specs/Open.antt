@@ -1,9 +1,9 @@
 -- which requests are open, in which line each waits, and which of them are closed to a pool
 use Rattle.std.specs.Prelude.{◌≡◌, ◌≤◌, ◌<◌, ℕ, List, [], Bool, true, false, ◌==◌, ◌&&◌, ◌||◌, Option, Some, None, if◌then◌else◌, nat_lt, length, max, option_and_then, slice_get}
 use Rattle.np_changes.specs.Prelude.{Configuration, JobId, PoolId, RequestRecord, Rises, State, is_declined_by, is_id_before, is_pinned_away, is_requested, list_any, option_map_or, request_in}
-use Rattle.np_groups.specs.declared.groups.Group.{Group}
-use Rattle.np_groups.specs.declared.groups.Member.{Member}
-use Rattle.np_groups.specs.Groups.{same_group, group_after, group_from, has_member, ids_in, is_member_before}
+use Rattle.np_table.specs.declared.groups.Group.{Group}
+use Rattle.np_table.specs.declared.groups.Member.{Member}
+use Rattle.np_table.specs.Groups.{same_group, group_after, group_from, has_member, ids_in, is_member_before}
 use Rattle.np_open.specs.declared.ranks.Rank.{Rank}
 use Rattle.np_open.specs.Lines.{line_of}
 use Rattle.np_open.specs.Ranks.{is_rank_before, same_rank}

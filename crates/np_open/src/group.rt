@@ -6,9 +6,9 @@ ghost use Rattle.np_open.specs.Moves.{closed_member, open_member};
 
 use crate::ranks::Rank;
 use np_config::Config;
-use np_groups::{Group, Member};
 use np_look::is_open_to;
 use np_record::RequestRecord;
+use np_table::{Group, Member};
 use np_text::{POOLS, PoolId, RequestId, RequestState};
 
 /// The requested requests of the line.

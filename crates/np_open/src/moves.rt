@@ -2,7 +2,7 @@
 //! stays is left where it is.
 
 ghost use Rattle.std.specs.Prelude.{◌≡◌, ◌<◌, ◌≤◌, ◌+◌, ◌*◌, Bool, length};
-ghost use Rattle.np_groups.specs.declared.groups.Group.{Group};
+ghost use Rattle.np_table.specs.declared.groups.Group.{Group};
 ghost use Rattle.np_open.specs.declared.ranks.Rank.{Rank};
 ghost use Rattle.np_open.specs.Lines.{line_of};
 ghost use Rattle.np_open.specs.Moves.{AreAsKept, AreBy, IsEither, is_found_closed, is_found_open, passes_moved, passes_with, same_members, with_moved, with_one, without_one};
@@ -11,10 +11,9 @@ use crate::group::{closed_member, open_member, pools_of};
 use crate::lines::line_of;
 use crate::ranks::{ByRank, Rank};
 use np_config::Config;
-use np_groups::{Groups, Member};
 use np_look::Rows;
 use np_record::RequestRecord;
-use np_table::Order;
+use np_table::{Groups, Member, Order};
 use np_text::{JobId, PoolId, RequestId, RequestState};
 
 /// A request and its record before a change, if it was there.

@@ -4,7 +4,7 @@
 ghost use Rattle.std.specs.Prelude.{◌≡◌, ◌+◌, ◌*◌, Bool, IfOk, IfSome, None, OnOk, Some, length, map, not, slice_get};
 ghost use Rattle.np_changes.specs.Prelude.{Configuration, IsReached, State, changed, count_by};
 ghost use Rattle.np_changes.specs.declared.changes.Changes.{Changes};
-ghost use Rattle.np_groups.specs.declared.groups.Group.{Group};
+ghost use Rattle.np_table.specs.declared.groups.Group.{Group};
 ghost use Rattle.np_open.specs.declared.ranks.Rank.{Rank};
 ghost use Rattle.np_open.specs.Lines.{line_of};
 ghost use Rattle.np_open.specs.Open.{AreOpen, IsOpenFrom, first_line, line_after, rank_is_in, ranks_of};
@@ -18,8 +18,8 @@ use crate::moves::{Past, move_all, move_request};
 use crate::ranks::{ByRank, Rank};
 use crate::runs::run_end;
 use np_config::Config;
-use np_groups::Groups;
 use np_look::{RequestView, Rows};
+use np_table::Groups;
 use np_text::{JobId, PoolId, RequestId};
 use std::alloc::{AllocError, Global};
 use std::marker::Model;

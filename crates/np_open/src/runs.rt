@@ -6,7 +6,7 @@ ghost use Rattle.np_open.specs.Runs.{IsRunEnd, count_before, is_run};
 
 use crate::group::open_group;
 use crate::ranks::ByRank;
-use np_groups::{Group, Groups};
+use np_table::{Group, Groups};
 
 /// How many ranks of the group come before the one at the line's place, or how many it has if there
 /// is none. Three binary searches.

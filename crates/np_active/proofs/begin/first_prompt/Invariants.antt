@@ -1,4 +1,4 @@
-use Rattle.np_groups.specs.Groups.{ids_in}
+use Rattle.np_table.specs.Groups.{ids_in}
 use Rattle.np_active.specs.Begin.{may_begin_of}
 use Rattle.np_active.proofs.PromptLemmas.{IsAfter}
 use Rattle.np_active.proofs.begin.first_prompt.Given as goal

@@ -1,10 +1,20 @@
-use Rattle.std.proofs.Common.{◌≤◌, length, arith}
-use Rattle.np_active.proofs.Rebuilt.{jobs-all, jobs-more}
+use Rattle.std.proofs.Common.{◌≤◌, length, arith, refl, subst, sym}
+use Rattle.np_text.specs.declared.id.JobId.{JobId}
+use Rattle.np_look.specs.Keys.{is_job_before, same_job}
+use Rattle.np_classes.proofs.Grouped.{below-next, below-none, jobs-in_order}
+use Rattle.np_active.specs.Placed.{groups_of_job}
+use Rattle.np_active.proofs.Rebuilt.{AreJobsBelow, jobs-all}
 use Rattle.np_active.proofs.jobs.all_jobs.Goals as goal
+
+pub loop-number-init : goal.loop-number-init
+loop-number-init g c =
+    subst (AreJobsBelow (g.R.Rows.site c.args.rows.now) (g.R.Rows.state c.args.rows.now) c.args.lines.now 0) (sym c.new-groups.ensures)
+    (below-none is_job_before same_job jobs-in_order (λ (j : JobId). j.0) (λ i j out. out) (groups_of_job (g.R.Rows.site c.args.rows.now) (g.R.Rows.state c.args.rows.now) c.args.lines.now))
 
 pub loop-number-preserved : goal.loop-number-preserved
 loop-number-preserved g c =
-    jobs-more (g.R.Rows.site c.args.rows.now) (g.R.Rows.state c.args.rows.now) c.args.lines.now c.loop-number.number c.loop-number.groups.members _ _ c.loop-number.invariant c.in_ok-reserve.ensures.same c.put_job.ensures.members
+    below-next is_job_before same_job jobs-in_order (λ (j : JobId). j.0) (λ i j out. out) (groups_of_job (g.R.Rows.site c.args.rows.now) (g.R.Rows.state c.args.rows.now) c.args.lines.now)
+    c.loop-number.number (record { 0 = c.loop-number.number }) c.loop-number.groups.members _ refl c.loop-number.invariant c.in_ok-add_job.ensures
 
 pub returns : goal.returns
 returns g c =

@@ -1,6 +1,5 @@
-use Rattle.np_active.proofs.Noted.{AreJobsBy}
-use Rattle.np_active.proofs.Rebuilt.{is_job_below}
+use Rattle.np_active.proofs.Rebuilt.{AreJobsBelow}
 use Rattle.np_active.proofs.jobs.all_jobs.Given as goal
 
 abbrev pub invariant-loop-number : goal.invariant-loop-number
-invariant-loop-number g l = AreJobsBy (is_job_below (g.R.Rows.site l.rows) (g.R.Rows.state l.rows) l.lines l.number) l.groups.members
+invariant-loop-number g l = AreJobsBelow (g.R.Rows.site l.rows) (g.R.Rows.state l.rows) l.lines l.number l.groups.members

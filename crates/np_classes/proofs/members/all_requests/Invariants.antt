@@ -1,10 +1,9 @@
 use Rattle.std.proofs.Common.{◌≡◌}
 use Rattle.np_changes.specs.Prelude.{is_id_before, same_request}
-use Rattle.np_look.specs.Views.{request_view}
-use Rattle.np_classes.specs.Placed.{placed_request_view}
-use Rattle.np_classes.proofs.Rebuilt.{made}
+use Rattle.np_machine.specs.Entries.{RequestEntry}
+use Rattle.np_classes.proofs.Grouped.{made, requests-in_order}
+use Rattle.np_classes.specs.Placed.{groups_of_request}
 use Rattle.np_classes.proofs.members.all_requests.Given as goal
 
 abbrev pub invariant-loop-at : goal.invariant-loop-at
-invariant-loop-at g l =
-    l.groups.members ≡ made is_id_before same_request request_view placed_request_view (g.R.Rows.state l.rows).requests l.at
+invariant-loop-at g l = l.groups.members ≡ made is_id_before same_request requests-in_order (λ (e : RequestEntry). e.id) (groups_of_request (g.R.Rows.state l.rows)) (g.R.Rows.state l.rows).requests l.at

@@ -1,6 +1,6 @@
 use Rattle.std.proofs.Common.{◌∙◌, ap, slice_get}
-use Rattle.np_groups.specs.declared.groups.Group.{Group}
-use Rattle.np_groups.specs.Groups.{ids_in}
+use Rattle.np_table.specs.declared.groups.Group.{Group}
+use Rattle.np_table.specs.Groups.{ids_in}
 use Rattle.np_counts.proofs.Numbers.{first-unheld}
 use Rattle.np_counts.proofs.kinds.first_unheld_pending.Goals as goal
 

@@ -1,7 +1,7 @@
 use Rattle.std.proofs.Common.{◌∙◌, ap, List, length}
 use Rattle.np_text.specs.declared.id.RequestId.{RequestId}
-use Rattle.np_groups.specs.declared.groups.Group.{Group}
-use Rattle.np_groups.specs.Groups.{ids_in}
+use Rattle.np_table.specs.declared.groups.Group.{Group}
+use Rattle.np_table.specs.Groups.{ids_in}
 use Rattle.np_counts.proofs.Numbers.{pending-ids}
 use Rattle.np_counts.proofs.kinds.pending_requests.Goals as goal
 

@@ -1,6 +1,6 @@
 use Rattle.std.proofs.Common.{◌∙◌, ℕ, ap, nat_lt, length}
-use Rattle.np_groups.specs.declared.groups.Group.{Group}
-use Rattle.np_groups.specs.Groups.{ids_in}
+use Rattle.np_table.specs.declared.groups.Group.{Group}
+use Rattle.np_table.specs.Groups.{ids_in}
 use Rattle.np_counts.proofs.Numbers.{some-spent}
 use Rattle.np_counts.proofs.label.has_spent_min_ready.Goals as goal
 

@@ -1,7 +1,7 @@
 use Rattle.std.proofs.Common.{◌≡◌, ◌∙◌, ◌≤◌, ap, length, arith}
 use Rattle.std.specs.Prelude.{count_by}
-use Rattle.np_groups.specs.declared.groups.Group.{Group}
-use Rattle.np_groups.specs.Groups.{ids_in}
+use Rattle.np_table.specs.declared.groups.Group.{Group}
+use Rattle.np_table.specs.Groups.{ids_in}
 use Rattle.np_machine.specs.Request.{is_free_ready, is_coming}
 use Rattle.np_counts.proofs.Numbers.{few-nodes, few-requests, free-number, coming-number}
 use Rattle.np_counts.proofs.label.ready_count.Goals as goal

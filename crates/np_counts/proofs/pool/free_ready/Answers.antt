@@ -1,6 +1,6 @@
 use Rattle.std.proofs.Common.{◌∙◌, ap, slice_get}
-use Rattle.np_groups.specs.declared.groups.Group.{Group}
-use Rattle.np_groups.specs.Groups.{ids_in}
+use Rattle.np_table.specs.declared.groups.Group.{Group}
+use Rattle.np_table.specs.Groups.{ids_in}
 use Rattle.np_counts.proofs.Numbers.{spare-at}
 use Rattle.np_counts.proofs.pool.free_ready.Goals as goal
 

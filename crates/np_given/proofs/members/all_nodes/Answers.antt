@@ -1,9 +1,9 @@
 use Rattle.std.proofs.Common.{◌∙◌, ◌<◌, length, sym, ap, arith}
-use Rattle.np_keys.specs.Keys.{is_node_before, same_node}
+use Rattle.np_look.specs.Keys.{is_node_before, same_node}
 use Rattle.np_machine.specs.Entries.{NodeEntry}
 use Rattle.np_look.proofs.Walks.{none_there}
-use Rattle.np_classes.proofs.Rebuilt.{made-more}
-use Rattle.np_given.specs.Prepared.{placed_node}
+use Rattle.np_classes.proofs.Grouped.{made-next, nodes-in_order}
+use Rattle.np_given.specs.Given.{groups_of_node}
 use Rattle.np_given.proofs.Rebuilt.{given-made}
 use Rattle.np_given.proofs.members.all_nodes.Goals as goal
 use Rattle.np_given.proofs.members.all_nodes.Goals.{in-Some+in_ok-add_node, in_default}
@@ -12,7 +12,7 @@ pub loop-at-preserved : goal.loop-at-preserved
 loop-at-preserved g c =
     elim c.match-node_at.branch [
       | in-Some+in_ok-add_node w ↦
-          made-more is_node_before same_node (λ (e : NodeEntry). e.id) (placed_node (g.R.Rows.site c.args.rows.now) (g.R.Rows.state c.args.rows.now)) (g.R.Rows.state c.args.rows.now).nodes c.loop-at.at w.in-Some.node _ _ w.in-Some.ensures c.loop-at.invariant
+          made-next is_node_before same_node nodes-in_order (λ (e : NodeEntry). e.id) (groups_of_node (g.R.Rows.site c.args.rows.now) (g.R.Rows.state c.args.rows.now)) (g.R.Rows.state c.args.rows.now).nodes c.loop-at.at w.in-Some.node _ _ w.in-Some.ensures c.loop-at.invariant
           (ap (λ (m : _). m.members) w.groups-is ∙ w.in_ok-add_node.ensures)
       | in_default w ↦
           let within : c.loop-at.at < length (g.R.Rows.state c.args.rows.now).nodes = omega (arith, c.nodes-at-end.ensures) in

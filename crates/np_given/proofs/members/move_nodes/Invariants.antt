@@ -1,7 +1,7 @@
 use Rattle.std.proofs.Common.{◌≡◌, ◌≤◌, ◌-◌, ◌*◌, suc, drop, length}
 use Rattle.std.specs.Prelude.{vec_capacity}
-use Rattle.np_keys.specs.Keys.{is_node_before, same_node}
-use Rattle.np_groups.specs.Moves.{with_all_moved}
+use Rattle.np_look.specs.Keys.{is_node_before, same_node}
+use Rattle.np_table.specs.Moves.{with_all_moved}
 use Rattle.np_given.specs.Within.{groups_within}
 use Rattle.np_given.proofs.members.move_nodes.Given as goal
 

@@ -1,5 +1,5 @@
 use Rattle.std.proofs.Common.{◌≤◌, ◌+◌, ◌-◌, ◌*◌, Bool, length, take}
-use Rattle.np_groups.specs.declared.groups.Group.{Group}
+use Rattle.np_table.specs.declared.groups.Group.{Group}
 use Rattle.np_open.specs.declared.ranks.Rank.{Rank}
 use Rattle.np_open.specs.Moves.{AreAsKept, AreBy, passes_moved}
 use Rattle.np_open.proofs.moves.move_all.Given as goal

@@ -1,5 +1,5 @@
 use Rattle.std.proofs.Common.{◌≤◌, ◌+◌, Bool}
-use Rattle.np_groups.specs.declared.groups.Group.{Group}
+use Rattle.np_table.specs.declared.groups.Group.{Group}
 use Rattle.np_open.specs.declared.ranks.Rank.{Rank}
 use Rattle.np_open.specs.Lines.{line_of}
 use Rattle.np_open.specs.Moves.{AreBy, IsEither}

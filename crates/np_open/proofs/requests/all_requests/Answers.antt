@@ -1,6 +1,6 @@
 use Rattle.std.proofs.Common.{◌∙◌, ◌<◌, List, length, refl, sym, ap, subst, arith}
 use Rattle.std.specs.Prelude.{slice_get}
-use Rattle.np_groups.specs.declared.groups.Member.{Member}
+use Rattle.np_table.specs.declared.groups.Member.{Member}
 use Rattle.np_config.specs.Configuration.{Configuration}
 use Rattle.np_look.specs.Views.{request_view}
 use Rattle.np_look.proofs.Walks.{none_there}

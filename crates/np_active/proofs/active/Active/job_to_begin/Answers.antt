@@ -1,5 +1,5 @@
 use Rattle.std.proofs.Common.{None, subst, sym}
-use Rattle.np_groups.specs.declared.groups.Group.{Group}
+use Rattle.np_table.specs.declared.groups.Group.{Group}
 use Rattle.np_active.specs.Active.{AreActive}
 use Rattle.np_active.specs.Begin.{IsBest}
 use Rattle.np_active.proofs.BeginLemmas.{first-begins}

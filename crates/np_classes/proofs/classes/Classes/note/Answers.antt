@@ -1,17 +1,18 @@
 use Rattle.std.proofs.Common.{ap}
-use Rattle.np_keys.specs.Keys.{is_node_before, same_node}
+use Rattle.np_look.specs.Keys.{is_node_before, same_node}
 use Rattle.np_changes.specs.Prelude.{is_id_before, same_request}
 use Rattle.np_classes.specs.Placed.{groups_of_node, groups_of_request, node_before, queue_before, request_before, unheld_groups}
-use Rattle.np_classes.proofs.Noted.{classes-noted, moved-by}
+use Rattle.np_classes.proofs.Grouped.{moved-by}
+use Rattle.np_classes.proofs.Noted.{classes-noted}
 use Rattle.np_classes.proofs.classes.Classes.note.Goals as goal
 
 pub returns : goal.returns
-returns g c site s ch reached prepared same_site after was =
-    classes-noted site (g.R.Rows.site c.args.rows.now) s (g.R.Rows.state c.args.rows.now) ch c.args.touched.now c.args.self.now _
+returns g c site s ch touched reached all past same_site after was =
+    classes-noted site (g.R.Rows.site c.args.rows.now) s (g.R.Rows.state c.args.rows.now) ch touched c.args.past.now c.args.self.now _
     (moved-by is_node_before same_node (groups_of_node (g.R.Rows.site c.args.rows.now) (g.R.Rows.state c.args.rows.now)) node_before _ _ _ _ _ _
-    (ap (λ (x : _). x.nodes) c.self.view_is) (ap (λ (x : _). x.past_nodes) c.touched.view_is) c.as_slice.ensures.value c.move_nodes.ensures)
+    (ap (λ (x : _). x.nodes) c.self.view_is) (ap (λ (x : _). x.nodes) c.past.view_is) c.as_slice.ensures.value c.move_nodes.ensures)
     (moved-by is_id_before same_request (unheld_groups (g.R.Rows.state c.args.rows.now)) queue_before _ _ _ _ _ _
     (moved-by is_id_before same_request (groups_of_request (g.R.Rows.state c.args.rows.now)) request_before _ _ _ _ _ _
-    (ap (λ (x : _). x.requests) c.self.view_is) (ap (λ (x : _). x.past_requests) c.touched.view_is) c.as_slice-2.ensures.value c.move_requests.ensures.members)
-    (ap (λ (x : _). x.past_queues) c.touched.view_is) c.as_slice-3.ensures.value c.move_queues.ensures)
-    reached prepared same_site after was
+    (ap (λ (x : _). x.requests) c.self.view_is) (ap (λ (x : _). x.requests) c.past.view_is) c.as_slice-2.ensures.value c.move_requests.ensures.members)
+    (ap (λ (x : _). x.queues) c.past.view_is) c.as_slice-3.ensures.value c.move_queues.ensures)
+    reached all past same_site after was

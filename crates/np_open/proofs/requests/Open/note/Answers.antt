@@ -1,6 +1,6 @@
 use Rattle.std.proofs.Common.{◌∙◌, List, ap, subst}
 use Rattle.np_text.specs.declared.id.JobId.{JobId}
-use Rattle.np_groups.specs.declared.groups.Member.{Member}
+use Rattle.np_table.specs.declared.groups.Member.{Member}
 use Rattle.np_open.specs.declared.moves.Past.{Past}
 use Rattle.np_open.specs.declared.ranks.Rank.{Rank}
 use Rattle.np_open.proofs.NoteLemmas.{Moves, open-noted}

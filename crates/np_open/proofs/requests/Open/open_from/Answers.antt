@@ -1,8 +1,8 @@
 use Rattle.std.proofs.Common.{◌≡◌, ◌∙◌, List, Some, true, sym, ap, subst}
 use Rattle.std.specs.Prelude.{slice_get}
-use Rattle.np_groups.specs.Groups.{has_member}
-use Rattle.np_groups.specs.declared.groups.Group.{Group}
-use Rattle.np_groups.specs.declared.groups.Member.{Member}
+use Rattle.np_table.specs.Groups.{has_member}
+use Rattle.np_table.specs.declared.groups.Group.{Group}
+use Rattle.np_table.specs.declared.groups.Member.{Member}
 use Rattle.np_open.specs.declared.ranks.Rank.{Rank}
 use Rattle.np_open.specs.Open.{closed_group, is_closed_rank, ranks_of}
 use Rattle.np_open.specs.Runs.{IsRunEnd}

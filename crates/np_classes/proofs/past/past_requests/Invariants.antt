@@ -1,0 +1,7 @@
+use Rattle.std.proofs.Common.{◌≡◌, ◌++◌, drop, map}
+use Rattle.np_classes.specs.Placed.{past_request}
+use Rattle.np_classes.proofs.past.past_requests.Given as goal
+
+abbrev pub invariant-loop-request : goal.invariant-loop-request
+invariant-loop-request g l =
+    l.list.items ++ map (past_request (g.R.Rows.state l.rows)) (drop l.request-index l.requests) ≡ map (past_request (g.R.Rows.state l.rows)) l.requests

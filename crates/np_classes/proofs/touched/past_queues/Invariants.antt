@@ -1,7 +1,0 @@
-use Rattle.std.proofs.Common.{◌≡◌, ◌++◌, drop, map}
-use Rattle.np_classes.specs.Placed.{past_queue}
-use Rattle.np_classes.proofs.touched.past_queues.Given as goal
-
-abbrev pub invariant-loop-request : goal.invariant-loop-request
-invariant-loop-request g l =
-    l.list.items ++ map (past_queue (g.R.Rows.state l.rows)) (drop l.request-index l.requests) ≡ map (past_queue (g.R.Rows.state l.rows)) l.requests
