@@ -4,3 +4,4 @@ pub mod PlanLemmas
 pub mod WatchLemmas
 pub mod CommitLemmas
 pub mod PlannerLemmas
+mod LaunchingLemmas

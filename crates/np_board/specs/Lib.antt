@@ -4,4 +4,5 @@ pub mod Outstanding
 pub mod PlanTaken
 pub mod PlanAnswers
 pub mod PlanTested
+pub mod Launching
 pub mod Planner

@@ -8,13 +8,13 @@ ghost use Rattle.np_rules.specs.Ran.{answer_of, applied};
 ghost use Rattle.np_rules.specs.Running.{ran_of};
 ghost use Rattle.np_useful.specs.Settled.{IsSettled};
 ghost use Rattle.np_board.specs.Taken.{IsTaken};
-ghost use Rattle.np_answers.specs.declared.ask.Ask.TheVariants as asks;
+ghost use Rattle.np_driven.specs.declared.ask.Ask.TheVariants as asks;
 
 mod object;
 
 use crate::turns::{act, has_settled, take_turn};
-use np_answers::{Ask, Turn};
 use np_config::Config;
+use np_driven::{Ask, Turn};
 use np_event::{Entry, Event, Reply};
 use np_keeper::TreeStore;
 use np_rules::Machine;
@@ -99,6 +99,9 @@ impl Board {
         let (config, store) = self.machine.into_parts();
         (config, store.into_tree())
     }
+
+    /// Gives up the board, with the memory that it has.
+    pub fn close(self) {}
 
     /// The reply to the event: `Full` if the journal has 262,144 entries. It takes no memory.
     pub fn judge(&self, event: Event) -> Reply

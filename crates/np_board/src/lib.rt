@@ -1,20 +1,25 @@
 //! The board: the machine's state with its journal, at which parties take turns.
 //!
-//! A turn answers an ask after the journal so far: np_answers says which answers an ask may have,
+//! A turn answers an ask after the journal so far: np_driven says which answers an ask may have,
 //! and `specs/Taken` what a turn leaves. `Board` is a machine (np_rules) whose store is a coordination
 //! tree (np_keeper). It lends the machine to readers and the tree to whoever would read the state
-//! back, and has `SeqObject` for threads that share it at a desk (np_desk). There the journal is the history, and np_answers' test of a legal journal
-//! says that its replies are the machine's. `machine_of_tree` reads a machine back from a tree: it
-//! goes on from there with an empty journal.
+//! back, and has `SeqObject` for threads that share it at a desk (np_desk). There the journal is the
+//! history, and np_driven's test of a legal journal says that its replies are the machine's.
+//! `machine_of_tree` reads a machine back from a tree: it goes on from there with an empty journal.
 //!
 //! `PlannedBoard` is such a board at which launchers may also plan: they choose on the tree as it
 //! stands, and commit later, where it is as it was at what their event's judgement reads. `Planner`
-//! has the turns of a desk over it as any party asks for them: a launcher's turn is a plan and its
-//! commit, or a plain turn where nothing can be planned or four plans went stale.
+//! has the turns of a desk over it as any party asks for them: a launcher's turn commits the plan that
+//! it made before and plans its next event, or is a plain one where nothing can be planned or no
+//! ticket of four had a commit.
+//!
+//! Whoever has done with a board calls `close`: what is proved of letting go of its parts is then
+//! proved here alone.
 #![tactic(auto)]
 
 mod board;
 mod due;
+mod launching;
 mod planned;
 mod planner;
 mod reading;
@@ -23,4 +28,4 @@ mod turns;
 pub use board::Board;
 pub use planned::{Plan, PlanAsk, PlanTurn, PlannedBoard};
 pub use planner::Planner;
-pub use reading::{NotRead, machine_of_tree};
+pub use reading::{NotRead, close_machine, machine_of_tree};

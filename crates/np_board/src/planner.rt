@@ -2,14 +2,15 @@
 
 ghost use Rattle.std.specs.Prelude.{◌≡◌, Some};
 ghost use Rattle.np_text.specs.declared.id.Role.TheVariants.{Launcher};
-ghost use Rattle.np_answers.specs.Prelude.{IsOf, Turned, Unturned, WasUseful, answers, answers_also, recorded, sight_of};
-ghost use Rattle.np_answers.specs.declared.ask.Ask.TheVariants as asks;
-ghost use Rattle.np_board.specs.Planner.{Commits, Tried, launchers_before};
+ghost use Rattle.np_driven.specs.Prelude.{IsOf, Turned, WasUseful, answers, answers_also, recorded, sight_of};
+ghost use Rattle.np_driven.specs.declared.ask.Ask.TheVariants as asks;
+ghost use Rattle.np_board.specs.Planner.{Launches, launchers_before};
 
+use crate::launching::{Launching, Stage};
 use crate::planned::{PlanAsk, PlanTurn, PlannedBoard};
-use np_answers::{Ask, Turn};
 use np_config::Config;
 use np_desk::{Desk, Pass, Series, Turns};
+use np_driven::{Ask, Turn};
 use np_event::Entry;
 use np_text::{NoMemory, PoolId, Role};
 use std::sync::Wait;
@@ -21,17 +22,6 @@ pub struct Planner<'a, R: Wait> {
     pub rt: &'a R,
     pub desk: &'a Desk<PlannedBoard>,
     pub pass: Pass<PlannedBoard>,
-}
-
-/// What came of a launcher's try to plan and to commit.
-#[derive(Clone, Copy)]
-enum Try {
-    /// The entry was recorded.
-    Did(Entry),
-    /// Its plan could not be committed. It may try again.
-    Again,
-    /// It has nothing that can be planned.
-    Idle,
 }
 
 impl<'a, R: Wait> Planner<'a, R> {
@@ -52,88 +42,31 @@ impl<'a, R: Wait> Planner<'a, R> {
         }
     }
 
-    /// The launcher plans an event. Whether it has one that can be planned.
-    fn peek(&mut self, pool: PoolId) -> Result<bool, NoMemory>
+    /// What the launcher does with one ticket. Its turn, or `None` if there is none yet.
+    fn ticket(&mut self, pool: PoolId) -> Result<Option<Turn>, NoMemory>
         requires own { IsOf self.old.pass self.old.desk.now }
         ensures own { IsOf self.new.pass self.new.desk.now }
         ensures desk { self.new.desk.now ≡ self.old.desk.now }
         ensures part { self.new.pass.part ≡ self.old.pass.part }
-        ensures saw { Unturned (sight_of self.old.pass) (sight_of self.new.pass) }
-    {
-        let answer = self.pass.turn(self.rt, self.desk, PlanAsk::Peek(pool))?;
-        match answer {
-            PlanTurn::Idle => Ok(false),
-            _ => Ok(true),
-        }
-    }
-
-    /// The launcher hears what changed at the spots of its plan.
-    fn hear(&mut self, pool: PoolId) -> Result<(), NoMemory>
-        requires own { IsOf self.old.pass self.old.desk.now }
-        ensures own { IsOf self.new.pass self.new.desk.now }
-        ensures desk { self.new.desk.now ≡ self.old.desk.now }
-        ensures part { self.new.pass.part ≡ self.old.pass.part }
-        ensures saw { Unturned (sight_of self.old.pass) (sight_of self.new.pass) }
-    {
-        self.pass.turn(self.rt, self.desk, PlanAsk::News(pool))?;
-        Ok(())
-    }
-
-    /// The launcher commits its plan. The entry, or `None` if there is none.
-    fn commit(&mut self, pool: PoolId) -> Result<Option<Entry>, NoMemory>
-        requires own { IsOf self.old.pass self.old.desk.now }
-        ensures own { IsOf self.new.pass self.new.desk.now }
-        ensures desk { self.new.desk.now ≡ self.old.desk.now }
-        ensures part { self.new.pass.part ≡ self.old.pass.part }
-        ensures turn { Commits pool self.old.desk.now.origin.fixed
+        ensures turn { Launches pool self.old.desk.now.origin.fixed
             (sight_of self.old.pass) result (sight_of self.new.pass) }
     {
-        let answer = self.pass.turn(self.rt, self.desk, PlanAsk::Commit(pool))?;
-        match answer {
-            PlanTurn::Did(entry) => Ok(Some(entry)),
-            _ => Ok(None),
+        let mut launching = Launching {
+            pool,
+            stage: Stage::Committing,
+        };
+        let end = self.pass.turns(self.rt, self.desk, &mut launching, 4);
+        match launching.turn() {
+            Some(turn) => Ok(Some(turn)),
+            None => match end {
+                Ok(()) => Ok(None),
+                Err(error) => Err(error),
+            },
         }
     }
 
-    /// The launcher plans an event, gives up its turn, hears what changed, and commits.
-    fn try_once(&mut self, pool: PoolId) -> Result<Try, NoMemory>
-        requires own { IsOf self.old.pass self.old.desk.now }
-        ensures own { IsOf self.new.pass self.new.desk.now }
-        ensures desk { self.new.desk.now ≡ self.old.desk.now }
-        ensures part { self.new.pass.part ≡ self.old.pass.part }
-        ensures turn { Tried pool self.old.desk.now.origin.fixed
-            (sight_of self.old.pass) result (sight_of self.new.pass) }
-    {
-        if !self.peek(pool)? {
-            return Ok(Try::Idle);
-        }
-        self.hear(pool)?;
-        match self.commit(pool)? {
-            None => Ok(Try::Again),
-            Some(entry) => Ok(Try::Did(entry)),
-        }
-    }
-
-    /// The first commit of at most four tries, or `None` if there is none.
-    fn tries(&mut self, pool: PoolId) -> Result<Option<Entry>, NoMemory>
-        requires own { IsOf self.old.pass self.old.desk.now }
-        ensures own { IsOf self.new.pass self.new.desk.now }
-        ensures desk { self.new.desk.now ≡ self.old.desk.now }
-        ensures part { self.new.pass.part ≡ self.old.pass.part }
-        ensures turn { Commits pool self.old.desk.now.origin.fixed
-            (sight_of self.old.pass) result (sight_of self.new.pass) }
-    {
-        for _ in 0..4 {
-            match self.try_once(pool)? {
-                Try::Did(entry) => return Ok(Some(entry)),
-                Try::Idle => return Ok(None),
-                Try::Again => {}
-            }
-        }
-        Ok(None)
-    }
-
-    /// A launcher's turn: the first commit of at most four tries, or what any board answers.
+    /// A launcher's turn: that of the first of at most four tickets that has one, or what any board
+    /// answers.
     fn launch(&mut self, pool: PoolId) -> Result<Turn, NoMemory>
         requires own { IsOf self.old.pass self.old.desk.now }
         ensures own { IsOf self.new.pass self.new.desk.now }
@@ -143,14 +76,17 @@ impl<'a, R: Wait> Planner<'a, R> {
             self.old.desk.now.origin.fixed (sight_of self.old.pass) (asks.Act (Launcher pool)) result
             (sight_of self.new.pass) }
     {
-        let tried = self.tries(pool)?;
-        match tried {
-            Some(entry) => Ok(Turn::Did(entry)),
-            None => self.plain(Ask::Act(Role::Launcher(pool))),
+        for _ in 0..4 {
+            let turn = self.ticket(pool)?;
+            if let Some(turn) = turn {
+                return Ok(turn);
+            }
         }
+        self.plain(Ask::Act(Role::Launcher(pool)))
     }
 
-    /// Takes the turn that the ask names. A launcher's is at most twelve turns at the desk, and one more.
+    /// Takes the turn that the ask names. A launcher's has at most four tickets, and
+    /// one more, and most often one.
     pub fn take_turn(&mut self, ask: Ask) -> Result<Turn, NoMemory>
         requires own { IsOf self.old.pass self.old.desk.now }
         ensures own { IsOf self.new.pass self.new.desk.now }

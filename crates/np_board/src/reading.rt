@@ -18,6 +18,16 @@ pub struct NotRead {
     pub tree: Tree,
 }
 
+impl NotRead {
+    /// Gives up the tree, with the memory that it has.
+    pub fn close(self) {}
+}
+
+/// Gives up a machine over a tree, with the memory that it has.
+pub fn close_machine(machine: Machine<TreeStore>) {
+    let _machine = machine;
+}
+
 /// The machine whose state the tree lays out. So many entries led to that state; the journal, which
 /// the tree doesn't have, is empty. If memory runs out, the tree comes back. It costs what
 /// `tables_of_tree` and `Index::rebuild` do.

@@ -1,15 +1,15 @@
 //! Playing a case.
 
 ghost use Rattle.std.specs.Prelude.{◌≡◌};
-ghost use Rattle.np_answers.specs.Prelude.{IsOf};
+ghost use Rattle.np_driven.specs.Prelude.{IsOf};
 
 use crate::cases::{COMMITS, KINDS, NODES, POOLS, REQUESTS, SESSIONS};
 use crate::lines::config_of;
 use crate::script::{Script, Step, is_journal_of, is_recorded, is_told, step_at};
 use crate::sites::SITES;
-use np_answers::Ask;
 use np_board::{PlanAsk, PlannedBoard, Planner};
-use np_desk::Desk;
+use np_desk::{Desk, SetUpFailed};
+use np_driven::Ask;
 use np_event::Event;
 use np_event_lines::read_entry;
 use np_look::{Look, Rows};
@@ -145,18 +145,25 @@ fn goes<R: Wait>(rt: &R, alloc: Global, script: &Script) -> bool {
         return false;
     };
     board.soundness();
-    let Ok((desk, pass)) = Desk::set_up(alloc, board) else {
-        return false;
-    };
-    let mut planner = Planner {
-        rt,
-        desk: &desk,
-        pass,
-    };
-    let goes = plays(alloc, &mut planner, script);
-    let Planner { pass, .. } = planner;
-    let board = desk.close(pass);
-    goes && ends_as(alloc, &board, script)
+    match Desk::set_up(alloc, board) {
+        Err(SetUpFailed { object }) => {
+            object.close();
+            false
+        }
+        Ok((desk, pass)) => {
+            let mut planner = Planner {
+                rt,
+                desk: &desk,
+                pass,
+            };
+            let goes = plays(alloc, &mut planner, script);
+            let Planner { pass, .. } = planner;
+            let board = desk.close(pass);
+            let goes = goes && ends_as(alloc, &board, script);
+            board.close();
+            goes
+        }
+    }
 }
 
 /// Whether each script goes as it says.

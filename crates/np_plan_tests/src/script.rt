@@ -1,8 +1,8 @@
 //! What a case is.
 
 use crate::lines::{is_event_line, is_line};
-use np_answers::Turn;
 use np_board::{Plan, PlanAsk, PlanTurn};
+use np_driven::Turn;
 use np_event::Entry;
 use np_planned::Spot;
 use np_text::{Ending, PoolId};

@@ -5,7 +5,7 @@ use crate::equal::have_equal_rows;
 use crate::index::answers_as_its_rows_do;
 use crate::lines::{have_equal_lines, is_line};
 use crate::sites::new_board;
-use np_board::{Board, machine_of_tree};
+use np_board::{Board, close_machine, machine_of_tree};
 use np_event::Entry;
 use np_event_lines::read_entry;
 use np_keeper::TreeStore;
@@ -56,12 +56,28 @@ const LINES: [&str; 31] = [
 /// The board of the site after the events of these entries.
 fn board_after(alloc: Global, site: &str, entries: &[Entry]) -> Option<Board> {
     let mut board = new_board(alloc, site)?;
+    let ample = happen(&mut board, entries);
+    board_if(ample, board)
+}
+
+/// The events of the entries happen at the board. Whether memory was ample.
+fn happen(board: &mut Board, entries: &[Entry]) -> bool {
     for entry in entries {
         if board.apply(entry.event).is_err() {
-            return None;
+            return false;
         }
     }
-    Some(board)
+    true
+}
+
+/// The board, if it is to be kept.
+fn board_if(is_kept: bool, board: Board) -> Option<Board> {
+    if is_kept {
+        Some(board)
+    } else {
+        board.close();
+        None
+    }
 }
 
 /// The machine that is read back from the board's tree.
@@ -71,7 +87,10 @@ fn read_back(alloc: Global, board: Board) -> Option<Machine<TreeStore>> {
     let (config, tree) = board.into_parts();
     match machine_of_tree(alloc, config, tree, earlier) {
         Ok(machine) => Some(machine),
-        Err(_) => None,
+        Err(not_read) => {
+            not_read.close();
+            None
+        }
     }
 }
 
@@ -108,7 +127,11 @@ pub fn goes_on_from(alloc: Global, site: &str, board: &Board, at: usize) -> bool
     };
     match read_back(alloc, other) {
         None => false,
-        Some(mut machine) => ends_as(alloc, &mut machine, board, at),
+        Some(mut machine) => {
+            let goes_on = ends_as(alloc, &mut machine, board, at);
+            close_machine(machine);
+            goes_on
+        }
     }
 }
 
@@ -137,11 +160,8 @@ fn tells_all(alloc: Global, board: &mut Board, lines: &[&str]) -> bool {
 /// The board after all lines, if each has its reply.
 fn board_of_lines(alloc: Global) -> Option<Board> {
     let mut board = new_board(alloc, SITE)?;
-    if tells_all(alloc, &mut board, &LINES) {
-        Some(board)
-    } else {
-        None
-    }
+    let tells = tells_all(alloc, &mut board, &LINES);
+    board_if(tells, board)
 }
 
 /// Whether the machine goes on from each place of the journal.
@@ -159,7 +179,11 @@ fn goes_on_from_each(alloc: Global, board: &Board) -> bool {
 fn goes_on(alloc: Global) -> bool {
     match board_of_lines(alloc) {
         None => false,
-        Some(board) => goes_on_from_each(alloc, &board),
+        Some(board) => {
+            let goes_on = goes_on_from_each(alloc, &board);
+            board.close();
+            goes_on
+        }
     }
 }
 

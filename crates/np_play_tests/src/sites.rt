@@ -5,8 +5,8 @@ use crate::bare::Bare;
 use crate::index::{answers_as_a_walk_does, answers_as_its_tree_does};
 use crate::lines::{config_of, have_equal_lines};
 use crate::restored::goes_on_from;
-use np_answers::Turn;
 use np_board::Board;
+use np_driven::Turn;
 use np_event::{Done, Entry, Event, Reply};
 use np_look::{Look, Rows};
 use np_rules::{Plain, new_plain};
@@ -226,7 +226,11 @@ fn is_played_at(alloc: Global, board: &mut Board, site: &Site) -> bool {
 fn is_played(alloc: Global, site: &Site) -> bool {
     match new_board(alloc, site.text) {
         None => false,
-        Some(mut board) => is_played_at(alloc, &mut board, site),
+        Some(mut board) => {
+            let is_played = is_played_at(alloc, &mut board, site);
+            board.close();
+            is_played
+        }
     }
 }
 

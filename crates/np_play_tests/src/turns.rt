@@ -3,9 +3,9 @@
 use crate::index::{answers_as_a_walk_does, answers_as_its_tree_does};
 use crate::lines::is_line;
 use crate::sites::new_board;
-use np_answers::{Ask, Turn};
 use np_board::Board;
 use np_desk::SeqObject;
+use np_driven::{Ask, Turn};
 use np_event_lines::read_entry;
 use np_text::{NodeId, PoolId, RequesterId, Role};
 use std::alloc::Global;
@@ -151,7 +151,11 @@ fn count_right(alloc: Global, board: &mut Board, rows: &[(Option<Ask>, &str)]) -
 fn play(alloc: Global, site: &str, rows: &[(Option<Ask>, &str)]) -> usize {
     match new_board(alloc, site) {
         None => 0,
-        Some(mut board) => count_right(alloc, &mut board, rows),
+        Some(mut board) => {
+            let right = count_right(alloc, &mut board, rows);
+            board.close();
+            right
+        }
     }
 }
 

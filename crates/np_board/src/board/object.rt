@@ -1,16 +1,16 @@
 //! The board as an object at which turns are taken.
 
 use crate::board::Board;
-use np_answers::{Ask, Turn};
 use np_config::Config;
 use np_desk::SeqObject;
+use np_driven::{Ask, Turn};
 use np_event::Entry;
 use np_text::NoMemory;
 
 impl SeqObject for Board {
-    ghost use Rattle.np_answers.specs.Answers.{answers};
-    ghost use Rattle.np_answers.specs.Asks.{recorded};
-    ghost use Rattle.np_answers.specs.Legal.{is_legal};
+    ghost use Rattle.np_driven.specs.Answers.{answers};
+    ghost use Rattle.np_driven.specs.Asks.{recorded};
+    ghost use Rattle.np_driven.specs.Legal.{is_legal};
 
     type Ask = Ask;
 

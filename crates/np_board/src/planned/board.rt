@@ -17,8 +17,8 @@ use crate::planned::peek::peeked;
 use crate::planned::plan::{PlanAsk, PlanTurn};
 use crate::planned::plans::Plans;
 use crate::turns::{has_settled, take_turn};
-use np_answers::Ask;
 use np_config::Config;
+use np_driven::Ask;
 use np_event::{Entry, Event};
 use np_keeper::TreeStore;
 use np_planned::{Spot, fresh_spots_commit, spots_have_paths};
@@ -135,6 +135,9 @@ impl PlannedBoard {
     {
         has_settled(&self.machine)
     }
+
+    /// Gives up the board, with the memory that it has.
+    pub fn close(self) {}
 
     /// Takes the turn that the ask names. If memory runs out, the journal, the state and the plans
     /// stay as they are.

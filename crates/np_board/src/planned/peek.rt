@@ -2,12 +2,12 @@
 
 ghost use Rattle.std.specs.Prelude.{◌≡◌, ◌≤◌, true, IfOk, MatchOption, length};
 ghost use Rattle.np_text.specs.declared.id.Role.TheVariants.{Launcher};
-ghost use Rattle.np_answers.specs.Prelude.{IsUseful, is_planned};
+ghost use Rattle.np_driven.specs.Prelude.{IsUseful, is_planned};
 ghost use Rattle.np_board.specs.Outstanding.{IsNewPlan, watches_of};
 
 use crate::planned::plan::{Plan, Watched};
-use np_choices::takes_part;
 use np_event::Event;
+use np_jobs::takes_part;
 use np_keeper::TreeStore;
 use np_launch::choose_planned;
 use np_lists::Items;

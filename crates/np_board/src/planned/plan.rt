@@ -1,6 +1,6 @@
 //! Plans, and what may be asked of a board at which launchers plan.
 
-use np_answers::{Ask, Turn};
+use np_driven::{Ask, Turn};
 use np_event::{Entry, Event};
 use np_lists::Items;
 use np_path::Path;

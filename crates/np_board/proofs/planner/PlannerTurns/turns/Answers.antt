@@ -1,9 +1,11 @@
 use Rattle.std.proofs.Common.{◌∙◌, Ok, sym, subst, arith}
 use Rattle.std.proofs.lemmas.Result.{err_from_is_err_and}
 use Rattle.np_changes.specs.Prelude.{Configuration, Entry}
-use Rattle.np_answers.specs.Prelude.{DeskView, Turned, WasUseful, answers_also, recorded, sight_of}
+use Rattle.np_driven.specs.Prelude.{DeskView, Turned, WasUseful, answers_also, recorded, sight_of}
 use Rattle.np_board.specs.Planner.{launchers_before}
-use Rattle.np_board.proofs.PlannerLemmas.{one-more, took-part, turned-wider}
+use Rattle.np_desk.specs.Turned.{Answered}
+use Rattle.np_desk.proofs.SeriesLemmas.{one-more, took-part}
+use Rattle.np_board.proofs.PlannerLemmas.{turned-wider}
 use Rattle.np_board.proofs.planner.PlannerTurns.turns.Goals as goal
 
 pub loop-turn-preserved : goal.loop-turn-preserved
@@ -15,7 +17,7 @@ loop-turn-preserved g c =
       own = c.in_ok-turn-in-Some.ensures.own;
       desk = c.in_ok-turn-in-Some.ensures.desk ∙ i.desk;
       part = c.in_ok-turn-in-Some.ensures.part ∙ i.part;
-      went = one-more (answers_also WasUseful) recorded g.S.Series.asks g.S.Series.hears fixed (sight_of c.args.self.now.pass) (sight_of c.loop-turn.self.pass) (sight_of c.take_turn.new.self.pass) c.args.series.now c.loop-turn.series c.hear.new.self c.loop-turn._turn c.in-Some.ask c.in_ok-turn-in-Some.turn i.went (sym c.ask.ensures ∙ c.in-Some.is)
+      went = one-more (Answered (answers_also WasUseful) recorded fixed) g.S.Series.asks g.S.Series.hears (sight_of c.args.self.now.pass) (sight_of c.loop-turn.self.pass) (sight_of c.take_turn.new.self.pass) c.args.series.now c.loop-turn.series c.hear.new.self c.loop-turn._turn c.in-Some.ask c.in_ok-turn-in-Some.turn i.went (sym c.ask.ensures ∙ c.in-Some.is)
           (turned-wider fixed (sight_of c.loop-turn.self.pass) (sight_of c.take_turn.new.self.pass) c.in-Some.ask (Ok c.in_ok-turn-in-Some.turn) ours) c.hear.ensures;
     }
 

@@ -1,6 +1,7 @@
 use Rattle.std.proofs.Common.{◌≡◌}
-use Rattle.np_answers.specs.Prelude.{IsOf, WasUseful, answers_also, recorded, sight_of}
-use Rattle.np_board.proofs.PlannerLemmas.{WentFrom}
+use Rattle.np_driven.specs.Prelude.{IsOf, WasUseful, answers_also, recorded, sight_of}
+use Rattle.np_desk.specs.Turned.{Answered}
+use Rattle.np_desk.proofs.SeriesLemmas.{Went}
 use Rattle.np_board.proofs.planner.PlannerTurns.turns.Given as goal
 
 abbrev pub invariant-loop-turn : goal.invariant-loop-turn
@@ -8,5 +9,5 @@ invariant-loop-turn g l = record {
   own : IsOf l.self.pass l.self.desk.now;
   desk : l.self.desk.now ≡ l.fn.self.desk.now;
   part : l.self.pass.part ≡ l.fn.self.pass.part;
-  went : WentFrom (answers_also WasUseful) recorded g.S.Series.asks g.S.Series.hears l.fn.self.desk.now.origin.fixed (sight_of l.fn.self.pass) l.fn.series l._turn (sight_of l.self.pass) l.series;
+  went : Went (Answered (answers_also WasUseful) recorded l.fn.self.desk.now.origin.fixed) g.S.Series.asks g.S.Series.hears (sight_of l.fn.self.pass) l.fn.series l._turn (sight_of l.self.pass) l.series;
 }

@@ -1,6 +1,6 @@
 use Rattle.std.proofs.Common.{◌≡◌}
-use Rattle.np_answers.specs.Prelude.{IsOf, Unturned, sight_of}
-use Rattle.np_board.proofs.planner.Planner.tries.Given as goal
+use Rattle.np_driven.specs.Prelude.{IsOf, Unturned, sight_of}
+use Rattle.np_board.proofs.planner.Planner.launch.Given as goal
 
 abbrev pub invariant-loop : goal.invariant-loop
 invariant-loop g l = record {
